@@ -1,0 +1,4 @@
+pub mod Changed
+pub mod Faults
+pub mod Sums
+pub mod Words

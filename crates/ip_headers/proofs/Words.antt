@@ -1,0 +1,49 @@
+-- What a write does to a sum of words.
+use Rattle.std.proofs.Common.{◌≡◌, ℕ, zero, suc, ◌+◌, ◌/◌, ◌%◌, ◌<◌, ◌≤◌, List, [], ◌∷◌, length, get_or, set, take, Bool, true, false, ap, ◌∙◌, arith}
+use mathlib.Core.Bool.{not}
+use Rattle.std.proofs.Math.Seq.{take-set-lt}
+use Rattle.std.proofs.lemmas.Grind.{common_steps}
+use Rattle.ip_headers.specs.Sum.{words_sum, ones_sum_of}
+use Rattle.ip_headers.specs.Header.{word_at}
+use Rattle.ip_headers.specs.Rewritten.{corrected, with_word}
+use Rattle.ip_headers.proofs.Sums.{placed, at_place, placed_is}
+
+-- whether the byte at a place is a high one
+abbrev pub high_at : Bool → ℕ → Bool
+high_at high zero = high
+high_at high (suc i) = high_at (not high) i
+
+pub placed-set : (high : Bool) (xs : List ℕ) (i v : ℕ) → i < length xs → placed high (set xs i v) + at_place (high_at high i) (get_or xs i 0) ≡ placed high xs + at_place (high_at high i) v
+placed-set high [] i v lt = absurd (omega arith)
+placed-set true (x ∷ xs) zero v lt = omega arith
+placed-set false (x ∷ xs) zero v lt = omega arith
+placed-set true (x ∷ xs) (suc i) v lt = omega (arith, placed-set false xs i v (omega arith))
+placed-set false (x ∷ xs) (suc i) v lt = omega (arith, placed-set true xs i v (omega arith))
+
+pub words_sum-set : (xs : List ℕ) (i v : ℕ) → i < length xs → words_sum (set xs i v) + at_place (high_at true i) (get_or xs i 0) ≡ words_sum xs + at_place (high_at true i) v
+words_sum-set xs i v lt = omega (arith, placed-set true xs i v lt, placed_is xs, placed_is (set xs i v))
+
+-- a word in place of another
+pub words_sum-word : (xs : List ℕ) (i w : ℕ) → i + 1 < length xs → high_at true i ≡ true → high_at true (i + 1) ≡ false → words_sum (with_word xs i w) + word_at xs i ≡ words_sum xs + w
+words_sum-word xs i w lt high low =
+    let one = rw high at (words_sum-set xs i (w / 256) (omega arith)) in
+    let two = rw low at (words_sum-set (set xs i (w / 256)) (i + 1) (w % 256) (grind (arith, common_steps))) in
+    let same : get_or (set xs i (w / 256)) (i + 1) 0 ≡ get_or xs (i + 1) 0 = grind (arith, common_steps) in
+    omega (arith, one, two, same)
+
+-- a word that is written inside the header, seen from the header
+pub take-word : (xs : List ℕ) (n at_byte w : ℕ) → at_byte + 1 < n → take n (with_word xs at_byte w) ≡ with_word (take n xs) at_byte w
+take-word xs n at_byte w lt = take-set-lt n (set xs at_byte (w / 256)) (at_byte + 1) (w % 256) lt ∙ ap (λ l. set l (at_byte + 1) (w % 256)) (take-set-lt n xs at_byte (w / 256) (omega arith))
+
+-- the checksum corrected for one word keeps the sum
+pub kept : (before after checksum old new : ℕ) → after + checksum + old ≡ before + corrected checksum old new + new → after % 65535 ≡ before % 65535
+kept before after checksum old new e = omega arith
+
+first_counts : (xs : List ℕ) → get_or xs 0 0 ≤ words_sum xs
+first_counts [] = omega arith
+first_counts (x ∷ []) = omega arith
+first_counts (x ∷ y ∷ xs) = omega arith
+
+-- a sum of all ones is kept by what keeps the congruence and a byte that isn't 0
+pub still_ones : (xs ys : List ℕ) → words_sum ys % 65535 ≡ words_sum xs % 65535 → ones_sum_of xs ≡ 65535 → 0 < get_or ys 0 0 → ones_sum_of ys ≡ 65535
+still_ones xs ys same ones some = grind (arith, first_counts ys)

@@ -1,0 +1,69 @@
+-- What bytes are as a packet of IPv4 (RFC 791, section 3.1).
+use Rattle.std.specs.Prelude.{ℕ, ◌+◌, ◌*◌, ◌/◌, ◌%◌, ◌==◌, nat_lt, not, Bool, List, length, take, slice_index, Option, Some, None, if◌then◌else◌}
+use Rattle.ip_headers.specs.declared.view.HeaderFault.{HeaderFault}
+use Rattle.ip_headers.specs.declared.view.HeaderFault.TheVariants.{Short, Version, HeaderLength, Length, Truncated, Checksum, Fragment}
+use Rattle.ip_headers.specs.Sum.{ones_sum_of}
+
+-- the 8, 16 and 32 bits from a place on, the highest first
+abbrev pub byte_at : List ℕ → ℕ → ℕ
+byte_at bytes i = slice_index bytes i
+
+abbrev pub word_at : List ℕ → ℕ → ℕ
+word_at bytes i = slice_index bytes i * 256 + slice_index bytes (i + 1)
+
+abbrev pub number_at : List ℕ → ℕ → ℕ
+number_at bytes i = word_at bytes i * 65536 + word_at bytes (i + 2)
+
+-- the fields of the header
+abbrev pub version : List ℕ → ℕ
+version bytes = byte_at bytes 0 / 16
+
+-- the header's length in bytes: IHL counts words of four
+abbrev pub header_len : List ℕ → ℕ
+header_len bytes = byte_at bytes 0 % 16 * 4
+
+abbrev pub total_len : List ℕ → ℕ
+total_len bytes = word_at bytes 2
+
+-- the reserved bit, DF, MF and the offset in units of eight bytes
+abbrev pub flags_and_offset : List ℕ → ℕ
+flags_and_offset bytes = word_at bytes 6
+
+abbrev pub ttl : List ℕ → ℕ
+ttl bytes = byte_at bytes 8
+
+abbrev pub protocol : List ℕ → ℕ
+protocol bytes = byte_at bytes 9
+
+abbrev pub header_checksum : List ℕ → ℕ
+header_checksum bytes = word_at bytes 10
+
+abbrev pub source : List ℕ → ℕ
+source bytes = number_at bytes 12
+
+abbrev pub destination : List ℕ → ℕ
+destination bytes = number_at bytes 16
+
+-- the header, whose sum a right checksum makes ffff
+abbrev pub header : List ℕ → List ℕ
+header bytes = take (header_len bytes) bytes
+
+-- MF is set or the offset isn't 0: all but the two highest bits
+abbrev pub is_fragment : List ℕ → Bool
+is_fragment bytes = not (flags_and_offset bytes % 16384 == 0)
+
+-- the tests in their order: the first that fails is the fault; bytes past the total length are ignored
+abbrev pub fault_of : List ℕ → Option HeaderFault
+fault_of bytes =
+    if nat_lt (length bytes) 20 then Some Short
+    else (if not (version bytes == 4) then Some Version
+    else (if nat_lt (header_len bytes) 20 then Some HeaderLength
+    else (if nat_lt (total_len bytes) (header_len bytes) then Some Length
+    else (if nat_lt (length bytes) (total_len bytes) then Some Truncated
+    else (if not (ones_sum_of (header bytes) == 65535) then Some Checksum
+    else (if is_fragment bytes then Some Fragment
+    else None))))))
+
+-- the packet that a record without a fault begins with
+abbrev pub packet_of : List ℕ → List ℕ
+packet_of bytes = take (total_len bytes) bytes

@@ -1,0 +1,3 @@
+pub mod Sum
+pub mod Header
+pub mod Rewritten

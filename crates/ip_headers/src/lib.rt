@@ -1,0 +1,12 @@
+//! IPv4 packets read in place, the Internet checksum, and packets as they are sent on.
+#![tactic(auto)]
+
+mod rewrite;
+mod sum;
+#[cfg(test)]
+mod tests;
+mod view;
+
+pub use rewrite::{Change, emit};
+pub use sum::ones_sum;
+pub use view::{HeaderFault, View};

@@ -1,0 +1,108 @@
+//! A reader or a writer that counts the calls that failed.
+ghost use Rattle.std.specs.Prelude.{◌≡◌, ◌<◌, ◌≤◌, ◌-◌, ◌^◌, ◌++◌, true, false, MatchResult};
+ghost use Rattle.std.specs.Io.{ReadsAtMost, WritesAtMost};
+ghost use Rattle.std.specs.Io.KnownBytes.{ReadConsumes, WriteAppends, Keeps};
+ghost use Rattle.pcap_io.specs.Counting.{Rose, CountsRead, CountsWrite, CountsFlush};
+
+use std::io;
+use std::io::{Read, Write};
+
+/// A reader or a writer, how many of its calls failed, and whether all that was written is flushed.
+#[derive(Drop)]
+pub struct Counted<T> {
+    inner: T,
+    failures: u64,
+    is_flushed: bool,
+}
+
+impl<T> Counted<T> {
+    /// No call failed yet, and nothing was written yet.
+    pub fn new(inner: T) -> Self
+        ensures inner { result.inner ≡ inner }
+        ensures failures { result.failures ≡ 0 }
+        ensures flushed { result.is_flushed ≡ true }
+    {
+        Counted {
+            inner,
+            failures: 0,
+            is_flushed: true,
+        }
+    }
+
+    /// How many calls failed; it stays at its greatest.
+    pub fn failures(&self) -> u64
+        ensures { result ≡ self.now.failures }
+    {
+        self.failures
+    }
+
+    /// Whether nothing was written since the last flush that succeeded.
+    pub fn is_flushed(&self) -> bool
+        ensures { result ≡ self.now.is_flushed }
+    {
+        self.is_flushed
+    }
+
+    /// The reader or the writer itself.
+    pub fn into_inner(self) -> T
+        ensures { result ≡ self.inner }
+    {
+        self.inner
+    }
+}
+
+/// One more.
+fn one_more(failures: u64) -> u64
+    ensures { Rose failures result }
+{
+    failures.saturating_add(1)
+}
+
+impl<R: Read> Read for Counted<R> {
+    ghost remaining = { λ c. R.remaining c.inner };
+
+    fn read(&mut self, buf: &mut [u8]) -> io::Result<usize>
+        ensures bound { ReadsAtMost result buf.new }
+        ensures bytes { ReadConsumes (R.remaining self.old.inner) (R.remaining self.new.inner) result buf.new }
+        ensures counts { CountsRead self.old.failures self.new.failures result }
+        ensures flushed { self.new.is_flushed ≡ self.old.is_flushed }
+    {
+        let result = self.inner.read(buf);
+        if result.is_err() {
+            self.failures = one_more(self.failures);
+        }
+        result
+    }
+}
+
+impl<W: Write> Write for Counted<W> {
+    ghost contents = { λ c. W.contents c.inner };
+
+    fn write(&mut self, buf: &[u8]) -> io::Result<usize>
+        ensures bound { WritesAtMost result buf.now }
+        ensures bytes { WriteAppends (W.contents self.old.inner) (W.contents self.new.inner) result buf.now }
+        ensures counts { CountsWrite self.old.failures self.new.failures result }
+        ensures flushed { self.new.is_flushed ≡ false }
+    {
+        // A call that fails may have written some bytes.
+        self.is_flushed = false;
+        let result = self.inner.write(buf);
+        if !matches!(&result, Ok(1..)) {
+            self.failures = one_more(self.failures);
+        }
+        result
+    }
+
+    fn flush(&mut self) -> io::Result<()>
+        ensures bytes { Keeps (W.contents self.old.inner) (W.contents self.new.inner) }
+        ensures counts { CountsFlush self.old.failures self.new.failures result }
+        ensures flushed { MatchResult result (λ _. self.new.is_flushed ≡ true) (λ _. self.new.is_flushed ≡ self.old.is_flushed) }
+    {
+        let result = self.inner.flush();
+        match &result {
+            Ok(()) => self.is_flushed = true,
+            Err(_) => self.failures = one_more(self.failures),
+        }
+        result
+    }
+}

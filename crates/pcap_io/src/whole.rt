@@ -1,0 +1,32 @@
+//! All the bytes of a text, written by as many calls as it takes.
+ghost use Rattle.std.specs.Prelude.{◌≡◌, ◌<◌, ◌++◌, OnOk, OnErr};
+ghost use Rattle.std.specs.Io.KnownBytes.{Appends};
+ghost use Rattle.pcap_io.specs.Counting.{Rose, AppendsPart};
+
+use crate::counted::Counted;
+use std::io::Write;
+use thiserror::Error;
+
+/// A write failed.
+#[derive(Clone, Copy, Debug, PartialEq, Eq, Drop, Error)]
+#[error("device")]
+pub struct DeviceFailed;
+
+/// Writes all of it, or stops at the first call that fails, an interrupted one too, or that takes
+/// nothing. After an `Err` the writer holds a beginning of it.
+pub fn write_whole<W: Write>(writer: &mut Counted<W>, bytes: &[u8]) -> Result<(), DeviceFailed>
+    ensures ok { OnOk result (Appends (W.contents writer.old.inner) (W.contents writer.new.inner) bytes.now) }
+    ensures calm { OnOk result (writer.new.failures ≡ writer.old.failures) }
+    ensures part { OnErr result (AppendsPart (W.contents writer.old.inner) (W.contents writer.new.inner) bytes.now) }
+    ensures device { OnErr result (Rose writer.old.failures writer.new.failures) }
+{
+    let mut rest = bytes;
+    while !rest.is_empty() {
+        match writer.write(rest) {
+            Ok(0) => return Err(DeviceFailed),
+            Ok(count) => rest = &rest[count..],
+            Err(_) => return Err(DeviceFailed),
+        }
+    }
+    Ok(())
+}
