@@ -1,0 +1,13 @@
+pub mod BoxReads
+pub mod BoxFinds
+pub mod LineLaws
+pub mod BoxLaws
+pub mod BestLaws
+pub mod Chains
+pub mod Parts
+pub mod Entries
+pub mod Replays
+pub mod Stops
+pub mod Texts
+pub mod Runs
+pub mod Refusals

@@ -1,0 +1,10 @@
+use Rattle.std.proofs.Common.{◌≡◌, map, length}
+use Rattle.engine.specs.Box.{some_two, is_repeated}
+use Rattle.engine.specs.BoxReading.{line_tree}
+use Rattle.engine.proofs.box_faults.some_repeated.Given as goal
+
+abbrev pub invariant-loop-rest : goal.invariant-loop-rest
+invariant-loop-rest l = some_two is_repeated (map line_tree l.rest) ≡ some_two is_repeated (map line_tree l.lines)
+
+abbrev pub decreases-loop-rest : goal.decreases-loop-rest
+decreases-loop-rest l = length l.rest

@@ -1,0 +1,5 @@
+use Rattle.engine.proofs.Refusals.{refused_means_nothing}
+use Rattle.engine.proofs.laws.no_meaning.Goals as goal
+
+pub returns : goal.returns
+returns c = refused_means_nothing c.one_tree.ensures c.one_reading.ensures

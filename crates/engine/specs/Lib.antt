@@ -1,0 +1,13 @@
+pub mod Box
+pub mod BoxReading
+pub mod Plant
+pub mod Best
+pub mod Rules
+pub mod WellFormed
+pub mod Sizes
+pub mod Story
+pub mod Report
+pub mod Stands
+pub mod Replayed
+pub mod Written
+pub mod Meaning

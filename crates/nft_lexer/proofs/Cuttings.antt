@@ -1,0 +1,207 @@
+-- A text has one cutting or one first fault.
+use Rattle.std.proofs.Common.{◌≡◌, ℕ, ◌-◌, ◌<◌, ◌≤◌, List, [], ◌∷◌, ◌++◌, length, take, ◌⊎◌, inl, inr, refl, sym, ap, subst, ◌∙◌, append_assoc, arith}
+use Rattle.std.specs.Prelude.{Result, Ok, Err, IfOk, IfErr, MatchResult}
+use Rattle.std.proofs.lemmas.List.{length-append, append-nil, nil_from_length}
+use Rattle.nft_lexer.specs.declared.fault.LexError.{LexError}
+use Rattle.nft_lexer.specs.declared.fault.LexError.TheVariants.{Byte, OpenString, Number, TooLong, Memory}
+use Rattle.nft_lexer.specs.declared.token.Mark.{Mark}
+use Rattle.nft_lexer.specs.declared.token.Mark.TheVariants.{OpenBrace, CloseBrace, OpenParenthesis, CloseParenthesis, Comma, Semicolon, Colon, Dot, Slash, Minus, Plus, Equals, At, Ampersand, Bar, EqualTo, NotEqualTo, AtMost, AtLeast, Below, Above}
+use Rattle.nft_lexer.specs.Sign.{Spelled}
+use Rattle.nft_lexer.specs.Cut.{Part, blank, joined_line, comment, line_end, name, digits, hexadecimal, dotted, quoted, sole, SpellsPart, Stands, Means, CutsInto, IsCut, BeginsNone, IsFaultAt, FirstFault, HasFault, MOST_BYTES, line_after, mark_text}
+use Rattle.nft_lexer.specs.Reading.{Passes}
+use Rattle.nft_lexer.proofs.Runs.{IsDigits_some}
+use Rattle.nft_lexer.proofs.Longest.{stands_one, means_one, same_before, before}
+
+-- ---- where a cutting ends
+
+mark_some : (m : Mark) → 0 < length (mark_text m)
+mark_some OpenBrace = omega arith
+mark_some CloseBrace = omega arith
+mark_some OpenParenthesis = omega arith
+mark_some CloseParenthesis = omega arith
+mark_some Comma = omega arith
+mark_some Semicolon = omega arith
+mark_some Colon = omega arith
+mark_some Dot = omega arith
+mark_some Slash = omega arith
+mark_some Minus = omega arith
+mark_some Plus = omega arith
+mark_some Equals = omega arith
+mark_some At = omega arith
+mark_some Ampersand = omega arith
+mark_some Bar = omega arith
+mark_some EqualTo = omega arith
+mark_some NotEqualTo = omega arith
+mark_some AtMost = omega arith
+mark_some AtLeast = omega arith
+mark_some Below = omega arith
+mark_some Above = omega arith
+
+spelled_some : (p : Part) (bytes : List ℕ) → SpellsPart p bytes → 0 < length bytes
+spelled_some blank bytes s = omega (arith, ap length s.1)
+spelled_some joined_line bytes s = omega (arith, ap length s)
+spelled_some (comment c) bytes s = omega (arith, ap length s.0)
+spelled_some line_end bytes s = omega (arith, ap length s)
+spelled_some (name []) bytes s = absurd s.1
+spelled_some (name (b ∷ bs)) bytes s = omega (arith, ap length s.0)
+spelled_some (digits n) bytes s = omega (arith, ap length s.0, IsDigits_some n s.1)
+spelled_some (hexadecimal n) bytes s = omega (arith, ap length s.0)
+spelled_some (dotted a b c d) bytes s = omega (arith, ap length s.0, length-append (a ++ 46 ∷ b ++ 46 ∷ c) (46 ∷ d))
+spelled_some (quoted t) bytes s = omega (arith, ap length s.0)
+spelled_some (sole m) bytes s = omega (arith, ap length s, mark_some m)
+
+stands_takes : (p : Part) (bytes from to : List ℕ) → Stands p bytes from to → length to < length from
+stands_takes p bytes from to s = omega (arith, spelled_some p bytes s.spelled, ap length s.joined, length-append bytes to)
+
+-- no piece that means anything stands here
+abbrev Stops : List ℕ → Type 0
+Stops rest = (p : Part) (bytes to : List ℕ) (tokens : List Spelled) → Stands p bytes rest to → Means p bytes tokens → ⊥
+
+end_stops : Stops []
+end_stops p bytes to tokens s m = omega (arith, stands_takes p bytes [] to s)
+
+none_stops : (rest : List ℕ) → BeginsNone rest → Stops rest
+none_stops rest none p bytes to tokens s m = none p bytes to s.spelled s.joined
+
+fault_stops : (rest : List ℕ) (line : ℕ) (error : LexError) → IsFaultAt rest line error → Stops rest
+fault_stops [] line error f = absurd f
+fault_stops (b ∷ bs) line error (inl f) = none_stops (b ∷ bs) f.1
+fault_stops (b ∷ bs) line error (inr (inl f)) = none_stops (b ∷ bs) f.1
+fault_stops (b ∷ bs) line error (inr (inr f)) = λ p bytes to tokens s m.
+    let same = stands_one p f.0 bytes f.1 (b ∷ bs) to f.2 s f.3 in
+    let there : Means f.0 bytes tokens = subst (λ (q : Part). Means q bytes tokens) same.0 m in
+    f.4 tokens (subst (λ (t : List ℕ). Means f.0 t tokens) same.1 there)
+
+-- two cuttings as far as they go are one
+one_cut : (ps qs : List Part) (from to rest : List ℕ) (xs ys : List Spelled) → CutsInto ps from to xs → CutsInto qs from rest ys → Stops to → Stops rest → (xs ≡ ys) × (to ≡ rest)
+one_cut [] [] from to rest xs ys c d stop halt = (c.1 ∙ sym d.1, sym c.0 ∙ d.0)
+one_cut [] (q ∷ qs) from to rest xs ys c d stop halt = absurd (stop q d.0 d.1 d.2 (subst (λ (t : List ℕ). Stands q d.0 t d.1) c.0 d.4) d.5)
+one_cut (p ∷ ps) [] from to rest xs ys c d stop halt = absurd (halt p c.0 c.1 c.2 (subst (λ (t : List ℕ). Stands p c.0 t c.1) d.0 c.4) c.5)
+one_cut (p ∷ ps) (q ∷ qs) from to rest xs ys c d stop halt =
+    let same = stands_one p q c.0 d.0 from c.1 d.1 c.4 d.4 in
+    let means : Means p c.0 d.2 = subst (λ (r : Part). Means r c.0 d.2) (sym same.0) (subst (λ (t : List ℕ). Means q t d.2) (sym same.1) d.5) in
+    let front : c.2 ≡ d.2 = means_one p c.0 c.2 d.2 c.4.spelled c.5 means in
+    let ahead : CutsInto qs c.1 rest d.3 = subst (λ (t : List ℕ). CutsInto qs t rest d.3) (sym same.2) d.7 in
+    let others = one_cut ps qs c.1 to rest c.3 d.3 c.7 ahead stop halt in
+    (c.6 ∙ ap (λ (t : List Spelled). t ++ c.3) front ∙ ap (λ (t : List Spelled). d.2 ++ t) others.0 ∙ sym d.6, others.1)
+
+-- ---- the laws
+
+pub one : (text : List ℕ) (xs ys : List Spelled) → IsCut text xs → IsCut text ys → xs ≡ ys
+one text xs ys c d = (one_cut c.parts d.parts text [] [] xs ys c.cut d.cut end_stops end_stops).0
+
+no_fault_at_end : (rest : List ℕ) (line : ℕ) (error : LexError) → [] ≡ rest → IsFaultAt rest line error → ⊥
+no_fault_at_end [] line error e f = f
+no_fault_at_end (b ∷ bs) line error e f = absurd cc
+
+pub faultless : (text : List ℕ) (xs : List Spelled) (error : LexError) → IsCut text xs → HasFault text error → ⊥
+faultless text xs error c (inl f) = omega (arith, c.fits, f.0)
+faultless text xs error c (inr f) =
+    let same = one_cut c.parts f.parts text [] f.rest xs f.tokens c.cut f.cut end_stops (fault_stops f.rest (line_after f.done) error f.faulty) in
+    no_fault_at_end f.rest (line_after f.done) error same.1 f.faulty
+
+one_fault_at : (rest : List ℕ) (line : ℕ) (first second : LexError) → IsFaultAt rest line first → IsFaultAt rest line second → first ≡ second
+one_fault_at [] line first second f g = absurd f
+one_fault_at (b ∷ bs) line first second (inl f) (inl g) = f.2 ∙ sym g.2
+one_fault_at (b ∷ bs) line first second (inl f) (inr (inl g)) = absurd (f.0 g.0)
+one_fault_at (b ∷ bs) line first second (inl f) (inr (inr g)) = absurd (f.1 g.0 g.1 g.2 g.3.spelled g.3.joined)
+one_fault_at (b ∷ bs) line first second (inr (inl f)) (inl g) = absurd (g.0 f.0)
+one_fault_at (b ∷ bs) line first second (inr (inl f)) (inr (inl g)) = f.2 ∙ sym g.2
+one_fault_at (b ∷ bs) line first second (inr (inl f)) (inr (inr g)) = absurd (f.1 g.0 g.1 g.2 g.3.spelled g.3.joined)
+one_fault_at (b ∷ bs) line first second (inr (inr f)) (inl g) = absurd (g.1 f.0 f.1 f.2 f.3.spelled f.3.joined)
+one_fault_at (b ∷ bs) line first second (inr (inr f)) (inr (inl g)) = absurd (g.1 f.0 f.1 f.2 f.3.spelled f.3.joined)
+one_fault_at (b ∷ bs) line first second (inr (inr f)) (inr (inr g)) = f.5 ∙ sym g.5
+
+one_first : (text : List ℕ) (first second : LexError) → FirstFault text first → FirstFault text second → first ≡ second
+one_first text first second f g =
+    let same = one_cut f.parts g.parts text f.rest g.rest f.tokens g.tokens f.cut g.cut (fault_stops f.rest (line_after f.done) first f.faulty) (fault_stops g.rest (line_after g.done) second g.faulty) in
+    let all : f.done ++ f.rest ≡ g.done ++ f.rest = sym f.joined ∙ g.joined ∙ ap (λ (t : List ℕ). g.done ++ t) (sym same.1) in
+    let done : f.done ≡ g.done = same_before f.done g.done f.rest all in
+    let there : IsFaultAt f.rest (line_after f.done) second = subst (λ (t : List ℕ). IsFaultAt f.rest (line_after t) second) (sym done) (subst (λ (t : List ℕ). IsFaultAt t (line_after g.done) second) (sym same.1) g.faulty) in
+    one_fault_at f.rest (line_after f.done) first second f.faulty there
+
+pub one_fault : (text : List ℕ) (first second : LexError) → HasFault text first → HasFault text second → first ≡ second
+one_fault text first second (inl f) (inl g) = f.1 ∙ sym g.1
+one_fault text first second (inl f) (inr g) = absurd (omega (arith, f.0, g.fits))
+one_fault text first second (inr f) (inl g) = absurd (omega (arith, g.0, f.fits))
+one_fault text first second (inr f) (inr g) = one_first text first second f g
+
+-- ---- a cutting as far as it has come
+
+pub record Reached (text rest : List ℕ) (tokens : List Spelled) : Type 0 where
+  pub parts : List Part
+  pub done : List ℕ
+  pub joined : text ≡ done ++ rest
+  pub cut : CutsInto parts text rest tokens
+
+pub reached_none : (text : List ℕ) → Reached text text []
+reached_none text = record { parts = []; done = []; joined = refl; cut = (refl, refl) }
+
+cut_push : (ps : List Part) (from mid to : List ℕ) (xs new : List Spelled) (p : Part) (bytes : List ℕ) → CutsInto ps from mid xs → Stands p bytes mid to → Means p bytes new → CutsInto (ps ++ p ∷ []) from to (xs ++ new)
+cut_push [] from mid to xs new p bytes c s m =
+    (bytes, to, new, [], subst (λ (t : List ℕ). Stands p bytes t to) (sym c.0) s, m, ap (λ (t : List Spelled). t ++ new) c.1 ∙ sym (append-nil new), (refl, refl))
+cut_push (q ∷ qs) from mid to xs new p bytes c s m =
+    (c.0, c.1, c.2, c.3 ++ new, c.4, c.5, ap (λ (t : List Spelled). t ++ new) c.6 ∙ append_assoc c.2 c.3 new, cut_push qs c.1 mid to c.3 new p bytes c.7 s m)
+
+pub reached_push : (text rest after : List ℕ) (tokens new : List Spelled) → Reached text rest tokens → Passes rest new after → Reached text after (tokens ++ new)
+reached_push text rest after tokens new r x = record {
+  parts = r.parts ++ x.0 ∷ [];
+  done = r.done ++ x.1;
+  joined = r.joined ∙ ap (λ (t : List ℕ). r.done ++ t) x.2.joined ∙ sym (append_assoc r.done x.1 after);
+  cut = cut_push r.parts text rest after tokens new x.0 x.1 r.cut x.2 x.3;
+}
+
+pub passes_less : (from to : List ℕ) (tokens : List Spelled) → Passes from tokens to → length to < length from
+passes_less from to tokens x = stands_takes x.0 x.1 from to x.2
+
+pub reached_within : (text rest : List ℕ) (tokens : List Spelled) → Reached text rest tokens → length rest ≤ length text
+reached_within text rest tokens r = omega (arith, ap length r.joined, length-append r.done rest)
+
+pub reached_all : (text rest : List ℕ) (tokens : List Spelled) → length text ≤ MOST_BYTES → length rest ≡ 0 → Reached text rest tokens → IsCut text tokens
+reached_all text rest tokens fits nothing r = record {
+  fits = fits;
+  parts = r.parts;
+  cut = subst (λ (t : List ℕ). CutsInto r.parts text t tokens) (nil_from_length rest nothing) r.cut;
+}
+
+pub reached_fault : (text rest : List ℕ) (tokens : List Spelled) (error : LexError) → length text ≤ MOST_BYTES → Reached text rest tokens → IsFaultAt rest (line_after (take (length text - length rest) text)) error → FirstFault text error
+reached_fault text rest tokens error fits r f = record {
+  fits = fits;
+  parts = r.parts;
+  done = r.done;
+  rest = rest;
+  tokens = tokens;
+  joined = r.joined;
+  cut = r.cut;
+  faulty = subst (λ (t : List ℕ). IsFaultAt rest (line_after t) error) (before text r.done rest r.joined) f;
+}
+
+-- ---- answers for a text that isn't too long
+
+pub answer_only : {V : Type 0} (view : V → List Spelled) (text : List ℕ) (r : Result V LexError) → IfOk r (λ v. IsCut text (view v)) → IfErr r (λ e. (e ≡ Memory) ⊎ FirstFault text e)
+    → (tokens : List Spelled) → IsCut text tokens → MatchResult r (λ v. view v ≡ tokens) (λ e. e ≡ Memory)
+answer_only view text (Ok v) found fault tokens c = one text (view v) tokens found c
+answer_only view text (Err e) found (inl m) tokens c = m
+answer_only view text (Err e) found (inr f) tokens c = absurd (faultless text tokens e c (inr f))
+
+pub fault_answer : {V : Type 0} (text : List ℕ) (r : Result V LexError) → IfErr r (λ e. (e ≡ Memory) ⊎ FirstFault text e) → IfErr r (λ e. (e ≡ Memory) ⊎ HasFault text e)
+fault_answer text (Ok v) fault = tt
+fault_answer text (Err e) (inl m) = inl m
+fault_answer text (Err e) (inr f) = inr (inr f)
+
+pub fault_only : {V : Type 0} (view : V → List Spelled) (text : List ℕ) (r : Result V LexError) → IfOk r (λ v. IsCut text (view v)) → IfErr r (λ e. (e ≡ Memory) ⊎ FirstFault text e)
+    → (error : LexError) → HasFault text error → MatchResult r (λ _. ⊥) (λ e. (e ≡ error) ⊎ (e ≡ Memory))
+fault_only view text (Ok v) found fault error h = faultless text (view v) error found h
+fault_only view text (Err e) found (inl m) error h = inr m
+fault_only view text (Err e) found (inr f) error h = inl (one_fault text e error (inr f) h)
+
+not_long_at : (rest : List ℕ) (line : ℕ) (error : LexError) → error ≡ TooLong → IsFaultAt rest line error → ⊥
+not_long_at [] line error e f = f
+not_long_at (b ∷ bs) line error e (inl f) = let same : TooLong ≡ Byte line = sym e ∙ f.2 in absurd cc
+not_long_at (b ∷ bs) line error e (inr (inl f)) = let same : TooLong ≡ OpenString line = sym e ∙ f.2 in absurd cc
+not_long_at (b ∷ bs) line error e (inr (inr f)) = let same : TooLong ≡ Number line = sym e ∙ f.5 in absurd cc
+
+pub not_long : {V : Type 0} (text : List ℕ) (r : Result V LexError) → IfErr r (λ e. (e ≡ Memory) ⊎ FirstFault text e) → r ≡ Err TooLong → ⊥
+not_long text (Ok v) fault e = absurd cc
+not_long text (Err x) (inl m) e = let long : x ≡ TooLong = cc in let same : TooLong ≡ Memory = sym long ∙ m in absurd cc
+not_long text (Err x) (inr f) e = let long : x ≡ TooLong = cc in not_long_at f.rest (line_after f.done) x long f.faulty

@@ -1,0 +1,5 @@
+pub mod Runs
+pub mod Numbers
+pub mod Pieces
+pub mod Longest
+pub mod Cuttings

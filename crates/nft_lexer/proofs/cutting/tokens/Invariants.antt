@@ -1,0 +1,10 @@
+use Rattle.std.proofs.Common.{length, map}
+use Rattle.nft_lexer.specs.Sign.{spelled}
+use Rattle.nft_lexer.proofs.Cuttings.{Reached}
+use Rattle.nft_lexer.proofs.cutting.tokens.Given as goal
+
+abbrev pub invariant-loop-rest : goal.invariant-loop-rest
+invariant-loop-rest l = Reached l.text l.rest (map spelled l.found.items)
+
+abbrev pub decreases-loop-rest : goal.decreases-loop-rest
+decreases-loop-rest l = length l.rest

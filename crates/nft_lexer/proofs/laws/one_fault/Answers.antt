@@ -1,0 +1,5 @@
+use Rattle.nft_lexer.proofs.Cuttings.{one_fault}
+use Rattle.nft_lexer.proofs.laws.one_fault.Goals as goal
+
+pub returns : goal.returns
+returns c = one_fault

@@ -1,0 +1,3 @@
+pub mod Sign
+pub mod Cut
+pub mod Reading

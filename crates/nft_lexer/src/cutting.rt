@@ -1,0 +1,135 @@
+//! The cutting of a text.
+ghost use Rattle.std.specs.Prelude.{◌≡◌, ◌<◌, ◌≤◌, ◌↔◌, ◌⊎◌, ◌++◌, ℕ, Err, IfOk, IfErr, OnOk, List, length, map, MatchResult};
+ghost use Rattle.nft_lexer.specs.Sign.{Spelled, spelled};
+ghost use Rattle.nft_lexer.specs.Cut.{FirstFault, HasFault, IsCut, IsFaultAt, MOST_BYTES, line_after};
+ghost use Rattle.nft_lexer.specs.Reading.{IsShaped, Passes, kind_meaning, listed, meaning, on_line, part};
+
+use crate::fault::LexError;
+use crate::number::{address, decimal, hexadecimal};
+use crate::piece::{Piece, next_piece};
+use crate::token::{Kind, Token};
+use std::alloc::{AllocError, Global};
+
+/// More bytes than this are no ruleset.
+const MOST_BYTES: usize = 1_048_576;
+
+/// Why no token is read.
+#[derive(Clone, Copy)]
+enum Fault {
+    Byte,
+    OpenString,
+    Number,
+}
+
+/// The fault with its line.
+fn on_line(fault: Fault, line: u32) -> LexError
+    ensures { result ≡ on_line fault line }
+{
+    match fault {
+        Fault::Byte => LexError::Byte { line },
+        Fault::OpenString => LexError::OpenString { line },
+        Fault::Number => LexError::Number { line },
+    }
+}
+
+/// The line of what follows these bytes, from 1.
+fn line_after(done: &[u8]) -> u32
+    requires { length done.now ≤ MOST_BYTES }
+    ensures { result ≡ line_after done.now }
+{
+    done.iter().filter(|byte| **byte == b'\n').count() as u32 + 1
+}
+
+/// What token the piece is: a blank or a comment is none.
+#[tactic(auto, unfolding(crate::specs::Reading::meaning))]
+fn kind<'t>(piece: Piece<'t>) -> Result<Option<Kind<'t>>, Fault>
+    requires { IsShaped (part piece) }
+    ensures value { (bytes : List ℕ) → kind_meaning bytes result ≡ meaning (part piece.entry) bytes }
+    ensures fault { IfErr result (λ fault. fault ≡ Fault.Number) }
+{
+    let kind = match piece {
+        Piece::Blank | Piece::JoinedLine | Piece::Comment(_) => return Ok(None),
+        Piece::LineEnd => Kind::NewLine,
+        Piece::Name(_) => Kind::Word,
+        Piece::Digits(digits) => Kind::Number(decimal(digits).ok_or(Fault::Number)?),
+        Piece::Hexadecimal(digits) => Kind::Number(hexadecimal(digits).ok_or(Fault::Number)?),
+        Piece::FourGroups(groups) => Kind::Address(address(groups).ok_or(Fault::Number)?),
+        Piece::Quoted(string) => Kind::String(string),
+        Piece::Sole(mark) => Kind::Mark(mark),
+    };
+    Ok(Some(kind))
+}
+
+/// The piece in front as a token, if it is one, and what follows it.
+fn next<'t>(text: &'t [u8]) -> Result<(Option<Token<'t>>, &'t [u8]), Fault>
+    requires { 0 < length text.now }
+    ensures found { IfOk result (λ x. Passes text.entry.now (listed spelled x.0) x.1.now) }
+    ensures fault { IfErr result (λ fault. (line : ℕ) → IsFaultAt text.entry.now line (on_line fault line)) }
+{
+    let Some((piece, rest)) = next_piece(text) else {
+        return Err(if text[0] == b'"' {
+            Fault::OpenString
+        } else {
+            Fault::Byte
+        });
+    };
+    let Some(kind) = kind(piece)? else {
+        return Ok((None, rest));
+    };
+    let text = &text[..text.len() - rest.len()];
+    Ok((Some(Token { text, kind }), rest))
+}
+
+/// Appends the token, if there is one.
+fn append<'t>(found: &mut Vec<Token<'t>>, token: Option<Token<'t>>) -> Result<(), AllocError>
+    ensures { OnOk result (map spelled found.new.items ≡ map spelled found.old.items ++ listed spelled token.entry) }
+{
+    if let Some(token) = token {
+        found.push(token)?;
+    }
+    Ok(())
+}
+
+/// The tokens of the text, or its first fault. The line is counted only where it is told.
+fn tokens<'t>(alloc: Global, text: &'t [u8]) -> Result<Vec<Token<'t>>, LexError>
+    requires { length text.now ≤ MOST_BYTES }
+    ensures found { IfOk result (λ tokens. IsCut text.entry.now (map spelled tokens.items)) }
+    ensures fault { IfErr result (λ error. (error ≡ LexError.Memory) ⊎ FirstFault text.entry.now error) }
+{
+    let mut found = Vec::new(alloc);
+    let mut rest = text;
+    while !rest.is_empty() {
+        let (token, after) = match next(rest) {
+            Ok(read) => read,
+            Err(fault) => {
+                let done = &text[..text.len() - rest.len()];
+                return Err(on_line(fault, line_after(done)));
+            }
+        };
+        append(&mut found, token)?;
+        rest = after;
+    }
+    Ok(found)
+}
+
+/// The one cutting of the text into longest tokens, blanks and comments left out.
+///
+/// `TooLong` comes before anything else; else the first fault of the text is told, with its line.
+/// `Memory` may come in place of any answer but `TooLong`.
+pub fn lex<'t>(alloc: Global, text: &'t [u8]) -> Result<Vec<Token<'t>>, LexError>
+    // What is answered is the cutting of the text.
+    ensures found { IfOk result (λ tokens. IsCut text.entry.now (map spelled tokens.items)) }
+    // A cutting of the text is the one answered, want of memory aside: it is the only one.
+    ensures only { (tokens : List Spelled) → IsCut text.entry.now tokens → MatchResult result (λ answer. map spelled answer.items ≡ tokens) (λ error. error ≡ LexError.Memory) }
+    // A fault that is answered is the text's first.
+    ensures fault { IfErr result (λ error. (error ≡ LexError.Memory) ⊎ HasFault text.entry.now error) }
+    // The text's first fault is the one answered, want of memory aside.
+    ensures only_fault { (error : LexError) → HasFault text.entry.now error → MatchResult result (λ _. ⊥) (λ answer. (answer ≡ error) ⊎ (answer ≡ LexError.Memory)) }
+    // A text that is too long is told before anything else.
+    ensures long { (result ≡ Err LexError.TooLong) ↔ (MOST_BYTES < length text.entry.now) }
+{
+    if text.len() > MOST_BYTES {
+        return Err(LexError::TooLong);
+    }
+    tokens(alloc, text)
+}

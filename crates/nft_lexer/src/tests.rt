@@ -1,0 +1,96 @@
+use super::*;
+use std::test::Fail;
+
+fn token<'t>(text: &'t [u8], kind: Kind<'t>) -> Token<'t> {
+    Token { text, kind }
+}
+
+#[test]
+fn cuts_a_text(rt: HostRuntime) -> Result<(), Fail> {
+    let text = b"tcp dport != 22 # x\n0x1fF \"a b\" 1.2.3.4.80 80accept \\\n\t<=\r=<=0x";
+    let expected = [
+        token(b"tcp", Kind::Word),
+        token(b"dport", Kind::Word),
+        token(b"!=", Kind::Mark(Mark::NotEqualTo)),
+        token(b"22", Kind::Number(22)),
+        token(b"\n", Kind::NewLine),
+        token(b"0x1fF", Kind::Number(511)),
+        token(b"\"a b\"", Kind::String(b"a b")),
+        token(b"1.2.3.4", Kind::Address(0x0102_0304)),
+        token(b".", Kind::Mark(Mark::Dot)),
+        token(b"80", Kind::Number(80)),
+        token(b"80", Kind::Number(80)),
+        token(b"accept", Kind::Word),
+        token(b"<=", Kind::Mark(Mark::AtMost)),
+        token(b"=", Kind::Mark(Mark::Equals)),
+        token(b"<=", Kind::Mark(Mark::AtMost)),
+        token(b"0", Kind::Number(0)),
+        token(b"x", Kind::Word),
+    ];
+    let tokens = lex(rt.alloc(), text)?;
+    assert_eq!(rt; tokens.as_slice(), expected.as_slice());
+    Ok(())
+}
+
+#[test]
+fn cuts_largest_numbers(rt: HostRuntime) -> Result<(), Fail> {
+    let tokens = lex(
+        rt.alloc(),
+        b"18446744073709551615 0x00ffffffffffffffff 255.255.255.255",
+    )?;
+    assert_eq!(rt; tokens.len(), 3);
+    assert_eq!(rt; tokens[0].kind, Kind::Number(u64::MAX));
+    assert_eq!(rt; tokens[1].kind, Kind::Number(u64::MAX));
+    assert_eq!(rt; tokens[2].kind, Kind::Address(u32::MAX));
+    Ok(())
+}
+
+#[test]
+fn tells_first_fault(rt: HostRuntime) {
+    let faults = [
+        (b"accept\n$ 007".as_slice(), LexError::Byte { line: 2 }),
+        (b"!".as_slice(), LexError::Byte { line: 1 }),
+        (b"a \\\nb \\".as_slice(), LexError::Byte { line: 2 }),
+        (
+            b"table ip t { comment \"x".as_slice(),
+            LexError::OpenString { line: 1 },
+        ),
+        (b"\n\"x\n\"".as_slice(), LexError::OpenString { line: 2 }),
+        (
+            b"ip saddr 1.2.3.256".as_slice(),
+            LexError::Number { line: 1 },
+        ),
+        (
+            b"# x\nmeta mark 007".as_slice(),
+            LexError::Number { line: 2 },
+        ),
+        (
+            b"18446744073709551616".as_slice(),
+            LexError::Number { line: 1 },
+        ),
+    ];
+    for (text, fault) in faults {
+        match lex(rt.alloc(), text) {
+            Ok(_) => assert!(rt; false, "no fault"),
+            Err(error) => assert_eq!(rt; error, fault),
+        }
+    }
+}
+
+/// A comment of so many bytes.
+fn comment(rt: &HostRuntime, length: usize) -> Result<Vec<u8>, Fail> {
+    let mut text = Vec::new(rt.alloc());
+    text.push(b'#')?;
+    text.resize(length, b'a')?;
+    Ok(text)
+}
+
+#[test]
+fn bounds_the_text(rt: HostRuntime) -> Result<(), Fail> {
+    assert_eq!(rt; lex(rt.alloc(), &comment(&rt, 1_048_576)?)?.len(), 0);
+    match lex(rt.alloc(), &comment(&rt, 1_048_577)?) {
+        Ok(_) => assert!(rt; false, "no fault"),
+        Err(error) => assert_eq!(rt; error, LexError::TooLong),
+    }
+    Ok(())
+}
