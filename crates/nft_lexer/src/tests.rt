@@ -33,6 +33,25 @@ fn cuts_a_text(rt: HostRuntime) -> Result<(), Fail> {
 }
 
 #[test]
+fn cuts_what_is_nearly_one_token(rt: HostRuntime) -> Result<(), Fail> {
+    let text = b"0X1 1.2.3 a-b./c \"#;{\xff\"";
+    let expected = [
+        token(b"0", Kind::Number(0)),
+        token(b"X1", Kind::Word),
+        token(b"1", Kind::Number(1)),
+        token(b".", Kind::Mark(Mark::Dot)),
+        token(b"2", Kind::Number(2)),
+        token(b".", Kind::Mark(Mark::Dot)),
+        token(b"3", Kind::Number(3)),
+        token(b"a-b./c", Kind::Word),
+        token(b"\"#;{\xff\"", Kind::String(b"#;{\xff")),
+    ];
+    let tokens = lex(rt.alloc(), text)?;
+    assert_eq!(rt; tokens.as_slice(), expected.as_slice());
+    Ok(())
+}
+
+#[test]
 fn cuts_largest_numbers(rt: HostRuntime) -> Result<(), Fail> {
     let tokens = lex(
         rt.alloc(),
@@ -64,6 +83,20 @@ fn tells_first_fault(rt: HostRuntime) {
             b"# x\nmeta mark 007".as_slice(),
             LexError::Number { line: 2 },
         ),
+        (
+            b"table ip t { chain a { accept $ } }".as_slice(),
+            LexError::Byte { line: 1 },
+        ),
+        (
+            b"table ip t { chain a { ip saddr 1.2.3.256 drop } }".as_slice(),
+            LexError::Number { line: 1 },
+        ),
+        (
+            b"table ip t { chain a { meta mark 007 drop } }".as_slice(),
+            LexError::Number { line: 1 },
+        ),
+        (b"1.2.3.0004".as_slice(), LexError::Number { line: 1 }),
+        (b"a \\\r\n".as_slice(), LexError::Byte { line: 1 }),
         (
             b"18446744073709551616".as_slice(),
             LexError::Number { line: 1 },

@@ -1,0 +1,36 @@
+//! Translation of addresses.
+use crate::statement::Look;
+
+/// A statement that translates.
+#[derive(Debug, Drop)]
+pub enum Nat {
+    /// `snat to`
+    Source(SourceTarget),
+    /// `dnat to`
+    Destination(DestinationTarget),
+    /// `masquerade`, to the ports
+    Masquerade(Option<PortRange>),
+    /// `redirect`, to the port
+    Redirect(Option<u64>),
+}
+
+/// What a source becomes.
+#[derive(Debug, Drop)]
+pub enum SourceTarget {
+    Address(u32, Option<PortRange>),
+    Look(Look),
+}
+
+/// What a destination becomes.
+#[derive(Debug, Drop)]
+pub enum DestinationTarget {
+    Address(u32, Option<u64>),
+    Look(Look),
+}
+
+/// A port, or the ports from one to another.
+#[derive(Clone, Copy, Debug, PartialEq, Eq)]
+pub enum PortRange {
+    One(u64),
+    Between(u64, u64),
+}

@@ -1,0 +1,94 @@
+//! Sets, maps and their elements.
+use crate::selector::{Selector, ValueType};
+use crate::statement::Verdict;
+use crate::word::{Range, Value};
+
+/// A named set: `set NAME { .. }`. Its fields may stand in any order.
+#[derive(Debug, Drop)]
+pub struct SetDecl {
+    pub name: Vec<u8>,
+    pub key: SetType,
+    pub flags: Option<Vec<SetFlag>>,
+    pub size: Option<u64>,
+    pub auto_merge: bool,
+    pub comment: Option<Vec<u8>>,
+    pub elements: Option<Vec<Element>>,
+}
+
+/// A named map: `map NAME { .. }`. Its fields may stand in any order.
+#[derive(Debug, Drop)]
+pub struct MapDecl {
+    pub name: Vec<u8>,
+    pub types: MapType,
+    pub flags: Option<Vec<SetFlag>>,
+    pub size: Option<u64>,
+    pub auto_merge: bool,
+    pub comment: Option<Vec<u8>>,
+    pub elements: Option<Vec<Pair>>,
+}
+
+/// What a set's elements are: types by name, or those of selectors. More than one are joined.
+#[derive(Debug, Drop)]
+pub enum SetType {
+    /// `type TYPE . TYPE`
+    Types(Vec<ValueType>),
+    /// `typeof SELECTOR . SELECTOR`
+    Selectors(Vec<Selector>),
+}
+
+/// What a map's keys and data are.
+#[derive(Clone, Copy, Debug, PartialEq, Eq)]
+pub enum MapType {
+    /// `type TYPE : TYPE`
+    Types(ValueType, TypeOrVerdict),
+    /// `typeof SELECTOR : SELECTOR`
+    Selectors(Selector, SelectorOrVerdict),
+}
+
+#[derive(Clone, Copy, Debug, PartialEq, Eq)]
+pub enum TypeOrVerdict {
+    Type(ValueType),
+    Verdict,
+}
+
+#[derive(Clone, Copy, Debug, PartialEq, Eq)]
+pub enum SelectorOrVerdict {
+    Selector(Selector),
+    Verdict,
+}
+
+#[derive(Clone, Copy, Debug, PartialEq, Eq)]
+pub enum SetFlag {
+    Constant,
+    Interval,
+}
+
+/// An element of a set, and its comment.
+#[derive(Debug, Drop)]
+pub struct Element {
+    pub key: Key,
+    pub comment: Option<Vec<u8>>,
+}
+
+/// What an element holds: a value, a range or a prefix, or values joined.
+#[derive(Debug, Drop)]
+pub enum Key {
+    Single(Range),
+    /// `VALUE . VALUE`, two or more.
+    Joined(Vec<Value>),
+}
+
+/// An element of a map: a key, its comment, and the data.
+#[derive(Debug, Drop)]
+pub struct Pair {
+    pub key: Range,
+    pub comment: Option<Vec<u8>>,
+    pub value: Data,
+}
+
+/// The data of a map's element.
+#[derive(Debug, Drop)]
+pub enum Data {
+    Verdict(Verdict),
+    Value(Value),
+}

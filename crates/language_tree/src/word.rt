@@ -1,0 +1,22 @@
+//! Values as they are written.
+
+/// A value as it is written; what it stands for depends on its type.
+#[derive(Debug, Drop)]
+pub enum Value {
+    Number(u64),
+    /// An IPv4 address, its first group the highest byte.
+    Address(u32),
+    Word(Vec<u8>),
+    /// The bytes between the quotes.
+    String(Vec<u8>),
+}
+
+/// One value, a range or a prefix.
+#[derive(Debug, Drop)]
+pub enum Range {
+    One(Value),
+    /// `LOW-HIGH`
+    Between(Value, Value),
+    /// `ADDRESS/LENGTH`
+    Prefix(u32, u64),
+}

@@ -1,0 +1,41 @@
+-- Tokens one after the other. `P x from to` says that the tokens `from` begin with a spelling of x, and that `to` follows it.
+use Rattle.std.specs.Prelude.{◌≡◌, ℕ, zero, suc, List, [], ◌∷◌, ◌++◌, map, ◌⊎◌}
+use Rattle.nft_lexer.specs.declared.token.Mark.TheVariants.{Semicolon}
+use Rattle.nft_lexer.specs.Sign.{Sign, newline, mark, word, number, address, string}
+
+-- {x}: one after the other, from the first place to the last
+abbrev pub Many : {A : Type 0} → (A → List Sign → List Sign → Type 0) → List A → List Sign → List Sign → Type 0
+Many P [] from to = from ≡ to
+Many P (x ∷ xs) from to = (mid : List Sign) × P x from mid × Many P xs mid to
+
+-- end = NL | ";"
+abbrev pub SpellsEnd : List Sign → List Sign → Type 0
+SpellsEnd from to = (from ≡ newline ∷ to) ⊎ (from ≡ mark Semicolon ∷ to)
+
+-- so many ends, one after the other
+abbrev pub EndsCounted : ℕ → List Sign → List Sign → Type 0
+EndsCounted zero from to = from ≡ to
+EndsCounted (suc n) from to = (mid : List Sign) × SpellsEnd from mid × EndsCounted n mid to
+
+-- {end}: any number of them
+abbrev pub Ends : List Sign → List Sign → Type 0
+Ends from to = (n : ℕ) × EndsCounted n from to
+
+-- end {end}
+abbrev pub SomeEnds : List Sign → List Sign → Type 0
+SomeEnds from to = (a : List Sign) × SpellsEnd from a × Ends a to
+
+-- one of these lists of words stands in front
+abbrev pub OneOf : List (List (List ℕ)) → List Sign → List Sign → Type 0
+OneOf [] from to = ⊥
+OneOf (ws ∷ others) from to = (from ≡ map word ws ++ to) ⊎ OneOf others from to
+
+-- the tokens without the newlines among them
+abbrev pub without_newlines : List Sign → List Sign
+without_newlines [] = []
+without_newlines (newline ∷ ts) = without_newlines ts
+without_newlines (mark m ∷ ts) = mark m ∷ without_newlines ts
+without_newlines (word w ∷ ts) = word w ∷ without_newlines ts
+without_newlines (number n ∷ ts) = number n ∷ without_newlines ts
+without_newlines (address a ∷ ts) = address a ∷ without_newlines ts
+without_newlines (string s ∷ ts) = string s ∷ without_newlines ts
