@@ -10,17 +10,21 @@ def checksum(header):
     return 0xFFFF - total
 
 
+PACKET_BYTES = 1000
+
+
 def packet(number):
     source = 0xC0A80100 + number % 200 + 10
     destination = 0xC6336400 + number % 250
-    parts = [0x45, 0, 28, number % 65536, 0, 64, 17, 0, source, destination]
+    parts = [0x45, 0, PACKET_BYTES, number % 65536, 0, 64, 17, 0, source, destination]
     parts[7] = checksum(struct.pack(">BBHHHBBHII", *parts))
-    return struct.pack(">BBHHHBBHII", *parts) + bytes.fromhex("1388003500080000")
+    ports_and_length = struct.pack(">HHHH", 5000, 53, PACKET_BYTES - 20, 0)
+    return struct.pack(">BBHHHBBHII", *parts) + ports_and_length + bytes(PACKET_BYTES - 28)
 
 
 def capture(count):
     header = struct.pack("<IHHIIII", 0xA1B2C3D4, 2, 4, 0, 0, 0xFFFF, 101)
-    records = (struct.pack("<IIII", n // 1000, n % 1000, 28, 28) + packet(n) for n in range(count))
+    records = (struct.pack("<IIII", n // 1000, n % 1000, PACKET_BYTES, PACKET_BYTES) + packet(n) for n in range(count))
     return header + b"".join(records)
 
 
