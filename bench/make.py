@@ -1,4 +1,4 @@
-"""Makes the captures, the ruleset and the box file that bench/run measures."""
+"""Makes the captures, the rulesets and the box file that bench/run measures."""
 import struct
 import sys
 
@@ -34,6 +34,14 @@ def ruleset():
     return "\n".join(["table ip bench {", "\tchain forward {", head, *rules, "\t}", "}", ""])
 
 
+def large_ruleset(rules, elements):
+    """A ruleset of the whole language, which runs don't take yet: it is read, and then refused."""
+    addresses = ", ".join(f"1.0.{n // 250}.{n % 250}" for n in range(elements))
+    named = f"set s {{ type ipv4_addr; elements = {{ {addresses} }} }}".replace(", ", ",")
+    lines = [f"tcp dport {n % 100} accept" for n in range(rules)]
+    return "\n".join(["table t {", named, "chain c {", *lines, "}", "}", ""])
+
+
 BOX = """interface 2 lan 192.168.1.1/24
 interface 3 wan 203.0.113.1/24
 route 0.0.0.0/0 wan
@@ -48,6 +56,9 @@ def main():
             file.write(capture(10**power))
     with open(f"{folder}/rules.nft", "w") as file:
         file.write(ruleset())
+    for rules in (1000, 4000, 16000):
+        with open(f"{folder}/{rules}.nft", "w") as file:
+            file.write(large_ruleset(rules, rules * 15 // 4))
     with open(f"{folder}/box.txt", "w") as file:
         file.write(BOX)
 

@@ -1,10 +1,10 @@
 -- What the chains of several tables say, from what those of each say.
 use Rattle.std.proofs.Common.{◌≡◌, ℕ, ◌+◌, ◌<◌, List, [], ◌∷◌, ◌++◌, length, drop, get_or, map, refl, ap, sym, ◌∙◌}
 use Rattle.std.proofs.lemmas.List.{at_drop_more}
-use Rattle.nft_tree.specs.declared.Table.{Table}
-use Rattle.nft_tree.specs.declared.Verdict.{Verdict}
-use Rattle.nft_tree.specs.declared.Verdict.TheVariants.{Accept, Drop}
-use Rattle.nft_tree.specs.Tree.{ChainTree, TableTree, table_tree}
+use Rattle.plain_tree.specs.declared.Table.{Table}
+use Rattle.plain_tree.specs.declared.Verdict.{Verdict}
+use Rattle.plain_tree.specs.declared.Verdict.TheVariants.{Accept, Drop}
+use Rattle.plain_tree.specs.Tree.{ChainTree, TableTree, table_tree}
 use Rattle.engine.specs.declared.rules.Facts.{Facts}
 use Rattle.engine.specs.Rules.{unless_drop, chain_says, chains_say, forward_chains, forward_says}
 

@@ -7,7 +7,7 @@ use Rattle.std.proofs.KnownBytes.{Appends-nil, Appends-trans}
 use Rattle.std.proofs.lemmas.Grind.{flat_map-append}
 use Rattle.std.proofs.lemmas.List.Elements.{All-append}
 use Rattle.std.proofs.lemmas.Option.{same_Some}
-use Rattle.nft_tree.specs.Tree.{TableTree}
+use Rattle.plain_tree.specs.Tree.{TableTree}
 use Rattle.pcap_io.specs.declared.capture.Record.{Record}
 use Rattle.pcap_io.specs.Pcap.{Captured, Recorded, IsRecord, Ending, Ends, Whole, frame, stream_of, told, MOST_RECORDS}
 use Rattle.pcap_io.specs.Seen.{Seen, Reads, Says, recorded}

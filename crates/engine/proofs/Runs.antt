@@ -1,18 +1,19 @@
 -- A run, from what its parts did.
 use Rattle.std.proofs.Common.{◌≡◌, ◌≢◌, ℕ, true, false, Bool, List, drop, length, Option, Some, None, IfSome, Result, Ok, Err, IfOk, IfErr, OnErr, refl, sym, ap, subst, ◌∙◌, inr}
 use Rattle.std.specs.Io.KnownBytes.{Appends}
-use Rattle.nft_tree.specs.Tree.{TableTree}
+use Rattle.plain_tree.specs.Tree.{TableTree}
 use Rattle.pcap_io.specs.declared.fault.CaptureFault.{CaptureFault}
 use Rattle.pcap_io.specs.declared.fault.CaptureFault.TheVariants as captures
 use Rattle.pcap_io.specs.Pcap.{Captured, Pcap, Ending, Malformed, Over, header_fault, told, HEADER_BYTES}
 use Rattle.engine.specs.declared.fault.RunFault.{RunFault}
 use Rattle.engine.specs.declared.fault.RunFault.TheVariants.{Rules, Box, Capture, Device, Memory}
-use Rattle.nft_parser.specs.Spells.{Spells}
+use Rattle.plain_parser.specs.Spells.{Spells}
 use Rattle.engine.specs.WellFormed.{wrong}
 use Rattle.engine.specs.Box.{PlantTree, IsBox}
 use Rattle.engine.specs.Story.{story_of, capture_text}
 use Rattle.engine.specs.Report.{report_text}
 use Rattle.engine.specs.Meaning.{Accepted, story, ending_of, Meaning, Wrote, Refuses, Beginnings, IsEarly, HoldsAll}
+use Rattle.engine.specs.Inputs.{Takes}
 use Rattle.engine.specs.Replayed.{IsWithin, IsOfTexts, fault_told}
 use Rattle.engine.specs.Written.{Told, Held, Halted, SaysHeld}
 
@@ -214,15 +215,19 @@ refuses_header rules box accepted input captures.Memory of says = tt
 -- ---- the texts that a run accepts
 
 -- with the tree and the box as the engine shows them
-abbrev pub accepted_of : (rules box : List ℕ) (tree shown : List TableTree) (plant kept : PlantTree) → Spells tree rules → wrong tree ≡ None → IsBox box plant → shown ≡ tree → kept ≡ plant → Accepted rules box
-accepted_of rules box tree shown plant kept spelled well_formed read same_tree same_plant = record {
-  tree = shown;
-  spelled = subst (λ (t : List TableTree). Spells t rules) (sym same_tree) spelled;
-  well_formed = subst (λ (t : List TableTree). wrong t ≡ None) (sym same_tree) well_formed;
-  plant = kept;
-  read = subst (IsBox box) (sym same_plant) read;
-}
+abbrev pub accepted_of : (rules box : List ℕ) (tree shown : List TableTree) (plant kept : PlantTree) → Takes rules box tree plant → shown ≡ tree → kept ≡ plant → Accepted rules box
+accepted_of rules box tree shown plant kept taken same_tree same_plant =
+    let a = taken.accepted in
+    record {
+      whole = a.whole;
+      parsed = a.parsed;
+      tree = shown;
+      spelled = subst (λ (t : List TableTree). Spells t rules) (taken.same_tree ∙ sym same_tree) a.spelled;
+      well_formed = subst (λ (t : List TableTree). wrong a.whole (Some t) ≡ None) (taken.same_tree ∙ sym same_tree) a.well_formed;
+      plant = kept;
+      read = subst (IsBox box) (taken.same_plant ∙ sym same_plant) a.read;
+    }
 
 pub only_accepted : (rules box : List ℕ) (tree shown : List TableTree) (plant kept : PlantTree) → shown ≡ tree → kept ≡ plant
-    → ((other : Accepted rules box) → (other.tree ≡ tree) × (other.plant ≡ plant)) → (other : Accepted rules box) → (other.tree ≡ shown) × (other.plant ≡ kept)
-only_accepted rules box tree shown plant kept same_tree same_plant only other = let o = only other in (o.0 ∙ sym same_tree, o.1 ∙ sym same_plant)
+    → Takes rules box tree plant → (other : Accepted rules box) → (other.tree ≡ shown) × (other.plant ≡ kept)
+only_accepted rules box tree shown plant kept same_tree same_plant taken other = let o = taken.only other in (o.0 ∙ sym same_tree, o.1 ∙ sym same_plant)

@@ -1,7 +1,7 @@
 -- How a replay stops at a fault of the capture.
 use Rattle.std.proofs.Common.{◌≡◌, ◌≢◌, ◌⊎◌, ℕ, List, Option, Some, None, IfSome, Result, Ok, Err, IfOk, IfErr, OnOk, OnErr, inl, inr, refl, subst}
 use Rattle.std.specs.Prelude.{IsErrOf}
-use Rattle.nft_tree.specs.Tree.{TableTree}
+use Rattle.plain_tree.specs.Tree.{TableTree}
 use Rattle.pcap_io.specs.declared.fault.CaptureFault.{CaptureFault}
 use Rattle.pcap_io.specs.declared.fault.CaptureFault.TheVariants as captures
 use Rattle.pcap_io.specs.Pcap.{Torn, Malformed, Over}

@@ -11,3 +11,4 @@ pub mod Stands
 pub mod Replayed
 pub mod Written
 pub mod Meaning
+pub mod Inputs

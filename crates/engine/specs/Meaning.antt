@@ -1,14 +1,18 @@
 -- What a run makes of its texts and its capture.
-use Rattle.std.specs.Prelude.{◌≡◌, ◌<◌, ◌≤◌, ℕ, Bool, true, false, List, length, drop, All, Option, Some, None, IfSome, ◌⊎◌}
+use Rattle.std.specs.Prelude.{◌≡◌, ◌≤◌, ℕ, Bool, true, false, List, length, drop, All, Option, Some, None, IfSome, ◌⊎◌}
 use Rattle.std.specs.Io.KnownBytes.{Appends, Keeps}
-use Rattle.nft_tree.specs.Tree.{TableTree}
-use Rattle.nft_parser.specs.Spells.{Spells, MOST_BYTES}
+use Rattle.nft_tree.specs.Tree as whole
+use Rattle.nft_parser.specs.declared.fault.ParseError.{ParseError}
+use Rattle.nft_parser.specs.declared.fault.ParseError.TheVariants as parsing
+use Rattle.nft_parser.specs.Spells as parser
+use Rattle.plain_tree.specs.Tree.{TableTree}
+use Rattle.plain_parser.specs.Spells.{Spells}
 use Rattle.pcap_io.specs.declared.fault.CaptureFault.{CaptureFault}
 use Rattle.pcap_io.specs.declared.fault.CaptureFault.TheVariants as captures
 use Rattle.pcap_io.specs.Pcap.{Captured, IsRecord, Pcap, Ending, Whole, Torn, Malformed, Over, stream_of, header_fault, told, HEADER_BYTES, MOST_RECORDS}
 use Rattle.pcap_io.specs.Counting.{AppendsPart}
 use Rattle.engine.specs.declared.fault.RulesFault.{RulesFault}
-use Rattle.engine.specs.declared.fault.RulesFault.TheVariants.{TooLong, Syntax, Cost, TooManyRules}
+use Rattle.engine.specs.declared.fault.RulesFault.TheVariants.{Byte, OpenString, Number, TooLong, Syntax, LeftOut}
 use Rattle.engine.specs.declared.fault.RunFault.{RunFault}
 use Rattle.engine.specs.declared.fault.RunFault.TheVariants.{Rules, Box, Capture, Device, Memory}
 use Rattle.engine.specs.Box.{PlantTree, IsBox, HasFault}
@@ -16,11 +20,13 @@ use Rattle.engine.specs.WellFormed.{wrong}
 use Rattle.engine.specs.Story.{Entry, story_of, capture_text}
 use Rattle.engine.specs.Report.{report_text}
 
--- both texts are accepted: the first spells a tree that nothing refuses, the second a box
+-- both texts are accepted: the first spells a ruleset, which has the plain forms alone and in which nothing is wrong, the second a box
 pub record Accepted (rules box : List ℕ) : Type 0 where
+  pub whole : List whole.TableTree
+  pub parsed : parser.Spells whole rules
   pub tree : List TableTree
   pub spelled : Spells tree rules
-  pub well_formed : wrong tree ≡ None
+  pub well_formed : wrong whole (Some tree) ≡ None
   pub plant : PlantTree
   pub read : IsBox box plant
 
@@ -64,17 +70,34 @@ IsRefused capture captures.TooMany = (records : List Captured) × Pcap capture r
 IsRefused capture captures.Device = ⊥
 IsRefused capture captures.Memory = ⊥
 
--- the tree of the rules has this fault, where the box file is accepted
+-- how a run tells why a text is no ruleset
+abbrev pub parsing_told : ParseError → RunFault
+parsing_told (parsing.Byte line) = Rules (Byte line)
+parsing_told (parsing.OpenString line) = Rules (OpenString line)
+parsing_told (parsing.Number line) = Rules (Number line)
+parsing_told parsing.TooLong = Rules TooLong
+parsing_told parsing.Syntax = Rules Syntax
+parsing_told parsing.LeftOut = Rules LeftOut
+parsing_told parsing.Memory = Memory
+
+-- the text is no ruleset, for this fault
+abbrev pub IsTextFault : List ℕ → RulesFault → Type 0
+IsTextFault rules fault = (error : ParseError) × parser.HasFault rules error × (parsing_told error ≡ Rules fault)
+
+-- the tree of the plain forms that the text spells, or that it spells none
+abbrev pub HasPlain : List ℕ → Option (List TableTree) → Type 0
+HasPlain rules None = (tree : List TableTree) → Spells tree rules → ⊥
+HasPlain rules (Some tree) = Spells tree rules
+
+-- the ruleset has this fault, where the box file is accepted
 abbrev pub IsWrong : List ℕ → List ℕ → RulesFault → Type 0
-IsWrong rules box fault = (tree : List TableTree) × Spells tree rules × (plant : PlantTree) × IsBox box plant × (wrong tree ≡ Some fault)
+IsWrong rules box fault =
+    (tables : List whole.TableTree) × parser.Spells tables rules × (plain : Option (List TableTree)) × HasPlain rules plain × (plant : PlantTree) × IsBox box plant × (wrong tables plain ≡ Some fault)
 
 -- why there is no meaning: the rules' text, the box file, the tree, the capture, in this order
 abbrev pub Refuses : List ℕ → List ℕ → Option (List ℕ) → RunFault → Type 0
-Refuses rules box capture (Rules TooLong) = MOST_BYTES < length rules
-Refuses rules box capture (Rules Syntax) = (length rules ≤ MOST_BYTES) × ((tree : List TableTree) → Spells tree rules → ⊥)
-Refuses rules box capture (Box fault) = (tree : List TableTree) × Spells tree rules × HasFault box fault
-Refuses rules box capture (Rules Cost) = IsWrong rules box Cost
-Refuses rules box capture (Rules TooManyRules) = IsWrong rules box TooManyRules
+Refuses rules box capture (Rules fault) = IsTextFault rules fault ⊎ IsWrong rules box fault
+Refuses rules box capture (Box fault) = (tables : List whole.TableTree) × parser.Spells tables rules × HasFault box fault
 Refuses rules box capture (Capture fault) = Accepted rules box × IfSome capture (λ bytes. IsRefused bytes fault)
 Refuses rules box capture Device = Unit {0}
 Refuses rules box capture Memory = Unit {0}

@@ -1,15 +1,15 @@
 -- What rules do with a packet (nft(8)), by cases on the tree.
 use Rattle.std.specs.Prelude.{ℕ, ◌==◌, Bool, false, List, [], ◌∷◌, Option, Some, None, if◌then◌else◌}
 use Rattle.std.specs.List.{flat_map}
-use Rattle.nft_tree.specs.declared.Selector.{Selector}
-use Rattle.nft_tree.specs.declared.Selector.TheVariants.{SourceAddress, DestinationAddress}
-use Rattle.nft_tree.specs.declared.Value.{Value}
-use Rattle.nft_tree.specs.declared.Value.TheVariants.{Address}
-use Rattle.nft_tree.specs.declared.Verdict.{Verdict}
-use Rattle.nft_tree.specs.declared.Verdict.TheVariants.{Accept, Drop}
-use Rattle.nft_tree.specs.declared.Policy.{Policy}
-use Rattle.nft_tree.specs.declared.Policy.TheVariants as policies
-use Rattle.nft_tree.specs.Tree.{Statement, matching, verdict, RuleTree, ChainTree, TableTree}
+use Rattle.plain_tree.specs.declared.Selector.{Selector}
+use Rattle.plain_tree.specs.declared.Selector.TheVariants.{SourceAddress, DestinationAddress}
+use Rattle.plain_tree.specs.declared.Value.{Value}
+use Rattle.plain_tree.specs.declared.Value.TheVariants.{Address}
+use Rattle.plain_tree.specs.declared.Verdict.{Verdict}
+use Rattle.plain_tree.specs.declared.Verdict.TheVariants.{Accept, Drop}
+use Rattle.plain_tree.specs.declared.Policy.{Policy}
+use Rattle.plain_tree.specs.declared.Policy.TheVariants as policies
+use Rattle.plain_tree.specs.Tree.{Statement, matching, verdict, RuleTree, ChainTree, TableTree}
 use Rattle.engine.specs.declared.rules.Facts.{Facts}
 
 -- the value that a selector reads, or nothing

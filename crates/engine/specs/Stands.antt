@@ -1,6 +1,6 @@
 -- When an engine stands for a story.
 use Rattle.std.specs.Prelude.{◌≡◌, ℕ, List, map}
-use Rattle.nft_tree.specs.Tree.{TableTree}
+use Rattle.plain_tree.specs.Tree.{TableTree}
 use Rattle.pcap_io.specs.declared.capture.Record.{Record}
 use Rattle.pcap_io.specs.Pcap.{Recorded}
 use Rattle.engine.specs.declared.outcome.Outcome.{Outcome}

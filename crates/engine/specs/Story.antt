@@ -1,9 +1,9 @@
 -- What happens to each record, as a story: the list of entries of all earlier records, the newest first.
 use Rattle.std.specs.Prelude.{ℕ, ◌-◌, nat_lt, max, List, [], ◌∷◌, ◌++◌, Option, Some, None, if◌then◌else◌}
 use Rattle.std.specs.List.{flat_map}
-use Rattle.nft_tree.specs.declared.Verdict.{Verdict}
-use Rattle.nft_tree.specs.declared.Verdict.TheVariants.{Accept, Drop}
-use Rattle.nft_tree.specs.Tree.{TableTree}
+use Rattle.plain_tree.specs.declared.Verdict.{Verdict}
+use Rattle.plain_tree.specs.declared.Verdict.TheVariants.{Accept, Drop}
+use Rattle.plain_tree.specs.Tree.{TableTree}
 use Rattle.ip_headers.specs.declared.view.HeaderFault.{HeaderFault}
 use Rattle.ip_headers.specs.declared.view.HeaderFault.TheVariants as headers
 use Rattle.ip_headers.specs.Header.{fault_of, packet_of, source, destination, ttl}

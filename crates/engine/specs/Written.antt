@@ -1,7 +1,7 @@
 -- The two texts of a capture whose header is accepted.
 use Rattle.std.specs.Prelude.{◌≡◌, ◌≤◌, ℕ, Bool, List, length, All, Option}
 use Rattle.std.specs.Io.KnownBytes.{Appends}
-use Rattle.nft_tree.specs.Tree.{TableTree}
+use Rattle.plain_tree.specs.Tree.{TableTree}
 use Rattle.pcap_io.specs.declared.fault.CaptureFault.TheVariants as captures
 use Rattle.pcap_io.specs.Pcap.{Captured, IsRecord, Ending, Ends, Malformed, Over, stream_of, told, MOST_RECORDS}
 use Rattle.pcap_io.specs.Counting.{AppendsPart}

@@ -1,6 +1,6 @@
 //! One record at a time.
 ghost use Rattle.std.specs.Prelude.{◌≡◌, ◌≤◌, [], ◌∷◌, List, length, IfOk, OnOk, OnErr};
-ghost use Rattle.nft_tree.specs.Tree.{tables_of};
+ghost use Rattle.plain_tree.specs.Tree.{tables_of};
 ghost use Rattle.engine.specs.Plant.{plant_tree};
 ghost use Rattle.engine.specs.Story.{Entry, next};
 ghost use Rattle.engine.specs.Stands.{Stands, told_of};
@@ -8,8 +8,8 @@ ghost use Rattle.engine.specs.Stands.{Stands, told_of};
 use crate::box_file::Plant;
 use crate::fate::fate;
 use crate::outcome::Outcome;
-use nft_tree::Ruleset;
 use pcap_io::Record;
+use plain_tree::Ruleset;
 use std::alloc::{AllocError, Global};
 use std::marker::Model;
 
@@ -24,7 +24,7 @@ pub struct Engine {
 
 impl Model for Engine {
     ghost use Rattle.std.specs.Prelude.{◌≤◌, length};
-    ghost use Rattle.nft_tree.specs.Tree.{tables_of};
+    ghost use Rattle.plain_tree.specs.Tree.{tables_of};
     ghost use Rattle.engine.specs.Plant.{plant_tree};
     ghost use Rattle.engine.specs.Stands.{Shown};
 

@@ -1,6 +1,6 @@
 //! What becomes of a record, by its bytes alone.
 ghost use Rattle.std.specs.Prelude.{◌≡◌, ◌≤◌, [], length, IfOk};
-ghost use Rattle.nft_tree.specs.Tree.{tables_of};
+ghost use Rattle.plain_tree.specs.Tree.{tables_of};
 ghost use Rattle.engine.specs.Plant.{plant_tree};
 ghost use Rattle.engine.specs.Story.{fate_of, packet_fate};
 
@@ -8,7 +8,7 @@ use crate::box_file::Plant;
 use crate::outcome::{Cause, Outcome};
 use crate::rules::{Facts, forward_verdict};
 use ip_headers::{Change, View, emit};
-use nft_tree::{Ruleset, Verdict};
+use plain_tree::{Ruleset, Verdict};
 use std::alloc::AllocError;
 
 /// How the record with these bytes ends. The packet that leaves, where one does, is left in

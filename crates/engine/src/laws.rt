@@ -4,8 +4,9 @@ ghost use Rattle.std.specs.Prelude.{◌≡◌, List, ℕ, Bool, Some};
 ghost use Rattle.engine.specs.declared.fault.RunFault.{RunFault};
 ghost use Rattle.engine.specs.Meaning.{IsRefusal, Meaning, Refuses};
 
-use nft_parser::one_tree;
+use nft_parser::{one_fault, one_tree};
 use pcap_io::one_reading;
+use plain_parser::one_tree as one_plain_tree;
 
 /// Two texts and a capture mean at most one count of records, one kind of end, one capture and
 /// one report.
@@ -14,7 +15,7 @@ pub fn one_meaning()
         → Meaning rules box capture trace count torn sent report → Meaning rules box capture trace others sign other_sent other_report
         → (count ≡ others) × (torn ≡ sign) × (sent ≡ other_sent) × (report ≡ other_report) }
 {
-    one_tree();
+    one_plain_tree();
     one_reading();
 }
 
@@ -24,6 +25,8 @@ pub fn one_refusal()
         → Refuses rules box (Some capture) fault → Refuses rules box (Some capture) other → fault ≡ other }
 {
     one_tree();
+    one_fault();
+    one_plain_tree();
     one_reading();
 }
 
@@ -33,5 +36,7 @@ pub fn no_meaning()
         → Refuses rules box (Some capture) fault → Meaning rules box capture trace count torn sent report → ⊥ }
 {
     one_tree();
+    one_fault();
+    one_plain_tree();
     one_reading();
 }

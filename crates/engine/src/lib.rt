@@ -8,6 +8,7 @@ mod check;
 mod engine;
 mod fate;
 mod fault;
+mod inputs;
 mod laws;
 mod outcome;
 mod replay;

@@ -1,14 +1,9 @@
 //! A whole run.
 ghost use Rattle.std.specs.Prelude.{◌≡◌, ◌≢◌, ◌<◌, ◌≤◌, ◌⊎◌, [], ◌∷◌, Option, List, ℕ, None, Some, Err, IfOk, IfErr, IfSome, OnOk, OnErr, IsErrOf, true, length};
 ghost use Rattle.std.specs.Io.KnownBytes.{Keeps, Appends};
-ghost use Rattle.nft_tree.specs.Tree.{tables_of};
-ghost use Rattle.nft_parser.specs.Spells.{Spells};
 ghost use Rattle.pcap_io.specs.Counting.{Rose, AppendsPart};
-ghost use Rattle.engine.specs.Box.{IsBox};
-ghost use Rattle.engine.specs.Plant.{plant_tree};
-ghost use Rattle.engine.specs.WellFormed.{wrong};
-ghost use Rattle.engine.specs.Meaning.{Accepted, Refuses, Wrote, Beginnings, HoldsAll, IsEarly, ending_of};
-ghost use Rattle.engine.specs.Replayed.{Replayed, Stopped, IsWithin, SaysWithin, IsOfTexts, fault_told, end_told};
+ghost use Rattle.engine.specs.Meaning.{Refuses, Wrote, Beginnings, HoldsAll, IsEarly, ending_of};
+ghost use Rattle.engine.specs.Replayed.{Replayed, Stopped, IsWithin, SaysWithin, fault_told, end_told};
 ghost use Rattle.engine.specs.Written.{Told, Halted, SaysHeld};
 ghost use Rattle.engine.specs.Report.{text_for};
 ghost use Rattle.engine.specs.Story.{Entry, next, moment_of, sends};
@@ -18,14 +13,11 @@ ghost use Rattle.pcap_io.specs.Seen.{ahead};
 ghost use Rattle.pcap_io.specs.Sll2.{sll2_record};
 ghost use Rattle.std.specs.List.{flat_map};
 
-use crate::box_file::{BoxError, Plant};
-use crate::check::wrong;
 use crate::engine::Engine;
-use crate::fault::{RulesFault, RunFault};
+use crate::fault::RunFault;
+use crate::inputs::accepted;
 use crate::outcome::Outcome;
 use crate::report;
-use nft_parser::{ParseError, parse};
-use nft_tree::Ruleset;
 use pcap_io::{Capture, CaptureFault, Counted, Leaving, Record, Sink, one_reading, write_whole};
 use std::alloc::Global;
 use std::io::{Read, Write};
@@ -134,31 +126,6 @@ fn flush_both<W: Write, W2: Write>(
         return Err(RunFault::Device);
     }
     Ok(())
-}
-
-/// The ruleset and the box that the texts spell, in which nothing is wrong.
-fn accepted(alloc: Global, rules: &[u8], plant: &[u8]) -> Result<(Ruleset, Plant), RunFault>
-    ensures spelled { IfOk result (λ both. Spells (tables_of both.0) rules.now) }
-    ensures well_formed { IfOk result (λ both. wrong (tables_of both.0) ≡ None) }
-    ensures read { IfOk result (λ both. IsBox plant.now (plant_tree both.1)) }
-    ensures only { IfOk result (λ both. (other : Accepted rules.now plant.now) → (other.tree ≡ tables_of both.0) × (other.plant ≡ plant_tree both.1)) }
-    ensures refusals { IfErr result (λ fault. IsOfTexts fault × ((input : Option (List ℕ)) → Refuses rules.now plant.now input fault)) }
-{
-    let ruleset = match parse(alloc, rules) {
-        Ok(ruleset) => ruleset,
-        Err(ParseError::TooLong) => return Err(RunFault::Rules(RulesFault::TooLong)),
-        Err(ParseError::Syntax) => return Err(RunFault::Rules(RulesFault::Syntax)),
-        Err(ParseError::Memory) => return Err(RunFault::Memory),
-    };
-    let plant = match Plant::read(alloc, plant) {
-        Ok(plant) => plant,
-        Err(BoxError::Refused(fault)) => return Err(RunFault::Box(fault)),
-        Err(BoxError::Memory) => return Err(RunFault::Memory),
-    };
-    match wrong(&ruleset) {
-        Some(fault) => Err(RunFault::Rules(fault)),
-        None => Ok((ruleset, plant)),
-    }
 }
 
 /// A capture's fault as a run tells it.

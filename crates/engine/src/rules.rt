@@ -1,9 +1,9 @@
 //! What rules do with a packet.
 ghost use Rattle.std.specs.Prelude.{◌≡◌, map};
-ghost use Rattle.nft_tree.specs.Tree.{chain_tree, rule_tree, table_tree, tables_of};
+ghost use Rattle.plain_tree.specs.Tree.{chain_tree, rule_tree, table_tree, tables_of};
 ghost use Rattle.engine.specs.Rules.{chain_says, chains_say, forward_says, holds, policy_says, rules_say, statements_say, value};
 
-use nft_tree::{Chain, Match, Policy, Rule, Ruleset, Selector, Stmt, Table, Value, Verdict};
+use plain_tree::{Chain, Match, Policy, Rule, Ruleset, Selector, Stmt, Table, Value, Verdict};
 
 /// What a match may read of a packet.
 #[derive(Clone, Copy, Debug, PartialEq, Eq)]

@@ -1,8 +1,4 @@
-pub mod CutRuns
-pub mod CutGroups
-pub mod CutPieces
-pub mod CutWhole
-pub mod Repeats
-pub mod Single
-pub mod RuleLaws
-pub mod RulesetLaws
+pub mod HeadLaws
+pub mod ChainLaws
+pub mod TableLaws
+pub mod TextLaws

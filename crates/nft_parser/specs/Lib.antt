@@ -1,6 +1,5 @@
-pub mod Sign
-pub mod Cut
-pub mod Grammar
+pub mod Chains
+pub mod Rulesets
+pub mod Faults
 pub mod Spells
-pub mod Lexing
 pub mod Reading

@@ -1,17 +1,33 @@
--- What a text says as a ruleset.
-use Rattle.std.specs.Prelude.{◌≤◌, ℕ, List, length}
+-- What a text says as a ruleset, and why a text is none.
+use Rattle.std.specs.Prelude.{◌≡◌, ℕ, List, map, Bool, true, false}
+use Rattle.nft_lexer.specs.declared.fault.LexError.TheVariants as lexical
+use Rattle.nft_lexer.specs.Sign.{Sign, Spelled}
+use Rattle.nft_lexer.specs.Cut as cut
+use Rattle.nft_lexer.specs.Cut.{IsCut}
 use Rattle.nft_tree.specs.Tree.{TableTree}
-use Rattle.nft_parser.specs.Sign.{Sign}
-use Rattle.nft_parser.specs.Cut.{Cut}
-use Rattle.nft_parser.specs.Grammar.{SpellsRuleset}
+use Rattle.nft_parser.specs.declared.fault.ParseError.{ParseError}
+use Rattle.nft_parser.specs.declared.fault.ParseError.TheVariants.{Byte, OpenString, Number, TooLong, Syntax, LeftOut, Memory}
+use Rattle.nft_parser.specs.Rulesets.{SpellsRuleset, has_left_out}
 
--- how many bytes a text may have
-abbrev pub MOST_BYTES : ℕ
-MOST_BYTES = 1048576
+-- the tokens as a grammar sees them
+abbrev pub signs_of : List Spelled → List Sign
+signs_of tokens = map (λ t. t.sign) tokens
 
--- a text of at most so many bytes is cut into tokens, and these spell the tree
-pub record Spells (tree : List TableTree) (text : List ℕ) : Type 0 where
-  pub fits : length text ≤ MOST_BYTES
-  pub tokens : List Sign
-  pub cut : Cut text tokens
-  pub spelled : SpellsRuleset tree tokens
+-- the text is cut into tokens, and these spell the tree
+abbrev pub Spells : List TableTree → List ℕ → Type 0
+Spells tree text = (tokens : List Spelled) × IsCut text tokens × SpellsRuleset tree (signs_of tokens)
+
+-- the text is cut into tokens that spell no tree, and one of their words is left out of the language, or none
+abbrev pub SpellsNone : Bool → List ℕ → Type 0
+SpellsNone left_out text =
+    (tokens : List Spelled) × IsCut text tokens × ((tree : List TableTree) → SpellsRuleset tree (signs_of tokens) → ⊥) × (has_left_out (signs_of tokens) ≡ left_out)
+
+-- why the text is no ruleset: the first fault of its tokens, or else that they spell no tree
+abbrev pub HasFault : List ℕ → ParseError → Type 0
+HasFault text (Byte line) = cut.HasFault text (lexical.Byte line)
+HasFault text (OpenString line) = cut.HasFault text (lexical.OpenString line)
+HasFault text (Number line) = cut.HasFault text (lexical.Number line)
+HasFault text TooLong = cut.HasFault text lexical.TooLong
+HasFault text Syntax = SpellsNone false text
+HasFault text LeftOut = SpellsNone true text
+HasFault text Memory = ⊥

@@ -1,9 +1,26 @@
-//! Laws of the grammar, each as the contract of a function that does nothing.
+//! Laws of texts and trees, each as the contract of a function that does nothing.
 ghost use Rattle.std.specs.Prelude.{◌≡◌, ℕ, List};
 ghost use Rattle.nft_tree.specs.Tree.{TableTree};
-ghost use Rattle.nft_parser.specs.Spells.{Spells};
+ghost use Rattle.nft_parser.specs.declared.fault.ParseError.{ParseError};
+ghost use Rattle.nft_parser.specs.Spells.{Spells, HasFault};
 
-/// A text spells at most one tree.
+use nft_rules::rule_laws;
+use nft_sets::set_laws;
+
+/// A text spells at most one tree, and none where it has a fault.
 pub fn one_tree()
-    ensures { (text : List ℕ) (first second : List TableTree) → Spells first text → Spells second text → first ≡ second }
-{}
+    ensures one { (text : List ℕ) (first second : List TableTree) → Spells first text → Spells second text → first ≡ second }
+    ensures faultless { (text : List ℕ) (tree : List TableTree) (error : ParseError) → Spells tree text → HasFault text error → ⊥ }
+{
+    nft_lexer::one_cutting();
+    rule_laws();
+    set_laws();
+}
+
+/// A text has at most one fault.
+pub fn one_fault()
+    ensures { (text : List ℕ) (first second : ParseError) → HasFault text first → HasFault text second → first ≡ second }
+{
+    nft_lexer::one_cutting();
+    nft_lexer::one_fault();
+}

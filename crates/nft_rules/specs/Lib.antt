@@ -1,6 +1,3 @@
-pub mod Repeats
-pub mod Selectors
-pub mod Elements
 pub mod Rules
-pub mod Rulesets
-pub mod Trials
+pub mod Reading
+pub mod Laws

@@ -1,5 +1,15 @@
-//! What tokens spell in the whole language: selectors, lists of elements, rules, rulesets. So far
-//! these are definitions, tried on texts; the readers come with them as their contracts.
+//! Reads rules (nft(8), "Rules", "Statements"); lists of elements and selectors are those of the
+//! crates below.
 #![tactic(auto)]
 
-pub mod trials;
+mod counters;
+mod laws;
+mod marks;
+mod nat;
+mod rules;
+mod statements;
+
+pub use laws::rule_laws;
+pub use nft_lists::{elems, pairs};
+pub use nft_selectors::anysel;
+pub use rules::{rule, rule_here};

@@ -46,10 +46,83 @@ fn the_first_fault_of_all_inputs_is_told(rt: HostRuntime) -> Result<(), Fail> {
     let too_many = rules_of(rt.alloc(), 16_385)?;
     let unknown = RunFault::Box(BoxFault::UnknownName);
     refuses(&rt, &too_many, no_box, &no_capture, unknown);
-    let rules = RunFault::Rules(RulesFault::TooManyRules);
+    let rules = RunFault::Rules(RulesFault::TooLarge);
     refuses(&rt, &too_many, BOX, &no_capture, rules);
     let torn = RunFault::Capture(CaptureFault::TornEnd);
     refuses(&rt, b"", BOX, &no_capture, torn);
+    Ok(())
+}
+
+#[test]
+fn a_text_that_is_no_ruleset_is_told_before_the_box(rt: HostRuntime) -> Result<(), Fail> {
+    let no_capture = bytes(rt.alloc(), ["00000000"].as_slice())?;
+    let texts: [(&[u8], RulesFault); 6] = [
+        (
+            b"table ip t { chain a { accept $ } }",
+            RulesFault::Byte { line: 1 },
+        ),
+        (
+            b"table ip t { comment \"x",
+            RulesFault::OpenString { line: 1 },
+        ),
+        (
+            b"table ip t {\nchain a { ip saddr 1.2.3.256 drop } }",
+            RulesFault::Number { line: 2 },
+        ),
+        (
+            b"table ip t { chain a { accept counter ",
+            RulesFault::Syntax,
+        ),
+        (b"table ip6 t { }", RulesFault::LeftOut),
+        (
+            b"table ip t { chain a { tcp dport 22 reject } }",
+            RulesFault::LeftOut,
+        ),
+    ];
+    for (rules, fault) in texts {
+        refuses(
+            &rt,
+            rules,
+            b"default lan\n",
+            &no_capture,
+            RunFault::Rules(fault),
+        );
+    }
+    Ok(())
+}
+
+#[test]
+fn another_form_is_told_after_the_box_and_the_size(rt: HostRuntime) -> Result<(), Fail> {
+    let no_capture = bytes(rt.alloc(), ["00000000"].as_slice())?;
+    let texts: [&[u8]; 5] = [
+        b"table t { }",
+        b"table ip t { } table ip u { }",
+        b"table ip t { chain a { accept } }",
+        b"table ip t { set s { type ipv4_addr; elements = { 10.0.0.1 } } }",
+        b"table ip t { chain c { type filter hook forward priority 0; tcp dport 22 accept } }",
+    ];
+    for rules in texts {
+        let unknown = RunFault::Box(BoxFault::UnknownName);
+        refuses(&rt, rules, b"default lan\n", &no_capture, unknown);
+        let other = RunFault::Rules(RulesFault::LeftOut);
+        refuses(&rt, rules, BOX, &no_capture, other);
+    }
+    let high = b"table t { chain c { counter packets 0 bytes 4611686018427387905 } }";
+    refuses(
+        &rt,
+        high,
+        BOX,
+        &no_capture,
+        RunFault::Rules(RulesFault::TooLarge),
+    );
+    let highest = b"table t { chain c { counter packets 0 bytes 4611686018427387904 } }";
+    refuses(
+        &rt,
+        highest,
+        BOX,
+        &no_capture,
+        RunFault::Rules(RulesFault::LeftOut),
+    );
     Ok(())
 }
 
@@ -60,7 +133,7 @@ fn a_ruleset_has_a_limit_of_rules_and_of_cost(rt: HostRuntime) -> Result<(), Fai
     let given = run_over(rt.alloc(), &most, BOX, &capture, 4096);
     assert!(rt; given.summary.is_ok());
     let many = rules_of(rt.alloc(), 65_535)?;
-    let too_many = RunFault::Rules(RulesFault::TooManyRules);
+    let too_many = RunFault::Rules(RulesFault::TooLarge);
     refuses(&rt, &many, BOX, &capture, too_many);
     let costly = rules_of(rt.alloc(), 65_536)?;
     refuses(

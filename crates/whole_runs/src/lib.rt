@@ -1,4 +1,4 @@
-//! Whole runs over captures in memory, compared byte for byte.
+//! Texts read into trees, and whole runs over captures in memory, compared byte for byte.
 #![tactic(auto)]
 
 #[cfg(test)]
@@ -6,4 +6,10 @@ mod boxes;
 #[cfg(test)]
 mod faults;
 #[cfg(test)]
+mod parts;
+#[cfg(test)]
 mod runs;
+#[cfg(test)]
+mod texts;
+#[cfg(test)]
+mod trees;

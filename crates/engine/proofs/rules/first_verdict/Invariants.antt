@@ -1,5 +1,5 @@
 use Rattle.std.proofs.Common.{◌≡◌, map, drop}
-use Rattle.nft_tree.specs.Tree.{rule_tree}
+use Rattle.plain_tree.specs.Tree.{rule_tree}
 use Rattle.engine.specs.Rules.{rules_say}
 use Rattle.engine.proofs.rules.first_verdict.Given as goal
 

@@ -1,5 +1,5 @@
 use Rattle.std.proofs.Common.{arith, sym, ◌∙◌}
-use Rattle.nft_tree.specs.declared.Verdict.TheVariants.{Accept, Drop}
+use Rattle.plain_tree.specs.declared.Verdict.TheVariants.{Accept, Drop}
 use Rattle.engine.proofs.Chains.{forward_says-drop}
 use Rattle.engine.proofs.rules.forward_verdict.Goals as goal
 

@@ -1,5 +1,5 @@
 use Rattle.std.proofs.Common.{◌≡◌, map, drop}
-use Rattle.nft_tree.specs.Tree.{table_tree}
+use Rattle.plain_tree.specs.Tree.{table_tree}
 use Rattle.engine.specs.Rules.{forward_says}
 use Rattle.engine.proofs.rules.forward_verdict.Given as goal
 

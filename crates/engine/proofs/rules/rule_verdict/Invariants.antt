@@ -1,5 +1,5 @@
 use Rattle.std.proofs.Common.{◌≡◌, map, drop}
-use Rattle.nft_tree.specs.Tree.{statement}
+use Rattle.plain_tree.specs.Tree.{statement}
 use Rattle.engine.specs.Rules.{statements_say}
 use Rattle.engine.proofs.rules.rule_verdict.Given as goal
 

@@ -1,5 +1,5 @@
 use Rattle.std.proofs.Common.{◌≡◌, map, drop}
-use Rattle.nft_tree.specs.Tree.{chain_tree}
+use Rattle.plain_tree.specs.Tree.{chain_tree}
 use Rattle.engine.specs.Rules.{chains_say}
 use Rattle.engine.proofs.rules.table_verdict.Given as goal
 

@@ -1,0 +1,3 @@
+pub mod Matches
+pub mod Reading
+pub mod Laws

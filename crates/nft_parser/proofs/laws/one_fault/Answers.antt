@@ -1,0 +1,25 @@
+use Rattle.std.proofs.Common.{◌≡◌, ◌∙◌, List, inl, inr, sym, ap}
+use Rattle.nft_lexer.specs.Sign.{Spelled}
+use Rattle.nft_parser.specs.Faults.{of_lexing}
+use Rattle.nft_parser.specs.Reading.{refusal}
+use Rattle.nft_parser.specs.Rulesets.{has_left_out}
+use Rattle.nft_parser.specs.Spells.{signs_of}
+use Rattle.nft_parser.proofs.TextLaws.{fault_cases}
+use Rattle.nft_parser.proofs.laws.one_fault.Goals as goal
+
+pub returns : goal.returns
+returns c = λ text first second f s.
+    elim (fault_cases text first f) [
+      | inl l ↦
+          elim (fault_cases text second s) [
+            | inl m ↦ l.1 ∙ ap of_lexing (c.one_fault.ensures text l.0 m.0 l.2 m.2) ∙ sym m.1
+            | inr n ↦ absurd (c.one_cutting.ensures.faultless text n.2.0 l.0 n.2.1 l.2)
+          ]
+      | inr n ↦
+          elim (fault_cases text second s) [
+            | inl l ↦ absurd (c.one_cutting.ensures.faultless text n.2.0 l.0 n.2.1 l.2)
+            | inr m ↦
+                let same : n.2.0 ≡ m.2.0 = c.one_cutting.ensures.one text n.2.0 m.2.0 n.2.1 m.2.1 in
+                n.1 ∙ ap refusal (sym n.2.3 ∙ ap (λ (tokens : List Spelled). has_left_out (signs_of tokens)) same ∙ m.2.3) ∙ sym m.1
+          ]
+    ]

@@ -1,0 +1,12 @@
+use Rattle.std.proofs.Common.{◌≡◌, map, length}
+use Rattle.nft_tree.specs.Tree.{item_tree}
+use Rattle.token_reader.specs.Places.{ahead}
+use Rattle.token_reader.specs.Reading.{all_at, with_front}
+use Rattle.nft_parser.specs.Reading.{next_item_at}
+use Rattle.nft_parser.proofs.tables.items.Given as goal
+
+abbrev pub invariant-loop-found : goal.invariant-loop-found
+invariant-loop-found l = with_front (map item_tree l.found.items) (all_at next_item_at (ahead l.tokens l.here)) ≡ all_at next_item_at (ahead l.tokens l.at)
+
+abbrev pub decreases-loop-found : goal.decreases-loop-found
+decreases-loop-found l = length (ahead l.tokens l.here)

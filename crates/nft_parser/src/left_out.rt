@@ -1,0 +1,84 @@
+//! Words of nft(8) that the language leaves out.
+ghost use Rattle.std.specs.Prelude.{◌≡◌};
+ghost use Rattle.std.specs.List.{list_any};
+ghost use Rattle.std.specs.Str.{bytes_eq};
+ghost use Rattle.nft_lexer.specs.Sign.{sign_of, signs};
+ghost use Rattle.nft_parser.specs.Reading.{names_left_out};
+ghost use Rattle.nft_parser.specs.Rulesets.{left_out, has_left_out};
+
+use nft_lexer::{Kind, Token};
+
+static LEFT_OUT: [&[u8]; 48] = [
+    b"define",
+    b"undefine",
+    b"redefine",
+    b"include",
+    b"add",
+    b"create",
+    b"insert",
+    b"replace",
+    b"delete",
+    b"destroy",
+    b"list",
+    b"reset",
+    b"rename",
+    b"monitor",
+    b"ip6",
+    b"icmpv6",
+    b"arp",
+    b"bridge",
+    b"netdev",
+    b"ether",
+    b"vlan",
+    b"reject",
+    b"limit",
+    b"quota",
+    b"queue",
+    b"dup",
+    b"fwd",
+    b"tproxy",
+    b"synproxy",
+    b"flowtable",
+    b"flow",
+    b"helper",
+    b"expectation",
+    b"timeout",
+    b"expires",
+    b"dynamic",
+    b"gc-interval",
+    b"numgen",
+    b"jhash",
+    b"symhash",
+    b"fib",
+    b"rt",
+    b"socket",
+    b"osf",
+    b"random",
+    b"fully-random",
+    b"persistent",
+    b"dscp",
+];
+
+/// Whether the language leaves the word out.
+fn is_left_out(word: &[u8]) -> bool
+    ensures { result ≡ list_any (bytes_eq word.now) left_out }
+{
+    LEFT_OUT.iter().any(|known| word == *known)
+}
+
+/// Whether the token is a word that the language leaves out.
+fn names_left_out(token: &Token) -> bool
+    ensures { result ≡ names_left_out (sign_of token.now.kind token.now.text.now) }
+{
+    match token.kind {
+        Kind::Word => is_left_out(token.text),
+        _ => false,
+    }
+}
+
+/// Whether some word of the tokens is left out of the language.
+pub(crate) fn has_left_out(tokens: &[Token]) -> bool
+    ensures { result ≡ has_left_out (signs tokens.now) }
+{
+    tokens.iter().any(|token| names_left_out(token))
+}

@@ -1,0 +1,53 @@
+//! From a text to its tree.
+ghost use Rattle.std.specs.Prelude.{◌≡◌, ◌<◌, ◌↔◌, ◌⊎◌, ℕ, List, length, Err, IfOk, IfErr, MatchResult};
+ghost use Rattle.nft_tree.specs.Tree.{TableTree, tables_of};
+ghost use Rattle.nft_lexer.specs.Cut.{MOST_BYTES};
+ghost use Rattle.nft_parser.specs.declared.fault.ParseError.{ParseError};
+ghost use Rattle.nft_lexer.specs.Sign.{signs};
+ghost use Rattle.nft_parser.specs.Reading.{refusal};
+ghost use Rattle.nft_parser.specs.Rulesets.{has_left_out};
+ghost use Rattle.nft_parser.specs.Spells.{Spells, HasFault};
+
+use crate::fault::ParseError;
+use crate::laws::one_tree;
+use crate::left_out::has_left_out;
+use crate::tables::ruleset;
+use nft_lexer::{Token, lex};
+use nft_tree::Ruleset;
+use std::alloc::Global;
+
+/// The one tree that the text spells (nft(8)).
+///
+/// `TooLong` comes before anything else; else the first fault of the tokens, with its line; else
+/// `LeftOut` or `Syntax` where no tree is spelled. `Memory` may come in place of any answer but
+/// `TooLong`.
+pub fn parse(alloc: Global, text: &[u8]) -> Result<Ruleset, ParseError>
+    // What is answered is spelled by the text.
+    ensures found { IfOk result (λ answer. Spells (tables_of answer) text.now) }
+    // A tree that the text spells is the one answered, want of memory aside: it is the only one.
+    ensures only { (tree : List TableTree) → Spells tree text.now → MatchResult result (λ answer. tables_of answer ≡ tree) (λ error. error ≡ ParseError.Memory) }
+    // A fault that is answered is the text's.
+    ensures fault { IfErr result (λ error. (error ≡ ParseError.Memory) ⊎ HasFault text.now error) }
+    // The text's fault is the one answered, want of memory aside.
+    ensures only_fault { (error : ParseError) → HasFault text.now error → MatchResult result (λ _. ⊥) (λ answer. (answer ≡ error) ⊎ (answer ≡ ParseError.Memory)) }
+    // A text that is too long is told before anything else.
+    ensures long { (result ≡ Err ParseError.TooLong) ↔ (MOST_BYTES < length text.now) }
+{
+    one_tree();
+    let tokens = lex(alloc, text)?;
+    match ruleset(alloc, &tokens)? {
+        Some(ruleset) => Ok(ruleset),
+        None => Err(refusal(&tokens)),
+    }
+}
+
+/// Why the tokens, which spell no tree, are no ruleset.
+fn refusal(tokens: &[Token]) -> ParseError
+    ensures { result ≡ refusal (has_left_out (signs tokens.now)) }
+{
+    if has_left_out(tokens) {
+        ParseError::LeftOut
+    } else {
+        ParseError::Syntax
+    }
+}

@@ -1,5 +1,0 @@
-use Rattle.nft_rules.proofs.Spellings as spellings
-use Rattle.nft_rules.proofs.trials.no_unended_flush.Goals as goal
-
-pub returns : goal.returns
-returns c = spellings.no_unended_flush

@@ -1,0 +1,5 @@
+pub mod FlagLaws
+pub mod TypeLaws
+pub mod CollectLaws
+pub mod FieldLaws
+pub mod SetLaws

@@ -1,0 +1,11 @@
+use Rattle.std.proofs.Common.{◌≡◌, length}
+use Rattle.token_reader.specs.Places.{ahead}
+use Rattle.token_reader.specs.Reading.{all_at, with_front}
+use Rattle.nft_sets.specs.Reading.{next_flag_at}
+use Rattle.nft_sets.proofs.flags.more_flags.Given as goal
+
+abbrev pub invariant-loop-next : goal.invariant-loop-next
+invariant-loop-next l = with_front l.found.items (all_at next_flag_at (ahead l.tokens l.here)) ≡ with_front l.fn.found.items (all_at next_flag_at (ahead l.tokens l.at))
+
+abbrev pub decreases-loop-next : goal.decreases-loop-next
+decreases-loop-next l = length (ahead l.tokens l.here)

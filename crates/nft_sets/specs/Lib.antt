@@ -1,0 +1,4 @@
+pub mod Sets
+pub mod Reading
+pub mod Views
+pub mod Laws

@@ -1,0 +1,12 @@
+//! Reads sets and maps with names (nft(8), "Sets", "Maps").
+#![tactic(auto)]
+
+mod fields;
+mod flags;
+mod laws;
+mod parts;
+mod sets;
+mod types;
+
+pub use laws::set_laws;
+pub use sets::{map_decl, set_decl};

@@ -1,0 +1,12 @@
+use Rattle.std.proofs.Common.{◌≡◌, map, length}
+use Rattle.token_reader.specs.Places.{ahead}
+use Rattle.plain_tree.specs.Tree.{rule_tree}
+use Rattle.token_reader.specs.Reading.{all_at, with_front}
+use Rattle.plain_parser.specs.Reading.{next_rule_at}
+use Rattle.plain_parser.proofs.rules.more_rules.Given as goal
+
+abbrev pub invariant-loop-rule : goal.invariant-loop-rule
+invariant-loop-rule l = with_front (map rule_tree l.rules.items) (all_at next_rule_at (ahead l.tokens l.here)) ≡ with_front (map rule_tree l.fn.rules.items) (all_at next_rule_at (ahead l.tokens l.at))
+
+abbrev pub decreases-loop-rule : goal.decreases-loop-rule
+decreases-loop-rule l = length (ahead l.tokens l.here)

@@ -1,0 +1,4 @@
+pub mod Faults
+pub mod Grammar
+pub mod Spells
+pub mod Reading

@@ -1,0 +1,31 @@
+//! How large a ruleset may be.
+#![tactic(auto)]
+
+ghost use Rattle.std.specs.Prelude.{◌≡◌};
+ghost use Rattle.nft_tree.specs.Tree.{tables_of};
+ghost use Rattle.rule_limits.specs.Limits.{too_large};
+
+mod counts;
+mod elements;
+mod starts;
+
+use counts::rule_count;
+use elements::element_count;
+use nft_tree::Ruleset;
+use starts::some_start_too_high;
+
+/// A ruleset may have as many rules as this.
+const MOST_RULES: usize = 16_384;
+
+/// The sets and maps of a ruleset may have as many elements as this.
+const MOST_ELEMENTS: usize = 65_536;
+
+/// Whether the ruleset has more than 16,384 rules, more than 65,536 elements in all its sets and
+/// maps, those without a name included, or a counter that starts over 2^62.
+pub fn too_large(tree: &Ruleset) -> bool
+    ensures { result ≡ too_large (tables_of tree.now) }
+{
+    rule_count(tree) > MOST_RULES
+        || element_count(tree) > MOST_ELEMENTS
+        || some_start_too_high(tree)
+}

@@ -1,0 +1,10 @@
+use Rattle.std.proofs.Common.{refl, inl}
+use Rattle.spelling_trials.proofs.trials.port_is_not_22.Goals as goal
+
+pub returns : goal.returns
+returns c rest = record {
+  some = λ e. cc;
+  mid = _;
+  each = (_, (_, _, inl refl, refl, refl, refl, refl), (_, refl, refl));
+  last = refl;
+}

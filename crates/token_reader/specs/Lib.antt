@@ -1,0 +1,5 @@
+pub mod Places
+pub mod Repeats
+pub mod Reading
+pub mod Laws
+pub mod TokenLaws

@@ -1,0 +1,12 @@
+//! Reads single tokens at a place, and what may stand between parts.
+//!
+//! A place past the last token is one at which nothing stands. `specs/Repeats.antt` says what
+//! "any number of" means for every grammar on these tokens, `specs/Laws.antt` what holds of each
+//! reading from left to right.
+#![tactic(auto)]
+
+mod ends;
+mod single;
+
+pub use ends::{after_end, after_ends, skip_ends, stops};
+pub use single::{address, after_mark, after_word, number, string, word};

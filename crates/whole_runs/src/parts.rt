@@ -1,0 +1,101 @@
+//! Parts of rulesets, each read at its place.
+use nft_lexer::lex;
+use nft_rules::{anysel, elems, pairs, rule};
+use nft_tree::{Data, Element, Key, Pair, Range, Selector, Stmt, Value, Verdict};
+use std::test::Fail;
+
+#[test]
+fn a_rule_is_read_up_to_its_end(rt: HostRuntime) -> Result<(), Fail> {
+    let text = b"accept; tcp dport 22 log prefix \"in\" drop comment \"no\" } drop";
+    let tokens = lex(rt.alloc(), text)?;
+    let Some((found, end)) = rule(rt.alloc(), &tokens, 2)? else {
+        panic!(rt; "no rule");
+    };
+    assert_eq!(rt; end, 11);
+    assert_eq!(rt; found.statements.len(), 3);
+    assert!(rt;
+        matches!(&found.statements[1], Stmt::Log(Some(prefix)) if prefix.as_slice() == b"in".as_slice())
+    );
+    assert!(rt; matches!(&found.statements[2], Stmt::Verdict(Verdict::Drop)));
+    assert!(rt; matches!(&found.comment, Some(text) if text.as_slice() == b"no".as_slice()));
+    assert!(rt; rule(rt.alloc(), &tokens, 1)?.is_none());
+    assert!(rt; rule(rt.alloc(), &tokens, 12)?.is_none());
+    assert!(rt; rule(rt.alloc(), &tokens, 40)?.is_none());
+    Ok(())
+}
+
+#[test]
+fn a_list_is_read_up_to_its_brace(rt: HostRuntime) -> Result<(), Fail> {
+    let tokens = lex(rt.alloc(), b"{ 22,\n10.0.0.0/8 comment \"ten\", }")?;
+    assert_eq!(rt; tokens.len(), 11);
+    let Some((found, brace)) = elems(rt.alloc(), &tokens, 1)? else {
+        panic!(rt; "no list");
+    };
+    assert_eq!(rt; brace, 10);
+    let [first, second] = found.as_slice() else {
+        panic!(rt; "not two elements");
+    };
+    assert!(rt;
+        matches!(
+            first,
+            Element {
+                key: Key::Single(Range::One(Value::Number(22))),
+                comment: None
+            }
+        )
+    );
+    assert!(rt;
+        matches!(second, Element { key: Key::Single(Range::Prefix(0x0a00_0000, 8)), comment: Some(text) } if text.as_slice() == b"ten".as_slice())
+    );
+    assert!(rt; elems(rt.alloc(), &tokens, 0)?.is_none());
+    assert!(rt; elems(rt.alloc(), &tokens, 10)?.is_none());
+    assert!(rt; elems(rt.alloc(), &tokens[..10], 1)?.is_none());
+    Ok(())
+}
+
+#[test]
+fn pairs_are_read_up_to_their_brace(rt: HostRuntime) -> Result<(), Fail> {
+    let tokens = lex(rt.alloc(), b"1-9 : 10.0.0.1, 10 : drop }")?;
+    let Some((found, brace)) = pairs(rt.alloc(), &tokens, 0)? else {
+        panic!(rt; "no pairs");
+    };
+    assert_eq!(rt; brace, 9);
+    let [first, second] = found.as_slice() else {
+        panic!(rt; "not two pairs");
+    };
+    assert!(rt;
+        matches!(
+            first,
+            Pair {
+                key: Range::Between(Value::Number(1), Value::Number(9)),
+                comment: None,
+                value: Data::Value(Value::Address(0x0a00_0001))
+            }
+        )
+    );
+    assert!(rt;
+        matches!(
+            second,
+            Pair {
+                key: Range::One(Value::Number(10)),
+                comment: None,
+                value: Data::Verdict(Verdict::Drop)
+            }
+        )
+    );
+    assert!(rt; pairs(rt.alloc(), &tokens, 6)?.is_some());
+    assert!(rt; pairs(rt.alloc(), &tokens, 8)?.is_none());
+    Ok(())
+}
+
+#[test]
+fn a_selector_is_read_whatever_follows(rt: HostRuntime) -> Result<(), Fail> {
+    let tokens = lex(rt.alloc(), b"meta iifname ct state , iif")?;
+    assert_eq!(rt; anysel(&tokens, 0), Some((Selector::InputName, 2)));
+    assert_eq!(rt; anysel(&tokens, 1), Some((Selector::InputName, 2)));
+    assert_eq!(rt; anysel(&tokens, 2), Some((Selector::CtState, 4)));
+    assert_eq!(rt; anysel(&tokens, 3), None);
+    assert_eq!(rt; anysel(&tokens, 5), Some((Selector::InputIndex, 6)));
+    assert_eq!(rt; anysel(&tokens, 6), None);
+    Ok(())
+}
