@@ -3,8 +3,6 @@
 
 mod rewrite;
 mod sum;
-#[cfg(test)]
-mod tests;
 mod view;
 
 pub use rewrite::{Change, emit};

@@ -8,7 +8,7 @@ use byteorder::{BigEndian, ByteOrder};
 use std::alloc::AllocError;
 
 /// What is to be other in a packet: each field or none.
-#[derive(Clone, Copy, Debug, PartialEq, Eq)]
+#[derive(Clone, Copy)]
 pub struct Change {
     /// The time to live.
     pub ttl: Option<u8>,
@@ -17,7 +17,8 @@ pub struct Change {
 /// Appends the packet as it leaves: the named fields replaced, the header's checksum corrected
 /// incrementally (RFC 1624), all else as it came.
 ///
-/// `Err` comes only where the buffer had to grow and couldn't; then it is as before.
+/// `Err` comes only where the buffer had to grow and couldn't, which it hadn't where it had room for
+/// 65,535 bytes more; then it holds what it held.
 pub fn emit(view: &View, change: &Change, out: &mut Vec<u8>) -> Result<(), AllocError>
     ensures ok { OnOk result (out.new.items ≡ out.old.items ++ rewritten view.now.packet.now change.now) }
     // What the bytes that leave mean, field by field.
@@ -26,6 +27,8 @@ pub fn emit(view: &View, change: &Change, out: &mut Vec<u8>) -> Result<(), Alloc
     ensures faultless { fault_of (rewritten view.now.packet.now change.now) ≡ None }
     ensures err { OnErr result (out.new.items ≡ out.old.items) }
     ensures full { OnErr result (vec_capacity out.old < vec_len out.old + length view.now.packet.now) }
+    // So a buffer that was reserved once stays large enough for every packet.
+    ensures capacity { vec_capacity out.old ≤ vec_capacity out.new }
 {
     let start = out.len();
     out.extend_from_slice(view.packet)?;

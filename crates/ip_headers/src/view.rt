@@ -8,7 +8,7 @@ use byteorder::{BigEndian, ByteOrder};
 use thiserror::Error;
 
 /// Why a record carries no packet: the first test that fails (RFC 791, section 3.1).
-#[derive(Clone, Copy, Debug, PartialEq, Eq, Drop, Error)]
+#[derive(Clone, Copy, Debug, PartialEq, Error)]
 pub enum HeaderFault {
     /// Fewer than 20 bytes.
     #[error("short")]

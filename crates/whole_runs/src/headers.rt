@@ -1,4 +1,5 @@
-use crate::{Change, HeaderFault, View, emit, ones_sum};
+//! Packets read in place and sent on.
+use ip_headers::{Change, HeaderFault, View, emit, ones_sum};
 use std::test::Fail;
 
 // UDP from 192.168.1.10:5000 to 198.51.100.7:53, with TTL 64.
@@ -51,6 +52,12 @@ fn first_fault(rt: HostRuntime) {
     assert_eq!(rt; fault(&later), Some(HeaderFault::Fragment));
     later[11] = 0xe3;
     assert_eq!(rt; fault(&later), Some(HeaderFault::Checksum));
+    let mut version = PACKET;
+    version[0] = 0x65;
+    assert_eq!(rt; fault(&version), Some(HeaderFault::Version));
+    let mut header_length = PACKET;
+    header_length[0] = 0x44;
+    assert_eq!(rt; fault(&header_length), Some(HeaderFault::HeaderLength));
     let options = [
         0x4f, 0x00, 0x00, 0x14, 0x00, 0x01, 0x00, 0x00, 0x40, 0x11, 0x00, 0x00, 0xc0, 0xa8, 0x01,
         0x0a, 0xc6, 0x33, 0x64, 0x07,
@@ -60,8 +67,18 @@ fn first_fault(rt: HostRuntime) {
 
 #[test]
 fn faults_as_text(rt: HostRuntime) -> Result<(), Fail> {
-    let text = format!(in rt.alloc(); "{} {}", HeaderFault::HeaderLength, HeaderFault::Fragment)?;
-    assert_eq!(rt; text.as_str(), "hlen fragment");
+    for (fault, want) in [
+        (HeaderFault::Short, "short"),
+        (HeaderFault::Version, "version"),
+        (HeaderFault::HeaderLength, "hlen"),
+        (HeaderFault::Length, "length"),
+        (HeaderFault::Truncated, "truncated"),
+        (HeaderFault::Checksum, "checksum"),
+        (HeaderFault::Fragment, "fragment"),
+    ] {
+        let text = format!(in rt.alloc(); "{fault}")?;
+        assert_eq!(rt; text.as_str(), want);
+    }
     Ok(())
 }
 
