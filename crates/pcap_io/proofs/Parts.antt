@@ -1,24 +1,16 @@
--- Beginnings of what is written, one after another.
-use Rattle.std.proofs.Common.{◌≡◌, refl, ℕ, ◌-◌, List, [], ◌++◌, length, take, drop, append_assoc, length-drop, ap, sym, subst, ◌∙◌, Result, Ok, Err, OnOk, OnErr}
+-- What is written and what waits.
+use Rattle.std.proofs.Common.{◌≡◌, ℕ, ◌<◌, ◌-◌, ◌==◌, ◌&&◌, if◌then◌else◌, Bool, List, [], ◌++◌, length, take, drop, append_assoc, append-nil, length-drop, ap, sym, subst, ◌∙◌, arith}
 use Rattle.std.proofs.lemmas.List.{take-append-drop}
 use Rattle.std.proofs.Math.Seq.{take-length}
 use Rattle.std.specs.declared.option.Option.{Option}
 use Rattle.std.specs.Io.KnownBytes.{Appends}
-use Rattle.std.proofs.KnownBytes.{Appends-trans, Appends-nil, Consumes-nil, Consumes-trans, Keeps-refl, Keeps-trans}
+use Rattle.std.proofs.KnownBytes.{Appends-nil, Keeps-refl, Keeps-trans}
 use Rattle.pcap_io.specs.Counting.{AppendsPart}
+use Rattle.pcap_io.specs.Waiting.{Gets}
 
 -- a beginning of the first is one of both
 pub part_first : (a b : Option (List ℕ)) (xs ys : List ℕ) → AppendsPart a b xs → AppendsPart a b (xs ++ ys)
 part_first a b xs ys (part, rest, e, w) = (part, rest ++ ys, ap (λ zs. zs ++ ys) e ∙ append_assoc part rest ys, w)
-
--- the first, and a beginning of the second
-pub part_after : (a b c : Option (List ℕ)) (xs ys : List ℕ) → Appends a b xs → AppendsPart b c ys → AppendsPart a c (xs ++ ys)
-part_after a b c xs ys whole (part, rest, e, w) = (xs ++ part, rest, ap (λ zs. xs ++ zs) e ∙ sym (append_assoc xs part rest), Appends-trans a b c xs part whole w)
-
-pub part_none : (a : Option (List ℕ)) (xs : List ℕ) → AppendsPart a a xs
-part_none a xs = ([], xs, refl, Appends-nil a)
-
-pub ruleset byte_rules = (Appends-trans, Appends-nil, Consumes-nil, Consumes-trans)
 
 -- what a write took moves from the rest to what is done
 pub moved_on : (bytes done rest : List ℕ) (n : ℕ) → bytes ≡ done ++ rest → bytes ≡ (done ++ take n rest) ++ take (length rest - n) (drop n rest)
@@ -28,14 +20,23 @@ moved_on bytes done rest n whole =
 
 pub ruleset kept_rules = (Keeps-refl, Keeps-trans)
 
--- the first and then the second, which the last call wrote or not
-pub both_whole : {X E : Type 0} (r : Result X E) (a b c : Option (List ℕ)) (xs ys zs : List ℕ) → xs ++ ys ≡ zs → Appends a b xs → OnOk r (Appends b c ys) → OnOk r (Appends a c zs)
-both_whole (Ok x) a b c xs ys zs e first second = subst (Appends a c) e (Appends-trans a b c xs ys first second)
-both_whole (Err x) a b c xs ys zs e first second = tt
+-- a write that took some bytes isn't counted
+pub took_some : (n : ℕ) (b : Bool) (x y : ℕ) → 0 < n → (if (n == 0) && b then x else y) ≡ y
+took_some n b x y some = grind arith
 
-pub both_part : {X E : Type 0} (r : Result X E) (a b c : Option (List ℕ)) (xs ys zs : List ℕ) → xs ++ ys ≡ zs → Appends a b xs → OnErr r (AppendsPart b c ys) → OnErr r (AppendsPart a c zs)
-both_part (Ok x) a b c xs ys zs e first second = tt
-both_part (Err x) a b c xs ys zs e first second = subst (AppendsPart a c) e (part_after a b c xs ys first second)
+-- ---- bytes that wait
 
-pub first_part : (a b : Option (List ℕ)) (xs ys zs : List ℕ) → xs ++ ys ≡ zs → AppendsPart a b xs → AppendsPart a b zs
-first_part a b xs ys zs e first = subst (AppendsPart a b) e (part_first a b xs ys first)
+-- what waited is written, and nothing waits
+pub drained : (a b : Option (List ℕ)) (old wrote mid : List ℕ) → Appends a b wrote → wrote ≡ old → mid ≡ [] → Gets old a b mid []
+drained a b old wrote mid w is none = (old, ap (λ ys. old ++ ys) (sym none), subst (Appends a b) is w)
+
+-- nothing is written, and the same waits
+pub left_waiting : (a : Option (List ℕ)) (old mid : List ℕ) → mid ≡ old → Gets old a a mid []
+left_waiting a old mid is = ([], append-nil old ∙ sym is, Appends-nil a)
+
+-- more waits behind
+pub waits_more : (a b : Option (List ℕ)) (old mid head tail waits bytes : List ℕ) → Gets old a b mid [] → waits ≡ (mid ++ head) ++ tail → head ++ tail ≡ bytes → Gets old a b waits bytes
+waits_more a b old mid head tail waits bytes (part, e, w) is whole =
+    let front : old ≡ part ++ mid = sym (append-nil old) ∙ e in
+    let back : mid ++ bytes ≡ waits = ap (λ ys. mid ++ ys) (sym whole) ∙ sym (append_assoc mid head tail) ∙ sym is in
+    (part, ap (λ ys. ys ++ bytes) front ∙ append_assoc part mid bytes ∙ ap (λ ys. part ++ ys) back, w)

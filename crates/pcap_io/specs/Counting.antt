@@ -1,22 +1,22 @@
 -- How failed calls are counted.
-use Rattle.std.specs.Prelude.{◌≡◌, ◌<◌, ◌-◌, ◌^◌, ◌++◌, ◌⊎◌, ℕ, List, Option, Result, MatchResult}
+use Rattle.std.specs.Prelude.{◌≡◌, ◌+◌, ◌-◌, ◌^◌, ◌++◌, ◌==◌, ◌&&◌, nat_lt, ℕ, List, length, Option, Result, MatchResult, if◌then◌else◌}
 use Rattle.std.specs.Io.KnownBytes.{Appends}
 
--- the count rose, or stands at its greatest
-abbrev pub Rose : ℕ → ℕ → Type 0
-Rose before after = (before < after) ⊎ (after ≡ 2 ^ 64 - 1)
+-- one more; the greatest number of 64 bits stays
+abbrev pub one_more : ℕ → ℕ
+one_more n = if nat_lt n (2 ^ 64 - 1) then n + 1 else n
 
 -- a read that fails is counted, and no other
 abbrev pub CountsRead : {E : Type 0} → ℕ → ℕ → Result ℕ E → Type 0
-CountsRead before after r = MatchResult r (λ _. after ≡ before) (λ _. Rose before after)
+CountsRead before after r = MatchResult r (λ _. after ≡ before) (λ _. after ≡ one_more before)
 
--- a write that fails or takes nothing is counted, and no other
-abbrev pub CountsWrite : {E : Type 0} → ℕ → ℕ → Result ℕ E → Type 0
-CountsWrite before after r = MatchResult r (λ n. (n ≡ 0 → Rose before after) × (0 < n → after ≡ before)) (λ _. Rose before after)
+-- a write that fails, or that takes nothing of some bytes, is counted, and no other
+abbrev pub CountsWrite : {E : Type 0} → ℕ → ℕ → Result ℕ E → List ℕ → Type 0
+CountsWrite before after r buf = MatchResult r (λ n. after ≡ (if (n == 0) && nat_lt 0 (length buf) then one_more before else before)) (λ _. after ≡ one_more before)
 
 -- a flush that fails is counted, and no other
 abbrev pub CountsFlush : {A E : Type 0} → ℕ → ℕ → Result A E → Type 0
-CountsFlush before after r = MatchResult r (λ _. after ≡ before) (λ _. Rose before after)
+CountsFlush before after r = MatchResult r (λ _. after ≡ before) (λ _. after ≡ one_more before)
 
 -- known bytes grow by a beginning of these
 abbrev pub AppendsPart : Option (List ℕ) → Option (List ℕ) → List ℕ → Type 0

@@ -1,4 +1,6 @@
 pub mod Counting
 pub mod Pcap
-pub mod Sll2
 pub mod Seen
+pub mod Sll2
+pub mod Waiting
+pub mod steps

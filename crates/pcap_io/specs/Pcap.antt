@@ -1,34 +1,73 @@
 -- A capture: the classic format of libpcap's files (pcap-savefile(5)).
--- So far the lowest byte of each number comes first, fractions are microseconds, and packets have no link header.
-use Rattle.std.specs.Prelude.{◌≡◌, ◌≢◌, ◌<◌, ◌≤◌, ◌+◌, ◌*◌, ◌==◌, nat_lt, not, max, ℕ, List, [], ◌∷◌, ◌++◌, length, drop, All, ◌⊎◌, Option, Some, None, if◌then◌else◌}
+use Rattle.std.specs.Prelude.{◌≡◌, ◌≢◌, ◌<◌, ◌≤◌, ◌+◌, ◌*◌, ◌%◌, ◌==◌, nat_lt, not, max, ℕ, List, [], ◌∷◌, ◌++◌, length, drop, All, ◌⊎◌, Option, Some, None, Result, Ok, Err, if◌then◌else◌}
 use Rattle.std.specs.List.{flat_map}
+use Rattle.std.specs.Result.{result_err}
 use Rattle.byteorder.specs.Endian.{little_from}
 use Rattle.pcap_io.specs.declared.fault.CaptureFault.{CaptureFault}
 use Rattle.pcap_io.specs.declared.fault.CaptureFault.TheVariants.{TornEnd, Magic, Version, LinkType}
+use Rattle.pcap_io.specs.declared.format.Order.{Order}
+use Rattle.pcap_io.specs.declared.format.Order.TheVariants.{LowestFirst}
+use Rattle.pcap_io.specs.declared.format.Fractions.{Fractions}
+use Rattle.pcap_io.specs.declared.format.Fractions.TheVariants.{Microseconds}
+use Rattle.pcap_io.specs.declared.format.Link.{Link}
+use Rattle.pcap_io.specs.declared.format.Link.TheVariants.{Raw}
+use Rattle.pcap_io.specs.declared.format.Format.{Format}
 
--- ---- the header of a file
+-- ---- the header of a file, which tells its format
+
+-- the number in so many bytes from a place on
+abbrev pub number_in : Order → ℕ → ℕ → List ℕ → ℕ
+number_in LowestFirst place count bytes = little_from place count bytes
+
+-- how many of these fractions a second has
+abbrev pub in_second : Fractions → ℕ
+in_second Microseconds = 1000000
+
+-- how many nanoseconds such a fraction is
+abbrev pub nanoseconds : Fractions → ℕ
+nanoseconds Microseconds = 1000
 
 abbrev pub HEADER_BYTES : ℕ
 HEADER_BYTES = 24
 
--- the magic number a1b2c3d4
+-- a1b2c3d4
 abbrev pub MICROSECOND_MAGIC : ℕ
 MICROSECOND_MAGIC = 2712847316
+
+-- the order of the file's numbers and its fractions, which the magic number tells
+abbrev pub units_of : List ℕ → Option (Order × Fractions)
+units_of bytes = if little_from 0 4 bytes == MICROSECOND_MAGIC then Some (LowestFirst, Microseconds) else None
 
 -- LINKTYPE_RAW
 abbrev pub RAW : ℕ
 RAW = 101
 
--- magic, version (2.4), zone, sigfigs, snaplen, link type. Zone, sigfigs and snaplen aren't used; of the link type field the low 16 bits decide.
--- The tests in their order: the first that fails is the fault.
+abbrev pub link_of : ℕ → Option Link
+link_of number = if number == RAW then Some Raw else None
+
+-- the link type's field has 32 bits, of which the low 16 decide
+abbrev pub link_in : Order → List ℕ → Option Link
+link_in order bytes = link_of (number_in order 20 4 bytes % 65536)
+
+abbrev pub linked : Order → Fractions → Option Link → Result Format CaptureFault
+linked order fractions None = Err LinkType
+linked order fractions (Some link) = Ok (record { order = order; fractions = fractions; link = link })
+
+-- the version is 2.4
+abbrev pub versioned : List ℕ → Option (Order × Fractions) → Result Format CaptureFault
+versioned bytes None = Err Magic
+versioned bytes (Some units) =
+    if not (number_in units.0 4 2 bytes == 2) then Err Version
+    else (if not (number_in units.0 6 2 bytes == 4) then Err Version
+    else linked units.0 units.1 (link_in units.0 bytes))
+
+-- Magic, version, zone, sigfigs, snaplen, link type; zone, sigfigs and snaplen aren't used.
+-- The tests in their order: length, magic, version, link type. The first that fails is the fault.
+abbrev pub format_of : List ℕ → Result Format CaptureFault
+format_of bytes = if nat_lt (length bytes) HEADER_BYTES then Err TornEnd else versioned bytes (units_of bytes)
+
 abbrev pub header_fault : List ℕ → Option CaptureFault
-header_fault bytes =
-    if nat_lt (length bytes) HEADER_BYTES then Some TornEnd
-    else (if not (little_from 0 4 bytes == MICROSECOND_MAGIC) then Some Magic
-    else (if not (little_from 4 2 bytes == 2) then Some Version
-    else (if not (little_from 6 2 bytes == 4) then Some Version
-    else (if not (little_from 20 2 bytes == RAW) then Some LinkType
-    else None))))
+header_fault bytes = result_err (format_of bytes)
 
 -- ---- the records after it
 
@@ -38,14 +77,14 @@ pub record Captured : Type 0 where
   pub bytes : List ℕ
 
 -- the header's fields: seconds, fraction, captured length; the original length, last, isn't used
-abbrev pub seconds_in : List ℕ → ℕ
-seconds_in head = little_from 0 4 head
+abbrev pub seconds_in : Format → List ℕ → ℕ
+seconds_in format head = number_in format.order 0 4 head
 
-abbrev pub fraction_in : List ℕ → ℕ
-fraction_in head = little_from 4 4 head
+abbrev pub fraction_in : Format → List ℕ → ℕ
+fraction_in format head = number_in format.order 4 4 head
 
-abbrev pub captured_length_in : List ℕ → ℕ
-captured_length_in head = little_from 8 4 head
+abbrev pub captured_length_in : Format → List ℕ → ℕ
+captured_length_in format head = number_in format.order 8 4 head
 
 abbrev pub RECORD_HEADER_BYTES : ℕ
 RECORD_HEADER_BYTES = 16
@@ -53,17 +92,14 @@ RECORD_HEADER_BYTES = 16
 abbrev pub MOST_CAPTURED : ℕ
 MOST_CAPTURED = 262144
 
-abbrev pub MICROSECONDS : ℕ
-MICROSECONDS = 1000000
-
 -- the header is one that a record may have: it isn't over the greatest length, and its fraction is within a second
-abbrev pub IsGood : List ℕ → Type 0
-IsGood head = (captured_length_in head ≤ MOST_CAPTURED) × (fraction_in head < MICROSECONDS)
+abbrev pub IsGood : Format → List ℕ → Type 0
+IsGood format head = (captured_length_in format head ≤ MOST_CAPTURED) × (fraction_in format head < in_second format.fractions)
 
-pub record IsRecord (r : Captured) : Type 0 where
+pub record IsRecord (format : Format) (r : Captured) : Type 0 where
   pub head_length : length r.head ≡ RECORD_HEADER_BYTES
-  pub good : IsGood r.head
-  pub captured : captured_length_in r.head ≡ length r.bytes
+  pub good : IsGood format r.head
+  pub captured : captured_length_in format r.head ≡ length r.bytes
 
 abbrev pub frame : Captured → List ℕ
 frame r = r.head ++ r.bytes
@@ -88,22 +124,23 @@ pub data Ending : Type 0 where
   Over : Ending
 
 -- the rest after so many records, where no further record is
-abbrev pub Ends : Ending → ℕ → List ℕ → Type 0
-Ends Whole count rest = rest ≡ []
-Ends Over count rest = (rest ≢ []) × (count ≡ MOST_RECORDS)
-Ends Torn count rest = (rest ≢ []) × (count < MOST_RECORDS)
-    × ((length rest < RECORD_HEADER_BYTES) ⊎ (IsGood rest × (length rest < RECORD_HEADER_BYTES + captured_length_in rest)))
-Ends Malformed count rest = (count < MOST_RECORDS) × (RECORD_HEADER_BYTES ≤ length rest)
-    × ((MOST_CAPTURED < captured_length_in rest) ⊎ (MICROSECONDS ≤ fraction_in rest))
+abbrev pub Ends : Format → Ending → ℕ → List ℕ → Type 0
+Ends format Whole count rest = rest ≡ []
+Ends format Over count rest = (rest ≢ []) × (count ≡ MOST_RECORDS)
+Ends format Torn count rest = (rest ≢ []) × (count < MOST_RECORDS)
+    × ((length rest < RECORD_HEADER_BYTES) ⊎ (IsGood format rest × (length rest < RECORD_HEADER_BYTES + captured_length_in format rest)))
+Ends format Malformed count rest = (count < MOST_RECORDS) × (RECORD_HEADER_BYTES ≤ length rest)
+    × ((MOST_CAPTURED < captured_length_in format rest) ⊎ (in_second format.fractions ≤ fraction_in format rest))
 
 -- these bytes are a header without fault and these records, and stop so
 pub record Pcap (bytes : List ℕ) (records : List Captured) (ending : Ending) : Type 0 where
-  pub accepted : header_fault bytes ≡ None
+  pub format : Format
+  pub accepted : format_of bytes ≡ Ok format
   pub rest : List ℕ
   pub whole : drop HEADER_BYTES bytes ≡ stream_of records rest
-  pub each : All IsRecord records
+  pub each : All (IsRecord format) records
   pub not_over : length records ≤ MOST_RECORDS
-  pub ends : Ends ending (length records) rest
+  pub ends : Ends format ending (length records) rest
 
 -- ---- what the records tell
 
@@ -113,13 +150,14 @@ pub record Recorded : Type 0 where
   pub bytes : List ℕ
 
 -- the moment that a record's own header tells
-abbrev pub own_moment : Captured → ℕ
-own_moment r = seconds_in r.head * 1000000000 + fraction_in r.head * 1000
+abbrev pub own_moment : Format → Captured → ℕ
+own_moment format r = seconds_in format r.head * 1000000000 + fraction_in format r.head * nanoseconds format.fractions
 
 -- the moment of a record is the greatest of its own and all earlier ones
-abbrev pub told_after : ℕ → List Captured → List Recorded
-told_after latest [] = []
-told_after latest (r ∷ rs) = let moment = max latest (own_moment r) in record { moment = moment; bytes = r.bytes } ∷ told_after moment rs
+abbrev pub told_after : Format → ℕ → List Captured → List Recorded
+told_after format latest [] = []
+told_after format latest (r ∷ rs) =
+    let moment = max latest (own_moment format r) in record { moment = moment; bytes = r.bytes } ∷ told_after format moment rs
 
-abbrev pub told : List Captured → List Recorded
-told records = told_after 0 records
+abbrev pub told : Format → List Captured → List Recorded
+told format records = told_after format 0 records

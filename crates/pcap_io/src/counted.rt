@@ -1,8 +1,9 @@
 //! A reader or a writer that counts the calls that failed.
-ghost use Rattle.std.specs.Prelude.{◌≡◌, ◌<◌, ◌≤◌, ◌-◌, ◌^◌, ◌++◌, true, false, MatchResult};
+ghost use Rattle.std.specs.Prelude.{◌≡◌, true, false, MatchResult};
 ghost use Rattle.std.specs.Io.{ReadsAtMost, WritesAtMost};
 ghost use Rattle.std.specs.Io.KnownBytes.{ReadConsumes, WriteAppends, Keeps};
-ghost use Rattle.pcap_io.specs.Counting.{Rose, CountsRead, CountsWrite, CountsFlush};
+ghost use Rattle.pcap_io.specs.Counting as counting;
+ghost use Rattle.pcap_io.specs.Counting.{CountsRead, CountsWrite, CountsFlush};
 
 use std::io;
 use std::io::{Read, Write};
@@ -51,9 +52,9 @@ impl<T> Counted<T> {
     }
 }
 
-/// One more.
+/// One more, or the greatest.
 fn one_more(failures: u64) -> u64
-    ensures { Rose failures result }
+    ensures { result ≡ counting.one_more failures }
 {
     failures.saturating_add(1)
 }
@@ -81,13 +82,18 @@ impl<W: Write> Write for Counted<W> {
     fn write(&mut self, buf: &[u8]) -> io::Result<usize>
         ensures bound { WritesAtMost result buf.now }
         ensures bytes { WriteAppends (W.contents self.old.inner) (W.contents self.new.inner) result buf.now }
-        ensures counts { CountsWrite self.old.failures self.new.failures result }
+        ensures counts { CountsWrite self.old.failures self.new.failures result buf.now }
         ensures flushed { self.new.is_flushed ≡ false }
     {
         // A call that fails may have written some bytes.
         self.is_flushed = false;
         let result = self.inner.write(buf);
-        if !matches!(&result, Ok(1..)) {
+        // To take nothing of nothing is no failure.
+        let has_failed = match &result {
+            Ok(count) => *count == 0 && !buf.is_empty(),
+            Err(_) => true,
+        };
+        if has_failed {
             self.failures = one_more(self.failures);
         }
         result

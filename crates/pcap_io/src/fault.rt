@@ -2,9 +2,12 @@
 use std::alloc::AllocError;
 use thiserror::Error;
 
-/// Why a capture isn't read further (pcap-savefile(5)).
-#[derive(Clone, Copy, Debug, PartialEq, Eq, Drop, Error)]
+/// What a capture is refused for (pcap-savefile(5)).
+#[derive(Clone, Copy, Debug, PartialEq, Eq, Error)]
 pub enum CaptureFault {
+    /// The bytes end inside the header or inside a record.
+    #[error("P5")]
+    TornEnd,
     /// The magic number isn't one that is read.
     #[error("P1")]
     Magic,
@@ -17,27 +20,43 @@ pub enum CaptureFault {
     /// A record's captured length is over 262,144, or its fraction is a whole second or more.
     #[error("P4")]
     Malformed,
-    /// The bytes end inside the header or inside a record.
-    #[error("P5")]
-    TornEnd,
-    /// A read failed.
-    #[error("P6")]
-    Device,
     /// A byte comes after 4,294,967,296 records.
     #[error("P7")]
     TooMany,
+}
+
+/// Why a capture isn't opened or isn't read further.
+#[derive(Clone, Copy, Debug, PartialEq, Error)]
+pub enum CaptureError {
+    /// Its bytes are refused.
+    #[error("{0}")]
+    Refused(CaptureFault),
+    /// A read failed.
+    #[error("P6")]
+    Device,
     /// There was no room to grow.
     #[error("memory")]
     Memory,
 }
 
-impl From<AllocError> for CaptureFault {
+impl From<CaptureFault> for CaptureError {
     ghost use Rattle.std.specs.Prelude.{◌≡◌};
-    ghost use Rattle.pcap_io.specs.declared.fault.CaptureFault.{CaptureFault};
+    ghost use Rattle.pcap_io.specs.declared.fault.CaptureError.{CaptureError};
 
-    ghost from_gives = { λ _ e. e ≡ CaptureFault.Memory };
+    ghost from_gives = { λ fault e. e ≡ CaptureError.Refused fault };
 
-    fn from(_error: AllocError) -> CaptureFault {
-        CaptureFault::Memory
+    fn from(fault: CaptureFault) -> CaptureError {
+        CaptureError::Refused(fault)
+    }
+}
+
+impl From<AllocError> for CaptureError {
+    ghost use Rattle.std.specs.Prelude.{◌≡◌};
+    ghost use Rattle.pcap_io.specs.declared.fault.CaptureError.{CaptureError};
+
+    ghost from_gives = { λ _ e. e ≡ CaptureError.Memory };
+
+    fn from(_error: AllocError) -> CaptureError {
+        CaptureError::Memory
     }
 }

@@ -1,8 +1,14 @@
 //! Laws of the format, each as the contract of a function that does nothing.
-ghost use Rattle.std.specs.Prelude.{◌≡◌, List, ℕ};
-ghost use Rattle.pcap_io.specs.Pcap.{Pcap, Captured, Ending};
+ghost use Rattle.std.specs.Prelude.{◌≡◌, ◌⊎◌, List, ℕ, Some};
+ghost use Rattle.pcap_io.specs.declared.fault.CaptureFault.{CaptureFault};
+ghost use Rattle.pcap_io.specs.Pcap.{Pcap, Captured, Ending, header_fault};
 
 /// A file has at most one reading as records and an ending.
 pub fn one_reading()
-    ensures { (bytes : List ℕ) (xs ys : List Captured) (ending other : Ending) → Pcap bytes xs ending → Pcap bytes ys other → (xs ≡ ys) × (ending ≡ other) }
+    ensures { (bytes : List ℕ) (xs ys : List Captured) (ending other : Ending) (one : Pcap bytes xs ending) (two : Pcap bytes ys other) → (xs ≡ ys) × (ending ≡ other) × (one.format ≡ two.format) }
+{}
+
+/// Every file has a fault in its header, or a reading.
+pub fn some_reading()
+    ensures { (bytes : List ℕ) → ((fault : CaptureFault) × (header_fault bytes ≡ Some fault)) ⊎ ((records : List Captured) × (ending : Ending) × Pcap bytes records ending) }
 {}

@@ -4,17 +4,16 @@
 mod capture;
 mod counted;
 mod fault;
+mod format;
 mod laws;
 mod sink;
 mod slow;
-#[cfg(test)]
-mod tests;
 mod whole;
 
 pub use capture::{Capture, Record};
 pub use counted::Counted;
-pub use fault::CaptureFault;
-pub use laws::one_reading;
-pub use sink::{Leaving, Sink};
-pub use slow::{Failing, Slow};
+pub use fault::{CaptureError, CaptureFault};
+pub use laws::{one_reading, some_reading};
+pub use sink::{Leaving, Sink, SinkError};
+pub use slow::{Calls, Failing, Slow};
 pub use whole::{DeviceFailed, write_whole};

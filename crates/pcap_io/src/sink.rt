@@ -1,14 +1,19 @@
-//! Packets written one after another.
-ghost use Rattle.std.specs.Prelude.{◌≡◌, ◌++◌, ◌<◌, OnOk, OnErr};
+//! Packets written one after another, through one buffer.
+ghost use Rattle.std.specs.Prelude.{◌≡◌, ◌++◌, ◌+◌, ◌<◌, ◌≤◌, [], true, IfOk, OnOk, OnErr, IsErrOf, length, Err, vec_capacity};
 ghost use Rattle.std.specs.Io.KnownBytes.{Appends};
-ghost use Rattle.pcap_io.specs.Counting.{Rose, AppendsPart};
+ghost use Rattle.pcap_io.specs.Counting.{one_more, AppendsPart};
+ghost use Rattle.pcap_io.specs.Waiting.{Gets};
+ghost use Rattle.pcap_io.specs.Waiting as buffer;
 ghost use Rattle.pcap_io.specs.Sll2.{sll2_header, sll2_record, sent, IsSent};
 ghost use Rattle.pcap_io.specs.Sll2 as Sll2;
 
 use crate::counted::Counted;
 use crate::whole::{DeviceFailed, write_whole};
 use byteorder::{ByteOrder, LittleEndian};
+use std::alloc::{AllocError, Global};
 use std::io::Write;
+use std::marker::Model;
+use thiserror::Error;
 
 /// Magic 0xa1b23c4d (fractions in nanoseconds), version 2.4, zone 0, sigfigs 0, snaplen 262144, and
 /// link type 276, LINKTYPE_LINUX_SLL2.
@@ -24,8 +29,11 @@ const RECORD_HEADER_BYTES: usize = 16;
 /// The length of LINKTYPE_LINUX_SLL2's header.
 const LINK_HEADER_BYTES: usize = 20;
 
+/// How many bytes may wait: more than the greatest record has.
+const BUFFER_BYTES: usize = 131_072;
+
 /// A packet that leaves.
-#[derive(Clone, Copy, Debug)]
+#[derive(Clone, Copy)]
 pub struct Leaving<'a> {
     /// In nanoseconds since 1970.
     pub moment: u64,
@@ -34,44 +42,132 @@ pub struct Leaving<'a> {
     pub packet: &'a [u8],
 }
 
+/// Why a sink isn't opened.
+#[derive(Clone, Copy, Debug, PartialEq, Error)]
+pub enum SinkError {
+    /// A write failed.
+    #[error("device")]
+    Device,
+    /// There was no room for the buffer.
+    #[error("memory")]
+    Memory,
+}
+
+impl From<DeviceFailed> for SinkError {
+    ghost use Rattle.std.specs.Prelude.{◌≡◌};
+    ghost use Rattle.pcap_io.specs.declared.sink.SinkError.{SinkError};
+
+    ghost from_gives = { λ _ e. e ≡ SinkError.Device };
+
+    fn from(_error: DeviceFailed) -> SinkError {
+        SinkError::Device
+    }
+}
+
+impl From<AllocError> for SinkError {
+    ghost use Rattle.std.specs.Prelude.{◌≡◌};
+    ghost use Rattle.pcap_io.specs.declared.sink.SinkError.{SinkError};
+
+    ghost from_gives = { λ _ e. e ≡ SinkError.Memory };
+
+    fn from(_error: AllocError) -> SinkError {
+        SinkError::Memory
+    }
+}
+
 /// A capture that is written: LINKTYPE_LINUX_SLL2, nanoseconds, the lowest byte of a number first.
+///
+/// What is put waits in a buffer until that is full, or until `finish`. A sink that is dropped
+/// before writes nothing more.
 #[derive(Drop)]
-pub struct Sink {}
+pub struct Sink {
+    waiting: Vec<u8>,
+}
+
+impl Model for Sink {
+    ghost use Rattle.std.specs.Prelude.{◌≤◌, vec_len, vec_capacity};
+    ghost use Rattle.pcap_io.specs.Waiting.{Waiting, BUFFER_BYTES};
+
+    ghost Value = { Waiting };
+
+    ghost view = { λ s. record { waiting = s.waiting.items } };
+
+    ghost invariant = { λ s. (vec_len s.waiting ≤ BUFFER_BYTES) × (BUFFER_BYTES ≤ vec_capacity s.waiting) };
+}
 
 impl Sink {
-    /// Writes the header of the file. After an `Err` the writer holds a beginning of it.
-    pub fn open<W: Write>(writer: &mut Counted<W>) -> Result<Self, DeviceFailed>
-        ensures ok { OnOk result (Appends (W.contents writer.old.inner) (W.contents writer.new.inner) sll2_header) }
-        ensures calm { OnOk result (writer.new.failures ≡ writer.old.failures) }
+    /// Reserves the buffer and writes the header of the file. Where there is no room for the buffer
+    /// nothing is written; after a device fault the writer holds a beginning of the header.
+    pub fn open<W: Write>(alloc: Global, writer: &mut Counted<W>) -> Result<Self, SinkError>
+        ensures ok { IfOk result (λ sink. Gets [] (W.contents writer.old.inner) (W.contents writer.new.inner) sink.waiting sll2_header) }
         ensures part { OnErr result (AppendsPart (W.contents writer.old.inner) (W.contents writer.new.inner) sll2_header) }
-        ensures device { OnErr result (Rose writer.old.failures writer.new.failures) }
+        ensures memory { IsErrOf result SinkError.Memory → writer.new ≡ writer.old }
+        ensures calm { OnOk result (writer.new.failures ≡ writer.old.failures) }
+        ensures device { IsErrOf result SinkError.Device → writer.new.failures ≡ one_more writer.old.failures }
     {
+        let waiting = Vec::with_capacity(alloc, BUFFER_BYTES)?;
         write_whole(writer, &HEADER)?;
-        Ok(Sink {})
+        Ok(Sink { waiting })
     }
 
-    /// Writes one record. After an `Err` the writer holds a beginning of it, and the sink is unchanged.
+    /// Puts one record. The writer is called only where the record has no room beside what waits.
+    /// After an `Err` the writer holds a beginning of what waited, and the sink is unchanged.
     pub fn put<W: Write>(
         &mut self,
         writer: &mut Counted<W>,
         leaving: &Leaving,
     ) -> Result<(), DeviceFailed>
         requires { IsSent (sent leaving.now) }
-        ensures ok { OnOk result (Appends (W.contents writer.old.inner) (W.contents writer.new.inner) (sll2_record (sent leaving.now))) }
+        ensures ok { OnOk result (Gets self.old.waiting (W.contents writer.old.inner) (W.contents writer.new.inner) self.new.waiting (sll2_record (sent leaving.now))) }
+        ensures part { OnErr result (AppendsPart (W.contents writer.old.inner) (W.contents writer.new.inner) (self.old.waiting ++ sll2_record (sent leaving.now))) }
+        ensures err { OnErr result (self.new ≡ self.old) }
+        ensures room { length self.old.waiting + length (sll2_record (sent leaving.now)) ≤ buffer.BUFFER_BYTES → writer.new ≡ writer.old }
         ensures calm { OnOk result (writer.new.failures ≡ writer.old.failures) }
-        ensures part { OnErr result (AppendsPart (W.contents writer.old.inner) (W.contents writer.new.inner) (sll2_record (sent leaving.now))) }
-        ensures device { OnErr result (Rose writer.old.failures writer.new.failures) }
-        ensures unchanged { self.new ≡ self.old }
+        ensures device { OnErr result (writer.new.failures ≡ one_more writer.old.failures) }
     {
-        write_whole(writer, &headers(leaving))?;
-        write_whole(writer, leaving.packet)
+        let length = RECORD_HEADER_BYTES + LINK_HEADER_BYTES + leaving.packet.len();
+        if BUFFER_BYTES - self.waiting.len() < length {
+            write_whole(writer, &self.waiting)?;
+            self.waiting.clear();
+        }
+        append(&mut self.waiting, &headers(leaving));
+        append(&mut self.waiting, leaving.packet);
+        Ok(())
     }
+
+    /// Writes what waits, and flushes the writer once. After an `Err` the writer holds a beginning of
+    /// what waited, and the sink is unchanged.
+    pub fn finish<W: Write>(&mut self, writer: &mut Counted<W>) -> Result<(), DeviceFailed>
+        ensures ok { OnOk result (Appends (W.contents writer.old.inner) (W.contents writer.new.inner) self.old.waiting) }
+        ensures empty { OnOk result (self.new.waiting ≡ []) }
+        ensures flushed { OnOk result (writer.new.is_flushed ≡ true) }
+        ensures part { OnErr result (AppendsPart (W.contents writer.old.inner) (W.contents writer.new.inner) self.old.waiting) }
+        ensures err { OnErr result (self.new ≡ self.old) }
+        ensures calm { OnOk result (writer.new.failures ≡ writer.old.failures) }
+        ensures device { OnErr result (writer.new.failures ≡ one_more writer.old.failures) }
+    {
+        write_whole(writer, &self.waiting)?;
+        if writer.flush().is_err() {
+            return Err(DeviceFailed);
+        }
+        self.waiting.clear();
+        Ok(())
+    }
+}
+
+/// Appends where there is room, so that nothing is allocated.
+fn append(waiting: &mut Vec<u8>, bytes: &[u8])
+    requires { length waiting.old.items + length bytes.now ≤ vec_capacity waiting.old }
+    ensures items { waiting.new.items ≡ waiting.old.items ++ bytes.now }
+    ensures capacity { vec_capacity waiting.old ≤ vec_capacity waiting.new }
+{
+    waiting.extend_from_slice(bytes).unwrap();
 }
 
 /// The record's header and the link header, which stand before the packet.
 fn headers(leaving: &Leaving) -> [u8; RECORD_HEADER_BYTES + LINK_HEADER_BYTES]
     requires { IsSent (sent leaving.now) }
-    ensures { result ++ leaving.now.packet.now ≡ sll2_record (sent leaving.now) }
+    ensures bytes { result ++ leaving.now.packet.now ≡ sll2_record (sent leaving.now) }
 {
     let length = (LINK_HEADER_BYTES + leaving.packet.len()) as u32;
     let mut bytes = [0u8; RECORD_HEADER_BYTES + LINK_HEADER_BYTES];

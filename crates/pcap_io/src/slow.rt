@@ -1,7 +1,8 @@
-//! Readers and writers for tests: few bytes a call, and a call that fails.
+//! Readers and writers for tests: few bytes a call, a call that fails, calls counted.
 ghost use Rattle.std.specs.Prelude.{◌≡◌, ◌<◌, ◌≤◌, ◌-◌, ◌++◌, max, false, cond, not, ◌&&◌, ◌||◌, ◌==◌, IfOk, IsErr};
+ghost use Rattle.pcap_io.specs.Counting.{one_more};
 ghost use Rattle.std.specs.Io.{ReadsAtMost, WritesAtMost};
-ghost use Rattle.std.specs.Io.KnownBytes.{ReadConsumes, WriteAppends};
+ghost use Rattle.std.specs.Io.KnownBytes.{ReadConsumes, WriteAppends, Keeps};
 
 use std::io;
 use std::io::{ErrorKind, Read, Write};
@@ -62,7 +63,7 @@ impl<W: Write> Write for Slow<W> {
     }
 }
 
-/// Works for so many reads and writes, and then fails once.
+/// Works for so many calls (reads, writes and flushes), and then fails once.
 #[derive(Drop)]
 pub struct Failing<T> {
     inner: T,
@@ -145,7 +146,68 @@ impl<W: Write> Write for Failing<W> {
         self.inner.write(buf)
     }
 
-    fn flush(&mut self) -> io::Result<()> {
+    #[tactic(auto, using(crate::proofs::Parts::kept_rules))]
+    fn flush(&mut self) -> io::Result<()>
+        ensures bytes { Keeps (W.contents self.old.inner) (W.contents self.new.inner) }
+        ensures fails { self.old.is_done ≡ false → self.old.calls ≡ 0 → IsErr result }
+        ensures calls { self.new.calls ≡ cond self.old.is_done self.old.calls (self.old.calls - 1) }
+        ensures done { self.new.is_done ≡ (self.old.is_done || (self.old.calls == 0)) }
+    {
+        if self.fails() {
+            return Err(io::Error::from(ErrorKind::Other));
+        }
+        self.inner.flush()
+    }
+}
+
+/// A writer that counts its calls, flushes too.
+#[derive(Drop)]
+pub struct Calls<W> {
+    inner: W,
+    calls: u64,
+}
+
+impl<W> Calls<W> {
+    /// No call yet.
+    pub fn new(inner: W) -> Self
+        ensures inner { result.inner ≡ inner }
+        ensures calls { result.calls ≡ 0 }
+    {
+        Calls { inner, calls: 0 }
+    }
+
+    /// How many calls there were; it stays at its greatest.
+    pub fn calls(&self) -> u64
+        ensures { result ≡ self.now.calls }
+    {
+        self.calls
+    }
+
+    /// The writer itself.
+    pub fn into_inner(self) -> W
+        ensures { result ≡ self.inner }
+    {
+        self.inner
+    }
+}
+
+impl<W: Write> Write for Calls<W> {
+    ghost contents = { λ s. W.contents s.inner };
+
+    fn write(&mut self, buf: &[u8]) -> io::Result<usize>
+        ensures bound { WritesAtMost result buf.now }
+        ensures bytes { WriteAppends (W.contents self.old.inner) (W.contents self.new.inner) result buf.now }
+        ensures calls { self.new.calls ≡ one_more self.old.calls }
+    {
+        self.calls = self.calls.saturating_add(1);
+        self.inner.write(buf)
+    }
+
+    fn flush(&mut self) -> io::Result<()>
+        ensures bytes { Keeps (W.contents self.old.inner) (W.contents self.new.inner) }
+        ensures calls { self.new.calls ≡ one_more self.old.calls }
+    {
+        self.calls = self.calls.saturating_add(1);
         self.inner.flush()
     }
 }

@@ -1,14 +1,14 @@
 //! All the bytes of a text, written by as many calls as it takes.
-ghost use Rattle.std.specs.Prelude.{◌≡◌, ◌<◌, ◌++◌, OnOk, OnErr};
+ghost use Rattle.std.specs.Prelude.{◌≡◌, OnOk, OnErr};
 ghost use Rattle.std.specs.Io.KnownBytes.{Appends};
-ghost use Rattle.pcap_io.specs.Counting.{Rose, AppendsPart};
+ghost use Rattle.pcap_io.specs.Counting.{one_more, AppendsPart};
 
 use crate::counted::Counted;
 use std::io::Write;
 use thiserror::Error;
 
 /// A write failed.
-#[derive(Clone, Copy, Debug, PartialEq, Eq, Drop, Error)]
+#[derive(Clone, Copy, Debug, PartialEq, Error)]
 #[error("device")]
 pub struct DeviceFailed;
 
@@ -18,7 +18,7 @@ pub fn write_whole<W: Write>(writer: &mut Counted<W>, bytes: &[u8]) -> Result<()
     ensures ok { OnOk result (Appends (W.contents writer.old.inner) (W.contents writer.new.inner) bytes.now) }
     ensures calm { OnOk result (writer.new.failures ≡ writer.old.failures) }
     ensures part { OnErr result (AppendsPart (W.contents writer.old.inner) (W.contents writer.new.inner) bytes.now) }
-    ensures device { OnErr result (Rose writer.old.failures writer.new.failures) }
+    ensures device { OnErr result (writer.new.failures ≡ one_more writer.old.failures) }
 {
     let mut rest = bytes;
     while !rest.is_empty() {

@@ -4,7 +4,11 @@
 #[cfg(test)]
 mod boxes;
 #[cfg(test)]
+mod captures;
+#[cfg(test)]
 mod faults;
+#[cfg(test)]
+mod headers;
 #[cfg(test)]
 mod parts;
 #[cfg(test)]

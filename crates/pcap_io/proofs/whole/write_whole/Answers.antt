@@ -1,11 +1,11 @@
 use Rattle.std.proofs.Common.{arith, ◌++◌, ◌∙◌, take}
 use Rattle.std.proofs.KnownBytes.{Appends-trans}
-use Rattle.pcap_io.proofs.Parts.{moved_on}
+use Rattle.pcap_io.proofs.Parts.{moved_on, took_some}
 use Rattle.pcap_io.proofs.whole.write_whole.Goals as goal
 
 pub loop-rest-preserved : goal.loop-rest-preserved
 loop-rest-preserved g c =
     let (done, whole, written) = c.loop-rest.invariant.done in record {
       done = (done ++ take c.in-Ok.count c.loop-rest.rest.now, moved_on _ done c.loop-rest.rest.now c.in-Ok.count whole, Appends-trans _ _ _ _ _ written c.in-Ok.ensures.bytes);
-      calm = c.in-Ok.ensures.counts.1 (grind (arith, c.in-Ok.count-test)) ∙ c.loop-rest.invariant.calm;
+      calm = c.in-Ok.ensures.counts ∙ took_some c.in-Ok.count _ _ _ (grind (arith, c.in-Ok.count-test)) ∙ c.loop-rest.invariant.calm;
     }

@@ -1,6 +1,6 @@
 use Rattle.std.proofs.Common.{◌≡◌, ◌+◌, ◌*◌, ◌<◌, ◌≤◌, ◌∙◌, max, length, drop, length-drop, ap, subst, refl, arith}
 use Rattle.std.specs.Prelude.{slice_range}
-use Rattle.pcap_io.specs.Pcap.{captured_length_in, seconds_in, fraction_in, IsGood, MOST_RECORDS}
+use Rattle.pcap_io.specs.Pcap.{captured_length_in, seconds_in, fraction_in, nanoseconds, IsGood, MOST_RECORDS}
 use Rattle.pcap_io.proofs.Steps.{range_to_end, some_left, reads_at}
 use Rattle.pcap_io.proofs.capture.Capture.step.Goals as goal
 
@@ -18,6 +18,7 @@ returns-clause-says c =
     let there : 16 + header.captured ≤ length (slice_range deref inside.place (length deref)) = c.in-Ok.ensures.there in
     let fits : inside.place + (16 + header.captured) ≤ length inside.bytes.items = omega (arith, there, ap length same, length-drop inside.place inside.bytes.items, c.self.invariant.within) in
     let few : inside.count < MOST_RECORDS = omega (arith, c.self.invariant.few, c.if-self-eq-MOST_RECORDS.false) in
-    let moment : c.max-self-inside.result ≡ max inside.latest (header.seconds * 1000000000 + header.fraction * 1000) = c.max-self-inside.ensures ∙ ap (max inside.latest) c.own_moment.ensures.value in
-    rw (← c.self.view_is) (reads_at inside.bytes.items inside.place header.captured (inside.place + (16 + header.captured)) header.seconds header.fraction inside.count (inside.count + 1) inside.latest c.max-self-inside.result inside.fault inside.fault inside.last
-    refl fits (c.in-Ok.ensures.fields.2 ∙ ap captured_length_in same) (c.in-Ok.ensures.fields.0 ∙ ap seconds_in same) (c.in-Ok.ensures.fields.1 ∙ ap fraction_in same) (subst IsGood same c.in-Ok.ensures.good) few refl moment)
+    let format = inside.format in
+    let moment : c.max-self-inside.result ≡ max inside.latest (header.seconds * 1000000000 + header.fraction * nanoseconds format.fractions) = c.max-self-inside.ensures ∙ ap (max inside.latest) c.moment-moment.ensures.value in
+    rw (← c.self.view_is) (reads_at format inside.bytes.items inside.place header.captured (inside.place + (16 + header.captured)) header.seconds header.fraction inside.count (inside.count + 1) inside.latest c.max-self-inside.result inside.fault inside.fault inside.last
+    refl fits (c.in-Ok.ensures.fields.2 ∙ ap (captured_length_in format) same) (c.in-Ok.ensures.fields.0 ∙ ap (seconds_in format) same) (c.in-Ok.ensures.fields.1 ∙ ap (fraction_in format) same) (subst (IsGood format) same c.in-Ok.ensures.good) few refl moment)

@@ -1,14 +1,27 @@
+use Rattle.std.proofs.Common.{[], ◌++◌, ap, subst, ◌∙◌}
 use Rattle.std.proofs.lemmas.Result.{err_from_is_err_and}
-use Rattle.pcap_io.proofs.Parts.{first_part, both_whole, both_part}
+use Rattle.pcap_io.specs.Counting.{AppendsPart}
+use Rattle.pcap_io.specs.Sll2.{sll2_record, sent}
+use Rattle.pcap_io.specs.Waiting.{Gets}
+use Rattle.pcap_io.proofs.Parts.{part_first, drained, left_waiting, waits_more}
 use Rattle.pcap_io.proofs.sink.Sink.put.Goals as goal
+use Rattle.pcap_io.proofs.sink.Sink.put.Goals.{then-len-length+in_ok-write_whole, else-len-length}
 
 pub returns-in_err-write_whole-clause-part : goal.returns-in_err-write_whole-clause-part
 returns-in_err-write_whole-clause-part g c =
     let p = err_from_is_err_and c.from_residual.result c.from_residual.ensures.1 in
-    rw p.1 (first_part _ _ c.headers.result c.args.leaving.now.packet.now _ c.headers.ensures c.in_err-write_whole.ensures.part)
+    let is = c.deref.ensures.value ∙ ap (λ v. v.waiting) c.self.view_is in
+    rw p.1 (part_first _ _ c.args.self.now.waiting (sll2_record (sent c.args.leaving.now)) (subst (AppendsPart _ _) is c.in_err-write_whole.ensures.part))
 
 pub returns-clause-ok : goal.returns-clause-ok
-returns-clause-ok g c = both_whole c.write_whole-2.result _ _ _ c.headers.result c.args.leaving.now.packet.now _ c.headers.ensures c.in_ok-write_whole.ensures.ok c.write_whole-2.ensures.ok
-
-pub returns-clause-part : goal.returns-clause-part
-returns-clause-part g c = both_part c.write_whole-2.result _ _ _ c.headers.result c.args.leaving.now.packet.now _ c.headers.ensures c.in_ok-write_whole.ensures.ok c.write_whole-2.ensures.part
+returns-clause-ok g c =
+    let a = g.W.Write.contents c.args.writer.now.inner in
+    let b = g.W.Write.contents c.if-len-length.writer.inner in
+    let old = c.args.self.now.waiting in
+    let mid = c.if-len-length.self-inside.waiting.items in
+    let so_far : Gets old a b mid [] = elim c.if-len-length.branch [
+      | then-len-length+in_ok-write_whole w ↦ rw (w.writer-is, w.self-inside-is) (drained _ _ old w.deref.result.now _ w.in_ok-write_whole.ensures.ok (w.deref.ensures.value ∙ ap (λ v. v.waiting) c.self.view_is) w.clear.ensures.items)
+      | else-len-length w ↦ rw (w.writer-is, w.self-inside-is) (left_waiting _ old _ (ap (λ v. v.waiting) c.self.view_is))
+    ] in
+    waits_more a b old mid c.headers.result c.args.leaving.now.packet.now c.append-2.new.waiting.items (sll2_record (sent c.args.leaving.now)) so_far
+    (c.append-2.ensures.items ∙ ap (λ l. l ++ c.args.leaving.now.packet.now) c.append.ensures.items) c.headers.ensures.bytes

@@ -1,0 +1,137 @@
+//! How a file writes its numbers, its moments and its packets: what its header tells.
+ghost use Rattle.std.specs.Prelude.{◌≡◌, ◌<◌, ◌≤◌, ◌+◌, ◌*◌, ◌^◌, Some, None, length, OnOk};
+ghost use Rattle.pcap_io.specs.Pcap as pcap;
+
+use crate::fault::CaptureFault;
+use byteorder::{ByteOrder, LittleEndian};
+
+/// The length of a file's header.
+pub const HEADER_BYTES: usize = 24;
+
+/// The magic number of a file with fractions in microseconds.
+const MICROSECOND_MAGIC: u32 = 0xa1b2_c3d4;
+
+/// The number of LINKTYPE_RAW.
+const RAW: u32 = 101;
+
+const NANOSECONDS_IN_SECOND: u64 = 1_000_000_000;
+
+/// In which order the bytes of a number stand.
+#[derive(Clone, Copy)]
+pub enum Order {
+    LowestFirst,
+}
+
+/// What the fractions of a second are.
+#[derive(Clone, Copy)]
+pub enum Fractions {
+    Microseconds,
+}
+
+/// What a packet begins with.
+#[derive(Clone, Copy)]
+pub enum Link {
+    /// Its IP header.
+    Raw,
+}
+
+/// How a file tells its records.
+#[derive(Clone, Copy)]
+pub struct Format {
+    pub order: Order,
+    pub fractions: Fractions,
+    pub link: Link,
+}
+
+impl Format {
+    /// The format that a file's header tells, by its tests in their order.
+    pub fn read(bytes: &[u8]) -> Result<Format, CaptureFault>
+        ensures format { result ≡ pcap.format_of bytes.now }
+        ensures long { OnOk result (pcap.HEADER_BYTES ≤ length bytes.now) }
+    {
+        if bytes.len() < HEADER_BYTES {
+            return Err(CaptureFault::TornEnd);
+        }
+        let Some((order, fractions)) = read_units(bytes) else {
+            return Err(CaptureFault::Magic);
+        };
+        if order.read_u16(bytes, 4) != 2 || order.read_u16(bytes, 6) != 4 {
+            return Err(CaptureFault::Version);
+        }
+        let Some(link) = read_link(order, bytes) else {
+            return Err(CaptureFault::LinkType);
+        };
+        Ok(Format {
+            order,
+            fractions,
+            link,
+        })
+    }
+}
+
+/// What the magic number tells.
+fn read_units(bytes: &[u8]) -> Option<(Order, Fractions)>
+    requires { 24 ≤ length bytes.now }
+    ensures { result ≡ pcap.units_of bytes.now }
+{
+    match LittleEndian::read_u32(bytes) {
+        MICROSECOND_MAGIC => Some((Order::LowestFirst, Fractions::Microseconds)),
+        _ => None,
+    }
+}
+
+/// The link type. The high 16 bits of its field tell of a frame check sequence.
+fn read_link(order: Order, bytes: &[u8]) -> Option<Link>
+    requires { 24 ≤ length bytes.now }
+    ensures { result ≡ pcap.link_in order bytes.now }
+{
+    match order.read_u32(bytes, 20) % 65_536 {
+        RAW => Some(Link::Raw),
+        _ => None,
+    }
+}
+
+impl Order {
+    /// The number in the two bytes from a place on.
+    pub fn read_u16(self, bytes: &[u8], place: usize) -> u16
+        requires { place + 2 ≤ length bytes.now }
+        ensures { result ≡ pcap.number_in self place 2 bytes.now }
+    {
+        match self {
+            Order::LowestFirst => LittleEndian::read_u16(&bytes[place..]),
+        }
+    }
+
+    /// The number in the four bytes from a place on.
+    pub fn read_u32(self, bytes: &[u8], place: usize) -> u32
+        requires { place + 4 ≤ length bytes.now }
+        ensures { result ≡ pcap.number_in self place 4 bytes.now }
+    {
+        match self {
+            Order::LowestFirst => LittleEndian::read_u32(&bytes[place..]),
+        }
+    }
+}
+
+impl Fractions {
+    /// How many a second has.
+    pub fn in_second(self) -> u32
+        ensures { result ≡ pcap.in_second self }
+    {
+        match self {
+            Fractions::Microseconds => 1_000_000,
+        }
+    }
+
+    /// In nanoseconds: so many seconds, and so many fractions, which are less than a second.
+    pub fn moment(self, seconds: u32, fraction: u32) -> u64
+        requires { fraction < pcap.in_second self }
+        ensures value { result ≡ seconds * 1000000000 + fraction * pcap.nanoseconds self }
+        ensures early { result < 4294967296000000000 }
+    {
+        let nanoseconds = match self {
+            Fractions::Microseconds => u64::from(fraction) * 1_000,
+        };
+        u64::from(seconds) * NANOSECONDS_IN_SECOND + nanoseconds
+    }
+}

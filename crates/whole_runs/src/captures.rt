@@ -1,0 +1,328 @@
+//! Captures as pcap-savefile(5) lays them out, written here byte by byte.
+use pcap_io::{
+    Calls, Capture, CaptureError, CaptureFault, Counted, DeviceFailed, Failing, Leaving, Sink,
+    SinkError, Slow, one_reading, some_reading, write_whole,
+};
+use std::io::Write;
+use std::process::Abort;
+use std::test::Fail;
+
+/// Microseconds, version 2.4, snaplen 65535, LINKTYPE_RAW.
+const HEADER: [u8; 24] = [
+    0xd4, 0xc3, 0xb2, 0xa1, 2, 0, 4, 0, 0, 0, 0, 0, 0, 0, 0, 0, 0xff, 0xff, 0, 0, 101, 0, 0, 0,
+];
+
+/// A packet of 28 bytes at 1.5 seconds.
+const RECORD: [u8; 16] = [1, 0, 0, 0, 0x20, 0xa1, 7, 0, 0x1c, 0, 0, 0, 0x1c, 0, 0, 0];
+
+/// UDP from 192.168.1.10 to 198.51.100.7.
+const PACKET: [u8; 28] = [
+    0x45, 0, 0, 0x1c, 0, 1, 0, 0, 0x40, 0x11, 0x8e, 0xe3, 192, 168, 1, 10, 198, 51, 100, 7, 0x13,
+    0x88, 0, 0x35, 0, 8, 0, 0,
+];
+
+/// A packet of one byte at 0 seconds, which is earlier; 4 bytes were on the wire.
+const EARLIER: [u8; 17] = [0, 0, 0, 0, 0, 0, 0, 0, 1, 0, 0, 0, 4, 0, 0, 0, 0x45];
+
+fn two_records(rt: &HostRuntime) -> Result<Vec<u8>, Fail> {
+    let mut bytes = Vec::new(rt.alloc());
+    bytes.extend_from_slice(&HEADER)?;
+    bytes.extend_from_slice(&RECORD)?;
+    bytes.extend_from_slice(&PACKET)?;
+    bytes.extend_from_slice(&EARLIER)?;
+    Ok(bytes)
+}
+
+#[test]
+fn reads_records_in_small_pieces(rt: HostRuntime) -> Result<(), Fail> {
+    let bytes = two_records(&rt)?;
+    for most in [1usize, 7, 70_000] {
+        let mut reader = Counted::new(Slow::new(bytes.as_slice(), most));
+        let mut capture = Capture::open(rt.alloc(), &mut reader)?;
+        assert!(rt; capture.record().is_none());
+        assert!(rt; capture.next(&mut reader)?);
+        let first = capture.record().ok_or("no record")?;
+        assert_eq!(rt; first.moment, 1_500_000_000);
+        assert_eq!(rt; first.bytes, PACKET.as_slice());
+        assert!(rt; capture.next(&mut reader)?);
+        let second = capture.record().ok_or("no record")?;
+        assert_eq!(rt; second.moment, 1_500_000_000, "the greatest so far");
+        assert_eq!(rt; second.bytes, [0x45u8].as_slice());
+        assert!(rt; !capture.next(&mut reader)?);
+        assert!(rt; capture.record().is_none());
+        assert!(rt; !capture.next(&mut reader)?, "the end again");
+        assert_eq!(rt; reader.failures(), 0);
+    }
+    Ok(())
+}
+
+/// How many records the capture has, or its first fault, which comes again.
+fn count_records<R: Abort + AllocGlobal>(rt: &R, bytes: &[u8]) -> Result<u64, CaptureError> {
+    let mut reader = Counted::new(bytes);
+    let mut capture = Capture::open(rt.alloc(), &mut reader)?;
+    for count in 0..9 {
+        match capture.next(&mut reader) {
+            Ok(true) => {}
+            Ok(false) => return Ok(count),
+            Err(error) => {
+                assert_eq!(rt; capture.next(&mut reader), Err(error));
+                assert!(rt; capture.record().is_none());
+                return Err(error);
+            }
+        }
+    }
+    Ok(9)
+}
+
+fn refused(fault: CaptureFault) -> Result<u64, CaptureError> {
+    Err(CaptureError::Refused(fault))
+}
+
+#[test]
+fn refuses_what_is_no_capture(rt: HostRuntime) -> Result<(), Fail> {
+    let cases = [
+        (0usize, 0x4du8, refused(CaptureFault::Magic)),
+        (4, 3, refused(CaptureFault::Version)),
+        (6, 3, refused(CaptureFault::Version)),
+        (20, 1, refused(CaptureFault::LinkType)),
+        // The high bits of the link type's field don't count.
+        (23, 0x14, Ok(2)),
+        // A fraction of 1,024,288.
+        (30, 0x0f, refused(CaptureFault::Malformed)),
+        // Captured lengths of 65,564 and of 262,172.
+        (34, 1, refused(CaptureFault::TornEnd)),
+        (34, 4, refused(CaptureFault::Malformed)),
+        // The original length isn't used.
+        (39, 0xff, Ok(2)),
+    ];
+    for (place, byte, want) in cases {
+        let mut bytes = two_records(&rt)?;
+        assert!(rt; place < bytes.len());
+        bytes[place] = byte;
+        assert_eq!(rt; count_records(&rt, &bytes), want, "at {place}");
+    }
+    for (length, want) in [
+        (0usize, refused(CaptureFault::TornEnd)),
+        (23, refused(CaptureFault::TornEnd)),
+        (24, Ok(0)),
+        (25, refused(CaptureFault::TornEnd)),
+        (67, refused(CaptureFault::TornEnd)),
+        (68, Ok(1)),
+        (84, refused(CaptureFault::TornEnd)),
+        (85, Ok(2)),
+    ] {
+        let bytes = two_records(&rt)?;
+        assert!(rt; length <= bytes.len());
+        assert_eq!(rt; count_records(&rt, &bytes[..length]), want, "of {length}");
+    }
+    Ok(())
+}
+
+/// Magic, version and link type are wrong at once: the first that is tested is told.
+#[test]
+fn tells_the_first_fault_of_a_header(rt: HostRuntime) -> Result<(), Fail> {
+    let mut bytes = two_records(&rt)?;
+    for (place, byte, want) in [
+        (20usize, 1u8, CaptureFault::LinkType),
+        (6, 3, CaptureFault::Version),
+        (0, 0x4d, CaptureFault::Magic),
+    ] {
+        assert!(rt; place < bytes.len());
+        bytes[place] = byte;
+        assert_eq!(rt; count_records(&rt, &bytes), refused(want));
+    }
+    Ok(())
+}
+
+#[test]
+fn tells_a_read_that_failed(rt: HostRuntime) -> Result<(), Fail> {
+    let bytes = two_records(&rt)?;
+    for calls in [0usize, 1, 2] {
+        let mut reader = Counted::new(Failing::new(Slow::new(bytes.as_slice(), 60), calls));
+        let error = Capture::open(rt.alloc(), &mut reader).err();
+        assert_eq!(rt; error, Some(CaptureError::Device), "after {calls}");
+        assert_eq!(rt; reader.failures(), 1, "after {calls}");
+    }
+    Ok(())
+}
+
+#[test]
+fn opens_a_capture_of_many_records(rt: HostRuntime) -> Result<(), Fail> {
+    let mut bytes = Vec::from_slice(rt.alloc(), &HEADER)?;
+    for _ in 0..5_000 {
+        bytes.extend_from_slice(&RECORD)?;
+        bytes.extend_from_slice(&PACKET)?;
+    }
+    let mut reader = Counted::new(bytes.as_slice());
+    let mut capture = Capture::open(rt.alloc(), &mut reader)?;
+    for _ in 0..5_000 {
+        assert!(rt; capture.next(&mut reader)?);
+    }
+    assert!(rt; !capture.next(&mut reader)?);
+    Ok(())
+}
+
+#[test]
+fn faults_as_text(rt: HostRuntime) -> Result<(), Fail> {
+    for (error, want) in [
+        (CaptureError::Refused(CaptureFault::Magic), "P1"),
+        (CaptureError::Refused(CaptureFault::Version), "P2"),
+        (CaptureError::Refused(CaptureFault::LinkType), "P3"),
+        (CaptureError::Refused(CaptureFault::Malformed), "P4"),
+        (CaptureError::Refused(CaptureFault::TornEnd), "P5"),
+        (CaptureError::Device, "P6"),
+        (CaptureError::Refused(CaptureFault::TooMany), "P7"),
+        (CaptureError::Memory, "memory"),
+    ] {
+        let text = format!(in rt.alloc(); "{error}")?;
+        assert_eq!(rt; text.as_str(), want);
+    }
+    for (error, want) in [
+        (SinkError::Device, "device"),
+        (SinkError::Memory, "memory"),
+    ] {
+        let text = format!(in rt.alloc(); "{error}")?;
+        assert_eq!(rt; text.as_str(), want);
+    }
+    let text = format!(in rt.alloc(); "{DeviceFailed}")?;
+    assert_eq!(rt; text.as_str(), "device");
+    Ok(())
+}
+
+/// Magic a1b23c4d, version 2.4, snaplen 262144, link type 276; then 1.5 seconds, 48 bytes twice;
+/// then the link header with interface 3.
+const WRITTEN: [u8; 60] = [
+    0x4d, 0x3c, 0xb2, 0xa1, 2, 0, 4, 0, 0, 0, 0, 0, 0, 0, 0, 0, 0, 0, 4, 0, 0x14, 1, 0, 0, 1, 0, 0,
+    0, 0, 0x65, 0xcd, 0x1d, 48, 0, 0, 0, 48, 0, 0, 0, 8, 0, 0, 0, 0, 0, 0, 3, 0, 1, 4, 0, 0, 0, 0,
+    0, 0, 0, 0, 0,
+];
+
+const LEAVING: Leaving<'static> = Leaving {
+    moment: 1_500_000_000,
+    interface: 3,
+    packet: &PACKET,
+};
+
+#[test]
+fn writes_a_record_in_small_pieces(rt: HostRuntime) -> Result<(), Fail> {
+    let mut writer = Counted::new(Slow::new(Vec::new(rt.alloc()), 1));
+    let mut sink = Sink::open(rt.alloc(), &mut writer)?;
+    sink.put(&mut writer, &LEAVING)?;
+    assert!(rt; !writer.is_flushed());
+    sink.finish(&mut writer)?;
+    assert!(rt; writer.is_flushed());
+    assert_eq!(rt; writer.failures(), 0);
+    let written = writer.into_inner().into_inner();
+    assert_eq!(rt; written.len(), 88);
+    assert_eq!(rt; &written[..60], WRITTEN.as_slice());
+    assert_eq!(rt; &written[60..], PACKET.as_slice());
+    Ok(())
+}
+
+/// A record of these has 64 bytes, so 2,048 of them fill the buffer of 131,072.
+#[test]
+fn writes_many_records_by_few_calls(rt: HostRuntime) -> Result<(), Fail> {
+    let mut writer = Counted::new(Calls::new(Vec::new(rt.alloc())));
+    let mut sink = Sink::open(rt.alloc(), &mut writer)?;
+    for _ in 0..5_000 {
+        sink.put(&mut writer, &LEAVING)?;
+    }
+    sink.finish(&mut writer)?;
+    let calls = writer.into_inner();
+    // The header, the buffer twice when it is full, the rest, and the flush.
+    assert_eq!(rt; calls.calls(), 5);
+    let written = calls.into_inner();
+    assert_eq!(rt; written.len(), 320_024);
+    for record in 0..5_000usize {
+        let start = 24 + record * 64;
+        assert!(rt; start + 64 <= written.len());
+        assert_eq!(rt; &written[start..start + 36], &WRITTEN[24..]);
+        assert_eq!(rt; &written[start + 36..start + 64], PACKET.as_slice());
+    }
+    Ok(())
+}
+
+/// The greatest packets, of which the buffer holds one beside the end of another.
+#[test]
+fn writes_the_greatest_packets(rt: HostRuntime) -> Result<(), Fail> {
+    let mut packet = Vec::new(rt.alloc());
+    packet.resize(65_535, 7u8)?;
+    let mut writer = Counted::new(Vec::new(rt.alloc()));
+    let mut sink = Sink::open(rt.alloc(), &mut writer)?;
+    for moment in 0..3 {
+        let leaving = Leaving {
+            moment,
+            interface: 1,
+            packet: &packet,
+        };
+        sink.put(&mut writer, &leaving)?;
+    }
+    sink.finish(&mut writer)?;
+    let written = writer.into_inner();
+    assert_eq!(rt; written.len(), 196_737);
+    assert_eq!(rt; written[24 + 65_571 + 4], 1);
+    assert_eq!(rt; written[24 + 2 * 65_571 + 4], 2);
+    Ok(())
+}
+
+#[test]
+fn leaves_a_beginning_after_a_write_that_failed(rt: HostRuntime) -> Result<(), Fail> {
+    let mut writer = Counted::new(Failing::new(Slow::new(Vec::new(rt.alloc()), 10), 1));
+    let failed = Sink::open(rt.alloc(), &mut writer).err();
+    assert_eq!(rt; failed, Some(SinkError::Device));
+    assert_eq!(rt; writer.failures(), 1);
+    let written = writer.into_inner().into_inner().into_inner();
+    assert_eq!(rt;
+        written.as_slice(),
+        [0x4du8, 0x3c, 0xb2, 0xa1, 2, 0, 4, 0, 0, 0].as_slice()
+    );
+    Ok(())
+}
+
+/// The header is one call; what waits is the second, and the flush the third.
+#[test]
+fn tells_a_write_or_a_flush_that_failed(rt: HostRuntime) -> Result<(), Fail> {
+    for (calls, length) in [(1usize, 24usize), (2, 88)] {
+        let mut writer = Counted::new(Failing::new(Vec::new(rt.alloc()), calls));
+        let mut sink = Sink::open(rt.alloc(), &mut writer)?;
+        sink.put(&mut writer, &LEAVING)?;
+        assert!(rt; sink.finish(&mut writer).is_err());
+        assert_eq!(rt; writer.failures(), 1);
+        assert!(rt; !writer.is_flushed());
+        let written = writer.into_inner().into_inner();
+        assert_eq!(rt; written.len(), length);
+    }
+    Ok(())
+}
+
+/// A buffer that can't be drained keeps what waits.
+#[test]
+fn keeps_what_waits_after_a_put_that_failed(rt: HostRuntime) -> Result<(), Fail> {
+    let mut writer = Counted::new(Failing::new(Vec::new(rt.alloc()), 1));
+    let mut sink = Sink::open(rt.alloc(), &mut writer)?;
+    for _ in 0..2_048 {
+        sink.put(&mut writer, &LEAVING)?;
+    }
+    assert!(rt; sink.put(&mut writer, &LEAVING).is_err());
+    assert_eq!(rt; writer.failures(), 1);
+    // The call fails once; what waited is all there.
+    sink.finish(&mut writer)?;
+    let written = writer.into_inner().into_inner();
+    assert_eq!(rt; written.len(), 131_096);
+    Ok(())
+}
+
+#[test]
+fn takes_nothing_of_nothing_without_a_failure(rt: HostRuntime) -> Result<(), Fail> {
+    let mut writer = Counted::new(Vec::new(rt.alloc()));
+    assert_eq!(rt; writer.write(&[]).ok(), Some(0));
+    write_whole(&mut writer, &[])?;
+    assert_eq!(rt; writer.failures(), 0);
+    Ok(())
+}
+
+#[test]
+fn reads_one_way() {
+    one_reading();
+    some_reading();
+}
