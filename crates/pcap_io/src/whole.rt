@@ -8,7 +8,7 @@ use std::io::Write;
 use thiserror::Error;
 
 /// A write failed.
-#[derive(Clone, Copy, Debug, PartialEq, Error)]
+#[derive(Clone, Copy, Debug, Error)]
 #[error("device")]
 pub struct DeviceFailed;
 
