@@ -1,0 +1,12 @@
+//! Reads a box file: a box's interfaces with their addresses, its routes, and the interface that
+//! packets enter by; and looks things up in it.
+#![tactic(auto)]
+
+mod checks;
+mod fault;
+mod line;
+mod numbers;
+mod repeats;
+mod words;
+
+pub use fault::{BoxError, BoxFault};
