@@ -6,3 +6,5 @@ pub mod RepeatLaws
 pub mod KeyLaws
 pub mod CheckLaws
 pub mod ListLaws
+pub mod BestLaws
+pub mod TableLaws

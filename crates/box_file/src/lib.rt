@@ -7,6 +7,8 @@ mod fault;
 mod line;
 mod numbers;
 mod repeats;
+mod routes;
+mod table;
 mod words;
 
 pub use fault::{BoxError, BoxFault};
