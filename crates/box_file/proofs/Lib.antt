@@ -8,3 +8,5 @@ pub mod CheckLaws
 pub mod ListLaws
 pub mod BestLaws
 pub mod TableLaws
+pub mod PlantLaws
+pub mod BoxLaws

@@ -6,6 +6,8 @@ use Rattle.std.specs.Char.{is_ascii_alphanumeric}
 use Rattle.std.specs.Fmt.{decimal}
 use Rattle.box_file.specs.declared.fault.BoxFault.{BoxFault}
 use Rattle.box_file.specs.declared.fault.BoxFault.TheVariants.{Form, Repeated, UnknownName, TooLarge}
+use Rattle.box_file.specs.declared.fault.BoxError.{BoxError}
+use Rattle.box_file.specs.declared.fault.BoxError.TheVariants.{Refused, Memory}
 use Rattle.box_file.specs.Text.{has_some, words_of, lines_of, dotted_prefix}
 
 -- ---- lines
@@ -147,6 +149,11 @@ least text lines = find (is_wrong text lines) (Form ∷ Repeated ∷ UnknownName
 abbrev pub HasBoxFault : List ℕ → BoxFault → Type 0
 HasBoxFault text fault = (((lines : List Line) → Reads text lines → ⊥) × (fault ≡ Form)) ⊎ ((lines : List Line) × Reads text lines × (least text lines ≡ Some fault))
 
+-- an error is the text's fault, or none of the text's
+abbrev pub IsBoxRefusal : List ℕ → BoxError → Type 0
+IsBoxRefusal text (Refused fault) = HasBoxFault text fault
+IsBoxRefusal text Memory = Unit {0}
+
 -- ---- what the lines mean
 
 -- a prefix, and the index of the interface that packets to it leave by
@@ -177,17 +184,17 @@ route_to interfaces (interface_line i) = Some (record { address = i.address; pre
 route_to interfaces (route_line r) = Some (record { address = r.address; prefix = r.prefix; interface = known_index interfaces r.name })
 route_to interfaces (default_line n) = None
 
--- the name of the first default
-abbrev pub default_name : List (List ℕ) → List ℕ
-default_name [] = []
-default_name (n ∷ ns) = n
+-- the index of the interface that the first default names
+abbrev pub entering_of : List Interface → List (List ℕ) → ℕ
+entering_of interfaces [] = 0
+entering_of interfaces (n ∷ ns) = known_index interfaces n
 
 abbrev pub plant_of : List Line → PlantTree
 plant_of lines =
     record {
       interfaces = interfaces_in lines;
       routes = filter_map (route_to (interfaces_in lines)) lines;
-      entering = known_index (interfaces_in lines) (default_name (defaults_in lines));
+      entering = entering_of (interfaces_in lines) (defaults_in lines);
     }
 
 -- a text without fault, and what it means

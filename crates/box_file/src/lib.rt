@@ -4,11 +4,15 @@
 
 mod checks;
 mod fault;
+mod laws;
 mod line;
 mod numbers;
+mod plant;
 mod repeats;
 mod routes;
 mod table;
 mod words;
 
 pub use fault::{BoxError, BoxFault};
+pub use laws::{one_box, some_box};
+pub use plant::{IfIndex, Plant};

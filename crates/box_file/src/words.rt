@@ -2,7 +2,8 @@
 ghost use Rattle.std.specs.Prelude.{◌≡◌};
 ghost use Rattle.std.specs.List.{position_or_len};
 ghost use Rattle.std.specs.Option.{option_map};
-ghost use Rattle.box_file.specs.Text.{is_blank, words_of};
+ghost use Rattle.box_file.specs.Text.{words_of};
+ghost use Rattle.box_file.specs.Box.{same_text};
 ghost use Rattle.box_file.specs.steps.Reading.{cut, first_line, begins_word, ends_word, uncons};
 
 /// What stands before the first such byte, and what follows it.
@@ -64,4 +65,12 @@ pub fn word(line: &[u8]) -> Option<(&[u8], &[u8])>
         return None;
     }
     Some(line.split_at(length))
+}
+
+/// Whether the two are the same bytes.
+#[tactic(auto, using(crate::proofs::NumberLaws::text_tests))]
+pub fn same_text(text: &[u8], other: &[u8]) -> bool
+    ensures { result ≡ same_text text.now other.now }
+{
+    text == other
 }
