@@ -1,5 +1,5 @@
 -- The lists of numbers that are tested say what the lines say.
-use Rattle.std.proofs.Common.{◌≡◌, ℕ, ◌+◌, ◌*◌, ◌<◌, Bool, true, false, ◌==◌, ◌&&◌, ◌||◌, not, nat_eq, List, [], ◌∷◌, ◌++◌, Option, Some, None, refl, sym, ap, subst, ◌∙◌, arith}
+use Rattle.std.proofs.Common.{◌≡◌, ℕ, ◌<◌, Bool, true, false, ◌==◌, ◌&&◌, ◌||◌, not, nat_eq, List, [], ◌∷◌, ◌++◌, None, refl, sym, ap, subst, ◌∙◌, arith}
 use Rattle.std.specs.Prelude.{map}
 use Rattle.std.specs.List.{list_any}
 use Rattle.std.specs.Borrow.{Bor}
@@ -8,7 +8,7 @@ use Rattle.box_file.specs.declared.line.RouteLine.{RouteLine}
 use Rattle.box_file.specs.declared.line.Line as kept
 use Rattle.box_file.specs.declared.line.Line.TheVariants as lines
 use Rattle.box_file.specs.steps.Reading.{line_tree}
-use Rattle.box_file.specs.Box.{Interface, NamedRoute, Line, interface_line, route_line, default_line, IsName, IsLine, each_is_line, interface_in, route_in, default_in, interfaces_in, routes_in, defaults_in, same_text, some_two, two_names, two_indexes, same_address, same_prefix, is_named, is_unknown, is_repeated, has_unknown}
+use Rattle.box_file.specs.Box.{Interface, NamedRoute, Line, interface_line, route_line, default_line, IsName, each_is_line, interface_in, route_in, default_in, interfaces_in, routes_in, defaults_in, same_text, some_two, two_names, two_indexes, same_address, same_prefix, is_named, is_unknown, is_repeated, has_unknown}
 use Rattle.box_file.specs.steps.Tests.{two_values, is_missing, key_of, index_and_name, name_and_index, prefix_key, EachNamed, EachShort, EachName}
 use Rattle.box_file.proofs.RepeatLaws.{any-append, eqb_flip}
 use Rattle.box_file.proofs.KeyLaws.{same_key, digits_agree}

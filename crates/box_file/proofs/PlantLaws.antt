@@ -1,10 +1,9 @@
 -- What a plant is, and that its numbers are those of interfaces.
-use Rattle.std.proofs.Common.{◌≡◌, ℕ, ◌<◌, ◌==◌, Bool, true, false, ◌||◌, not, cond, List, [], ◌∷◌, map, Option, Some, None, refl, sym, ap, subst, ◌∙◌, arith}
+use Rattle.std.proofs.Common.{◌≡◌, ℕ, ◌==◌, Bool, true, false, ◌||◌, not, cond, List, [], ◌∷◌, Option, Some, None, refl, sym, ap, subst, ◌∙◌}
 use Rattle.std.specs.Prelude.{filter, find, unwrap_or, IfSome, is_some}
 use Rattle.std.specs.List.{list_any, filter_map}
 use Rattle.std.specs.Option.{option_map}
-use Rattle.std.proofs.lemmas.Bool.{false≢true}
-use Rattle.box_file.specs.Box.{Interface, NamedRoute, RouteTo, Line, interface_line, route_line, default_line, IsLine, each_is_line, IsIndex, interfaces_in, routes_in, defaults_in, route_to, is_named, is_unknown, is_misformed, has_unknown, index_of, known_index, entering_of, covers, greatest, best_of, best_way}
+use Rattle.box_file.specs.Box.{Interface, NamedRoute, RouteTo, Line, interface_line, route_line, default_line, each_is_line, IsIndex, interfaces_in, routes_in, defaults_in, route_to, is_named, is_unknown, is_misformed, known_index, entering_of, covers, greatest, best_way}
 use Rattle.box_file.specs.declared.table.Step.{Step}
 use Rattle.box_file.specs.steps.Table.{IsTable}
 use Rattle.box_file.specs.steps.Plant.{EachIndexed, EachWay, KnowsNames}

@@ -1,5 +1,5 @@
 -- The first word of a line, and the others.
-use Rattle.std.proofs.Common.{◌≡◌, ℕ, suc, ◌+◌, ◌-◌, ◌<◌, ◌≤◌, Bool, true, false, ◌||◌, not, cond, eqb, ltb, List, [], ◌∷◌, length, take, drop, ◌++◌, append_assoc, Option, Some, None, refl, sym, ap, subst, add-one, one-add, length-drop, ◌∙◌, arith}
+use Rattle.std.proofs.Common.{◌≡◌, ℕ, suc, ◌+◌, ◌-◌, ◌<◌, ◌≤◌, Bool, true, false, not, cond, ltb, List, [], ◌∷◌, length, take, drop, ◌++◌, append_assoc, Option, Some, None, refl, sym, ap, one-add, length-drop, ◌∙◌, arith}
 use Rattle.std.specs.Prelude.{◌==◌, filter, unwrap_or}
 use Rattle.std.specs.List.{position_or_len}
 use Rattle.std.proofs.lemmas.Bool.{false≢true, eqb-true}

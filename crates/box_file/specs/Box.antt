@@ -1,6 +1,6 @@
 -- What a box file says: interfaces with their addresses, routes, the entering interface.
-use Rattle.std.specs.Prelude.{◌≡◌, ℕ, ◌+◌, ◌-◌, ◌/◌, ◌%◌, ◌^◌, ◌<◌, ◌==◌, ◌&&◌, ◌||◌, not, nat_lt, Bool, true, false, List, [], ◌∷◌, length, map, filter, find, max, ◌⊎◌, Option, Some, None, unwrap_or, if◌then◌else◌, IsTrue, IfSome, codes}
-use Rattle.std.specs.List.{flat_map, filter_map, list_any, list_all}
+use Rattle.std.specs.Prelude.{◌≡◌, ℕ, ◌-◌, ◌/◌, ◌%◌, ◌^◌, ◌<◌, ◌==◌, ◌&&◌, ◌||◌, not, nat_lt, Bool, true, false, List, [], ◌∷◌, length, map, filter, find, max, ◌⊎◌, Option, Some, None, unwrap_or, if◌then◌else◌, IsTrue, codes}
+use Rattle.std.specs.List.{filter_map, list_any, list_all}
 use Rattle.std.specs.Option.{option_map}
 use Rattle.std.specs.Char.{is_ascii_alphanumeric}
 use Rattle.std.specs.Fmt.{decimal}

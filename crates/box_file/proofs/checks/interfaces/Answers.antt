@@ -1,5 +1,4 @@
-use Rattle.std.proofs.Common.{◌≡◌, ◌++◌, ◌∷◌, [], ℕ, List, map, ap}
-use Rattle.std.specs.Borrow.{Bor}
+use Rattle.std.proofs.Common.{◌≡◌, ◌++◌, ◌∷◌, [], map, ap}
 use Rattle.std.proofs.lemmas.List.{map_push}
 use Rattle.box_file.specs.Box.{interface_in}
 use Rattle.box_file.specs.steps.Reading.{interface_tree, line_tree}

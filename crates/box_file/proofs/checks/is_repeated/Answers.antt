@@ -1,4 +1,4 @@
-use Rattle.std.proofs.Common.{◌≡◌, Bool, true, false, map, ◌∙◌}
+use Rattle.std.proofs.Common.{◌≡◌, true, false, map, ◌∙◌}
 use Rattle.std.proofs.lemmas.Result.{IfOk-weaker}
 use Rattle.box_file.specs.Box.{some_two, two_names, two_indexes, same_address}
 use Rattle.box_file.specs.steps.Reading.{interface_tree, route_tree}

@@ -1,5 +1,4 @@
-use Rattle.std.proofs.Common.{◌≡◌, ◌++◌, ◌∷◌, [], ℕ, List, map, ap}
-use Rattle.std.specs.Borrow.{Bor}
+use Rattle.std.proofs.Common.{◌≡◌, ◌++◌, ◌∷◌, [], map, ap}
 use Rattle.std.proofs.lemmas.List.{map_push}
 use Rattle.box_file.specs.Box.{route_in}
 use Rattle.box_file.specs.steps.Reading.{route_tree, line_tree}

@@ -1,7 +1,5 @@
-use Rattle.std.proofs.Common.{◌≡◌, List, Option, Some, None, map, ap, inl, inr, refl, sym, ◌∙◌}
-use Rattle.std.specs.Option.{option_map}
-use Rattle.box_file.specs.Box.{Line, Reads}
-use Rattle.box_file.specs.steps.Reading.{lines_in, line_tree}
+use Rattle.std.proofs.Common.{map, ap, inl, inr, refl, sym}
+use Rattle.box_file.specs.steps.Reading.{line_tree}
 use Rattle.box_file.proofs.LineLaws.{lines_found}
 use Rattle.box_file.proofs.BoxLaws.{none_read, lines_as}
 use Rattle.box_file.proofs.plant.Plant.read.Goals as goal
