@@ -21,7 +21,8 @@ pub fn interfaces<'t>(
     alloc: Global,
     lines: &[Line<'t>],
 ) -> Result<Vec<InterfaceLine<'t>>, AllocError>
-    ensures { IfOk result (λ v. map interface_tree v.items ≡ interfaces_in (map line_tree lines.now)) }
+    ensures { IfOk result (λ v. map interface_tree v.items
+        ≡ interfaces_in (map line_tree lines.now)) }
 {
     let mut found = Vec::new(alloc);
     for line in lines {
@@ -93,7 +94,8 @@ fn name_indexes(
 }
 
 fn addresses(alloc: Global, interfaces: &[InterfaceLine]) -> Result<Vec<u128>, AllocError>
-    ensures { IfOk result (λ v. v.items ≡ map (λ i. i.address) (map interface_tree interfaces.now)) }
+    ensures { IfOk result (λ v. v.items
+        ≡ map (λ i. i.address) (map interface_tree interfaces.now)) }
 {
     let mut found = Vec::new(alloc);
     for interface in interfaces {
@@ -114,7 +116,8 @@ fn prefixes(alloc: Global, routes: &[RouteLine]) -> Result<Vec<u128>, AllocError
 }
 
 fn interface_names(alloc: Global, interfaces: &[InterfaceLine]) -> Result<Vec<u128>, AllocError>
-    ensures { IfOk result (λ v. v.items ≡ map (λ i. key_of i.name) (map interface_tree interfaces.now)) }
+    ensures { IfOk result (λ v. v.items
+        ≡ map (λ i. key_of i.name) (map interface_tree interfaces.now)) }
 {
     let mut found = Vec::new(alloc);
     for interface in interfaces {
@@ -140,7 +143,8 @@ fn used_names(
     defaults: &[&[u8]],
 ) -> Result<Vec<u128>, AllocError>
     ensures { IfOk result (λ v. v.items
-        ≡ map (λ r. key_of r.name) (map route_tree routes.now) ++ map key_of (map (λ n. n.now) defaults.now)) }
+        ≡ map (λ r. key_of r.name) (map route_tree routes.now)
+        ++ map key_of (map (λ n. n.now) defaults.now)) }
 {
     let mut found = route_names(alloc, routes)?;
     for name in defaults {
@@ -158,7 +162,8 @@ fn is_repeated(
 ) -> Result<bool, AllocError>
     requires named { EachNamed (map interface_tree interfaces.now) }
     requires short { EachShort (map route_tree routes.now) }
-    ensures { IfOk result (λ r. r ≡ is_repeated (map interface_tree interfaces.now) (map route_tree routes.now)) }
+    ensures { IfOk result (λ r. r
+        ≡ is_repeated (map interface_tree interfaces.now) (map route_tree routes.now)) }
 {
     let by_index = index_names(alloc, interfaces)?;
     if has_two_values(alloc, &by_index)? {

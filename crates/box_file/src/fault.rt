@@ -20,7 +20,7 @@ pub enum BoxFault {
 }
 
 /// Why there is no plant.
-#[derive(Clone, Copy, Debug, PartialEq, Eq, Error)]
+#[derive(Clone, Copy, Debug, Error)]
 pub enum BoxError {
     /// The text is refused.
     #[error("{0}")]

@@ -95,7 +95,8 @@ fn known_index(lines: &[InterfaceLine], name: &[u8]) -> IfIndex
 
 /// The route that the line gives: an interface's line gives one to its own prefix.
 fn route_to(interfaces: &[InterfaceLine], line: &Line) -> Option<Route>
-    ensures { option_map way_tree result ≡ route_to (map interface_tree interfaces.now) (line_tree line.now) }
+    ensures { option_map way_tree result
+        ≡ route_to (map interface_tree interfaces.now) (line_tree line.now) }
 {
     match line {
         Line::Interface(interface) => Some(Route {
@@ -118,7 +119,8 @@ fn routes(
     interfaces: &[InterfaceLine],
     lines: &[Line],
 ) -> Result<Vec<Route>, AllocError>
-    ensures { IfOk result (λ v. map way_tree v.items ≡ filter_map (route_to (map interface_tree interfaces.now)) (map line_tree lines.now)) }
+    ensures { IfOk result (λ v. map way_tree v.items
+        ≡ filter_map (route_to (map interface_tree interfaces.now)) (map line_tree lines.now)) }
 {
     let mut found = Vec::new(alloc);
     for line in lines {
@@ -161,7 +163,8 @@ fn plant_of(alloc: Global, lines: &[Line]) -> Result<Plant, AllocError>
 
 /// The first interface with this address.
 fn with_address(interfaces: &[Interface], address: u32) -> Option<&Interface>
-    ensures { option_map (λ i. interface_of i.now) result ≡ find (has_address address) (map interface_of interfaces.now) }
+    ensures { option_map (λ i. interface_of i.now) result
+        ≡ find (has_address address) (map interface_of interfaces.now) }
 {
     let mut rest = interfaces;
     while let [interface, others @ ..] = rest {
@@ -175,7 +178,8 @@ fn with_address(interfaces: &[Interface], address: u32) -> Option<&Interface>
 
 /// The first interface with this index.
 fn with_index(interfaces: &[Interface], index: IfIndex) -> Option<&Interface>
-    ensures { option_map (λ i. interface_of i.now) result ≡ find (has_index index) (map interface_of interfaces.now) }
+    ensures { option_map (λ i. interface_of i.now) result
+        ≡ find (has_index index) (map interface_of interfaces.now) }
 {
     let mut rest = interfaces;
     while let [interface, others @ ..] = rest {
@@ -189,7 +193,8 @@ fn with_index(interfaces: &[Interface], index: IfIndex) -> Option<&Interface>
 
 /// The first interface with this name.
 fn with_name<'p>(interfaces: &'p [Interface], name: &[u8]) -> Option<&'p Interface>
-    ensures { option_map (λ i. interface_of i.now) result ≡ find (is_named name.now) (map interface_of interfaces.now) }
+    ensures { option_map (λ i. interface_of i.now) result
+        ≡ find (is_named name.now) (map interface_of interfaces.now) }
 {
     let mut rest = interfaces;
     while let [interface, others @ ..] = rest {

@@ -28,7 +28,8 @@ impl Route {
 
 /// Of the routes that cover the address the first of greatest prefix.
 fn best_route(routes: &[Route], address: u64) -> Option<Route>
-    ensures { option_map way_tree result ≡ best_of (filter (covers address) (map way_tree routes.now)) }
+    ensures { option_map way_tree result
+        ≡ best_of (filter (covers address) (map way_tree routes.now)) }
 {
     let mut best: Option<Route> = None;
     for route in routes {

@@ -82,7 +82,8 @@ pub fn table(alloc: Global, routes: &[Route]) -> Result<Vec<Step>, AllocError>
 
 /// What the table has for the address.
 pub fn look_up(steps: &[Step], address: u64) -> Option<u32>
-    ensures { (routes : List RouteTo) → IsTable steps.now routes → result ≡ best_way routes address }
+    ensures { (routes : List RouteTo) → IsTable steps.now routes → result
+        ≡ best_way routes address }
 {
     let after = steps.partition_point(|step| step.start <= address);
     // The first step starts at 0.
