@@ -1,0 +1,49 @@
+-- A text is one box, or has one fault.
+use Rattle.std.proofs.Common.{◌≡◌, ℕ, List, Option, Some, None, ◌⊎◌, refl, inl, inr, sym, ap, subst, ◌∙◌}
+use Rattle.box_file.specs.declared.fault.BoxFault.{BoxFault}
+use Rattle.box_file.specs.declared.fault.BoxFault.TheVariants.{Form}
+use Rattle.box_file.specs.steps.Reading.{lines_in}
+use Rattle.box_file.specs.Box.{Line, each_is_line, Reads, HasBoxFault, IsBox, PlantTree, least, plant_of}
+use Rattle.box_file.proofs.LineLaws.{lines_found, lines_only}
+
+some_is : {A : Type 0} (x y : A) → ◌≡◌ {A = Option A} (Some x) (Some y) → x ≡ y
+some_is x y e = cc
+
+-- a text is read in one way
+pub one_reading_of_box : (text : List ℕ) (ls ms : List Line) → Reads text ls → Reads text ms → ls ≡ ms
+one_reading_of_box text ls ms r s = some_is ls ms (sym (lines_only text ls r) ∙ lines_only text ms s)
+
+pub one_plant : (text : List ℕ) (p q : PlantTree) → IsBox text p → IsBox text q → p ≡ q
+one_plant text p q b c = b.meant ∙ ap plant_of (one_reading_of_box text b.lines c.lines b.read c.read) ∙ sym c.meant
+
+pub box_or_fault : (text : List ℕ) (p : PlantTree) (fault : BoxFault) → IsBox text p → HasBoxFault text fault → ⊥
+box_or_fault text p fault b (inl f) = f.0 b.lines b.read
+box_or_fault text p fault b (inr f) =
+    let same = one_reading_of_box text b.lines f.0 b.read f.1 in
+    let none : ◌≡◌ {A = Option BoxFault} None (Some fault) = sym b.faultless ∙ ap (least text) same ∙ f.2 in
+    absurd cc
+
+pub one_fault : (text : List ℕ) (fault other : BoxFault) → HasBoxFault text fault → HasBoxFault text other → fault ≡ other
+one_fault text fault other (inl f) (inl g) = f.1 ∙ sym g.1
+one_fault text fault other (inl f) (inr g) = absurd (f.0 g.0 g.1)
+one_fault text fault other (inr f) (inl g) = absurd (g.0 f.0 f.1)
+one_fault text fault other (inr f) (inr g) =
+    let same = one_reading_of_box text f.0 g.0 f.1 g.1 in
+    some_is fault other (sym f.2 ∙ ap (least text) same ∙ g.2)
+
+judged : (text : List ℕ) (ls : List Line) → Reads text ls → (o : Option BoxFault) → least text ls ≡ o → ((plant : PlantTree) × IsBox text plant) ⊎ ((fault : BoxFault) × HasBoxFault text fault)
+judged text ls r None e = inl (plant_of ls, record { lines = ls; read = r; faultless = e; meant = refl })
+judged text ls r (Some fault) e = inr (fault, inr (ls, r, e))
+
+pub none_read : (text : List ℕ) (ls : List Line) → lines_in text ≡ None → Reads text ls → ⊥
+none_read text ls e r = let none : ◌≡◌ {A = Option (List Line)} None (Some ls) = sym e ∙ lines_only text ls r in absurd cc
+
+read_or_not : (text : List ℕ) (o : Option (List Line)) → lines_in text ≡ o → ((plant : PlantTree) × IsBox text plant) ⊎ ((fault : BoxFault) × HasBoxFault text fault)
+read_or_not text None e = inr (Form, inl (λ ls r. none_read text ls e r, refl))
+read_or_not text (Some ls) e = judged text ls (lines_found text ls e) (least text ls) refl
+
+pub some_answer : (text : List ℕ) → ((plant : PlantTree) × IsBox text plant) ⊎ ((fault : BoxFault) × HasBoxFault text fault)
+some_answer text = read_or_not text (lines_in text) refl
+
+pub lines_as : (ls ms : List Line) → ls ≡ ms → each_is_line ms → each_is_line ls
+lines_as ls ms e h = let P : List Line → Type 0 = λ ks. each_is_line ks in subst P (sym e) h

@@ -1,0 +1,172 @@
+-- The lists of numbers that are tested say what the lines say.
+use Rattle.std.proofs.Common.{◌≡◌, ℕ, ◌<◌, Bool, true, false, ◌==◌, ◌&&◌, ◌||◌, not, nat_eq, List, [], ◌∷◌, ◌++◌, None, refl, sym, ap, subst, ◌∙◌, arith}
+use Rattle.std.specs.Prelude.{map}
+use Rattle.std.specs.List.{list_any}
+use Rattle.std.specs.Borrow.{Bor}
+use Rattle.box_file.specs.declared.line.InterfaceLine.{InterfaceLine}
+use Rattle.box_file.specs.declared.line.RouteLine.{RouteLine}
+use Rattle.box_file.specs.declared.line.Line as kept
+use Rattle.box_file.specs.declared.line.Line.TheVariants as lines
+use Rattle.box_file.specs.steps.Reading.{line_tree}
+use Rattle.box_file.specs.Box.{Interface, NamedRoute, Line, interface_line, route_line, default_line, IsName, each_is_line, interface_in, route_in, default_in, interfaces_in, routes_in, defaults_in, same_text, some_two, two_names, two_indexes, same_address, same_prefix, is_named, is_unknown, is_repeated, has_unknown}
+use Rattle.box_file.specs.steps.Tests.{two_values, is_missing, key_of, index_and_name, name_and_index, prefix_key, EachNamed, EachShort, EachName}
+use Rattle.box_file.proofs.RepeatLaws.{any-append, eqb_flip}
+use Rattle.box_file.proofs.KeyLaws.{same_key, digits_agree}
+
+-- ---- the lists of lines
+
+pub each_named : (ls : List Line) → each_is_line ls → EachNamed (interfaces_in ls)
+each_named [] h = tt
+each_named (interface_line i ∷ ls) h = (h.0.2, each_named ls h.1)
+each_named (route_line r ∷ ls) h = each_named ls h.1
+each_named (default_line n ∷ ls) h = each_named ls h.1
+
+pub each_short : (ls : List Line) → each_is_line ls → EachShort (routes_in ls)
+each_short [] h = tt
+each_short (interface_line i ∷ ls) h = each_short ls h.1
+each_short (route_line r ∷ ls) h = ((h.0.3, h.0.1), each_short ls h.1)
+each_short (default_line n ∷ ls) h = each_short ls h.1
+
+pub each_name : (ls : List Line) → each_is_line ls → EachName (defaults_in ls)
+each_name [] h = tt
+each_name (interface_line i ∷ ls) h = each_name ls h.1
+each_name (route_line r ∷ ls) h = each_name ls h.1
+each_name (default_line n ∷ ls) h = (h.0, each_name ls h.1)
+
+-- ---- repeats
+
+any-interfaces : (t : Interface → Bool) (f : Interface → ℕ × ℕ) (u : ℕ × ℕ → Bool) → ((j : Interface) → IsName j.name → u (f j) ≡ t j) → (is : List Interface) → EachNamed is → list_any u (map f is) ≡ list_any t is
+any-interfaces t f u same [] h = refl
+any-interfaces t f u same (i ∷ is) h = rw (same i h.0, any-interfaces t f u same is h.1) refl
+
+two-interfaces : (t : Interface → Interface → Bool) (f : Interface → ℕ × ℕ) (u : ℕ × ℕ → ℕ × ℕ → Bool) → ((i j : Interface) → IsName i.name → IsName j.name → u (f i) (f j) ≡ t i j) → (is : List Interface) → EachNamed is → some_two u (map f is) ≡ some_two t is
+two-interfaces t f u same [] h = refl
+two-interfaces t f u same (i ∷ is) h = rw (any-interfaces (t i) f (u (f i)) (λ j k. same i j h.0 k) is h.1, two-interfaces t f u same is h.1) refl
+
+pub names_by_index : (is : List Interface) → EachNamed is → some_two two_values (map index_and_name is) ≡ some_two two_names is
+names_by_index is h = two-interfaces two_names index_and_name two_values (λ i j hi hj. ap (λ v. (i.index == j.index) && not v) (same_key i.name j.name hi hj)) is h
+
+pub indexes_by_name : (is : List Interface) → EachNamed is → some_two two_values (map name_and_index is) ≡ some_two two_indexes is
+indexes_by_name is h = two-interfaces two_indexes name_and_index two_values (λ i j hi hj. ap (λ v. v && not (i.index == j.index)) (same_key i.name j.name hi hj)) is h
+
+any-addresses : (a : ℕ) (is : List Interface) → list_any (nat_eq a) (map (λ i. i.address) is) ≡ list_any (λ (j : Interface). a == j.address) is
+any-addresses a [] = refl
+any-addresses a (i ∷ is) = ap (λ v. (a == i.address) || v) (any-addresses a is)
+
+pub addresses_twice : (is : List Interface) → some_two nat_eq (map (λ i. i.address) is) ≡ some_two same_address is
+addresses_twice [] = refl
+addresses_twice (i ∷ is) = rw (any-addresses i.address is, addresses_twice is) refl
+
+and_flip : (a b : Bool) → a && b ≡ b && a
+and_flip true true = refl
+and_flip true false = refl
+and_flip false true = refl
+and_flip false false = refl
+
+same_prefix_key : (r s : NamedRoute) → r.prefix < 33 → s.prefix < 33 → nat_eq (prefix_key r) (prefix_key s) ≡ same_prefix r s
+same_prefix_key r s hr hs = digits_agree r.prefix s.prefix r.address s.address (omega arith) (omega arith) ∙ and_flip (r.prefix == s.prefix) (r.address == s.address)
+
+any-prefixes : (r : NamedRoute) → r.prefix < 33 → (rs : List NamedRoute) → EachShort rs → list_any (nat_eq (prefix_key r)) (map prefix_key rs) ≡ list_any (same_prefix r) rs
+any-prefixes r short [] h = refl
+any-prefixes r short (s ∷ ss) h = rw (same_prefix_key r s short h.0.1, any-prefixes r short ss h.1) refl
+
+pub prefixes_twice : (rs : List NamedRoute) → EachShort rs → some_two nat_eq (map prefix_key rs) ≡ some_two same_prefix rs
+prefixes_twice [] h = refl
+prefixes_twice (r ∷ rs) h = rw (any-prefixes r h.0.1 rs h.1, prefixes_twice rs h.1) refl
+
+-- ---- unknown names
+
+text_flip : (n m : List ℕ) → same_text n m ≡ same_text m n
+text_flip [] [] = refl
+text_flip [] (y ∷ ys) = refl
+text_flip (x ∷ xs) [] = refl
+text_flip (x ∷ xs) (y ∷ ys) = rw (eqb_flip x y, text_flip xs ys) refl
+
+any-names : (n : List ℕ) → IsName n → (is : List Interface) → EachNamed is → list_any (nat_eq (key_of n)) (map (λ i. key_of i.name) is) ≡ list_any (is_named n) is
+any-names n h [] k = refl
+any-names n h (i ∷ is) k = rw (same_key n i.name h k.0, text_flip n i.name, any-names n h is k.1) refl
+
+unknown_routes : (is : List Interface) → EachNamed is → (rs : List NamedRoute) → EachShort rs → list_any (is_missing (map (λ i. key_of i.name) is)) (map (λ r. key_of r.name) rs) ≡ list_any (λ r. is_unknown is r.name) rs
+unknown_routes is k [] h = refl
+unknown_routes is k (r ∷ rs) h = rw (any-names r.name h.0.0 is k, unknown_routes is k rs h.1) refl
+
+unknown_defaults : (is : List Interface) → EachNamed is → (ns : List (List ℕ)) → EachName ns → list_any (is_missing (map (λ i. key_of i.name) is)) (map key_of ns) ≡ list_any (is_unknown is) ns
+unknown_defaults is k [] h = refl
+unknown_defaults is k (n ∷ ns) h = rw (any-names n h.0 is k, unknown_defaults is k ns h.1) refl
+
+pub unknown_names : (is : List Interface) (rs : List NamedRoute) (ns : List (List ℕ)) → EachNamed is → EachShort rs → EachName ns → list_any (is_missing (map (λ i. key_of i.name) is)) (map (λ r. key_of r.name) rs ++ map key_of ns) ≡ has_unknown is rs ns
+unknown_names is rs ns k h g = any-append (is_missing (map (λ i. key_of i.name) is)) (map (λ r. key_of r.name) rs) (map key_of ns) ∙ rw (unknown_routes is k rs h, unknown_defaults is k ns g) refl
+
+-- ---- repeats, test by test
+
+pub first_repeats : (a b c d : Bool) → a ≡ true → a || b || c || d ≡ true
+first_repeats true b c d e = refl
+first_repeats false b c d e = absurd cc
+
+pub second_repeats : (a b c d : Bool) → b ≡ true → a || b || c || d ≡ true
+second_repeats true true c d e = refl
+second_repeats false true c d e = refl
+second_repeats a false c d e = absurd cc
+
+pub third_repeats : (a b c d : Bool) → c ≡ true → a || b || c || d ≡ true
+third_repeats true true true d e = refl
+third_repeats true false true d e = refl
+third_repeats false true true d e = refl
+third_repeats false false true d e = refl
+third_repeats a b false d e = absurd cc
+
+pub last_repeats : (a b c d : Bool) → a ≡ false → b ≡ false → c ≡ false → a || b || c || d ≡ d
+last_repeats a b c d e f g = rw (e, f, g) refl
+
+-- ---- lines of another kind
+
+pub no_interface : (l : kept.Line) → ((i : InterfaceLine) → l ≡ lines.Interface i → ⊥) → interface_in (line_tree l) ≡ None
+no_interface (lines.Interface i) h = absurd (h i refl)
+no_interface (lines.Route r) h = refl
+no_interface (lines.Default n) h = refl
+
+pub no_route : (l : kept.Line) → ((r : RouteLine) → l ≡ lines.Route r → ⊥) → route_in (line_tree l) ≡ None
+no_route (lines.Interface i) h = refl
+no_route (lines.Route r) h = absurd (h r refl)
+no_route (lines.Default n) h = refl
+
+pub no_default : (l : kept.Line) → ((n : Bor (List ℕ)) → l ≡ lines.Default n → ⊥) → default_in (line_tree l) ≡ None
+no_default (lines.Interface i) h = refl
+no_default (lines.Route r) h = refl
+no_default (lines.Default n) h = absurd (h n refl)
+
+-- ---- what the code's lists tell
+
+pub named_as : (is js : List Interface) → is ≡ js → EachNamed js → EachNamed is
+named_as is js e h = let P : List Interface → Type 0 = λ ks. EachNamed ks in subst P (sym e) h
+
+pub short_as : (rs ss : List NamedRoute) → rs ≡ ss → EachShort ss → EachShort rs
+short_as rs ss e h = let P : List NamedRoute → Type 0 = λ ts. EachShort ts in subst P (sym e) h
+
+pub names_as : (ns ms : List (List ℕ)) → ns ≡ ms → EachName ms → EachName ns
+names_as ns ms e h = let P : List (List ℕ) → Type 0 = λ ts. EachName ts in subst P (sym e) h
+
+pub two_names_told : (is : List Interface) (ps : List (ℕ × ℕ)) (r v : Bool) → EachNamed is → ps ≡ map index_and_name is → r ≡ some_two two_values ps → r ≡ v → some_two two_names is ≡ v
+two_names_told is ps r v h e told f = sym (told ∙ ap (some_two two_values) e ∙ names_by_index is h) ∙ f
+
+pub two_indexes_told : (is : List Interface) (ps : List (ℕ × ℕ)) (r v : Bool) → EachNamed is → ps ≡ map name_and_index is → r ≡ some_two two_values ps → r ≡ v → some_two two_indexes is ≡ v
+two_indexes_told is ps r v h e told f = sym (told ∙ ap (some_two two_values) e ∙ indexes_by_name is h) ∙ f
+
+pub addresses_told : (is : List Interface) (ns : List ℕ) (r v : Bool) → ns ≡ map (λ i. i.address) is → r ≡ some_two nat_eq ns → r ≡ v → some_two same_address is ≡ v
+addresses_told is ns r v e told f = sym (told ∙ ap (some_two nat_eq) e ∙ addresses_twice is) ∙ f
+
+pub names_repeat : (is : List Interface) (rs : List NamedRoute) → some_two two_names is ≡ true → true ≡ is_repeated is rs
+names_repeat is rs e = sym (first_repeats (some_two two_names is) (some_two two_indexes is) (some_two same_address is) (some_two same_prefix rs) e)
+
+pub indexes_repeat : (is : List Interface) (rs : List NamedRoute) → some_two two_indexes is ≡ true → true ≡ is_repeated is rs
+indexes_repeat is rs e = sym (second_repeats (some_two two_names is) (some_two two_indexes is) (some_two same_address is) (some_two same_prefix rs) e)
+
+pub addresses_repeat : (is : List Interface) (rs : List NamedRoute) → some_two same_address is ≡ true → true ≡ is_repeated is rs
+addresses_repeat is rs e = sym (third_repeats (some_two two_names is) (some_two two_indexes is) (some_two same_address is) (some_two same_prefix rs) e)
+
+pub prefixes_repeat : (is : List Interface) (rs : List NamedRoute) (ns : List ℕ) (r : Bool) → EachShort rs → some_two two_names is ≡ false → some_two two_indexes is ≡ false → some_two same_address is ≡ false → ns ≡ map prefix_key rs → r ≡ some_two nat_eq ns → r ≡ is_repeated is rs
+prefixes_repeat is rs ns r h a b c e told = told ∙ ap (some_two nat_eq) e ∙ prefixes_twice rs h ∙ sym (last_repeats (some_two two_names is) (some_two two_indexes is) (some_two same_address is) (some_two same_prefix rs) a b c)
+
+pub unknown_told : (is : List Interface) (rs : List NamedRoute) (ns : List (List ℕ)) (known used : List ℕ) (r : Bool) → EachNamed is → EachShort rs → EachName ns → known ≡ map (λ i. key_of i.name) is → used ≡ map (λ r. key_of r.name) rs ++ map key_of ns → r ≡ list_any (is_missing known) used → r ≡ has_unknown is rs ns
+unknown_told is rs ns known used r k h g ek eu told =
+    told ∙ ap (λ (ms : List ℕ). list_any (is_missing ms) used) ek ∙ ap (list_any (is_missing (map (λ i. key_of i.name) is))) eu ∙ unknown_names is rs ns k h g

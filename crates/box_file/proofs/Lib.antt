@@ -1,0 +1,12 @@
+pub mod NumberLaws
+pub mod WordLaws
+pub mod TextLaws
+pub mod LineLaws
+pub mod RepeatLaws
+pub mod KeyLaws
+pub mod CheckLaws
+pub mod ListLaws
+pub mod BestLaws
+pub mod TableLaws
+pub mod PlantLaws
+pub mod BoxLaws

@@ -1,0 +1,334 @@
+-- The reading functions give just the lines that the words are.
+use Rattle.std.proofs.Common.{◌≡◌, ◌≢◌, ℕ, zero, suc, ◌+◌, ◌-◌, ◌*◌, ◌/◌, ◌%◌, ◌^◌, ◌<◌, Bool, true, false, ◌&&◌, ◌||◌, not, cond, List, [], ◌∷◌, ◌++◌, map, length, get_or, Option, Some, None, ◌⊎◌, inl, inr, refl, sym, ap, ◌∙◌, append_assoc, arith}
+use Rattle.std.specs.Prelude.{◌==◌, nat_lt, IfSome, codes, filter}
+use Rattle.std.specs.List.{list_all}
+use Rattle.std.specs.Char.{is_ascii_digit}
+use Rattle.std.specs.Fmt.{decimal}
+use Rattle.std.specs.Str.Parse.{digits_value}
+use Rattle.std.proofs.lemmas.Bool.{ltb-true, lt-ltb, eqb-true, false≢true}
+use Rattle.std.proofs.lemmas.Bool.Decides.{nat_tests}
+use Rattle.std.proofs.lemmas.Fmt.{digits_decimal, digits_value-decimal, decimal-digits_value, decimal_nonempty, first_decimal, length-decimal-le}
+use Rattle.std.specs.Option.{option_map}
+use Rattle.box_file.specs.Text.{has_some, words_of, lines_of, dotted, dotted_prefix}
+use Rattle.box_file.specs.Box.{Interface, NamedRoute, Line, interface_line, route_line, default_line, words_in, is_name_byte, IsName, IsLine, each_is_line, same_text, Reads}
+use Rattle.box_file.specs.steps.Reading.{◌>>=◌, uncons, has_none, onto, cut, is_numeral, number_in, is_name, name_in, octet_in, address_in, prefixed_in, interface_words, route_words, default_words, line_of, line_in, all_in, lines_in}
+use Rattle.box_file.proofs.NumberLaws.{digits, both, numeral_digits}
+
+-- ---- steps
+
+if_found : {A : Type 0} (Q : A → Type 0) (b : Bool) (x : A) → (b ≡ true → Q x) → IfSome (cond b (Some x) None) Q
+if_found Q true x h = h refl
+if_found Q false x h = tt
+
+-- a step, and what follows it
+bind_found : {A B : Type 0} {P : A → Type 0} (Q : B → Type 0) (o : Option A) (f : A → Option B) → IfSome o P → ((x : A) → P x → IfSome (f x) Q) → IfSome (o >>= f) Q
+bind_found Q None f h k = tt
+bind_found Q (Some x) f h k = k x h
+
+choice_found : {A : Type 0} (Q : A → Type 0) (b : Bool) (o p : Option A) → (b ≡ true → IfSome o Q) → IfSome p Q → IfSome (cond b o p) Q
+choice_found Q true o p h k = h refl
+choice_found Q false o p h k = k
+
+-- ---- cutting
+
+cut_step : (at b : ℕ) (bs : List ℕ) (v : Bool) (o : Option (List ℕ × List ℕ)) → (b == at) ≡ v → IfSome o (λ x. bs ≡ x.0 ++ at ∷ x.1) → IfSome {T = List ℕ × List ℕ} (cond v (Some ([], bs)) (option_map (onto b) o)) (λ x. b ∷ bs ≡ x.0 ++ at ∷ x.1)
+cut_step at b bs true o e h = ap (λ (y : ℕ). y ∷ bs) (eqb-true _ _ e)
+cut_step at b bs false None e h = tt
+cut_step at b bs false (Some x) e h = ap (λ (ys : List ℕ). b ∷ ys) h
+
+cut_found : (at : ℕ) (ts : List ℕ) → IfSome (cut at ts) (λ x. ts ≡ x.0 ++ at ∷ x.1)
+cut_found at [] = tt
+cut_found at (b ∷ bs) = cut_step at b bs (b == at) (cut at bs) refl (cut_found at bs)
+
+-- no byte is this one
+abbrev Lacks : ℕ → List ℕ → Type 0
+Lacks at [] = Unit {0}
+Lacks at (b ∷ bs) = ((b == at) ≡ false) × Lacks at bs
+
+same_byte : (at : ℕ) → (at == at) ≡ true
+same_byte at = grind (arith, nat_tests)
+
+cut_only : (at : ℕ) (xs ys : List ℕ) → Lacks at xs → cut at (xs ++ at ∷ ys) ≡ Some (xs, ys)
+cut_only at [] ys l = rw (same_byte at) refl
+cut_only at (x ∷ xs) ys l = rw (l.0, cut_only at xs ys l.1) refl
+
+lacks-append : (at : ℕ) (xs ys : List ℕ) → Lacks at xs → Lacks at ys → Lacks at (xs ++ ys)
+lacks-append at [] ys l k = k
+lacks-append at (x ∷ xs) ys l k = (l.0, lacks-append at xs ys l.1 k)
+
+other_byte : (test : ℕ → Bool) (at b : ℕ) (v : Bool) → (b == at) ≡ v → test at ≡ false → test b ≡ true → v ≡ false
+other_byte test at b true e f t = let same : b ≡ at = eqb-true _ _ e in absurd (false≢true (sym f ∙ ap test (sym same) ∙ t))
+other_byte test at b false e f t = refl
+
+lacks_all : (test : ℕ → Bool) (at : ℕ) → test at ≡ false → (bs : List ℕ) → list_all test bs ≡ true → Lacks at bs
+lacks_all test at f [] e = tt
+lacks_all test at f (b ∷ bs) e =
+    let p = both (test b) (list_all test bs) e in
+    (other_byte test at b (b == at) refl f p.0, lacks_all test at f bs p.1)
+
+-- ---- numbers
+
+lone_zero : (ds : List ℕ) → is_numeral ds ≡ true → get_or ds 0 0 ≡ 48 → length ds ≡ 1
+lone_zero [] e z = absurd cc
+lone_zero (d ∷ ds) e z =
+    let p = both (list_all is_ascii_digit (d ∷ ds)) (not (d == 48) || length ds == 0) e in
+    let none : length ds ≡ 0 = eqb-true _ _ (rw z at p.1) in
+    omega arith
+
+number_found : (ds : List ℕ) → IfSome (number_in ds) (λ n. (decimal n ≡ ds) × (n < 2 ^ 32))
+unfolding number_in
+number_found ds = if_found _ (is_numeral ds && nat_lt (digits_value 10 ds) 4294967296) (digits_value 10 ds) (λ e.
+    let p = both (is_numeral ds) (nat_lt (digits_value 10 ds) 4294967296) e in
+    let plain = numeral_digits ds p.0 in
+    let small : digits_value 10 ds < 4294967296 = ltb-true _ _ p.1 in
+    (decimal-digits_value digits ds plain.0 plain.1 (lone_zero ds p.0) (omega arith), small))
+
+or_true : (b : Bool) → b || true ≡ true
+or_true true = refl
+or_true false = refl
+
+numeral_from : (ds : List ℕ) → list_all is_ascii_digit ds ≡ true → 0 < length ds → (get_or ds 0 0 ≢ 48) ⊎ (length ds ≡ 1) → is_numeral ds ≡ true
+numeral_from [] all some first = absurd (omega arith)
+numeral_from (d ∷ ds) all some (inl other) =
+    let e : (d == 48) ≡ false = grind (arith, nat_tests) in
+    rw (all, e) refl
+numeral_from (d ∷ ds) all some (inr one) =
+    let e : (length ds == 0) ≡ true = grind (arith, nat_tests) in
+    rw (all, e) (or_true (not (d == 48)))
+
+-- a lone zero, or a first digit that is none
+first_is : (n : ℕ) → n < 2 ^ 64 → (get_or (decimal n) 0 0 ≢ 48) ⊎ (length (decimal n) ≡ 1)
+first_is zero wide = inr (omega (arith, length-decimal-le 1 0 (omega arith) (omega arith) wide, decimal_nonempty 0 wide))
+first_is (suc n) wide = let more = first_decimal (suc n) (omega arith) wide in inl (λ e. omega arith)
+
+number_only : (n : ℕ) → n < 2 ^ 32 → number_in (decimal n) ≡ Some n
+unfolding number_in
+number_only n small =
+    let wide : n < 2 ^ 64 = omega arith in
+    let all = digits_decimal digits n wide in
+    let value = digits_value-decimal digits n wide in
+    let numeral : is_numeral (decimal n) ≡ true = numeral_from (decimal n) all (decimal_nonempty n wide) (first_is n wide) in
+    let fits : nat_lt n 4294967296 ≡ true = lt-ltb _ _ small in
+    rw (numeral, value, fits) refl
+
+decimal_lacks : (at n : ℕ) → is_ascii_digit at ≡ false → n < 2 ^ 32 → Lacks at (decimal n)
+decimal_lacks at n other small = lacks_all is_ascii_digit at other (decimal n) (digits_decimal digits n (omega arith))
+
+-- ---- addresses
+
+octet_found : (ds : List ℕ) → IfSome (octet_in ds) (λ n. (decimal n ≡ ds) × (n < 256))
+unfolding octet_in
+octet_found ds = bind_found _ (number_in ds) _ (number_found ds) (λ n en. if_found _ (nat_lt n 256) n (λ e. (en.0, ltb-true _ _ e)))
+
+octet_only : (n : ℕ) → n < 256 → octet_in (decimal n) ≡ Some n
+unfolding octet_in
+octet_only n small = let fits : nat_lt n 256 ≡ true = lt-ltb _ _ small in rw (number_only n (omega arith), fits) refl
+
+-- four parts with a dot between each two
+abbrev quad : List ℕ → List ℕ → List ℕ → List ℕ → List ℕ
+quad w x y z = w ++ 46 ∷ (x ++ 46 ∷ (y ++ 46 ∷ z))
+
+dotted_is : (a : ℕ) → dotted a ≡ quad (decimal (a / 16777216)) (decimal (a / 65536 % 256)) (decimal (a / 256 % 256)) (decimal (a % 256))
+dotted_is a = simp append_assoc
+
+-- an address of four bytes
+abbrev joined : ℕ → ℕ → ℕ → ℕ → ℕ
+joined w x y z = w * 16777216 + x * 65536 + y * 256 + z
+
+dotted_joined : (w x y z : ℕ) → w < 256 → x < 256 → y < 256 → z < 256 → (dotted (joined w x y z) ≡ quad (decimal w) (decimal x) (decimal y) (decimal z)) × (joined w x y z < 2 ^ 32)
+dotted_joined w x y z hw hx hy hz =
+    let a = joined w x y z in
+    let first : a / 16777216 ≡ w = omega arith in
+    let second : a / 65536 % 256 ≡ x = omega arith in
+    let third : a / 256 % 256 ≡ y = omega arith in
+    let fourth : a % 256 ≡ z = omega arith in
+    (dotted_is a ∙ cc, omega arith)
+
+address_found : (bs : List ℕ) → IfSome (address_in bs) (λ a. (dotted a ≡ bs) × (a < 2 ^ 32))
+unfolding address_in
+address_found bs =
+    bind_found _ (cut 46 bs) _ (cut_found 46 bs) (λ a ea.
+    bind_found _ (cut 46 a.1) _ (cut_found 46 a.1) (λ b eb.
+    bind_found _ (cut 46 b.1) _ (cut_found 46 b.1) (λ c ec.
+    bind_found _ (octet_in a.0) _ (octet_found a.0) (λ w ew.
+    bind_found _ (octet_in b.0) _ (octet_found b.0) (λ x ex.
+    bind_found _ (octet_in c.0) _ (octet_found c.0) (λ y ey.
+    bind_found _ (octet_in c.1) _ (octet_found c.1) (λ z ez.
+    let whole = dotted_joined w x y z ew.1 ex.1 ey.1 ez.1 in
+    (whole.0 ∙ rw (ea, eb, ec, ew.0, ex.0, ey.0, ez.0) refl, whole.1))))))))
+
+address_only : (a : ℕ) → a < 2 ^ 32 → address_in (dotted a) ≡ Some a
+unfolding address_in
+address_only a small =
+    let w = a / 16777216 in
+    let x = a / 65536 % 256 in
+    let y = a / 256 % 256 in
+    let z = a % 256 in
+    let hw : w < 256 = omega arith in
+    let hx : x < 256 = omega arith in
+    let hy : y < 256 = omega arith in
+    let hz : z < 256 = omega arith in
+    let back : joined w x y z ≡ a = omega arith in
+    let first = cut_only 46 (decimal w) (decimal x ++ 46 ∷ (decimal y ++ 46 ∷ decimal z)) (decimal_lacks 46 w refl (omega arith)) in
+    let second = cut_only 46 (decimal x) (decimal y ++ 46 ∷ decimal z) (decimal_lacks 46 x refl (omega arith)) in
+    let third = cut_only 46 (decimal y) (decimal z) (decimal_lacks 46 y refl (omega arith)) in
+    rw (dotted_is a, first, second, third, octet_only w hw, octet_only x hx, octet_only y hy, octet_only z hz, back) refl
+
+dotted_lacks : (at a : ℕ) → is_ascii_digit at ≡ false → (46 == at) ≡ false → a < 2 ^ 32 → Lacks at (dotted a)
+dotted_lacks at a other dot small =
+    rw (dotted_is a)
+    (lacks-append at _ _ (decimal_lacks at (a / 16777216) other (omega arith)) (
+      dot,
+      lacks-append at _ _ (decimal_lacks at (a / 65536 % 256) other (omega arith)) (
+        dot,
+        lacks-append at _ _ (decimal_lacks at (a / 256 % 256) other (omega arith)) (
+          dot,
+          decimal_lacks at (a % 256) other (omega arith),
+        ),
+      ),
+    ))
+
+prefixed_found : (bs : List ℕ) → IfSome (prefixed_in bs) (λ p. (bs ≡ dotted_prefix p.0 p.1) × (p.0 < 2 ^ 32) × (p.1 < 33))
+unfolding prefixed_in
+prefixed_found bs =
+    bind_found _ (cut 47 bs) _ (cut_found 47 bs) (λ a ea.
+    bind_found _ (address_in a.0) _ (address_found a.0) (λ d ed.
+    bind_found _ (number_in a.1) _ (number_found a.1) (λ n en.
+    if_found {A = ℕ × ℕ} _ (nat_lt n 33) (d, n) (λ e. (ea ∙ rw (ed.0, en.0) refl, ed.1, ltb-true _ _ e)))))
+
+prefixed_only : (a p : ℕ) → a < 2 ^ 32 → p < 33 → prefixed_in (dotted_prefix a p) ≡ Some (a, p)
+unfolding prefixed_in
+prefixed_only a p small short =
+    let fits : nat_lt p 33 ≡ true = lt-ltb _ _ short in
+    rw (cut_only 47 (dotted a) (decimal p) (dotted_lacks 47 a refl refl small), address_only a small, number_only p (omega arith), fits) refl
+
+-- ---- names
+
+name_found : (bs : List ℕ) → IfSome (name_in bs) (λ n. (n ≡ bs) × IsName n)
+unfolding name_in
+name_found bs = if_found _ (is_name bs) bs (λ e.
+    let p = both (nat_lt 0 (length bs) && nat_lt (length bs) 16) (list_all is_name_byte bs) e in
+    let q = both (nat_lt 0 (length bs)) (nat_lt (length bs) 16) p.0 in
+    (refl, (ltb-true _ _ q.0, ltb-true _ _ q.1, p.1)))
+
+name_only : (n : List ℕ) → IsName n → name_in n ≡ Some n
+unfolding name_in
+name_only n h =
+    let some : nat_lt 0 (length n) ≡ true = lt-ltb _ _ h.0 in
+    let short : nat_lt (length n) 16 ≡ true = lt-ltb _ _ h.1 in
+    rw (some, short, h.2) refl
+
+-- ---- lines
+
+uncons_found : {A : Type 0} (xs : List A) → IfSome (uncons xs) (λ a. xs ≡ a.0 ∷ a.1)
+uncons_found [] = tt
+uncons_found (x ∷ xs) = refl
+
+none_left : {A : Type 0} (xs : List A) → has_none xs ≡ true → xs ≡ []
+none_left [] e = refl
+none_left (x ∷ xs) e = absurd cc
+
+interface_found : (ws : List (List ℕ)) → IfSome (interface_words ws) (λ l. IsLine l × (words_in l ≡ codes "interface" ∷ ws))
+unfolding interface_words
+interface_found ws =
+    bind_found _ (uncons ws) _ (uncons_found ws) (λ a ea.
+    bind_found _ (uncons a.1) _ (uncons_found a.1) (λ b eb.
+    bind_found _ (uncons b.1) _ (uncons_found b.1) (λ c ec.
+    bind_found _ (number_in a.0) _ (number_found a.0) (λ i ei.
+    bind_found _ (name_in b.0) _ (name_found b.0) (λ n en.
+    bind_found _ (prefixed_in c.0) _ (prefixed_found c.0) (λ p ep.
+    if_found _ (has_none c.1 && nat_lt 0 i && nat_lt i 2147483648 && nat_lt 0 p.1) (interface_line (record { index = i; name = n; address = p.0; prefix = p.1 })) (λ e.
+    let f = both (has_none c.1 && nat_lt 0 i && nat_lt i 2147483648) (nat_lt 0 p.1) e in
+    let g = both (has_none c.1 && nat_lt 0 i) (nat_lt i 2147483648) f.0 in
+    let h = both (has_none c.1) (nat_lt 0 i) g.0 in
+    ((ltb-true _ _ h.1, ltb-true _ _ g.1, en.1, ep.1, ltb-true _ _ f.1, ep.2), rw (ea, eb, ec, none_left c.1 h.0, ei.0, en.0, ep.0) refl))))))))
+
+interface_only : (i : Interface) → IsLine (interface_line i) → interface_words (decimal i.index ∷ i.name ∷ dotted_prefix i.address i.prefix ∷ []) ≡ Some (interface_line i)
+unfolding interface_words
+interface_only i h =
+    let some : nat_lt 0 i.index ≡ true = lt-ltb _ _ h.0 in
+    let small : nat_lt i.index 2147483648 ≡ true = lt-ltb _ _ h.1 in
+    let one : nat_lt 0 i.prefix ≡ true = lt-ltb _ _ h.4 in
+    rw (number_only i.index (omega arith), name_only i.name h.2, prefixed_only i.address i.prefix h.3 h.5, some, small, one) refl
+
+route_found : (ws : List (List ℕ)) → IfSome (route_words ws) (λ l. IsLine l × (words_in l ≡ codes "route" ∷ ws))
+unfolding route_words
+route_found ws =
+    bind_found _ (uncons ws) _ (uncons_found ws) (λ a ea.
+    bind_found _ (uncons a.1) _ (uncons_found a.1) (λ b eb.
+    bind_found _ (prefixed_in a.0) _ (prefixed_found a.0) (λ p ep.
+    bind_found _ (name_in b.0) _ (name_found b.0) (λ n en.
+    if_found _ (has_none b.1 && p.0 % 2 ^ (32 - p.1) == 0) (route_line (record { address = p.0; prefix = p.1; name = n })) (λ e.
+    let f = both (has_none b.1) (p.0 % 2 ^ (32 - p.1) == 0) e in
+    ((ep.1, ep.2, eqb-true _ _ f.1, en.1), rw (ea, eb, none_left b.1 f.0, en.0, ep.0) refl))))))
+
+route_only : (r : NamedRoute) → IsLine (route_line r) → route_words (dotted_prefix r.address r.prefix ∷ r.name ∷ []) ≡ Some (route_line r)
+unfolding route_words
+route_only r h =
+    let zeros : (r.address % 2 ^ (32 - r.prefix) == 0) ≡ true = rw h.2 refl in
+    rw (prefixed_only r.address r.prefix h.0 h.1, name_only r.name h.3, zeros) refl
+
+default_found : (ws : List (List ℕ)) → IfSome (default_words ws) (λ l. IsLine l × (words_in l ≡ codes "default" ∷ ws))
+unfolding default_words
+default_found ws =
+    bind_found _ (uncons ws) _ (uncons_found ws) (λ a ea.
+    bind_found _ (name_in a.0) _ (name_found a.0) (λ n en.
+    if_found _ (has_none a.1) (default_line n) (λ e. (en.1, rw (ea, none_left a.1 e, en.0) refl))))
+
+default_only : (n : List ℕ) → IsName n → default_words (n ∷ []) ≡ Some (default_line n)
+unfolding default_words
+default_only n h = rw (name_only n h) refl
+
+same_text-true : (v w : List ℕ) → same_text v w ≡ true → v ≡ w
+same_text-true [] [] e = refl
+same_text-true [] (y ∷ ys) e = absurd cc
+same_text-true (x ∷ xs) [] e = absurd cc
+same_text-true (x ∷ xs) (y ∷ ys) e =
+    let p = both (x == y) (same_text xs ys) e in
+    let head : x ≡ y = eqb-true _ _ p.0 in
+    let tail : xs ≡ ys = same_text-true xs ys p.1 in
+    cc
+
+-- the word in front is this one, and a reader finds what follows it
+after_word : (word w : List ℕ) (ws : List (List ℕ)) (o : Option Line) → same_text word w ≡ true → IfSome o (λ l. IsLine l × (words_in l ≡ w ∷ ws)) → IfSome o (λ l. IsLine l × (words_in l ≡ word ∷ ws))
+after_word word w ws o e h = rw (same_text-true word w e) h
+
+line_of_found : (word : List ℕ) (ws : List (List ℕ)) → IfSome (line_of word ws) (λ l. IsLine l × (words_in l ≡ word ∷ ws))
+line_of_found word ws =
+    choice_found _ (same_text word (codes "interface")) (interface_words ws) _ (λ e. after_word word (codes "interface") ws _ e (interface_found ws))
+    (choice_found _ (same_text word (codes "route")) (route_words ws) _ (λ e. after_word word (codes "route") ws _ e (route_found ws))
+    (choice_found _ (same_text word (codes "default")) (default_words ws) None (λ e. after_word word (codes "default") ws _ e (default_found ws)) tt))
+
+line_found : (ws : List (List ℕ)) → IfSome (line_in ws) (λ l. IsLine l × (words_in l ≡ ws))
+unfolding line_in
+line_found ws = bind_found _ (uncons ws) _ (uncons_found ws) (λ a ea. rw ea (line_of_found a.0 a.1))
+
+line_only : (l : Line) → IsLine l → line_in (words_in l) ≡ Some l
+unfolding line_in
+line_only (interface_line i) h = interface_only i h
+line_only (route_line r) h = route_only r h
+line_only (default_line n) h = default_only n h
+
+-- ---- texts
+
+next_found : (t : List (List ℕ)) (l : Line) (ts : List (List (List ℕ))) (o : Option (List Line)) → IsLine l × (words_in l ≡ t) → IfSome o (λ ls. each_is_line ls × (ts ≡ map words_in ls)) → IfSome {T = List Line} (option_map (λ ls. l ∷ ls) o) (λ ls. each_is_line ls × (t ∷ ts ≡ map words_in ls))
+next_found t l ts None h k = tt
+next_found t l ts (Some ls) h k = let head = sym h.1 in let tail = k.1 in ((h.0, k.0), cc)
+
+each_found : (ts : List (List (List ℕ))) → IfSome (all_in ts) (λ ls. each_is_line ls × (ts ≡ map words_in ls))
+unfolding all_in
+each_found [] = (tt, refl)
+each_found (t ∷ ts) = bind_found _ (line_in t) _ (line_found t) (λ l el. next_found t l ts (all_in ts) el (each_found ts))
+
+each_only : (ls : List Line) → each_is_line ls → all_in (map words_in ls) ≡ Some ls
+unfolding all_in
+each_only [] h = refl
+each_only (l ∷ ls) h = rw (line_only l h.0, each_only ls h.1) refl
+
+pub lines_found : (text : List ℕ) (ls : List Line) → lines_in text ≡ Some ls → Reads text ls
+lines_found text ls e =
+    let h = rw e at (each_found (filter has_some (map words_of (lines_of text)))) in
+    record { each = h.0; written = h.1 }
+
+pub lines_only : (text : List ℕ) (ls : List Line) → Reads text ls → lines_in text ≡ Some ls
+lines_only text ls r = rw r.written (each_only ls r.each)

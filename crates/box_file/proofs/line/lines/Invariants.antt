@@ -1,0 +1,10 @@
+use Rattle.std.proofs.Common.{◌≡◌, map, length, ◌++◌}
+use Rattle.std.specs.Option.{option_map}
+use Rattle.box_file.specs.steps.Reading.{lines_in, line_tree}
+use Rattle.box_file.proofs.line.lines.Given as goal
+
+abbrev pub invariant-loop-rest : goal.invariant-loop-rest
+invariant-loop-rest l = option_map (λ ls. map line_tree l.found.items ++ ls) (lines_in l.rest) ≡ lines_in l.text
+
+abbrev pub decreases-loop-rest : goal.decreases-loop-rest
+decreases-loop-rest l = length l.rest

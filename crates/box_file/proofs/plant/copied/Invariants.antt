@@ -1,0 +1,7 @@
+use Rattle.std.proofs.Common.{◌≡◌, map, take}
+use Rattle.box_file.specs.steps.Reading.{interface_tree}
+use Rattle.box_file.specs.steps.Plant.{interface_of}
+use Rattle.box_file.proofs.plant.copied.Given as goal
+
+abbrev pub invariant-loop-line : goal.invariant-loop-line
+invariant-loop-line l = map interface_of l.found.items ≡ map interface_tree (take l.line-index l.lines)

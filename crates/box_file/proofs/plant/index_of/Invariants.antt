@@ -1,0 +1,10 @@
+use Rattle.std.proofs.Common.{◌≡◌, map, length}
+use Rattle.box_file.specs.Box.{index_of}
+use Rattle.box_file.specs.steps.Reading.{interface_tree}
+use Rattle.box_file.proofs.plant.index_of.Given as goal
+
+abbrev pub invariant-loop-rest : goal.invariant-loop-rest
+invariant-loop-rest l = index_of (map interface_tree l.rest) l.name ≡ index_of (map interface_tree l.lines) l.name
+
+abbrev pub decreases-loop-rest : goal.decreases-loop-rest
+decreases-loop-rest l = length l.rest

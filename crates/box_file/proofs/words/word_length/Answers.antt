@@ -1,0 +1,11 @@
+use Rattle.std.proofs.Common.{rules, tests, ◌∙◌}
+use Rattle.std.proofs.lemmas.Iterator.{YieldsList-from_slice}
+use Rattle.std.proofs.lemmas.Iterator.Search.{position_from_yields_List}
+use Rattle.box_file.specs.steps.Reading.{ends_word}
+use Rattle.box_file.proofs.WordLaws.{place_or_end}
+use Rattle.box_file.proofs.words.word_length.Goals as goal
+
+pub returns : goal.returns
+returns c =
+    let place = position_from_yields_List ends_word _ _ c.position.result c.position.ensures.ran (YieldsList-from_slice c.args.line.now cc) (λ x b q k. search (rules, tests)) in
+    c.unwrap_or.ensures ∙ place_or_end ends_word c.args.line.now c.position.result place

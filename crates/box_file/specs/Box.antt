@@ -1,0 +1,257 @@
+-- What a box file says: interfaces with their addresses, routes, the entering interface.
+use Rattle.std.specs.Prelude.{◌≡◌, ℕ, ◌-◌, ◌/◌, ◌%◌, ◌^◌, ◌<◌, ◌==◌, ◌&&◌, ◌||◌, not, nat_lt, Bool, true, false, List, [], ◌∷◌, length, map, filter, find, max, ◌⊎◌, Option, Some, None, unwrap_or, if◌then◌else◌, IsTrue, codes}
+use Rattle.std.specs.List.{filter_map, list_any, list_all}
+use Rattle.std.specs.Option.{option_map}
+use Rattle.std.specs.Char.{is_ascii_alphanumeric}
+use Rattle.std.specs.Fmt.{decimal}
+use Rattle.box_file.specs.declared.fault.BoxFault.{BoxFault}
+use Rattle.box_file.specs.declared.fault.BoxFault.TheVariants.{Form, Repeated, UnknownName, TooLarge}
+use Rattle.box_file.specs.declared.fault.BoxError.{BoxError}
+use Rattle.box_file.specs.declared.fault.BoxError.TheVariants.{Refused, Memory}
+use Rattle.box_file.specs.Text.{has_some, words_of, lines_of, dotted_prefix}
+
+-- ---- lines
+
+-- an address of an interface, and the prefix that it stands in
+pub record Interface : Type 0 where
+  pub index : ℕ
+  pub name : List ℕ
+  pub address : ℕ
+  pub prefix : ℕ
+
+-- a prefix, and the name of the interface that packets to it leave by
+pub record NamedRoute : Type 0 where
+  pub address : ℕ
+  pub prefix : ℕ
+  pub name : List ℕ
+
+pub data Line : Type 0 where
+  interface_line : Interface → Line
+  route_line : NamedRoute → Line
+  default_line : List ℕ → Line
+
+-- `interface 2 lan 192.168.1.1/24`, `route 0.0.0.0/0 wan`, `default lan`
+abbrev pub words_in : Line → List (List ℕ)
+words_in (interface_line i) = codes "interface" ∷ decimal i.index ∷ i.name ∷ dotted_prefix i.address i.prefix ∷ []
+words_in (route_line r) = codes "route" ∷ dotted_prefix r.address r.prefix ∷ r.name ∷ []
+words_in (default_line n) = codes "default" ∷ n ∷ []
+
+-- a letter, a digit, `_`, `-` or `.`
+abbrev pub is_name_byte : ℕ → Bool
+is_name_byte b = is_ascii_alphanumeric b || b == 95 || b == 45 || b == 46
+
+-- 1 to 15 of them
+abbrev pub IsName : List ℕ → Type 0
+IsName n = (0 < length n) × (length n < 16) × IsTrue (list_all is_name_byte n)
+
+-- what a line may say
+abbrev pub IsLine : Line → Type 0
+IsLine (interface_line i) = (0 < i.index) × (i.index < 2147483648) × IsName i.name × (i.address < 2 ^ 32) × (0 < i.prefix) × (i.prefix < 33)
+-- the host bits of a route are zero
+IsLine (route_line r) = (r.address < 2 ^ 32) × (r.prefix < 33) × (r.address % 2 ^ (32 - r.prefix) ≡ 0) × IsName r.name
+IsLine (default_line n) = IsName n
+
+abbrev pub each_is_line : List Line → Type 0
+each_is_line [] = Unit {0}
+each_is_line (l ∷ ls) = IsLine l × each_is_line ls
+
+-- the text, its lines without words left out, is these lines
+pub record Reads (text : List ℕ) (lines : List Line) : Type 0 where
+  pub each : each_is_line lines
+  pub written : filter has_some (map words_of (lines_of text)) ≡ map words_in lines
+
+-- ---- what stands in the lines, in text order
+
+abbrev pub interface_in : Line → Option Interface
+interface_in (interface_line i) = Some i
+interface_in (route_line r) = None
+interface_in (default_line n) = None
+
+abbrev pub route_in : Line → Option NamedRoute
+route_in (interface_line i) = None
+route_in (route_line r) = Some r
+route_in (default_line n) = None
+
+abbrev pub default_in : Line → Option (List ℕ)
+default_in (interface_line i) = None
+default_in (route_line r) = None
+default_in (default_line n) = Some n
+
+abbrev pub interfaces_in : List Line → List Interface
+interfaces_in = filter_map interface_in
+
+abbrev pub routes_in : List Line → List NamedRoute
+routes_in = filter_map route_in
+
+abbrev pub defaults_in : List Line → List (List ℕ)
+defaults_in = filter_map default_in
+
+-- ---- faults
+
+abbrev pub same_text : List ℕ → List ℕ → Bool
+same_text [] [] = true
+same_text [] (y ∷ ys) = false
+same_text (x ∷ xs) [] = false
+same_text (x ∷ xs) (y ∷ ys) = x == y && same_text xs ys
+
+-- some two of a list pass the test, the earlier one first
+abbrev pub some_two : {A : Type 0} → (A → A → Bool) → List A → Bool
+some_two test [] = false
+some_two test (x ∷ xs) = list_any (test x) xs || some_two test xs
+
+abbrev pub two_names : Interface → Interface → Bool
+two_names i j = i.index == j.index && not (same_text i.name j.name)
+
+abbrev pub two_indexes : Interface → Interface → Bool
+two_indexes i j = same_text i.name j.name && not (i.index == j.index)
+
+abbrev pub same_address : Interface → Interface → Bool
+same_address i j = i.address == j.address
+
+abbrev pub same_prefix : NamedRoute → NamedRoute → Bool
+same_prefix r s = r.address == s.address && r.prefix == s.prefix
+
+abbrev pub is_named : List ℕ → Interface → Bool
+is_named n i = same_text i.name n
+
+-- no interface has the name
+abbrev pub is_unknown : List Interface → List ℕ → Bool
+is_unknown interfaces n = not (list_any (is_named n) interfaces)
+
+-- there isn't exactly one default
+abbrev pub is_misformed : List (List ℕ) → Bool
+is_misformed defaults = not (length defaults == 1)
+
+-- some index has two names, some name two indexes, an address stands twice, or a route's prefix
+abbrev pub is_repeated : List Interface → List NamedRoute → Bool
+is_repeated interfaces routes = some_two two_names interfaces || some_two two_indexes interfaces || some_two same_address interfaces || some_two same_prefix routes
+
+-- a route or the default names no interface
+abbrev pub has_unknown : List Interface → List NamedRoute → List (List ℕ) → Bool
+has_unknown interfaces routes defaults = list_any (λ r. is_unknown interfaces r.name) routes || list_any (is_unknown interfaces) defaults
+
+-- over 1,048,576 bytes, 64 interface lines or 1024 route lines
+abbrev pub is_too_large : List ℕ → List Interface → List NamedRoute → Bool
+is_too_large text interfaces routes = nat_lt 1048576 (length text) || nat_lt 64 (length interfaces) || nat_lt 1024 (length routes)
+
+-- whether a text of these lines has the fault
+abbrev pub is_wrong : List ℕ → List Line → BoxFault → Bool
+is_wrong text lines Form = is_misformed (defaults_in lines)
+is_wrong text lines Repeated = is_repeated (interfaces_in lines) (routes_in lines)
+is_wrong text lines UnknownName = has_unknown (interfaces_in lines) (routes_in lines) (defaults_in lines)
+is_wrong text lines TooLarge = is_too_large text (interfaces_in lines) (routes_in lines)
+
+-- the least of its faults
+abbrev pub least : List ℕ → List Line → Option BoxFault
+least text lines = find (is_wrong text lines) (Form ∷ Repeated ∷ UnknownName ∷ TooLarge ∷ [])
+
+-- a text is refused for this fault: it is no lines, or the least that is wrong with them
+abbrev pub HasBoxFault : List ℕ → BoxFault → Type 0
+HasBoxFault text fault = (((lines : List Line) → Reads text lines → ⊥) × (fault ≡ Form)) ⊎ ((lines : List Line) × Reads text lines × (least text lines ≡ Some fault))
+
+-- an error is the text's fault, or none of the text's
+abbrev pub IsBoxRefusal : List ℕ → BoxError → Type 0
+IsBoxRefusal text (Refused fault) = HasBoxFault text fault
+IsBoxRefusal text Memory = Unit {0}
+
+-- ---- what the lines mean
+
+-- a prefix, and the index of the interface that packets to it leave by
+pub record RouteTo : Type 0 where
+  pub address : ℕ
+  pub prefix : ℕ
+  pub interface : ℕ
+
+pub record PlantTree : Type 0 where
+  -- one for each interface line, in text order
+  pub interfaces : List Interface
+  -- in text order
+  pub routes : List RouteTo
+  -- the interface of the default line
+  pub entering : ℕ
+
+-- the index of the interface of a name
+abbrev pub index_of : List Interface → List ℕ → Option ℕ
+index_of interfaces n = option_map (λ i. i.index) (find (is_named n) interfaces)
+
+-- the same where the name is known
+abbrev pub known_index : List Interface → List ℕ → ℕ
+known_index interfaces n = unwrap_or (index_of interfaces n) 0
+
+-- an interface's line is also a route to its prefix, at its place in the text
+abbrev pub route_to : List Interface → Line → Option RouteTo
+route_to interfaces (interface_line i) = Some (record { address = i.address; prefix = i.prefix; interface = i.index })
+route_to interfaces (route_line r) = Some (record { address = r.address; prefix = r.prefix; interface = known_index interfaces r.name })
+route_to interfaces (default_line n) = None
+
+-- the index of the interface that the first default names
+abbrev pub entering_of : List Interface → List (List ℕ) → ℕ
+entering_of interfaces [] = 0
+entering_of interfaces (n ∷ ns) = known_index interfaces n
+
+abbrev pub plant_of : List Line → PlantTree
+plant_of lines =
+    record {
+      interfaces = interfaces_in lines;
+      routes = filter_map (route_to (interfaces_in lines)) lines;
+      entering = entering_of (interfaces_in lines) (defaults_in lines);
+    }
+
+-- a text without fault, and what it means
+pub record IsBox (text : List ℕ) (plant : PlantTree) : Type 0 where
+  pub lines : List Line
+  pub read : Reads text lines
+  pub faultless : least text lines ≡ None
+  pub meant : plant ≡ plant_of lines
+
+-- ---- look-ups
+
+-- the numbers that an interface may have
+abbrev pub IsIndex : ℕ → Type 0
+IsIndex n = (0 < n) × (n < 2147483648)
+
+abbrev pub has_address : ℕ → Interface → Bool
+has_address a i = i.address == a
+
+abbrev pub has_index : ℕ → Interface → Bool
+has_index n i = i.index == n
+
+-- some interface has the address
+abbrev pub is_own : PlantTree → ℕ → Bool
+is_own plant a = list_any (has_address a) plant.interfaces
+
+-- the index of the interface that has the address
+abbrev pub owner : PlantTree → ℕ → Option ℕ
+owner plant a = option_map (λ i. i.index) (find (has_address a) plant.interfaces)
+
+-- the first address of the interface in the text
+abbrev pub first_address : PlantTree → ℕ → Option ℕ
+first_address plant n = option_map (λ i. i.address) (find (has_index n) plant.interfaces)
+
+-- the index of the interface of a name
+abbrev pub named : PlantTree → List ℕ → Option ℕ
+named plant n = index_of plant.interfaces n
+
+-- the name of the interface of an index
+abbrev pub name_of : PlantTree → ℕ → Option (List ℕ)
+name_of plant n = option_map (λ i. i.name) (find (has_index n) plant.interfaces)
+
+-- the address agrees with the route's in the prefix's bits
+abbrev pub covers : ℕ → RouteTo → Bool
+covers a r = r.address / 2 ^ (32 - r.prefix) == a / 2 ^ (32 - r.prefix)
+
+abbrev pub greatest : List RouteTo → ℕ
+greatest [] = 0
+greatest (r ∷ rs) = max r.prefix (greatest rs)
+
+-- the first of greatest prefix
+abbrev pub best_of : List RouteTo → Option RouteTo
+best_of routes = find (λ r. r.prefix == greatest routes) routes
+
+-- the interface of the best of the routes that cover the address
+abbrev pub best_way : List RouteTo → ℕ → Option ℕ
+best_way routes a = option_map (λ r. r.interface) (best_of (filter (covers a) routes))
+
+-- among the routes that cover the address one of greatest prefix, the first in the text; none for 224.0.0.0 and above
+abbrev pub route : PlantTree → ℕ → Option ℕ
+route plant a = if nat_lt a 3758096384 then best_way plant.routes a else None

@@ -1,0 +1,44 @@
+-- A text as lines, a line as words, a number and an address as they are written.
+use Rattle.std.specs.Prelude.{ℕ, ◌/◌, ◌%◌, ◌==◌, ◌||◌, Bool, true, false, List, [], ◌∷◌, ◌++◌, filter, if◌then◌else◌}
+use Rattle.std.specs.Fmt.{decimal}
+
+-- a byte put before the first part
+abbrev pub onto_first : ℕ → List (List ℕ) → List (List ℕ)
+onto_first b [] = (b ∷ []) ∷ []
+onto_first b (p ∷ ps) = (b ∷ p) ∷ ps
+
+-- the parts of a text: each ends with a byte that passes, which the last may lack
+abbrev pub parts_of : (ℕ → Bool) → List ℕ → List (List ℕ)
+parts_of ends [] = []
+parts_of ends (b ∷ bs) = if ends b then [] ∷ parts_of ends bs else onto_first b (parts_of ends bs)
+
+abbrev pub is_newline : ℕ → Bool
+is_newline b = b == 10
+
+-- a space or a tab
+abbrev pub is_blank : ℕ → Bool
+is_blank b = b == 32 || b == 9
+
+abbrev pub has_some : {A : Type 0} → List A → Bool
+has_some [] = false
+has_some (x ∷ xs) = true
+
+-- what stands before the first `#`
+abbrev pub before_comment : List ℕ → List ℕ
+before_comment [] = []
+before_comment (b ∷ bs) = if b == 35 then [] else b ∷ before_comment bs
+
+-- the words of a line: parted by blanks, up to a comment
+abbrev pub words_of : List ℕ → List (List ℕ)
+words_of line = filter has_some (parts_of is_blank (before_comment line))
+
+abbrev pub lines_of : List ℕ → List (List ℕ)
+lines_of = parts_of is_newline
+
+-- an address as it is written: four numbers with a dot between each two, the highest byte first
+abbrev pub dotted : ℕ → List ℕ
+dotted a = decimal (a / 16777216) ++ 46 ∷ decimal (a / 65536 % 256) ++ 46 ∷ decimal (a / 256 % 256) ++ 46 ∷ decimal (a % 256)
+
+-- an address, a slash, the length of a prefix
+abbrev pub dotted_prefix : ℕ → ℕ → List ℕ
+dotted_prefix a prefix = dotted a ++ 47 ∷ decimal prefix

@@ -1,0 +1,6 @@
+-- What private functions give on the way: nothing that a public contract cites.
+pub mod Reading
+pub mod Tests
+pub mod Best
+pub mod Table
+pub mod Plant

@@ -1,0 +1,34 @@
+-- A plant as the code keeps it.
+use Rattle.std.specs.Prelude.{◌≡◌, false, List, [], ◌∷◌, map, ℕ}
+use Rattle.box_file.specs.declared.plant.Interface as kept
+use Rattle.box_file.specs.declared.routes.Route.{Route}
+use Rattle.box_file.specs.declared.table.Step.{Step}
+use Rattle.box_file.specs.Box.{Interface, RouteTo, PlantTree, Line, IsIndex, interfaces_in, routes_in, defaults_in, is_misformed, has_unknown}
+use Rattle.box_file.specs.steps.Best.{way_tree}
+use Rattle.box_file.specs.steps.Table.{IsTable}
+
+abbrev pub interface_of : kept.Interface → Interface
+interface_of i = record { index = i.index; name = i.name.items; address = i.address; prefix = i.prefix }
+
+abbrev pub plant_tree : List kept.Interface → List Route → ℕ → PlantTree
+plant_tree interfaces routes entering = record { interfaces = map interface_of interfaces; routes = map way_tree routes; entering = entering }
+
+abbrev pub EachIndexed : List Interface → Type 0
+EachIndexed [] = Unit {0}
+EachIndexed (i ∷ is) = IsIndex i.index × EachIndexed is
+
+abbrev pub EachWay : List RouteTo → Type 0
+EachWay [] = Unit {0}
+EachWay (r ∷ rs) = IsIndex r.interface × EachWay rs
+
+-- the steps are the routes' table, and each number of an interface is one
+pub record IsSound (interfaces : List kept.Interface) (routes : List Route) (steps : List Step) (entering : ℕ) : Type 0 where
+  pub table : IsTable steps (map way_tree routes)
+  pub indexes : EachIndexed (map interface_of interfaces)
+  pub ways : EachWay (map way_tree routes)
+  pub entry : IsIndex entering
+
+-- there is one default, and each name is that of an interface
+pub record KnowsNames (lines : List Line) : Type 0 where
+  pub formed : is_misformed (defaults_in lines) ≡ false
+  pub known : has_unknown (interfaces_in lines) (routes_in lines) (defaults_in lines) ≡ false

@@ -1,0 +1,149 @@
+-- Reading a box file from left to right: what the code computes, as functions on lists.
+use Rattle.std.specs.Prelude.{ℕ, ◌+◌, ◌*◌, ◌-◌, ◌^◌, ◌%◌, ◌==◌, ◌&&◌, ◌||◌, not, nat_lt, Bool, true, false, List, [], ◌∷◌, length, map, filter, Option, Some, None, unwrap_or, if◌then◌else◌, codes}
+use Rattle.std.specs.List.{list_all}
+use Rattle.std.specs.Option.{option_map}
+use Rattle.std.specs.Char.{is_ascii_digit}
+use Rattle.std.specs.Str.Parse.{digits_value}
+use Rattle.box_file.specs.declared.line.InterfaceLine.{InterfaceLine}
+use Rattle.box_file.specs.declared.line.RouteLine.{RouteLine}
+use Rattle.box_file.specs.declared.line.Line as kept
+use Rattle.box_file.specs.declared.line.Line.TheVariants as lines
+use Rattle.box_file.specs.Text.{is_blank, has_some, words_of, lines_of}
+use Rattle.box_file.specs.Box.{Interface, NamedRoute, Line, interface_line, route_line, default_line, is_name_byte, same_text}
+
+-- ---- lines without where their names lie in memory
+
+abbrev pub interface_tree : InterfaceLine → Interface
+interface_tree i = record { index = i.index; name = i.name.now; address = i.address; prefix = i.prefix }
+
+abbrev pub route_tree : RouteLine → NamedRoute
+route_tree r = record { address = r.address; prefix = r.prefix; name = r.name.now }
+
+abbrev pub line_tree : kept.Line → Line
+line_tree (lines.Interface i) = interface_line (interface_tree i)
+line_tree (lines.Route r) = route_line (route_tree r)
+line_tree (lines.Default n) = default_line n.now
+
+-- ---- steps
+
+infixl 10 ◌>>=◌
+abbrev pub ◌>>=◌ : {A B : Type 0} → Option A → (A → Option B) → Option B
+None >>= f = None
+(Some x) >>= f = f x
+
+-- the first of a list, and the others
+abbrev pub uncons : {A : Type 0} → List A → Option (A × List A)
+uncons [] = None
+uncons (x ∷ xs) = Some (x, xs)
+
+abbrev pub has_none : {A : Type 0} → List A → Bool
+has_none [] = true
+has_none (x ∷ xs) = false
+
+-- a byte put before the first part
+abbrev pub onto : ℕ → List ℕ × List ℕ → List ℕ × List ℕ
+onto b x = (b ∷ x.0, x.1)
+
+-- what stands before the first such byte, and what follows it
+abbrev pub cut : ℕ → List ℕ → Option (List ℕ × List ℕ)
+cut at [] = None
+cut at (b ∷ bs) = if b == at then Some ([], bs) else option_map (onto b) (cut at bs)
+
+-- the front of a text up to its first newline, and what follows that
+abbrev pub first_line : List ℕ → List ℕ × List ℕ
+first_line bs = unwrap_or (cut 10 bs) (bs, [])
+
+abbrev pub begins_word : ℕ → Bool
+begins_word b = not (is_blank b)
+
+abbrev pub ends_word : ℕ → Bool
+ends_word b = is_blank b || b == 35
+
+-- ---- numbers, names, addresses
+
+-- digits, without a leading zero
+abbrev pub is_numeral : List ℕ → Bool
+is_numeral [] = false
+is_numeral (d ∷ ds) = list_all is_ascii_digit (d ∷ ds) && (not (d == 48) || length ds == 0)
+
+-- the number that all of the bytes write
+unfoldable pub number_in : List ℕ → Option ℕ
+number_in ds = if is_numeral ds && nat_lt (digits_value 10 ds) 4294967296 then Some (digits_value 10 ds) else None
+
+abbrev pub is_name : List ℕ → Bool
+is_name bs = nat_lt 0 (length bs) && nat_lt (length bs) 16 && list_all is_name_byte bs
+
+unfoldable pub name_in : List ℕ → Option (List ℕ)
+name_in bs = if is_name bs then Some bs else None
+
+-- a number of an address
+unfoldable pub octet_in : List ℕ → Option ℕ
+octet_in ds = number_in ds >>= λ n. if nat_lt n 256 then Some n else None
+
+unfoldable pub address_in : List ℕ → Option ℕ
+address_in bs = do
+  a ← cut 46 bs
+  b ← cut 46 a.1
+  c ← cut 46 b.1
+  first ← octet_in a.0
+  second ← octet_in b.0
+  third ← octet_in c.0
+  fourth ← octet_in c.1
+  Some (first * 16777216 + second * 65536 + third * 256 + fourth)
+
+-- an address, and a prefix's length
+unfoldable pub prefixed_in : List ℕ → Option (ℕ × ℕ)
+prefixed_in bs = do
+  a ← cut 47 bs
+  address ← address_in a.0
+  prefix ← number_in a.1
+  if nat_lt prefix 33 then Some (address, prefix) else None
+
+-- ---- lines
+
+-- the words behind `interface`
+unfoldable pub interface_words : List (List ℕ) → Option Line
+interface_words ws = do
+  a ← uncons ws
+  b ← uncons a.1
+  c ← uncons b.1
+  index ← number_in a.0
+  name ← name_in b.0
+  p ← prefixed_in c.0
+  if has_none c.1 && nat_lt 0 index && nat_lt index 2147483648 && nat_lt 0 p.1 then Some (interface_line (record { index = index; name = name; address = p.0; prefix = p.1 })) else None
+
+-- the words behind `route`
+unfoldable pub route_words : List (List ℕ) → Option Line
+route_words ws = do
+  a ← uncons ws
+  b ← uncons a.1
+  p ← prefixed_in a.0
+  name ← name_in b.0
+  if has_none b.1 && p.0 % 2 ^ (32 - p.1) == 0 then Some (route_line (record { address = p.0; prefix = p.1; name = name })) else None
+
+-- the words behind `default`
+unfoldable pub default_words : List (List ℕ) → Option Line
+default_words ws = do
+  a ← uncons ws
+  name ← name_in a.0
+  if has_none a.1 then Some (default_line name) else None
+
+-- the line that begins with the word
+abbrev pub line_of : List ℕ → List (List ℕ) → Option Line
+line_of word ws =
+    if same_text word (codes "interface") then interface_words ws
+    else (if same_text word (codes "route") then route_words ws
+    else (if same_text word (codes "default") then default_words ws
+    else None))
+
+unfoldable pub line_in : List (List ℕ) → Option Line
+line_in ws = uncons ws >>= λ a. line_of a.0 a.1
+
+-- each of the lists of words is a line
+unfoldable pub all_in : List (List (List ℕ)) → Option (List Line)
+all_in [] = Some []
+all_in (t ∷ ts) = line_in t >>= λ l. option_map (λ ls. l ∷ ls) (all_in ts)
+
+-- the lines of a text
+abbrev pub lines_in : List ℕ → Option (List Line)
+lines_in text = all_in (filter has_some (map words_of (lines_of text)))

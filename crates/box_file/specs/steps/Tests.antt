@@ -1,0 +1,48 @@
+-- What the tests of the lines compute: names as numbers, pairs of numbers.
+use Rattle.std.specs.Prelude.{ℕ, ◌+◌, ◌*◌, ◌<◌, ◌%◌, ◌^◌, ◌==◌, ◌&&◌, not, nat_eq, Bool, List, [], ◌∷◌, fold, reverse, Option, Some, None, if◌then◌else◌}
+use Rattle.std.specs.List.{list_any}
+use Rattle.box_file.specs.Box.{Interface, NamedRoute, IsName}
+
+-- one key with two values
+abbrev pub two_values : ℕ × ℕ → ℕ × ℕ → Bool
+two_values x y = x.0 == y.0 && not (x.1 == y.1)
+
+-- none of the known numbers
+abbrev pub is_missing : List ℕ → ℕ → Bool
+is_missing known n = not (list_any (nat_eq n) known)
+
+abbrev pub with_byte : ℕ → ℕ → ℕ
+with_byte key b = (key * 256 % 2 ^ 128 + b) % 2 ^ 128
+
+-- a name's bytes as one number, the first byte lowest
+abbrev pub key_of : List ℕ → ℕ
+key_of n = fold with_byte 0 (reverse n)
+
+-- the value of the first pair with this key
+abbrev pub value_at : ℕ → List (ℕ × ℕ) → Option ℕ
+value_at q [] = None
+value_at q (x ∷ xs) = if x.0 == q then Some x.1 else value_at q xs
+
+abbrev pub index_and_name : Interface → ℕ × ℕ
+index_and_name i = (i.index, key_of i.name)
+
+abbrev pub name_and_index : Interface → ℕ × ℕ
+name_and_index i = (key_of i.name, i.index)
+
+-- a prefix as one number
+abbrev pub prefix_key : NamedRoute → ℕ
+prefix_key r = r.address * 256 + r.prefix
+
+-- ---- what lines say, list by list
+
+abbrev pub EachNamed : List Interface → Type 0
+EachNamed [] = Unit {0}
+EachNamed (i ∷ is) = IsName i.name × EachNamed is
+
+abbrev pub EachShort : List NamedRoute → Type 0
+EachShort [] = Unit {0}
+EachShort (r ∷ rs) = (IsName r.name × (r.prefix < 33)) × EachShort rs
+
+abbrev pub EachName : List (List ℕ) → Type 0
+EachName [] = Unit {0}
+EachName (n ∷ ns) = IsName n × EachName ns

@@ -1,0 +1,230 @@
+//! Finds what the lines of a box file are refused for.
+ghost use Rattle.std.specs.Prelude.{◌≡◌, ◌++◌, map, length, IfOk};
+ghost use Rattle.box_file.specs.Box.{interfaces_in, routes_in, defaults_in, each_is_line, is_repeated, has_unknown, is_too_large, least};
+ghost use Rattle.box_file.specs.steps.Reading.{interface_tree, route_tree, line_tree};
+ghost use Rattle.box_file.specs.steps.Tests.{key_of, index_and_name, name_and_index, prefix_key, EachNamed, EachShort, EachName};
+
+use crate::fault::BoxFault;
+use crate::line::{InterfaceLine, Line, RouteLine};
+use crate::repeats::{has_twice, has_two_values, has_unknown};
+use std::alloc::{AllocError, Global};
+
+/// A longer text is refused.
+const MOST_BYTES: usize = 1_048_576;
+/// More interface lines are refused.
+const MOST_INTERFACES: usize = 64;
+/// More route lines are refused.
+const MOST_ROUTES: usize = 1024;
+
+/// The interface lines among the lines.
+pub fn interfaces<'t>(
+    alloc: Global,
+    lines: &[Line<'t>],
+) -> Result<Vec<InterfaceLine<'t>>, AllocError>
+    ensures { IfOk result (λ v. map interface_tree v.items
+        ≡ interfaces_in (map line_tree lines.now)) }
+{
+    let mut found = Vec::new(alloc);
+    for line in lines {
+        if let Line::Interface(interface) = line {
+            found.push(*interface)?;
+        }
+    }
+    Ok(found)
+}
+
+/// The route lines among the lines.
+fn routes<'t>(alloc: Global, lines: &[Line<'t>]) -> Result<Vec<RouteLine<'t>>, AllocError>
+    ensures { IfOk result (λ v. map route_tree v.items ≡ routes_in (map line_tree lines.now)) }
+{
+    let mut found = Vec::new(alloc);
+    for line in lines {
+        if let Line::Route(route) = line {
+            found.push(*route)?;
+        }
+    }
+    Ok(found)
+}
+
+/// The names of the default lines.
+pub fn defaults<'t>(alloc: Global, lines: &[Line<'t>]) -> Result<Vec<&'t [u8]>, AllocError>
+    ensures { IfOk result (λ v. map (λ n. n.now) v.items ≡ defaults_in (map line_tree lines.now)) }
+{
+    let mut found = Vec::new(alloc);
+    for line in lines {
+        if let Line::Default(name) = line {
+            found.push(*name)?;
+        }
+    }
+    Ok(found)
+}
+
+/// A name's bytes as one number, the first byte lowest: other names have other numbers, since no
+/// byte of a name is 0.
+fn name_key(name: &[u8]) -> u128
+    ensures { result ≡ key_of name.now }
+{
+    name.iter().rev().fold(
+        0u128,
+        |key, byte| key.wrapping_mul(256).wrapping_add(u128::from(*byte)),
+    )
+}
+
+fn index_names(alloc: Global, interfaces: &[InterfaceLine]) -> Result<Vec<(u128, u128)>, AllocError>
+    ensures { IfOk result (λ v. v.items ≡ map index_and_name (map interface_tree interfaces.now)) }
+{
+    let mut found = Vec::new(alloc);
+    for interface in interfaces {
+        found.push((u128::from(interface.index), name_key(interface.name)))?;
+    }
+    Ok(found)
+}
+
+fn name_indexes(
+    alloc: Global,
+    interfaces: &[InterfaceLine],
+) -> Result<Vec<(u128, u128)>, AllocError>
+    ensures { IfOk result (λ v. v.items ≡ map name_and_index (map interface_tree interfaces.now)) }
+{
+    let mut found = Vec::new(alloc);
+    for interface in interfaces {
+        found.push((name_key(interface.name), u128::from(interface.index)))?;
+    }
+    Ok(found)
+}
+
+fn addresses(alloc: Global, interfaces: &[InterfaceLine]) -> Result<Vec<u128>, AllocError>
+    ensures { IfOk result (λ v. v.items
+        ≡ map (λ i. i.address) (map interface_tree interfaces.now)) }
+{
+    let mut found = Vec::new(alloc);
+    for interface in interfaces {
+        found.push(u128::from(interface.address))?;
+    }
+    Ok(found)
+}
+
+/// Each route's address and prefix as one number.
+fn prefixes(alloc: Global, routes: &[RouteLine]) -> Result<Vec<u128>, AllocError>
+    ensures { IfOk result (λ v. v.items ≡ map prefix_key (map route_tree routes.now)) }
+{
+    let mut found = Vec::new(alloc);
+    for route in routes {
+        found.push(u128::from(route.address) * 256 + u128::from(route.prefix))?;
+    }
+    Ok(found)
+}
+
+fn interface_names(alloc: Global, interfaces: &[InterfaceLine]) -> Result<Vec<u128>, AllocError>
+    ensures { IfOk result (λ v. v.items
+        ≡ map (λ i. key_of i.name) (map interface_tree interfaces.now)) }
+{
+    let mut found = Vec::new(alloc);
+    for interface in interfaces {
+        found.push(name_key(interface.name))?;
+    }
+    Ok(found)
+}
+
+fn route_names(alloc: Global, routes: &[RouteLine]) -> Result<Vec<u128>, AllocError>
+    ensures { IfOk result (λ v. v.items ≡ map (λ r. key_of r.name) (map route_tree routes.now)) }
+{
+    let mut found = Vec::new(alloc);
+    for route in routes {
+        found.push(name_key(route.name))?;
+    }
+    Ok(found)
+}
+
+/// The names of the routes, and then of the defaults.
+fn used_names(
+    alloc: Global,
+    routes: &[RouteLine],
+    defaults: &[&[u8]],
+) -> Result<Vec<u128>, AllocError>
+    ensures { IfOk result (λ v. v.items
+        ≡ map (λ r. key_of r.name) (map route_tree routes.now)
+        ++ map key_of (map (λ n. n.now) defaults.now)) }
+{
+    let mut found = route_names(alloc, routes)?;
+    for name in defaults {
+        found.push(name_key(name))?;
+    }
+    Ok(found)
+}
+
+/// Whether an index has two names, a name two indexes, or an address or a route's prefix stands
+/// twice.
+fn is_repeated(
+    alloc: Global,
+    interfaces: &[InterfaceLine],
+    routes: &[RouteLine],
+) -> Result<bool, AllocError>
+    requires named { EachNamed (map interface_tree interfaces.now) }
+    requires short { EachShort (map route_tree routes.now) }
+    ensures { IfOk result (λ r. r
+        ≡ is_repeated (map interface_tree interfaces.now) (map route_tree routes.now)) }
+{
+    let by_index = index_names(alloc, interfaces)?;
+    if has_two_values(alloc, &by_index)? {
+        return Ok(true);
+    }
+    let by_name = name_indexes(alloc, interfaces)?;
+    if has_two_values(alloc, &by_name)? {
+        return Ok(true);
+    }
+    let own = addresses(alloc, interfaces)?;
+    if has_twice(alloc, &own)? {
+        return Ok(true);
+    }
+    let networks = prefixes(alloc, routes)?;
+    has_twice(alloc, &networks)
+}
+
+/// Whether a route or the default names no interface.
+fn names_none(
+    alloc: Global,
+    interfaces: &[InterfaceLine],
+    routes: &[RouteLine],
+    defaults: &[&[u8]],
+) -> Result<bool, AllocError>
+    requires named { EachNamed (map interface_tree interfaces.now) }
+    requires short { EachShort (map route_tree routes.now) }
+    requires names { EachName (map (λ n. n.now) defaults.now) }
+    ensures { IfOk result (λ r. r
+        ≡ has_unknown (map interface_tree interfaces.now) (map route_tree routes.now) (map (λ n. n.now) defaults.now)) }
+{
+    let known = interface_names(alloc, interfaces)?;
+    let used = used_names(alloc, routes, defaults)?;
+    has_unknown(alloc, &known, &used)
+}
+
+/// Whether the text or the number of its lines is above a limit.
+fn is_too_large(text: &[u8], interfaces: &[InterfaceLine], routes: &[RouteLine]) -> bool
+    ensures { result ≡ is_too_large text.now (map interface_tree interfaces.now) (map route_tree routes.now) }
+{
+    text.len() > MOST_BYTES || interfaces.len() > MOST_INTERFACES || routes.len() > MOST_ROUTES
+}
+
+/// The least fault that applies, of a text that is these lines.
+pub fn fault_of(alloc: Global, text: &[u8], lines: &[Line]) -> Result<Option<BoxFault>, AllocError>
+    requires { each_is_line (map line_tree lines.now) }
+    ensures { IfOk result (λ o. o ≡ least text.now (map line_tree lines.now)) }
+{
+    let interfaces = interfaces(alloc, lines)?;
+    let routes = routes(alloc, lines)?;
+    let defaults = defaults(alloc, lines)?;
+    if defaults.len() != 1 {
+        return Ok(Some(BoxFault::Form));
+    }
+    if is_repeated(alloc, &interfaces, &routes)? {
+        return Ok(Some(BoxFault::Repeated));
+    }
+    if names_none(alloc, &interfaces, &routes, &defaults)? {
+        return Ok(Some(BoxFault::UnknownName));
+    }
+    if is_too_large(text, &interfaces, &routes) {
+        return Ok(Some(BoxFault::TooLarge));
+    }
+    Ok(None)
+}

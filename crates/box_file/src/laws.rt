@@ -1,0 +1,20 @@
+//! Laws of box files, each as the contract of a function that does nothing.
+ghost use Rattle.std.specs.Prelude.{◌≡◌, ◌⊎◌, List, ℕ};
+ghost use Rattle.box_file.specs.declared.fault.BoxFault.{BoxFault};
+ghost use Rattle.box_file.specs.Box.{PlantTree, IsBox, HasBoxFault};
+
+/// A text has at most one plant, at most one fault, and never both.
+pub fn one_box()
+    ensures plant { (text : List ℕ) (plant other : PlantTree) → IsBox text plant
+        → IsBox text other → plant ≡ other }
+    ensures fault { (text : List ℕ) (fault other : BoxFault) → HasBoxFault text fault
+        → HasBoxFault text other → fault ≡ other }
+    ensures never_both { (text : List ℕ) (plant : PlantTree) (fault : BoxFault)
+        → IsBox text plant → HasBoxFault text fault → ⊥ }
+{}
+
+/// Each text has a plant or a fault.
+pub fn some_box()
+    ensures { (text : List ℕ) → ((plant : PlantTree) × IsBox text plant)
+        ⊎ ((fault : BoxFault) × HasBoxFault text fault) }
+{}

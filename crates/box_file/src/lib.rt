@@ -1,0 +1,18 @@
+//! Reads a box file: a box's interfaces with their addresses, its routes, and the interface that
+//! packets enter by; and looks things up in it.
+#![tactic(auto)]
+
+mod checks;
+mod fault;
+mod laws;
+mod line;
+mod numbers;
+mod plant;
+mod repeats;
+mod routes;
+mod table;
+mod words;
+
+pub use fault::{BoxError, BoxFault};
+pub use laws::{one_box, some_box};
+pub use plant::{IfIndex, Plant};

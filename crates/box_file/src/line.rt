@@ -1,0 +1,133 @@
+//! Reads the lines of a box file.
+ghost use Rattle.std.specs.Prelude.{◌≡◌, map, IfOk};
+ghost use Rattle.std.specs.Option.{option_map};
+ghost use Rattle.box_file.specs.Text.{words_of};
+ghost use Rattle.box_file.specs.steps.Reading.{has_none, interface_words, route_words, default_words, line_of, lines_in, line_tree};
+
+use crate::numbers::{is_network, name, number, prefixed};
+use crate::words::{first_line, word};
+use std::alloc::{AllocError, Global};
+
+/// `interface 2 lan 192.168.1.1/24`. Its name borrows the text.
+#[derive(Clone, Copy)]
+pub struct InterfaceLine<'t> {
+    pub index: u32,
+    pub name: &'t [u8],
+    pub address: u32,
+    pub prefix: u8,
+}
+
+/// `route 0.0.0.0/0 wan`. Its name borrows the text.
+#[derive(Clone, Copy)]
+pub struct RouteLine<'t> {
+    pub address: u32,
+    pub prefix: u8,
+    pub name: &'t [u8],
+}
+
+/// A line of a box file.
+#[derive(Clone, Copy)]
+pub enum Line<'t> {
+    Interface(InterfaceLine<'t>),
+    Route(RouteLine<'t>),
+    /// `default lan`, with the name alone.
+    Default(&'t [u8]),
+}
+
+/// Whether no word follows.
+fn is_end(rest: &[u8]) -> bool
+    ensures { result ≡ has_none (words_of rest.now) }
+{
+    word(rest).is_none()
+}
+
+/// What follows `interface`.
+#[tactic(auto, unfolding(crate::specs::steps::Reading::interface_words))]
+fn interface(rest: &[u8]) -> Option<Line<'_>>
+    ensures { option_map line_tree result ≡ interface_words (words_of rest.now) }
+{
+    let (index, rest) = word(rest)?;
+    let (own_name, rest) = word(rest)?;
+    let (place, rest) = word(rest)?;
+    let index = number(index)?;
+    let name = name(own_name)?;
+    let (address, prefix) = prefixed(place)?;
+    if is_end(rest) && 0 < index && index < 2_147_483_648 && 0 < prefix {
+        Some(Line::Interface(InterfaceLine {
+            index,
+            name,
+            address,
+            prefix,
+        }))
+    } else {
+        None
+    }
+}
+
+/// What follows `route`.
+#[tactic(auto, unfolding(crate::specs::steps::Reading::route_words, crate::specs::steps::Reading::prefixed_in))]
+fn route(rest: &[u8]) -> Option<Line<'_>>
+    ensures { option_map line_tree result ≡ route_words (words_of rest.now) }
+{
+    let (place, rest) = word(rest)?;
+    let (out_name, rest) = word(rest)?;
+    let (address, prefix) = prefixed(place)?;
+    let name = name(out_name)?;
+    if is_end(rest) && is_network(address, prefix) {
+        Some(Line::Route(RouteLine {
+            address,
+            prefix,
+            name,
+        }))
+    } else {
+        None
+    }
+}
+
+/// What follows `default`.
+#[tactic(auto, unfolding(crate::specs::steps::Reading::default_words))]
+fn default(rest: &[u8]) -> Option<Line<'_>>
+    ensures { option_map line_tree result ≡ default_words (words_of rest.now) }
+{
+    let (in_name, rest) = word(rest)?;
+    let name = name(in_name)?;
+    if is_end(rest) {
+        Some(Line::Default(name))
+    } else {
+        None
+    }
+}
+
+/// The line that begins with the word, and goes on with what follows it.
+fn line_of<'t>(first: &[u8], rest: &'t [u8]) -> Option<Line<'t>>
+    ensures { option_map line_tree result ≡ line_of first.now (words_of rest.now) }
+{
+    if first == b"interface".as_slice() {
+        interface(rest)
+    } else if first == b"route".as_slice() {
+        route(rest)
+    } else if first == b"default".as_slice() {
+        default(rest)
+    } else {
+        None
+    }
+}
+
+/// The lines of a text, those without words left out; none where one of them is no line.
+pub fn lines<'t>(alloc: Global, text: &'t [u8]) -> Result<Option<Vec<Line<'t>>>, AllocError>
+    ensures { IfOk result (λ o. option_map (λ v. map line_tree v.items) o ≡ lines_in text.now) }
+{
+    let mut found = Vec::new(alloc);
+    let mut rest = text;
+    while !rest.is_empty() {
+        let (front, after) = first_line(rest);
+        if let Some((first, others)) = word(front) {
+            let Some(line) = line_of(first, others) else {
+                return Ok(None);
+            };
+            found.push(line)?;
+        }
+        rest = after;
+    }
+    Ok(Some(found))
+}

@@ -1,0 +1,284 @@
+//! A box: its interfaces, its routes, the interface that packets enter by.
+ghost use Rattle.std.specs.Prelude.{◌≡◌, map, find, unwrap_or, false, IfOk, IfErr, IfSome};
+ghost use Rattle.std.specs.List.{filter_map};
+ghost use Rattle.std.specs.Option.{option_map};
+ghost use Rattle.box_file.specs.Box.{has_address, has_index, is_named, index_of, known_index, route_to, entering_of, plant_of, IsBox, IsBoxRefusal, IsIndex, route, is_own, owner, first_address, named, name_of, each_is_line};
+ghost use Rattle.box_file.specs.steps.Reading.{interface_tree, line_tree};
+ghost use Rattle.box_file.specs.steps.Best.{way_tree};
+ghost use Rattle.box_file.specs.steps.Plant.{interface_of, KnowsNames};
+
+use crate::checks::{defaults, fault_of, interfaces};
+use crate::fault::{BoxError, BoxFault};
+use crate::line::{InterfaceLine, Line, lines};
+use crate::routes::Route;
+use crate::table::{Step, look_up, table};
+use crate::words::same_text;
+use std::alloc::{AllocError, Global};
+use std::marker::Model;
+
+/// The number of an interface, 1 to 2147483647, as the kernel counts them.
+pub type IfIndex = u32;
+
+/// The first multicast address (RFC 5771): packets to it and above are not routed.
+const FIRST_MULTICAST: u32 = 0xe000_0000;
+
+/// An interface with one of its addresses.
+#[derive(Drop)]
+struct Interface {
+    index: IfIndex,
+    name: Vec<u8>,
+    address: u32,
+    prefix: u8,
+}
+
+/// What a box file says, ready to be asked.
+#[derive(Drop)]
+pub struct Plant {
+    /// One for each interface line, in text order.
+    interfaces: Vec<Interface>,
+    /// In text order; an interface's own prefix stands at the place of its line.
+    routes: Vec<Route>,
+    /// The routes as a table.
+    steps: Vec<Step>,
+    /// The interface that packets of a capture without interfaces enter by.
+    entering: IfIndex,
+}
+
+impl Model for Plant {
+    ghost use Rattle.box_file.specs.Box.{PlantTree};
+    ghost use Rattle.box_file.specs.steps.Plant.{plant_tree, IsSound};
+
+    ghost Value = { PlantTree };
+
+    ghost view = { λ p. plant_tree p.interfaces.items p.routes.items p.entering };
+
+    ghost invariant = { λ p. IsSound p.interfaces.items p.routes.items p.steps.items p.entering };
+}
+
+/// The interfaces with their names copied.
+fn copied(alloc: Global, lines: &[InterfaceLine]) -> Result<Vec<Interface>, AllocError>
+    ensures { IfOk result (λ v. map interface_of v.items ≡ map interface_tree lines.now) }
+{
+    let mut found = Vec::new(alloc);
+    for line in lines {
+        let name = Vec::from_slice(alloc, line.name)?;
+        found.push(Interface {
+            index: line.index,
+            name,
+            address: line.address,
+            prefix: line.prefix,
+        })?;
+    }
+    Ok(found)
+}
+
+/// The index of the first interface line with this name.
+fn index_of(lines: &[InterfaceLine], name: &[u8]) -> Option<IfIndex>
+    ensures { result ≡ index_of (map interface_tree lines.now) name.now }
+{
+    let mut rest = lines;
+    while let [line, others @ ..] = rest {
+        if same_text(line.name, name) {
+            return Some(line.index);
+        }
+        rest = others;
+    }
+    None
+}
+
+/// The same where some line has the name.
+fn known_index(lines: &[InterfaceLine], name: &[u8]) -> IfIndex
+    ensures { result ≡ known_index (map interface_tree lines.now) name.now }
+{
+    index_of(lines, name).unwrap_or(0)
+}
+
+/// The route that the line gives: an interface's line gives one to its own prefix.
+fn route_to(interfaces: &[InterfaceLine], line: &Line) -> Option<Route>
+    ensures { option_map way_tree result
+        ≡ route_to (map interface_tree interfaces.now) (line_tree line.now) }
+{
+    match line {
+        Line::Interface(interface) => Some(Route {
+            address: interface.address,
+            prefix: interface.prefix,
+            interface: interface.index,
+        }),
+        Line::Route(route) => Some(Route {
+            address: route.address,
+            prefix: route.prefix,
+            interface: known_index(interfaces, route.name),
+        }),
+        Line::Default(_) => None,
+    }
+}
+
+/// The routes that the lines give, in text order.
+fn routes(
+    alloc: Global,
+    interfaces: &[InterfaceLine],
+    lines: &[Line],
+) -> Result<Vec<Route>, AllocError>
+    ensures { IfOk result (λ v. map way_tree v.items
+        ≡ filter_map (route_to (map interface_tree interfaces.now)) (map line_tree lines.now)) }
+{
+    let mut found = Vec::new(alloc);
+    for line in lines {
+        if let Some(route) = route_to(interfaces, line) {
+            found.push(route)?;
+        }
+    }
+    Ok(found)
+}
+
+/// The index of the interface that the first default names.
+fn entering(interfaces: &[InterfaceLine], defaults: &[&[u8]]) -> IfIndex
+    ensures { result ≡ entering_of (map interface_tree interfaces.now) (map (λ n. n.now) defaults.now) }
+{
+    match defaults {
+        [] => 0,
+        [name, ..] => known_index(interfaces, name),
+    }
+}
+
+/// The plant of faultless lines.
+fn plant_of(alloc: Global, lines: &[Line]) -> Result<Plant, AllocError>
+    requires lines { each_is_line (map line_tree lines.now) }
+    requires names { KnowsNames (map line_tree lines.now) }
+    ensures { IfOk result (λ plant. plant ≡ plant_of (map line_tree lines.now)) }
+{
+    let found = interfaces(alloc, lines)?;
+    let defaults = defaults(alloc, lines)?;
+    let entering = entering(&found, &defaults);
+    let interfaces = copied(alloc, &found)?;
+    let routes = routes(alloc, &found, lines)?;
+    let steps = table(alloc, &routes)?;
+    Ok(Plant {
+        interfaces,
+        routes,
+        steps,
+        entering,
+    })
+}
+
+/// The first interface with this address.
+fn with_address(interfaces: &[Interface], address: u32) -> Option<&Interface>
+    ensures { option_map (λ i. interface_of i.now) result
+        ≡ find (has_address address) (map interface_of interfaces.now) }
+{
+    let mut rest = interfaces;
+    while let [interface, others @ ..] = rest {
+        if interface.address == address {
+            return Some(interface);
+        }
+        rest = others;
+    }
+    None
+}
+
+/// The first interface with this index.
+fn with_index(interfaces: &[Interface], index: IfIndex) -> Option<&Interface>
+    ensures { option_map (λ i. interface_of i.now) result
+        ≡ find (has_index index) (map interface_of interfaces.now) }
+{
+    let mut rest = interfaces;
+    while let [interface, others @ ..] = rest {
+        if interface.index == index {
+            return Some(interface);
+        }
+        rest = others;
+    }
+    None
+}
+
+/// The first interface with this name.
+fn with_name<'p>(interfaces: &'p [Interface], name: &[u8]) -> Option<&'p Interface>
+    ensures { option_map (λ i. interface_of i.now) result
+        ≡ find (is_named name.now) (map interface_of interfaces.now) }
+{
+    let mut rest = interfaces;
+    while let [interface, others @ ..] = rest {
+        if same_text(&interface.name, name) {
+            return Some(interface);
+        }
+        rest = others;
+    }
+    None
+}
+
+impl Plant {
+    /// The box that the text spells, or the least fault that applies.
+    pub fn read(alloc: Global, text: &[u8]) -> Result<Plant, BoxError>
+        ensures ok { IfOk result (λ plant. IsBox text.now plant) }
+        ensures refused { IfErr result (λ error. IsBoxRefusal text.now error) }
+    {
+        let Some(lines) = lines(alloc, text)? else {
+            return Err(BoxError::Refused(BoxFault::Form));
+        };
+        if let Some(fault) = fault_of(alloc, text, &lines)? {
+            return Err(BoxError::Refused(fault));
+        }
+        Ok(plant_of(alloc, &lines)?)
+    }
+
+    /// The interface that packets to the address leave by: of the routes that cover it one of
+    /// greatest prefix, the first in the text; none for 224.0.0.0 and above.
+    pub fn route(&self, address: u32) -> Option<IfIndex>
+        ensures value { result ≡ route self.now address }
+        ensures index { IfSome result IsIndex }
+    {
+        if address >= FIRST_MULTICAST {
+            return None;
+        }
+        look_up(&self.steps, u64::from(address))
+    }
+
+    /// Whether the address is one of the box's own.
+    pub fn is_own(&self, address: u32) -> bool
+        ensures { result ≡ is_own self.now address }
+    {
+        with_address(&self.interfaces, address).is_some()
+    }
+
+    /// The interface that has the address.
+    pub fn owner(&self, address: u32) -> Option<IfIndex>
+        ensures value { result ≡ owner self.now address }
+        ensures index { IfSome result IsIndex }
+    {
+        let interface = with_address(&self.interfaces, address)?;
+        Some(interface.index)
+    }
+
+    /// The first address of the interface in the text.
+    pub fn first_address(&self, index: IfIndex) -> Option<u32>
+        ensures { result ≡ first_address self.now index }
+    {
+        let interface = with_index(&self.interfaces, index)?;
+        Some(interface.address)
+    }
+
+    /// The interface of the name.
+    pub fn named(&self, name: &[u8]) -> Option<IfIndex>
+        ensures value { result ≡ named self.now name.now }
+        ensures index { IfSome result IsIndex }
+    {
+        let interface = with_name(&self.interfaces, name)?;
+        Some(interface.index)
+    }
+
+    /// The name of the interface.
+    pub fn name(&self, index: IfIndex) -> Option<&[u8]>
+        ensures { option_map (λ n. n.now) result ≡ name_of self.now index }
+    {
+        let interface = with_index(&self.interfaces, index)?;
+        Some(&interface.name)
+    }
+
+    /// The interface that packets of a capture without interfaces enter by.
+    pub fn entering(&self) -> IfIndex
+        ensures value { result ≡ self.now.entering }
+        ensures index { IsIndex result }
+    {
+        self.entering
+    }
+}
