@@ -1,5 +1,5 @@
 -- What the program calls, and what it is answered.
-use Rattle.std.specs.Prelude.{◌≡◌, ℕ, Bool, List, [], ◌∷◌, Result, Ok, Err, Vec, ⊤}
+use Rattle.std.specs.Prelude.{◌≡◌, ℕ, Bool, List, [], ◌∷◌, Result, Ok, Err, Vec, String, map, string_bytes, ⊤}
 use Rattle.std.specs.declared.io.Error.{Error}
 use Rattle.clap.specs.declared.error.kind.ErrorKind.{ErrorKind}
 use Rattle.engine.specs.declared.fault.RunFault.{RunFault}
@@ -11,6 +11,8 @@ Text = List ℕ
 
 -- a call with its arguments and its answer; Input and Output are files open for reading and for writing
 pub data Call (Input Output : Type 0) : Type 0 where
+  -- the process's words, of which the first is the program's name
+  words : Result (List Text) Error → Call Input Output
   -- a file's bytes, all of them
   read : Text → Result (List ℕ) Error → Call Input Output
   -- a file opened for reading
@@ -27,6 +29,11 @@ pub data Call (Input Output : Type 0) : Type 0 where
   tell : Status → Call Input Output
   -- what clap says of the words
   explain : ErrorKind → Result ⊤ Error → Call Input Output
+
+-- the bytes of the words that are answered
+abbrev pub texts_of : {Y Z : Type 0} → Result (Vec (String Y) Z) Error → Result (List Text) Error
+texts_of (Ok v) = Ok (map string_bytes v.items)
+texts_of (Err error) = Err error
 
 -- the bytes that a read answers
 abbrev pub bytes_of : {Z : Type 0} → Result (Vec ℕ Z) Error → Result (List ℕ) Error

@@ -1,11 +1,11 @@
--- What the program does for its words: the calls in their order, and the exit status.
+-- What the program does: the calls in their order, and the exit status.
 use Rattle.std.specs.Prelude.{◌≡◌, ◌⊎◌, ◌++◌, ℕ, true, List, [], ◌∷◌, Ok, Err, if◌then◌else◌}
 use Rattle.clap.specs.declared.error.kind.ErrorKind.{ErrorKind}
 use Rattle.clap.specs.declared.error.kind.ErrorKind.TheVariants.{DisplayHelp, DisplayVersion, OutOfMemory}
 use Rattle.command_line.specs.CommandLine.{Asks, is_well_formed}
 use Rattle.command_line.specs.declared.task.Paths.{Paths}
 use Rattle.command_line.specs.declared.task.Task.TheVariants.{Run}
-use Rattle.program.specs.Calls.{Call, Text, explain, tell}
+use Rattle.program.specs.Calls.{Call, Text, words, explain, tell}
 use Rattle.program.specs.Replaying.{Replays}
 use Rattle.program.specs.Status.{code_of, has_line, of_error}
 use Rattle.program.specs.declared.status.Status.{Status}
@@ -25,17 +25,23 @@ Explains kind (explain k (Err error) ∷ []) status = (k ≡ kind) × (status �
 Explains _ _ _ = ⊥
 
 -- the words ask for a run, or they are no task; words of the right form are none only where there was no room to grow
-abbrev pub Does : {I O : Type 0} → List Text → List (Call I O) → Status → Type 0
-Does words calls status =
-    ((paths : Paths) × Asks words (Run paths) × Replays paths calls status)
-    ⊎ ((kind : ErrorKind) × (is_well_formed words ≡ true → kind ≡ OutOfMemory) × Explains kind calls status)
+abbrev pub Acts : {I O : Type 0} → List Text → List (Call I O) → Status → Type 0
+Acts given calls status =
+    ((paths : Paths) × Asks given (Run paths) × Replays paths calls status)
+    ⊎ ((kind : ErrorKind) × (is_well_formed given ≡ true → kind ≡ OutOfMemory) × Explains kind calls status)
+
+-- the words are had, and then it is done what they ask for
+abbrev pub Does : {I O : Type 0} → List (Call I O) → Status → Type 0
+Does (words (Err error) ∷ []) status = status ≡ of_error error
+Does (words (Ok given) ∷ calls) status = Acts given calls status
+Does _ _ = ⊥
 
 -- the line of a status that has one
 abbrev pub lines_of : {I O : Type 0} → Status → List (Call I O)
 lines_of status = if has_line status then tell status ∷ [] else []
 
 -- all that is called, with the line of the status last, and the exit status
-abbrev pub Performs : {I O : Type 0} → List Text → List (Call I O) → ℕ → Type 0
-Performs {I = I} {O = O} words calls code =
-    (before : List (Call I O)) × (status : Status) × Does words before status
+abbrev pub Performs : {I O : Type 0} → List (Call I O) → ℕ → Type 0
+Performs {I = I} {O = O} calls code =
+    (before : List (Call I O)) × (status : Status) × Does before status
     × (calls ≡ before ++ lines_of status) × (code ≡ code_of status)

@@ -4,8 +4,8 @@ use clap::Error;
 use engine::RunFault;
 use std::io;
 
-/// What stands around the program: the files by their paths, the run over them, and the lines
-/// that it prints.
+/// What stands around the program: its words, the files by their paths, the run over them,
+/// and the lines that it prints.
 ///
 /// No contract can say what a file holds. So a host knows each call by a relation of its own: the
 /// moment before it, the call with its arguments and its answer, and the moment after it. What is
@@ -15,7 +15,7 @@ pub trait Host {
     ghost use Rattle.std.specs.Prelude.{◌≡◌};
     ghost use Rattle.std.specs.Result.{result_map_both};
     ghost use Rattle.clap.specs.Values.{kind_of};
-    ghost use Rattle.program.specs.Calls.{Call, read, open_input, compare, create, run, close, tell, explain, bytes_of};
+    ghost use Rattle.program.specs.Calls.{Call, words, read, open_input, compare, create, run, close, tell, explain, texts_of, bytes_of};
 
     /// A capture open for reading.
     type Input: Drop;
@@ -25,6 +25,10 @@ pub trait Host {
 
     /// Whether this call may lead from the first moment to the second.
     ghost happens: { Self → Call Self.Input Self.Output → Self → Type 0 };
+
+    /// The process's words, of which the first is the program's name.
+    fn words(&mut self) -> io::Result<Vec<String>>
+        ensures { happens self.old (words (texts_of result)) self.new };
 
     /// All bytes of a file.
     fn read(&mut self, path: &str) -> io::Result<Vec<u8>>

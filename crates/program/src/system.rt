@@ -1,13 +1,10 @@
 //! The system's own files and outputs, and the run over them.
-ghost use Rattle.std.specs.Prelude.{◌≡◌, IfOk, map, string_bytes};
-
 use crate::host::Host;
 use crate::performing::perform;
 use crate::status::Status;
 use clap::Error;
 use engine::RunFault;
 use pcap_io::Counted;
-use std::alloc::{AllocError, Global};
 use std::env::{self, Env};
 use std::os::fd::IntoRawFd;
 use std::os::unix::fs::MetadataExt;
@@ -20,7 +17,7 @@ struct System<'a, R> {
     rt: &'a R,
 }
 
-impl<R: Files + Print + Eprint + AllocGlobal> Host for System<'_, R>
+impl<R: Env + Files + Print + Eprint + AllocGlobal> Host for System<'_, R>
 where
     R::File: IntoRawFd,
 {
@@ -32,6 +29,10 @@ where
 
     // What files hold can't be said. What a run gives for its texts and its capture can.
     ghost happens = { λ _ call _. Promised (λ c. R.File.remaining c.inner) (λ c. R.File.contents c.inner) call };
+
+    fn words(&mut self) -> io::Result<Vec<String>> {
+        Ok(env::args(self.rt)?.collect(self.rt.alloc())?)
+    }
 
     fn read(&mut self, path: &str) -> io::Result<Vec<u8>> {
         fs::read(self.rt, path)
@@ -99,31 +100,5 @@ pub fn start<R: Env + Files + Print + Eprint + AllocGlobal>(rt: &R) -> u8
 where
     R::File: IntoRawFd,
 {
-    let mut system = System { rt };
-    match start_words(rt, &mut system) {
-        Ok(code) => code,
-        Err(error) => {
-            let status = Status::of_io(&error);
-            system.tell(status);
-            status.code()
-        }
-    }
-}
-
-/// Fails where the words can't be had.
-fn start_words<R: Env + AllocGlobal, H: Host>(rt: &R, host: &mut H) -> io::Result<u8> {
-    let alloc: Global = rt.alloc();
-    let words: Vec<String> = env::args(rt)?.collect(alloc)?;
-    let slices = slices_of(alloc, &words)?;
-    Ok(perform(alloc, host, &slices))
-}
-
-fn slices_of<'a>(alloc: Global, words: &'a [String]) -> Result<Vec<&'a str>, AllocError>
-    ensures { IfOk result (λ slices. map (λ slice. slice.now) slices.items ≡ map string_bytes words.entry.now) }
-{
-    let mut slices = Vec::new(alloc);
-    for word in words {
-        slices.push(word.as_str())?;
-    }
-    Ok(slices)
+    perform(rt.alloc(), &mut System { rt })
 }
