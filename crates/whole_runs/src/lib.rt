@@ -8,6 +8,8 @@ mod faults;
 #[cfg(test)]
 mod parts;
 #[cfg(test)]
+mod programs;
+#[cfg(test)]
 mod runs;
 #[cfg(test)]
 mod texts;
