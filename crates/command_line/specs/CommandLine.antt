@@ -1,0 +1,39 @@
+-- What the words of the command line ask for.
+use Rattle.std.specs.Prelude.{◌≡◌, ◌==◌, ◌&&◌, Bool, true, not, List, [], ◌∷◌}
+use Rattle.std.specs.Prelude.{codes, if◌then◌else◌, false}
+use Rattle.std.specs.List.{list_all}
+use Rattle.std.specs.Str.{bytes_eq}
+use Rattle.clap.specs.Words.{Text}
+use Rattle.command_line.specs.declared.task.Task.{Task}
+use Rattle.command_line.specs.declared.task.Task.TheVariants.{Run}
+use Rattle.command_line.specs.declared.task.Paths.{Paths}
+
+-- the words after `run` that are paths: all but the first `--`
+abbrev pub operands : List Text → List Text
+operands [] = []
+operands (word ∷ rest) = if bytes_eq word (codes "--") then rest else word ∷ operands rest
+
+abbrev pub texts_of : Paths → List Text
+texts_of p = p.rules.now ∷ p.plant.now ∷ p.input.now ∷ p.output.now ∷ []
+
+-- the words ask for this task: they are the program's name, `run` and the four paths
+abbrev pub Asks : List Text → Task → Type 0
+Asks (program ∷ name ∷ rest) (Run paths) =
+    (name ≡ codes "run") × (operands rest ≡ texts_of paths)
+Asks _ _ = ⊥
+
+-- the word is read as a path wherever it stands: it is `-`, or does not begin with a hyphen
+abbrev pub is_plain_word : Text → Bool
+is_plain_word (c ∷ x ∷ rest) = not (c == 45)
+is_plain_word _ = true
+
+-- `run` and four paths, where each path is plain or they all stand after `--`
+abbrev pub is_run : List Text → Bool
+is_run (a ∷ b ∷ c ∷ d ∷ []) = list_all is_plain_word (a ∷ b ∷ c ∷ d ∷ [])
+is_run (dashes ∷ a ∷ b ∷ c ∷ d ∷ []) = bytes_eq dashes (codes "--")
+is_run _ = false
+
+-- the words are a task
+abbrev pub is_well_formed : List Text → Bool
+is_well_formed (program ∷ name ∷ rest) = bytes_eq name (codes "run") && is_run rest
+is_well_formed _ = false

@@ -1,0 +1,21 @@
+-- The command of clap that reads the words.
+use Rattle.std.specs.Prelude.{codes, true}
+use Rattle.clap.specs.Words.{App, Rule, Shape, Text, new_app, new_rule, with_rule, with_subcommand}
+
+abbrev pub path_rule : Text → Rule
+path_rule id = record (new_rule id) { value_names = 1; required = true }
+
+abbrev pub run_app : App
+run_app =
+    with_rule (with_rule (with_rule (with_rule (new_app (codes "run")) (path_rule (codes "rules")))
+    (path_rule (codes "plant"))) (path_rule (codes "input"))) (path_rule (codes "output"))
+
+abbrev pub run_shape : Shape
+run_shape = run_app.top
+
+abbrev pub program_app : App
+program_app = with_subcommand
+    (record (new_app (codes "nftrun")) {
+      top = record (new_app (codes "nftrun")).top { subcommand_required = true };
+    })
+    run_shape

@@ -1,0 +1,88 @@
+//! What the words of the command line ask for.
+ghost use Rattle.std.specs.Prelude.{◌≡◌, IfErr, IfOk, false, map, true};
+ghost use Rattle.clap.specs.Words.{app_of, kind_of, rule_of, shape_of};
+ghost use Rattle.clap.specs.declared.builder.command.Command.TheViews.{out-Command};
+ghost use Rattle.command_line.specs.CommandLine.{Asks, is_well_formed};
+ghost use Rattle.command_line.specs.steps.Program.{path_rule, program_app, run_shape};
+
+use clap::error::ErrorKind;
+use clap::{Arg, Command, Error};
+use std::alloc::{AllocError, Global};
+
+/// What the words ask for.
+#[derive(Clone, Copy)]
+pub enum Task<'a> {
+    /// `run RULES BOX IN OUT`: replay a capture through a ruleset.
+    Run(Paths<'a>),
+}
+
+/// The paths of a run, as the words give them.
+#[derive(Clone, Copy)]
+pub struct Paths<'a> {
+    /// RULES, the file of the ruleset.
+    pub rules: &'a str,
+    /// BOX, the file of the box that the rules stand on.
+    pub plant: &'a str,
+    /// IN, the capture that is read.
+    pub input: &'a str,
+    /// OUT, the capture that is written.
+    pub output: &'a str,
+}
+
+/// What the words ask for, of which the first is the program's name.
+///
+/// The other words are `run` and the four paths, in the order RULES, BOX, IN, OUT. A path that
+/// begins with a hyphen stands after a word `--`, which is no path itself; `-` alone is a path.
+///
+/// # Errors
+/// `clap`'s, whose `exit_code` is 0 where the words ask for help, and 2 where they are no task.
+pub fn read_task<'a>(alloc: Global, words: &'a [&'a str]) -> Result<Task<'a>, Error>
+    ensures asked { IfOk result (Asks (map (λ w. w.now) words.entry.now)) }
+    ensures refused { IfErr result (λ e. is_well_formed (map (λ w. w.now) words.entry.now) ≡ true
+        → kind_of e ≡ ErrorKind.OutOfMemory) }
+{
+    let matches = program(alloc)?.try_get_matches_from(words)?;
+    let (_, run) = matches.subcommand().unwrap();
+    Ok(Task::Run(Paths {
+        rules: run.get_str("rules").unwrap(),
+        plant: run.get_str("plant").unwrap(),
+        input: run.get_str("input").unwrap(),
+        output: run.get_str("output").unwrap(),
+    }))
+}
+
+fn program<'a>(alloc: Global) -> Result<Command<'a>, AllocError>
+    ensures { IfOk result (λ c. app_of c ≡ program_app) }
+{
+    Command::new(alloc, "nftrun")
+        .about("Shows what each packet of a capture would meet in a ruleset of nft(8)")
+        .subcommand_required(true)
+        .subcommand(run(alloc)?)
+}
+
+fn run<'a>(alloc: Global) -> Result<Command<'a>, AllocError>
+    ensures shape { IfOk result (λ c. shape_of c ≡ run_shape) }
+    ensures local { IfOk result (λ c. (out-Command c).has_globals ≡ false) }
+{
+    let rules = path(alloc, "rules", "RULES", "The file of the ruleset");
+    let plant = path(alloc, "plant", "BOX", "The file of the box");
+    let input = path(alloc, "input", "IN", "The capture to read");
+    let output = path(alloc, "output", "OUT", "The capture to write");
+    Command::new(alloc, "run")
+        .about("Replays a capture through a ruleset")
+        .arg(rules)?
+        .arg(plant)?
+        .arg(input)?
+        .arg(output)
+}
+
+// A required argument that stands for one path.
+fn path<'a>(alloc: Global, id: &'a str, value_name: &'a str, help: &'a str) -> Arg<'a>
+    ensures rule { rule_of result ≡ path_rule id.entry.now }
+    ensures local { result.global ≡ false }
+{
+    Arg::new(alloc, id)
+        .value_name(value_name)
+        .help(help)
+        .required(true)
+}

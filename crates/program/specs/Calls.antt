@@ -1,0 +1,46 @@
+-- What the program calls, and what it is answered.
+use Rattle.std.specs.Prelude.{◌≡◌, ℕ, Bool, List, [], ◌∷◌, Result, Ok, Err, Vec, String, map, string_bytes, ⊤}
+use Rattle.std.specs.declared.io.Error.{Error}
+use Rattle.clap.specs.declared.error.kind.ErrorKind.{ErrorKind}
+use Rattle.engine.specs.declared.fault.RunFault.{RunFault}
+use Rattle.program.specs.declared.status.Status.{Status}
+
+-- the bytes of a path
+abbrev pub Text : Type 0
+Text = List ℕ
+
+-- a call with its arguments and its answer; Input and Output are files open for reading and for writing
+pub data Call (Input Output : Type 0) : Type 0 where
+  -- the process's words, of which the first is the program's name
+  words : Result (List Text) Error → Call Input Output
+  -- a file's bytes, all of them
+  read : Text → Result (List ℕ) Error → Call Input Output
+  -- a file opened for reading
+  open_input : Text → Result Input Error → Call Input Output
+  -- whether two paths lead to one file
+  compare : Text → Text → Result Bool Error → Call Input Output
+  -- a file created, or emptied, and opened for writing
+  create : Text → Result Output Error → Call Input Output
+  -- a ruleset's text, a box file's text, a capture and the capture that leaves, before and after: whether the end is torn
+  run : Text → Text → Input → Input → Output → Output → Result Bool RunFault → Call Input Output
+  -- what was written is given to the system
+  close : Output → Result ⊤ Error → Call Input Output
+  -- the line of a status
+  tell : Status → Call Input Output
+  -- what clap says of the words
+  explain : ErrorKind → Result ⊤ Error → Call Input Output
+
+-- the bytes of the words that are answered
+abbrev pub texts_of : {Y Z : Type 0} → Result (Vec (String Y) Z) Error → Result (List Text) Error
+texts_of (Ok v) = Ok (map string_bytes v.items)
+texts_of (Err error) = Err error
+
+-- the bytes that a read answers
+abbrev pub bytes_of : {Z : Type 0} → Result (Vec ℕ Z) Error → Result (List ℕ) Error
+bytes_of (Ok v) = Ok v.items
+bytes_of (Err error) = Err error
+
+-- these calls, one after another, lead from one moment to another
+abbrev pub Leads : {S C : Type 0} → (S → C → S → Type 0) → S → List C → S → Type 0
+Leads happens s [] t = s ≡ t
+Leads {S = S} happens s (call ∷ calls) t = (u : S) × happens s call u × Leads happens u calls t

@@ -1,0 +1,5 @@
+pub mod Status
+pub mod Calls
+pub mod Replaying
+pub mod Performing
+pub mod steps

@@ -1,0 +1,47 @@
+-- What the program ends with: 0 done, 1 rules, 2 usage, 3 box, 4 capture, 5 device, 6 memory, 7 a torn end.
+use Rattle.std.specs.Prelude.{ℕ, Bool, true, false}
+use Rattle.std.specs.IoError.{error_kind}
+use Rattle.std.specs.declared.io.Error.{Error}
+use Rattle.std.specs.declared.io.ErrorKind.{ErrorKind}
+use Rattle.std.specs.declared.io.ErrorKind.TheVariants.{OutOfMemory}
+use Rattle.engine.specs.declared.fault.RunFault.{RunFault}
+use Rattle.engine.specs.declared.fault.RunFault.TheVariants as faults
+use Rattle.program.specs.declared.status.Status.{Status}
+use Rattle.program.specs.declared.status.Status.TheVariants.{Success, Rules, Usage, SameFile, Box, Capture, Device, Memory, Torn}
+
+abbrev pub of_fault : RunFault → Status
+of_fault (faults.Rules fault) = Rules fault
+of_fault (faults.Box fault) = Box fault
+of_fault (faults.Capture fault) = Capture fault
+of_fault faults.Device = Device
+of_fault faults.Memory = Memory
+
+-- all is done; whether the capture's end is torn
+abbrev pub of_end : Bool → Status
+of_end false = Success
+of_end true = Torn
+
+-- a call of the system that fails is a device fault, or want of memory
+abbrev pub of_kind : ErrorKind → Status
+of_kind OutOfMemory = Memory
+of_kind _ = Device
+
+abbrev pub of_error : Error → Status
+of_error e = of_kind (error_kind e)
+
+-- there is a line for it: all but success, and usage, of which clap tells
+abbrev pub has_line : Status → Bool
+has_line Success = false
+has_line Usage = false
+has_line _ = true
+
+abbrev pub code_of : Status → ℕ
+code_of Success = 0
+code_of (Rules fault) = 1
+code_of Usage = 2
+code_of SameFile = 2
+code_of (Box fault) = 3
+code_of (Capture fault) = 4
+code_of Device = 5
+code_of Memory = 6
+code_of Torn = 7

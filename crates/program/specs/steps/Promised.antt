@@ -1,0 +1,12 @@
+-- What the system's own files promise of a call.
+use Rattle.std.specs.Prelude.{ℕ, false, List, Option, Ok, Err, IfSome}
+use Rattle.engine.specs.Meaning.{Refuses, Wrote}
+use Rattle.program.specs.Calls.{Call, run}
+
+-- a run does what the engine promises; of the other calls nothing is known
+abbrev pub Promised : {I O : Type 0} → (I → Option (List ℕ)) → (O → Option (List ℕ)) → Call I O → Type 0
+Promised remaining contents (run rules box input _ output output' (Ok torn)) =
+    IfSome (remaining input) (λ capture. (count : ℕ) × (report : Option (List ℕ)) × (report' : Option (List ℕ))
+    × Wrote rules box capture false count torn (contents output) (contents output') report report')
+Promised remaining contents (run rules box input _ _ _ (Err fault)) = Refuses rules box (remaining input) fault
+Promised _ _ _ = Unit {0}

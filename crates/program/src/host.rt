@@ -1,0 +1,71 @@
+//! What stands around the program.
+use crate::status::Status;
+use clap::Error;
+use engine::RunFault;
+use std::io;
+
+/// What stands around the program: its words, the files by their paths, the run over them,
+/// and the lines that it prints.
+///
+/// No contract can say what a file holds. So a host knows each call by a relation of its own: the
+/// moment before it, the call with its arguments and its answer, and the moment after it. What is
+/// proved over this relation, which tells nothing else, holds of the very calls that were made,
+/// in their order.
+pub trait Host {
+    ghost use Rattle.std.specs.Prelude.{◌≡◌};
+    ghost use Rattle.std.specs.Result.{result_map_both};
+    ghost use Rattle.clap.specs.Values.{kind_of};
+    ghost use Rattle.program.specs.Calls.{Call, words, read, open_input, compare, create, run, close, tell, explain, texts_of, bytes_of};
+
+    /// A capture open for reading.
+    type Input: Drop;
+
+    /// A capture open for writing.
+    type Output: Drop;
+
+    /// Whether this call may lead from the first moment to the second.
+    ghost happens: { Self → Call Self.Input Self.Output → Self → Type 0 };
+
+    /// The process's words, of which the first is the program's name.
+    fn words(&mut self) -> io::Result<Vec<String>>
+        ensures { happens self.old (words (texts_of result)) self.new };
+
+    /// All bytes of a file.
+    fn read(&mut self, path: &str) -> io::Result<Vec<u8>>
+        ensures { happens self.old (read path.now (bytes_of result)) self.new };
+
+    /// Opens a file for reading.
+    fn open(&mut self, path: &str) -> io::Result<Self::Input>
+        ensures { happens self.old (open_input path.now result) self.new };
+
+    /// Whether both paths lead to one file; a path that leads nowhere yet is no file.
+    fn is_same_file(&mut self, path: &str, other: &str) -> io::Result<bool>
+        ensures { happens self.old (compare path.now other.now result) self.new };
+
+    /// Creates a file, or empties it, and opens it for writing.
+    fn create(&mut self, path: &str) -> io::Result<Self::Output>
+        ensures { happens self.old (create path.now result) self.new };
+
+    /// Takes the capture through the ruleset on a box, writes what leaves and prints the report.
+    /// Tells whether the capture's end is torn.
+    fn run(
+        &mut self,
+        rules: &[u8],
+        plant: &[u8],
+        input: &mut Self::Input,
+        output: &mut Self::Output,
+    ) -> Result<bool, RunFault>
+        ensures { happens self.old (run rules.now plant.now input.old input.new output.old output.new result) self.new };
+
+    /// Gives what was written to the system, and tells whether it took all.
+    fn close(&mut self, output: Self::Output) -> io::Result<()>
+        ensures { happens self.old (close output result) self.new };
+
+    /// Prints the status's line to standard error. Where it can't, the exit status still tells.
+    fn tell(&mut self, status: Status)
+        ensures { happens self.old (tell status) self.new };
+
+    /// Prints the usage, or the help that was asked for.
+    fn explain(&mut self, error: &Error) -> io::Result<()>
+        ensures { happens self.old (explain (kind_of error.now) result) self.new };
+}

@@ -1,0 +1,116 @@
+//! What the program ends with.
+ghost use Rattle.std.specs.Prelude.{◌≡◌, MatchResult};
+ghost use Rattle.std.specs.IoError.{error_kind};
+ghost use Rattle.program.specs.Status.{of_end, of_error, of_fault, has_line, code_of};
+
+use engine::{BoxFault, RulesFault, RunFault};
+use pcap_io::CaptureFault;
+use std::{fmt, io};
+
+/// What the program ends with.
+#[derive(Clone, Copy)]
+pub enum Status {
+    Success,
+    Rules(RulesFault),
+    /// The words aren't understood; `clap` tells why.
+    Usage,
+    /// OUT leads to the same file as RULES, BOX or IN.
+    SameFile,
+    Box(BoxFault),
+    Capture(CaptureFault),
+    Device,
+    Memory,
+    /// All is done, and the capture ends inside a record.
+    Torn,
+}
+
+impl Status {
+    /// The status of a run: whether the capture's end is torn, or the fault.
+    pub fn of(outcome: Result<bool, &RunFault>) -> Status
+        ensures { MatchResult outcome.entry (λ torn. result ≡ of_end torn) (λ fault. result ≡ of_fault fault.now) }
+    {
+        match outcome {
+            Ok(false) => Status::Success,
+            Ok(true) => Status::Torn,
+            Err(RunFault::Rules(fault)) => Status::Rules(*fault),
+            Err(RunFault::Box(fault)) => Status::Box(*fault),
+            Err(RunFault::Capture(fault)) => Status::Capture(*fault),
+            Err(RunFault::Device) => Status::Device,
+            Err(RunFault::Memory) => Status::Memory,
+        }
+    }
+
+    /// The status where a call of the system failed.
+    pub fn of_io(error: &io::Error) -> Status
+        ensures { result ≡ of_error error.now }
+    {
+        match error.kind() {
+            io::ErrorKind::OutOfMemory => Status::Memory,
+            _ => Status::Device,
+        }
+    }
+
+    /// Whether the program prints a line for it.
+    pub fn has_line(self) -> bool
+        ensures { result ≡ has_line self }
+    {
+        !matches!(self, Status::Success | Status::Usage)
+    }
+
+    /// The process's exit status.
+    pub fn code(self) -> u8
+        ensures { result ≡ code_of self }
+    {
+        match self {
+            Status::Success => 0,
+            Status::Rules(_) => 1,
+            Status::Usage | Status::SameFile => 2,
+            Status::Box(_) => 3,
+            Status::Capture(_) => 4,
+            Status::Device => 5,
+            Status::Memory => 6,
+            Status::Torn => 7,
+        }
+    }
+}
+
+impl From<io::Error> for Status {
+    ghost use Rattle.std.specs.Prelude.{◌≡◌};
+    ghost use Rattle.program.specs.Status.{of_error};
+
+    ghost from_gives = { λ error status. status ≡ of_error error };
+
+    fn from(error: io::Error) -> Status {
+        Status::of_io(&error)
+    }
+}
+
+impl From<RunFault> for Status {
+    ghost use Rattle.std.specs.Prelude.{◌≡◌};
+    ghost use Rattle.program.specs.Status.{of_fault};
+
+    ghost from_gives = { λ fault status. status ≡ of_fault fault };
+
+    fn from(fault: RunFault) -> Status {
+        Status::of(Err(&fault))
+    }
+}
+
+/// The line for standard error, without its end.
+impl fmt::Display for Status {
+    fn fmt<W: fmt::Write>(&self, f: &mut fmt::Formatter<W>) -> fmt::Result {
+        match self {
+            Status::Success => f.write_str("nftrun: done"),
+            Status::Rules(fault) => write!(f, "nftrun: rules {fault}"),
+            Status::Usage => f.write_str("nftrun: usage"),
+            Status::SameFile => {
+                f.write_str("nftrun: usage: OUT is the same file as RULES, BOX or IN")
+            }
+            Status::Box(fault) => write!(f, "nftrun: box {fault}"),
+            Status::Capture(fault) => write!(f, "nftrun: capture {fault}"),
+            Status::Device => f.write_str("nftrun: device"),
+            Status::Memory => f.write_str("nftrun: memory"),
+            Status::Torn => f.write_str("nftrun: capture torn"),
+        }
+    }
+}

@@ -1,0 +1,104 @@
+//! The system's own files and outputs, and the run over them.
+use crate::host::Host;
+use crate::performing::perform;
+use crate::status::Status;
+use clap::Error;
+use engine::RunFault;
+use pcap_io::Counted;
+use std::env::{self, Env};
+use std::os::fd::IntoRawFd;
+use std::os::unix::fs::MetadataExt;
+use std::rt::Files;
+use std::{fs, io};
+
+/// The system's own files and outputs.
+#[derive(Drop)]
+struct System<'a, R> {
+    rt: &'a R,
+}
+
+impl<R: Env + Files + Print + Eprint + AllocGlobal> Host for System<'_, R>
+where
+    R::File: IntoRawFd,
+{
+    ghost use Rattle.program.specs.steps.Promised.{Promised};
+
+    type Input = Counted<R::File>;
+
+    type Output = Counted<R::File>;
+
+    // What files hold can't be said. What a run gives for its texts and its capture can.
+    ghost happens = { λ _ call _. Promised (λ c. R.File.remaining c.inner) (λ c. R.File.contents c.inner) call };
+
+    fn words(&mut self) -> io::Result<Vec<String>> {
+        Ok(env::args(self.rt)?.collect(self.rt.alloc())?)
+    }
+
+    fn read(&mut self, path: &str) -> io::Result<Vec<u8>> {
+        fs::read(self.rt, path)
+    }
+
+    fn open(&mut self, path: &str) -> io::Result<Self::Input> {
+        Ok(Counted::new(fs::open(self.rt, path)?))
+    }
+
+    // One inode of one device: also where a link, hard or symbolic, leads to it.
+    fn is_same_file(&mut self, path: &str, other: &str) -> io::Result<bool> {
+        let first = match fs::metadata(self.rt, path) {
+            Ok(found) => found,
+            Err(error) if error.kind() == io::ErrorKind::NotFound => return Ok(false),
+            Err(error) => return Err(error),
+        };
+        let second = fs::metadata(self.rt, other)?;
+        Ok(first.dev() == second.dev() && first.ino() == second.ino())
+    }
+
+    fn create(&mut self, path: &str) -> io::Result<Self::Output> {
+        Ok(Counted::new(fs::create(self.rt, path)?))
+    }
+
+    fn run(
+        &mut self,
+        rules: &[u8],
+        plant: &[u8],
+        input: &mut Self::Input,
+        output: &mut Self::Output,
+    ) -> Result<bool, RunFault> {
+        let mut report = Counted::new(io::writer(self.rt));
+        let summary = engine::run(
+            self.rt.alloc(),
+            rules,
+            plant,
+            input,
+            output,
+            &mut report,
+            false,
+        )?;
+        Ok(summary.torn)
+    }
+
+    // A drop would lose what the system answers.
+    fn close(&mut self, output: Self::Output) -> io::Result<()> {
+        if libc::close(output.into_inner().into_raw_fd()) < 0 {
+            return Err(io::Error::from(io::ErrorKind::Other));
+        }
+        Ok(())
+    }
+
+    fn tell(&mut self, status: Status) {
+        let rt = self.rt;
+        let _ = eprintln!(rt; "{status}");
+    }
+
+    fn explain(&mut self, error: &Error) -> io::Result<()> {
+        error.print(self.rt)
+    }
+}
+
+/// Does what the process's own words ask for, and answers its exit status.
+pub fn start<R: Env + Files + Print + Eprint + AllocGlobal>(rt: &R) -> u8
+where
+    R::File: IntoRawFd,
+{
+    perform(rt.alloc(), &mut System { rt })
+}
