@@ -1,6 +1,5 @@
 //! The head of a base chain.
 ghost use Rattle.std.specs.Prelude.{◌≡◌, IfOk};
-ghost use Rattle.nft_tree.specs.Tree as tree;
 ghost use Rattle.nft_tree.specs.Tree.{head_tree};
 ghost use Rattle.std.specs.Option.{option_map};
 ghost use Rattle.token_reader.specs.Places.{ahead};
@@ -8,7 +7,7 @@ ghost use Rattle.nft_parser.specs.Reading.{kind_at, hook_at, priority_name_at, n
 
 use crate::notes::notes;
 use nft_lexer::{Mark, Token};
-use nft_tree::{ChainKind, Head, Hook, Memory, Policy, Priority, PriorityName, OffsetSign};
+use nft_tree::{ChainKind, Head, Hook, Memory, OffsetSign, Policy, Priority, PriorityName};
 use std::alloc::Global;
 use token_reader::{after_ends, after_mark, after_word, number};
 
@@ -92,7 +91,7 @@ fn number_priority(tokens: &[Token], at: usize) -> Option<(Priority, usize)>
 
 /// "+" | "-"
 #[tactic(auto, unfolding(crate::specs::Reading::sign_at))]
-fn sign(tokens: &[Token], at: usize) -> Option<(Sign, usize)>
+fn sign(tokens: &[Token], at: usize) -> Option<(OffsetSign, usize)>
     ensures { option_map (λ x. (x.0, ahead tokens.now x.1)) result ≡ sign_at (ahead tokens.now at) }
 {
     if let Some(at) = after_mark(tokens, at, Mark::Plus) {
@@ -223,7 +222,7 @@ pub(crate) fn head_if(
     tokens: &[Token],
     at: usize,
 ) -> Result<(Option<Head>, usize), Memory>
-    ensures { IfOk result (λ x. (tree.option_map head_tree x.0, ahead tokens.now x.1) ≡ head_if_at (ahead tokens.now at)) }
+    ensures { IfOk result (λ x. (option_map head_tree x.0, ahead tokens.now x.1) ≡ head_if_at (ahead tokens.now at)) }
 {
     Ok(match head(alloc, tokens, at)? {
         Some((head, after)) => (Some(head), after),

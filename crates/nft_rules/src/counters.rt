@@ -1,6 +1,5 @@
 //! Counters and logs.
 ghost use Rattle.std.specs.Prelude.{◌≡◌, IfOk};
-ghost use Rattle.nft_tree.specs.Tree as tree;
 ghost use Rattle.std.specs.Option.{option_map};
 ghost use Rattle.token_reader.specs.Places.{ahead};
 ghost use Rattle.nft_rules.specs.Reading.{start_at, counter_at, prefix_at, log_at};
@@ -50,7 +49,7 @@ pub(crate) fn log(
     tokens: &[Token],
     at: usize,
 ) -> Result<Option<(Option<Vec<u8>>, usize)>, Memory>
-    ensures { IfOk result (λ o. option_map (λ x. (tree.option_map (λ t. t.items) x.0, ahead tokens.now x.1)) o ≡ log_at (ahead tokens.now at)) }
+    ensures { IfOk result (λ o. option_map (λ x. (option_map (λ t. t.items) x.0, ahead tokens.now x.1)) o ≡ log_at (ahead tokens.now at)) }
 {
     let Some(at) = after_word(tokens, at, b"log") else {
         return Ok(None);

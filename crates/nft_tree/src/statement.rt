@@ -5,7 +5,7 @@ use crate::set::{Element, Pair};
 use crate::word::Range;
 
 /// One statement of a rule.
-#[derive(Debug, Drop)]
+#[derive(Drop)]
 pub enum Stmt {
     Match(Match),
     /// `counter`, with its start
@@ -21,21 +21,21 @@ pub enum Stmt {
 }
 
 /// Where a counter begins: `packets NUMBER bytes NUMBER`.
-#[derive(Clone, Copy, Debug, PartialEq, Eq)]
+#[derive(Clone, Copy)]
 pub struct CounterStart {
     pub packets: u64,
     pub bytes: u64,
 }
 
 /// The marks: the packet's and the connection's.
-#[derive(Clone, Copy, Debug, PartialEq, Eq)]
+#[derive(Clone, Copy)]
 pub enum MarkField {
     Meta,
     Ct,
 }
 
 /// What a mark is set to.
-#[derive(Debug, Drop)]
+#[derive(Drop)]
 pub enum Operand {
     Number(u64),
     Mark(MarkField),
@@ -43,28 +43,28 @@ pub enum Operand {
 }
 
 /// A look-up: `SELECTOR map MAP`.
-#[derive(Debug, Drop)]
+#[derive(Drop)]
 pub struct Look {
     pub selector: Selector,
     pub map: MapRef,
 }
 
 /// A map by its name, `@NAME`, or by its elements.
-#[derive(Debug, Drop)]
+#[derive(Drop)]
 pub enum MapRef {
     Named(Vec<u8>),
     Anonymous(Vec<Pair>),
 }
 
 /// A set by its name, `@NAME`, or by its elements.
-#[derive(Debug, Drop)]
+#[derive(Drop)]
 pub enum SetRef {
     Named(Vec<u8>),
     Anonymous(Vec<Element>),
 }
 
 /// What a rule decides of a packet.
-#[derive(Debug, Drop)]
+#[derive(Drop)]
 pub enum Verdict {
     Accept,
     Drop,
@@ -75,7 +75,7 @@ pub enum Verdict {
 }
 
 /// How a value is compared.
-#[derive(Clone, Copy, Debug, PartialEq, Eq)]
+#[derive(Clone, Copy)]
 pub enum Operator {
     /// `==`, or no operator
     Equal,
@@ -92,7 +92,7 @@ pub enum Operator {
 }
 
 /// A test of a packet.
-#[derive(Debug, Drop)]
+#[derive(Drop)]
 pub enum Match {
     /// A selector against a value, a range or a prefix.
     Compare(Selector, Operator, Range),
@@ -113,14 +113,14 @@ pub enum Match {
 }
 
 /// What bits are tested: those of `ct state` or of `ct status`.
-#[derive(Clone, Copy, Debug, PartialEq, Eq)]
+#[derive(Clone, Copy)]
 pub enum BitField {
     State,
     Status,
 }
 
 /// How bits are tested.
-#[derive(Clone, Copy, Debug, PartialEq, Eq)]
+#[derive(Clone, Copy)]
 pub enum BitTest {
     /// No operator: one of the named bits at least is set.
     Any,
@@ -131,14 +131,14 @@ pub enum BitTest {
 }
 
 /// Flags under a mask.
-#[derive(Debug, Drop)]
+#[derive(Drop)]
 pub struct Masked {
     pub wanted: Vec<Flag>,
     pub mask: Vec<Flag>,
 }
 
 /// A flag of TCP by its word, or bits by their number.
-#[derive(Debug, Drop)]
+#[derive(Drop)]
 pub enum Flag {
     Word(Vec<u8>),
     Number(u64),
