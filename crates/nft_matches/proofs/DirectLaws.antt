@@ -7,7 +7,7 @@ use Rattle.nft_tree.specs.declared.selector.Selector.TheVariants.{TcpFlags, CtSt
 use Rattle.nft_tree.specs.declared.statement.Operator.{Operator}
 use Rattle.nft_tree.specs.declared.statement.BitField.TheVariants.{State, Status}
 use Rattle.nft_tree.specs.Tree as tree
-use Rattle.nft_tree.specs.Tree.{ValueTree, RangeTree, MatchTree, compare, any_flag, all_flags, masked_flags, other_flags}
+use Rattle.nft_tree.specs.Tree.{ValueTree, RangeTree, MatchTree, compare, any_flag, exact_flags, masked_flags, masked_flags_unequal}
 use Rattle.token_reader.specs.Laws.{IfSome_weaker, bind_found}
 use Rattle.token_reader.specs.TokenLaws.{when_found}
 use Rattle.nft_selectors.specs.Selectors.{SpellsSelector, is_plain}
@@ -64,9 +64,9 @@ plain_only L s o r from mid to plain so sr listed ends = rw (plain_test s from p
 
 flag_match : (m : MatchTree) (from mid to : List Sign) → SpellsSelector TcpFlags from mid → SpellsFlagTest m mid to → SpellsMatch m from to
 flag_match (any_flag fs) from mid to selector s = (mid, selector, s)
-flag_match (all_flags fs) from mid to selector s = (s.0, rw s.1 at selector, s.2)
+flag_match (exact_flags fs) from mid to selector s = (s.0, rw s.1 at selector, s.2)
 flag_match (masked_flags wanted flags) from mid to selector s = (mid, selector, s)
-flag_match (other_flags wanted flags) from mid to selector s = (mid, selector, s)
+flag_match (masked_flags_unequal wanted flags) from mid to selector s = (mid, selector, s)
 flag_match m from mid to selector s = absurd s
 
 pub test_found : ListLaws → (s : Selector) (from ts : List Sign) → SpellsSelector s from ts → IfSome (test_at s ts) (λ x. SpellsMatch x.0 from x.1)

@@ -114,9 +114,9 @@ match_only S L (tree.bits field test ws) from to (a, b, selector, tested, s, lis
     direct_only S L (selector_of field) (tree.bits field test ws) from a to selector (no_set_after_bit_test test a b tested (words_front ws b to s))
     (bits_test field a ∙ bits_only field test ws a b to tested s listed (no_mark marks.Comma to (λ c. refl) ends))
 match_only S L (tree.any_flag fs) from to (a, selector, s) ends = flag_match_only S L (tree.any_flag fs) from a to selector s ends
-match_only S L (tree.all_flags fs) from to (a, selector, s) ends = flag_match_only S L (tree.all_flags fs) from (mark marks.EqualTo ∷ a) to selector (a, refl, s) ends
+match_only S L (tree.exact_flags fs) from to (a, selector, s) ends = flag_match_only S L (tree.exact_flags fs) from (mark marks.EqualTo ∷ a) to selector (a, refl, s) ends
 match_only S L (tree.masked_flags wanted flags) from to (a, selector, s) ends = flag_match_only S L (tree.masked_flags wanted flags) from a to selector s ends
-match_only S L (tree.other_flags wanted flags) from to (a, selector, s) ends = flag_match_only S L (tree.other_flags wanted flags) from a to selector s ends
+match_only S L (tree.masked_flags_unequal wanted flags) from to (a, selector, s) ends = flag_match_only S L (tree.masked_flags_unequal wanted flags) from a to selector s ends
 
 -- ---- lengths
 
@@ -129,9 +129,9 @@ match_takes S L (tree.is_in ss r) from to (a, b, keys, e, s) = omega (arith, S.s
 match_takes S L (tree.not_in ss r) from to (a, b, keys, e, s) = omega (arith, S.selectors_takes ss from a keys, equality_if_takes false a b e, L.set_ref_takes r b to s)
 match_takes S L (tree.bits field test ws) from to (a, b, selector, tested, s, listed) = omega (arith, S.selector_takes (selector_of field) from a selector, bit_test_takes test a b tested, words_takes ws b to s)
 match_takes S L (tree.any_flag fs) from to (a, selector, s) = flag_match_takes S (tree.any_flag fs) from a to selector s
-match_takes S L (tree.all_flags fs) from to (a, selector, s) = flag_match_takes S (tree.all_flags fs) from (mark marks.EqualTo ∷ a) to selector (a, refl, s)
+match_takes S L (tree.exact_flags fs) from to (a, selector, s) = flag_match_takes S (tree.exact_flags fs) from (mark marks.EqualTo ∷ a) to selector (a, refl, s)
 match_takes S L (tree.masked_flags wanted flags) from to (a, selector, s) = flag_match_takes S (tree.masked_flags wanted flags) from a to selector s
-match_takes S L (tree.other_flags wanted flags) from to (a, selector, s) = flag_match_takes S (tree.other_flags wanted flags) from a to selector s
+match_takes S L (tree.masked_flags_unequal wanted flags) from to (a, selector, s) = flag_match_takes S (tree.masked_flags_unequal wanted flags) from a to selector s
 
 -- ---- where no selector stands
 

@@ -12,7 +12,7 @@ use Rattle.nft_tree.specs.declared.statement.BitField.{BitField}
 use Rattle.nft_tree.specs.declared.statement.BitField.TheVariants.{State, Status}
 use Rattle.nft_tree.specs.declared.statement.BitTest.{BitTest}
 use Rattle.nft_tree.specs.declared.statement.BitTest.TheVariants as tests
-use Rattle.nft_tree.specs.Tree.{Text, FlagTree, flag_word, flag_number, SetRefTree, MatchTree, compare, is_in, not_in, bits, any_flag, all_flags, masked_flags, other_flags}
+use Rattle.nft_tree.specs.Tree.{Text, FlagTree, flag_word, flag_number, SetRefTree, MatchTree, compare, is_in, not_in, bits, any_flag, exact_flags, masked_flags, masked_flags_unequal}
 use Rattle.token_reader.specs.Reading.{option_else, ◌>>=◌, all_at, with_front, after_mark, word_at}
 use Rattle.nft_selectors.specs.Selectors.{is_word_for}
 use Rattle.nft_selectors.specs.Reading.{selectors_at}
@@ -43,7 +43,7 @@ equality_if_at ts = option_else (equality_at ts) (λ x. x) (true, ts)
 
 -- all the bits named and no other, or none of them
 abbrev pub exact_test : Bool → BitTest
-exact_test true = tests.All
+exact_test true = tests.Exactly
 exact_test false = tests.None
 
 -- ["==" | "!="]: none is a test of any bit
@@ -111,7 +111,7 @@ flag_group_at ts = option_else (after_mark marks.OpenParenthesis ts) closed_flag
 
 abbrev pub masked : Bool → (wanted mask : List FlagTree) → MatchTree
 masked true wanted mask = masked_flags wanted mask
-masked false wanted mask = other_flags wanted mask
+masked false wanted mask = masked_flags_unequal wanted mask
 
 -- pflags ("==" | "!=") pflags
 unfoldable pub after_ampersand_at : List Sign → Option (MatchTree × List Sign)
@@ -124,7 +124,7 @@ after_ampersand_at ts = do
 -- whether the flags wanted are to be equal
 abbrev pub is_equality : BitTest → Bool
 is_equality tests.Any = true
-is_equality tests.All = true
+is_equality tests.Exactly = true
 is_equality tests.None = false
 
 -- flags, after the flags wanted and "/"
@@ -136,7 +136,7 @@ after_slash_at test wanted ts = do
 -- `!=` asks for a mask
 abbrev pub unmasked_at : BitTest → List FlagTree → List Sign → Option (MatchTree × List Sign)
 unmasked_at tests.Any flags ts = Some (any_flag flags, ts)
-unmasked_at tests.All flags ts = Some (all_flags flags, ts)
+unmasked_at tests.Exactly flags ts = Some (exact_flags flags, ts)
 unmasked_at tests.None flags ts = None
 
 -- ["==" | "!="] flags ["/" flags]

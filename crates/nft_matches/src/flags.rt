@@ -141,7 +141,7 @@ fn masked(equal: bool, wanted: Vec<Flag>, mask: Vec<Flag>) -> Match
     if equal {
         Match::MaskedFlags(masked)
     } else {
-        Match::OtherFlags(masked)
+        Match::MaskedFlagsUnequal(masked)
     }
 }
 
@@ -181,7 +181,7 @@ fn after_slash(
         return Ok(None);
     };
     let found = match test {
-        BitTest::Any | BitTest::All => masked(true, wanted, mask),
+        BitTest::Any | BitTest::Exactly => masked(true, wanted, mask),
         BitTest::None => masked(false, wanted, mask),
     };
     Ok(Some((found, at)))
@@ -205,7 +205,7 @@ fn listed_flags(
     }
     match test {
         BitTest::Any => Ok(Some((Match::AnyFlag(wanted), at))),
-        BitTest::All => Ok(Some((Match::AllFlags(wanted), at))),
+        BitTest::Exactly => Ok(Some((Match::ExactFlags(wanted), at))),
         BitTest::None => Ok(None),
     }
 }

@@ -47,7 +47,7 @@ pub(crate) fn bit_test(tokens: &[Token], at: usize) -> (BitTest, usize)
     ensures { (result.0, ahead tokens.now result.1) ≡ bit_test_at (ahead tokens.now at) }
 {
     match equality(tokens, at) {
-        Some((true, at)) => (BitTest::All, at),
+        Some((true, at)) => (BitTest::Exactly, at),
         Some((false, at)) => (BitTest::None, at),
         None => (BitTest::Any, at),
     }

@@ -4,8 +4,8 @@ use Rattle.std.proofs.lemmas.Bool.{not-true, and_parts}
 use Rattle.std.specs.Prelude.{codes}
 use Rattle.nft_lexer.specs.Sign.{Sign, word}
 use Rattle.nft_tree.specs.declared.selector.Selector.{Selector}
-use Rattle.nft_tree.specs.declared.statement.Mark.{Mark}
-use Rattle.nft_tree.specs.declared.statement.Mark.TheVariants.{Meta, Ct}
+use Rattle.nft_tree.specs.declared.statement.MarkField.{MarkField}
+use Rattle.nft_tree.specs.declared.statement.MarkField.TheVariants.{Meta, Ct}
 use Rattle.nft_tree.specs.declared.statement.CounterStart.{CounterStart}
 use Rattle.nft_tree.specs.Tree as tree
 use Rattle.nft_tree.specs.Tree.{Text, VerdictTree, Statement}
@@ -59,11 +59,11 @@ statement_found S L M ts = else_found _ (selected_at ts) _ _ (selected_found S L
 -- ---- a match is no statement of another kind
 
 -- no word is one for a mark
-no_word_for_mark : (m : Mark) (s : Selector) (w : List ℕ) → s ≡ mark_selector m → is_word_for s w ≡ true → ⊥
+no_word_for_mark : (m : MarkField) (s : Selector) (w : List ℕ) → s ≡ mark_selector m → is_word_for s w ≡ true → ⊥
 no_word_for_mark Meta s w same e = let no_word : is_word_for (mark_selector Meta) w ≡ true = rw same at e in absurd cc
 no_word_for_mark Ct s w same e = let no_word : is_word_for (mark_selector Ct) w ≡ true = rw same at e in absurd cc
 
-no_set : (s : Selector) (a : List Sign) → AfterSelector s a → (m : Mark) → s ≡ mark_selector m → after_word (codes "set") a ≡ None
+no_set : (s : Selector) (a : List Sign) → AfterSelector s a → (m : MarkField) → s ≡ mark_selector m → after_word (codes "set") a ≡ None
 unfolding AfterSelector
 no_set s a e m same =
     elim (option_cases (after_word (codes "set") a)) [

@@ -2,8 +2,8 @@
 use Rattle.std.specs.Prelude.{ℕ, List, [], ◌∷◌, length, ◌==◌, Option, Some, None, if◌then◌else◌, codes}
 use Rattle.nft_lexer.specs.declared.token.Mark.TheVariants.{Colon, Minus}
 use Rattle.nft_lexer.specs.Sign.{Sign}
-use Rattle.nft_tree.specs.declared.statement.Mark.{Mark}
-use Rattle.nft_tree.specs.declared.statement.Mark.TheVariants.{Meta, Ct}
+use Rattle.nft_tree.specs.declared.statement.MarkField.{MarkField}
+use Rattle.nft_tree.specs.declared.statement.MarkField.TheVariants.{Meta, Ct}
 use Rattle.nft_tree.specs.declared.statement.CounterStart.{CounterStart}
 use Rattle.nft_tree.specs.declared.nat.PortRange.{PortRange}
 use Rattle.nft_tree.specs.declared.nat.PortRange.TheVariants.{One, Between}
@@ -56,14 +56,14 @@ look_at ts = do
   Some (record { selector = selector.0; map = map.0 }, map.1)
 
 -- the word "mark", after the word of the mark
-abbrev pub mark_after : Mark → List Sign → Option (Mark × List Sign)
+abbrev pub mark_after : MarkField → List Sign → Option (MarkField × List Sign)
 mark_after m ts = after_word (codes "mark") ts >>= λ a. Some (m, a)
 
 -- "meta" "mark" | "ct" "mark"
-abbrev pub mark_rows : List (List ℕ × (List Sign → Option (Mark × List Sign)))
+abbrev pub mark_rows : List (List ℕ × (List Sign → Option (MarkField × List Sign)))
 mark_rows = (codes "meta", mark_after Meta) ∷ (codes "ct", mark_after Ct) ∷ []
 
-unfoldable pub mark_at : List Sign → Option (Mark × List Sign)
+unfoldable pub mark_at : List Sign → Option (MarkField × List Sign)
 mark_at ts = by_word mark_rows ts
 
 unfoldable pub operand_at : List Sign → Option (OperandTree × List Sign)

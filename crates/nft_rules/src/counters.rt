@@ -1,7 +1,8 @@
 //! Counters and logs.
 ghost use Rattle.std.specs.Prelude.{◌≡◌, IfOk};
 ghost use Rattle.nft_tree.specs.Tree as tree;
-ghost use Rattle.token_reader.specs.Places.{ahead, option_view};
+ghost use Rattle.std.specs.Option.{option_map};
+ghost use Rattle.token_reader.specs.Places.{ahead};
 ghost use Rattle.nft_rules.specs.Reading.{start_at, counter_at, prefix_at, log_at};
 
 use nft_lexer::Token;
@@ -12,7 +13,7 @@ use token_reader::{after_word, number, string};
 /// "packets" NUM "bytes" NUM
 #[tactic(auto, unfolding(crate::specs::Reading::start_at))]
 fn start(tokens: &[Token], at: usize) -> Option<(CounterStart, usize)>
-    ensures { option_view (λ x. (x.0, ahead tokens.now x.1)) result ≡ start_at (ahead tokens.now at) }
+    ensures { option_map (λ x. (x.0, ahead tokens.now x.1)) result ≡ start_at (ahead tokens.now at) }
 {
     let at = after_word(tokens, at, b"packets")?;
     let (packets, at) = number(tokens, at)?;
@@ -24,7 +25,7 @@ fn start(tokens: &[Token], at: usize) -> Option<(CounterStart, usize)>
 /// "counter" ["packets" NUM "bytes" NUM]
 #[tactic(auto, unfolding(crate::specs::Reading::counter_at))]
 pub(crate) fn counter(tokens: &[Token], at: usize) -> Option<(Option<CounterStart>, usize)>
-    ensures { option_view (λ x. (x.0, ahead tokens.now x.1)) result ≡ counter_at (ahead tokens.now at) }
+    ensures { option_map (λ x. (x.0, ahead tokens.now x.1)) result ≡ counter_at (ahead tokens.now at) }
 {
     let at = after_word(tokens, at, b"counter")?;
     match start(tokens, at) {
@@ -36,7 +37,7 @@ pub(crate) fn counter(tokens: &[Token], at: usize) -> Option<(Option<CounterStar
 /// "prefix" STRING
 #[tactic(auto, unfolding(crate::specs::Reading::prefix_at))]
 fn prefix<'t>(tokens: &[Token<'t>], at: usize) -> Option<(&'t [u8], usize)>
-    ensures { option_view (λ x. (x.0.now, ahead tokens.now x.1)) result ≡ prefix_at (ahead tokens.now at) }
+    ensures { option_map (λ x. (x.0.now, ahead tokens.now x.1)) result ≡ prefix_at (ahead tokens.now at) }
 {
     let at = after_word(tokens, at, b"prefix")?;
     string(tokens, at)
@@ -49,7 +50,7 @@ pub(crate) fn log(
     tokens: &[Token],
     at: usize,
 ) -> Result<Option<(Option<Vec<u8>>, usize)>, Memory>
-    ensures { IfOk result (λ o. option_view (λ x. (tree.option_view (λ t. t.items) x.0, ahead tokens.now x.1)) o ≡ log_at (ahead tokens.now at)) }
+    ensures { IfOk result (λ o. option_map (λ x. (tree.option_map (λ t. t.items) x.0, ahead tokens.now x.1)) o ≡ log_at (ahead tokens.now at)) }
 {
     let Some(at) = after_word(tokens, at, b"log") else {
         return Ok(None);

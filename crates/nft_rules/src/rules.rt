@@ -2,7 +2,8 @@
 ghost use Rattle.std.specs.Prelude.{◌≡◌, List, IfOk, IfSome, IsSomeAnd};
 ghost use Rattle.nft_lexer.specs.Sign.{Sign};
 ghost use Rattle.nft_tree.specs.Tree.{RuleTree, rule_tree};
-ghost use Rattle.token_reader.specs.Places.{ahead, option_view};
+ghost use Rattle.std.specs.Option.{option_map};
+ghost use Rattle.token_reader.specs.Places.{ahead};
 ghost use Rattle.nft_rules.specs.Rules.{SpellsEndedRule};
 ghost use Rattle.nft_rules.specs.Reading.{rule_at};
 
@@ -21,7 +22,7 @@ pub fn rule_here(
     tokens: &[Token],
     at: usize,
 ) -> Result<Option<(Rule, usize)>, Memory>
-    ensures { IfOk result (λ o. option_view (λ x. (rule_tree x.0, ahead tokens.now x.1)) o ≡ rule_at (ahead tokens.now at)) }
+    ensures { IfOk result (λ o. option_map (λ x. (rule_tree x.0, ahead tokens.now x.1)) o ≡ rule_at (ahead tokens.now at)) }
 {
     let (statements, at) = statements(alloc, tokens, at)?;
     if statements.is_empty() {

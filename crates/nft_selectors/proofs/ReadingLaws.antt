@@ -11,7 +11,7 @@ use Rattle.token_reader.specs.Repeats.{OneOf}
 use Rattle.token_reader.specs.Reading.{after_mark, word_at, all_at}
 use Rattle.token_reader.specs.Laws.{IfSome_at, IfSome_weaker, bind_found, else_found, Finds, FindsAll, Takes, Shortens, Always, many_found, many_only, shortens_from, Many_takes}
 use Rattle.token_reader.specs.TokenLaws.{when_found, bytes_eq-true, mark_after, word_found}
-use Rattle.nft_selectors.specs.Selectors.{words_of, SpellsSelector, SpellsNextSelector, SpellsSelectors}
+use Rattle.nft_selectors.specs.Selectors.{spellings_of, SpellsSelector, SpellsNextSelector, SpellsSelectors}
 use Rattle.nft_selectors.specs.Reading.{Row, row_in, rows, interface, second_at, selector_at, next_selector_at, selectors_at}
 use Rattle.nft_selectors.specs.Laws.{NoDot, begins_selector}
 
@@ -95,7 +95,7 @@ abbrev EachRead : Selector → List (List (List ℕ)) → Type 0
 EachRead s [] = Unit {0}
 EachRead s (ws ∷ others) = ((to : List Sign) → selector_at (map word ws ++ to) ≡ Some (s, to)) × EachRead s others
 
-each_read : (s : Selector) → EachRead s (words_of s)
+each_read : (s : Selector) → EachRead s (spellings_of s)
 unfolding selector_at second_at
 each_read selectors.IpSource = (λ to. refl, tt)
 each_read selectors.IpDestination = (λ to. refl, tt)
@@ -129,7 +129,7 @@ one_of_read s (ws ∷ others) each from to (inl e) = ap selector_at e ∙ each.0
 one_of_read s (ws ∷ others) each from to (inr e) = one_of_read s others each.1 from to e
 
 pub selector_only : FindsAll SpellsSelector Always selector_at
-selector_only s from to spelled follow = one_of_read s (words_of s) (each_read s) from to spelled
+selector_only s from to spelled follow = one_of_read s (spellings_of s) (each_read s) from to spelled
 
 second_shorter : (v : List ℕ) (ts : List Sign) → IfSome (second_at v ts) (λ x. length x.1 < length ts)
 unfolding second_at

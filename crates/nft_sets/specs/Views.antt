@@ -1,5 +1,5 @@
 -- What the fields that are read show, without where they lie in memory.
-use Rattle.nft_tree.specs.Tree.{option_view}
+use Rattle.std.specs.Option.{option_map}
 use Rattle.nft_sets.specs.declared.fields.Field.TheVariants as fields
 use Rattle.nft_sets.specs.declared.fields.Field.{Field}
 use Rattle.nft_sets.specs.declared.fields.Fields.{Fields}
@@ -15,4 +15,4 @@ field_tree key elements (fields.Comment text) = trees.comment text.items
 field_tree key elements (fields.Elements es) = trees.elements (elements es)
 
 abbrev pub collected : {K E T U : Type 0} → (K → T) → (E → U) → Fields K E → Collected T U
-collected key elements c = record { key = option_view key c.key; flags = option_view (λ f. f.items) c.flags; size = c.size; auto_merge = c.auto_merge; comment = option_view (λ t. t.items) c.comment; elements = option_view elements c.elements }
+collected key elements c = record { key = option_map key c.key; flags = option_map (λ f. f.items) c.flags; size = c.size; auto_merge = c.auto_merge; comment = option_map (λ t. t.items) c.comment; elements = option_map elements c.elements }

@@ -1,6 +1,7 @@
 //! The fields of sets and maps, which stand in any order.
 ghost use Rattle.std.specs.Prelude.{◌≡◌, Option, Some, None, IfOk, if◌then◌else◌};
-ghost use Rattle.token_reader.specs.Places.{ahead, option_view};
+ghost use Rattle.std.specs.Option.{option_map};
+ghost use Rattle.token_reader.specs.Places.{ahead};
 ghost use Rattle.nft_sets.specs.Reading.{flags_field_at, size_field_at, comment_field_at, elements_field_at, other_field_at, field_at, next_field_at, nothing, with_field, more_fields_at, fields_at};
 ghost use Rattle.nft_sets.specs.Views.{field_tree, collected};
 
@@ -70,7 +71,7 @@ fn flags_field<K: Part, E: Part>(
     tokens: &[Token],
     at: usize,
 ) -> Result<Option<(Field<K, E>, usize)>, Memory>
-    ensures { IfOk result (λ o. option_view (λ x. (field_tree K.tree E.tree x.0, ahead tokens.now x.1)) o ≡ flags_field_at (ahead tokens.now at)) }
+    ensures { IfOk result (λ o. option_map (λ x. (field_tree K.tree E.tree x.0, ahead tokens.now x.1)) o ≡ flags_field_at (ahead tokens.now at)) }
 {
     let Some((flags, at)) = set_flags(alloc, tokens, at)? else {
         return Ok(None);
@@ -81,7 +82,7 @@ fn flags_field<K: Part, E: Part>(
 /// NUM
 #[tactic(auto, unfolding(crate::specs::Reading::size_field_at))]
 fn size_field<K: Part, E: Part>(tokens: &[Token], at: usize) -> Option<(Field<K, E>, usize)>
-    ensures { option_view (λ x. (field_tree K.tree E.tree x.0, ahead tokens.now x.1)) result ≡ size_field_at (ahead tokens.now at) }
+    ensures { option_map (λ x. (field_tree K.tree E.tree x.0, ahead tokens.now x.1)) result ≡ size_field_at (ahead tokens.now at) }
 {
     let (size, at) = number(tokens, at)?;
     Some((Field::Size(size), at))
@@ -94,7 +95,7 @@ fn comment_field<K: Part, E: Part>(
     tokens: &[Token],
     at: usize,
 ) -> Result<Option<(Field<K, E>, usize)>, Memory>
-    ensures { IfOk result (λ o. option_view (λ x. (field_tree K.tree E.tree x.0, ahead tokens.now x.1)) o ≡ comment_field_at (ahead tokens.now at)) }
+    ensures { IfOk result (λ o. option_map (λ x. (field_tree K.tree E.tree x.0, ahead tokens.now x.1)) o ≡ comment_field_at (ahead tokens.now at)) }
 {
     let Some((text, at)) = string(tokens, at) else {
         return Ok(None);
@@ -110,7 +111,7 @@ fn elements_field<K: Part, E: Part>(
     tokens: &[Token],
     at: usize,
 ) -> Result<Option<(Field<K, E>, usize)>, Memory>
-    ensures { IfOk result (λ o. option_view (λ x. (field_tree K.tree E.tree x.0, ahead tokens.now x.1)) o ≡ elements_field_at E.read_at (ahead tokens.now at)) }
+    ensures { IfOk result (λ o. option_map (λ x. (field_tree K.tree E.tree x.0, ahead tokens.now x.1)) o ≡ elements_field_at E.read_at (ahead tokens.now at)) }
 {
     let Some(at) = after_mark(tokens, at, Mark::Equals) else {
         return Ok(None);
@@ -134,7 +135,7 @@ fn other_field<K: Part, E: Part>(
     tokens: &[Token],
     at: usize,
 ) -> Result<Option<(Field<K, E>, usize)>, Memory>
-    ensures { IfOk result (λ o. option_view (λ x. (field_tree K.tree E.tree x.0, ahead tokens.now x.1)) o ≡ other_field_at E.read_at (ahead tokens.now at)) }
+    ensures { IfOk result (λ o. option_map (λ x. (field_tree K.tree E.tree x.0, ahead tokens.now x.1)) o ≡ other_field_at E.read_at (ahead tokens.now at)) }
 {
     if let Some(at) = after_word(tokens, at, b"flags") {
         return flags_field(alloc, tokens, at);
@@ -161,7 +162,7 @@ fn any_field<K: Part, E: Part>(
     tokens: &[Token],
     at: usize,
 ) -> Result<Option<(Field<K, E>, usize)>, Memory>
-    ensures { IfOk result (λ o. option_view (λ x. (field_tree K.tree E.tree x.0, ahead tokens.now x.1)) o ≡ field_at K.read_at E.read_at (ahead tokens.now at)) }
+    ensures { IfOk result (λ o. option_map (λ x. (field_tree K.tree E.tree x.0, ahead tokens.now x.1)) o ≡ field_at K.read_at E.read_at (ahead tokens.now at)) }
 {
     match K::read(alloc, tokens, at)? {
         Some((key, at)) => Ok(Some((Field::Key(key), at))),
@@ -176,7 +177,7 @@ fn next_field<K: Part, E: Part>(
     tokens: &[Token],
     at: usize,
 ) -> Result<Option<(Field<K, E>, usize)>, Memory>
-    ensures { IfOk result (λ o. option_view (λ x. (field_tree K.tree E.tree x.0, ahead tokens.now x.1)) o ≡ next_field_at K.read_at E.read_at (ahead tokens.now at)) }
+    ensures { IfOk result (λ o. option_map (λ x. (field_tree K.tree E.tree x.0, ahead tokens.now x.1)) o ≡ next_field_at K.read_at E.read_at (ahead tokens.now at)) }
 {
     let Some(at) = after_ends(tokens, at) else {
         return Ok(None);
@@ -191,7 +192,7 @@ fn more_fields<K: Part, E: Part>(
     at: usize,
     fields: &mut Fields<K, E>,
 ) -> Result<Option<usize>, Memory>
-    ensures { IfOk result (λ o. option_view (λ end. (collected K.tree E.tree fields.new, ahead tokens.now end)) o ≡ more_fields_at K.read_at E.read_at (collected K.tree E.tree fields.old) (ahead tokens.now at)) }
+    ensures { IfOk result (λ o. option_map (λ end. (collected K.tree E.tree fields.new, ahead tokens.now end)) o ≡ more_fields_at K.read_at E.read_at (collected K.tree E.tree fields.old) (ahead tokens.now at)) }
 {
     K::laws();
     E::laws();
@@ -212,7 +213,7 @@ pub(crate) fn all_fields<K: Part, E: Part>(
     tokens: &[Token],
     at: usize,
 ) -> Result<Option<(Fields<K, E>, usize)>, Memory>
-    ensures { IfOk result (λ o. option_view (λ x. (collected K.tree E.tree x.0, ahead tokens.now x.1)) o ≡ fields_at K.read_at E.read_at (ahead tokens.now at)) }
+    ensures { IfOk result (λ o. option_map (λ x. (collected K.tree E.tree x.0, ahead tokens.now x.1)) o ≡ fields_at K.read_at E.read_at (ahead tokens.now at)) }
 {
     let Some(at) = after_mark(tokens, at, Mark::OpenBrace) else {
         return Ok(None);

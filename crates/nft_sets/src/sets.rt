@@ -1,7 +1,8 @@
 //! Sets and maps.
 ghost use Rattle.std.specs.Prelude.{◌≡◌, IfOk};
 ghost use Rattle.nft_tree.specs.Tree.{set_tree, map_tree};
-ghost use Rattle.token_reader.specs.Places.{ahead, option_view};
+ghost use Rattle.std.specs.Option.{option_map};
+ghost use Rattle.token_reader.specs.Places.{ahead};
 ghost use Rattle.nft_sets.specs.Reading.{set_at, map_at};
 
 use crate::fields::{Fields, all_fields};
@@ -17,7 +18,7 @@ pub fn set_decl(
     tokens: &[Token],
     at: usize,
 ) -> Result<Option<(SetDecl, usize)>, Memory>
-    ensures { IfOk result (λ o. option_view (λ x. (set_tree x.0, ahead tokens.now x.1)) o ≡ set_at (ahead tokens.now at)) }
+    ensures { IfOk result (λ o. option_map (λ x. (set_tree x.0, ahead tokens.now x.1)) o ≡ set_at (ahead tokens.now at)) }
 {
     let Some(at) = after_word(tokens, at, b"set") else {
         return Ok(None);
@@ -59,7 +60,7 @@ pub fn map_decl(
     tokens: &[Token],
     at: usize,
 ) -> Result<Option<(MapDecl, usize)>, Memory>
-    ensures { IfOk result (λ o. option_view (λ x. (map_tree x.0, ahead tokens.now x.1)) o ≡ map_at (ahead tokens.now at)) }
+    ensures { IfOk result (λ o. option_map (λ x. (map_tree x.0, ahead tokens.now x.1)) o ≡ map_at (ahead tokens.now at)) }
 {
     let Some(at) = after_word(tokens, at, b"map") else {
         return Ok(None);

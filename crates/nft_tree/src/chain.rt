@@ -44,16 +44,16 @@ pub enum Hook {
 #[derive(Clone, Copy, Debug, PartialEq, Eq)]
 pub enum Priority {
     /// A number, or the negative of one.
-    Number(Sign, u64),
+    Number(OffsetSign, u64),
     /// A name alone.
     Named(PriorityName),
     /// A name and a number added to it or taken from it.
-    Offset(PriorityName, Sign, u64),
+    Offset(PriorityName, OffsetSign, u64),
 }
 
 /// Whether a number is added or taken away.
 #[derive(Clone, Copy, Debug, PartialEq, Eq)]
-pub enum Sign {
+pub enum OffsetSign {
     Plus,
     Minus,
 }

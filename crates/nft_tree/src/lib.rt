@@ -17,7 +17,7 @@ mod statement;
 mod tables;
 mod word;
 
-pub use chain::{Chain, ChainKind, Head, Hook, Policy, Priority, PriorityName, Rule, Sign};
+pub use chain::{Chain, ChainKind, Head, Hook, Policy, Priority, PriorityName, Rule, OffsetSign};
 pub use memory::Memory;
 pub use nat::{DestinationTarget, Nat, PortRange, SourceTarget};
 pub use ruleset::{Family, Item, RuleNo, Ruleset, Table};
@@ -27,7 +27,7 @@ pub use set::{
     TypeOrVerdict,
 };
 pub use statement::{
-    BitField, BitTest, CounterStart, Flag, Look, MapRef, Mark, Masked, Match, Operand, Operator,
+    BitField, BitTest, CounterStart, Flag, Look, MapRef, MarkField, Masked, Match, Operand, Operator,
     SetRef, Stmt, Verdict,
 };
 pub use word::{Range, Value};

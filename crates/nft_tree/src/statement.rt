@@ -13,7 +13,7 @@ pub enum Stmt {
     /// `log`, with its prefix
     Log(Option<Vec<u8>>),
     /// `meta mark set`, `ct mark set`
-    SetMark(Mark, Operand),
+    SetMark(MarkField, Operand),
     /// `SELECTOR vmap MAP`
     VerdictMap(Selector, MapRef),
     Verdict(Verdict),
@@ -29,7 +29,7 @@ pub struct CounterStart {
 
 /// The marks: the packet's and the connection's.
 #[derive(Clone, Copy, Debug, PartialEq, Eq)]
-pub enum Mark {
+pub enum MarkField {
     Meta,
     Ct,
 }
@@ -38,7 +38,7 @@ pub enum Mark {
 #[derive(Debug, Drop)]
 pub enum Operand {
     Number(u64),
-    Mark(Mark),
+    Mark(MarkField),
     Look(Look),
 }
 
@@ -105,11 +105,11 @@ pub enum Match {
     /// `tcp flags FLAGS`: one of them at least is set.
     AnyFlag(Vec<Flag>),
     /// `tcp flags == FLAGS`: these and no other are set.
-    AllFlags(Vec<Flag>),
+    ExactFlags(Vec<Flag>),
     /// `tcp flags WANTED / MASK`: of the mask's flags those wanted are set, and no other.
     MaskedFlags(Masked),
     /// The same with `!=`: not so.
-    OtherFlags(Masked),
+    MaskedFlagsUnequal(Masked),
 }
 
 /// What bits are tested: those of `ct state` or of `ct status`.
@@ -125,7 +125,7 @@ pub enum BitTest {
     /// No operator: one of the named bits at least is set.
     Any,
     /// `==`: the value is all the named bits and no other.
-    All,
+    Exactly,
     /// `!=`: none of the named bits is set.
     None,
 }
