@@ -1,5 +1,5 @@
 -- Reading what stands in front of a text: each gives it and what follows it.
-use Rattle.std.specs.Prelude.{ℕ, suc, ◌+◌, ◌*◌, ◌^◌, List, [], ◌∷◌, length, take, drop, Bool, ◌==◌, nat_lt, ◌&&◌, Option, Some, None, option_and_then, if◌then◌else◌, slice_index, Result, Ok, Err}
+use Rattle.std.specs.Prelude.{ℕ, suc, ◌+◌, ◌*◌, ◌^◌, List, [], ◌∷◌, length, take, drop, Bool, ◌==◌, nat_lt, ◌&&◌, Option, Some, None, option_and_then, option_map, option_to_list, if◌then◌else◌, slice_index, Result, Ok, Err}
 use Rattle.std.specs.Char.{is_ascii_digit, is_ascii_hexdigit}
 use Rattle.std.specs.List.{prefix_len}
 use Rattle.std.specs.Str.Parse.{digits_value}
@@ -12,20 +12,17 @@ use Rattle.nft_lexer.specs.declared.piece.Piece.{Piece}
 use Rattle.nft_lexer.specs.declared.piece.Piece.TheVariants as pieces
 use Rattle.nft_lexer.specs.declared.piece.Dotted.{Dotted}
 use Rattle.nft_lexer.specs.declared.fault.LexError.{LexError}
-use Rattle.nft_lexer.specs.declared.fault.LexError.TheVariants as errors
+use Rattle.nft_lexer.specs.declared.fault.LexError.TheVariants.{Refused, Memory}
+use Rattle.nft_lexer.specs.declared.fault.LexFault.{LexFault}
+use Rattle.nft_lexer.specs.declared.fault.LexFault.TheVariants as lexical
 use Rattle.nft_lexer.specs.declared.cutting.Fault.{Fault}
 use Rattle.nft_lexer.specs.declared.cutting.Fault.TheVariants as faults
 use Rattle.nft_lexer.specs.Sign.{Sign, newline, mark, word, number, address, string, sign_of, Spelled}
-use Rattle.nft_lexer.specs.Cut.{Part, blank, joined_line, comment, line_end, name, digits, hexadecimal, dotted, quoted, sole, is_blank, begins_word, continues_word, is_no_line_end, stands_in_string, IsDigits, IsHexadecimal, Stands, Means}
+use Rattle.nft_lexer.specs.Cut.{Part, blank, joined_line, comment, line_end, name, digits, hexadecimal, dotted, quoted, sole, is_blank, begins_word, continues_word, is_no_line_end, stands_in_string, IsDigits, IsHexadecimal, IsPartAt, Means}
 
 infixl 10 ◌>>=◌
 abbrev pub ◌>>=◌ : {A B : Type 0} → Option A → (A → Option B) → Option B
 o >>= f = option_and_then f o
-
--- the option with its value seen so
-abbrev pub option_view : {A B : Type 0} → (A → B) → Option A → Option B
-option_view f None = None
-option_view f (Some x) = Some (f x)
 
 abbrev pub option_else : {A B : Type 0} → Option A → (A → B) → B → B
 option_else None f e = e
@@ -167,24 +164,24 @@ unfoldable pub number_at : List ℕ → Option (Part × List ℕ)
 number_at ts =
     option_else (hexadecimal_at ts) (λ x. Some (hexadecimal x.0, x.1))
     (option_else (dotted_at ts) (λ x. Some (dotted x.0.first x.0.second x.0.third x.0.fourth, x.1))
-    (option_view (λ x. (digits x.0, x.1)) (digits_at ts)))
+    (option_map (λ x. (digits x.0, x.1)) (digits_at ts)))
 
 -- what follows a quote: the bytes up to the next one, with no line's end before it
 unfoldable pub quoted_at : List ℕ → Option (Part × List ℕ)
 quoted_at ts =
     let n = prefix_len stands_in_string ts in
-    option_view (λ r. (quoted (take n ts), r)) (after_byte 34 (drop n ts))
+    option_map (λ r. (quoted (take n ts), r)) (after_byte 34 (drop n ts))
 
 unfoldable pub mark_at : List ℕ → Option (Part × List ℕ)
 mark_at [] = None
-mark_at (a ∷ []) = option_view (λ m. (sole m, [])) (mark_of a)
-mark_at (a ∷ b ∷ bs) = option_else (long_mark_of a b) (λ m. Some (sole m, bs)) (option_view (λ m. (sole m, b ∷ bs)) (mark_of a))
+mark_at (a ∷ []) = option_map (λ m. (sole m, [])) (mark_of a)
+mark_at (a ∷ b ∷ bs) = option_else (long_mark_of a b) (λ m. Some (sole m, bs)) (option_map (λ m. (sole m, b ∷ bs)) (mark_of a))
 
 -- the piece that begins with a byte of this class
 unfoldable pub class_at : Class → ℕ → List ℕ → Option (Part × List ℕ)
 class_at classes.Blank b bs = Some (blank, bs)
 class_at classes.LineEnd b bs = Some (line_end, bs)
-class_at classes.Backslash b bs = option_view (λ r. (joined_line, r)) (after_byte 10 bs)
+class_at classes.Backslash b bs = option_map (λ r. (joined_line, r)) (after_byte 10 bs)
 class_at classes.Hash b bs = Some (comment (take (prefix_len is_no_line_end bs) bs), drop (prefix_len is_no_line_end bs) bs)
 class_at classes.Quote b bs = quoted_at bs
 class_at classes.Digit b bs = number_at (b ∷ bs)
@@ -208,15 +205,14 @@ meaning joined_line bytes = Some []
 meaning (comment c) bytes = Some []
 meaning line_end bytes = Some (one newline bytes)
 meaning (name w) bytes = Some (one (word bytes) bytes)
-meaning (digits n) bytes = option_view (λ v. one (number v) bytes) (decimal_at (2 ^ 64) n)
-meaning (hexadecimal n) bytes = option_view (λ v. one (number v) bytes) (hexadecimal_value_at n)
-meaning (dotted a b c d) bytes = option_view (λ v. one (address v) bytes) (address_at (record { first = a; second = b; third = c; fourth = d }))
+meaning (digits n) bytes = option_map (λ v. one (number v) bytes) (decimal_at (2 ^ 64) n)
+meaning (hexadecimal n) bytes = option_map (λ v. one (number v) bytes) (hexadecimal_value_at n)
+meaning (dotted a b c d) bytes = option_map (λ v. one (address v) bytes) (address_at (record { first = a; second = b; third = c; fourth = d }))
 meaning (quoted s) bytes = Some (one (string s) bytes)
 meaning (sole m) bytes = Some (one (mark m) bytes)
 
 abbrev pub listed : {A B : Type 0} → (A → B) → Option A → List B
-listed f None = []
-listed f (Some x) = f x ∷ []
+listed f o = option_to_list (option_map f o)
 
 -- a token of this kind with these bytes
 abbrev pub spelled_as : Kind → List ℕ → Spelled
@@ -236,9 +232,14 @@ IsShaped p = Unit {0}
 
 -- a piece from a place to another is these tokens
 abbrev pub Passes : List ℕ → List Spelled → List ℕ → Type 0
-Passes from tokens to = (p : Part) × (bytes : List ℕ) × Stands p bytes from to × Means p bytes tokens
+Passes from tokens to = (p : Part) × (bytes : List ℕ) × IsPartAt p bytes from to × Means p bytes tokens
 
-abbrev pub on_line : Fault → ℕ → LexError
-on_line faults.Byte line = errors.Byte line
-on_line faults.OpenString line = errors.OpenString line
-on_line faults.Number line = errors.Number line
+abbrev pub on_line : Fault → ℕ → LexFault
+on_line faults.Byte line = lexical.Byte line
+on_line faults.OpenString line = lexical.OpenString line
+on_line faults.Number line = lexical.Number line
+
+-- a fault that is told is one of these; want of memory may be told of any text
+abbrev pub Tells : (LexFault → Type 0) → LexError → Type 0
+Tells P (Refused fault) = P fault
+Tells P Memory = Unit {0}
