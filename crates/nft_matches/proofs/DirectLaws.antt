@@ -8,14 +8,14 @@ use Rattle.nft_tree.specs.declared.statement.Operator.{Operator}
 use Rattle.nft_tree.specs.declared.statement.BitField.TheVariants.{State, Status}
 use Rattle.nft_tree.specs.Tree as tree
 use Rattle.nft_tree.specs.Tree.{ValueTree, RangeTree, MatchTree, compare, any_flag, exact_flags, masked_flags, masked_flags_unequal}
-use Rattle.token_reader.specs.Laws.{IfSome_weaker, bind_found}
-use Rattle.token_reader.specs.TokenLaws.{when_found}
+use Rattle.token_reader.specs.steps.Laws.{IfSome_weaker, bind_found}
+use Rattle.token_reader.specs.steps.TokenLaws.{when_found}
 use Rattle.nft_selectors.specs.Selectors.{SpellsSelector, is_plain}
-use Rattle.nft_lists.specs.Elements.{SpellsRange, sign_of}
-use Rattle.nft_lists.specs.Laws.{begins_value, EndsRange, ListLaws}
-use Rattle.nft_lists.specs.Reading.{range_at}
+use Rattle.nft_lists.specs.Elements.{EndsRange, SpellsRange, sign_of}
+use Rattle.nft_lists.specs.steps.Laws.{begins_value, ListLaws}
+use Rattle.nft_lists.specs.steps.Reading.{range_at}
 use Rattle.nft_matches.specs.Matches.{SpellsOperator, SpellsMatch, is_range_for}
-use Rattle.nft_matches.specs.Reading.{operator_at, flag_test_at, comparison_at, test_at}
+use Rattle.nft_matches.specs.steps.Reading.{operator_at, flag_test_at, comparison_at, test_at}
 use Rattle.nft_matches.proofs.OperatorLaws.{IsPlainFront, plain_front, operator_found, operator_only}
 use Rattle.nft_matches.proofs.BitLaws.{bits_found}
 use Rattle.nft_matches.proofs.FlagLaws.{SpellsFlagTest, flag_test_found}

@@ -8,11 +8,11 @@ use Rattle.nft_lexer.specs.Sign.{Sign, mark}
 use Rattle.nft_tree.specs.declared.statement.BitTest.{BitTest}
 use Rattle.nft_tree.specs.declared.statement.BitTest.TheVariants as tests
 use Rattle.nft_tree.specs.Tree.{FlagTree, flag_word, flag_number, MatchTree, any_flag, exact_flags, masked_flags, masked_flags_unequal}
-use Rattle.token_reader.specs.Reading.{all_at, after_mark}
-use Rattle.token_reader.specs.Laws.{Finds, FindsAll, Takes, Always, Shortens, IfSome_weaker, bind_found, else_found, many_found, many_only, Many_takes, shortens_from}
-use Rattle.token_reader.specs.TokenLaws.{when_found, mark_after}
+use Rattle.token_reader.specs.steps.Reading.{all_at, after_mark}
+use Rattle.token_reader.specs.steps.Laws.{Finds, FindsAll, Takes, Always, Shortens, IfSome_weaker, bind_found, else_found, many_found, many_only, Many_takes, shortens_from}
+use Rattle.token_reader.specs.steps.TokenLaws.{when_found, mark_after}
 use Rattle.nft_matches.specs.Matches.{sign_of_flag, is_flag, SpellsBitTest, SpellsNextFlag, SpellsFlags, SpellsFlagGroup, SpellsEquality, SpellsMasked}
-use Rattle.nft_matches.specs.Reading.{equality_at, bit_test_at, flag_at, after_separator, next_flag_at, flags_at, closed_flags_at, flag_group_at, masked, after_ampersand_at, is_equality, after_slash_at, unmasked_at, listed_flags_at, flag_test_at}
+use Rattle.nft_matches.specs.steps.Reading.{equality_at, bit_test_at, flag_at, after_separator, next_flag_at, flags_at, closed_flags_at, flag_group_at, masked, after_ampersand_at, is_equality, after_slash_at, unmasked_at, listed_flags_at, flag_test_at}
 use Rattle.nft_matches.proofs.OperatorLaws.{IsPlainFront, plain_front, IsNoSet, no_set_at_value, no_set_after_equality, equality_found, equality_only, equality_takes, equality_if_takes, bit_test_found, bit_test_only}
 
 -- ---- one flag

@@ -9,13 +9,12 @@ use Rattle.nft_tree.specs.declared.statement.Operator.{Operator}
 use Rattle.nft_tree.specs.declared.statement.Operator.TheVariants as operators
 use Rattle.nft_tree.specs.declared.statement.BitTest.{BitTest}
 use Rattle.nft_tree.specs.declared.statement.BitTest.TheVariants as tests
-use Rattle.token_reader.specs.Reading.{after_mark}
-use Rattle.token_reader.specs.Laws.{option_cases, IfSome_at}
-use Rattle.token_reader.specs.TokenLaws.{mark_after}
-use Rattle.nft_lists.specs.Laws.{begins_value, begins_reference}
-use Rattle.nft_matches.specs.Matches.{SpellsOperator, SpellsBitTest, SpellsEquality, SpellsEqualityOrNone}
-use Rattle.nft_matches.specs.Laws.{ends_match, EndsMatch}
-use Rattle.nft_matches.specs.Reading.{operator_at, equality_at, equality_if_at, bit_test_at}
+use Rattle.token_reader.specs.steps.Reading.{after_mark}
+use Rattle.token_reader.specs.steps.Laws.{option_cases, IfSome_at}
+use Rattle.token_reader.specs.steps.TokenLaws.{mark_after}
+use Rattle.nft_lists.specs.steps.Laws.{begins_value, begins_reference}
+use Rattle.nft_matches.specs.Matches.{ends_match, EndsMatch, SpellsOperator, SpellsBitTest, SpellsEquality, SpellsEqualityOrNone}
+use Rattle.nft_matches.specs.steps.Reading.{operator_at, equality_at, equality_if_at, bit_test_at}
 
 -- ---- what is read is spelled so
 

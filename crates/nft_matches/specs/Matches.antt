@@ -105,3 +105,15 @@ SpellsMatch (tree.any_flag fs) from to = (a : List Sign) × SpellsSelector TcpFl
 SpellsMatch (tree.exact_flags fs) from to = (a : List Sign) × SpellsSelector TcpFlags from (mark marks.EqualTo ∷ a) × SpellsFlags fs a to
 SpellsMatch (tree.masked_flags wanted mask) from to = (a : List Sign) × SpellsSelector TcpFlags from a × SpellsMasked true wanted mask a to
 SpellsMatch (tree.masked_flags_unequal wanted mask) from to = (a : List Sign) × SpellsSelector TcpFlags from a × SpellsMasked false wanted mask a to
+
+-- what may follow a match in a rule: a word, or what ends a rule
+abbrev pub ends_match : List Sign → Bool
+ends_match [] = true
+ends_match (signs.newline ∷ ts) = true
+ends_match (signs.word w ∷ ts) = true
+ends_match (mark marks.Semicolon ∷ ts) = true
+ends_match (mark marks.CloseBrace ∷ ts) = true
+ends_match _ = false
+
+abbrev pub EndsMatch : List Sign → Type 0
+EndsMatch ts = IsTrue (ends_match ts)

@@ -57,6 +57,10 @@ abbrev pub SpellsSelectors : List Selector → List Sign → List Sign → Type 
 SpellsSelectors [] from to = ⊥
 SpellsSelectors (s ∷ ss) from to = (a : List Sign) × SpellsSelector s from a × Many SpellsNextSelector ss a to
 
+-- no further selector stands here that would go on with others
+abbrev pub EndsSelectors : List Sign → Type 0
+EndsSelectors ts = (s : Selector) (to : List Sign) → SpellsNextSelector s ts to → ⊥
+
 -- sel: all but `ct state`, `ct status` and `tcp flags`
 abbrev pub is_plain : Selector → Bool
 is_plain selectors.CtState = false
