@@ -4,21 +4,21 @@ use Rattle.std.proofs.lemmas.Bool.{false≢true}
 use Rattle.std.specs.Prelude.{codes, IfSome}
 use Rattle.nft_lexer.specs.Sign.{Sign, word}
 use Rattle.nft_tree.specs.declared.selector.Selector.{Selector}
-use Rattle.nft_tree.specs.declared.selector.Selector.TheVariants.{MetaMark, CtMark}
 use Rattle.nft_tree.specs.declared.statement.MarkField.{MarkField}
+use Rattle.nft_tree.specs.declared.selector.Selector.TheVariants.{MetaMark, CtMark}
 use Rattle.nft_tree.specs.declared.statement.MarkField.TheVariants.{Meta, Ct}
 use Rattle.nft_tree.specs.Tree as tree
 use Rattle.nft_tree.specs.Tree.{LookTree, OperandTree, Statement}
-use Rattle.token_reader.specs.Reading.{after_word, number_at}
-use Rattle.token_reader.specs.Laws.{some_is, option_cases, IfSome_at, bind_found, else_found, Finds, FindsAll, Takes, Always}
-use Rattle.token_reader.specs.TokenLaws.{word_after, number_found, by_word_found}
+use Rattle.token_reader.specs.steps.Reading.{after_word, number_at}
+use Rattle.token_reader.specs.steps.Laws.{some_is, option_cases, IfSome_at, bind_found, else_found, Finds, FindsAll, Takes, Always}
+use Rattle.token_reader.specs.steps.TokenLaws.{word_after, number_found, by_word_found}
 use Rattle.nft_selectors.specs.Selectors.{SpellsSelector}
-use Rattle.nft_selectors.specs.Reading.{selector_at}
-use Rattle.nft_selectors.specs.Laws.{SelectorLaws, begins_selector}
-use Rattle.nft_lists.specs.Reading.{map_ref_at}
-use Rattle.nft_lists.specs.Laws.{ListLaws}
+use Rattle.nft_selectors.specs.steps.Reading.{selector_at}
+use Rattle.nft_selectors.specs.steps.Laws.{SelectorLaws, begins_selector}
+use Rattle.nft_lists.specs.steps.Reading.{map_ref_at}
+use Rattle.nft_lists.specs.steps.Laws.{ListLaws}
 use Rattle.nft_rules.specs.Rules.{SpellsLook, mark_word, SpellsOperand, SpellsStatement}
-use Rattle.nft_rules.specs.Reading.{mark_rows, look_at, mark_at, operand_at, set_mark_at}
+use Rattle.nft_rules.specs.steps.Reading.{mark_rows, look_at, mark_at, operand_at, set_mark_at}
 use Rattle.nft_rules.proofs.Follow.{MayFollow, follows, selector_begins, selector_front}
 use Rattle.nft_rules.proofs.CounterLaws.{after}
 

@@ -7,18 +7,18 @@ use Rattle.nft_lexer.specs.declared.token.Mark.TheVariants as marks
 use Rattle.nft_lexer.specs.Sign as signs
 use Rattle.nft_lexer.specs.Sign.{Sign, mark}
 use Rattle.nft_tree.specs.declared.selector.Selector.{Selector}
-use Rattle.nft_tree.specs.declared.selector.Selector.TheVariants.{TcpFlags}
 use Rattle.nft_tree.specs.declared.statement.Operator.{Operator}
-use Rattle.nft_tree.specs.declared.statement.Operator.TheVariants as operators
 use Rattle.nft_tree.specs.declared.statement.BitTest.{BitTest}
-use Rattle.nft_tree.specs.declared.statement.BitTest.TheVariants as tests
+use Rattle.nft_tree.specs.declared.selector.Selector.TheVariants.{TcpFlags}
+use Rattle.nft_tree.specs.declared.statement.Operator.TheVariants as operators
+use Rattle.nft_tree.specs.declared.statement.BitTest.TheVariants as bit_tests
 use Rattle.nft_tree.specs.Tree as tree
 use Rattle.nft_tree.specs.Tree.{Text, ValueTree, RangeTree, FlagTree, SetRefTree, MatchTree}
 use Rattle.token_reader.specs.Repeats.{Many}
 use Rattle.nft_selectors.specs.Selectors.{SpellsSelector, SpellsNextSelector, is_word_for}
-use Rattle.nft_selectors.specs.Laws.{SelectorLaws, begins_selector}
+use Rattle.nft_selectors.specs.steps.Laws.{SelectorLaws, begins_selector}
 use Rattle.nft_lists.specs.Elements.{sign_of, SpellsRange, SpellsSetRef}
-use Rattle.nft_lists.specs.Laws.{begins_reference}
+use Rattle.nft_lists.specs.steps.Laws.{begins_reference}
 use Rattle.nft_matches.specs.Matches.{SpellsMatch, SpellsOperator, SpellsBitTest, SpellsWords, is_value_for, is_range_for, is_flag, SpellsNextFlag, SpellsFlags, SpellsEqualityOrNone, SpellsMasked, selector_of}
 use Rattle.nft_rules.proofs.Follow.{selector_begins}
 
@@ -73,9 +73,9 @@ words_front s (w ∷ v ∷ ws) from to e fit plain = rw (e.1, (and_parts (is_wor
 
 test_front : (s : Selector) (test : BitTest) (from to : List Sign) → SpellsBitTest test from to → AfterSelector s to → AfterSelector s from
 unfolding AfterSelector
-test_front s tests.Any from to e next = rw e next
-test_front s tests.Exactly from to e next = rw e refl
-test_front s tests.None from to e next = rw e refl
+test_front s bit_tests.Any from to e next = rw e next
+test_front s bit_tests.Exactly from to e next = rw e refl
+test_front s bit_tests.None from to e next = rw e refl
 
 -- no reference stands after a flag
 next_flag_front : (fs : List FlagTree) (from to : List Sign) → Many SpellsNextFlag fs from to → begins_reference to ≡ false → begins_reference from ≡ false

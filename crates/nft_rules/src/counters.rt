@@ -2,7 +2,7 @@
 ghost use Rattle.std.specs.Prelude.{◌≡◌, IfOk};
 ghost use Rattle.std.specs.Option.{option_map};
 ghost use Rattle.token_reader.specs.Places.{ahead};
-ghost use Rattle.nft_rules.specs.Reading.{start_at, counter_at, prefix_at, log_at};
+ghost use Rattle.nft_rules.specs.steps.Reading.{start_at, counter_at, prefix_at, log_at};
 
 use nft_lexer::Token;
 use nft_tree::{CounterStart, Memory};
@@ -10,7 +10,7 @@ use std::alloc::Global;
 use token_reader::{after_word, number, string};
 
 /// "packets" NUM "bytes" NUM
-#[tactic(auto, unfolding(crate::specs::Reading::start_at))]
+#[tactic(auto, unfolding(crate::specs::steps::Reading::start_at))]
 fn start(tokens: &[Token], at: usize) -> Option<(CounterStart, usize)>
     ensures { option_map (λ x. (x.0, ahead tokens.now x.1)) result ≡ start_at (ahead tokens.now at) }
 {
@@ -22,7 +22,7 @@ fn start(tokens: &[Token], at: usize) -> Option<(CounterStart, usize)>
 }
 
 /// "counter" ["packets" NUM "bytes" NUM]
-#[tactic(auto, unfolding(crate::specs::Reading::counter_at))]
+#[tactic(auto, unfolding(crate::specs::steps::Reading::counter_at))]
 pub(crate) fn counter(tokens: &[Token], at: usize) -> Option<(Option<CounterStart>, usize)>
     ensures { option_map (λ x. (x.0, ahead tokens.now x.1)) result ≡ counter_at (ahead tokens.now at) }
 {
@@ -34,7 +34,7 @@ pub(crate) fn counter(tokens: &[Token], at: usize) -> Option<(Option<CounterStar
 }
 
 /// "prefix" STRING
-#[tactic(auto, unfolding(crate::specs::Reading::prefix_at))]
+#[tactic(auto, unfolding(crate::specs::steps::Reading::prefix_at))]
 fn prefix<'t>(tokens: &[Token<'t>], at: usize) -> Option<(&'t [u8], usize)>
     ensures { option_map (λ x. (x.0.now, ahead tokens.now x.1)) result ≡ prefix_at (ahead tokens.now at) }
 {
@@ -43,7 +43,7 @@ fn prefix<'t>(tokens: &[Token<'t>], at: usize) -> Option<(&'t [u8], usize)>
 }
 
 /// "log" ["prefix" STRING]
-#[tactic(auto, unfolding(crate::specs::Reading::log_at))]
+#[tactic(auto, unfolding(crate::specs::steps::Reading::log_at))]
 pub(crate) fn log(
     alloc: Global,
     tokens: &[Token],

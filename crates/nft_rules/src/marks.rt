@@ -3,7 +3,7 @@ ghost use Rattle.std.specs.Prelude.{◌≡◌, IfOk};
 ghost use Rattle.nft_tree.specs.Tree.{look_tree, operand_tree, statement};
 ghost use Rattle.std.specs.Option.{option_map};
 ghost use Rattle.token_reader.specs.Places.{ahead};
-ghost use Rattle.nft_rules.specs.Reading.{look_at, mark_at, operand_at, set_mark_at};
+ghost use Rattle.nft_rules.specs.steps.Reading.{look_at, mark_at, operand_at, set_mark_at};
 
 use nft_lexer::Token;
 use nft_lists::map_ref;
@@ -13,7 +13,7 @@ use std::alloc::Global;
 use token_reader::{after_word, number};
 
 /// anysel "map" mapref
-#[tactic(auto, unfolding(crate::specs::Reading::look_at))]
+#[tactic(auto, unfolding(crate::specs::steps::Reading::look_at))]
 pub(crate) fn look(
     alloc: Global,
     tokens: &[Token],
@@ -34,7 +34,7 @@ pub(crate) fn look(
 }
 
 /// "meta" "mark" | "ct" "mark"
-#[tactic(auto, unfolding(crate::specs::Reading::mark_at))]
+#[tactic(auto, unfolding(crate::specs::steps::Reading::mark_at))]
 fn mark(tokens: &[Token], at: usize) -> Option<(MarkField, usize)>
     ensures { option_map (λ x. (x.0, ahead tokens.now x.1)) result ≡ mark_at (ahead tokens.now at) }
 {
@@ -48,7 +48,7 @@ fn mark(tokens: &[Token], at: usize) -> Option<(MarkField, usize)>
 }
 
 /// NUM | anysel "map" mapref | "meta" "mark" | "ct" "mark"
-#[tactic(auto, unfolding(crate::specs::Reading::operand_at))]
+#[tactic(auto, unfolding(crate::specs::steps::Reading::operand_at))]
 fn operand(alloc: Global, tokens: &[Token], at: usize) -> Result<Option<(Operand, usize)>, Memory>
     ensures { IfOk result (λ o. option_map (λ x. (operand_tree x.0, ahead tokens.now x.1)) o ≡ operand_at (ahead tokens.now at)) }
 {
@@ -65,7 +65,7 @@ fn operand(alloc: Global, tokens: &[Token], at: usize) -> Result<Option<(Operand
 }
 
 /// ("meta" | "ct") "mark" "set" operand
-#[tactic(auto, unfolding(crate::specs::Reading::set_mark_at))]
+#[tactic(auto, unfolding(crate::specs::steps::Reading::set_mark_at))]
 pub(crate) fn set_mark(
     alloc: Global,
     tokens: &[Token],
