@@ -1,9 +1,9 @@
 //! The fields of sets and maps, which stand in any order.
-ghost use Rattle.std.specs.Prelude.{◌≡◌, Option, Some, None, IfOk, if◌then◌else◌};
+ghost use Rattle.std.specs.Prelude.{◌≡◌, ◌≤◌, length, Option, Some, None, IfOk, IfSome, if◌then◌else◌};
 ghost use Rattle.std.specs.Option.{option_map};
 ghost use Rattle.token_reader.specs.Places.{ahead};
-ghost use Rattle.nft_sets.specs.Reading.{flags_field_at, size_field_at, comment_field_at, elements_field_at, other_field_at, field_at, next_field_at, nothing, with_field, more_fields_at, fields_at};
-ghost use Rattle.nft_sets.specs.Views.{field_tree, collected};
+ghost use Rattle.nft_sets.specs.steps.Reading.{flags_field_at, size_field_at, comment_field_at, elements_field_at, other_field_at, field_at, next_field_at, nothing, with_field, more_fields_at, fields_at};
+ghost use Rattle.nft_sets.specs.steps.Views.{field_tree, collected};
 
 use crate::flags::set_flags;
 use crate::parts::Part;
@@ -65,7 +65,7 @@ impl<K: Part, E: Part> Fields<K, E> {
 }
 
 /// sflag {"," sflag}
-#[tactic(auto, unfolding(crate::specs::Reading::flags_field_at))]
+#[tactic(auto, unfolding(crate::specs::steps::Reading::flags_field_at))]
 fn flags_field<K: Part, E: Part>(
     alloc: Global,
     tokens: &[Token],
@@ -80,7 +80,7 @@ fn flags_field<K: Part, E: Part>(
 }
 
 /// NUM
-#[tactic(auto, unfolding(crate::specs::Reading::size_field_at))]
+#[tactic(auto, unfolding(crate::specs::steps::Reading::size_field_at))]
 fn size_field<K: Part, E: Part>(tokens: &[Token], at: usize) -> Option<(Field<K, E>, usize)>
     ensures { option_map (λ x. (field_tree K.tree E.tree x.0, ahead tokens.now x.1)) result ≡ size_field_at (ahead tokens.now at) }
 {
@@ -89,7 +89,7 @@ fn size_field<K: Part, E: Part>(tokens: &[Token], at: usize) -> Option<(Field<K,
 }
 
 /// STRING
-#[tactic(auto, unfolding(crate::specs::Reading::comment_field_at))]
+#[tactic(auto, unfolding(crate::specs::steps::Reading::comment_field_at))]
 fn comment_field<K: Part, E: Part>(
     alloc: Global,
     tokens: &[Token],
@@ -105,7 +105,7 @@ fn comment_field<K: Part, E: Part>(
 }
 
 /// "=" "{" elements "}"
-#[tactic(auto, unfolding(crate::specs::Reading::elements_field_at))]
+#[tactic(auto, unfolding(crate::specs::steps::Reading::elements_field_at))]
 fn elements_field<K: Part, E: Part>(
     alloc: Global,
     tokens: &[Token],
@@ -129,7 +129,7 @@ fn elements_field<K: Part, E: Part>(
 }
 
 /// A field but the key.
-#[tactic(auto, unfolding(crate::specs::Reading::other_field_at))]
+#[tactic(auto, unfolding(crate::specs::steps::Reading::other_field_at))]
 fn other_field<K: Part, E: Part>(
     alloc: Global,
     tokens: &[Token],
@@ -156,7 +156,7 @@ fn other_field<K: Part, E: Part>(
 }
 
 /// A field.
-#[tactic(auto, unfolding(crate::specs::Reading::field_at))]
+#[tactic(auto, unfolding(crate::specs::steps::Reading::field_at))]
 fn any_field<K: Part, E: Part>(
     alloc: Global,
     tokens: &[Token],
@@ -171,7 +171,7 @@ fn any_field<K: Part, E: Part>(
 }
 
 /// end {end} field
-#[tactic(auto, unfolding(crate::specs::Reading::next_field_at))]
+#[tactic(auto, unfolding(crate::specs::steps::Reading::next_field_at))]
 fn next_field<K: Part, E: Part>(
     alloc: Global,
     tokens: &[Token],
@@ -207,13 +207,14 @@ fn more_fields<K: Part, E: Part>(
 }
 
 /// "{" {end} field {end {end} field} {end} "}"
-#[tactic(auto, unfolding(crate::specs::Reading::fields_at))]
+#[tactic(auto, unfolding(crate::specs::steps::Reading::fields_at))]
 pub(crate) fn all_fields<K: Part, E: Part>(
     alloc: Global,
     tokens: &[Token],
     at: usize,
 ) -> Result<Option<(Fields<K, E>, usize)>, Memory>
-    ensures { IfOk result (λ o. option_map (λ x. (collected K.tree E.tree x.0, ahead tokens.now x.1)) o ≡ fields_at K.read_at E.read_at (ahead tokens.now at)) }
+    ensures read { IfOk result (λ o. option_map (λ x. (collected K.tree E.tree x.0, ahead tokens.now x.1)) o ≡ fields_at K.read_at E.read_at (ahead tokens.now at)) }
+    ensures within { IfOk result (λ o. IfSome o (λ x. x.1 ≤ length tokens.now)) }
 {
     let Some(at) = after_mark(tokens, at, Mark::OpenBrace) else {
         return Ok(None);

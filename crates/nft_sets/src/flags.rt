@@ -2,8 +2,8 @@
 ghost use Rattle.std.specs.Prelude.{◌≡◌, IfOk};
 ghost use Rattle.std.specs.Option.{option_map};
 ghost use Rattle.token_reader.specs.Places.{ahead};
-ghost use Rattle.token_reader.specs.Reading.{all_at, with_front};
-ghost use Rattle.nft_sets.specs.Reading.{flag_at, next_flag_at, flags_at};
+ghost use Rattle.token_reader.specs.steps.Reading.{all_at, with_front};
+ghost use Rattle.nft_sets.specs.steps.Reading.{flag_at, next_flag_at, flags_at};
 
 use nft_lexer::{Mark, Token};
 use nft_tree::{Memory, SetFlag};
@@ -11,7 +11,7 @@ use std::alloc::Global;
 use token_reader::{after_mark, after_word};
 
 /// "constant" | "interval"
-#[tactic(auto, unfolding(crate::specs::Reading::flag_at))]
+#[tactic(auto, unfolding(crate::specs::steps::Reading::flag_at))]
 fn flag(tokens: &[Token], at: usize) -> Option<(SetFlag, usize)>
     ensures { option_map (λ x. (x.0, ahead tokens.now x.1)) result ≡ flag_at (ahead tokens.now at) }
 {
@@ -23,7 +23,7 @@ fn flag(tokens: &[Token], at: usize) -> Option<(SetFlag, usize)>
 }
 
 /// "," sflag
-#[tactic(auto, unfolding(crate::specs::Reading::next_flag_at))]
+#[tactic(auto, unfolding(crate::specs::steps::Reading::next_flag_at))]
 fn next_flag(tokens: &[Token], at: usize) -> Option<(SetFlag, usize)>
     ensures { option_map (λ x. (x.0, ahead tokens.now x.1)) result ≡ next_flag_at (ahead tokens.now at) }
 {
@@ -44,7 +44,7 @@ fn more_flags(tokens: &[Token], at: usize, found: &mut Vec<SetFlag>) -> Result<u
 }
 
 /// sflag {"," sflag}
-#[tactic(auto, unfolding(crate::specs::Reading::flags_at))]
+#[tactic(auto, unfolding(crate::specs::steps::Reading::flags_at))]
 pub(crate) fn set_flags(
     alloc: Global,
     tokens: &[Token],

@@ -4,8 +4,8 @@ ghost use Rattle.nft_lexer.specs.Sign.{Sign};
 ghost use Rattle.nft_tree.specs.Tree.{ElementTree, PairTree, element_tree, pair_tree};
 ghost use Rattle.std.specs.Option.{option_map};
 ghost use Rattle.token_reader.specs.Places.{ahead};
-ghost use Rattle.token_reader.specs.Laws.{Shortens};
-ghost use Rattle.nft_lists.specs.Reading.{elements_at, pairs_at};
+ghost use Rattle.token_reader.specs.steps.Laws.{Shortens};
+ghost use Rattle.nft_lists.specs.steps.Reading.{elements_at, pairs_at};
 
 use nft_lexer::Token;
 use nft_lists::{elems, list_laws, pairs};

@@ -5,9 +5,9 @@ ghost use Rattle.nft_tree.specs.declared.set.MapType.{MapType};
 ghost use Rattle.nft_tree.specs.Tree.{SetTypeTree, set_type_tree};
 ghost use Rattle.std.specs.Option.{option_map};
 ghost use Rattle.token_reader.specs.Places.{ahead};
-ghost use Rattle.token_reader.specs.Reading.{all_at, with_front};
-ghost use Rattle.token_reader.specs.Laws.{Shortens};
-ghost use Rattle.nft_sets.specs.Reading.{type_at, next_type_at, types_at, typeof_at, set_type_at, data_type_at, data_selector_at, type_pair_at, selector_pair_at, map_type_at};
+ghost use Rattle.token_reader.specs.steps.Reading.{all_at, with_front};
+ghost use Rattle.token_reader.specs.steps.Laws.{Shortens};
+ghost use Rattle.nft_sets.specs.steps.Reading.{type_at, next_type_at, types_at, typeof_at, set_type_at, data_type_at, data_selector_at, type_pair_at, selector_pair_at, map_type_at};
 
 use crate::parts::Part;
 use nft_lexer::{Mark, Token};
@@ -17,7 +17,7 @@ use std::alloc::Global;
 use token_reader::{after_mark, after_word, word};
 
 /// TYPE
-#[tactic(auto, unfolding(crate::specs::Reading::type_at))]
+#[tactic(auto, unfolding(crate::specs::steps::Reading::type_at))]
 fn value_type(tokens: &[Token], at: usize) -> Option<(ValueType, usize)>
     ensures { option_map (λ x. (x.0, ahead tokens.now x.1)) result ≡ type_at (ahead tokens.now at) }
 {
@@ -26,7 +26,7 @@ fn value_type(tokens: &[Token], at: usize) -> Option<(ValueType, usize)>
 }
 
 /// "." TYPE
-#[tactic(auto, unfolding(crate::specs::Reading::next_type_at))]
+#[tactic(auto, unfolding(crate::specs::steps::Reading::next_type_at))]
 fn next_type(tokens: &[Token], at: usize) -> Option<(ValueType, usize)>
     ensures { option_map (λ x. (x.0, ahead tokens.now x.1)) result ≡ next_type_at (ahead tokens.now at) }
 {
@@ -47,7 +47,7 @@ fn more_types(tokens: &[Token], at: usize, found: &mut Vec<ValueType>) -> Result
 }
 
 /// TYPE {"." TYPE}
-#[tactic(auto, unfolding(crate::specs::Reading::types_at))]
+#[tactic(auto, unfolding(crate::specs::steps::Reading::types_at))]
 fn types(alloc: Global, tokens: &[Token], at: usize) -> Result<Option<(SetType, usize)>, Memory>
     ensures { IfOk result (λ o. option_map (λ x. (set_type_tree x.0, ahead tokens.now x.1)) o ≡ types_at (ahead tokens.now at)) }
 {
@@ -61,7 +61,7 @@ fn types(alloc: Global, tokens: &[Token], at: usize) -> Result<Option<(SetType, 
 }
 
 /// keys
-#[tactic(auto, unfolding(crate::specs::Reading::typeof_at))]
+#[tactic(auto, unfolding(crate::specs::steps::Reading::typeof_at))]
 fn type_of(alloc: Global, tokens: &[Token], at: usize) -> Result<Option<(SetType, usize)>, Memory>
     ensures { IfOk result (λ o. option_map (λ x. (set_type_tree x.0, ahead tokens.now x.1)) o ≡ typeof_at (ahead tokens.now at)) }
 {
@@ -72,7 +72,7 @@ fn type_of(alloc: Global, tokens: &[Token], at: usize) -> Result<Option<(SetType
 }
 
 /// "type" TYPE {"." TYPE} | "typeof" keys
-#[tactic(auto, unfolding(crate::specs::Reading::set_type_at))]
+#[tactic(auto, unfolding(crate::specs::steps::Reading::set_type_at))]
 fn set_type(alloc: Global, tokens: &[Token], at: usize) -> Result<Option<(SetType, usize)>, Memory>
     ensures { IfOk result (λ o. option_map (λ x. (set_type_tree x.0, ahead tokens.now x.1)) o ≡ set_type_at (ahead tokens.now at)) }
 {
@@ -86,7 +86,7 @@ fn set_type(alloc: Global, tokens: &[Token], at: usize) -> Result<Option<(SetTyp
 }
 
 /// TYPE | "verdict"
-#[tactic(auto, unfolding(crate::specs::Reading::data_type_at))]
+#[tactic(auto, unfolding(crate::specs::steps::Reading::data_type_at))]
 fn data_type(tokens: &[Token], at: usize) -> Option<(TypeOrVerdict, usize)>
     ensures { option_map (λ x. (x.0, ahead tokens.now x.1)) result ≡ data_type_at (ahead tokens.now at) }
 {
@@ -98,7 +98,7 @@ fn data_type(tokens: &[Token], at: usize) -> Option<(TypeOrVerdict, usize)>
 }
 
 /// anysel | "verdict"
-#[tactic(auto, unfolding(crate::specs::Reading::data_selector_at))]
+#[tactic(auto, unfolding(crate::specs::steps::Reading::data_selector_at))]
 fn data_selector(tokens: &[Token], at: usize) -> Option<(SelectorOrVerdict, usize)>
     ensures { option_map (λ x. (x.0, ahead tokens.now x.1)) result ≡ data_selector_at (ahead tokens.now at) }
 {
@@ -110,7 +110,7 @@ fn data_selector(tokens: &[Token], at: usize) -> Option<(SelectorOrVerdict, usiz
 }
 
 /// TYPE ":" (TYPE | "verdict")
-#[tactic(auto, unfolding(crate::specs::Reading::type_pair_at))]
+#[tactic(auto, unfolding(crate::specs::steps::Reading::type_pair_at))]
 fn type_pair(tokens: &[Token], at: usize) -> Option<(MapType, usize)>
     ensures { option_map (λ x. (x.0, ahead tokens.now x.1)) result ≡ type_pair_at (ahead tokens.now at) }
 {
@@ -121,7 +121,7 @@ fn type_pair(tokens: &[Token], at: usize) -> Option<(MapType, usize)>
 }
 
 /// anysel ":" (anysel | "verdict")
-#[tactic(auto, unfolding(crate::specs::Reading::selector_pair_at))]
+#[tactic(auto, unfolding(crate::specs::steps::Reading::selector_pair_at))]
 fn selector_pair(tokens: &[Token], at: usize) -> Option<(MapType, usize)>
     ensures { option_map (λ x. (x.0, ahead tokens.now x.1)) result ≡ selector_pair_at (ahead tokens.now at) }
 {
@@ -132,7 +132,7 @@ fn selector_pair(tokens: &[Token], at: usize) -> Option<(MapType, usize)>
 }
 
 /// "type" TYPE ":" (TYPE | "verdict") | "typeof" anysel ":" (anysel | "verdict")
-#[tactic(auto, unfolding(crate::specs::Reading::map_type_at))]
+#[tactic(auto, unfolding(crate::specs::steps::Reading::map_type_at))]
 fn map_type(tokens: &[Token], at: usize) -> Option<(MapType, usize)>
     ensures { option_map (λ x. (x.0, ahead tokens.now x.1)) result ≡ map_type_at (ahead tokens.now at) }
 {

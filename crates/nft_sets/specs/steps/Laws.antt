@@ -1,8 +1,8 @@
 -- What holds of reading named sets and maps, for the grammar of tables.
 use Rattle.std.specs.Prelude.{◌≡◌, List, None, codes}
 use Rattle.nft_lexer.specs.Sign.{Sign}
-use Rattle.token_reader.specs.Reading.{after_word}
-use Rattle.token_reader.specs.Laws.{Finds, FindsAll, Takes, Always}
+use Rattle.token_reader.specs.steps.Reading.{after_word}
+use Rattle.token_reader.specs.steps.Laws.{Finds, FindsAll, Takes, Always}
 use Rattle.nft_sets.specs.Sets.{SpellsSet, SpellsMap}
 use Rattle.nft_sets.specs.steps.Reading.{set_at, map_at}
 

@@ -4,19 +4,19 @@ use Rattle.nft_lexer.specs.declared.token.Mark.TheVariants as marks
 use Rattle.nft_lexer.specs.Sign.{Sign}
 use Rattle.nft_tree.specs.declared.selector.ValueType.{ValueType}
 use Rattle.nft_tree.specs.declared.set.SetFlag.{SetFlag}
-use Rattle.nft_tree.specs.declared.set.SetFlag.TheVariants.{Constant, Interval}
 use Rattle.nft_tree.specs.declared.set.MapType.{MapType}
-use Rattle.nft_tree.specs.declared.set.MapType.TheVariants as map_types
 use Rattle.nft_tree.specs.declared.set.TypeOrVerdict.{TypeOrVerdict}
-use Rattle.nft_tree.specs.declared.set.TypeOrVerdict.TheVariants as type_kinds
 use Rattle.nft_tree.specs.declared.set.SelectorOrVerdict.{SelectorOrVerdict}
-use Rattle.nft_tree.specs.declared.set.SelectorOrVerdict.TheVariants as selector_kinds
+use Rattle.nft_tree.specs.declared.set.SetFlag.TheVariants.{Constant, Interval}
+use Rattle.nft_tree.specs.declared.set.MapType.TheVariants as map_types
+use Rattle.nft_tree.specs.declared.set.TypeOrVerdict.TheVariants as types_or_verdicts
+use Rattle.nft_tree.specs.declared.set.SelectorOrVerdict.TheVariants as selectors_or_verdicts
 use Rattle.nft_tree.specs.Tree as tree
 use Rattle.nft_tree.specs.Tree.{Text, ElementTree, PairTree, SetTypeTree, SetTree, MapTree}
 use Rattle.nft_tree.specs.Words.{type_named}
-use Rattle.token_reader.specs.Reading.{option_else, ◌>>=◌, after_word, after_mark, word_at, number_at, string_at, by_word, all_at, with_front, skip_ends, after_ends}
-use Rattle.nft_selectors.specs.Reading.{selector_at, selectors_at}
-use Rattle.nft_lists.specs.Reading.{elements_at, pairs_at}
+use Rattle.token_reader.specs.steps.Reading.{option_else, ◌>>=◌, after_word, after_mark, word_at, number_at, string_at, by_word, all_at, with_front, skip_ends, after_ends}
+use Rattle.nft_selectors.specs.steps.Reading.{selector_at, selectors_at}
+use Rattle.nft_lists.specs.steps.Reading.{elements_at, pairs_at}
 use Rattle.nft_sets.specs.Sets as fields
 use Rattle.nft_sets.specs.Sets.{Field}
 
@@ -57,13 +57,13 @@ set_type_at ts = by_word set_type_rows ts
 -- "verdict" is the name of no type
 unfoldable pub data_type_at : Reader TypeOrVerdict
 data_type_at ts =
-    option_else (type_at ts) (λ t. Some (type_kinds.Type t.0, t.1))
-    (option_else (after_word (codes "verdict") ts) (λ a. Some (type_kinds.Verdict, a)) None)
+    option_else (type_at ts) (λ t. Some (types_or_verdicts.Type t.0, t.1))
+    (option_else (after_word (codes "verdict") ts) (λ a. Some (types_or_verdicts.Verdict, a)) None)
 
 unfoldable pub data_selector_at : Reader SelectorOrVerdict
 data_selector_at ts =
-    option_else (selector_at ts) (λ s. Some (selector_kinds.Selector s.0, s.1))
-    (option_else (after_word (codes "verdict") ts) (λ a. Some (selector_kinds.Verdict, a)) None)
+    option_else (selector_at ts) (λ s. Some (selectors_or_verdicts.Selector s.0, s.1))
+    (option_else (after_word (codes "verdict") ts) (λ a. Some (selectors_or_verdicts.Verdict, a)) None)
 
 unfoldable pub type_pair_at : Reader MapType
 type_pair_at ts = do
