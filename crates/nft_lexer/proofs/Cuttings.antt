@@ -1,16 +1,19 @@
 -- A text has one cutting or one first fault.
-use Rattle.std.proofs.Common.{◌≡◌, ℕ, ◌-◌, ◌<◌, ◌≤◌, List, [], ◌∷◌, ◌++◌, length, take, ◌⊎◌, inl, inr, refl, sym, ap, subst, ◌∙◌, append_assoc, arith}
+use Rattle.std.proofs.Common.{◌≡◌, ℕ, zero, suc, ◌-◌, ◌<◌, ◌≤◌, Bool, true, false, ◌==◌, None, List, [], ◌∷◌, ◌++◌, length, take, ◌⊎◌, inl, inr, refl, sym, ap, subst, ◌∙◌, append_assoc, arith}
 use Rattle.std.specs.Prelude.{Result, Ok, Err, IfOk, IfErr, MatchResult}
+use Rattle.std.proofs.lemmas.Bool.{cases_lt, eqb-true, eqb-false}
 use Rattle.std.proofs.lemmas.List.{length-append, append-nil, nil_from_length}
+use Rattle.nft_lexer.specs.declared.fault.LexFault.{LexFault}
+use Rattle.nft_lexer.specs.declared.fault.LexFault.TheVariants.{Byte, OpenString, Number, TooLong}
 use Rattle.nft_lexer.specs.declared.fault.LexError.{LexError}
-use Rattle.nft_lexer.specs.declared.fault.LexError.TheVariants.{Byte, OpenString, Number, TooLong, Memory}
+use Rattle.nft_lexer.specs.declared.fault.LexError.TheVariants.{Refused, Memory}
 use Rattle.nft_lexer.specs.declared.token.Mark.{Mark}
 use Rattle.nft_lexer.specs.declared.token.Mark.TheVariants.{OpenBrace, CloseBrace, OpenParenthesis, CloseParenthesis, Comma, Semicolon, Colon, Dot, Slash, Minus, Plus, Equals, At, Ampersand, Bar, EqualTo, NotEqualTo, AtMost, AtLeast, Below, Above}
 use Rattle.nft_lexer.specs.Sign.{Spelled}
-use Rattle.nft_lexer.specs.Cut.{Part, blank, joined_line, comment, line_end, name, digits, hexadecimal, dotted, quoted, sole, SpellsPart, Stands, Means, CutsInto, IsCut, BeginsNone, IsFaultAt, FirstFault, HasFault, MOST_BYTES, line_after, mark_text}
-use Rattle.nft_lexer.specs.Reading.{Passes}
-use Rattle.nft_lexer.proofs.Runs.{IsDigits_some}
-use Rattle.nft_lexer.proofs.Longest.{stands_one, means_one, same_before, before}
+use Rattle.nft_lexer.specs.Cut.{Part, blank, joined_line, comment, line_end, name, digits, hexadecimal, dotted, quoted, sole, SpellsPart, IsPartAt, Means, CutsInto, IsCut, BeginsNone, IsFaultAt, FirstFault, HasLexFault, MOST_BYTES, line_after, mark_text}
+use Rattle.nft_lexer.specs.steps.Reading.{Passes, Tells, piece_at, meaning}
+use Rattle.nft_lexer.proofs.Runs.{IsDigits_some, option_cases}
+use Rattle.nft_lexer.proofs.Longest.{stands_one, means_one, same_before, before, byte_fault, string_fault, meant_fault, piece_stands, meant_passes}
 
 -- ---- where a cutting ends
 
@@ -50,12 +53,12 @@ spelled_some (dotted a b c d) bytes s = omega (arith, ap length s.0, length-appe
 spelled_some (quoted t) bytes s = omega (arith, ap length s.0)
 spelled_some (sole m) bytes s = omega (arith, ap length s, mark_some m)
 
-stands_takes : (p : Part) (bytes from to : List ℕ) → Stands p bytes from to → length to < length from
+stands_takes : (p : Part) (bytes from to : List ℕ) → IsPartAt p bytes from to → length to < length from
 stands_takes p bytes from to s = omega (arith, spelled_some p bytes s.spelled, ap length s.joined, length-append bytes to)
 
 -- no piece that means anything stands here
 abbrev Stops : List ℕ → Type 0
-Stops rest = (p : Part) (bytes to : List ℕ) (tokens : List Spelled) → Stands p bytes rest to → Means p bytes tokens → ⊥
+Stops rest = (p : Part) (bytes to : List ℕ) (tokens : List Spelled) → IsPartAt p bytes rest to → Means p bytes tokens → ⊥
 
 end_stops : Stops []
 end_stops p bytes to tokens s m = omega (arith, stands_takes p bytes [] to s)
@@ -63,11 +66,11 @@ end_stops p bytes to tokens s m = omega (arith, stands_takes p bytes [] to s)
 none_stops : (rest : List ℕ) → BeginsNone rest → Stops rest
 none_stops rest none p bytes to tokens s m = none p bytes to s.spelled s.joined
 
-fault_stops : (rest : List ℕ) (line : ℕ) (error : LexError) → IsFaultAt rest line error → Stops rest
-fault_stops [] line error f = absurd f
-fault_stops (b ∷ bs) line error (inl f) = none_stops (b ∷ bs) f.1
-fault_stops (b ∷ bs) line error (inr (inl f)) = none_stops (b ∷ bs) f.1
-fault_stops (b ∷ bs) line error (inr (inr f)) = λ p bytes to tokens s m.
+fault_stops : (rest : List ℕ) (line : ℕ) (fault : LexFault) → IsFaultAt rest line fault → Stops rest
+fault_stops [] line fault f = absurd f
+fault_stops (b ∷ bs) line fault (inl f) = none_stops (b ∷ bs) f.1
+fault_stops (b ∷ bs) line fault (inr (inl f)) = none_stops (b ∷ bs) f.1
+fault_stops (b ∷ bs) line fault (inr (inr f)) = λ p bytes to tokens s m.
     let same = stands_one p f.0 bytes f.1 (b ∷ bs) to f.2 s f.3 in
     let there : Means f.0 bytes tokens = subst (λ (q : Part). Means q bytes tokens) same.0 m in
     f.4 tokens (subst (λ (t : List ℕ). Means f.0 t tokens) same.1 there)
@@ -75,8 +78,8 @@ fault_stops (b ∷ bs) line error (inr (inr f)) = λ p bytes to tokens s m.
 -- two cuttings as far as they go are one
 one_cut : (ps qs : List Part) (from to rest : List ℕ) (xs ys : List Spelled) → CutsInto ps from to xs → CutsInto qs from rest ys → Stops to → Stops rest → (xs ≡ ys) × (to ≡ rest)
 one_cut [] [] from to rest xs ys c d stop halt = (c.1 ∙ sym d.1, sym c.0 ∙ d.0)
-one_cut [] (q ∷ qs) from to rest xs ys c d stop halt = absurd (stop q d.0 d.1 d.2 (subst (λ (t : List ℕ). Stands q d.0 t d.1) c.0 d.4) d.5)
-one_cut (p ∷ ps) [] from to rest xs ys c d stop halt = absurd (halt p c.0 c.1 c.2 (subst (λ (t : List ℕ). Stands p c.0 t c.1) d.0 c.4) c.5)
+one_cut [] (q ∷ qs) from to rest xs ys c d stop halt = absurd (stop q d.0 d.1 d.2 (subst (λ (t : List ℕ). IsPartAt q d.0 t d.1) c.0 d.4) d.5)
+one_cut (p ∷ ps) [] from to rest xs ys c d stop halt = absurd (halt p c.0 c.1 c.2 (subst (λ (t : List ℕ). IsPartAt p c.0 t c.1) d.0 c.4) c.5)
 one_cut (p ∷ ps) (q ∷ qs) from to rest xs ys c d stop halt =
     let same = stands_one p q c.0 d.0 from c.1 d.1 c.4 d.4 in
     let means : Means p c.0 d.2 = subst (λ (r : Part). Means r c.0 d.2) (sym same.0) (subst (λ (t : List ℕ). Means q t d.2) (sym same.1) d.5) in
@@ -90,17 +93,17 @@ one_cut (p ∷ ps) (q ∷ qs) from to rest xs ys c d stop halt =
 pub one : (text : List ℕ) (xs ys : List Spelled) → IsCut text xs → IsCut text ys → xs ≡ ys
 one text xs ys c d = (one_cut c.parts d.parts text [] [] xs ys c.cut d.cut end_stops end_stops).0
 
-no_fault_at_end : (rest : List ℕ) (line : ℕ) (error : LexError) → [] ≡ rest → IsFaultAt rest line error → ⊥
-no_fault_at_end [] line error e f = f
-no_fault_at_end (b ∷ bs) line error e f = absurd cc
+no_fault_at_end : (rest : List ℕ) (line : ℕ) (fault : LexFault) → [] ≡ rest → IsFaultAt rest line fault → ⊥
+no_fault_at_end [] line fault e f = f
+no_fault_at_end (b ∷ bs) line fault e f = absurd cc
 
-pub faultless : (text : List ℕ) (xs : List Spelled) (error : LexError) → IsCut text xs → HasFault text error → ⊥
-faultless text xs error c (inl f) = omega (arith, c.fits, f.0)
-faultless text xs error c (inr f) =
-    let same = one_cut c.parts f.parts text [] f.rest xs f.tokens c.cut f.cut end_stops (fault_stops f.rest (line_after f.done) error f.faulty) in
-    no_fault_at_end f.rest (line_after f.done) error same.1 f.faulty
+pub faultless : (text : List ℕ) (xs : List Spelled) (fault : LexFault) → IsCut text xs → HasLexFault text fault → ⊥
+faultless text xs fault c (inl f) = omega (arith, c.fits, f.0)
+faultless text xs fault c (inr f) =
+    let same = one_cut c.parts f.parts text [] f.rest xs f.tokens c.cut f.cut end_stops (fault_stops f.rest (line_after f.done) fault f.faulty) in
+    no_fault_at_end f.rest (line_after f.done) fault same.1 f.faulty
 
-one_fault_at : (rest : List ℕ) (line : ℕ) (first second : LexError) → IsFaultAt rest line first → IsFaultAt rest line second → first ≡ second
+one_fault_at : (rest : List ℕ) (line : ℕ) (first second : LexFault) → IsFaultAt rest line first → IsFaultAt rest line second → first ≡ second
 one_fault_at [] line first second f g = absurd f
 one_fault_at (b ∷ bs) line first second (inl f) (inl g) = f.2 ∙ sym g.2
 one_fault_at (b ∷ bs) line first second (inl f) (inr (inl g)) = absurd (f.0 g.0)
@@ -112,7 +115,7 @@ one_fault_at (b ∷ bs) line first second (inr (inr f)) (inl g) = absurd (g.1 f.
 one_fault_at (b ∷ bs) line first second (inr (inr f)) (inr (inl g)) = absurd (g.1 f.0 f.1 f.2 f.3.spelled f.3.joined)
 one_fault_at (b ∷ bs) line first second (inr (inr f)) (inr (inr g)) = f.5 ∙ sym g.5
 
-one_first : (text : List ℕ) (first second : LexError) → FirstFault text first → FirstFault text second → first ≡ second
+one_first : (text : List ℕ) (first second : LexFault) → FirstFault text first → FirstFault text second → first ≡ second
 one_first text first second f g =
     let same = one_cut f.parts g.parts text f.rest g.rest f.tokens g.tokens f.cut g.cut (fault_stops f.rest (line_after f.done) first f.faulty) (fault_stops g.rest (line_after g.done) second g.faulty) in
     let all : f.done ++ f.rest ≡ g.done ++ f.rest = sym f.joined ∙ g.joined ∙ ap (λ (t : List ℕ). g.done ++ t) (sym same.1) in
@@ -120,7 +123,7 @@ one_first text first second f g =
     let there : IsFaultAt f.rest (line_after f.done) second = subst (λ (t : List ℕ). IsFaultAt f.rest (line_after t) second) (sym done) (subst (λ (t : List ℕ). IsFaultAt t (line_after g.done) second) (sym same.1) g.faulty) in
     one_fault_at f.rest (line_after f.done) first second f.faulty there
 
-pub one_fault : (text : List ℕ) (first second : LexError) → HasFault text first → HasFault text second → first ≡ second
+pub one_fault : (text : List ℕ) (first second : LexFault) → HasLexFault text first → HasLexFault text second → first ≡ second
 one_fault text first second (inl f) (inl g) = f.1 ∙ sym g.1
 one_fault text first second (inl f) (inr g) = absurd (omega (arith, f.0, g.fits))
 one_fault text first second (inr f) (inl g) = absurd (omega (arith, g.0, f.fits))
@@ -137,9 +140,9 @@ pub record Reached (text rest : List ℕ) (tokens : List Spelled) : Type 0 where
 pub reached_none : (text : List ℕ) → Reached text text []
 reached_none text = record { parts = []; done = []; joined = refl; cut = (refl, refl) }
 
-cut_push : (ps : List Part) (from mid to : List ℕ) (xs new : List Spelled) (p : Part) (bytes : List ℕ) → CutsInto ps from mid xs → Stands p bytes mid to → Means p bytes new → CutsInto (ps ++ p ∷ []) from to (xs ++ new)
+cut_push : (ps : List Part) (from mid to : List ℕ) (xs new : List Spelled) (p : Part) (bytes : List ℕ) → CutsInto ps from mid xs → IsPartAt p bytes mid to → Means p bytes new → CutsInto (ps ++ p ∷ []) from to (xs ++ new)
 cut_push [] from mid to xs new p bytes c s m =
-    (bytes, to, new, [], subst (λ (t : List ℕ). Stands p bytes t to) (sym c.0) s, m, ap (λ (t : List Spelled). t ++ new) c.1 ∙ sym (append-nil new), (refl, refl))
+    (bytes, to, new, [], subst (λ (t : List ℕ). IsPartAt p bytes t to) (sym c.0) s, m, ap (λ (t : List Spelled). t ++ new) c.1 ∙ sym (append-nil new), (refl, refl))
 cut_push (q ∷ qs) from mid to xs new p bytes c s m =
     (c.0, c.1, c.2, c.3 ++ new, c.4, c.5, ap (λ (t : List Spelled). t ++ new) c.6 ∙ append_assoc c.2 c.3 new, cut_push qs c.1 mid to c.3 new p bytes c.7 s m)
 
@@ -164,8 +167,8 @@ reached_all text rest tokens fits nothing r = record {
   cut = subst (λ (t : List ℕ). CutsInto r.parts text t tokens) (nil_from_length rest nothing) r.cut;
 }
 
-pub reached_fault : (text rest : List ℕ) (tokens : List Spelled) (error : LexError) → length text ≤ MOST_BYTES → Reached text rest tokens → IsFaultAt rest (line_after (take (length text - length rest) text)) error → FirstFault text error
-reached_fault text rest tokens error fits r f = record {
+fault_there : (text rest : List ℕ) (tokens : List Spelled) (fault : LexFault) → length text ≤ MOST_BYTES → (r : Reached text rest tokens) → IsFaultAt rest (line_after r.done) fault → FirstFault text fault
+fault_there text rest tokens fault fits r f = record {
   fits = fits;
   parts = r.parts;
   done = r.done;
@@ -173,35 +176,72 @@ reached_fault text rest tokens error fits r f = record {
   tokens = tokens;
   joined = r.joined;
   cut = r.cut;
-  faulty = subst (λ (t : List ℕ). IsFaultAt rest (line_after t) error) (before text r.done rest r.joined) f;
+  faulty = f;
 }
+
+pub reached_fault : (text rest : List ℕ) (tokens : List Spelled) (fault : LexFault) → length text ≤ MOST_BYTES → Reached text rest tokens → IsFaultAt rest (line_after (take (length text - length rest) text)) fault → FirstFault text fault
+reached_fault text rest tokens fault fits r f =
+    fault_there text rest tokens fault fits r (subst (λ (t : List ℕ). IsFaultAt rest (line_after t) fault) (before text r.done rest r.joined) f)
+
+-- ---- there is a cutting or a first fault
+
+abbrev pub HasAnswer : List ℕ → Type 0
+HasAnswer text = ((tokens : List Spelled) × IsCut text tokens) ⊎ ((fault : LexFault) × HasLexFault text fault)
+
+-- no piece begins where the cutting has come to
+ends_so : (text : List ℕ) (b : ℕ) (bs : List ℕ) (tokens : List Spelled) → length text ≤ MOST_BYTES → Reached text (b ∷ bs) tokens → piece_at (b ∷ bs) ≡ None → (c : Bool) → (b == 34) ≡ c → HasAnswer text
+ends_so text b bs tokens fits r none true quote = inr (OpenString (line_after r.done), inr (fault_there text (b ∷ bs) tokens (OpenString (line_after r.done)) fits r (string_fault (b ∷ bs) (line_after r.done) (omega arith) none (eqb-true b 34 quote))))
+ends_so text b bs tokens fits r none false other = inr (Byte (line_after r.done), inr (fault_there text (b ∷ bs) tokens (Byte (line_after r.done)) fits r (byte_fault (b ∷ bs) (line_after r.done) (omega arith) none (eqb-false b 34 other))))
+
+some_from : (n : ℕ) (text rest : List ℕ) (tokens : List Spelled) → length text ≤ MOST_BYTES → length rest ≤ n → Reached text rest tokens → HasAnswer text
+some_from n text [] tokens fits le r = inl (tokens, reached_all text [] tokens fits refl r)
+some_from zero text (b ∷ bs) tokens fits le r = absurd (omega arith)
+some_from (suc n) text (b ∷ bs) tokens fits le r =
+    elim (option_cases (piece_at (b ∷ bs))) [
+      | inl none ↦ ends_so text b bs tokens fits r none (b == 34) refl
+      | inr w ↦
+          let there = piece_stands (b ∷ bs) w.0 w.1 in
+          elim (option_cases (meaning w.0.0 there.0)) [
+            | inl none ↦ inr (Number (line_after r.done), inr (fault_there text (b ∷ bs) tokens (Number (line_after r.done)) fits r (meant_fault (b ∷ bs) (line_after r.done) w.0.0 there.0 w.0.1 (omega arith) there.1 none)))
+            | inr m ↦
+                let less : length w.0.1 < length (b ∷ bs) = stands_takes w.0.0 there.0 (b ∷ bs) w.0.1 there.1 in
+                some_from n text w.0.1 (tokens ++ m.0) fits (omega arith) (reached_push text (b ∷ bs) w.0.1 tokens m.0 r (meant_passes (b ∷ bs) w.0.1 w.0.0 there.0 m.0 there.1 m.1))
+          ]
+    ]
+
+pub some_answer : (text : List ℕ) → HasAnswer text
+some_answer text =
+    elim (cases_lt MOST_BYTES (length text)) [
+      | inl long ↦ inr (TooLong, inl (long, refl))
+      | inr fits ↦ some_from (length text) text text [] fits (omega arith) (reached_none text)
+    ]
 
 -- ---- answers for a text that isn't too long
 
-pub answer_only : {V : Type 0} (view : V → List Spelled) (text : List ℕ) (r : Result V LexError) → IfOk r (λ v. IsCut text (view v)) → IfErr r (λ e. (e ≡ Memory) ⊎ FirstFault text e)
+pub answer_only : {V : Type 0} (view : V → List Spelled) (text : List ℕ) (r : Result V LexError) → IfOk r (λ v. IsCut text (view v)) → IfErr r (Tells (FirstFault text))
     → (tokens : List Spelled) → IsCut text tokens → MatchResult r (λ v. view v ≡ tokens) (λ e. e ≡ Memory)
-answer_only view text (Ok v) found fault tokens c = one text (view v) tokens found c
-answer_only view text (Err e) found (inl m) tokens c = m
-answer_only view text (Err e) found (inr f) tokens c = absurd (faultless text tokens e c (inr f))
+answer_only view text (Ok v) found told tokens c = one text (view v) tokens found c
+answer_only view text (Err Memory) found told tokens c = refl
+answer_only view text (Err (Refused fault)) found told tokens c = absurd (faultless text tokens fault c (inr told))
 
-pub fault_answer : {V : Type 0} (text : List ℕ) (r : Result V LexError) → IfErr r (λ e. (e ≡ Memory) ⊎ FirstFault text e) → IfErr r (λ e. (e ≡ Memory) ⊎ HasFault text e)
-fault_answer text (Ok v) fault = tt
-fault_answer text (Err e) (inl m) = inl m
-fault_answer text (Err e) (inr f) = inr (inr f)
+pub fault_answer : {V : Type 0} (text : List ℕ) (r : Result V LexError) → IfErr r (Tells (FirstFault text)) → (fault : LexFault) → r ≡ Err (Refused fault) → HasLexFault text fault
+fault_answer text (Ok v) told fault e = absurd cc
+fault_answer text (Err Memory) told fault e = absurd cc
+fault_answer text (Err (Refused first)) told fault e = let same : first ≡ fault = cc in inr (subst (FirstFault text) same told)
 
-pub fault_only : {V : Type 0} (view : V → List Spelled) (text : List ℕ) (r : Result V LexError) → IfOk r (λ v. IsCut text (view v)) → IfErr r (λ e. (e ≡ Memory) ⊎ FirstFault text e)
-    → (error : LexError) → HasFault text error → MatchResult r (λ _. ⊥) (λ e. (e ≡ error) ⊎ (e ≡ Memory))
-fault_only view text (Ok v) found fault error h = faultless text (view v) error found h
-fault_only view text (Err e) found (inl m) error h = inr m
-fault_only view text (Err e) found (inr f) error h = inl (one_fault text e error (inr f) h)
+pub fault_only : {V : Type 0} (view : V → List Spelled) (text : List ℕ) (r : Result V LexError) → IfOk r (λ v. IsCut text (view v)) → IfErr r (Tells (FirstFault text))
+    → (fault : LexFault) → HasLexFault text fault → MatchResult r (λ _. ⊥) (λ e. (e ≡ Refused fault) ⊎ (e ≡ Memory))
+fault_only view text (Ok v) found told fault h = faultless text (view v) fault found h
+fault_only view text (Err Memory) found told fault h = inr refl
+fault_only view text (Err (Refused first)) found told fault h = inl (ap Refused (one_fault text first fault (inr told) h))
 
-not_long_at : (rest : List ℕ) (line : ℕ) (error : LexError) → error ≡ TooLong → IsFaultAt rest line error → ⊥
-not_long_at [] line error e f = f
-not_long_at (b ∷ bs) line error e (inl f) = let same : TooLong ≡ Byte line = sym e ∙ f.2 in absurd cc
-not_long_at (b ∷ bs) line error e (inr (inl f)) = let same : TooLong ≡ OpenString line = sym e ∙ f.2 in absurd cc
-not_long_at (b ∷ bs) line error e (inr (inr f)) = let same : TooLong ≡ Number line = sym e ∙ f.5 in absurd cc
+not_long_at : (rest : List ℕ) (line : ℕ) (fault : LexFault) → fault ≡ TooLong → IsFaultAt rest line fault → ⊥
+not_long_at [] line fault e f = f
+not_long_at (b ∷ bs) line fault e (inl f) = let same : TooLong ≡ Byte line = sym e ∙ f.2 in absurd cc
+not_long_at (b ∷ bs) line fault e (inr (inl f)) = let same : TooLong ≡ OpenString line = sym e ∙ f.2 in absurd cc
+not_long_at (b ∷ bs) line fault e (inr (inr f)) = let same : TooLong ≡ Number line = sym e ∙ f.5 in absurd cc
 
-pub not_long : {V : Type 0} (text : List ℕ) (r : Result V LexError) → IfErr r (λ e. (e ≡ Memory) ⊎ FirstFault text e) → r ≡ Err TooLong → ⊥
-not_long text (Ok v) fault e = absurd cc
-not_long text (Err x) (inl m) e = let long : x ≡ TooLong = cc in let same : TooLong ≡ Memory = sym long ∙ m in absurd cc
-not_long text (Err x) (inr f) e = let long : x ≡ TooLong = cc in not_long_at f.rest (line_after f.done) x long f.faulty
+pub not_long : {V : Type 0} (text : List ℕ) (r : Result V LexError) → IfErr r (Tells (FirstFault text)) → r ≡ Err (Refused TooLong) → ⊥
+not_long text (Ok v) told e = absurd cc
+not_long text (Err Memory) told e = absurd cc
+not_long text (Err (Refused fault)) told e = let long : fault ≡ TooLong = cc in not_long_at told.rest (line_after told.done) fault long told.faulty

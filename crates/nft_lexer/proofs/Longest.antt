@@ -2,15 +2,15 @@
 use Rattle.std.proofs.Common.{◌≡◌, ◌≢◌, ℕ, ◌-◌, ◌<◌, ◌≤◌, List, [], ◌∷◌, ◌++◌, length, take, drop, get_or, Option, Some, None, inl, inr, refl, sym, ap, subst, ◌∙◌, arith}
 use Rattle.std.specs.Prelude.{IsSomeAnd}
 use Rattle.std.proofs.lemmas.List.{take_at, drop_at, length-append}
-use Rattle.nft_lexer.specs.declared.fault.LexError.TheVariants.{Byte, OpenString, Number}
+use Rattle.nft_lexer.specs.declared.fault.LexFault.TheVariants.{Byte, OpenString, Number}
 use Rattle.nft_lexer.specs.Sign.{Spelled}
-use Rattle.nft_lexer.specs.Cut.{Part, SpellsPart, Stands, Means, BeginsNone, IsFaultAt}
-use Rattle.nft_lexer.specs.Reading.{piece_at, meaning, Passes}
+use Rattle.nft_lexer.specs.Cut.{Part, SpellsPart, IsPartAt, Means, BeginsNone, IsFaultAt}
+use Rattle.nft_lexer.specs.steps.Reading.{piece_at, meaning, Passes}
 use Rattle.nft_lexer.proofs.Runs.{some_is, option_cases, IfSome_at}
 use Rattle.nft_lexer.proofs.Numbers.{meaning_found, meaning_only}
 use Rattle.nft_lexer.proofs.Pieces.{Front, Reaches, piece_spelled, reaches, alone}
 
-pub piece_stands : (ts : List ℕ) (x : Part × List ℕ) → piece_at ts ≡ Some x → (bytes : List ℕ) × Stands x.0 bytes ts x.1
+pub piece_stands : (ts : List ℕ) (x : Part × List ℕ) → piece_at ts ≡ Some x → (bytes : List ℕ) × IsPartAt x.0 bytes ts x.1
 piece_stands ts x e =
     let front : Front x.0 ts x.1 = IfSome_at (piece_at ts) (λ x. Front x.0 ts x.1) x e (piece_spelled ts) in (
       front.0,
@@ -50,7 +50,7 @@ one_front p q xs ys vs ws joined n sp sq =
     let left : vs ≡ ws = same.1 in
     rw (part, left) refl
 
-pub piece_only : (p : Part) (bytes from to : List ℕ) → Stands p bytes from to → piece_at from ≡ Some (p, to)
+pub piece_only : (p : Part) (bytes from to : List ℕ) → IsPartAt p bytes from to → piece_at from ≡ Some (p, to)
 piece_only p bytes from to s =
     let reached : IsSomeAnd (piece_at from) (λ y. length y.1 ≤ length to) = rw s.joined (reaches p bytes to s.spelled) in
     elim (option_cases (piece_at from)) [
@@ -65,7 +65,7 @@ piece_only p bytes from to s =
     ]
 
 -- one piece stands at a place
-pub stands_one : (p q : Part) (bytes others from to rest : List ℕ) → Stands p bytes from to → Stands q others from rest → (p ≡ q) × (bytes ≡ others) × (to ≡ rest)
+pub stands_one : (p q : Part) (bytes others from to rest : List ℕ) → IsPartAt p bytes from to → IsPartAt q others from rest → (p ≡ q) × (bytes ≡ others) × (to ≡ rest)
 stands_one p q bytes others from to rest s t =
     let same : ◌≡◌ {A = Part × List ℕ} (p, to) (q, rest) = some_is (p, to) (q, rest) (sym (piece_only p bytes from to s) ∙ piece_only q others from rest t) in
     let left : to ≡ rest = ap (λ (x : Part × List ℕ). x.1) same in
@@ -99,14 +99,18 @@ none_meant p bytes s e tokens m =
     let same : ◌≡◌ {A = Option (List Spelled)} None (Some tokens) = sym e ∙ meaning_only p bytes tokens s m in
     absurd cc
 
-fault_from : (ts : List ℕ) (line : ℕ) (p : Part) (bytes after : List ℕ) → 0 < length ts → Stands p bytes ts after → ((tokens : List Spelled) → Means p bytes tokens → ⊥) → IsFaultAt ts line (Number line)
+fault_from : (ts : List ℕ) (line : ℕ) (p : Part) (bytes after : List ℕ) → 0 < length ts → IsPartAt p bytes ts after → ((tokens : List Spelled) → Means p bytes tokens → ⊥) → IsFaultAt ts line (Number line)
 fault_from [] line p bytes after some s none = absurd (omega arith)
 fault_from (b ∷ bs) line p bytes after some s none = inr (inr (p, bytes, after, s, none, refl))
+
+-- a piece of which there is no token is a fault
+pub meant_fault : (ts : List ℕ) (line : ℕ) (p : Part) (bytes after : List ℕ) → 0 < length ts → IsPartAt p bytes ts after → meaning p bytes ≡ None → IsFaultAt ts line (Number line)
+meant_fault ts line p bytes after some s none = fault_from ts line p bytes after some s (none_meant p bytes s.spelled none)
 
 pub number_fault : (ts : List ℕ) (line : ℕ) (x : Part × List ℕ) → 0 < length ts → piece_at ts ≡ Some x → ((bytes : List ℕ) → meaning x.0 bytes ≡ None) → IsFaultAt ts line (Number line)
 number_fault ts line x some e none =
     let stands = piece_stands ts x e in
-    fault_from ts line x.0 stands.0 x.1 some stands.1 (none_meant x.0 stands.0 stands.1.spelled (none stands.0))
+    meant_fault ts line x.0 stands.0 x.1 some stands.1 (none stands.0)
 
 -- the bytes before a rest
 pub before : (ts bytes rest : List ℕ) → ts ≡ bytes ++ rest → take (length ts - length rest) ts ≡ bytes
@@ -119,8 +123,11 @@ piece_within ts x e =
     let stands = piece_stands ts x e in
     omega (arith, ap length stands.1.joined, length-append stands.0 x.1)
 
+pub meant_passes : (from to : List ℕ) (p : Part) (bytes : List ℕ) (tokens : List Spelled) → IsPartAt p bytes from to → meaning p bytes ≡ Some tokens → Passes from tokens to
+meant_passes from to p bytes tokens s m = (p, bytes, s, IfSome_at (meaning p bytes) (λ xs. Means p bytes xs) tokens m (meaning_found p bytes s.spelled))
+
 pub passes : (ts : List ℕ) (x : Part × List ℕ) (tokens : List Spelled) → piece_at ts ≡ Some x → meaning x.0 (take (length ts - length x.1) ts) ≡ Some tokens → Passes ts tokens x.1
 passes ts x tokens e m =
     let stands = piece_stands ts x e in
     let same : meaning x.0 stands.0 ≡ Some tokens = ap (meaning x.0) (sym (before ts stands.0 x.1 stands.1.joined)) ∙ m in
-    (x.0, stands.0, stands.1, IfSome_at (meaning x.0 stands.0) (λ xs. Means x.0 stands.0 xs) tokens same (meaning_found x.0 stands.0 stands.1.spelled))
+    meant_passes ts x.1 x.0 stands.0 tokens stands.1 same

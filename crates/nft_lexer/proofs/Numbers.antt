@@ -14,7 +14,7 @@ use Rattle.std.proofs.lemmas.Str.{IsUtf8-from_ascii}
 use Rattle.std.proofs.lemmas.Str.Parse.{IsNumeralModel, numerals_by_value, parse_digits, without_leading_plus_none}
 use Rattle.nft_lexer.specs.Sign.{Spelled, word, number, address}
 use Rattle.nft_lexer.specs.Cut.{Part, blank, joined_line, comment, line_end, name, digits, hexadecimal, dotted, quoted, sole, IsDigits, IsHexadecimal, IsSoundDecimal, AreGroups, SpellsPart, Means}
-use Rattle.nft_lexer.specs.Reading.{Groups, AreDigits, leads_with_zero, decimal_at, hexadecimal_value_at, address_at, meaning, one}
+use Rattle.nft_lexer.specs.steps.Reading.{Groups, AreDigits, leads_with_zero, decimal_at, hexadecimal_value_at, address_at, meaning, one}
 use Rattle.nft_lexer.proofs.Runs.{IfSome_weaker, both, bind_found, view_found, IsDigits_all, IsDigits_some, IsRun_some, IsRun-hexadecimal}
 
 own : IsNumeralModel (λ ds. list_all is_ascii_digit ds ≡ true) (digits_value 10)

@@ -12,7 +12,7 @@ use Rattle.nft_lexer.specs.declared.token.Mark.TheVariants.{OpenBrace, CloseBrac
 use Rattle.nft_lexer.specs.declared.piece.Class.{Class}
 use Rattle.nft_lexer.specs.declared.piece.Class.TheVariants as classes
 use Rattle.nft_lexer.specs.Cut.{Part, blank, joined_line, comment, line_end, name, digits, hexadecimal, dotted, quoted, sole, is_blank, begins_word, continues_word, is_no_line_end, stands_in_string, mark_text, IsDigits, IsHexadecimal, SpellsPart}
-use Rattle.nft_lexer.specs.Reading.{option_else, class_of, mark_of, long_mark_of, after_byte, digits_at, hexadecimal_at, Groups, AreDigits, dotted_at, number_at, quoted_at, mark_at, class_at, piece_at}
+use Rattle.nft_lexer.specs.steps.Reading.{option_else, class_of, mark_of, long_mark_of, after_byte, digits_at, hexadecimal_at, Groups, AreDigits, dotted_at, number_at, quoted_at, mark_at, class_at, piece_at}
 use Rattle.nft_lexer.proofs.Runs.{both, some_is, option_cases, IfSome_at, else_found, view_found, front_all, front_append, digits_found, digits_more, digits_exact, byte_found, hexadecimal_found, hexadecimal_more, hexadecimal_none, hexadecimal_none-one, bytes_of, bytes_regroup, dotted_found, dotted_more, dotted_none-end}
 
 -- ---- classes

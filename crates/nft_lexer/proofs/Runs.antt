@@ -1,6 +1,6 @@
 -- The longest front of a text whose bytes pass a test, and the digits in front.
 use Rattle.std.proofs.Common.{◌≡◌, ◌≢◌, ℕ, suc, ◌+◌, ◌<◌, Bool, true, false, cond, ◌&&◌, ◌==◌, List, [], ◌∷◌, ◌++◌, length, take, drop, Option, Some, None, ◌⊎◌, inl, inr, refl, sym, ap, ◌∙◌, append_assoc, arith}
-use Rattle.std.specs.Prelude.{IfSome, IsTrue}
+use Rattle.std.specs.Prelude.{IfSome, IsTrue, option_map}
 use Rattle.std.specs.Char.{is_ascii_digit, is_ascii_hexdigit}
 use Rattle.std.specs.List.{prefix_len, list_all}
 use Rattle.std.proofs.lemmas.List.{take-append-drop, length-take, append-nil}
@@ -8,7 +8,7 @@ use Rattle.std.proofs.lemmas.List.Sums.{prefix_len-le-length}
 use Rattle.std.proofs.Math.Seq.{take-append-add, drop-append-add}
 use Rattle.std.proofs.lemmas.Bool.{eqb-true, eqb-false, ne_eqb}
 use Rattle.nft_lexer.specs.Cut.{IsDigits, IsHexadecimal}
-use Rattle.nft_lexer.specs.Reading.{◌>>=◌, option_view, option_else, run_at, digits_at, after_byte, after_two, hexadecimal_at, next_group_at, Groups, AreDigits, dotted_at}
+use Rattle.nft_lexer.specs.steps.Reading.{◌>>=◌, option_else, run_at, digits_at, after_byte, after_two, hexadecimal_at, next_group_at, Groups, AreDigits, dotted_at}
 
 -- ---- options
 
@@ -34,7 +34,7 @@ pub else_found : {A B : Type 0} {P : A → Type 0} (Q : B → Type 0) (o : Optio
 else_found Q None f d h k l = l
 else_found Q (Some x) f d h k l = k x h
 
-pub view_found : {A B : Type 0} {P : A → Type 0} (Q : B → Type 0) (o : Option A) (f : A → B) → IfSome o P → ((x : A) → P x → Q (f x)) → IfSome (option_view f o) Q
+pub view_found : {A B : Type 0} {P : A → Type 0} (Q : B → Type 0) (o : Option A) (f : A → B) → IfSome o P → ((x : A) → P x → Q (f x)) → IfSome (option_map f o) Q
 view_found Q None f h k = tt
 view_found Q (Some x) f h k = k x h
 

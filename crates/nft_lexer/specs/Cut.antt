@@ -6,8 +6,8 @@ use Rattle.std.specs.Fmt.{decimal}
 use Rattle.std.specs.Str.Parse.{digits_value}
 use Rattle.nft_lexer.specs.declared.token.Mark.{Mark}
 use Rattle.nft_lexer.specs.declared.token.Mark.TheVariants.{OpenBrace, CloseBrace, OpenParenthesis, CloseParenthesis, Comma, Semicolon, Colon, Dot, Slash, Minus, Plus, Equals, At, Ampersand, Bar, EqualTo, NotEqualTo, AtMost, AtLeast, Below, Above}
-use Rattle.nft_lexer.specs.declared.fault.LexError.{LexError}
-use Rattle.nft_lexer.specs.declared.fault.LexError.TheVariants.{Byte, OpenString, Number, TooLong}
+use Rattle.nft_lexer.specs.declared.fault.LexFault.{LexFault}
+use Rattle.nft_lexer.specs.declared.fault.LexFault.TheVariants.{Byte, OpenString, Number, TooLong}
 use Rattle.nft_lexer.specs.Sign.{newline, mark, word, number, address, string, Spelled}
 
 -- ---- pieces and their spellings
@@ -99,7 +99,7 @@ SpellsPart (quoted s) bytes = (bytes ≡ 34 ∷ s ++ 34 ∷ []) × IsTrue (list_
 SpellsPart (sole m) bytes = bytes ≡ mark_text m
 
 -- a piece with these bytes stands between two places, and no piece that begins at the first is longer
-pub record Stands (p : Part) (bytes from to : List ℕ) : Type 0 where
+pub record IsPartAt (p : Part) (bytes from to : List ℕ) : Type 0 where
   pub joined : from ≡ bytes ++ to
   pub spelled : SpellsPart p bytes
   pub longest : (q : Part) (others rest : List ℕ) → SpellsPart q others → from ≡ others ++ rest → length others ≤ length bytes
@@ -131,7 +131,7 @@ Means (sole m) bytes tokens = tokens ≡ record { sign = mark m; text = bytes } 
 abbrev pub CutsInto : List Part → List ℕ → List ℕ → List Spelled → Type 0
 CutsInto [] from to tokens = (from ≡ to) × (tokens ≡ [])
 CutsInto (p ∷ ps) from to tokens =
-    (bytes mid : List ℕ) × (front others : List Spelled) × Stands p bytes from mid × Means p bytes front × (tokens ≡ front ++ others) × CutsInto ps mid to others
+    (bytes mid : List ℕ) × (front others : List Spelled) × IsPartAt p bytes from mid × Means p bytes front × (tokens ≡ front ++ others) × CutsInto ps mid to others
 
 abbrev pub MOST_BYTES : ℕ
 MOST_BYTES = 1048576
@@ -149,19 +149,19 @@ abbrev pub BeginsNone : List ℕ → Type 0
 BeginsNone rest = (q : Part) (others after : List ℕ) → SpellsPart q others → rest ≡ others ++ after → ⊥
 
 -- what stands here is a fault: a quote without its end on its line, another byte that begins no piece, or the longest piece is a number or an address of which there is no token
-abbrev pub IsFaultAt : List ℕ → ℕ → LexError → Type 0
-IsFaultAt [] line error = ⊥
-IsFaultAt (b ∷ bs) line error =
-    ((b ≢ 34) × BeginsNone (b ∷ bs) × (error ≡ Byte line))
-    ⊎ (((b ≡ 34) × BeginsNone (b ∷ bs) × (error ≡ OpenString line))
-    ⊎ ((p : Part) × (bytes after : List ℕ) × Stands p bytes (b ∷ bs) after × ((tokens : List Spelled) → Means p bytes tokens → ⊥) × (error ≡ Number line)))
+abbrev pub IsFaultAt : List ℕ → ℕ → LexFault → Type 0
+IsFaultAt [] line fault = ⊥
+IsFaultAt (b ∷ bs) line fault =
+    ((b ≢ 34) × BeginsNone (b ∷ bs) × (fault ≡ Byte line))
+    ⊎ (((b ≡ 34) × BeginsNone (b ∷ bs) × (fault ≡ OpenString line))
+    ⊎ ((p : Part) × (bytes after : List ℕ) × IsPartAt p bytes (b ∷ bs) after × ((tokens : List Spelled) → Means p bytes tokens → ⊥) × (fault ≡ Number line)))
 
 -- the line of what follows these bytes, from 1
 abbrev pub line_after : List ℕ → ℕ
 line_after done = count_by (λ b. b == 10) done + 1
 
--- the text is too long, or its first fault is this: all before it is cut
-pub record FirstFault (text : List ℕ) (error : LexError) : Type 0 where
+-- the text isn't too long, and its first fault is this: all before it is cut
+pub record FirstFault (text : List ℕ) (fault : LexFault) : Type 0 where
   pub fits : length text ≤ MOST_BYTES
   pub parts : List Part
   pub done : List ℕ
@@ -169,7 +169,8 @@ pub record FirstFault (text : List ℕ) (error : LexError) : Type 0 where
   pub tokens : List Spelled
   pub joined : text ≡ done ++ rest
   pub cut : CutsInto parts text rest tokens
-  pub faulty : IsFaultAt rest (line_after done) error
+  pub faulty : IsFaultAt rest (line_after done) fault
 
-abbrev pub HasFault : List ℕ → LexError → Type 0
-HasFault text error = ((MOST_BYTES < length text) × (error ≡ TooLong)) ⊎ FirstFault text error
+-- the text is too long, or this is its first fault
+abbrev pub HasLexFault : List ℕ → LexFault → Type 0
+HasLexFault text fault = ((MOST_BYTES < length text) × (fault ≡ TooLong)) ⊎ FirstFault text fault

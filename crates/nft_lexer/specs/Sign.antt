@@ -33,3 +33,7 @@ spelled t = record { sign = sign_of t.kind t.text.now; text = t.text.now }
 -- the tokens without their texts, as a grammar sees them
 abbrev pub signs : List Token → List Sign
 signs tokens = map (λ t. sign_of t.kind t.text.now) tokens
+
+-- the same of spelled tokens
+abbrev pub signs_of : List Spelled → List Sign
+signs_of tokens = map (λ t. t.sign) tokens

@@ -1,10 +1,11 @@
 //! The cutting of a text.
 ghost use Rattle.std.specs.Prelude.{◌≡◌, ◌<◌, ◌≤◌, ◌↔◌, ◌⊎◌, ◌++◌, ℕ, Err, IfOk, IfErr, OnOk, List, length, map, MatchResult};
+ghost use Rattle.nft_lexer.specs.declared.fault.LexFault.{LexFault};
 ghost use Rattle.nft_lexer.specs.Sign.{Spelled, spelled};
-ghost use Rattle.nft_lexer.specs.Cut.{FirstFault, HasFault, IsCut, IsFaultAt, MOST_BYTES, line_after};
-ghost use Rattle.nft_lexer.specs.Reading.{IsShaped, Passes, kind_meaning, listed, meaning, on_line, part};
+ghost use Rattle.nft_lexer.specs.Cut.{FirstFault, HasLexFault, IsCut, IsFaultAt, MOST_BYTES, line_after};
+ghost use Rattle.nft_lexer.specs.steps.Reading.{IsShaped, Passes, Tells, kind_meaning, listed, meaning, on_line, part};
 
-use crate::fault::LexError;
+use crate::fault::{LexError, LexFault};
 use crate::number::{address, decimal, hexadecimal};
 use crate::piece::{Piece, next_piece};
 use crate::token::{Kind, Token};
@@ -22,13 +23,13 @@ enum Fault {
 }
 
 /// The fault with its line.
-fn on_line(fault: Fault, line: u32) -> LexError
+fn on_line(fault: Fault, line: u32) -> LexFault
     ensures { result ≡ on_line fault line }
 {
     match fault {
-        Fault::Byte => LexError::Byte { line },
-        Fault::OpenString => LexError::OpenString { line },
-        Fault::Number => LexError::Number { line },
+        Fault::Byte => LexFault::Byte { line },
+        Fault::OpenString => LexFault::OpenString { line },
+        Fault::Number => LexFault::Number { line },
     }
 }
 
@@ -41,7 +42,7 @@ fn line_after(done: &[u8]) -> u32
 }
 
 /// What token the piece is: a blank or a comment is none.
-#[tactic(auto, unfolding(crate::specs::Reading::meaning))]
+#[tactic(auto, unfolding(crate::specs::steps::Reading::meaning))]
 fn kind<'t>(piece: Piece<'t>) -> Result<Option<Kind<'t>>, Fault>
     requires { IsShaped (part piece) }
     ensures value { (bytes : List ℕ) → kind_meaning bytes result ≡ meaning (part piece.entry) bytes }
@@ -94,7 +95,7 @@ fn append<'t>(found: &mut Vec<Token<'t>>, token: Option<Token<'t>>) -> Result<()
 fn tokens<'t>(alloc: Global, text: &'t [u8]) -> Result<Vec<Token<'t>>, LexError>
     requires { length text.now ≤ MOST_BYTES }
     ensures found { IfOk result (λ tokens. IsCut text.entry.now (map spelled tokens.items)) }
-    ensures fault { IfErr result (λ error. (error ≡ LexError.Memory) ⊎ FirstFault text.entry.now error) }
+    ensures fault { IfErr result (Tells (FirstFault text.entry.now)) }
 {
     let mut found = Vec::new(alloc);
     let mut rest = text;
@@ -103,7 +104,7 @@ fn tokens<'t>(alloc: Global, text: &'t [u8]) -> Result<Vec<Token<'t>>, LexError>
             Ok(read) => read,
             Err(fault) => {
                 let done = &text[..text.len() - rest.len()];
-                return Err(on_line(fault, line_after(done)));
+                return Err(LexError::Refused(on_line(fault, line_after(done))));
             }
         };
         append(&mut found, token)?;
@@ -122,14 +123,14 @@ pub fn lex<'t>(alloc: Global, text: &'t [u8]) -> Result<Vec<Token<'t>>, LexError
     // A cutting of the text is the one answered, want of memory aside: it is the only one.
     ensures only { (tokens : List Spelled) → IsCut text.entry.now tokens → MatchResult result (λ answer. map spelled answer.items ≡ tokens) (λ error. error ≡ LexError.Memory) }
     // A fault that is answered is the text's first.
-    ensures fault { IfErr result (λ error. (error ≡ LexError.Memory) ⊎ HasFault text.entry.now error) }
+    ensures fault { (fault : LexFault) → result ≡ Err (LexError.Refused fault) → HasLexFault text.entry.now fault }
     // The text's first fault is the one answered, want of memory aside.
-    ensures only_fault { (error : LexError) → HasFault text.entry.now error → MatchResult result (λ _. ⊥) (λ answer. (answer ≡ error) ⊎ (answer ≡ LexError.Memory)) }
+    ensures only_fault { (fault : LexFault) → HasLexFault text.entry.now fault → MatchResult result (λ _. ⊥) (λ error. (error ≡ LexError.Refused fault) ⊎ (error ≡ LexError.Memory)) }
     // A text that is too long is told before anything else.
-    ensures long { (result ≡ Err LexError.TooLong) ↔ (MOST_BYTES < length text.entry.now) }
+    ensures long { (result ≡ Err (LexError.Refused LexFault.TooLong)) ↔ (MOST_BYTES < length text.entry.now) }
 {
     if text.len() > MOST_BYTES {
-        return Err(LexError::TooLong);
+        return Err(LexError::Refused(LexFault::TooLong));
     }
     tokens(alloc, text)
 }

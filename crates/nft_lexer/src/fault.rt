@@ -2,10 +2,10 @@
 use std::alloc::AllocError;
 use thiserror::Error;
 
-/// Why a text isn't cut into tokens. Of a text within the limit it is the fault that stands
-/// first, with its line, counted from 1.
-#[derive(Clone, Copy, Debug, PartialEq, Eq, Drop, Error)]
-pub enum LexError {
+/// What is wrong with a text. Of a text within the limit it is the fault that stands first, with
+/// its line, counted from 1.
+#[derive(Clone, Copy, Debug, PartialEq, Error)]
+pub enum LexFault {
     /// A byte that begins no token.
     #[error("E01")]
     Byte { line: u32 },
@@ -19,6 +19,14 @@ pub enum LexError {
     /// The text has more than 1,048,576 bytes.
     #[error("E04")]
     TooLong,
+}
+
+/// Why `lex` gives no tokens.
+#[derive(Clone, Copy, Debug, Error)]
+pub enum LexError {
+    /// The text has this fault.
+    #[error("{0}")]
+    Refused(LexFault),
     /// There was no room to grow.
     #[error("memory")]
     Memory,

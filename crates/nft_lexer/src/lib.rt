@@ -6,11 +6,9 @@ mod fault;
 mod laws;
 mod number;
 mod piece;
-#[cfg(test)]
-mod tests;
 mod token;
 
 pub use cutting::lex;
-pub use fault::LexError;
-pub use laws::{one_cutting, one_fault};
+pub use fault::{LexError, LexFault};
+pub use laws::{one_cutting, one_fault, some_cutting};
 pub use token::{Kind, Mark, Token};

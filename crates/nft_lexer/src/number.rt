@@ -1,7 +1,7 @@
 //! What digits say.
 ghost use Rattle.std.specs.Prelude.{◌≡◌, ◌^◌};
 ghost use Rattle.nft_lexer.specs.Cut.{IsDigits, IsHexadecimal};
-ghost use Rattle.nft_lexer.specs.Reading.{AreDigits, address_at, decimal_at, groups, hexadecimal_value_at, leads_with_zero};
+ghost use Rattle.nft_lexer.specs.steps.Reading.{AreDigits, address_at, decimal_at, groups, hexadecimal_value_at, leads_with_zero};
 
 use crate::piece::Dotted;
 use std::str;
@@ -14,7 +14,7 @@ fn leads_with_zero(digits: &[u8]) -> bool
 }
 
 /// The number below 2^64 that decimal digits say with no leading zero.
-#[tactic(auto, unfolding(crate::specs::Reading::decimal_at))]
+#[tactic(auto, unfolding(crate::specs::steps::Reading::decimal_at))]
 pub(crate) fn decimal(digits: &[u8]) -> Option<u64>
     requires { IsDigits digits.now }
     ensures { result ≡ decimal_at (2 ^ 64) digits.now }
@@ -26,7 +26,7 @@ pub(crate) fn decimal(digits: &[u8]) -> Option<u64>
 }
 
 /// The number below 2^64 that hexadecimal digits say, in either case, after any zeros.
-#[tactic(auto, unfolding(crate::specs::Reading::hexadecimal_value_at))]
+#[tactic(auto, unfolding(crate::specs::steps::Reading::hexadecimal_value_at))]
 pub(crate) fn hexadecimal(digits: &[u8]) -> Option<u64>
     requires { IsHexadecimal digits.now }
     ensures { result ≡ hexadecimal_value_at digits.now }
@@ -35,7 +35,7 @@ pub(crate) fn hexadecimal(digits: &[u8]) -> Option<u64>
 }
 
 /// The number from 0 to 255 that the digits say with no leading zero.
-#[tactic(auto, unfolding(crate::specs::Reading::decimal_at))]
+#[tactic(auto, unfolding(crate::specs::steps::Reading::decimal_at))]
 fn group(digits: &[u8]) -> Option<u8>
     requires { IsDigits digits.now }
     ensures { result ≡ decimal_at 256 digits.now }
@@ -47,7 +47,7 @@ fn group(digits: &[u8]) -> Option<u8>
 }
 
 /// The address that the groups say, the first its highest byte.
-#[tactic(auto, unfolding(crate::specs::Reading::address_at))]
+#[tactic(auto, unfolding(crate::specs::steps::Reading::address_at))]
 pub(crate) fn address(dotted: Dotted) -> Option<u32>
     requires { AreDigits (groups dotted) }
     ensures { result ≡ address_at (groups dotted.entry) }

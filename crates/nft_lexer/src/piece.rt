@@ -1,10 +1,10 @@
 //! The pieces of a text: blanks, comments, and tokens by their shapes (nft(8), "Lexical
 //! conventions").
-ghost use Rattle.std.specs.Prelude.{◌≡◌, ◌≤◌, length, IfSome};
+ghost use Rattle.std.specs.Prelude.{◌≡◌, ◌≤◌, length, IfSome, option_map};
 ghost use Rattle.std.specs.Char.{is_ascii_digit, is_ascii_hexdigit};
 ghost use Rattle.std.specs.List.{prefix_len};
 ghost use Rattle.nft_lexer.specs.Cut.{IsDigits, IsHexadecimal, continues_word, is_no_line_end, stands_in_string};
-ghost use Rattle.nft_lexer.specs.Reading.{AreDigits, IsShaped, class_at, class_of, digits_at, dotted_at, groups, hexadecimal_at, long_mark_of, mark_at, mark_of, next_group_at, number_at, option_view, part, piece_at, quoted_at, run_at};
+ghost use Rattle.nft_lexer.specs.steps.Reading.{AreDigits, IsShaped, class_at, class_of, digits_at, dotted_at, groups, hexadecimal_at, long_mark_of, mark_at, mark_of, next_group_at, number_at, part, piece_at, quoted_at, run_at};
 
 use crate::token::Mark;
 
@@ -158,9 +158,9 @@ fn hexadecimal_length(text: &[u8]) -> usize
 }
 
 /// All the digits in front, one at least, and what follows them.
-#[tactic(auto, unfolding(crate::specs::Reading::run_at))]
+#[tactic(auto, unfolding(crate::specs::steps::Reading::run_at))]
 fn digits<'t>(text: &'t [u8]) -> Option<(&'t [u8], &'t [u8])>
-    ensures value { option_view (λ x. (x.0.now, x.1.now)) result ≡ digits_at text.entry.now }
+    ensures value { option_map (λ x. (x.0.now, x.1.now)) result ≡ digits_at text.entry.now }
     ensures digits { IfSome result (λ x. IsDigits x.0.now) }
 {
     let length = digits_length(text);
@@ -171,9 +171,9 @@ fn digits<'t>(text: &'t [u8]) -> Option<(&'t [u8], &'t [u8])>
 }
 
 /// All the hexadecimal digits in front, one at least, and what follows them.
-#[tactic(auto, unfolding(crate::specs::Reading::run_at))]
+#[tactic(auto, unfolding(crate::specs::steps::Reading::run_at))]
 fn hexadecimal_digits<'t>(text: &'t [u8]) -> Option<(&'t [u8], &'t [u8])>
-    ensures value { option_view (λ x. (x.0.now, x.1.now)) result ≡ run_at is_ascii_hexdigit text.entry.now }
+    ensures value { option_map (λ x. (x.0.now, x.1.now)) result ≡ run_at is_ascii_hexdigit text.entry.now }
     ensures digits { IfSome result (λ x. IsHexadecimal x.0.now) }
 {
     let length = hexadecimal_length(text);
@@ -184,9 +184,9 @@ fn hexadecimal_digits<'t>(text: &'t [u8]) -> Option<(&'t [u8], &'t [u8])>
 }
 
 /// The hexadecimal digits after `0x`, and what follows them.
-#[tactic(auto, unfolding(crate::specs::Reading::hexadecimal_at))]
+#[tactic(auto, unfolding(crate::specs::steps::Reading::hexadecimal_at))]
 fn hexadecimal<'t>(text: &'t [u8]) -> Option<(&'t [u8], &'t [u8])>
-    ensures value { option_view (λ x. (x.0.now, x.1.now)) result ≡ hexadecimal_at text.entry.now }
+    ensures value { option_map (λ x. (x.0.now, x.1.now)) result ≡ hexadecimal_at text.entry.now }
     ensures digits { IfSome result (λ x. IsHexadecimal x.0.now) }
 {
     let [b'0', b'x', rest @ ..] = text else {
@@ -196,9 +196,9 @@ fn hexadecimal<'t>(text: &'t [u8]) -> Option<(&'t [u8], &'t [u8])>
 }
 
 /// The digits after a dot, and what follows them.
-#[tactic(auto, unfolding(crate::specs::Reading::next_group_at))]
+#[tactic(auto, unfolding(crate::specs::steps::Reading::next_group_at))]
 fn next_group<'t>(text: &'t [u8]) -> Option<(&'t [u8], &'t [u8])>
-    ensures value { option_view (λ x. (x.0.now, x.1.now)) result ≡ next_group_at text.entry.now }
+    ensures value { option_map (λ x. (x.0.now, x.1.now)) result ≡ next_group_at text.entry.now }
     ensures digits { IfSome result (λ x. IsDigits x.0.now) }
 {
     let [b'.', rest @ ..] = text else {
@@ -208,9 +208,9 @@ fn next_group<'t>(text: &'t [u8]) -> Option<(&'t [u8], &'t [u8])>
 }
 
 /// Four groups in front and what follows them. The last takes all the digits that stand there.
-#[tactic(auto, unfolding(crate::specs::Reading::dotted_at))]
+#[tactic(auto, unfolding(crate::specs::steps::Reading::dotted_at))]
 fn four_groups<'t>(text: &'t [u8]) -> Option<(Dotted<'t>, &'t [u8])>
-    ensures value { option_view (λ x. (groups x.0, x.1.now)) result ≡ dotted_at text.entry.now }
+    ensures value { option_map (λ x. (groups x.0, x.1.now)) result ≡ dotted_at text.entry.now }
     ensures digits { IfSome result (λ x. AreDigits (groups x.0)) }
 {
     let (first, rest) = digits(text)?;
@@ -231,9 +231,9 @@ fn four_groups<'t>(text: &'t [u8]) -> Option<(Dotted<'t>, &'t [u8])>
 /// The number or the address in front, and what follows it.
 ///
 /// The longer shapes are tried first: both begin with digits, that are a number by themselves.
-#[tactic(auto, unfolding(crate::specs::Reading::number_at))]
+#[tactic(auto, unfolding(crate::specs::steps::Reading::number_at))]
 fn number<'t>(text: &'t [u8]) -> Option<(Piece<'t>, &'t [u8])>
-    ensures value { option_view (λ x. (part x.0, x.1.now)) result ≡ number_at text.entry.now }
+    ensures value { option_map (λ x. (part x.0, x.1.now)) result ≡ number_at text.entry.now }
     ensures shaped { IfSome result (λ x. IsShaped (part x.0)) }
 {
     if let Some((digits, rest)) = hexadecimal(text) {
@@ -247,9 +247,9 @@ fn number<'t>(text: &'t [u8]) -> Option<(Piece<'t>, &'t [u8])>
 }
 
 /// The string whose first quote stands before the text, and what follows it.
-#[tactic(auto, unfolding(crate::specs::Reading::quoted_at))]
+#[tactic(auto, unfolding(crate::specs::steps::Reading::quoted_at))]
 fn quoted<'t>(text: &'t [u8]) -> Option<(Piece<'t>, &'t [u8])>
-    ensures value { option_view (λ x. (part x.0, x.1.now)) result ≡ quoted_at text.entry.now }
+    ensures value { option_map (λ x. (part x.0, x.1.now)) result ≡ quoted_at text.entry.now }
     ensures shaped { IfSome result (λ x. IsShaped (part x.0)) }
 {
     let (string, rest) = text.split_at(string_length(text));
@@ -260,9 +260,9 @@ fn quoted<'t>(text: &'t [u8]) -> Option<(Piece<'t>, &'t [u8])>
 }
 
 /// The mark in front, of two bytes where they are one, and what follows it.
-#[tactic(auto, unfolding(crate::specs::Reading::mark_at))]
+#[tactic(auto, unfolding(crate::specs::steps::Reading::mark_at))]
 fn mark<'t>(text: &'t [u8]) -> Option<(Piece<'t>, &'t [u8])>
-    ensures value { option_view (λ x. (part x.0, x.1.now)) result ≡ mark_at text.entry.now }
+    ensures value { option_map (λ x. (part x.0, x.1.now)) result ≡ mark_at text.entry.now }
     ensures shaped { IfSome result (λ x. IsShaped (part x.0)) }
 {
     let [first, rest @ ..] = text else {
@@ -278,9 +278,9 @@ fn mark<'t>(text: &'t [u8]) -> Option<(Piece<'t>, &'t [u8])>
 }
 
 /// The longest piece in front, and what follows it.
-#[tactic(auto, unfolding(crate::specs::Reading::piece_at, crate::specs::Reading::class_at))]
+#[tactic(auto, unfolding(crate::specs::steps::Reading::piece_at, crate::specs::steps::Reading::class_at))]
 pub(crate) fn next_piece<'t>(text: &'t [u8]) -> Option<(Piece<'t>, &'t [u8])>
-    ensures value { option_view (λ x. (part x.0, x.1.now)) result ≡ piece_at text.entry.now }
+    ensures value { option_map (λ x. (part x.0, x.1.now)) result ≡ piece_at text.entry.now }
     ensures shaped { IfSome result (λ x. IsShaped (part x.0)) }
 {
     let [first, rest @ ..] = text else {

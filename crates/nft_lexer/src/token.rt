@@ -1,7 +1,7 @@
 //! Tokens of a ruleset's text.
 
 /// A mark of one byte or two.
-#[derive(Clone, Copy, Debug, PartialEq, Eq)]
+#[derive(Clone, Copy, PartialEq)]
 pub enum Mark {
     /// `{`
     OpenBrace,
@@ -48,7 +48,7 @@ pub enum Mark {
 }
 
 /// What a token is.
-#[derive(Clone, Copy, Debug, PartialEq, Eq)]
+#[derive(Clone, Copy)]
 pub enum Kind<'t> {
     NewLine,
     Mark(Mark),
@@ -63,7 +63,7 @@ pub enum Kind<'t> {
 }
 
 /// A token: its slice of the source, and what it is.
-#[derive(Clone, Copy, Debug, PartialEq, Eq)]
+#[derive(Clone, Copy)]
 pub struct Token<'t> {
     pub text: &'t [u8],
     pub kind: Kind<'t>,

@@ -1,18 +1,21 @@
 -- Lists up to the brace that closes them: no list holds a closing brace, so the first one closes it.
 use Rattle.std.proofs.Common.{◌≡◌, ◌≤◌, Bool, true, false, if◌then◌else◌, List, [], ◌∷◌, ◌++◌, length, Option, Some, None, ◌⊎◌, inl, inr, refl, sym, ap, length-append, append_assoc, ◌∙◌, arith}
-use Rattle.std.specs.Prelude.{IfSome, IsSomeAnd}
+use Rattle.std.proofs.lemmas.Bool.{cases_Bool}
+use Rattle.std.proofs.lemmas.List.{length-map, length-drop}
+use Rattle.std.specs.Prelude.{IfSome, drop, ℕ}
 use Rattle.nft_lexer.specs.declared.token.Mark.TheVariants.{CloseBrace, Comma, Colon, Minus}
+use Rattle.nft_lexer.specs.declared.token.Token.{Token}
 use Rattle.nft_lexer.specs.Sign as signs
 use Rattle.nft_lexer.specs.Sign.{Sign, mark}
 use Rattle.nft_tree.specs.Tree as tree
 use Rattle.nft_tree.specs.Tree.{Text, ValueTree, ElementTree, PairTree}
+use Rattle.token_reader.specs.Places.{ahead}
 use Rattle.token_reader.specs.Repeats.{Many, without_newlines}
-use Rattle.token_reader.specs.Places.{option_view}
-use Rattle.token_reader.specs.Reading.{after_mark}
-use Rattle.token_reader.specs.TokenLaws.{mark_after}
-use Rattle.token_reader.specs.Laws.{some_is, bind_found, Finds, FindsAll, Takes, Always}
+use Rattle.token_reader.specs.steps.Reading.{after_mark}
+use Rattle.token_reader.specs.steps.TokenLaws.{mark_after}
+use Rattle.token_reader.specs.steps.Laws.{some_is, IfSome_at, bind_found, Finds, FindsAll, Takes, Always}
 use Rattle.nft_lists.specs.Elements.{sign_of, SpellsRange, SpellsNextValue, SpellsKey, SpellsComment, SpellsElement, SpellsVerdict, SpellsData, SpellsPair, Next, Listed, ListedUpTo, SpellsElements, SpellsPairs}
-use Rattle.nft_lists.specs.Reading.{element_at, pair_at, listed_at, closes, inside_at, before_brace, from_brace, enclosed_at, up_to_brace, elements_at, pairs_at}
+use Rattle.nft_lists.specs.steps.Reading.{element_at, pair_at, listed_at, closes, inside_at, before_brace, from_brace, enclosed_at, up_to_brace, elements_at, pairs_at}
 use Rattle.nft_lists.proofs.ElementLaws.{EndsItem, element_found, element_only, element_takes}
 use Rattle.nft_lists.proofs.PairLaws.{pair_found, pair_only, pair_takes}
 use Rattle.nft_lists.proofs.ListedLaws.{listed_found, listed_only, listed_takes}
@@ -95,16 +98,12 @@ braceless_lines (signs.string s ∷ ts) = braceless_lines ts
 
 -- ---- up to the first brace
 
-bool_cases : (b : Bool) → (b ≡ true) ⊎ (b ≡ false)
-bool_cases true = inl refl
-bool_cases false = inr refl
-
 -- a step over a token that is no brace
 pub step : (ts : List Sign) (x : Sign × List Sign) → inside_at ts ≡ Some x → (before_brace ts ≡ x.0 ∷ before_brace x.1) × (from_brace ts ≡ from_brace x.1)
 unfolding before_brace from_brace
 step [] x e = absurd cc
 step (t ∷ ts) x e =
-    elim (bool_cases (closes t)) [
+    elim (cases_Bool (closes t)) [
       | inl closed ↦ let same : ◌≡◌ {A = Option (Sign × List Sign)} None (Some x) = rw closed at e in absurd cc
       | inr inside ↦
           let same : ◌≡◌ {A = Sign × List Sign} (t, ts) x = some_is (t, ts) x (rw inside at e) in
@@ -116,7 +115,7 @@ pub no_step : (ts : List Sign) → inside_at ts ≡ None → (before_brace ts �
 unfolding before_brace from_brace
 no_step [] e = (refl, refl)
 no_step (t ∷ ts) e =
-    elim (bool_cases (closes t)) [
+    elim (cases_Bool (closes t)) [
       | inl closed ↦ rw closed (refl, refl)
       | inr inside ↦ let same : ◌≡◌ {A = Option (Sign × List Sign)} (Some (t, ts)) None = rw inside at e in absurd cc
     ]
@@ -141,7 +140,7 @@ cut_joined : (ts : List Sign) → ts ≡ before_brace ts ++ from_brace ts
 unfolding before_brace from_brace
 cut_joined [] = refl
 cut_joined (t ∷ ts) =
-    elim (bool_cases (closes t)) [
+    elim (cases_Bool (closes t)) [
       | inl e ↦ rw e refl
       | inr e ↦ rw e (ap (λ (r : List Sign). t ∷ r) (cut_joined ts))
     ]
@@ -159,6 +158,12 @@ brace_only (t ∷ inner) after e =
     rw here.0 (ap (λ (r : List Sign). t ∷ r) others.0, others.1)
 
 -- ---- lists between braces
+
+-- a place where a brace is read lies within the tokens
+pub at_brace : (tokens : List Token) (at after : ℕ) → Some (ahead tokens after) ≡ after_mark CloseBrace (ahead tokens at) → at ≤ length tokens
+at_brace tokens at after e =
+    let there : ahead tokens at ≡ mark CloseBrace ∷ ahead tokens after = IfSome_at (after_mark CloseBrace (ahead tokens at)) _ (ahead tokens after) (sym e) (mark_after CloseBrace (ahead tokens at)) in
+    omega (arith, ap length there, length-map (drop at tokens) (λ (t : Token). signs.sign_of t.kind t.text.now), length-drop at tokens)
 
 -- what stands up to a brace, and the brace
 record UpTo (inner ts to : List Sign) : Type 0 where
@@ -206,15 +211,6 @@ fewer_lines (signs.string s ∷ ts) = omega (arith, fewer_lines ts)
 up_to_brace_takes : {A : Type 0} (P : A → List Sign → List Sign → Type 0) → Takes P → Takes (ListedUpTo P)
 up_to_brace_takes P takes xs from to s =
     omega (arith, ap length s.joined, length-append s.inner to, fewer_lines s.inner, listed_takes P takes xs (without_newlines s.inner) s.listed)
-
--- what a function gave, seen by two views, is exactly what is spelled
-pub seen_pair : {X A B : Type 0} (first : X → A) (second : X → B) (o : Option X) (read : Option (A × B)) (a : A) (b : B) → option_view (λ x. (first x, second x)) o ≡ read → read ≡ Some (a, b) → IsSomeAnd o (λ x. (first x ≡ a) × (second x ≡ b))
-seen_pair {X} {A} {B} first second None read a b e only =
-    let same : ◌≡◌ {A = Option (A × B)} None (Some (a, b)) = e ∙ only in
-    absurd cc
-seen_pair {X} {A} {B} first second (Some x) read a b e only =
-    let same : ◌≡◌ {A = A × B} (first x, second x) (a, b) = some_is (first x, second x) (a, b) (e ∙ only) in
-    (ap (λ (p : A × B). p.0) same, ap (λ (p : A × B). p.1) same)
 
 pub elements_found : Finds SpellsElements elements_at
 unfolding elements_at

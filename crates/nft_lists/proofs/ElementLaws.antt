@@ -5,12 +5,11 @@ use Rattle.nft_lexer.specs.declared.token.Mark.TheVariants.{Comma, Dot, Minus}
 use Rattle.nft_lexer.specs.Sign.{Sign, mark}
 use Rattle.nft_tree.specs.Tree as tree
 use Rattle.nft_tree.specs.Tree.{RangeTree, ElementTree}
-use Rattle.token_reader.specs.Reading.{after_mark, all_at}
-use Rattle.token_reader.specs.Laws.{IfSome_weaker, bind_found, else_found, Shortens, Finds, FindsAll, Takes, Always, many_found, many_only, shortens_from, Many_takes}
-use Rattle.token_reader.specs.TokenLaws.{mark_after}
-use Rattle.nft_lists.specs.Elements.{sign_of, SpellsRange, SpellsNextValue, SpellsKey, SpellsElement}
-use Rattle.nft_lists.specs.Laws.{EndsRange, NoComment}
-use Rattle.nft_lists.specs.Reading.{value_at, range_at, comment_at, next_value_at, joined_at, key_at, element_at}
+use Rattle.token_reader.specs.steps.Reading.{after_mark, all_at}
+use Rattle.token_reader.specs.steps.Laws.{IfSome_weaker, bind_found, else_found, Shortens, Finds, FindsAll, Takes, Always, many_found, many_only, shortens_from, Many_takes}
+use Rattle.token_reader.specs.steps.TokenLaws.{mark_after}
+use Rattle.nft_lists.specs.Elements.{EndsRange, NoComment, sign_of, SpellsRange, SpellsNextValue, SpellsKey, SpellsElement}
+use Rattle.nft_lists.specs.steps.Reading.{value_at, range_at, comment_at, next_value_at, joined_at, key_at, element_at}
 use Rattle.nft_lists.proofs.ValueLaws.{value_found, value_only, range_found, range_only, range_takes, comment_found, comment_only, comment_takes, comment_front}
 
 -- ---- "." value

@@ -5,11 +5,11 @@ use Rattle.std.proofs.lemmas.List.{nil_from_length}
 use Rattle.std.specs.Prelude.{IfSome}
 use Rattle.nft_lexer.specs.declared.token.Mark.TheVariants.{Comma}
 use Rattle.nft_lexer.specs.Sign.{Sign, mark}
-use Rattle.token_reader.specs.Reading.{after_mark, all_at}
-use Rattle.token_reader.specs.Laws.{option_cases, IfSome_at, IfSome_weaker, bind_found, Shortens, Finds, FindsAll, Fronts, Takes, many_found, Many_front, many_only, shortens_from}
-use Rattle.token_reader.specs.TokenLaws.{when_found, mark_after}
+use Rattle.token_reader.specs.steps.Reading.{after_mark, all_at}
+use Rattle.token_reader.specs.steps.Laws.{option_cases, IfSome_at, IfSome_weaker, bind_found, Shortens, Finds, FindsAll, Fronts, Takes, many_found, Many_front, many_only, shortens_from}
+use Rattle.token_reader.specs.steps.TokenLaws.{when_found, mark_after}
 use Rattle.nft_lists.specs.Elements.{SpellsElement, SpellsPair, Next, Listed}
-use Rattle.nft_lists.specs.Reading.{element_at, pair_at, next_at, after_last_comma, listed_at}
+use Rattle.nft_lists.specs.steps.Reading.{element_at, pair_at, next_at, after_last_comma, listed_at}
 use Rattle.nft_lists.proofs.ElementLaws.{EndsItem, element_found, element_takes}
 use Rattle.nft_lists.proofs.PairLaws.{pair_found, pair_takes}
 

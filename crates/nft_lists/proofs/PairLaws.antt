@@ -1,16 +1,16 @@
 -- Data and pairs: what is read is spelled so, and what is spelled so is read.
 use Rattle.std.proofs.Common.{◌≡◌, Bool, true, false, not, IsTrue, List, ◌∷◌, length, Some, None, refl, ap, arith}
+use Rattle.std.proofs.lemmas.Bool.{not-true}
 use Rattle.nft_lexer.specs.declared.token.Mark.TheVariants.{Colon}
 use Rattle.nft_lexer.specs.Sign as signs
 use Rattle.nft_lexer.specs.Sign.{Sign, mark}
 use Rattle.nft_tree.specs.Tree as tree
 use Rattle.nft_tree.specs.Tree.{ValueTree, DataTree, PairTree}
-use Rattle.token_reader.specs.Reading.{after_mark}
-use Rattle.token_reader.specs.Laws.{bind_found, else_found, Finds, FindsAll, Takes, Always}
-use Rattle.token_reader.specs.TokenLaws.{when_found, mark_after}
-use Rattle.nft_lists.specs.Elements.{sign_of, is_verdict_word, is_data_value, SpellsData, SpellsPair}
-use Rattle.nft_lists.specs.Laws.{EndsRange}
-use Rattle.nft_lists.specs.Reading.{value_at, verdict_at, range_at, comment_at, data_value_at, data_at, pair_at}
+use Rattle.token_reader.specs.steps.Reading.{after_mark}
+use Rattle.token_reader.specs.steps.Laws.{bind_found, else_found, Finds, FindsAll, Takes, Always}
+use Rattle.token_reader.specs.steps.TokenLaws.{when_found, mark_after}
+use Rattle.nft_lists.specs.Elements.{EndsRange, sign_of, is_verdict_word, is_data_value, SpellsData, SpellsPair}
+use Rattle.nft_lists.specs.steps.Reading.{value_at, verdict_at, range_at, comment_at, data_value_at, data_at, pair_at}
 use Rattle.nft_lists.proofs.ValueLaws.{value_found, value_only, range_found, range_only, range_takes, comment_found, comment_only, comment_takes, comment_front}
 use Rattle.nft_lists.proofs.VerdictLaws.{verdict_found, verdict_only, verdict_takes, verdict_none}
 
@@ -26,15 +26,11 @@ data_found : Finds SpellsData data_at
 unfolding data_at
 data_found ts = else_found _ (verdict_at ts) _ _ (verdict_found ts) (λ v ev. ev) (data_value_found ts)
 
-is_not : (b : Bool) → not b ≡ true → b ≡ false
-is_not true e = absurd cc
-is_not false e = refl
-
 -- a value that is data begins no verdict
 no_verdict : (v : ValueTree) (to : List Sign) → IsTrue (is_data_value v) → verdict_at (sign_of v ∷ to) ≡ None
 no_verdict (tree.number n) to e = verdict_none (signs.number n ∷ to) refl
 no_verdict (tree.address a) to e = verdict_none (signs.address a ∷ to) refl
-no_verdict (tree.word w) to e = verdict_none (signs.word w ∷ to) (is_not (is_verdict_word w) e)
+no_verdict (tree.word w) to e = verdict_none (signs.word w ∷ to) (not-true (is_verdict_word w) e)
 no_verdict (tree.string s) to e = verdict_none (signs.string s ∷ to) refl
 
 data_only : FindsAll SpellsData Always data_at

@@ -6,12 +6,12 @@ use Rattle.nft_lexer.specs.declared.token.Mark.TheVariants.{OpenBrace, CloseBrac
 use Rattle.nft_lexer.specs.Sign as signs
 use Rattle.nft_lexer.specs.Sign.{Sign, mark}
 use Rattle.nft_tree.specs.Tree as tree
-use Rattle.token_reader.specs.Reading.{after_mark, word_at}
-use Rattle.token_reader.specs.Laws.{option_cases, IfSome_at, IfSome_weaker, bind_found, else_found, Finds, FindsAll, Takes, Always}
-use Rattle.token_reader.specs.TokenLaws.{mark_after, word_found}
+use Rattle.token_reader.specs.steps.Reading.{after_mark, word_at}
+use Rattle.token_reader.specs.steps.Laws.{option_cases, IfSome_at, IfSome_weaker, bind_found, else_found, Finds, FindsAll, Takes, Always}
+use Rattle.token_reader.specs.steps.TokenLaws.{mark_after, word_found}
 use Rattle.nft_lists.specs.Elements.{SpellsSetRef, SpellsMapRef}
-use Rattle.nft_lists.specs.Laws.{begins_reference}
-use Rattle.nft_lists.specs.Reading.{elements_at, pairs_at, name_at, braced_elements_at, set_ref_at, braced_pairs_at, map_ref_at}
+use Rattle.nft_lists.specs.steps.Laws.{begins_reference}
+use Rattle.nft_lists.specs.steps.Reading.{elements_at, pairs_at, name_at, braced_elements_at, set_ref_at, braced_pairs_at, map_ref_at}
 use Rattle.nft_lists.proofs.BraceLaws.{elements_found, elements_only, elements_takes, pairs_found, pairs_only, pairs_takes}
 
 name_found : (ts : List Sign) → IfSome (name_at ts) (λ x. ts ≡ mark At ∷ signs.word x.0 ∷ x.1)

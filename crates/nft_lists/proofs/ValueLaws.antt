@@ -1,17 +1,17 @@
 -- Values, ranges and comments: what is read is spelled so, and what is spelled so is read.
-use Rattle.std.proofs.Common.{◌≡◌, ◌≤◌, false, List, [], ◌∷◌, length, Option, Some, None, inl, inr, refl, ap, arith}
+use Rattle.std.proofs.Common.{◌≡◌, ◌≤◌, false, List, [], ◌∷◌, length, Option, Some, None, inl, inr, refl, ap, arith, ◌∙◌}
 use Rattle.std.specs.Prelude.{codes, IfSome}
 use Rattle.nft_lexer.specs.declared.token.Mark.TheVariants.{Slash, Minus}
 use Rattle.nft_lexer.specs.Sign as signs
 use Rattle.nft_lexer.specs.Sign.{Sign, mark}
 use Rattle.nft_tree.specs.Tree as tree
 use Rattle.nft_tree.specs.Tree.{Text, ValueTree, RangeTree}
-use Rattle.token_reader.specs.Reading.{after_mark, after_word, number_at, address_at, string_at}
-use Rattle.token_reader.specs.Laws.{option_cases, IfSome_at, IfSome_weaker, bind_found, else_found, Finds, FindsAll, Takes}
-use Rattle.token_reader.specs.TokenLaws.{word_after, mark_after, number_found, address_found, string_found}
-use Rattle.nft_lists.specs.Elements.{sign_of, SpellsRange, SpellsComment}
-use Rattle.nft_lists.specs.Laws.{EndsRange, NoComment, begins_value}
-use Rattle.nft_lists.specs.Reading.{value_at, prefix_at, high_at, between_at, range_at, comment_text_at, comment_at}
+use Rattle.token_reader.specs.steps.Reading.{after_mark, after_word, number_at, address_at, string_at}
+use Rattle.token_reader.specs.steps.Laws.{option_cases, IfSome_at, IfSome_weaker, bind_found, else_found, Finds, FindsAll, Takes}
+use Rattle.token_reader.specs.steps.TokenLaws.{word_after, mark_after, number_found, address_found, string_found}
+use Rattle.nft_lists.specs.Elements.{EndsRange, NoComment, sign_of, SpellsRange, SpellsComment}
+use Rattle.nft_lists.specs.steps.Laws.{begins_value}
+use Rattle.nft_lists.specs.steps.Reading.{value_at, prefix_at, high_at, between_at, range_at, comment_text_at, comment_at}
 
 -- ---- values
 
@@ -111,3 +111,12 @@ comment_takes (Some c) from to s = omega (arith, ap length s)
 pub comment_front : (Follow : List Sign → Type 0) → ((ts : List Sign) → Follow (signs.word (codes "comment") ∷ ts)) → (c : Option Text) (from to : List Sign) → SpellsComment c from to → Follow to → Follow from
 comment_front Follow at_word None from to s follow = rw s follow
 comment_front Follow at_word (Some c) from to s follow = rw s (at_word (signs.string c ∷ to))
+
+-- the same of a pair that is what is read
+pub comment_told : (seen : Option Text × List Sign) (from : List Sign) → seen ≡ comment_at from → SpellsComment seen.0 from seen.1
+comment_told seen from e = rw e (comment_found from)
+
+pub comment_told_only : (seen : Option Text × List Sign) (from : List Sign) → seen ≡ comment_at from → (c : Option Text) (to : List Sign) → SpellsComment c from to → NoComment to → (seen.0 ≡ c) × (seen.1 ≡ to)
+comment_told_only seen from e c to s none =
+    let same : seen ≡ (c, to) = e ∙ comment_only c from to s none in
+    (ap (λ (x : Option Text × List Sign). x.0) same, ap (λ (x : Option Text × List Sign). x.1) same)

@@ -1,17 +1,18 @@
 -- Verdicts: what is read is spelled so, and what is spelled so is read.
 use Rattle.std.proofs.Common.{◌≡◌, Bool, true, false, ◌||◌, List, [], ◌∷◌, length, None, refl, ap, arith}
+use Rattle.std.proofs.lemmas.Bool.{or_parts}
 use Rattle.std.specs.Prelude.{codes}
 use Rattle.std.specs.Str.{bytes_eq}
 use Rattle.nft_lexer.specs.Sign as signs
 use Rattle.nft_lexer.specs.Sign.{Sign, mark}
 use Rattle.nft_tree.specs.Tree as tree
 use Rattle.nft_tree.specs.Tree.{VerdictTree}
-use Rattle.token_reader.specs.Reading.{word_at}
-use Rattle.token_reader.specs.Laws.{bind_found, else_found, Finds, FindsAll, Takes, Always}
-use Rattle.token_reader.specs.TokenLaws.{word_found, by_word_found}
+use Rattle.token_reader.specs.steps.Reading.{word_at}
+use Rattle.token_reader.specs.steps.Laws.{bind_found, else_found, Finds, FindsAll, Takes, Always}
+use Rattle.token_reader.specs.steps.TokenLaws.{word_found, by_word_found}
 use Rattle.nft_lists.specs.Elements.{SpellsVerdict}
-use Rattle.nft_lists.specs.Laws.{begins_verdict}
-use Rattle.nft_lists.specs.Reading.{decision_rows, decision_at, transfer_rows, transfer_at, verdict_at}
+use Rattle.nft_lists.specs.steps.Laws.{begins_verdict}
+use Rattle.nft_lists.specs.steps.Reading.{decision_rows, decision_at, transfer_rows, transfer_at, verdict_at}
 
 decision_found : Finds SpellsVerdict decision_at
 unfolding decision_at
@@ -49,17 +50,13 @@ verdict_takes tree.return from to s = omega (arith, ap length s)
 verdict_takes (tree.jump name) from to s = omega (arith, ap length s)
 verdict_takes (tree.goto name) from to s = omega (arith, ap length s)
 
-neither : (a b : Bool) → a || b ≡ false → (a ≡ false) × (b ≡ false)
-neither true b e = absurd cc
-neither false b e = (refl, e)
-
 none_of : (a b c d e f : Bool) → a || b || c || d || e || f ≡ false → (a ≡ false) × (b ≡ false) × (c ≡ false) × (d ≡ false) × (e ≡ false) × (f ≡ false)
 none_of a b c d e f h =
-    let p = neither (a || b || c || d || e) f h in
-    let q = neither (a || b || c || d) e p.0 in
-    let r = neither (a || b || c) d q.0 in
-    let s = neither (a || b) c r.0 in
-    let t = neither a b s.0 in
+    let p = or_parts (a || b || c || d || e) f h in
+    let q = or_parts (a || b || c || d) e p.0 in
+    let r = or_parts (a || b || c) d q.0 in
+    let s = or_parts (a || b) c r.0 in
+    let t = or_parts a b s.0 in
     (t.0, t.1, s.1, r.1, q.1, p.1)
 
 pub verdict_none : (ts : List Sign) → begins_verdict ts ≡ false → verdict_at ts ≡ None

@@ -7,6 +7,7 @@ use Rattle.nft_lexer.specs.Sign.{Sign, mark}
 use Rattle.nft_tree.specs.Tree as tree
 use Rattle.nft_tree.specs.Tree.{Text, ValueTree, RangeTree, KeyTree, ElementTree, DataTree, PairTree, VerdictTree, SetRefTree, MapRefTree}
 use Rattle.token_reader.specs.Repeats.{Many, without_newlines}
+use Rattle.token_reader.specs.Tokens.{after_mark, after_word}
 
 -- value = NUM | ADDR | WORD | STRING
 abbrev pub sign_of : ValueTree → Sign
@@ -20,6 +21,10 @@ abbrev pub SpellsRange : RangeTree → List Sign → List Sign → Type 0
 SpellsRange (tree.one v) from to = from ≡ sign_of v ∷ to
 SpellsRange (tree.between low high) from to = from ≡ sign_of low ∷ mark Minus ∷ sign_of high ∷ to
 SpellsRange (tree.prefix a n) from to = from ≡ signs.address a ∷ mark Slash ∷ signs.number n ∷ to
+
+-- no mark stands in front that would go on with a range
+abbrev pub EndsRange : List Sign → Type 0
+EndsRange ts = (after_mark Minus ts ≡ None) × (after_mark Slash ts ≡ None)
 
 -- "." value
 abbrev pub SpellsNextValue : ValueTree → List Sign → List Sign → Type 0
@@ -36,6 +41,10 @@ SpellsKey (tree.joined (v ∷ w ∷ vs)) from to = (a : List Sign) × (from ≡ 
 abbrev pub SpellsComment : Option Text → List Sign → List Sign → Type 0
 SpellsComment None from to = from ≡ to
 SpellsComment (Some c) from to = from ≡ signs.word (codes "comment") ∷ signs.string c ∷ to
+
+-- "comment" doesn't stand in front
+abbrev pub NoComment : List Sign → Type 0
+NoComment ts = after_word (codes "comment") ts ≡ None
 
 -- elem = key ["comment" STRING]
 abbrev pub SpellsElement : ElementTree → List Sign → List Sign → Type 0

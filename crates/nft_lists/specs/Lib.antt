@@ -1,3 +1,2 @@
 pub mod Elements
-pub mod Reading
-pub mod Laws
+pub mod steps

@@ -1,9 +1,9 @@
 //! Tokens up to the brace that closes them, and the comma that may end a list.
-ghost use Rattle.std.specs.Prelude.{◌≡◌, [], ◌∷◌, ◌++◌, IfOk};
+ghost use Rattle.std.specs.Prelude.{◌≡◌, [], ◌∷◌, ◌++◌, IfOk, option_map, ◌≤◌, length, IfSome};
 ghost use Rattle.nft_lexer.specs.Sign.{sign_of, signs};
 ghost use Rattle.token_reader.specs.Repeats.{without_newlines};
-ghost use Rattle.token_reader.specs.Places.{ahead, option_view};
-ghost use Rattle.nft_lists.specs.Reading.{after_last_comma, inside_at, before_brace, from_brace, enclosed_at};
+ghost use Rattle.token_reader.specs.Places.{ahead};
+ghost use Rattle.nft_lists.specs.steps.Reading.{after_last_comma, inside_at, before_brace, from_brace, enclosed_at};
 
 use nft_lexer::{Kind, Mark, Token};
 use nft_tree::Memory;
@@ -12,7 +12,8 @@ use token_reader::after_mark;
 
 /// [","]
 pub(crate) fn after_last_comma(tokens: &[Token], at: usize) -> usize
-    ensures { ahead tokens.now result ≡ after_last_comma (ahead tokens.now at) }
+    ensures read { ahead tokens.now result ≡ after_last_comma (ahead tokens.now at) }
+    ensures within { at ≤ length tokens.now → result ≤ length tokens.now }
 {
     match after_mark(tokens, at, Mark::Comma) {
         Some(after) => after,
@@ -22,7 +23,8 @@ pub(crate) fn after_last_comma(tokens: &[Token], at: usize) -> usize
 
 /// The token here, unless it is a closing brace, and the place after it.
 fn inside<'t>(tokens: &[Token<'t>], at: usize) -> Option<(Token<'t>, usize)>
-    ensures { option_view (λ x. (sign_of x.0.kind x.0.text.now, ahead tokens.now x.1)) result ≡ inside_at (ahead tokens.now at) }
+    ensures read { option_map (λ x. (sign_of x.0.kind x.0.text.now, ahead tokens.now x.1)) result ≡ inside_at (ahead tokens.now at) }
+    ensures within { IfSome result (λ x. x.1 ≤ length tokens.now) }
 {
     let token = tokens.get(at)?;
     match token.kind {
@@ -63,13 +65,14 @@ fn lines_joined<'t>(
 
 /// The tokens from this place up to the first closing brace, the newlines among them left out,
 /// and the place of that brace.
-#[tactic(auto, unfolding(crate::specs::Reading::enclosed_at))]
+#[tactic(auto, unfolding(crate::specs::steps::Reading::enclosed_at))]
 pub(crate) fn enclosed<'t>(
     alloc: Global,
     tokens: &[Token<'t>],
     at: usize,
 ) -> Result<Option<(Vec<Token<'t>>, usize)>, Memory>
-    ensures { IfOk result (λ o. option_view (λ x. (signs x.0.items, ahead tokens.now x.1)) o ≡ enclosed_at (ahead tokens.now at)) }
+    ensures read { IfOk result (λ o. option_map (λ x. (signs x.0.items, ahead tokens.now x.1)) o ≡ enclosed_at (ahead tokens.now at)) }
+    ensures within { IfOk result (λ o. IfSome o (λ x. x.1 ≤ length tokens.now)) }
 {
     let (kept, brace) = lines_joined(alloc, tokens, at)?;
     match after_mark(tokens, brace, Mark::CloseBrace) {

@@ -1,10 +1,10 @@
 //! Elements of sets.
-ghost use Rattle.std.specs.Prelude.{◌≡◌, IfOk, map};
+ghost use Rattle.std.specs.Prelude.{◌≡◌, IfOk, map, option_map, ◌≤◌, length, IfSome};
 ghost use Rattle.nft_lexer.specs.Sign.{signs};
 ghost use Rattle.nft_tree.specs.Tree.{element_tree, key_tree, value_tree};
-ghost use Rattle.token_reader.specs.Places.{ahead, option_view};
-ghost use Rattle.token_reader.specs.Reading.{all_at, with_front};
-ghost use Rattle.nft_lists.specs.Reading.{next_value_at, joined_at, key_at, element_at, next_at, listed_at};
+ghost use Rattle.token_reader.specs.Places.{ahead};
+ghost use Rattle.token_reader.specs.steps.Reading.{all_at, with_front};
+ghost use Rattle.nft_lists.specs.steps.Reading.{next_value_at, joined_at, key_at, element_at, next_at, listed_at};
 
 use crate::between_braces::after_last_comma;
 use crate::values::{comment, range, value};
@@ -14,9 +14,10 @@ use std::alloc::Global;
 use token_reader::after_mark;
 
 /// "." value
-#[tactic(auto, unfolding(crate::specs::Reading::next_value_at))]
+#[tactic(auto, unfolding(crate::specs::steps::Reading::next_value_at))]
 fn next_value(alloc: Global, tokens: &[Token], at: usize) -> Result<Option<(Value, usize)>, Memory>
-    ensures { IfOk result (λ o. option_view (λ x. (value_tree x.0, ahead tokens.now x.1)) o ≡ next_value_at (ahead tokens.now at)) }
+    ensures read { IfOk result (λ o. option_map (λ x. (value_tree x.0, ahead tokens.now x.1)) o ≡ next_value_at (ahead tokens.now at)) }
+    ensures within { IfOk result (λ o. IfSome o (λ x. x.1 ≤ length tokens.now)) }
 {
     let Some(at) = after_mark(tokens, at, Mark::Dot) else {
         return Ok(None);
@@ -31,7 +32,8 @@ fn more_values(
     at: usize,
     values: &mut Vec<Value>,
 ) -> Result<usize, Memory>
-    ensures { IfOk result (λ end. (map value_tree values.new.items, ahead tokens.now end) ≡ with_front (map value_tree values.old.items) (all_at next_value_at (ahead tokens.now at))) }
+    ensures read { IfOk result (λ end. (map value_tree values.new.items, ahead tokens.now end) ≡ with_front (map value_tree values.old.items) (all_at next_value_at (ahead tokens.now at))) }
+    ensures within { IfOk result (λ end. at ≤ length tokens.now → end ≤ length tokens.now) }
 {
     let mut here = at;
     while let Some((value, after)) = next_value(alloc, tokens, here)? {
@@ -42,9 +44,10 @@ fn more_values(
 }
 
 /// value "." value {"." value}
-#[tactic(auto, unfolding(crate::specs::Reading::joined_at))]
+#[tactic(auto, unfolding(crate::specs::steps::Reading::joined_at))]
 fn joined(alloc: Global, tokens: &[Token], at: usize) -> Result<Option<(Vec<Value>, usize)>, Memory>
-    ensures { IfOk result (λ o. option_view (λ x. (map value_tree x.0.items, ahead tokens.now x.1)) o ≡ joined_at (ahead tokens.now at)) }
+    ensures read { IfOk result (λ o. option_map (λ x. (map value_tree x.0.items, ahead tokens.now x.1)) o ≡ joined_at (ahead tokens.now at)) }
+    ensures within { IfOk result (λ o. IfSome o (λ x. x.1 ≤ length tokens.now)) }
 {
     let Some((first, at)) = value(alloc, tokens, at)? else {
         return Ok(None);
@@ -60,9 +63,10 @@ fn joined(alloc: Global, tokens: &[Token], at: usize) -> Result<Option<(Vec<Valu
 }
 
 /// key = one | value "." value {"." value}
-#[tactic(auto, unfolding(crate::specs::Reading::key_at))]
+#[tactic(auto, unfolding(crate::specs::steps::Reading::key_at))]
 fn key(alloc: Global, tokens: &[Token], at: usize) -> Result<Option<(Key, usize)>, Memory>
-    ensures { IfOk result (λ o. option_view (λ x. (key_tree x.0, ahead tokens.now x.1)) o ≡ key_at (ahead tokens.now at)) }
+    ensures read { IfOk result (λ o. option_map (λ x. (key_tree x.0, ahead tokens.now x.1)) o ≡ key_at (ahead tokens.now at)) }
+    ensures within { IfOk result (λ o. IfSome o (λ x. x.1 ≤ length tokens.now)) }
 {
     if let Some((values, at)) = joined(alloc, tokens, at)? {
         return Ok(Some((Key::Joined(values), at)));
@@ -74,9 +78,10 @@ fn key(alloc: Global, tokens: &[Token], at: usize) -> Result<Option<(Key, usize)
 }
 
 /// elem = key ["comment" STRING]
-#[tactic(auto, unfolding(crate::specs::Reading::element_at))]
+#[tactic(auto, unfolding(crate::specs::steps::Reading::element_at))]
 fn element(alloc: Global, tokens: &[Token], at: usize) -> Result<Option<(Element, usize)>, Memory>
-    ensures { IfOk result (λ o. option_view (λ x. (element_tree x.0, ahead tokens.now x.1)) o ≡ element_at (ahead tokens.now at)) }
+    ensures read { IfOk result (λ o. option_map (λ x. (element_tree x.0, ahead tokens.now x.1)) o ≡ element_at (ahead tokens.now at)) }
+    ensures within { IfOk result (λ o. IfSome o (λ x. x.1 ≤ length tokens.now)) }
 {
     let Some((key, at)) = key(alloc, tokens, at)? else {
         return Ok(None);
@@ -86,13 +91,14 @@ fn element(alloc: Global, tokens: &[Token], at: usize) -> Result<Option<(Element
 }
 
 /// "," elem
-#[tactic(auto, unfolding(crate::specs::Reading::next_at))]
+#[tactic(auto, unfolding(crate::specs::steps::Reading::next_at))]
 fn next_element(
     alloc: Global,
     tokens: &[Token],
     at: usize,
 ) -> Result<Option<(Element, usize)>, Memory>
-    ensures { IfOk result (λ o. option_view (λ x. (element_tree x.0, ahead tokens.now x.1)) o ≡ next_at element_at (ahead tokens.now at)) }
+    ensures read { IfOk result (λ o. option_map (λ x. (element_tree x.0, ahead tokens.now x.1)) o ≡ next_at element_at (ahead tokens.now at)) }
+    ensures within { IfOk result (λ o. IfSome o (λ x. x.1 ≤ length tokens.now)) }
 {
     let Some(at) = after_mark(tokens, at, Mark::Comma) else {
         return Ok(None);
@@ -107,7 +113,8 @@ fn more_elements(
     at: usize,
     elements: &mut Vec<Element>,
 ) -> Result<usize, Memory>
-    ensures { IfOk result (λ end. (map element_tree elements.new.items, ahead tokens.now end) ≡ with_front (map element_tree elements.old.items) (all_at (next_at element_at) (ahead tokens.now at))) }
+    ensures read { IfOk result (λ end. (map element_tree elements.new.items, ahead tokens.now end) ≡ with_front (map element_tree elements.old.items) (all_at (next_at element_at) (ahead tokens.now at))) }
+    ensures within { IfOk result (λ end. at ≤ length tokens.now → end ≤ length tokens.now) }
 {
     let mut here = at;
     while let Some((element, after)) = next_element(alloc, tokens, here)? {
@@ -118,12 +125,12 @@ fn more_elements(
 }
 
 /// elem {"," elem} [","], all of the tokens
-#[tactic(auto, unfolding(crate::specs::Reading::listed_at))]
+#[tactic(auto, unfolding(crate::specs::steps::Reading::listed_at))]
 pub(crate) fn listed_elements(
     alloc: Global,
     tokens: &[Token],
 ) -> Result<Option<Vec<Element>>, Memory>
-    ensures { IfOk result (λ o. option_view (λ x. map element_tree x.items) o ≡ listed_at element_at (signs tokens.now)) }
+    ensures { IfOk result (λ o. option_map (λ x. map element_tree x.items) o ≡ listed_at element_at (signs tokens.now)) }
 {
     let Some((first, at)) = element(alloc, tokens, 0)? else {
         return Ok(None);

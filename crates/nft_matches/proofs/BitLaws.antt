@@ -7,12 +7,12 @@ use Rattle.nft_lexer.specs.Sign.{Sign, mark}
 use Rattle.nft_tree.specs.declared.statement.BitField.{BitField}
 use Rattle.nft_tree.specs.declared.statement.BitTest.{BitTest}
 use Rattle.nft_tree.specs.Tree.{Text, bits}
-use Rattle.token_reader.specs.Reading.{all_at, after_mark, word_at}
-use Rattle.token_reader.specs.Laws.{Finds, FindsAll, Takes, Always, Shortens, IfSome_weaker, bind_found, many_found, many_only, Many_takes, shortens_from}
-use Rattle.token_reader.specs.TokenLaws.{when_found, mark_after, word_found}
+use Rattle.token_reader.specs.steps.Reading.{all_at, after_mark, word_at}
+use Rattle.token_reader.specs.steps.Laws.{Finds, FindsAll, Takes, Always, Shortens, IfSome_weaker, bind_found, many_found, many_only, Many_takes, shortens_from}
+use Rattle.token_reader.specs.steps.TokenLaws.{when_found, mark_after, word_found}
 use Rattle.nft_selectors.specs.Selectors.{SpellsSelector, is_word_for}
 use Rattle.nft_matches.specs.Matches.{SpellsNextWord, SpellsWords, SpellsBitTest, SpellsMatch, selector_of}
-use Rattle.nft_matches.specs.Reading.{bit_test_at, next_word_at, words_at, bits_at}
+use Rattle.nft_matches.specs.steps.Reading.{bit_test_at, next_word_at, words_at, bits_at}
 use Rattle.nft_matches.proofs.OperatorLaws.{IsPlainFront, plain_front, bit_test_found, bit_test_only}
 
 next_word_found : Finds SpellsNextWord next_word_at

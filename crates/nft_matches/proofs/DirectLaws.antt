@@ -7,15 +7,15 @@ use Rattle.nft_tree.specs.declared.selector.Selector.TheVariants.{TcpFlags, CtSt
 use Rattle.nft_tree.specs.declared.statement.Operator.{Operator}
 use Rattle.nft_tree.specs.declared.statement.BitField.TheVariants.{State, Status}
 use Rattle.nft_tree.specs.Tree as tree
-use Rattle.nft_tree.specs.Tree.{ValueTree, RangeTree, MatchTree, compare, any_flag, all_flags, masked_flags, other_flags}
-use Rattle.token_reader.specs.Laws.{IfSome_weaker, bind_found}
-use Rattle.token_reader.specs.TokenLaws.{when_found}
+use Rattle.nft_tree.specs.Tree.{ValueTree, RangeTree, MatchTree, compare, any_flag, exact_flags, masked_flags, masked_flags_unequal}
+use Rattle.token_reader.specs.steps.Laws.{IfSome_weaker, bind_found}
+use Rattle.token_reader.specs.steps.TokenLaws.{when_found}
 use Rattle.nft_selectors.specs.Selectors.{SpellsSelector, is_plain}
-use Rattle.nft_lists.specs.Elements.{SpellsRange, sign_of}
-use Rattle.nft_lists.specs.Laws.{begins_value, EndsRange, ListLaws}
-use Rattle.nft_lists.specs.Reading.{range_at}
+use Rattle.nft_lists.specs.Elements.{EndsRange, SpellsRange, sign_of}
+use Rattle.nft_lists.specs.steps.Laws.{begins_value, ListLaws}
+use Rattle.nft_lists.specs.steps.Reading.{range_at}
 use Rattle.nft_matches.specs.Matches.{SpellsOperator, SpellsMatch, is_range_for}
-use Rattle.nft_matches.specs.Reading.{operator_at, flag_test_at, comparison_at, test_at}
+use Rattle.nft_matches.specs.steps.Reading.{operator_at, flag_test_at, comparison_at, test_at}
 use Rattle.nft_matches.proofs.OperatorLaws.{IsPlainFront, plain_front, operator_found, operator_only}
 use Rattle.nft_matches.proofs.BitLaws.{bits_found}
 use Rattle.nft_matches.proofs.FlagLaws.{SpellsFlagTest, flag_test_found}
@@ -64,9 +64,9 @@ plain_only L s o r from mid to plain so sr listed ends = rw (plain_test s from p
 
 flag_match : (m : MatchTree) (from mid to : List Sign) → SpellsSelector TcpFlags from mid → SpellsFlagTest m mid to → SpellsMatch m from to
 flag_match (any_flag fs) from mid to selector s = (mid, selector, s)
-flag_match (all_flags fs) from mid to selector s = (s.0, rw s.1 at selector, s.2)
+flag_match (exact_flags fs) from mid to selector s = (s.0, rw s.1 at selector, s.2)
 flag_match (masked_flags wanted flags) from mid to selector s = (mid, selector, s)
-flag_match (other_flags wanted flags) from mid to selector s = (mid, selector, s)
+flag_match (masked_flags_unequal wanted flags) from mid to selector s = (mid, selector, s)
 flag_match m from mid to selector s = absurd s
 
 pub test_found : ListLaws → (s : Selector) (from ts : List Sign) → SpellsSelector s from ts → IfSome (test_at s ts) (λ x. SpellsMatch x.0 from x.1)

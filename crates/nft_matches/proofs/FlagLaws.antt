@@ -7,12 +7,12 @@ use Rattle.nft_lexer.specs.Sign as signs
 use Rattle.nft_lexer.specs.Sign.{Sign, mark}
 use Rattle.nft_tree.specs.declared.statement.BitTest.{BitTest}
 use Rattle.nft_tree.specs.declared.statement.BitTest.TheVariants as tests
-use Rattle.nft_tree.specs.Tree.{FlagTree, flag_word, flag_number, MatchTree, any_flag, all_flags, masked_flags, other_flags}
-use Rattle.token_reader.specs.Reading.{all_at, after_mark}
-use Rattle.token_reader.specs.Laws.{Finds, FindsAll, Takes, Always, Shortens, IfSome_weaker, bind_found, else_found, many_found, many_only, Many_takes, shortens_from}
-use Rattle.token_reader.specs.TokenLaws.{when_found, mark_after}
+use Rattle.nft_tree.specs.Tree.{FlagTree, flag_word, flag_number, MatchTree, any_flag, exact_flags, masked_flags, masked_flags_unequal}
+use Rattle.token_reader.specs.steps.Reading.{all_at, after_mark}
+use Rattle.token_reader.specs.steps.Laws.{Finds, FindsAll, Takes, Always, Shortens, IfSome_weaker, bind_found, else_found, many_found, many_only, Many_takes, shortens_from}
+use Rattle.token_reader.specs.steps.TokenLaws.{when_found, mark_after}
 use Rattle.nft_matches.specs.Matches.{sign_of_flag, is_flag, SpellsBitTest, SpellsNextFlag, SpellsFlags, SpellsFlagGroup, SpellsEquality, SpellsMasked}
-use Rattle.nft_matches.specs.Reading.{equality_at, bit_test_at, flag_at, after_separator, next_flag_at, flags_at, closed_flags_at, flag_group_at, masked, after_ampersand_at, is_equality, after_slash_at, unmasked_at, listed_flags_at, flag_test_at}
+use Rattle.nft_matches.specs.steps.Reading.{equality_at, bit_test_at, flag_at, after_separator, next_flag_at, flags_at, closed_flags_at, flag_group_at, masked, after_ampersand_at, is_equality, after_slash_at, unmasked_at, listed_flags_at, flag_test_at}
 use Rattle.nft_matches.proofs.OperatorLaws.{IsPlainFront, plain_front, IsNoSet, no_set_at_value, no_set_after_equality, equality_found, equality_only, equality_takes, equality_if_takes, bit_test_found, bit_test_only}
 
 -- ---- one flag
@@ -119,9 +119,9 @@ flag_group_takes fs from to (inr s) = omega (arith, ap length s.1, flags_takes f
 
 abbrev pub SpellsFlagTest : MatchTree → List Sign → List Sign → Type 0
 SpellsFlagTest (any_flag fs) from to = SpellsFlags fs from to
-SpellsFlagTest (all_flags fs) from to = (a : List Sign) × (from ≡ mark marks.EqualTo ∷ a) × SpellsFlags fs a to
+SpellsFlagTest (exact_flags fs) from to = (a : List Sign) × (from ≡ mark marks.EqualTo ∷ a) × SpellsFlags fs a to
 SpellsFlagTest (masked_flags wanted mask) from to = SpellsMasked true wanted mask from to
-SpellsFlagTest (other_flags wanted mask) from to = SpellsMasked false wanted mask from to
+SpellsFlagTest (masked_flags_unequal wanted mask) from to = SpellsMasked false wanted mask from to
 SpellsFlagTest m from to = ⊥
 
 masked_found : (equal : Bool) (wanted mask : List FlagTree) (from to : List Sign) → SpellsMasked equal wanted mask from to → SpellsFlagTest (masked equal wanted mask) from to
@@ -139,7 +139,7 @@ after_ampersand_found from ts e =
 slash_joined : (test : BitTest) (wanted flags : List FlagTree) (from a b to : List Sign) → SpellsBitTest test from a → SpellsFlags wanted a (mark marks.Slash ∷ b) → SpellsFlags flags b to
     → SpellsFlagTest (masked (is_equality test) wanted flags) from to
 slash_joined tests.Any wanted flags from a b to tested sw sm = inl (a, b, inl tested, sw, sm)
-slash_joined tests.All wanted flags from a b to tested sw sm = inl (a, b, inr tested, sw, sm)
+slash_joined tests.Exactly wanted flags from a b to tested sw sm = inl (a, b, inr tested, sw, sm)
 slash_joined tests.None wanted flags from a b to tested sw sm = inl (a, b, tested, sw, sm)
 
 after_slash_found : (test : BitTest) (wanted : List FlagTree) (from a ts : List Sign) → SpellsBitTest test from a → SpellsFlags wanted a (mark marks.Slash ∷ ts)
@@ -151,7 +151,7 @@ after_slash_found test wanted from a ts tested sw =
 unmasked_found : (test : BitTest) (flags : List FlagTree) (from a to : List Sign) → SpellsBitTest test from a → SpellsFlags flags a to
     → IfSome (unmasked_at test flags to) (λ x. SpellsFlagTest x.0 from x.1)
 unmasked_found tests.Any flags from a to tested s = subst (λ (r : List Sign). SpellsFlags flags r to) (sym tested) s
-unmasked_found tests.All flags from a to tested s = (a, tested, s)
+unmasked_found tests.Exactly flags from a to tested s = (a, tested, s)
 unmasked_found tests.None flags from a to tested s = tt
 
 listed_flags_found : Finds SpellsFlagTest listed_flags_at
@@ -195,7 +195,7 @@ listed_only test wanted flags from a b to tested sw sm none =
 
 no_ampersand_after : (test : BitTest) (from to : List Sign) → SpellsBitTest test from to → IsPlainFront to → after_mark marks.Ampersand from ≡ None
 no_ampersand_after tests.Any from to e front = rw e front.no_ampersand
-no_ampersand_after tests.All from to e front = rw e refl
+no_ampersand_after tests.Exactly from to e front = rw e refl
 no_ampersand_after tests.None from to e front = rw e refl
 
 slash_only : (test : BitTest) (wanted flags : List FlagTree) (from a b to : List Sign) → SpellsBitTest test from a → SpellsFlags wanted a (mark marks.Slash ∷ b) → SpellsFlags flags b to → NoNextFlag to
@@ -207,7 +207,7 @@ slash_only test wanted flags from a b to tested sw sm none =
 masked_only : (equal : Bool) (wanted flags : List FlagTree) (from to : List Sign) → SpellsMasked equal wanted flags from to → NoNextFlag to → flag_test_at from ≡ Some (masked equal wanted flags, to)
 unfolding flag_test_at
 masked_only true wanted flags from to (inl (a, b, inl e, sw, sm)) none = slash_only tests.Any wanted flags from a b to e sw sm none
-masked_only true wanted flags from to (inl (a, b, inr e, sw, sm)) none = slash_only tests.All wanted flags from a b to e sw sm none
+masked_only true wanted flags from to (inl (a, b, inr e, sw, sm)) none = slash_only tests.Exactly wanted flags from a b to e sw sm none
 masked_only false wanted flags from to (inl (a, b, e, sw, sm)) none = slash_only tests.None wanted flags from a b to e sw sm none
 masked_only equal wanted flags from to (inr (a, b, c, e, sm, ee, sw)) none = rw e (ampersand_only equal wanted flags a b c to sm ee sw none)
 
@@ -216,9 +216,9 @@ unfolding flag_test_at listed_flags_at
 flag_test_only (any_flag fs) from to s ends =
     let front = flags_front fs from to s in
     rw (front.no_ampersand, front.no_equality, flags_only fs from to s ends.no_flag, ends.no_slash) refl
-flag_test_only (all_flags fs) from to s ends = rw (s.1, flags_only fs s.0 to s.2 ends.no_flag, ends.no_slash) refl
+flag_test_only (exact_flags fs) from to s ends = rw (s.1, flags_only fs s.0 to s.2 ends.no_flag, ends.no_slash) refl
 flag_test_only (masked_flags wanted flags) from to s ends = masked_only true wanted flags from to s ends.no_flag
-flag_test_only (other_flags wanted flags) from to s ends = masked_only false wanted flags from to s ends.no_flag
+flag_test_only (masked_flags_unequal wanted flags) from to s ends = masked_only false wanted flags from to s ends.no_flag
 flag_test_only m from to s ends = absurd s
 
 masked_takes : (equal : Bool) (wanted flags : List FlagTree) (from to : List Sign) → SpellsMasked equal wanted flags from to → length to ≤ length from
@@ -227,9 +227,9 @@ masked_takes equal wanted flags from to (inr (a, b, c, e, sm, ee, sw)) = omega (
 
 pub flag_test_takes : (m : MatchTree) (from to : List Sign) → SpellsFlagTest m from to → length to ≤ length from
 flag_test_takes (any_flag fs) from to s = omega (arith, flags_takes fs from to s)
-flag_test_takes (all_flags fs) from to s = omega (arith, ap length s.1, flags_takes fs s.0 to s.2)
+flag_test_takes (exact_flags fs) from to s = omega (arith, ap length s.1, flags_takes fs s.0 to s.2)
 flag_test_takes (masked_flags wanted flags) from to s = masked_takes true wanted flags from to s
-flag_test_takes (other_flags wanted flags) from to s = masked_takes false wanted flags from to s
+flag_test_takes (masked_flags_unequal wanted flags) from to s = masked_takes false wanted flags from to s
 flag_test_takes m from to s = absurd s
 
 no_set_at_masked : (equal : Bool) (wanted flags : List FlagTree) (from to : List Sign) → SpellsMasked equal wanted flags from to → IsNoSet from
@@ -238,7 +238,7 @@ no_set_at_masked equal wanted flags from to (inr (a, b, c, e, sm, ee, sw)) = rw 
 
 pub no_set_at_flag_test : (m : MatchTree) (from to : List Sign) → SpellsFlagTest m from to → IsNoSet from
 no_set_at_flag_test (any_flag fs) from to s = no_set_at_value from (flags_front fs from to s)
-no_set_at_flag_test (all_flags fs) from to s = no_set_after_equality true from s.0 (inr s.1) (flags_front fs s.0 to s.2)
+no_set_at_flag_test (exact_flags fs) from to s = no_set_after_equality true from s.0 (inr s.1) (flags_front fs s.0 to s.2)
 no_set_at_flag_test (masked_flags wanted flags) from to s = no_set_at_masked true wanted flags from to s
-no_set_at_flag_test (other_flags wanted flags) from to s = no_set_at_masked false wanted flags from to s
+no_set_at_flag_test (masked_flags_unequal wanted flags) from to s = no_set_at_masked false wanted flags from to s
 no_set_at_flag_test m from to s = absurd s

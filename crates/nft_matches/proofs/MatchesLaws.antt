@@ -9,17 +9,17 @@ use Rattle.nft_tree.specs.declared.statement.BitField.{BitField}
 use Rattle.nft_tree.specs.declared.statement.BitField.TheVariants.{State, Status}
 use Rattle.nft_tree.specs.Tree as tree
 use Rattle.nft_tree.specs.Tree.{Text, SetRefTree, MatchTree, bits}
-use Rattle.token_reader.specs.Reading.{after_mark}
-use Rattle.token_reader.specs.Laws.{Finds, FindsAll, Takes, option_cases, IfSome_at, bind_found, else_found}
+use Rattle.token_reader.specs.steps.Reading.{after_mark}
+use Rattle.token_reader.specs.steps.Laws.{Finds, FindsAll, Takes, option_cases, IfSome_at, bind_found, else_found}
 use Rattle.nft_selectors.specs.Selectors.{SpellsSelector, SpellsSelectors}
-use Rattle.nft_selectors.specs.Reading.{selector_at, selectors_at}
-use Rattle.nft_selectors.specs.Laws.{SelectorLaws, begins_selector}
-use Rattle.nft_lists.specs.Elements.{SpellsSetRef}
-use Rattle.nft_lists.specs.Reading.{set_ref_at}
-use Rattle.nft_lists.specs.Laws.{ListLaws, EndsRange}
-use Rattle.nft_matches.specs.Matches.{SpellsMatch, SpellsEqualityOrNone, selector_of}
-use Rattle.nft_matches.specs.Laws.{EndsMatch, MatchLaws}
-use Rattle.nft_matches.specs.Reading.{equality_at, equality_if_at, test_at, set_test, set_test_at, direct_at, match_at, bits_at}
+use Rattle.nft_selectors.specs.steps.Reading.{selector_at, selectors_at}
+use Rattle.nft_selectors.specs.steps.Laws.{SelectorLaws, begins_selector}
+use Rattle.nft_lists.specs.Elements.{EndsRange, SpellsSetRef}
+use Rattle.nft_lists.specs.steps.Reading.{set_ref_at}
+use Rattle.nft_lists.specs.steps.Laws.{ListLaws}
+use Rattle.nft_matches.specs.Matches.{EndsMatch, SpellsMatch, SpellsEqualityOrNone, selector_of}
+use Rattle.nft_matches.specs.steps.Laws.{MatchLaws}
+use Rattle.nft_matches.specs.steps.Reading.{equality_at, equality_if_at, test_at, set_test, set_test_at, direct_at, match_at, bits_at}
 use Rattle.nft_matches.proofs.OperatorLaws.{IsNoSet, no_set_after_operator, no_set_after_bit_test, equality_if_found, equality_if_only, operator_takes, equality_if_takes, bit_test_takes, no_mark}
 use Rattle.nft_matches.proofs.BitLaws.{words_front, words_takes, bits_only}
 use Rattle.nft_matches.proofs.FlagLaws.{NoNextFlag, EndsFlags, SpellsFlagTest, flag_test_only, flag_test_takes, no_set_at_flag_test}
@@ -69,7 +69,7 @@ set_only : SelectorLaws → ListLaws → (equal : Bool) (ss : List Selector) (r 
 unfolding match_at set_test_at
 set_only S L equal ss r from a b to keys e s =
     let front = set_front r b to s in
-    let selectors : selectors_at from ≡ Some (ss, a) = S.selectors_only ss from a keys (no_dot_before equal a b e front.no_dot) in
+    let selectors : selectors_at from ≡ Some (ss, a) = S.selectors_only ss from a keys (S.no_dot_ends a (no_dot_before equal a b e front.no_dot)) in
     let equality : equality_if_at a ≡ (equal, b) = equality_if_only equal a b e front.no_equality in
     let reference : set_ref_at b ≡ Some (r, to) = L.set_ref_only r b to s tt in
     rw (selectors, equality, reference) refl
@@ -77,7 +77,7 @@ set_only S L equal ss r from a b to keys e s =
 direct_only : SelectorLaws → ListLaws → (s : Selector) (m : MatchTree) (from mid to : List Sign) → SpellsSelector s from mid → IsNoSet mid → test_at s mid ≡ Some (m, to) → match_at from ≡ Some (m, to)
 unfolding match_at set_test_at
 direct_only S L s m from mid to selector no_set test =
-    let selectors : selectors_at from ≡ Some (s ∷ [], mid) = S.selectors_only (s ∷ []) from mid (mid, selector, refl) no_set.no_dot in
+    let selectors : selectors_at from ≡ Some (s ∷ [], mid) = S.selectors_only (s ∷ []) from mid (mid, selector, refl) (S.no_dot_ends mid no_set.no_dot) in
     let reference : set_ref_at (equality_if_at mid).1 ≡ None = L.set_ref_none (equality_if_at mid).1 no_set.no_reference in
     rw (selectors, reference, test) refl
 
@@ -114,9 +114,9 @@ match_only S L (tree.bits field test ws) from to (a, b, selector, tested, s, lis
     direct_only S L (selector_of field) (tree.bits field test ws) from a to selector (no_set_after_bit_test test a b tested (words_front ws b to s))
     (bits_test field a ∙ bits_only field test ws a b to tested s listed (no_mark marks.Comma to (λ c. refl) ends))
 match_only S L (tree.any_flag fs) from to (a, selector, s) ends = flag_match_only S L (tree.any_flag fs) from a to selector s ends
-match_only S L (tree.all_flags fs) from to (a, selector, s) ends = flag_match_only S L (tree.all_flags fs) from (mark marks.EqualTo ∷ a) to selector (a, refl, s) ends
+match_only S L (tree.exact_flags fs) from to (a, selector, s) ends = flag_match_only S L (tree.exact_flags fs) from (mark marks.EqualTo ∷ a) to selector (a, refl, s) ends
 match_only S L (tree.masked_flags wanted flags) from to (a, selector, s) ends = flag_match_only S L (tree.masked_flags wanted flags) from a to selector s ends
-match_only S L (tree.other_flags wanted flags) from to (a, selector, s) ends = flag_match_only S L (tree.other_flags wanted flags) from a to selector s ends
+match_only S L (tree.masked_flags_unequal wanted flags) from to (a, selector, s) ends = flag_match_only S L (tree.masked_flags_unequal wanted flags) from a to selector s ends
 
 -- ---- lengths
 
@@ -129,9 +129,9 @@ match_takes S L (tree.is_in ss r) from to (a, b, keys, e, s) = omega (arith, S.s
 match_takes S L (tree.not_in ss r) from to (a, b, keys, e, s) = omega (arith, S.selectors_takes ss from a keys, equality_if_takes false a b e, L.set_ref_takes r b to s)
 match_takes S L (tree.bits field test ws) from to (a, b, selector, tested, s, listed) = omega (arith, S.selector_takes (selector_of field) from a selector, bit_test_takes test a b tested, words_takes ws b to s)
 match_takes S L (tree.any_flag fs) from to (a, selector, s) = flag_match_takes S (tree.any_flag fs) from a to selector s
-match_takes S L (tree.all_flags fs) from to (a, selector, s) = flag_match_takes S (tree.all_flags fs) from (mark marks.EqualTo ∷ a) to selector (a, refl, s)
+match_takes S L (tree.exact_flags fs) from to (a, selector, s) = flag_match_takes S (tree.exact_flags fs) from (mark marks.EqualTo ∷ a) to selector (a, refl, s)
 match_takes S L (tree.masked_flags wanted flags) from to (a, selector, s) = flag_match_takes S (tree.masked_flags wanted flags) from a to selector s
-match_takes S L (tree.other_flags wanted flags) from to (a, selector, s) = flag_match_takes S (tree.other_flags wanted flags) from a to selector s
+match_takes S L (tree.masked_flags_unequal wanted flags) from to (a, selector, s) = flag_match_takes S (tree.masked_flags_unequal wanted flags) from a to selector s
 
 -- ---- where no selector stands
 

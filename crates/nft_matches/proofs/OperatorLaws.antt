@@ -9,13 +9,12 @@ use Rattle.nft_tree.specs.declared.statement.Operator.{Operator}
 use Rattle.nft_tree.specs.declared.statement.Operator.TheVariants as operators
 use Rattle.nft_tree.specs.declared.statement.BitTest.{BitTest}
 use Rattle.nft_tree.specs.declared.statement.BitTest.TheVariants as tests
-use Rattle.token_reader.specs.Reading.{after_mark}
-use Rattle.token_reader.specs.Laws.{option_cases, IfSome_at}
-use Rattle.token_reader.specs.TokenLaws.{mark_after}
-use Rattle.nft_lists.specs.Laws.{begins_value, begins_reference}
-use Rattle.nft_matches.specs.Matches.{SpellsOperator, SpellsBitTest, SpellsEquality, SpellsEqualityOrNone}
-use Rattle.nft_matches.specs.Laws.{ends_match, EndsMatch}
-use Rattle.nft_matches.specs.Reading.{operator_at, equality_at, equality_if_at, bit_test_at}
+use Rattle.token_reader.specs.steps.Reading.{after_mark}
+use Rattle.token_reader.specs.steps.Laws.{option_cases, IfSome_at}
+use Rattle.token_reader.specs.steps.TokenLaws.{mark_after}
+use Rattle.nft_lists.specs.steps.Laws.{begins_value, begins_reference}
+use Rattle.nft_matches.specs.Matches.{ends_match, EndsMatch, SpellsOperator, SpellsBitTest, SpellsEquality, SpellsEqualityOrNone}
+use Rattle.nft_matches.specs.steps.Reading.{operator_at, equality_at, equality_if_at, bit_test_at}
 
 -- ---- what is read is spelled so
 
@@ -80,7 +79,7 @@ equality_if_only false from to e none = rw e refl
 
 pub bit_test_only : (t : BitTest) (from to : List Sign) → SpellsBitTest t from to → IsPlainFront to → bit_test_at from ≡ (t, to)
 bit_test_only tests.Any from to e front = rw (e, front.no_equality) refl
-bit_test_only tests.All from to e front = rw e refl
+bit_test_only tests.Exactly from to e front = rw e refl
 bit_test_only tests.None from to e front = rw e refl
 
 -- ---- no set stands after a sign that a value follows
@@ -108,7 +107,7 @@ no_set_after_equality false from to e front = no_set_after_operator operators.Un
 
 pub no_set_after_bit_test : (t : BitTest) (from to : List Sign) → SpellsBitTest t from to → IsPlainFront to → IsNoSet from
 no_set_after_bit_test tests.Any from to e front = no_set_after_operator operators.Equal from to (inl e) front
-no_set_after_bit_test tests.All from to e front = no_set_after_operator operators.Equal from to (inr e) front
+no_set_after_bit_test tests.Exactly from to e front = no_set_after_operator operators.Equal from to (inr e) front
 no_set_after_bit_test tests.None from to e front = no_set_after_operator operators.Unequal from to e front
 
 -- ---- lengths
@@ -132,7 +131,7 @@ equality_if_takes false from to e = operator_takes operators.Unequal from to e
 
 pub bit_test_takes : (t : BitTest) (from to : List Sign) → SpellsBitTest t from to → length to ≤ length from
 bit_test_takes tests.Any from to e = operator_takes operators.Equal from to (inl e)
-bit_test_takes tests.All from to e = operator_takes operators.Equal from to (inr e)
+bit_test_takes tests.Exactly from to e = operator_takes operators.Equal from to (inr e)
 bit_test_takes tests.None from to e = operator_takes operators.Unequal from to e
 
 -- ---- what follows a match

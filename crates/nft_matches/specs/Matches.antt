@@ -45,7 +45,7 @@ selector_of Status = CtStatus
 
 abbrev pub SpellsBitTest : BitTest → List Sign → List Sign → Type 0
 SpellsBitTest tests.Any from to = from ≡ to
-SpellsBitTest tests.All from to = from ≡ mark marks.EqualTo ∷ to
+SpellsBitTest tests.Exactly from to = from ≡ mark marks.EqualTo ∷ to
 SpellsBitTest tests.None from to = from ≡ mark marks.NotEqualTo ∷ to
 
 abbrev pub SpellsNextWord : Text → List Sign → List Sign → Type 0
@@ -102,6 +102,18 @@ SpellsMatch (tree.not_in ss set) from to = (a b : List Sign) × SpellsSelectors 
 SpellsMatch (tree.bits field test ws) from to =
     (a b : List Sign) × SpellsSelector (selector_of field) from a × SpellsBitTest test a b × SpellsWords ws b to × IsTrue (list_all (is_word_for (selector_of field)) ws)
 SpellsMatch (tree.any_flag fs) from to = (a : List Sign) × SpellsSelector TcpFlags from a × SpellsFlags fs a to
-SpellsMatch (tree.all_flags fs) from to = (a : List Sign) × SpellsSelector TcpFlags from (mark marks.EqualTo ∷ a) × SpellsFlags fs a to
+SpellsMatch (tree.exact_flags fs) from to = (a : List Sign) × SpellsSelector TcpFlags from (mark marks.EqualTo ∷ a) × SpellsFlags fs a to
 SpellsMatch (tree.masked_flags wanted mask) from to = (a : List Sign) × SpellsSelector TcpFlags from a × SpellsMasked true wanted mask a to
-SpellsMatch (tree.other_flags wanted mask) from to = (a : List Sign) × SpellsSelector TcpFlags from a × SpellsMasked false wanted mask a to
+SpellsMatch (tree.masked_flags_unequal wanted mask) from to = (a : List Sign) × SpellsSelector TcpFlags from a × SpellsMasked false wanted mask a to
+
+-- what may follow a match in a rule: a word, or what ends a rule
+abbrev pub ends_match : List Sign → Bool
+ends_match [] = true
+ends_match (signs.newline ∷ ts) = true
+ends_match (signs.word w ∷ ts) = true
+ends_match (mark marks.Semicolon ∷ ts) = true
+ends_match (mark marks.CloseBrace ∷ ts) = true
+ends_match _ = false
+
+abbrev pub EndsMatch : List Sign → Type 0
+EndsMatch ts = IsTrue (ends_match ts)

@@ -1,9 +1,9 @@
 //! Tests of one selector.
-ghost use Rattle.std.specs.Prelude.{◌≡◌, IfOk};
+ghost use Rattle.std.specs.Prelude.{◌≡◌, IfOk, option_map, ◌≤◌, length, IfSome};
 ghost use Rattle.nft_tree.specs.Tree.{value_tree, range_tree, match_tree};
-ghost use Rattle.token_reader.specs.Places.{ahead, option_view};
+ghost use Rattle.token_reader.specs.Places.{ahead};
 ghost use Rattle.nft_matches.specs.Matches.{is_value_for, is_range_for};
-ghost use Rattle.nft_matches.specs.Reading.{comparison_at, test_at};
+ghost use Rattle.nft_matches.specs.steps.Reading.{comparison_at, test_at};
 
 use crate::bits::bits;
 use crate::flags::flag_test;
@@ -36,14 +36,15 @@ fn is_range_for(selector: Selector, range: &Range) -> bool
 }
 
 /// [op] one, each word of it listed
-#[tactic(auto, unfolding(crate::specs::Reading::comparison_at))]
+#[tactic(auto, unfolding(crate::specs::steps::Reading::comparison_at))]
 fn comparison(
     alloc: Global,
     tokens: &[Token],
     at: usize,
     selector: Selector,
 ) -> Result<Option<(Match, usize)>, Memory>
-    ensures { IfOk result (λ o. option_view (λ x. (match_tree x.0, ahead tokens.now x.1)) o ≡ comparison_at selector (ahead tokens.now at)) }
+    ensures read { IfOk result (λ o. option_map (λ x. (match_tree x.0, ahead tokens.now x.1)) o ≡ comparison_at selector (ahead tokens.now at)) }
+    ensures within { IfOk result (λ o. IfSome o (λ x. x.1 ≤ length tokens.now)) }
 {
     let (operator, at) = operator(tokens, at);
     let Some((range, at)) = range(alloc, tokens, at)? else {
@@ -56,14 +57,15 @@ fn comparison(
 }
 
 /// What follows one selector: bits, flags, or [op] one
-#[tactic(auto, unfolding(crate::specs::Reading::test_at))]
+#[tactic(auto, unfolding(crate::specs::steps::Reading::test_at))]
 pub(crate) fn test(
     alloc: Global,
     tokens: &[Token],
     at: usize,
     selector: Selector,
 ) -> Result<Option<(Match, usize)>, Memory>
-    ensures { IfOk result (λ o. option_view (λ x. (match_tree x.0, ahead tokens.now x.1)) o ≡ test_at selector (ahead tokens.now at)) }
+    ensures read { IfOk result (λ o. option_map (λ x. (match_tree x.0, ahead tokens.now x.1)) o ≡ test_at selector (ahead tokens.now at)) }
+    ensures within { IfOk result (λ o. IfSome o (λ x. x.1 ≤ length tokens.now)) }
 {
     match selector {
         Selector::CtState => bits(alloc, tokens, at, BitField::State),

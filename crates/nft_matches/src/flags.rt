@@ -1,11 +1,11 @@
 //! The flags of TCP.
-ghost use Rattle.std.specs.Prelude.{◌≡◌, IfOk, map};
+ghost use Rattle.std.specs.Prelude.{◌≡◌, IfOk, map, option_map, ◌≤◌, length, IfSome};
 ghost use Rattle.std.specs.List.{list_all};
 ghost use Rattle.nft_tree.specs.Tree.{flag_tree, match_tree};
-ghost use Rattle.token_reader.specs.Places.{ahead, option_view};
-ghost use Rattle.token_reader.specs.Reading.{all_at, with_front};
+ghost use Rattle.token_reader.specs.Places.{ahead};
+ghost use Rattle.token_reader.specs.steps.Reading.{all_at, with_front};
 ghost use Rattle.nft_matches.specs.Matches.{is_flag};
-ghost use Rattle.nft_matches.specs.Reading.{flag_at, after_separator, next_flag_at, flags_at, closed_flags_at, flag_group_at, masked, after_ampersand_at, is_equality, after_slash_at, listed_flags_at, flag_test_at};
+ghost use Rattle.nft_matches.specs.steps.Reading.{flag_at, after_separator, next_flag_at, flags_at, closed_flags_at, flag_group_at, masked, after_ampersand_at, is_equality, after_slash_at, listed_flags_at, flag_test_at};
 
 use crate::operators::{bit_test, equality};
 use nft_lexer::{Kind, Mark, Token};
@@ -16,7 +16,8 @@ use token_reader::after_mark;
 
 /// WORD | NUM
 fn flag(alloc: Global, tokens: &[Token], at: usize) -> Result<Option<(Flag, usize)>, Memory>
-    ensures { IfOk result (λ o. option_view (λ x. (flag_tree x.0, ahead tokens.now x.1)) o ≡ flag_at (ahead tokens.now at)) }
+    ensures read { IfOk result (λ o. option_map (λ x. (flag_tree x.0, ahead tokens.now x.1)) o ≡ flag_at (ahead tokens.now at)) }
+    ensures within { IfOk result (λ o. IfSome o (λ x. x.1 ≤ length tokens.now)) }
 {
     let Some(token) = tokens.get(at) else {
         return Ok(None);
@@ -31,7 +32,8 @@ fn flag(alloc: Global, tokens: &[Token], at: usize) -> Result<Option<(Flag, usiz
 
 /// "," | "|"
 fn after_separator(tokens: &[Token], at: usize) -> Option<usize>
-    ensures { option_view (ahead tokens.now) result ≡ after_separator (ahead tokens.now at) }
+    ensures read { option_map (ahead tokens.now) result ≡ after_separator (ahead tokens.now at) }
+    ensures within { IfSome result (λ end. end ≤ length tokens.now) }
 {
     match tokens.get(at)?.kind {
         Kind::Mark(Mark::Comma | Mark::Bar) => Some(at + 1),
@@ -40,9 +42,10 @@ fn after_separator(tokens: &[Token], at: usize) -> Option<usize>
 }
 
 /// ("," | "|") (WORD | NUM)
-#[tactic(auto, unfolding(crate::specs::Reading::next_flag_at))]
+#[tactic(auto, unfolding(crate::specs::steps::Reading::next_flag_at))]
 fn next_flag(alloc: Global, tokens: &[Token], at: usize) -> Result<Option<(Flag, usize)>, Memory>
-    ensures { IfOk result (λ o. option_view (λ x. (flag_tree x.0, ahead tokens.now x.1)) o ≡ next_flag_at (ahead tokens.now at)) }
+    ensures read { IfOk result (λ o. option_map (λ x. (flag_tree x.0, ahead tokens.now x.1)) o ≡ next_flag_at (ahead tokens.now at)) }
+    ensures within { IfOk result (λ o. IfSome o (λ x. x.1 ≤ length tokens.now)) }
 {
     let Some(at) = after_separator(tokens, at) else {
         return Ok(None);
@@ -57,7 +60,8 @@ fn more_flags(
     at: usize,
     flags: &mut Vec<Flag>,
 ) -> Result<usize, Memory>
-    ensures { IfOk result (λ end. (map flag_tree flags.new.items, ahead tokens.now end) ≡ with_front (map flag_tree flags.old.items) (all_at next_flag_at (ahead tokens.now at))) }
+    ensures read { IfOk result (λ end. (map flag_tree flags.new.items, ahead tokens.now end) ≡ with_front (map flag_tree flags.old.items) (all_at next_flag_at (ahead tokens.now at))) }
+    ensures within { IfOk result (λ end. at ≤ length tokens.now → end ≤ length tokens.now) }
 {
     let mut here = at;
     while let Some((next, after)) = next_flag(alloc, tokens, here)? {
@@ -84,9 +88,10 @@ fn are_flags(flags: &[Flag]) -> bool
 }
 
 /// (WORD | NUM) {("," | "|") (WORD | NUM)}, each word a flag
-#[tactic(auto, unfolding(crate::specs::Reading::flags_at))]
+#[tactic(auto, unfolding(crate::specs::steps::Reading::flags_at))]
 fn flags(alloc: Global, tokens: &[Token], at: usize) -> Result<Option<(Vec<Flag>, usize)>, Memory>
-    ensures { IfOk result (λ o. option_view (λ x. (map flag_tree x.0.items, ahead tokens.now x.1)) o ≡ flags_at (ahead tokens.now at)) }
+    ensures read { IfOk result (λ o. option_map (λ x. (map flag_tree x.0.items, ahead tokens.now x.1)) o ≡ flags_at (ahead tokens.now at)) }
+    ensures within { IfOk result (λ o. IfSome o (λ x. x.1 ≤ length tokens.now)) }
 {
     let Some((first, second)) = flag(alloc, tokens, at)? else {
         return Ok(None);
@@ -101,13 +106,14 @@ fn flags(alloc: Global, tokens: &[Token], at: usize) -> Result<Option<(Vec<Flag>
 }
 
 /// flags ")"
-#[tactic(auto, unfolding(crate::specs::Reading::closed_flags_at))]
+#[tactic(auto, unfolding(crate::specs::steps::Reading::closed_flags_at))]
 fn closed_flags(
     alloc: Global,
     tokens: &[Token],
     at: usize,
 ) -> Result<Option<(Vec<Flag>, usize)>, Memory>
-    ensures { IfOk result (λ o. option_view (λ x. (map flag_tree x.0.items, ahead tokens.now x.1)) o ≡ closed_flags_at (ahead tokens.now at)) }
+    ensures read { IfOk result (λ o. option_map (λ x. (map flag_tree x.0.items, ahead tokens.now x.1)) o ≡ closed_flags_at (ahead tokens.now at)) }
+    ensures within { IfOk result (λ o. IfSome o (λ x. x.1 ≤ length tokens.now)) }
 {
     let Some((flags, at)) = flags(alloc, tokens, at)? else {
         return Ok(None);
@@ -119,13 +125,14 @@ fn closed_flags(
 }
 
 /// flags | "(" flags ")"
-#[tactic(auto, unfolding(crate::specs::Reading::flag_group_at))]
+#[tactic(auto, unfolding(crate::specs::steps::Reading::flag_group_at))]
 fn flag_group(
     alloc: Global,
     tokens: &[Token],
     at: usize,
 ) -> Result<Option<(Vec<Flag>, usize)>, Memory>
-    ensures { IfOk result (λ o. option_view (λ x. (map flag_tree x.0.items, ahead tokens.now x.1)) o ≡ flag_group_at (ahead tokens.now at)) }
+    ensures read { IfOk result (λ o. option_map (λ x. (map flag_tree x.0.items, ahead tokens.now x.1)) o ≡ flag_group_at (ahead tokens.now at)) }
+    ensures within { IfOk result (λ o. IfSome o (λ x. x.1 ≤ length tokens.now)) }
 {
     match after_mark(tokens, at, Mark::OpenParenthesis) {
         Some(at) => closed_flags(alloc, tokens, at),
@@ -141,18 +148,19 @@ fn masked(equal: bool, wanted: Vec<Flag>, mask: Vec<Flag>) -> Match
     if equal {
         Match::MaskedFlags(masked)
     } else {
-        Match::OtherFlags(masked)
+        Match::MaskedFlagsUnequal(masked)
     }
 }
 
 /// pflags ("==" | "!=") pflags
-#[tactic(auto, unfolding(crate::specs::Reading::after_ampersand_at))]
+#[tactic(auto, unfolding(crate::specs::steps::Reading::after_ampersand_at))]
 fn after_ampersand(
     alloc: Global,
     tokens: &[Token],
     at: usize,
 ) -> Result<Option<(Match, usize)>, Memory>
-    ensures { IfOk result (λ o. option_view (λ x. (match_tree x.0, ahead tokens.now x.1)) o ≡ after_ampersand_at (ahead tokens.now at)) }
+    ensures read { IfOk result (λ o. option_map (λ x. (match_tree x.0, ahead tokens.now x.1)) o ≡ after_ampersand_at (ahead tokens.now at)) }
+    ensures within { IfOk result (λ o. IfSome o (λ x. x.1 ≤ length tokens.now)) }
 {
     let Some((mask, at)) = flag_group(alloc, tokens, at)? else {
         return Ok(None);
@@ -167,7 +175,7 @@ fn after_ampersand(
 }
 
 /// flags, after the flags wanted and "/"
-#[tactic(auto, unfolding(crate::specs::Reading::after_slash_at))]
+#[tactic(auto, unfolding(crate::specs::steps::Reading::after_slash_at))]
 fn after_slash(
     alloc: Global,
     tokens: &[Token],
@@ -175,26 +183,28 @@ fn after_slash(
     test: BitTest,
     wanted: Vec<Flag>,
 ) -> Result<Option<(Match, usize)>, Memory>
-    ensures { IfOk result (λ o. option_view (λ x. (match_tree x.0, ahead tokens.now x.1)) o ≡ after_slash_at test (map flag_tree wanted.items) (ahead tokens.now at)) }
+    ensures read { IfOk result (λ o. option_map (λ x. (match_tree x.0, ahead tokens.now x.1)) o ≡ after_slash_at test (map flag_tree wanted.items) (ahead tokens.now at)) }
+    ensures within { IfOk result (λ o. IfSome o (λ x. x.1 ≤ length tokens.now)) }
 {
     let Some((mask, at)) = flags(alloc, tokens, at)? else {
         return Ok(None);
     };
     let found = match test {
-        BitTest::Any | BitTest::All => masked(true, wanted, mask),
+        BitTest::Any | BitTest::Exactly => masked(true, wanted, mask),
         BitTest::None => masked(false, wanted, mask),
     };
     Ok(Some((found, at)))
 }
 
 /// ["==" | "!="] flags ["/" flags]; `!=` asks for a mask
-#[tactic(auto, unfolding(crate::specs::Reading::listed_flags_at))]
+#[tactic(auto, unfolding(crate::specs::steps::Reading::listed_flags_at))]
 fn listed_flags(
     alloc: Global,
     tokens: &[Token],
     at: usize,
 ) -> Result<Option<(Match, usize)>, Memory>
-    ensures { IfOk result (λ o. option_view (λ x. (match_tree x.0, ahead tokens.now x.1)) o ≡ listed_flags_at (ahead tokens.now at)) }
+    ensures read { IfOk result (λ o. option_map (λ x. (match_tree x.0, ahead tokens.now x.1)) o ≡ listed_flags_at (ahead tokens.now at)) }
+    ensures within { IfOk result (λ o. IfSome o (λ x. x.1 ≤ length tokens.now)) }
 {
     let (test, at) = bit_test(tokens, at);
     let Some((wanted, at)) = flags(alloc, tokens, at)? else {
@@ -205,19 +215,20 @@ fn listed_flags(
     }
     match test {
         BitTest::Any => Ok(Some((Match::AnyFlag(wanted), at))),
-        BitTest::All => Ok(Some((Match::AllFlags(wanted), at))),
+        BitTest::Exactly => Ok(Some((Match::ExactFlags(wanted), at))),
         BitTest::None => Ok(None),
     }
 }
 
 /// ["==" | "!="] flags ["/" flags] | "&" pflags ("==" | "!=") pflags
-#[tactic(auto, unfolding(crate::specs::Reading::flag_test_at))]
+#[tactic(auto, unfolding(crate::specs::steps::Reading::flag_test_at))]
 pub(crate) fn flag_test(
     alloc: Global,
     tokens: &[Token],
     at: usize,
 ) -> Result<Option<(Match, usize)>, Memory>
-    ensures { IfOk result (λ o. option_view (λ x. (match_tree x.0, ahead tokens.now x.1)) o ≡ flag_test_at (ahead tokens.now at)) }
+    ensures read { IfOk result (λ o. option_map (λ x. (match_tree x.0, ahead tokens.now x.1)) o ≡ flag_test_at (ahead tokens.now at)) }
+    ensures within { IfOk result (λ o. IfSome o (λ x. x.1 ≤ length tokens.now)) }
 {
     match after_mark(tokens, at, Mark::Ampersand) {
         Some(at) => after_ampersand(alloc, tokens, at),

@@ -1,5 +1,5 @@
 //! Laws of matches, as the contract of a function that does nothing.
-ghost use Rattle.nft_matches.specs.Laws.{MatchLaws};
+ghost use Rattle.nft_matches.specs.steps.Laws.{MatchLaws};
 
 use nft_lists::list_laws;
 use nft_selectors::selector_laws;

@@ -7,7 +7,7 @@ use Rattle.nft_lexer.specs.Sign.{Sign, mark, word}
 use Rattle.nft_tree.specs.declared.selector.Selector.{Selector}
 use Rattle.nft_tree.specs.declared.selector.Selector.TheVariants as selectors
 use Rattle.nft_tree.specs.declared.statement.BitField.TheVariants.{State, Status}
-use Rattle.nft_tree.specs.declared.statement.Mark.TheVariants.{Meta, Ct}
+use Rattle.nft_tree.specs.declared.statement.MarkField.TheVariants.{Meta, Ct}
 use Rattle.nft_tree.specs.Tree as tree
 use Rattle.nft_tree.specs.Tree.{Text, Statement, RuleTree, ChainTree}
 use Rattle.token_reader.specs.Repeats.{Many, OneOf, SpellsEnd, Ends}
@@ -77,9 +77,9 @@ statement_front (tree.matching (tree.not_in (x ∷ xs) set)) from to s = selecto
 statement_front (tree.matching (tree.bits State test ws)) from to s = selector_front selectors.CtState from s.0 s.2
 statement_front (tree.matching (tree.bits Status test ws)) from to s = selector_front selectors.CtStatus from s.0 s.2
 statement_front (tree.matching (tree.any_flag fs)) from to s = selector_front selectors.TcpFlags from s.0 s.1
-statement_front (tree.matching (tree.all_flags fs)) from to s = selector_front selectors.TcpFlags from _ s.1
+statement_front (tree.matching (tree.exact_flags fs)) from to s = selector_front selectors.TcpFlags from _ s.1
 statement_front (tree.matching (tree.masked_flags wanted mask)) from to s = selector_front selectors.TcpFlags from s.0 s.1
-statement_front (tree.matching (tree.other_flags wanted mask)) from to s = selector_front selectors.TcpFlags from s.0 s.1
+statement_front (tree.matching (tree.masked_flags_unequal wanted mask)) from to s = selector_front selectors.TcpFlags from s.0 s.1
 statement_front (tree.counter None) from to s = (_, _, s, refl)
 statement_front (tree.counter (Some start)) from to s = (_, _, s, refl)
 statement_front (tree.log None) from to s = (_, _, s, refl)

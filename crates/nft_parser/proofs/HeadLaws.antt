@@ -3,8 +3,7 @@ use Rattle.std.proofs.Common.{◌≡◌, ℕ, ◌≤◌, List, [], ◌∷◌, le
 use Rattle.std.specs.Prelude.{codes, IfSome}
 use Rattle.nft_lexer.specs.declared.token.Mark.{Mark}
 use Rattle.nft_lexer.specs.declared.token.Mark.TheVariants as marks
-use Rattle.nft_lexer.specs.Sign as signs
-use Rattle.nft_lexer.specs.Sign.{mark, word, string}
+use Rattle.nft_lexer.specs.Sign.{Sign, mark, word, number, string}
 use Rattle.nft_tree.specs.declared.chain.ChainKind.{ChainKind}
 use Rattle.nft_tree.specs.declared.chain.ChainKind.TheVariants as kinds
 use Rattle.nft_tree.specs.declared.chain.Hook.{Hook}
@@ -13,8 +12,8 @@ use Rattle.nft_tree.specs.declared.chain.Priority.{Priority}
 use Rattle.nft_tree.specs.declared.chain.Priority.TheVariants.{Number, Named, Offset}
 use Rattle.nft_tree.specs.declared.chain.PriorityName.{PriorityName}
 use Rattle.nft_tree.specs.declared.chain.PriorityName.TheVariants as priorities
-use Rattle.nft_tree.specs.declared.chain.Sign.{Sign}
-use Rattle.nft_tree.specs.declared.chain.Sign.TheVariants.{Plus, Minus}
+use Rattle.nft_tree.specs.declared.chain.OffsetSign.{OffsetSign}
+use Rattle.nft_tree.specs.declared.chain.OffsetSign.TheVariants.{Plus, Minus}
 use Rattle.nft_tree.specs.declared.chain.Policy.{Policy}
 use Rattle.nft_tree.specs.declared.chain.Policy.TheVariants as policies
 use Rattle.nft_tree.specs.Tree.{Text, HeadTree}
@@ -27,17 +26,17 @@ use Rattle.nft_parser.specs.Reading.{comment_at, note_at, kind_rows, kind_at, ho
 
 -- ---- what no rule begins with
 
-abbrev pub NoComment : List signs.Sign → Type 0
+abbrev pub NoComment : List Sign → Type 0
 NoComment ts = after_word (codes "comment") ts ≡ None
 
-abbrev pub NoType : List signs.Sign → Type 0
+abbrev pub NoType : List Sign → Type 0
 NoType ts = after_word (codes "type") ts ≡ None
 
-abbrev pub NoPolicy : List signs.Sign → Type 0
+abbrev pub NoPolicy : List Sign → Type 0
 NoPolicy ts = after_word (codes "policy") ts ≡ None
 
 -- nothing stands in front that is read before the rules of a chain
-pub record Plain (ts : List signs.Sign) : Type 0 where
+pub record Plain (ts : List Sign) : Type 0 where
   pub no_end : NoEnd ts
   pub no_comment : NoComment ts
   pub no_type : NoType ts
@@ -45,20 +44,20 @@ pub record Plain (ts : List signs.Sign) : Type 0 where
 
 -- ---- notes
 
-abbrev pub SpellsText : Text → List signs.Sign → List signs.Sign → Type 0
+abbrev pub SpellsText : Text → List Sign → List Sign → Type 0
 SpellsText text from to = from ≡ word (codes "comment") ∷ string text ∷ to
 
 pub comment_found : Finds SpellsText comment_at
 unfolding comment_at
 comment_found ts =
     bind_found _ (after_word (codes "comment") ts) _ (word_after (codes "comment") ts) (λ a ea.
-    IfSome_weaker (string_at a) _ _ (λ text e. ea ∙ ap (λ (r : List signs.Sign). word (codes "comment") ∷ r) e) (string_found a))
+    IfSome_weaker (string_at a) _ _ (λ text e. ea ∙ ap (λ (r : List Sign). word (codes "comment") ∷ r) e) (string_found a))
 
-pub comment_only : (text : Text) (from to : List signs.Sign) → SpellsText text from to → comment_at from ≡ Some (text, to)
+pub comment_only : (text : Text) (from to : List Sign) → SpellsText text from to → comment_at from ≡ Some (text, to)
 unfolding comment_at
 comment_only text from to s = rw s refl
 
-pub no_comment_at : (ts : List signs.Sign) → NoComment ts → comment_at ts ≡ None
+pub no_comment_at : (ts : List Sign) → NoComment ts → comment_at ts ≡ None
 unfolding comment_at
 no_comment_at ts none = rw none refl
 
@@ -81,36 +80,36 @@ note_takes text from to s = omega (arith, ap length s.1, some_ends_takes s.0 to 
 pub note_shortens : Shortens note_at
 note_shortens = shortens_from SpellsNote note_at note_found note_takes
 
-no_note : (ts : List signs.Sign) → NoComment ts → note_at ts ≡ None
+no_note : (ts : List Sign) → NoComment ts → note_at ts ≡ None
 unfolding note_at comment_at
 no_note ts none = rw none refl
 
-pub notes_found : (ts : List signs.Sign) → Many SpellsNote (all_at note_at ts).0 ts (all_at note_at ts).1
+pub notes_found : (ts : List Sign) → Many SpellsNote (all_at note_at ts).0 ts (all_at note_at ts).1
 notes_found ts = many_found SpellsNote note_at note_found (length ts) ts
 
-pub notes_only : (ns : List Text) (from to : List signs.Sign) → Many SpellsNote ns from to → NoEnd to → NoComment to → all_at note_at from ≡ (ns, to)
+pub notes_only : (ns : List Text) (from to : List Sign) → Many SpellsNote ns from to → NoEnd to → NoComment to → all_at note_at from ≡ (ns, to)
 notes_only ns from to s none plain = many_only SpellsNote NoEnd note_at note_only note_front note_takes (length from) ns from to s none (no_note to plain) (omega arith)
 
-notes_front : (ns : List Text) (from to : List signs.Sign) → Many SpellsNote ns from to → Plain to → NoEnd from × NoPolicy from
+notes_front : (ns : List Text) (from to : List Sign) → Many SpellsNote ns from to → Plain to → NoEnd from × NoPolicy from
 notes_front [] from to s plain = rw s (plain.no_end, plain.no_policy)
 notes_front (n ∷ ns) from to s plain = rw s.1.1 (refl, refl)
 
 -- ---- the kind, the hook and the priority
 
-kind_found : (ts : List signs.Sign) → IfSome (kind_at ts) (λ x. ts ≡ word (kind_word x.0) ∷ x.1)
+kind_found : (ts : List Sign) → IfSome (kind_at ts) (λ x. ts ≡ word (kind_word x.0) ∷ x.1)
 unfolding kind_at
 kind_found = by_word_found (λ ts x. ts ≡ word (kind_word x.0) ∷ x.1) kind_rows (λ a. refl, (λ a. refl, tt))
 
-kind_only : (k : ChainKind) (to : List signs.Sign) → kind_at (word (kind_word k) ∷ to) ≡ Some (k, to)
+kind_only : (k : ChainKind) (to : List Sign) → kind_at (word (kind_word k) ∷ to) ≡ Some (k, to)
 unfolding kind_at
 kind_only kinds.Filter to = refl
 kind_only kinds.Nat to = refl
 
-hook_found : (ts : List signs.Sign) → IfSome (hook_at ts) (λ x. ts ≡ word (hook_word x.0) ∷ x.1)
+hook_found : (ts : List Sign) → IfSome (hook_at ts) (λ x. ts ≡ word (hook_word x.0) ∷ x.1)
 unfolding hook_at
 hook_found = by_word_found (λ ts x. ts ≡ word (hook_word x.0) ∷ x.1) hook_rows (λ a. refl, (λ a. refl, (λ a. refl, (λ a. refl, (λ a. refl, tt)))))
 
-hook_only : (h : Hook) (to : List signs.Sign) → hook_at (word (hook_word h) ∷ to) ≡ Some (h, to)
+hook_only : (h : Hook) (to : List Sign) → hook_at (word (hook_word h) ∷ to) ≡ Some (h, to)
 unfolding hook_at
 hook_only hooks.Prerouting to = refl
 hook_only hooks.Input to = refl
@@ -118,11 +117,11 @@ hook_only hooks.Forward to = refl
 hook_only hooks.Output to = refl
 hook_only hooks.Postrouting to = refl
 
-name_found : (ts : List signs.Sign) → IfSome (priority_name_at ts) (λ x. ts ≡ word (priority_word x.0) ∷ x.1)
+name_found : (ts : List Sign) → IfSome (priority_name_at ts) (λ x. ts ≡ word (priority_word x.0) ∷ x.1)
 unfolding priority_name_at
 name_found = by_word_found (λ ts x. ts ≡ word (priority_word x.0) ∷ x.1) priority_rows (λ a. refl, (λ a. refl, (λ a. refl, (λ a. refl, (λ a. refl, (λ a. refl, tt))))))
 
-name_only : (p : PriorityName) (to : List signs.Sign) → priority_name_at (word (priority_word p) ∷ to) ≡ Some (p, to)
+name_only : (p : PriorityName) (to : List Sign) → priority_name_at (word (priority_word p) ∷ to) ≡ Some (p, to)
 unfolding priority_name_at
 name_only priorities.Raw to = refl
 name_only priorities.Mangle to = refl
@@ -135,27 +134,27 @@ negative_found : Finds SpellsPriority negative_at
 unfolding negative_at
 negative_found ts =
     bind_found _ (after_mark marks.Minus ts) _ (mark_after marks.Minus ts) (λ a ea.
-    bind_found _ (number_at a) _ (number_found a) (λ n en. ea ∙ ap (λ (r : List signs.Sign). mark marks.Minus ∷ r) en))
+    bind_found _ (number_at a) _ (number_found a) (λ n en. ea ∙ ap (λ (r : List Sign). mark marks.Minus ∷ r) en))
 
 number_priority_found : Finds SpellsPriority number_priority_at
 unfolding number_priority_at
 number_priority_found ts = else_found _ (number_at ts) _ (negative_at ts) (number_found ts) (λ n en. en) (negative_found ts)
 
-abbrev sign_mark : Sign → Mark
+abbrev sign_mark : OffsetSign → Mark
 sign_mark Plus = marks.Plus
 sign_mark Minus = marks.Minus
 
-sign_found : (ts : List signs.Sign) → IfSome (sign_at ts) (λ x. ts ≡ mark (sign_mark x.0) ∷ x.1)
+sign_found : (ts : List Sign) → IfSome (sign_at ts) (λ x. ts ≡ mark (sign_mark x.0) ∷ x.1)
 unfolding sign_at
 sign_found ts =
     else_found _ (after_mark marks.Plus ts) _ _ (mark_after marks.Plus ts) (λ a ea. ea)
     (bind_found _ (after_mark marks.Minus ts) _ (mark_after marks.Minus ts) (λ a ea. ea))
 
-offset_joined : (name : PriorityName) (s : Sign) (n : ℕ) (from ts a to : List signs.Sign) → from ≡ word (priority_word name) ∷ ts → ts ≡ mark (sign_mark s) ∷ a → a ≡ signs.number n ∷ to → SpellsPriority (Offset name s n) from to
+offset_joined : (name : PriorityName) (s : OffsetSign) (n : ℕ) (from ts a to : List Sign) → from ≡ word (priority_word name) ∷ ts → ts ≡ mark (sign_mark s) ∷ a → a ≡ number n ∷ to → SpellsPriority (Offset name s n) from to
 offset_joined name Plus n from ts a to e es en = cc
 offset_joined name Minus n from ts a to e es en = cc
 
-offset_found : (name : PriorityName) (from ts : List signs.Sign) → from ≡ word (priority_word name) ∷ ts → IfSome (offset_at name ts) (λ x. SpellsPriority x.0 from x.1)
+offset_found : (name : PriorityName) (from ts : List Sign) → from ≡ word (priority_word name) ∷ ts → IfSome (offset_at name ts) (λ x. SpellsPriority x.0 from x.1)
 unfolding offset_at
 offset_found name from ts e =
     bind_found _ (sign_at ts) _ (sign_found ts) (λ s es.
@@ -172,10 +171,10 @@ unfolding priority_at
 priority_found ts = else_found _ (number_priority_at ts) _ (named_priority_at ts) (number_priority_found ts) (λ p ep. ep) (named_priority_found ts)
 
 -- neither plus nor minus stands in front, which would go on with a name
-abbrev NoSign : List signs.Sign → Type 0
+abbrev NoSign : List Sign → Type 0
 NoSign ts = sign_at ts ≡ None
 
-signed : (s : Sign) (to : List signs.Sign) → sign_at (mark (sign_mark s) ∷ to) ≡ Some (s, to)
+signed : (s : OffsetSign) (to : List Sign) → sign_at (mark (sign_mark s) ∷ to) ≡ Some (s, to)
 unfolding sign_at
 signed Plus to = refl
 signed Minus to = refl
@@ -185,8 +184,8 @@ unfolding priority_at number_priority_at negative_at named_priority_at offset_at
 priority_only (Number Plus n) from to s follow = rw s refl
 priority_only (Number Minus n) from to s follow = rw s refl
 priority_only (Named name) from to s follow = rw (s, name_only name to, follow) refl
-priority_only (Offset name Plus n) from to s follow = rw (s, name_only name (mark marks.Plus ∷ signs.number n ∷ to), signed Plus (signs.number n ∷ to)) refl
-priority_only (Offset name Minus n) from to s follow = rw (s, name_only name (mark marks.Minus ∷ signs.number n ∷ to), signed Minus (signs.number n ∷ to)) refl
+priority_only (Offset name Plus n) from to s follow = rw (s, name_only name (mark marks.Plus ∷ number n ∷ to), signed Plus (number n ∷ to)) refl
+priority_only (Offset name Minus n) from to s follow = rw (s, name_only name (mark marks.Minus ∷ number n ∷ to), signed Minus (number n ∷ to)) refl
 
 priority_takes : Takes SpellsPriority
 priority_takes (Number Plus n) from to s = omega (arith, ap length s)
@@ -195,30 +194,30 @@ priority_takes (Named name) from to s = omega (arith, ap length s)
 priority_takes (Offset name Plus n) from to s = omega (arith, ap length s)
 priority_takes (Offset name Minus n) from to s = omega (arith, ap length s)
 
-end_no_sign : (from to : List signs.Sign) → SpellsEnd from to → NoSign from
+end_no_sign : (from to : List Sign) → SpellsEnd from to → NoSign from
 unfolding sign_at
 end_no_sign from to (inl e) = rw e refl
 end_no_sign from to (inr e) = rw e refl
 
 -- ---- the policy
 
-decision_found : (ts : List signs.Sign) → IfSome (decision_at ts) (λ x. ts ≡ word (policy_word x.0) ∷ x.1)
+decision_found : (ts : List Sign) → IfSome (decision_at ts) (λ x. ts ≡ word (policy_word x.0) ∷ x.1)
 unfolding decision_at
 decision_found = by_word_found (λ ts x. ts ≡ word (policy_word x.0) ∷ x.1) policy_rows (λ a. refl, (λ a. refl, tt))
 
-decision_only : (p : Policy) (to : List signs.Sign) → decision_at (word (policy_word p) ∷ to) ≡ Some (p, to)
+decision_only : (p : Policy) (to : List Sign) → decision_at (word (policy_word p) ∷ to) ≡ Some (p, to)
 unfolding decision_at
 decision_only policies.Accept to = refl
 decision_only policies.Drop to = refl
 
-policy_found : (ts : List signs.Sign) → IfSome (policy_at ts) (λ x. SpellsPolicy (Some x.0) ts x.1)
+policy_found : (ts : List Sign) → IfSome (policy_at ts) (λ x. SpellsPolicy (Some x.0) ts x.1)
 unfolding policy_at
 policy_found ts =
     bind_found _ (after_word (codes "policy") ts) _ (word_after (codes "policy") ts) (λ a ea.
     bind_found _ (decision_at a) _ (decision_found a) (λ p ep.
-    bind_found _ (after_ends p.1) _ (some_ends_found p.1) (λ b eb. (p.1, ea ∙ ap (λ (r : List signs.Sign). word (codes "policy") ∷ r) ep, eb))))
+    bind_found _ (after_ends p.1) _ (some_ends_found p.1) (λ b eb. (p.1, ea ∙ ap (λ (r : List Sign). word (codes "policy") ∷ r) ep, eb))))
 
-policy_if_found : (ts : List signs.Sign) → SpellsPolicy (policy_if_at ts).0 ts (policy_if_at ts).1
+policy_if_found : (ts : List Sign) → SpellsPolicy (policy_if_at ts).0 ts (policy_if_at ts).1
 unfolding policy_if_at
 policy_if_found ts =
     elim (option_cases (policy_at ts)) [
@@ -226,25 +225,25 @@ policy_if_found ts =
       | inr p ↦ rw p.1 (IfSome_at (policy_at ts) _ p.0 p.1 (policy_found ts))
     ]
 
-policy_if_only : (p : Option Policy) (from to : List signs.Sign) → SpellsPolicy p from to → NoEnd to → NoPolicy to → policy_if_at from ≡ (p, to)
+policy_if_only : (p : Option Policy) (from to : List Sign) → SpellsPolicy p from to → NoEnd to → NoPolicy to → policy_if_at from ≡ (p, to)
 unfolding policy_if_at policy_at
 policy_if_only None from to s none plain = rw (s, plain) refl
 policy_if_only (Some p) from to s none plain = rw (s.1, decision_only p s.0, some_ends_only s.0 to s.2 none) refl
 
-policy_front : (p : Option Policy) (from to : List signs.Sign) → SpellsPolicy p from to → NoEnd to → NoEnd from
+policy_front : (p : Option Policy) (from to : List Sign) → SpellsPolicy p from to → NoEnd to → NoEnd from
 policy_front None from to s none = rw s none
 policy_front (Some p) from to s none = rw s.1 refl
 
-policy_takes : (p : Option Policy) (from to : List signs.Sign) → SpellsPolicy p from to → length to ≤ length from
+policy_takes : (p : Option Policy) (from to : List Sign) → SpellsPolicy p from to → length to ≤ length from
 policy_takes None from to s = omega (arith, ap length s)
 policy_takes (Some p) from to s = omega (arith, ap length s.1, some_ends_takes s.0 to s.2)
 
 -- ---- the head
 
-abbrev SpellsBase : ChainKind × Hook → List signs.Sign → List signs.Sign → Type 0
+abbrev SpellsBase : ChainKind × Hook → List Sign → List Sign → Type 0
 SpellsBase base from to = from ≡ word (codes "type") ∷ word (kind_word base.0) ∷ word (codes "hook") ∷ word (hook_word base.1) ∷ to
 
-base_joined : (k : ChainKind) (h : Hook) (from a b c to : List signs.Sign) → from ≡ word (codes "type") ∷ a → a ≡ word (kind_word k) ∷ b → b ≡ word (codes "hook") ∷ c → c ≡ word (hook_word h) ∷ to → SpellsBase (k, h) from to
+base_joined : (k : ChainKind) (h : Hook) (from a b c to : List Sign) → from ≡ word (codes "type") ∷ a → a ≡ word (kind_word k) ∷ b → b ≡ word (codes "hook") ∷ c → c ≡ word (hook_word h) ∷ to → SpellsBase (k, h) from to
 base_joined k h from a b c to ea eb ec ed = rw (ea, eb, ec, ed) refl
 
 base_found : Finds SpellsBase base_at
@@ -255,12 +254,12 @@ base_found ts =
     bind_found _ (after_word (codes "hook") k.1) _ (word_after (codes "hook") k.1) (λ b eb.
     bind_found _ (hook_at b) _ (hook_found b) (λ h eh. base_joined k.0 h.0 ts a k.1 b h.1 ea ek eb eh))))
 
-base_only : (k : ChainKind) (h : Hook) (from to : List signs.Sign) → SpellsBase (k, h) from to → base_at from ≡ Some ((k, h), to)
+base_only : (k : ChainKind) (h : Hook) (from to : List Sign) → SpellsBase (k, h) from to → base_at from ≡ Some ((k, h), to)
 unfolding base_at
 base_only k h from to s = rw (s, kind_only k (word (codes "hook") ∷ word (hook_word h) ∷ to), hook_only h to) refl
 
-abbrev SpellsRank : Priority → List signs.Sign → List signs.Sign → Type 0
-SpellsRank p from to = (a b : List signs.Sign) × (from ≡ word (codes "priority") ∷ a) × SpellsPriority p a b × SomeEnds b to
+abbrev SpellsRank : Priority → List Sign → List Sign → Type 0
+SpellsRank p from to = (a b : List Sign) × (from ≡ word (codes "priority") ∷ a) × SpellsPriority p a b × SomeEnds b to
 
 rank_found : Finds SpellsRank rank_at
 unfolding rank_at
@@ -297,7 +296,7 @@ head_takes h from to s =
 
 -- ---- [head {note}]
 
-pub head_if_found : (ts : List signs.Sign) → SpellsHeadIf (head_if_at ts).0 ts (head_if_at ts).1
+pub head_if_found : (ts : List Sign) → SpellsHeadIf (head_if_at ts).0 ts (head_if_at ts).1
 unfolding head_if_at
 head_if_found ts =
     elim (option_cases (head_at ts)) [
@@ -305,19 +304,19 @@ head_if_found ts =
       | inr h ↦ rw h.1 (IfSome_at (head_at ts) _ h.0 h.1 (head_found ts))
     ]
 
-no_head : (ts : List signs.Sign) → NoType ts → head_at ts ≡ None
+no_head : (ts : List Sign) → NoType ts → head_at ts ≡ None
 unfolding head_at base_at
 no_head ts none = rw none refl
 
-pub head_if_only : (h : Option HeadTree) (from to : List signs.Sign) → SpellsHeadIf h from to → Plain to → head_if_at from ≡ (h, to)
+pub head_if_only : (h : Option HeadTree) (from to : List Sign) → SpellsHeadIf h from to → Plain to → head_if_at from ≡ (h, to)
 unfolding head_if_at
 head_if_only None from to s plain = rw (s, no_head to plain.no_type) refl
 head_if_only (Some h) from to s plain = rw (head_only h from to s plain) refl
 
-pub head_if_front : (h : Option HeadTree) (from to : List signs.Sign) → SpellsHeadIf h from to → Plain to → NoEnd from × NoComment from
+pub head_if_front : (h : Option HeadTree) (from to : List Sign) → SpellsHeadIf h from to → Plain to → NoEnd from × NoComment from
 head_if_front None from to s plain = rw s (plain.no_end, plain.no_comment)
 head_if_front (Some h) from to s plain = rw s.front (refl, refl)
 
-pub head_if_takes : (h : Option HeadTree) (from to : List signs.Sign) → SpellsHeadIf h from to → length to ≤ length from
+pub head_if_takes : (h : Option HeadTree) (from to : List Sign) → SpellsHeadIf h from to → length to ≤ length from
 head_if_takes None from to s = omega (arith, ap length s)
 head_if_takes (Some h) from to s = omega (arith, head_takes h from to s)

@@ -19,7 +19,7 @@ use Rattle.nft_parser.proofs.TableLaws.{ruleset_only}
 use Rattle.nft_parser.specs.declared.fault.ParseError.{ParseError}
 use Rattle.nft_parser.specs.declared.fault.ParseError.TheVariants.{Byte, OpenString, Number, TooLong, Syntax, LeftOut, Memory}
 use Rattle.nft_parser.specs.Faults.{of_lexing}
-use Rattle.nft_parser.specs.Spells.{signs_of, Spells, SpellsNone, HasFault}
+use Rattle.nft_parser.specs.Spells.{signs_of, Spells, SpellsNone, HasTextFault}
 
 has_left_out-front : (t : Sign) (ts : List Sign) → has_left_out (t ∷ ts) ≡ (names_left_out t || has_left_out ts)
 has_left_out-front signs.newline ts = refl
@@ -63,7 +63,7 @@ trees_equal R T ts first second f s = some_is first second (sym (ruleset_only R 
 abbrev pub FaultCases : List ℕ → ParseError → Type 0
 FaultCases text error = ((e : LexError) × (error ≡ of_lexing e) × cut.HasFault text e) ⊎ ((b : Bool) × (error ≡ refusal b) × SpellsNone b text)
 
-pub fault_cases : (text : List ℕ) (error : ParseError) → HasFault text error → FaultCases text error
+pub fault_cases : (text : List ℕ) (error : ParseError) → HasTextFault text error → FaultCases text error
 fault_cases text (Byte line) h = inl (lexical.Byte line, refl, h)
 fault_cases text (OpenString line) h = inl (lexical.OpenString line, refl, h)
 fault_cases text (Number line) h = inl (lexical.Number line, refl, h)
@@ -72,19 +72,19 @@ fault_cases text Syntax h = inr (false, refl, h)
 fault_cases text LeftOut h = inr (true, refl, h)
 fault_cases text Memory h = absurd h
 
-refused_so : (text : List ℕ) (b : Bool) → SpellsNone b text → HasFault text (refusal b)
+refused_so : (text : List ℕ) (b : Bool) → SpellsNone b text → HasTextFault text (refusal b)
 refused_so text true h = h
 refused_so text false h = h
 
 -- the tokens told not to be a ruleset are the text's, and no tree is spelled by them
-pub refused : (text : List ℕ) (tokens : List Token) → IsCut text (map spelled tokens) → ((tree : List TableTree) → SpellsRuleset tree (signs.signs tokens) → ⊥) → HasFault text (refusal (has_left_out (signs.signs tokens)))
+pub refused : (text : List ℕ) (tokens : List Token) → IsCut text (map spelled tokens) → ((tree : List TableTree) → SpellsRuleset tree (signs.signs tokens) → ⊥) → HasTextFault text (refusal (has_left_out (signs.signs tokens)))
 refused text tokens cut none =
     let same = signs_of-spelled tokens in
     let no_tree : (tree : List TableTree) → SpellsRuleset tree (signs_of (map spelled tokens)) → ⊥ = λ tree s. none tree (subst (λ (ts : List Sign). SpellsRuleset tree ts) same s) in
     refused_so text (has_left_out (signs.signs tokens)) (map spelled tokens, cut, no_tree, ap has_left_out same)
 
 -- any other reason to refuse the text is that one
-pub refused_only : (text : List ℕ) (tokens : List Token) → OnlyCut text (map spelled tokens) → ((e : LexError) → cut.HasFault text e → ⊥) → (error : ParseError) → HasFault text error → refusal (has_left_out (signs.signs tokens)) ≡ error
+pub refused_only : (text : List ℕ) (tokens : List Token) → OnlyCut text (map spelled tokens) → ((e : LexError) → cut.HasFault text e → ⊥) → (error : ParseError) → HasTextFault text error → refusal (has_left_out (signs.signs tokens)) ≡ error
 refused_only text tokens only none error h =
     elim (fault_cases text error h) [
       | inl l ↦ absurd (none l.0 l.2)
@@ -95,7 +95,7 @@ refused_only text tokens only none error h =
 
 -- of a text that isn't cut the fault is the one told, want of memory aside
 pub uncut_only : (text : List ℕ) (answer : LexError) → ((tokens : List Spelled) → IsCut text tokens → answer ≡ lexical.Memory) → ((e : LexError) → cut.HasFault text e → (answer ≡ e) ⊎ (answer ≡ lexical.Memory))
-    → (error : ParseError) → HasFault text error → (of_lexing answer ≡ error) ⊎ (of_lexing answer ≡ Memory)
+    → (error : ParseError) → HasTextFault text error → (of_lexing answer ≡ error) ⊎ (of_lexing answer ≡ Memory)
 uncut_only text answer uncut only error h =
     elim (fault_cases text error h) [
       | inl l ↦

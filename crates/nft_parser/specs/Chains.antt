@@ -11,7 +11,7 @@ use Rattle.nft_tree.specs.declared.chain.Priority.{Priority}
 use Rattle.nft_tree.specs.declared.chain.Priority.TheVariants.{Number, Named, Offset}
 use Rattle.nft_tree.specs.declared.chain.PriorityName.{PriorityName}
 use Rattle.nft_tree.specs.declared.chain.PriorityName.TheVariants as priorities
-use Rattle.nft_tree.specs.declared.chain.Sign.TheVariants.{Plus, Minus}
+use Rattle.nft_tree.specs.declared.chain.OffsetSign.TheVariants.{Plus, Minus}
 use Rattle.nft_tree.specs.declared.chain.Policy.{Policy}
 use Rattle.nft_tree.specs.declared.chain.Policy.TheVariants as policies
 use Rattle.nft_tree.specs.Tree.{Text, RuleTree, HeadTree, ChainTree}

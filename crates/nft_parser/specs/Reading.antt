@@ -3,7 +3,7 @@ use Rattle.std.specs.Prelude.{List, [], ◌∷◌, length, Bool, true, false, �
 use Rattle.std.specs.List.{list_any}
 use Rattle.std.specs.Str.{bytes_eq}
 use Rattle.nft_lexer.specs.declared.token.Mark.TheVariants as marks
-use Rattle.nft_lexer.specs.Sign as signs
+use Rattle.nft_lexer.specs.Sign.{Sign, word}
 use Rattle.nft_tree.specs.declared.ruleset.Family.{Family}
 use Rattle.nft_tree.specs.declared.ruleset.Family.TheVariants.{Ip, Inet}
 use Rattle.nft_tree.specs.declared.chain.ChainKind.{ChainKind}
@@ -14,8 +14,8 @@ use Rattle.nft_tree.specs.declared.chain.Priority.{Priority}
 use Rattle.nft_tree.specs.declared.chain.Priority.TheVariants.{Number, Named, Offset}
 use Rattle.nft_tree.specs.declared.chain.PriorityName.{PriorityName}
 use Rattle.nft_tree.specs.declared.chain.PriorityName.TheVariants as priorities
-use Rattle.nft_tree.specs.declared.chain.Sign.{Sign}
-use Rattle.nft_tree.specs.declared.chain.Sign.TheVariants.{Plus, Minus}
+use Rattle.nft_tree.specs.declared.chain.OffsetSign.{OffsetSign}
+use Rattle.nft_tree.specs.declared.chain.OffsetSign.TheVariants.{Plus, Minus}
 use Rattle.nft_tree.specs.declared.chain.Policy.{Policy}
 use Rattle.nft_tree.specs.declared.chain.Policy.TheVariants as policies
 use Rattle.nft_tree.specs.Tree as tree
@@ -29,7 +29,7 @@ use Rattle.nft_parser.specs.Rulesets.{left_out}
 
 -- what a reading of A gives
 abbrev pub Reads : Type 0 → Type 0
-Reads A = List signs.Sign → Option (A × List signs.Sign)
+Reads A = List Sign → Option (A × List Sign)
 
 -- ---- notes
 
@@ -83,7 +83,7 @@ number_priority_at ts =
     option_else (number_at ts) (λ n. Some (Number Plus n.0, n.1)) (negative_at ts)
 
 -- "+" | "-"
-unfoldable pub sign_at : Reads Sign
+unfoldable pub sign_at : Reads OffsetSign
 sign_at ts = option_else (after_mark marks.Plus ts) (λ a. Some (Plus, a)) (after_mark marks.Minus ts >>= λ a. Some (Minus, a))
 
 -- ("+" | "-") NUM, after the name
@@ -116,7 +116,7 @@ policy_at ts = do
   b ← after_ends policy.1
   Some (policy.0, b)
 
-unfoldable pub policy_if_at : List signs.Sign → Option Policy × List signs.Sign
+unfoldable pub policy_if_at : List Sign → Option Policy × List Sign
 policy_if_at ts = option_else (policy_at ts) (λ p. (Some p.0, p.1)) (None, ts)
 
 -- "type" KIND "hook" HOOK
@@ -144,7 +144,7 @@ head_at ts = do
   let notes = all_at note_at policy.1
   Some (record { kind = base.0.0; hook = base.0.1; priority = rank.0; policy = policy.0; notes = notes.0 }, notes.1)
 
-unfoldable pub head_if_at : List signs.Sign → Option HeadTree × List signs.Sign
+unfoldable pub head_if_at : List Sign → Option HeadTree × List Sign
 head_if_at ts = option_else (head_at ts) (λ h. (Some h.0, h.1)) (None, ts)
 
 -- ---- chains
@@ -154,7 +154,7 @@ next_rule_at ts = do
   a ← after_ends ts
   rule_at a
 
-unfoldable pub rules_at : List signs.Sign → List RuleTree × List signs.Sign
+unfoldable pub rules_at : List Sign → List RuleTree × List Sign
 rules_at ts =
     option_else (rule_at ts) (λ r. let rs = with_front (r.0 ∷ []) (all_at next_rule_at r.1) in (rs.0, skip_ends rs.1))
     ([], ts)
@@ -241,25 +241,25 @@ next_table_at ts = do
 -- ---- rulesets
 
 -- "flush" "ruleset" end {end}
-unfoldable pub after_flush : List signs.Sign → Option (List signs.Sign)
+unfoldable pub after_flush : List Sign → Option (List Sign)
 after_flush ts = do
   a ← after_word (codes "flush") ts
   b ← after_word (codes "ruleset") a
   after_ends b
 
-unfoldable pub skip_flush : List signs.Sign → List signs.Sign
+unfoldable pub skip_flush : List Sign → List Sign
 skip_flush ts = option_else (after_flush ts) (λ a. a) ts
 
 -- all of the tokens
-unfoldable pub ruleset_at : List signs.Sign → Option (List TableTree)
+unfoldable pub ruleset_at : List Sign → Option (List TableTree)
 ruleset_at ts =
     let tables = all_at next_table_at (skip_flush (skip_ends ts)) in
     if length tables.1 == 0 then Some tables.0 else None
 
 -- ---- words that are left out
 
-abbrev pub names_left_out : signs.Sign → Bool
-names_left_out (signs.word w) = list_any (bytes_eq w) left_out
+abbrev pub names_left_out : Sign → Bool
+names_left_out (word w) = list_any (bytes_eq w) left_out
 names_left_out _ = false
 
 -- why tokens that spell no tree are no ruleset, by whether one of their words is left out

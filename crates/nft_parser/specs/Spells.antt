@@ -23,11 +23,11 @@ SpellsNone left_out text =
     (tokens : List Spelled) × IsCut text tokens × ((tree : List TableTree) → SpellsRuleset tree (signs_of tokens) → ⊥) × (has_left_out (signs_of tokens) ≡ left_out)
 
 -- why the text is no ruleset: the first fault of its tokens, or else that they spell no tree
-abbrev pub HasFault : List ℕ → ParseError → Type 0
-HasFault text (Byte line) = cut.HasFault text (lexical.Byte line)
-HasFault text (OpenString line) = cut.HasFault text (lexical.OpenString line)
-HasFault text (Number line) = cut.HasFault text (lexical.Number line)
-HasFault text TooLong = cut.HasFault text lexical.TooLong
-HasFault text Syntax = SpellsNone false text
-HasFault text LeftOut = SpellsNone true text
-HasFault text Memory = ⊥
+abbrev pub HasTextFault : List ℕ → ParseError → Type 0
+HasTextFault text (Byte line) = cut.HasFault text (lexical.Byte line)
+HasTextFault text (OpenString line) = cut.HasFault text (lexical.OpenString line)
+HasTextFault text (Number line) = cut.HasFault text (lexical.Number line)
+HasTextFault text TooLong = cut.HasFault text lexical.TooLong
+HasTextFault text Syntax = SpellsNone false text
+HasTextFault text LeftOut = SpellsNone true text
+HasTextFault text Memory = ⊥

@@ -1,7 +1,8 @@
 //! Chains and their rules.
 ghost use Rattle.std.specs.Prelude.{◌≡◌, IfOk, map};
 ghost use Rattle.nft_tree.specs.Tree.{rule_tree, chain_tree};
-ghost use Rattle.token_reader.specs.Places.{ahead, option_view};
+ghost use Rattle.std.specs.Option.{option_map};
+ghost use Rattle.token_reader.specs.Places.{ahead};
 ghost use Rattle.token_reader.specs.Reading.{all_at, with_front};
 ghost use Rattle.nft_parser.specs.Reading.{next_rule_at, rules_at, chain_front_at, chain_at};
 
@@ -16,7 +17,7 @@ use token_reader::{after_ends, after_mark, after_word, skip_ends, word};
 /// end {end} rule
 #[tactic(auto, unfolding(crate::specs::Reading::next_rule_at))]
 fn next_rule(alloc: Global, tokens: &[Token], at: usize) -> Result<Option<(Rule, usize)>, Memory>
-    ensures { IfOk result (λ o. option_view (λ x. (rule_tree x.0, ahead tokens.now x.1)) o ≡ next_rule_at (ahead tokens.now at)) }
+    ensures { IfOk result (λ o. option_map (λ x. (rule_tree x.0, ahead tokens.now x.1)) o ≡ next_rule_at (ahead tokens.now at)) }
 {
     let Some(at) = after_ends(tokens, at) else {
         return Ok(None);
@@ -59,7 +60,7 @@ fn rules(alloc: Global, tokens: &[Token], at: usize) -> Result<(Vec<Rule>, usize
 /// "chain" NAME "{" {end}
 #[tactic(auto, unfolding(crate::specs::Reading::chain_front_at))]
 fn chain_front<'t>(tokens: &[Token<'t>], at: usize) -> Option<(&'t [u8], usize)>
-    ensures { option_view (λ x. (x.0.now, ahead tokens.now x.1)) result ≡ chain_front_at (ahead tokens.now at) }
+    ensures { option_map (λ x. (x.0.now, ahead tokens.now x.1)) result ≡ chain_front_at (ahead tokens.now at) }
 {
     let at = after_word(tokens, at, b"chain")?;
     let (name, at) = word(tokens, at)?;
@@ -74,7 +75,7 @@ pub(crate) fn chain(
     tokens: &[Token],
     at: usize,
 ) -> Result<Option<(Chain, usize)>, Memory>
-    ensures { IfOk result (λ o. option_view (λ x. (chain_tree x.0, ahead tokens.now x.1)) o ≡ chain_at (ahead tokens.now at)) }
+    ensures { IfOk result (λ o. option_map (λ x. (chain_tree x.0, ahead tokens.now x.1)) o ≡ chain_at (ahead tokens.now at)) }
 {
     let Some((name, at)) = chain_front(tokens, at) else {
         return Ok(None);

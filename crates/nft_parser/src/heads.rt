@@ -1,20 +1,20 @@
 //! The head of a base chain.
 ghost use Rattle.std.specs.Prelude.{◌≡◌, IfOk};
-ghost use Rattle.nft_tree.specs.Tree as tree;
 ghost use Rattle.nft_tree.specs.Tree.{head_tree};
-ghost use Rattle.token_reader.specs.Places.{ahead, option_view};
+ghost use Rattle.std.specs.Option.{option_map};
+ghost use Rattle.token_reader.specs.Places.{ahead};
 ghost use Rattle.nft_parser.specs.Reading.{kind_at, hook_at, priority_name_at, negative_at, number_priority_at, sign_at, offset_at, named_priority_at, priority_at, decision_at, policy_at, policy_if_at, base_at, rank_at, head_at, head_if_at};
 
 use crate::notes::notes;
 use nft_lexer::{Mark, Token};
-use nft_tree::{ChainKind, Head, Hook, Memory, Policy, Priority, PriorityName, Sign};
+use nft_tree::{ChainKind, Head, Hook, Memory, OffsetSign, Policy, Priority, PriorityName};
 use std::alloc::Global;
 use token_reader::{after_ends, after_mark, after_word, number};
 
 /// "filter" | "nat"
 #[tactic(auto, unfolding(crate::specs::Reading::kind_at))]
 fn kind(tokens: &[Token], at: usize) -> Option<(ChainKind, usize)>
-    ensures { option_view (λ x. (x.0, ahead tokens.now x.1)) result ≡ kind_at (ahead tokens.now at) }
+    ensures { option_map (λ x. (x.0, ahead tokens.now x.1)) result ≡ kind_at (ahead tokens.now at) }
 {
     if let Some(at) = after_word(tokens, at, b"filter") {
         return Some((ChainKind::Filter, at));
@@ -26,7 +26,7 @@ fn kind(tokens: &[Token], at: usize) -> Option<(ChainKind, usize)>
 /// "prerouting" | "input" | "forward" | "output" | "postrouting"
 #[tactic(auto, unfolding(crate::specs::Reading::hook_at))]
 fn hook(tokens: &[Token], at: usize) -> Option<(Hook, usize)>
-    ensures { option_view (λ x. (x.0, ahead tokens.now x.1)) result ≡ hook_at (ahead tokens.now at) }
+    ensures { option_map (λ x. (x.0, ahead tokens.now x.1)) result ≡ hook_at (ahead tokens.now at) }
 {
     if let Some(at) = after_word(tokens, at, b"prerouting") {
         return Some((Hook::Prerouting, at));
@@ -47,7 +47,7 @@ fn hook(tokens: &[Token], at: usize) -> Option<(Hook, usize)>
 /// "raw" | "mangle" | "dstnat" | "filter" | "security" | "srcnat"
 #[tactic(auto, unfolding(crate::specs::Reading::priority_name_at))]
 fn priority_name(tokens: &[Token], at: usize) -> Option<(PriorityName, usize)>
-    ensures { option_view (λ x. (x.0, ahead tokens.now x.1)) result ≡ priority_name_at (ahead tokens.now at) }
+    ensures { option_map (λ x. (x.0, ahead tokens.now x.1)) result ≡ priority_name_at (ahead tokens.now at) }
 {
     if let Some(at) = after_word(tokens, at, b"raw") {
         return Some((PriorityName::Raw, at));
@@ -71,40 +71,40 @@ fn priority_name(tokens: &[Token], at: usize) -> Option<(PriorityName, usize)>
 /// "-" NUM
 #[tactic(auto, unfolding(crate::specs::Reading::negative_at))]
 fn negative(tokens: &[Token], at: usize) -> Option<(Priority, usize)>
-    ensures { option_view (λ x. (x.0, ahead tokens.now x.1)) result ≡ negative_at (ahead tokens.now at) }
+    ensures { option_map (λ x. (x.0, ahead tokens.now x.1)) result ≡ negative_at (ahead tokens.now at) }
 {
     let at = after_mark(tokens, at, Mark::Minus)?;
     let (number, at) = number(tokens, at)?;
-    Some((Priority::Number(Sign::Minus, number), at))
+    Some((Priority::Number(OffsetSign::Minus, number), at))
 }
 
 /// ["-"] NUM
 #[tactic(auto, unfolding(crate::specs::Reading::number_priority_at))]
 fn number_priority(tokens: &[Token], at: usize) -> Option<(Priority, usize)>
-    ensures { option_view (λ x. (x.0, ahead tokens.now x.1)) result ≡ number_priority_at (ahead tokens.now at) }
+    ensures { option_map (λ x. (x.0, ahead tokens.now x.1)) result ≡ number_priority_at (ahead tokens.now at) }
 {
     if let Some((positive, at)) = number(tokens, at) {
-        return Some((Priority::Number(Sign::Plus, positive), at));
+        return Some((Priority::Number(OffsetSign::Plus, positive), at));
     }
     negative(tokens, at)
 }
 
 /// "+" | "-"
 #[tactic(auto, unfolding(crate::specs::Reading::sign_at))]
-fn sign(tokens: &[Token], at: usize) -> Option<(Sign, usize)>
-    ensures { option_view (λ x. (x.0, ahead tokens.now x.1)) result ≡ sign_at (ahead tokens.now at) }
+fn sign(tokens: &[Token], at: usize) -> Option<(OffsetSign, usize)>
+    ensures { option_map (λ x. (x.0, ahead tokens.now x.1)) result ≡ sign_at (ahead tokens.now at) }
 {
     if let Some(at) = after_mark(tokens, at, Mark::Plus) {
-        return Some((Sign::Plus, at));
+        return Some((OffsetSign::Plus, at));
     }
     let at = after_mark(tokens, at, Mark::Minus)?;
-    Some((Sign::Minus, at))
+    Some((OffsetSign::Minus, at))
 }
 
 /// ("+" | "-") NUM, after the name.
 #[tactic(auto, unfolding(crate::specs::Reading::offset_at))]
 fn offset(tokens: &[Token], at: usize, name: PriorityName) -> Option<(Priority, usize)>
-    ensures { option_view (λ x. (x.0, ahead tokens.now x.1)) result ≡ offset_at name (ahead tokens.now at) }
+    ensures { option_map (λ x. (x.0, ahead tokens.now x.1)) result ≡ offset_at name (ahead tokens.now at) }
 {
     let (sign, at) = sign(tokens, at)?;
     let (number, at) = number(tokens, at)?;
@@ -114,7 +114,7 @@ fn offset(tokens: &[Token], at: usize, name: PriorityName) -> Option<(Priority, 
 /// pname [("+" | "-") NUM]
 #[tactic(auto, unfolding(crate::specs::Reading::named_priority_at))]
 fn named_priority(tokens: &[Token], at: usize) -> Option<(Priority, usize)>
-    ensures { option_view (λ x. (x.0, ahead tokens.now x.1)) result ≡ named_priority_at (ahead tokens.now at) }
+    ensures { option_map (λ x. (x.0, ahead tokens.now x.1)) result ≡ named_priority_at (ahead tokens.now at) }
 {
     let (name, at) = priority_name(tokens, at)?;
     if let Some(found) = offset(tokens, at, name) {
@@ -126,7 +126,7 @@ fn named_priority(tokens: &[Token], at: usize) -> Option<(Priority, usize)>
 /// ["-"] NUM | pname [("+" | "-") NUM]
 #[tactic(auto, unfolding(crate::specs::Reading::priority_at))]
 fn priority(tokens: &[Token], at: usize) -> Option<(Priority, usize)>
-    ensures { option_view (λ x. (x.0, ahead tokens.now x.1)) result ≡ priority_at (ahead tokens.now at) }
+    ensures { option_map (λ x. (x.0, ahead tokens.now x.1)) result ≡ priority_at (ahead tokens.now at) }
 {
     if let Some(found) = number_priority(tokens, at) {
         return Some(found);
@@ -137,7 +137,7 @@ fn priority(tokens: &[Token], at: usize) -> Option<(Priority, usize)>
 /// "accept" | "drop"
 #[tactic(auto, unfolding(crate::specs::Reading::decision_at))]
 fn decision(tokens: &[Token], at: usize) -> Option<(Policy, usize)>
-    ensures { option_view (λ x. (x.0, ahead tokens.now x.1)) result ≡ decision_at (ahead tokens.now at) }
+    ensures { option_map (λ x. (x.0, ahead tokens.now x.1)) result ≡ decision_at (ahead tokens.now at) }
 {
     if let Some(at) = after_word(tokens, at, b"accept") {
         return Some((Policy::Accept, at));
@@ -149,7 +149,7 @@ fn decision(tokens: &[Token], at: usize) -> Option<(Policy, usize)>
 /// "policy" ("accept" | "drop") end {end}
 #[tactic(auto, unfolding(crate::specs::Reading::policy_at))]
 fn policy(tokens: &[Token], at: usize) -> Option<(Policy, usize)>
-    ensures { option_view (λ x. (x.0, ahead tokens.now x.1)) result ≡ policy_at (ahead tokens.now at) }
+    ensures { option_map (λ x. (x.0, ahead tokens.now x.1)) result ≡ policy_at (ahead tokens.now at) }
 {
     let at = after_word(tokens, at, b"policy")?;
     let (policy, at) = decision(tokens, at)?;
@@ -171,7 +171,7 @@ fn policy_if(tokens: &[Token], at: usize) -> (Option<Policy>, usize)
 /// "type" ("filter" | "nat") "hook" hook
 #[tactic(auto, unfolding(crate::specs::Reading::base_at))]
 fn base(tokens: &[Token], at: usize) -> Option<((ChainKind, Hook), usize)>
-    ensures { option_view (λ x. (x.0, ahead tokens.now x.1)) result ≡ base_at (ahead tokens.now at) }
+    ensures { option_map (λ x. (x.0, ahead tokens.now x.1)) result ≡ base_at (ahead tokens.now at) }
 {
     let at = after_word(tokens, at, b"type")?;
     let (kind, at) = kind(tokens, at)?;
@@ -183,7 +183,7 @@ fn base(tokens: &[Token], at: usize) -> Option<((ChainKind, Hook), usize)>
 /// "priority" prio end {end}
 #[tactic(auto, unfolding(crate::specs::Reading::rank_at))]
 fn rank(tokens: &[Token], at: usize) -> Option<(Priority, usize)>
-    ensures { option_view (λ x. (x.0, ahead tokens.now x.1)) result ≡ rank_at (ahead tokens.now at) }
+    ensures { option_map (λ x. (x.0, ahead tokens.now x.1)) result ≡ rank_at (ahead tokens.now at) }
 {
     let at = after_word(tokens, at, b"priority")?;
     let (priority, at) = priority(tokens, at)?;
@@ -195,7 +195,7 @@ fn rank(tokens: &[Token], at: usize) -> Option<(Priority, usize)>
 /// after it.
 #[tactic(auto, unfolding(crate::specs::Reading::head_at))]
 fn head(alloc: Global, tokens: &[Token], at: usize) -> Result<Option<(Head, usize)>, Memory>
-    ensures { IfOk result (λ o. option_view (λ x. (head_tree x.0, ahead tokens.now x.1)) o ≡ head_at (ahead tokens.now at)) }
+    ensures { IfOk result (λ o. option_map (λ x. (head_tree x.0, ahead tokens.now x.1)) o ≡ head_at (ahead tokens.now at)) }
 {
     let Some(((kind, hook), at)) = base(tokens, at) else {
         return Ok(None);
@@ -222,7 +222,7 @@ pub(crate) fn head_if(
     tokens: &[Token],
     at: usize,
 ) -> Result<(Option<Head>, usize), Memory>
-    ensures { IfOk result (λ x. (tree.option_view head_tree x.0, ahead tokens.now x.1) ≡ head_if_at (ahead tokens.now at)) }
+    ensures { IfOk result (λ x. (option_map head_tree x.0, ahead tokens.now x.1) ≡ head_if_at (ahead tokens.now at)) }
 {
     Ok(match head(alloc, tokens, at)? {
         Some((head, after)) => (Some(head), after),

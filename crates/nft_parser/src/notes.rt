@@ -1,6 +1,7 @@
 //! Comments that stand alone.
 ghost use Rattle.std.specs.Prelude.{◌≡◌, IfOk, map};
-ghost use Rattle.token_reader.specs.Places.{ahead, option_view};
+ghost use Rattle.std.specs.Option.{option_map};
+ghost use Rattle.token_reader.specs.Places.{ahead};
 ghost use Rattle.token_reader.specs.Reading.{all_at};
 ghost use Rattle.nft_parser.specs.Reading.{comment_at, note_at};
 
@@ -12,7 +13,7 @@ use token_reader::{after_ends, after_word, string};
 /// "comment" STRING
 #[tactic(auto, unfolding(crate::specs::Reading::comment_at))]
 pub(crate) fn comment<'t>(tokens: &[Token<'t>], at: usize) -> Option<(&'t [u8], usize)>
-    ensures { option_view (λ x. (x.0.now, ahead tokens.now x.1)) result ≡ comment_at (ahead tokens.now at) }
+    ensures { option_map (λ x. (x.0.now, ahead tokens.now x.1)) result ≡ comment_at (ahead tokens.now at) }
 {
     let at = after_word(tokens, at, b"comment")?;
     string(tokens, at)
@@ -21,7 +22,7 @@ pub(crate) fn comment<'t>(tokens: &[Token<'t>], at: usize) -> Option<(&'t [u8], 
 /// "comment" STRING end {end}
 #[tactic(auto, unfolding(crate::specs::Reading::note_at))]
 fn note<'t>(tokens: &[Token<'t>], at: usize) -> Option<(&'t [u8], usize)>
-    ensures { option_view (λ x. (x.0.now, ahead tokens.now x.1)) result ≡ note_at (ahead tokens.now at) }
+    ensures { option_map (λ x. (x.0.now, ahead tokens.now x.1)) result ≡ note_at (ahead tokens.now at) }
 {
     let (text, at) = comment(tokens, at)?;
     let at = after_ends(tokens, at)?;

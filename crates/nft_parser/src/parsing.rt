@@ -6,7 +6,7 @@ ghost use Rattle.nft_parser.specs.declared.fault.ParseError.{ParseError};
 ghost use Rattle.nft_lexer.specs.Sign.{signs};
 ghost use Rattle.nft_parser.specs.Reading.{refusal};
 ghost use Rattle.nft_parser.specs.Rulesets.{has_left_out};
-ghost use Rattle.nft_parser.specs.Spells.{Spells, HasFault};
+ghost use Rattle.nft_parser.specs.Spells.{Spells, HasTextFault};
 
 use crate::fault::ParseError;
 use crate::laws::one_tree;
@@ -27,9 +27,9 @@ pub fn parse(alloc: Global, text: &[u8]) -> Result<Ruleset, ParseError>
     // A tree that the text spells is the one answered, want of memory aside: it is the only one.
     ensures only { (tree : List TableTree) → Spells tree text.now → MatchResult result (λ answer. tables_of answer ≡ tree) (λ error. error ≡ ParseError.Memory) }
     // A fault that is answered is the text's.
-    ensures fault { IfErr result (λ error. (error ≡ ParseError.Memory) ⊎ HasFault text.now error) }
+    ensures fault { IfErr result (λ error. (error ≡ ParseError.Memory) ⊎ HasTextFault text.now error) }
     // The text's fault is the one answered, want of memory aside.
-    ensures only_fault { (error : ParseError) → HasFault text.now error → MatchResult result (λ _. ⊥) (λ answer. (answer ≡ error) ⊎ (answer ≡ ParseError.Memory)) }
+    ensures only_fault { (error : ParseError) → HasTextFault text.now error → MatchResult result (λ _. ⊥) (λ answer. (answer ≡ error) ⊎ (answer ≡ ParseError.Memory)) }
     // A text that is too long is told before anything else.
     ensures long { (result ≡ Err ParseError.TooLong) ↔ (MOST_BYTES < length text.now) }
 {

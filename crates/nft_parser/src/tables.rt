@@ -2,7 +2,8 @@
 ghost use Rattle.std.specs.Prelude.{◌≡◌, List, IfOk, IfSome, IsSomeAnd, map};
 ghost use Rattle.nft_lexer.specs.Sign.{signs};
 ghost use Rattle.nft_tree.specs.Tree.{TableTree, item_tree, table_tree, tables_of};
-ghost use Rattle.token_reader.specs.Places.{ahead, option_view};
+ghost use Rattle.std.specs.Option.{option_map};
+ghost use Rattle.token_reader.specs.Places.{ahead};
 ghost use Rattle.token_reader.specs.Reading.{all_at};
 ghost use Rattle.nft_parser.specs.Rulesets.{SpellsRuleset};
 ghost use Rattle.nft_parser.specs.Reading.{lookup_at, item_at, next_item_at, family_at, family_name_at, sole_name_at, table_name_at, table_front_at, table_at, next_table_at, after_flush, skip_flush, ruleset_at};
@@ -19,7 +20,7 @@ use token_reader::{after_ends, after_mark, after_word, skip_ends, word};
 /// set | map
 #[tactic(auto, unfolding(crate::specs::Reading::lookup_at))]
 fn lookup(alloc: Global, tokens: &[Token], at: usize) -> Result<Option<(Item, usize)>, Memory>
-    ensures { IfOk result (λ o. option_view (λ x. (item_tree x.0, ahead tokens.now x.1)) o ≡ lookup_at (ahead tokens.now at)) }
+    ensures { IfOk result (λ o. option_map (λ x. (item_tree x.0, ahead tokens.now x.1)) o ≡ lookup_at (ahead tokens.now at)) }
 {
     if let Some((set, at)) = set_decl(alloc, tokens, at)? {
         return Ok(Some((Item::Set(set), at)));
@@ -33,7 +34,7 @@ fn lookup(alloc: Global, tokens: &[Token], at: usize) -> Result<Option<(Item, us
 /// "comment" STRING | chain | set | map
 #[tactic(auto, unfolding(crate::specs::Reading::item_at))]
 fn item(alloc: Global, tokens: &[Token], at: usize) -> Result<Option<(Item, usize)>, Memory>
-    ensures { IfOk result (λ o. option_view (λ x. (item_tree x.0, ahead tokens.now x.1)) o ≡ item_at (ahead tokens.now at)) }
+    ensures { IfOk result (λ o. option_map (λ x. (item_tree x.0, ahead tokens.now x.1)) o ≡ item_at (ahead tokens.now at)) }
 {
     if let Some((text, at)) = comment(tokens, at) {
         let text = Vec::from_slice(alloc, text)?;
@@ -48,7 +49,7 @@ fn item(alloc: Global, tokens: &[Token], at: usize) -> Result<Option<(Item, usiz
 /// item {end}
 #[tactic(auto, unfolding(crate::specs::Reading::next_item_at))]
 fn next_item(alloc: Global, tokens: &[Token], at: usize) -> Result<Option<(Item, usize)>, Memory>
-    ensures { IfOk result (λ o. option_view (λ x. (item_tree x.0, ahead tokens.now x.1)) o ≡ next_item_at (ahead tokens.now at)) }
+    ensures { IfOk result (λ o. option_map (λ x. (item_tree x.0, ahead tokens.now x.1)) o ≡ next_item_at (ahead tokens.now at)) }
 {
     let Some((item, at)) = item(alloc, tokens, at)? else {
         return Ok(None);
@@ -74,7 +75,7 @@ fn items(alloc: Global, tokens: &[Token], at: usize) -> Result<(Vec<Item>, usize
 /// "ip" | "inet"
 #[tactic(auto, unfolding(crate::specs::Reading::family_at))]
 fn family(tokens: &[Token], at: usize) -> Option<(Family, usize)>
-    ensures { option_view (λ x. (x.0, ahead tokens.now x.1)) result ≡ family_at (ahead tokens.now at) }
+    ensures { option_map (λ x. (x.0, ahead tokens.now x.1)) result ≡ family_at (ahead tokens.now at) }
 {
     if let Some(at) = after_word(tokens, at, b"ip") {
         return Some((Family::Ip, at));
@@ -86,7 +87,7 @@ fn family(tokens: &[Token], at: usize) -> Option<(Family, usize)>
 /// ("ip" | "inet") NAME
 #[tactic(auto, unfolding(crate::specs::Reading::family_name_at))]
 fn family_name<'t>(tokens: &[Token<'t>], at: usize) -> Option<((Family, &'t [u8]), usize)>
-    ensures { option_view (λ x. ((x.0.0, x.0.1.now), ahead tokens.now x.1)) result ≡ family_name_at (ahead tokens.now at) }
+    ensures { option_map (λ x. ((x.0.0, x.0.1.now), ahead tokens.now x.1)) result ≡ family_name_at (ahead tokens.now at) }
 {
     let (family, at) = family(tokens, at)?;
     let (name, at) = word(tokens, at)?;
@@ -96,7 +97,7 @@ fn family_name<'t>(tokens: &[Token<'t>], at: usize) -> Option<((Family, &'t [u8]
 /// NAME
 #[tactic(auto, unfolding(crate::specs::Reading::sole_name_at))]
 fn sole_name<'t>(tokens: &[Token<'t>], at: usize) -> Option<((Family, &'t [u8]), usize)>
-    ensures { option_view (λ x. ((x.0.0, x.0.1.now), ahead tokens.now x.1)) result ≡ sole_name_at (ahead tokens.now at) }
+    ensures { option_map (λ x. ((x.0.0, x.0.1.now), ahead tokens.now x.1)) result ≡ sole_name_at (ahead tokens.now at) }
 {
     let (name, at) = word(tokens, at)?;
     Some(((Family::Ip, name), at))
@@ -105,7 +106,7 @@ fn sole_name<'t>(tokens: &[Token<'t>], at: usize) -> Option<((Family, &'t [u8]),
 /// ["ip" | "inet"] NAME: a table may have the name of a family.
 #[tactic(auto, unfolding(crate::specs::Reading::table_name_at))]
 fn table_name<'t>(tokens: &[Token<'t>], at: usize) -> Option<((Family, &'t [u8]), usize)>
-    ensures { option_view (λ x. ((x.0.0, x.0.1.now), ahead tokens.now x.1)) result ≡ table_name_at (ahead tokens.now at) }
+    ensures { option_map (λ x. ((x.0.0, x.0.1.now), ahead tokens.now x.1)) result ≡ table_name_at (ahead tokens.now at) }
 {
     if let Some(found) = family_name(tokens, at) {
         return Some(found);
@@ -116,7 +117,7 @@ fn table_name<'t>(tokens: &[Token<'t>], at: usize) -> Option<((Family, &'t [u8])
 /// "table" ["ip" | "inet"] NAME "{" {end}
 #[tactic(auto, unfolding(crate::specs::Reading::table_front_at))]
 fn table_front<'t>(tokens: &[Token<'t>], at: usize) -> Option<((Family, &'t [u8]), usize)>
-    ensures { option_view (λ x. ((x.0.0, x.0.1.now), ahead tokens.now x.1)) result ≡ table_front_at (ahead tokens.now at) }
+    ensures { option_map (λ x. ((x.0.0, x.0.1.now), ahead tokens.now x.1)) result ≡ table_front_at (ahead tokens.now at) }
 {
     let at = after_word(tokens, at, b"table")?;
     let (named, at) = table_name(tokens, at)?;
@@ -127,7 +128,7 @@ fn table_front<'t>(tokens: &[Token<'t>], at: usize) -> Option<((Family, &'t [u8]
 /// "table" ["ip" | "inet"] NAME "{" {end} {item {end}} "}"
 #[tactic(auto, unfolding(crate::specs::Reading::table_at))]
 fn table(alloc: Global, tokens: &[Token], at: usize) -> Result<Option<(Table, usize)>, Memory>
-    ensures { IfOk result (λ o. option_view (λ x. (table_tree x.0, ahead tokens.now x.1)) o ≡ table_at (ahead tokens.now at)) }
+    ensures { IfOk result (λ o. option_map (λ x. (table_tree x.0, ahead tokens.now x.1)) o ≡ table_at (ahead tokens.now at)) }
 {
     let Some(((family, name), at)) = table_front(tokens, at) else {
         return Ok(None);
@@ -148,7 +149,7 @@ fn table(alloc: Global, tokens: &[Token], at: usize) -> Result<Option<(Table, us
 /// table {end}
 #[tactic(auto, unfolding(crate::specs::Reading::next_table_at))]
 fn next_table(alloc: Global, tokens: &[Token], at: usize) -> Result<Option<(Table, usize)>, Memory>
-    ensures { IfOk result (λ o. option_view (λ x. (table_tree x.0, ahead tokens.now x.1)) o ≡ next_table_at (ahead tokens.now at)) }
+    ensures { IfOk result (λ o. option_map (λ x. (table_tree x.0, ahead tokens.now x.1)) o ≡ next_table_at (ahead tokens.now at)) }
 {
     let Some((table, at)) = table(alloc, tokens, at)? else {
         return Ok(None);
@@ -174,7 +175,7 @@ fn tables(alloc: Global, tokens: &[Token], at: usize) -> Result<(Vec<Table>, usi
 /// "flush" "ruleset" end {end}
 #[tactic(auto, unfolding(crate::specs::Reading::after_flush))]
 fn after_flush(tokens: &[Token], at: usize) -> Option<usize>
-    ensures { option_view (ahead tokens.now) result ≡ after_flush (ahead tokens.now at) }
+    ensures { option_map (ahead tokens.now) result ≡ after_flush (ahead tokens.now at) }
 {
     let at = after_word(tokens, at, b"flush")?;
     let at = after_word(tokens, at, b"ruleset")?;
@@ -192,7 +193,7 @@ fn skip_flush(tokens: &[Token], at: usize) -> usize
 /// {end} ["flush" "ruleset" end {end}] {table {end}}, all of the tokens.
 #[tactic(auto, unfolding(crate::specs::Reading::ruleset_at))]
 fn ruleset_here(alloc: Global, tokens: &[Token]) -> Result<Option<Ruleset>, Memory>
-    ensures { IfOk result (λ o. option_view (λ r. tables_of r) o ≡ ruleset_at (signs tokens.now)) }
+    ensures { IfOk result (λ o. option_map (λ r. tables_of r) o ≡ ruleset_at (signs tokens.now)) }
 {
     let at = skip_flush(tokens, skip_ends(tokens, 0));
     let (tables, end) = tables(alloc, tokens, at)?;

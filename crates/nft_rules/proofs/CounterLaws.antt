@@ -5,11 +5,11 @@ use Rattle.nft_lexer.specs.Sign.{Sign, word, number, string}
 use Rattle.nft_tree.specs.declared.statement.CounterStart.{CounterStart}
 use Rattle.nft_tree.specs.Tree as tree
 use Rattle.nft_tree.specs.Tree.{Text, Statement}
-use Rattle.token_reader.specs.Reading.{after_word, number_at, string_at}
-use Rattle.token_reader.specs.Laws.{IfSome_weaker, bind_found}
-use Rattle.token_reader.specs.TokenLaws.{word_after, number_found, string_found}
+use Rattle.token_reader.specs.steps.Reading.{after_word, number_at, string_at}
+use Rattle.token_reader.specs.steps.Laws.{IfSome_weaker, bind_found}
+use Rattle.token_reader.specs.steps.TokenLaws.{word_after, number_found, string_found}
 use Rattle.nft_rules.specs.Rules.{SpellsStatement}
-use Rattle.nft_rules.specs.Reading.{optional, start_at, counter_at, prefix_at, log_at}
+use Rattle.nft_rules.specs.steps.Reading.{optional, start_at, counter_at, prefix_at, log_at}
 use Rattle.nft_rules.proofs.Follow.{MayFollow, follows}
 
 pub optional_found : {A : Type 0} (Q : Option A → List Sign → Type 0) (o : Option (A × List Sign)) (ts : List Sign) → Q None ts → IfSome o (λ x. Q (Some x.0) x.1) → Q (optional o ts).0 (optional o ts).1

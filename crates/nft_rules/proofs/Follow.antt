@@ -8,12 +8,12 @@ use Rattle.nft_lexer.specs.declared.token.Mark.TheVariants as marks
 use Rattle.nft_lexer.specs.Sign.{Sign, newline, mark, word, number, address, string}
 use Rattle.nft_tree.specs.declared.selector.Selector.{Selector}
 use Rattle.nft_tree.specs.Tree.{Text}
-use Rattle.token_reader.specs.Reading.{after_word, after_mark, number_at, address_at}
-use Rattle.token_reader.specs.TokenLaws.{bytes_eq-true}
+use Rattle.token_reader.specs.steps.Reading.{after_word, after_mark, number_at, address_at}
+use Rattle.token_reader.specs.steps.TokenLaws.{bytes_eq-true}
 use Rattle.nft_selectors.specs.Selectors.{SpellsSelector}
-use Rattle.nft_selectors.specs.Laws.{SelectorLaws, first_words, begins_selector}
-use Rattle.nft_lists.specs.Laws.{begins_reference}
-use Rattle.nft_matches.specs.Laws.{EndsMatch}
+use Rattle.nft_selectors.specs.steps.Laws.{SelectorLaws, first_words, begins_selector}
+use Rattle.nft_lists.specs.steps.Laws.{begins_reference}
+use Rattle.nft_matches.specs.Matches.{EndsMatch}
 
 -- the words that would go on with a counter, a log, a translation or a mark
 abbrev going_on : List Text

@@ -4,21 +4,21 @@ use Rattle.std.proofs.lemmas.Bool.{false≢true}
 use Rattle.std.specs.Prelude.{codes, IfSome}
 use Rattle.nft_lexer.specs.Sign.{Sign, word}
 use Rattle.nft_tree.specs.declared.selector.Selector.{Selector}
+use Rattle.nft_tree.specs.declared.statement.MarkField.{MarkField}
 use Rattle.nft_tree.specs.declared.selector.Selector.TheVariants.{MetaMark, CtMark}
-use Rattle.nft_tree.specs.declared.statement.Mark.{Mark}
-use Rattle.nft_tree.specs.declared.statement.Mark.TheVariants.{Meta, Ct}
+use Rattle.nft_tree.specs.declared.statement.MarkField.TheVariants.{Meta, Ct}
 use Rattle.nft_tree.specs.Tree as tree
 use Rattle.nft_tree.specs.Tree.{LookTree, OperandTree, Statement}
-use Rattle.token_reader.specs.Reading.{after_word, number_at}
-use Rattle.token_reader.specs.Laws.{some_is, option_cases, IfSome_at, bind_found, else_found, Finds, FindsAll, Takes, Always}
-use Rattle.token_reader.specs.TokenLaws.{word_after, number_found, by_word_found}
+use Rattle.token_reader.specs.steps.Reading.{after_word, number_at}
+use Rattle.token_reader.specs.steps.Laws.{some_is, option_cases, IfSome_at, bind_found, else_found, Finds, FindsAll, Takes, Always}
+use Rattle.token_reader.specs.steps.TokenLaws.{word_after, number_found, by_word_found}
 use Rattle.nft_selectors.specs.Selectors.{SpellsSelector}
-use Rattle.nft_selectors.specs.Reading.{selector_at}
-use Rattle.nft_selectors.specs.Laws.{SelectorLaws, begins_selector}
-use Rattle.nft_lists.specs.Reading.{map_ref_at}
-use Rattle.nft_lists.specs.Laws.{ListLaws}
+use Rattle.nft_selectors.specs.steps.Reading.{selector_at}
+use Rattle.nft_selectors.specs.steps.Laws.{SelectorLaws, begins_selector}
+use Rattle.nft_lists.specs.steps.Reading.{map_ref_at}
+use Rattle.nft_lists.specs.steps.Laws.{ListLaws}
 use Rattle.nft_rules.specs.Rules.{SpellsLook, mark_word, SpellsOperand, SpellsStatement}
-use Rattle.nft_rules.specs.Reading.{mark_rows, look_at, mark_at, operand_at, set_mark_at}
+use Rattle.nft_rules.specs.steps.Reading.{mark_rows, look_at, mark_at, operand_at, set_mark_at}
 use Rattle.nft_rules.proofs.Follow.{MayFollow, follows, selector_begins, selector_front}
 use Rattle.nft_rules.proofs.CounterLaws.{after}
 
@@ -51,21 +51,21 @@ mark_found =
       (λ a. bind_found _ (after_word (codes "mark") a) _ (word_after (codes "mark") a) (λ b eb. after (word (codes "ct")) eb), tt),
     )
 
-mark_only : (m : Mark) (from to : List Sign) → from ≡ word (mark_word m) ∷ word (codes "mark") ∷ to → mark_at from ≡ Some (m, to)
+mark_only : (m : MarkField) (from to : List Sign) → from ≡ word (mark_word m) ∷ word (codes "mark") ∷ to → mark_at from ≡ Some (m, to)
 unfolding mark_at
 mark_only Meta from to s = rw s refl
 mark_only Ct from to s = rw s refl
 
 -- a mark is also a selector
-abbrev pub mark_selector : Mark → Selector
+abbrev pub mark_selector : MarkField → Selector
 mark_selector Meta = MetaMark
 mark_selector Ct = CtMark
 
-mark_spelled : (m : Mark) (from to : List Sign) → from ≡ word (mark_word m) ∷ word (codes "mark") ∷ to → SpellsSelector (mark_selector m) from to
+mark_spelled : (m : MarkField) (from to : List Sign) → from ≡ word (mark_word m) ∷ word (codes "mark") ∷ to → SpellsSelector (mark_selector m) from to
 mark_spelled Meta from to e = inl e
 mark_spelled Ct from to e = inl e
 
-mark_seen : (ts : List Sign) (m : Mark) (to : List Sign) → mark_at ts ≡ Some (m, to) → SpellsSelector (mark_selector m) ts to
+mark_seen : (ts : List Sign) (m : MarkField) (to : List Sign) → mark_at ts ≡ Some (m, to) → SpellsSelector (mark_selector m) ts to
 mark_seen ts m to e = mark_spelled m ts to (IfSome_at (mark_at ts) (λ x. ts ≡ word (mark_word x.0) ∷ word (codes "mark") ∷ x.1) (m, to) e (mark_found ts))
 
 -- ---- what a mark is set to
@@ -78,11 +78,11 @@ operand_found S L ts =
     (bind_found _ (mark_at ts) _ (mark_found ts) (λ m em. em)))
 
 -- a mark is not looked up in a map
-no_look : SelectorLaws → (m : Mark) (from to : List Sign) → from ≡ word (mark_word m) ∷ word (codes "mark") ∷ to → after_word (codes "map") to ≡ None → look_at from ≡ None
+no_look : SelectorLaws → (m : MarkField) (from to : List Sign) → from ≡ word (mark_word m) ∷ word (codes "mark") ∷ to → after_word (codes "map") to ≡ None → look_at from ≡ None
 unfolding look_at
 no_look S m from to e none = rw (S.selector_only (mark_selector m) from to (mark_spelled m from to e) tt, none) refl
 
-no_number : (m : Mark) (from to : List Sign) → from ≡ word (mark_word m) ∷ to → number_at from ≡ None
+no_number : (m : MarkField) (from to : List Sign) → from ≡ word (mark_word m) ∷ to → number_at from ≡ None
 no_number m from to e = rw e refl
 
 operand_only : SelectorLaws → ListLaws → FindsAll SpellsOperand MayFollow operand_at
@@ -109,19 +109,19 @@ set_mark_found S L ts =
     bind_found _ (operand_at a) _ (operand_found S L a) (λ o eo.
     (a, em ∙ after (word (mark_word m.0)) (after (word (codes "mark")) ea), eo))))
 
-pub set_mark_only : SelectorLaws → ListLaws → (m : Mark) (o : OperandTree) (from to : List Sign) → SpellsStatement (tree.set_mark m o) from to → MayFollow to → set_mark_at from ≡ Some (tree.set_mark m o, to)
+pub set_mark_only : SelectorLaws → ListLaws → (m : MarkField) (o : OperandTree) (from to : List Sign) → SpellsStatement (tree.set_mark m o) from to → MayFollow to → set_mark_at from ≡ Some (tree.set_mark m o, to)
 unfolding set_mark_at
 set_mark_only S L m o from to s follow = rw (mark_only m from (word (codes "set") ∷ s.0) s.1, operand_only S L o s.0 to s.2 follow) refl
 
-pub set_mark_takes : SelectorLaws → ListLaws → (m : Mark) (o : OperandTree) (from to : List Sign) → SpellsStatement (tree.set_mark m o) from to → length to < length from
+pub set_mark_takes : SelectorLaws → ListLaws → (m : MarkField) (o : OperandTree) (from to : List Sign) → SpellsStatement (tree.set_mark m o) from to → length to < length from
 set_mark_takes S L m o from to s = omega (arith, ap length s.1, operand_takes S L o s.0 to s.2)
 
-pub set_mark_front : (m : Mark) (o : OperandTree) (from to : List Sign) → SpellsStatement (tree.set_mark m o) from to → MayFollow from
+pub set_mark_front : (m : MarkField) (o : OperandTree) (from to : List Sign) → SpellsStatement (tree.set_mark m o) from to → MayFollow from
 set_mark_front Meta o from to s = rw s.1 refl
 set_mark_front Ct o from to s = rw s.1 refl
 
 -- no mark is set where no "set" follows the selector that stands there
-pub set_mark_none : SelectorLaws → (s : Selector) (from a : List Sign) → SpellsSelector s from a → ((m : Mark) → s ≡ mark_selector m → after_word (codes "set") a ≡ None) → set_mark_at from ≡ None
+pub set_mark_none : SelectorLaws → (s : Selector) (from a : List Sign) → SpellsSelector s from a → ((m : MarkField) → s ≡ mark_selector m → after_word (codes "set") a ≡ None) → set_mark_at from ≡ None
 unfolding set_mark_at
 set_mark_none S s from a e none =
     elim (option_cases (mark_at from)) [

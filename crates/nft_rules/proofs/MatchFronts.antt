@@ -7,18 +7,18 @@ use Rattle.nft_lexer.specs.declared.token.Mark.TheVariants as marks
 use Rattle.nft_lexer.specs.Sign as signs
 use Rattle.nft_lexer.specs.Sign.{Sign, mark}
 use Rattle.nft_tree.specs.declared.selector.Selector.{Selector}
-use Rattle.nft_tree.specs.declared.selector.Selector.TheVariants.{TcpFlags}
 use Rattle.nft_tree.specs.declared.statement.Operator.{Operator}
-use Rattle.nft_tree.specs.declared.statement.Operator.TheVariants as operators
 use Rattle.nft_tree.specs.declared.statement.BitTest.{BitTest}
-use Rattle.nft_tree.specs.declared.statement.BitTest.TheVariants as tests
+use Rattle.nft_tree.specs.declared.selector.Selector.TheVariants.{TcpFlags}
+use Rattle.nft_tree.specs.declared.statement.Operator.TheVariants as operators
+use Rattle.nft_tree.specs.declared.statement.BitTest.TheVariants as bit_tests
 use Rattle.nft_tree.specs.Tree as tree
 use Rattle.nft_tree.specs.Tree.{Text, ValueTree, RangeTree, FlagTree, SetRefTree, MatchTree}
 use Rattle.token_reader.specs.Repeats.{Many}
 use Rattle.nft_selectors.specs.Selectors.{SpellsSelector, SpellsNextSelector, is_word_for}
-use Rattle.nft_selectors.specs.Laws.{SelectorLaws, begins_selector}
+use Rattle.nft_selectors.specs.steps.Laws.{SelectorLaws, begins_selector}
 use Rattle.nft_lists.specs.Elements.{sign_of, SpellsRange, SpellsSetRef}
-use Rattle.nft_lists.specs.Laws.{begins_reference}
+use Rattle.nft_lists.specs.steps.Laws.{begins_reference}
 use Rattle.nft_matches.specs.Matches.{SpellsMatch, SpellsOperator, SpellsBitTest, SpellsWords, is_value_for, is_range_for, is_flag, SpellsNextFlag, SpellsFlags, SpellsEqualityOrNone, SpellsMasked, selector_of}
 use Rattle.nft_rules.proofs.Follow.{selector_begins}
 
@@ -73,9 +73,9 @@ words_front s (w ∷ v ∷ ws) from to e fit plain = rw (e.1, (and_parts (is_wor
 
 test_front : (s : Selector) (test : BitTest) (from to : List Sign) → SpellsBitTest test from to → AfterSelector s to → AfterSelector s from
 unfolding AfterSelector
-test_front s tests.Any from to e next = rw e next
-test_front s tests.All from to e next = rw e refl
-test_front s tests.None from to e next = rw e refl
+test_front s bit_tests.Any from to e next = rw e next
+test_front s bit_tests.Exactly from to e next = rw e refl
+test_front s bit_tests.None from to e next = rw e refl
 
 -- no reference stands after a flag
 next_flag_front : (fs : List FlagTree) (from to : List Sign) → Many SpellsNextFlag fs from to → begins_reference to ≡ false → begins_reference from ≡ false
@@ -110,9 +110,9 @@ match_front (tree.not_in [] set) from to e plain = absurd e.2
 match_front (tree.not_in (s ∷ ss) set) from to (a, b, keys, sign, e) plain = (s, keys.0, keys.1, selectors_front s ss keys.0 a keys.2 (operator_front s operators.Unequal a b sign (set_front s set b to e)))
 match_front (tree.bits field test ws) from to e plain = (selector_of field, e.0, e.2, test_front (selector_of field) test e.0 e.1 e.3 (words_front (selector_of field) ws e.1 to e.4 e.5 plain))
 match_front (tree.any_flag fs) from to e plain = (TcpFlags, e.0, e.1, flags_front fs e.0 to e.2 plain)
-match_front (tree.all_flags fs) from to e plain = (TcpFlags, mark marks.EqualTo ∷ e.0, e.1, operator_front TcpFlags operators.Equal (mark marks.EqualTo ∷ e.0) e.0 (inr refl) (flags_front fs e.0 to e.2 plain))
+match_front (tree.exact_flags fs) from to e plain = (TcpFlags, mark marks.EqualTo ∷ e.0, e.1, operator_front TcpFlags operators.Equal (mark marks.EqualTo ∷ e.0) e.0 (inr refl) (flags_front fs e.0 to e.2 plain))
 match_front (tree.masked_flags wanted mask) from to e plain = (TcpFlags, e.0, e.1, masked_front true wanted mask e.0 to e.2)
-match_front (tree.other_flags wanted mask) from to e plain = (TcpFlags, e.0, e.1, masked_front false wanted mask e.0 to e.2)
+match_front (tree.masked_flags_unequal wanted mask) from to e plain = (TcpFlags, e.0, e.1, masked_front false wanted mask e.0 to e.2)
 
 -- a match begins with a selector, whatever follows the match
 pub match_begins : SelectorLaws → (m : MatchTree) (from to : List Sign) → SpellsMatch m from to → begins_selector from ≡ true
@@ -123,6 +123,6 @@ match_begins S (tree.not_in [] set) from to e = absurd e.2
 match_begins S (tree.not_in (s ∷ ss) set) from to e = selector_begins S s from e.2.0 e.2.1
 match_begins S (tree.bits field test ws) from to e = selector_begins S (selector_of field) from e.0 e.2
 match_begins S (tree.any_flag fs) from to e = selector_begins S TcpFlags from e.0 e.1
-match_begins S (tree.all_flags fs) from to e = selector_begins S TcpFlags from (mark marks.EqualTo ∷ e.0) e.1
+match_begins S (tree.exact_flags fs) from to e = selector_begins S TcpFlags from (mark marks.EqualTo ∷ e.0) e.1
 match_begins S (tree.masked_flags wanted mask) from to e = selector_begins S TcpFlags from e.0 e.1
-match_begins S (tree.other_flags wanted mask) from to e = selector_begins S TcpFlags from e.0 e.1
+match_begins S (tree.masked_flags_unequal wanted mask) from to e = selector_begins S TcpFlags from e.0 e.1

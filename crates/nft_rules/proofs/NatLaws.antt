@@ -7,13 +7,13 @@ use Rattle.nft_tree.specs.declared.nat.PortRange.{PortRange}
 use Rattle.nft_tree.specs.declared.nat.PortRange.TheVariants.{One, Between}
 use Rattle.nft_tree.specs.Tree as tree
 use Rattle.nft_tree.specs.Tree.{SourceTree, DestinationTree, NatTree}
-use Rattle.token_reader.specs.Reading.{after_word, after_mark, number_at, address_at}
-use Rattle.token_reader.specs.Laws.{IfSome_weaker, bind_found, else_found, Finds, FindsAll, Takes}
-use Rattle.token_reader.specs.TokenLaws.{word_after, mark_after, number_found, address_found, by_word_found}
-use Rattle.nft_selectors.specs.Laws.{SelectorLaws, begins_selector}
-use Rattle.nft_lists.specs.Laws.{ListLaws, begins_verdict}
+use Rattle.token_reader.specs.steps.Reading.{after_word, after_mark, number_at, address_at}
+use Rattle.token_reader.specs.steps.Laws.{IfSome_weaker, bind_found, else_found, Finds, FindsAll, Takes}
+use Rattle.token_reader.specs.steps.TokenLaws.{word_after, mark_after, number_found, address_found, by_word_found}
+use Rattle.nft_selectors.specs.steps.Laws.{SelectorLaws, begins_selector}
+use Rattle.nft_lists.specs.steps.Laws.{ListLaws, begins_verdict}
 use Rattle.nft_rules.specs.Rules.{SpellsPorts, SpellsTo, SpellsSource, SpellsDestination, SpellsNat}
-use Rattle.nft_rules.specs.Reading.{counter_at, log_at, look_at, high_at, ports_at, colon_ports_at, colon_port_at, after_to, source_at, destination_at, snat_at, dnat_at, to_ports_at, to_port_at, masquerade_at, redirect_at, nat_rows, nat_at}
+use Rattle.nft_rules.specs.steps.Reading.{counter_at, log_at, look_at, high_at, ports_at, colon_ports_at, colon_port_at, after_to, source_at, destination_at, snat_at, dnat_at, to_ports_at, to_port_at, masquerade_at, redirect_at, nat_rows, nat_at}
 use Rattle.nft_rules.proofs.Follow.{MayFollow, follows, selector_front}
 use Rattle.nft_rules.proofs.CounterLaws.{optional_found, after}
 use Rattle.nft_rules.proofs.MarkLaws.{look_found, look_only, look_takes, look_begins}

@@ -1,22 +1,25 @@
 -- Rules: what is read is spelled so, and what is spelled so is read.
-use Rattle.std.proofs.Common.{◌≡◌, ◌≢◌, ◌<◌, ◌≤◌, ◌==◌, true, false, List, [], ◌∷◌, length, Option, Some, None, inl, inr, refl, sym, ap, ◌∙◌, arith}
-use Rattle.std.proofs.lemmas.Bool.{false≢true}
+use Rattle.std.proofs.Common.{◌≡◌, ◌≢◌, ◌<◌, ◌≤◌, ◌==◌, ℕ, Bool, true, false, List, [], ◌∷◌, length, Option, Some, None, inl, inr, refl, sym, ap, ◌∙◌, arith}
+use Rattle.std.proofs.lemmas.Bool.{false≢true, cases_lt}
+use Rattle.std.proofs.lemmas.List.{drop_all}
 use Rattle.std.proofs.lemmas.Bool.Decides.{nat_tests}
 use Rattle.std.specs.Prelude.{IfSome, if◌then◌else◌}
 use Rattle.nft_lexer.specs.declared.token.Mark.TheVariants as marks
-use Rattle.nft_lexer.specs.Sign.{Sign, newline, mark, word, number, address, string}
+use Rattle.nft_lexer.specs.declared.token.Token.{Token}
+use Rattle.nft_lexer.specs.Sign.{Sign, signs, newline, mark, word, number, address, string}
 use Rattle.nft_tree.specs.Tree.{Text, Statement, RuleTree}
 use Rattle.token_reader.specs.Repeats.{Many}
-use Rattle.token_reader.specs.Reading.{stops, all_at}
-use Rattle.token_reader.specs.Laws.{some_is, Finds, FindsAll, Takes, many_found, many_only, Many_takes}
-use Rattle.nft_selectors.specs.Laws.{SelectorLaws}
-use Rattle.nft_lists.specs.Elements.{SpellsComment}
-use Rattle.nft_lists.specs.Reading.{comment_at}
-use Rattle.nft_lists.specs.Laws.{ListLaws, NoComment}
-use Rattle.nft_matches.specs.Laws.{MatchLaws}
+use Rattle.token_reader.specs.Places.{ahead}
+use Rattle.token_reader.specs.steps.Reading.{stops, all_at}
+use Rattle.token_reader.specs.steps.Laws.{bind_found, Finds, FindsAll, Takes, many_found, many_only, Many_takes}
+use Rattle.nft_selectors.specs.steps.Laws.{SelectorLaws}
+use Rattle.nft_lists.specs.Elements.{SpellsComment, NoComment}
+use Rattle.nft_lists.specs.steps.Reading.{comment_at}
+use Rattle.nft_lists.specs.steps.Laws.{ListLaws}
+use Rattle.nft_matches.specs.steps.Laws.{MatchLaws}
 use Rattle.nft_rules.specs.Rules.{SpellsStatement, SpellsRule, Stops, SpellsEndedRule}
-use Rattle.nft_rules.specs.Reading.{counter_at, log_at, nat_at, statement_at, rule_at}
-use Rattle.nft_rules.specs.Laws.{RuleLaws}
+use Rattle.nft_rules.specs.steps.Reading.{counter_at, log_at, nat_at, statement_at, rule_at, ended_rule_at}
+use Rattle.nft_rules.specs.steps.Laws.{RuleLaws}
 use Rattle.nft_rules.proofs.Follow.{MayFollow}
 use Rattle.nft_rules.proofs.StatementLaws.{statement_found, statement_only, statement_none, statement_takes, statement_front}
 
@@ -80,9 +83,6 @@ statements_take S L M (x ∷ ss) from to some e = omega (arith, statement_takes 
 rule_takes : SelectorLaws → ListLaws → MatchLaws → Takes SpellsRule
 rule_takes S L M r from to s = omega (arith, statements_take S L M r.statements from s.mid s.some s.each, comment_takes r.comment s.mid to s.last)
 
-pub laws : SelectorLaws → ListLaws → MatchLaws → RuleLaws
-laws S L M = record { rule_found = rule_found S L M; rule_only = rule_only S L M; rule_takes = rule_takes S L M }
-
 -- ---- the end of a rule
 
 pub stops_found : (ts : List Sign) → stops ts ≡ true → Stops ts
@@ -119,21 +119,32 @@ stops_only ts (rest, inl e) = rw e refl
 stops_only ts (rest, inr (inl e)) = rw e refl
 stops_only ts (rest, inr (inr e)) = rw e refl
 
--- what was read is the one rule
-pub is_read : RuleLaws → (ts : List Sign) (o : Option (RuleTree × List Sign)) → o ≡ rule_at ts → (r : RuleTree) (to : List Sign) → SpellsEndedRule r ts to → o ≡ Some (r, to)
-is_read R ts o e r to s = e ∙ R.rule_only r ts to s.0 s.1
+-- a rule that stops is read with its end
+stopped : {A : Type 0} (b : Bool) (x : A) → b ≡ true → (if b then Some x else None) ≡ Some x
+stopped true x e = refl
+stopped false x e = absurd (false≢true e)
 
-pub is_not_none : RuleLaws → (ts : List Sign) → None ≡ rule_at ts → (r : RuleTree) (to : List Sign) → SpellsEndedRule r ts to → ⊥
-is_not_none R ts e r to s =
-    let same : ◌≡◌ {A = Option (RuleTree × List Sign)} None (Some (r, to)) = is_read R ts None e r to s in
-    absurd cc
+stops_only_if : {A : Type 0} (P : A → Type 0) (b : Bool) (x : A) → (b ≡ true → P x) → IfSome (if b then Some x else None) P
+stops_only_if P true x h = h refl
+stops_only_if P false x h = tt
 
-pub is_same : RuleLaws → (ts : List Sign) (x : RuleTree × List Sign) → Some x ≡ rule_at ts → (r : RuleTree) (to : List Sign) → SpellsEndedRule r ts to → (x.0 ≡ r) × (x.1 ≡ to)
-is_same R ts x e r to s =
-    let same : x ≡ (r, to) = some_is x (r, to) (is_read R ts (Some x) e r to s) in
-    (ap (λ (p : RuleTree × List Sign). p.0) same, ap (λ (p : RuleTree × List Sign). p.1) same)
+ended_rule_found : SelectorLaws → ListLaws → MatchLaws → Finds SpellsEndedRule ended_rule_at
+unfolding ended_rule_at
+ended_rule_found S L M ts =
+    bind_found _ (rule_at ts) _ (rule_found S L M ts) (λ r spelled.
+    stops_only_if _ (stops r.1) r (λ e. (spelled, stops_found r.1 e)))
 
-pub is_stopped : RuleLaws → (ts : List Sign) (x : RuleTree × List Sign) → Some x ≡ rule_at ts → stops x.1 ≡ false → (r : RuleTree) (to : List Sign) → SpellsEndedRule r ts to → ⊥
-is_stopped R ts x e goes r to s =
-    let same = is_same R ts x e r to s in
-    false≢true (sym goes ∙ ap stops same.1 ∙ stops_only to s.1)
+ended_rule_only : SelectorLaws → ListLaws → MatchLaws → FindsAll SpellsRule Stops ended_rule_at
+unfolding ended_rule_at
+ended_rule_only S L M r from to s stop = rw (rule_only S L M r from to s stop) (stopped (stops to) (r, to) (stops_only to stop))
+
+pub laws : SelectorLaws → ListLaws → MatchLaws → RuleLaws
+laws S L M = record { rule_found = ended_rule_found S L M; rule_only = ended_rule_only S L M; rule_takes = rule_takes S L M }
+
+-- what stops stands within the tokens
+pub stops_within : (tokens : List Token) (at : ℕ) → stops (ahead tokens at) ≡ true → at ≤ length tokens
+stops_within tokens at e =
+    elim (cases_lt (length tokens) at) [
+      | inl over ↦ absurd (false≢true (sym (ap (λ (ts : List Token). stops (signs ts)) (drop_all at tokens (omega (arith, over)))) ∙ e))
+      | inr within ↦ within
+    ]

@@ -4,24 +4,24 @@ use Rattle.std.proofs.lemmas.Bool.{not-true, and_parts}
 use Rattle.std.specs.Prelude.{codes}
 use Rattle.nft_lexer.specs.Sign.{Sign, word}
 use Rattle.nft_tree.specs.declared.selector.Selector.{Selector}
-use Rattle.nft_tree.specs.declared.statement.Mark.{Mark}
-use Rattle.nft_tree.specs.declared.statement.Mark.TheVariants.{Meta, Ct}
+use Rattle.nft_tree.specs.declared.statement.MarkField.{MarkField}
 use Rattle.nft_tree.specs.declared.statement.CounterStart.{CounterStart}
+use Rattle.nft_tree.specs.declared.statement.MarkField.TheVariants.{Meta, Ct}
 use Rattle.nft_tree.specs.Tree as tree
 use Rattle.nft_tree.specs.Tree.{Text, VerdictTree, Statement}
-use Rattle.token_reader.specs.Reading.{after_word}
-use Rattle.token_reader.specs.Laws.{option_cases, IfSome_at, bind_found, else_found, Finds, FindsAll, Fronts, Takes, Shortens, shortens_from}
-use Rattle.token_reader.specs.TokenLaws.{word_after}
+use Rattle.token_reader.specs.steps.Reading.{after_word}
+use Rattle.token_reader.specs.steps.Laws.{option_cases, IfSome_at, bind_found, else_found, Finds, FindsAll, Fronts, Takes, Shortens, shortens_from}
+use Rattle.token_reader.specs.steps.TokenLaws.{word_after}
 use Rattle.nft_selectors.specs.Selectors.{SpellsSelector, is_word_for}
-use Rattle.nft_selectors.specs.Reading.{selector_at}
-use Rattle.nft_selectors.specs.Laws.{SelectorLaws, begins_selector}
+use Rattle.nft_selectors.specs.steps.Reading.{selector_at}
+use Rattle.nft_selectors.specs.steps.Laws.{SelectorLaws, begins_selector}
 use Rattle.nft_lists.specs.Elements.{SpellsVerdict}
-use Rattle.nft_lists.specs.Reading.{verdict_at, map_ref_at}
-use Rattle.nft_lists.specs.Laws.{ListLaws, begins_reference, begins_verdict}
-use Rattle.nft_matches.specs.Reading.{match_at}
-use Rattle.nft_matches.specs.Laws.{MatchLaws}
+use Rattle.nft_lists.specs.steps.Reading.{verdict_at, map_ref_at}
+use Rattle.nft_lists.specs.steps.Laws.{ListLaws, begins_reference, begins_verdict}
+use Rattle.nft_matches.specs.steps.Reading.{match_at}
+use Rattle.nft_matches.specs.steps.Laws.{MatchLaws}
 use Rattle.nft_rules.specs.Rules.{SpellsStatement}
-use Rattle.nft_rules.specs.Reading.{counter_at, log_at, nat_at, set_mark_at, verdict_map_at, selected_at, action_at, statement_at}
+use Rattle.nft_rules.specs.steps.Reading.{counter_at, log_at, nat_at, set_mark_at, verdict_map_at, selected_at, action_at, statement_at}
 use Rattle.nft_rules.proofs.Follow.{MayFollow, follows, selector_begins, selector_front}
 use Rattle.nft_rules.proofs.CounterLaws.{counter_found, counter_only, log_found, log_only}
 use Rattle.nft_rules.proofs.MarkLaws.{mark_selector, set_mark_found, set_mark_only, set_mark_takes, set_mark_front, set_mark_none, no_selector_no_mark}
@@ -59,11 +59,11 @@ statement_found S L M ts = else_found _ (selected_at ts) _ _ (selected_found S L
 -- ---- a match is no statement of another kind
 
 -- no word is one for a mark
-no_word_for_mark : (m : Mark) (s : Selector) (w : List ℕ) → s ≡ mark_selector m → is_word_for s w ≡ true → ⊥
+no_word_for_mark : (m : MarkField) (s : Selector) (w : List ℕ) → s ≡ mark_selector m → is_word_for s w ≡ true → ⊥
 no_word_for_mark Meta s w same e = let no_word : is_word_for (mark_selector Meta) w ≡ true = rw same at e in absurd cc
 no_word_for_mark Ct s w same e = let no_word : is_word_for (mark_selector Ct) w ≡ true = rw same at e in absurd cc
 
-no_set : (s : Selector) (a : List Sign) → AfterSelector s a → (m : Mark) → s ≡ mark_selector m → after_word (codes "set") a ≡ None
+no_set : (s : Selector) (a : List Sign) → AfterSelector s a → (m : MarkField) → s ≡ mark_selector m → after_word (codes "set") a ≡ None
 unfolding AfterSelector
 no_set s a e m same =
     elim (option_cases (after_word (codes "set") a)) [

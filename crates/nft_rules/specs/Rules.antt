@@ -3,10 +3,10 @@ use Rattle.std.specs.Prelude.{◌≡◌, ◌≢◌, List, [], ◌∷◌, ◌⊎�
 use Rattle.nft_lexer.specs.declared.token.Mark.TheVariants as marks
 use Rattle.nft_lexer.specs.Sign as signs
 use Rattle.nft_lexer.specs.Sign.{Sign, mark}
-use Rattle.nft_tree.specs.declared.statement.Mark.{Mark}
-use Rattle.nft_tree.specs.declared.statement.Mark.TheVariants.{Meta, Ct}
+use Rattle.nft_tree.specs.declared.statement.MarkField.{MarkField}
 use Rattle.nft_tree.specs.declared.nat.PortRange.{PortRange}
-use Rattle.nft_tree.specs.declared.nat.PortRange.TheVariants as ports
+use Rattle.nft_tree.specs.declared.statement.MarkField.TheVariants.{Meta, Ct}
+use Rattle.nft_tree.specs.declared.nat.PortRange.TheVariants as port_ranges
 use Rattle.nft_tree.specs.Tree as tree
 use Rattle.nft_tree.specs.Tree.{Text, LookTree, OperandTree, SourceTree, DestinationTree, NatTree, Statement, RuleTree}
 use Rattle.token_reader.specs.Repeats.{Many}
@@ -18,7 +18,7 @@ use Rattle.nft_matches.specs.Matches.{SpellsMatch}
 abbrev pub SpellsLook : LookTree → List Sign → List Sign → Type 0
 SpellsLook l from to = (a : List Sign) × SpellsSelector l.selector from (signs.word (codes "map") ∷ a) × SpellsMapRef l.map a to
 
-abbrev pub mark_word : Mark → Text
+abbrev pub mark_word : MarkField → Text
 mark_word Meta = codes "meta"
 mark_word Ct = codes "ct"
 
@@ -30,8 +30,8 @@ SpellsOperand (tree.looked_up l) from to = SpellsLook l from to
 
 -- ports = NUM ["-" NUM]
 abbrev pub SpellsPorts : PortRange → List Sign → List Sign → Type 0
-SpellsPorts (ports.One n) from to = from ≡ signs.number n ∷ to
-SpellsPorts (ports.Between n m) from to = from ≡ signs.number n ∷ mark marks.Minus ∷ signs.number m ∷ to
+SpellsPorts (port_ranges.One n) from to = from ≡ signs.number n ∷ to
+SpellsPorts (port_ranges.Between n m) from to = from ≡ signs.number n ∷ mark marks.Minus ∷ signs.number m ∷ to
 
 -- ["ip"] "to"
 abbrev pub SpellsTo : List Sign → List Sign → Type 0

@@ -1,8 +1,8 @@
 //! Counters and logs.
 ghost use Rattle.std.specs.Prelude.{◌≡◌, IfOk};
-ghost use Rattle.nft_tree.specs.Tree as tree;
-ghost use Rattle.token_reader.specs.Places.{ahead, option_view};
-ghost use Rattle.nft_rules.specs.Reading.{start_at, counter_at, prefix_at, log_at};
+ghost use Rattle.std.specs.Option.{option_map};
+ghost use Rattle.token_reader.specs.Places.{ahead};
+ghost use Rattle.nft_rules.specs.steps.Reading.{start_at, counter_at, prefix_at, log_at};
 
 use nft_lexer::Token;
 use nft_tree::{CounterStart, Memory};
@@ -10,9 +10,9 @@ use std::alloc::Global;
 use token_reader::{after_word, number, string};
 
 /// "packets" NUM "bytes" NUM
-#[tactic(auto, unfolding(crate::specs::Reading::start_at))]
+#[tactic(auto, unfolding(crate::specs::steps::Reading::start_at))]
 fn start(tokens: &[Token], at: usize) -> Option<(CounterStart, usize)>
-    ensures { option_view (λ x. (x.0, ahead tokens.now x.1)) result ≡ start_at (ahead tokens.now at) }
+    ensures { option_map (λ x. (x.0, ahead tokens.now x.1)) result ≡ start_at (ahead tokens.now at) }
 {
     let at = after_word(tokens, at, b"packets")?;
     let (packets, at) = number(tokens, at)?;
@@ -22,9 +22,9 @@ fn start(tokens: &[Token], at: usize) -> Option<(CounterStart, usize)>
 }
 
 /// "counter" ["packets" NUM "bytes" NUM]
-#[tactic(auto, unfolding(crate::specs::Reading::counter_at))]
+#[tactic(auto, unfolding(crate::specs::steps::Reading::counter_at))]
 pub(crate) fn counter(tokens: &[Token], at: usize) -> Option<(Option<CounterStart>, usize)>
-    ensures { option_view (λ x. (x.0, ahead tokens.now x.1)) result ≡ counter_at (ahead tokens.now at) }
+    ensures { option_map (λ x. (x.0, ahead tokens.now x.1)) result ≡ counter_at (ahead tokens.now at) }
 {
     let at = after_word(tokens, at, b"counter")?;
     match start(tokens, at) {
@@ -34,22 +34,22 @@ pub(crate) fn counter(tokens: &[Token], at: usize) -> Option<(Option<CounterStar
 }
 
 /// "prefix" STRING
-#[tactic(auto, unfolding(crate::specs::Reading::prefix_at))]
+#[tactic(auto, unfolding(crate::specs::steps::Reading::prefix_at))]
 fn prefix<'t>(tokens: &[Token<'t>], at: usize) -> Option<(&'t [u8], usize)>
-    ensures { option_view (λ x. (x.0.now, ahead tokens.now x.1)) result ≡ prefix_at (ahead tokens.now at) }
+    ensures { option_map (λ x. (x.0.now, ahead tokens.now x.1)) result ≡ prefix_at (ahead tokens.now at) }
 {
     let at = after_word(tokens, at, b"prefix")?;
     string(tokens, at)
 }
 
 /// "log" ["prefix" STRING]
-#[tactic(auto, unfolding(crate::specs::Reading::log_at))]
+#[tactic(auto, unfolding(crate::specs::steps::Reading::log_at))]
 pub(crate) fn log(
     alloc: Global,
     tokens: &[Token],
     at: usize,
 ) -> Result<Option<(Option<Vec<u8>>, usize)>, Memory>
-    ensures { IfOk result (λ o. option_view (λ x. (tree.option_view (λ t. t.items) x.0, ahead tokens.now x.1)) o ≡ log_at (ahead tokens.now at)) }
+    ensures { IfOk result (λ o. option_map (λ x. (option_map (λ t. t.items) x.0, ahead tokens.now x.1)) o ≡ log_at (ahead tokens.now at)) }
 {
     let Some(at) = after_word(tokens, at, b"log") else {
         return Ok(None);

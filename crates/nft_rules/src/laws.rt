@@ -1,5 +1,5 @@
 //! Laws of rules, as the contract of a function that does nothing.
-ghost use Rattle.nft_rules.specs.Laws.{RuleLaws};
+ghost use Rattle.nft_rules.specs.steps.Laws.{RuleLaws};
 
 use nft_lists::list_laws;
 use nft_matches::match_laws;

@@ -12,4 +12,4 @@ mod statements;
 pub use laws::rule_laws;
 pub use nft_lists::{elems, pairs};
 pub use nft_selectors::anysel;
-pub use rules::{rule, rule_here};
+pub use rules::rule;

@@ -1,9 +1,10 @@
 //! Statements.
 ghost use Rattle.std.specs.Prelude.{◌≡◌, IfOk, map};
 ghost use Rattle.nft_tree.specs.Tree.{statement};
-ghost use Rattle.token_reader.specs.Places.{ahead, option_view};
-ghost use Rattle.token_reader.specs.Reading.{all_at};
-ghost use Rattle.nft_rules.specs.Reading.{verdict_map_at, selected_at, action_at, statement_at};
+ghost use Rattle.std.specs.Option.{option_map};
+ghost use Rattle.token_reader.specs.Places.{ahead};
+ghost use Rattle.token_reader.specs.steps.Reading.{all_at};
+ghost use Rattle.nft_rules.specs.steps.Reading.{verdict_map_at, selected_at, action_at, statement_at};
 
 use crate::counters::{counter, log};
 use crate::marks::set_mark;
@@ -17,9 +18,9 @@ use std::alloc::Global;
 use token_reader::after_word;
 
 /// anysel "vmap" mapref
-#[tactic(auto, unfolding(crate::specs::Reading::verdict_map_at))]
+#[tactic(auto, unfolding(crate::specs::steps::Reading::verdict_map_at))]
 fn verdict_map(alloc: Global, tokens: &[Token], at: usize) -> Result<Option<(Stmt, usize)>, Memory>
-    ensures { IfOk result (λ o. option_view (λ x. (statement x.0, ahead tokens.now x.1)) o ≡ verdict_map_at (ahead tokens.now at)) }
+    ensures { IfOk result (λ o. option_map (λ x. (statement x.0, ahead tokens.now x.1)) o ≡ verdict_map_at (ahead tokens.now at)) }
 {
     let Some((selector, at)) = anysel(tokens, at) else {
         return Ok(None);
@@ -37,9 +38,9 @@ fn verdict_map(alloc: Global, tokens: &[Token], at: usize) -> Result<Option<(Stm
 ///
 /// A match of an interface by the name `vmap` has no map after that name, and no match has the
 /// word `set` after a mark.
-#[tactic(auto, unfolding(crate::specs::Reading::selected_at))]
+#[tactic(auto, unfolding(crate::specs::steps::Reading::selected_at))]
 fn selected(alloc: Global, tokens: &[Token], at: usize) -> Result<Option<(Stmt, usize)>, Memory>
-    ensures { IfOk result (λ o. option_view (λ x. (statement x.0, ahead tokens.now x.1)) o ≡ selected_at (ahead tokens.now at)) }
+    ensures { IfOk result (λ o. option_map (λ x. (statement x.0, ahead tokens.now x.1)) o ≡ selected_at (ahead tokens.now at)) }
 {
     if let Some((found, end)) = set_mark(alloc, tokens, at)? {
         return Ok(Some((found, end)));
@@ -54,9 +55,9 @@ fn selected(alloc: Global, tokens: &[Token], at: usize) -> Result<Option<(Stmt, 
 }
 
 /// A statement that begins with a word of its own.
-#[tactic(auto, unfolding(crate::specs::Reading::action_at))]
+#[tactic(auto, unfolding(crate::specs::steps::Reading::action_at))]
 fn action(alloc: Global, tokens: &[Token], at: usize) -> Result<Option<(Stmt, usize)>, Memory>
-    ensures { IfOk result (λ o. option_view (λ x. (statement x.0, ahead tokens.now x.1)) o ≡ action_at (ahead tokens.now at)) }
+    ensures { IfOk result (λ o. option_map (λ x. (statement x.0, ahead tokens.now x.1)) o ≡ action_at (ahead tokens.now at)) }
 {
     if let Some((start, end)) = counter(tokens, at) {
         return Ok(Some((Stmt::Counter(start), end)));
@@ -74,9 +75,9 @@ fn action(alloc: Global, tokens: &[Token], at: usize) -> Result<Option<(Stmt, us
 }
 
 /// stmt = match | counter | log | setmark | vmap | verdict | nat
-#[tactic(auto, unfolding(crate::specs::Reading::statement_at))]
+#[tactic(auto, unfolding(crate::specs::steps::Reading::statement_at))]
 fn statement(alloc: Global, tokens: &[Token], at: usize) -> Result<Option<(Stmt, usize)>, Memory>
-    ensures { IfOk result (λ o. option_view (λ x. (statement x.0, ahead tokens.now x.1)) o ≡ statement_at (ahead tokens.now at)) }
+    ensures { IfOk result (λ o. option_map (λ x. (statement x.0, ahead tokens.now x.1)) o ≡ statement_at (ahead tokens.now at)) }
 {
     if let Some((found, end)) = selected(alloc, tokens, at)? {
         return Ok(Some((found, end)));

@@ -1,6 +1,7 @@
 -- What is read is spelled so, and what is spelled so is read.
-use Rattle.std.proofs.Common.{◌≡◌, ℕ, ◌<◌, Bool, true, false, ◌&&◌, ◌||◌, cond, List, [], ◌∷◌, ◌++◌, map, length, Option, Some, None, inl, inr, refl, ap, ◌∙◌, arith}
-use Rattle.std.specs.Prelude.{codes, IfSome, IsSomeAnd}
+use Rattle.std.proofs.Common.{◌≡◌, ℕ, ◌<◌, Bool, true, false, ◌&&◌, ◌||◌, cond, List, [], ◌∷◌, ◌++◌, map, length, Option, Some, None, inl, inr, refl, sym, ap, ◌∙◌, arith}
+use Rattle.std.proofs.lemmas.Bool.{and_parts, or_parts}
+use Rattle.std.specs.Prelude.{codes, IfSome}
 use Rattle.std.specs.List.{list_any}
 use Rattle.std.specs.Str.{bytes_eq}
 use Rattle.nft_lexer.specs.declared.token.Mark.TheVariants.{Dot}
@@ -8,22 +9,12 @@ use Rattle.nft_lexer.specs.Sign.{Sign, newline, mark, word, number, address, str
 use Rattle.nft_tree.specs.declared.selector.Selector.{Selector}
 use Rattle.nft_tree.specs.declared.selector.Selector.TheVariants as selectors
 use Rattle.token_reader.specs.Repeats.{OneOf}
-use Rattle.token_reader.specs.Reading.{after_mark, word_at, all_at}
-use Rattle.token_reader.specs.Laws.{IfSome_at, IfSome_weaker, bind_found, else_found, Finds, FindsAll, Takes, Shortens, Always, many_found, many_only, shortens_from, Many_takes}
-use Rattle.token_reader.specs.TokenLaws.{when_found, bytes_eq-true, mark_after, word_found}
-use Rattle.nft_selectors.specs.Selectors.{words_of, SpellsSelector, SpellsNextSelector, SpellsSelectors}
-use Rattle.nft_selectors.specs.Reading.{Row, row_in, rows, interface, second_at, selector_at, next_selector_at, selectors_at}
-use Rattle.nft_selectors.specs.Laws.{NoDot, begins_selector}
-
--- ---- options
-
-pub IfSome_both : {A : Type 0} (o : Option A) (P Q : A → Type 0) → IfSome o P → IfSome o Q → IfSome o (λ x. P x × Q x)
-IfSome_both None P Q p q = tt
-IfSome_both (Some x) P Q p q = (p, q)
-
-pub IsSomeAnd_weaker : {A : Type 0} (o : Option A) (P Q : A → Type 0) → ((x : A) → P x → Q x) → IsSomeAnd o P → IsSomeAnd o Q
-IsSomeAnd_weaker None P Q k h = h
-IsSomeAnd_weaker (Some x) P Q k h = k x h
+use Rattle.token_reader.specs.steps.Reading.{after_mark, word_at, all_at}
+use Rattle.token_reader.specs.steps.Laws.{option_cases, IfSome_at, IfSome_weaker, bind_found, else_found, Finds, FindsAll, Takes, Shortens, Always, many_found, many_only, shortens_from, Many_takes}
+use Rattle.token_reader.specs.steps.TokenLaws.{when_found, bytes_eq-true, mark_after, word_found}
+use Rattle.nft_selectors.specs.Selectors.{EndsSelectors, spellings_of, SpellsSelector, SpellsNextSelector, SpellsSelectors}
+use Rattle.nft_selectors.specs.steps.Reading.{Row, row_in, rows, interface, second_at, selector_at, next_selector_at, selectors_at}
+use Rattle.nft_selectors.specs.steps.Laws.{NoDot, begins_selector}
 
 -- a choice by a test
 choice_found : {A : Type 0} (Q : A → Type 0) (b : Bool) (x : A) (d : Option A) → (b ≡ true → Q x) → IfSome d Q → IfSome (cond b (Some x) d) Q
@@ -31,10 +22,6 @@ choice_found Q true x d h k = h refl
 choice_found Q false x d h k = k
 
 -- ---- one selector
-
-both : (a b : Bool) → a && b ≡ true → (a ≡ true) × (b ≡ true)
-both true b e = (refl, e)
-both false b e = absurd cc
 
 -- each row's words spell its selector
 abbrev EachRow : List Row → Type 0
@@ -45,7 +32,7 @@ row_found : (all : List Row) → EachRow all → (v w : List ℕ) → IfSome (ro
 row_found [] each v w = tt
 row_found (row ∷ rest) each v w =
     choice_found _ (bytes_eq v row.0 && bytes_eq w row.1) row.2 _
-    (λ e. let same = both (bytes_eq v row.0) (bytes_eq w row.1) e in λ ts. rw (bytes_eq-true v row.0 same.0, bytes_eq-true w row.1 same.1) (each.0 ts))
+    (λ e. let same = and_parts (bytes_eq v row.0) (bytes_eq w row.1) e in λ ts. rw (bytes_eq-true v row.0 same.0, bytes_eq-true w row.1 same.1) (each.0 ts))
     (row_found rest each.1 v w)
 
 -- a word that is another spells what that one spells
@@ -95,7 +82,7 @@ abbrev EachRead : Selector → List (List (List ℕ)) → Type 0
 EachRead s [] = Unit {0}
 EachRead s (ws ∷ others) = ((to : List Sign) → selector_at (map word ws ++ to) ≡ Some (s, to)) × EachRead s others
 
-each_read : (s : Selector) → EachRead s (words_of s)
+each_read : (s : Selector) → EachRead s (spellings_of s)
 unfolding selector_at second_at
 each_read selectors.IpSource = (λ to. refl, tt)
 each_read selectors.IpDestination = (λ to. refl, tt)
@@ -129,7 +116,7 @@ one_of_read s (ws ∷ others) each from to (inl e) = ap selector_at e ∙ each.0
 one_of_read s (ws ∷ others) each from to (inr e) = one_of_read s others each.1 from to e
 
 pub selector_only : FindsAll SpellsSelector Always selector_at
-selector_only s from to spelled follow = one_of_read s (words_of s) (each_read s) from to spelled
+selector_only s from to spelled follow = one_of_read s (spellings_of s) (each_read s) from to spelled
 
 second_shorter : (v : List ℕ) (ts : List Sign) → IfSome (second_at v ts) (λ x. length x.1 < length ts)
 unfolding second_at
@@ -147,15 +134,11 @@ selector_shorter ts =
 pub selector_takes : Takes SpellsSelector
 selector_takes s from to spelled = IfSome_at (selector_at from) (λ x. length x.1 < length from) (s, to) (selector_only s from to spelled tt) (selector_shorter from)
 
-neither : (a b : Bool) → a || b ≡ false → (a ≡ false) × (b ≡ false)
-neither false b e = (refl, e)
-neither true b e = absurd cc
-
 -- no row has the word first
 row_none : (all : List Row) (v w : List ℕ) → list_any (bytes_eq v) (map (λ row. row.0) all) ≡ false → row_in all v w ≡ None
 row_none [] v w e = refl
 row_none (row ∷ rest) v w e =
-    let p = neither (bytes_eq v row.0) (list_any (bytes_eq v) (map (λ r. r.0) rest)) e in
+    let p = or_parts (bytes_eq v row.0) (list_any (bytes_eq v) (map (λ r. r.0) rest)) e in
     rw p.0 (row_none rest v w p.1)
 
 second_none : (v : List ℕ) (ts : List Sign) → ((w : List ℕ) → row_in rows v w ≡ None) → second_at v ts ≡ None
@@ -171,17 +154,17 @@ second_none v (word w ∷ ts) none = rw (none w) refl
 word_none : (v : List ℕ) (ts : List Sign) → begins_selector (word v ∷ ts) ≡ false → selector_at (word v ∷ ts) ≡ None
 unfolding selector_at
 word_none v ts e =
-    let ip = neither (bytes_eq v (codes "ip")) _ e in
-    let meta = neither (bytes_eq v (codes "meta")) _ ip.1 in
-    let tcp = neither (bytes_eq v (codes "tcp")) _ meta.1 in
-    let udp = neither (bytes_eq v (codes "udp")) _ tcp.1 in
-    let th = neither (bytes_eq v (codes "th")) _ udp.1 in
-    let icmp = neither (bytes_eq v (codes "icmp")) _ th.1 in
-    let ct = neither (bytes_eq v (codes "ct")) _ icmp.1 in
-    let iifname = neither (bytes_eq v (codes "iifname")) _ ct.1 in
-    let oifname = neither (bytes_eq v (codes "oifname")) _ iifname.1 in
-    let iif = neither (bytes_eq v (codes "iif")) _ oifname.1 in
-    let oif = neither (bytes_eq v (codes "oif")) _ iif.1 in
+    let ip = or_parts (bytes_eq v (codes "ip")) _ e in
+    let meta = or_parts (bytes_eq v (codes "meta")) _ ip.1 in
+    let tcp = or_parts (bytes_eq v (codes "tcp")) _ meta.1 in
+    let udp = or_parts (bytes_eq v (codes "udp")) _ tcp.1 in
+    let th = or_parts (bytes_eq v (codes "th")) _ udp.1 in
+    let icmp = or_parts (bytes_eq v (codes "icmp")) _ th.1 in
+    let ct = or_parts (bytes_eq v (codes "ct")) _ icmp.1 in
+    let iifname = or_parts (bytes_eq v (codes "iifname")) _ ct.1 in
+    let oifname = or_parts (bytes_eq v (codes "oifname")) _ iifname.1 in
+    let iif = or_parts (bytes_eq v (codes "iif")) _ oifname.1 in
+    let oif = or_parts (bytes_eq v (codes "oif")) _ iif.1 in
     let first : list_any (bytes_eq v) (map (λ row. row.0) rows) ≡ false = rw (ip.0, meta.0, tcp.0, udp.0, th.0, icmp.0, ct.0) refl in
     let second : second_at v ts ≡ None = second_none v ts (λ w. row_none rows v w first) in
     rw (iifname.0, oifname.0, iif.0, oif.0) second
@@ -214,9 +197,18 @@ next_takes s from to spelled = omega (arith, ap length spelled.1, selector_takes
 pub next_shortens : Shortens next_selector_at
 next_shortens = shortens_from SpellsNextSelector next_selector_at next_found next_takes
 
-no_next : (ts : List Sign) → NoDot ts → next_selector_at ts ≡ None
-unfolding next_selector_at
-no_next ts none = rw none refl
+no_next : (ts : List Sign) → EndsSelectors ts → next_selector_at ts ≡ None
+no_next ts ends =
+    elim (option_cases (next_selector_at ts)) [
+      | inl e ↦ e
+      | inr w ↦ absurd (ends w.0.0 w.0.1 (IfSome_at (next_selector_at ts) (λ x. SpellsNextSelector x.0 ts x.1) w.0 w.1 (next_found ts)))
+    ]
+
+-- where no dot stands, no selector goes on with others
+pub no_dot_ends : (ts : List Sign) → NoDot ts → EndsSelectors ts
+no_dot_ends ts none s to spelled =
+    let same : ◌≡◌ {A = Option (List Sign)} None (Some spelled.0) = sym none ∙ ap (after_mark Dot) spelled.1 in
+    absurd cc
 
 -- ---- anysel {"." anysel}
 
@@ -226,7 +218,7 @@ selectors_found ts =
     bind_found _ (selector_at ts) _ (selector_found ts) (λ first ef.
     (first.1, ef, many_found SpellsNextSelector next_selector_at next_found (length first.1) first.1))
 
-pub selectors_only : FindsAll SpellsSelectors NoDot selectors_at
+pub selectors_only : FindsAll SpellsSelectors EndsSelectors selectors_at
 unfolding selectors_at
 selectors_only [] from to spelled none = absurd spelled
 selectors_only (s ∷ ss) from to spelled none =

@@ -1,3 +1,2 @@
 pub mod Selectors
-pub mod Reading
-pub mod Laws
+pub mod steps

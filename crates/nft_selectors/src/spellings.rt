@@ -1,6 +1,6 @@
 //! The words that selectors are spelled with.
 ghost use Rattle.std.specs.Prelude.{◌≡◌, map};
-ghost use Rattle.nft_selectors.specs.Reading.{interface, row_in, row_of, rows};
+ghost use Rattle.nft_selectors.specs.steps.Reading.{interface, row_in, row_of, rows};
 
 use nft_tree::Selector;
 

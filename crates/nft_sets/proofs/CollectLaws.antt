@@ -5,9 +5,9 @@ use Rattle.std.specs.Prelude.{option_to_list}
 use Rattle.std.specs.List.{filter_map}
 use Rattle.nft_tree.specs.declared.set.SetFlag.{SetFlag}
 use Rattle.nft_tree.specs.Tree.{Text}
-use Rattle.token_reader.specs.Laws.{some_is}
+use Rattle.token_reader.specs.steps.Laws.{some_is}
 use Rattle.nft_sets.specs.Sets.{Field, key, flags, size, auto_merge, comment, elements, key_in, flags_in, size_in, auto_merge_in, comment_in, elements_in, merge_fields, Collects}
-use Rattle.nft_sets.specs.Reading.{Collected, nothing, with_fields}
+use Rattle.nft_sets.specs.steps.Reading.{Collected, nothing, with_fields}
 
 -- what was collected before, and the fields, are together what is collected after
 abbrev Together : {K E : Type 0} → List (Field K E) → Collected K E → Collected K E → Type 0

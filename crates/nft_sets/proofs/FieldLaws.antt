@@ -5,12 +5,12 @@ use Rattle.nft_lexer.specs.declared.token.Mark.TheVariants.{Equals, OpenBrace, C
 use Rattle.nft_lexer.specs.Sign as signs
 use Rattle.nft_lexer.specs.Sign.{Sign, mark, word}
 use Rattle.token_reader.specs.Repeats.{Many, EndsCounted}
-use Rattle.token_reader.specs.Reading.{after_word, after_mark, after_ends, number_at, string_at, skip_ends, all_at, with_front}
-use Rattle.token_reader.specs.Laws.{Shortens, Finds, FindsAll, Fronts, Takes, Always, many_found, many_only, Many_front, Many_takes, shortens_from, bind_found, else_found, IfSome_weaker, option_cases, goes_on, many_at-none}
-use Rattle.token_reader.specs.TokenLaws.{NoEnd, mark_after, number_found, string_found, ends_found, ends_only, ends_takes, some_ends_found, some_ends_only, some_ends_takes, by_word_found}
-use Rattle.nft_selectors.specs.Laws.{NoDot}
+use Rattle.token_reader.specs.steps.Reading.{after_word, after_mark, after_ends, number_at, string_at, skip_ends, all_at, with_front}
+use Rattle.token_reader.specs.steps.Laws.{Shortens, Finds, FindsAll, Fronts, Takes, Always, many_found, many_only, Many_front, Many_takes, shortens_from, bind_found, else_found, IfSome_weaker, option_cases, goes_on, many_at-none}
+use Rattle.token_reader.specs.steps.TokenLaws.{NoEnd, mark_after, number_found, string_found, ends_found, ends_only, ends_takes, some_ends_found, some_ends_only, some_ends_takes, by_word_found}
+use Rattle.nft_selectors.specs.steps.Laws.{NoDot}
 use Rattle.nft_sets.specs.Sets.{Field, key, flags, size, auto_merge, comment, elements, SpellsField, SpellsNextField, SpellsFields}
-use Rattle.nft_sets.specs.Reading.{Reader, Collected, nothing, with_field, with_fields, flags_at, flags_field_at, size_field_at, comment_field_at, elements_field_at, field_rows, other_field_at, field_at, next_field_at, more_fields_at, fields_at}
+use Rattle.nft_sets.specs.steps.Reading.{Reader, Collected, nothing, with_field, with_fields, flags_at, flags_field_at, size_field_at, comment_field_at, elements_field_at, field_rows, other_field_at, field_at, next_field_at, more_fields_at, fields_at}
 use Rattle.nft_sets.proofs.FlagLaws.{NoComma, flags_found, flags_only, flags_takes}
 use Rattle.nft_sets.proofs.TypeLaws.{known}
 

@@ -6,11 +6,11 @@ use Rattle.nft_lexer.specs.Sign.{Sign, word}
 use Rattle.nft_tree.specs.declared.set.SetFlag.{SetFlag}
 use Rattle.nft_tree.specs.declared.set.SetFlag.TheVariants.{Constant, Interval}
 use Rattle.token_reader.specs.Repeats.{Many}
-use Rattle.token_reader.specs.Reading.{after_mark, all_at}
-use Rattle.token_reader.specs.Laws.{Shortens, Finds, FindsAll, Takes, Always, many_found, many_only, Many_takes, shortens_from, bind_found, IfSome_weaker}
-use Rattle.token_reader.specs.TokenLaws.{mark_after, by_word_found}
+use Rattle.token_reader.specs.steps.Reading.{after_mark, all_at}
+use Rattle.token_reader.specs.steps.Laws.{Shortens, Finds, FindsAll, Takes, Always, many_found, many_only, Many_takes, shortens_from, bind_found, IfSome_weaker}
+use Rattle.token_reader.specs.steps.TokenLaws.{mark_after, by_word_found}
 use Rattle.nft_sets.specs.Sets.{flag_word, SpellsNextFlag, SpellsSetFlags}
-use Rattle.nft_sets.specs.Reading.{flag_rows, flag_at, next_flag_at, flags_at}
+use Rattle.nft_sets.specs.steps.Reading.{flag_rows, flag_at, next_flag_at, flags_at}
 
 -- no comma stands in front, which would go on with the flags
 abbrev pub NoComma : List Sign → Type 0

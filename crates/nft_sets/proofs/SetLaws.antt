@@ -2,15 +2,15 @@
 use Rattle.std.proofs.Common.{◌≡◌, List, ◌∷◌, length, None, refl, ap, ◌∙◌, arith}
 use Rattle.std.specs.Prelude.{codes}
 use Rattle.nft_lexer.specs.Sign.{Sign, word}
-use Rattle.token_reader.specs.Reading.{after_word, word_at}
-use Rattle.token_reader.specs.Laws.{Finds, FindsAll, Takes, Always, bind_found}
-use Rattle.token_reader.specs.TokenLaws.{word_after, word_found}
-use Rattle.nft_selectors.specs.Laws.{SelectorLaws}
-use Rattle.nft_lists.specs.Laws.{ListLaws}
+use Rattle.token_reader.specs.steps.Reading.{after_word, word_at}
+use Rattle.token_reader.specs.steps.Laws.{Finds, FindsAll, Takes, Always, bind_found}
+use Rattle.token_reader.specs.steps.TokenLaws.{word_after, word_found}
+use Rattle.nft_selectors.specs.steps.Laws.{SelectorLaws}
+use Rattle.nft_lists.specs.steps.Laws.{ListLaws}
 use Rattle.nft_lists.specs.Elements.{SpellsElements, SpellsPairs}
-use Rattle.nft_lists.specs.Reading.{elements_at, pairs_at}
+use Rattle.nft_lists.specs.steps.Reading.{elements_at, pairs_at}
 use Rattle.nft_sets.specs.Sets.{SpellsSetType, SpellsMapType, SpellsSet, SpellsMap}
-use Rattle.nft_sets.specs.Reading.{fields_at, set_type_at, map_type_at, set_at, map_at}
+use Rattle.nft_sets.specs.steps.Reading.{fields_at, set_type_at, map_type_at, set_at, map_at}
 use Rattle.nft_sets.proofs.TypeLaws.{known, set_type_found, set_type_only, set_type_takes, set_type_front, set_type_none, map_type_found, map_type_only, map_type_takes, map_type_front, map_type_none}
 use Rattle.nft_sets.proofs.CollectLaws.{collects, collects_all}
 use Rattle.nft_sets.proofs.FieldLaws.{KeyLaws, ElementsLaws, fields_found, fields_only, fields_take}

@@ -5,21 +5,21 @@ use Rattle.nft_lexer.specs.declared.token.Mark.TheVariants.{Dot, Colon}
 use Rattle.nft_lexer.specs.Sign.{Sign, mark, word}
 use Rattle.nft_tree.specs.declared.selector.Selector.{Selector}
 use Rattle.nft_tree.specs.declared.selector.ValueType.{ValueType}
-use Rattle.nft_tree.specs.declared.set.MapType.TheVariants as map_types
 use Rattle.nft_tree.specs.declared.set.TypeOrVerdict.{TypeOrVerdict}
-use Rattle.nft_tree.specs.declared.set.TypeOrVerdict.TheVariants as type_kinds
 use Rattle.nft_tree.specs.declared.set.SelectorOrVerdict.{SelectorOrVerdict}
-use Rattle.nft_tree.specs.declared.set.SelectorOrVerdict.TheVariants as selector_kinds
+use Rattle.nft_tree.specs.declared.set.MapType.TheVariants as map_types
+use Rattle.nft_tree.specs.declared.set.TypeOrVerdict.TheVariants as types_or_verdicts
+use Rattle.nft_tree.specs.declared.set.SelectorOrVerdict.TheVariants as selectors_or_verdicts
 use Rattle.nft_tree.specs.Tree as tree
 use Rattle.nft_tree.specs.Words.{type_named}
-use Rattle.token_reader.specs.Reading.{after_word, after_mark, word_at, all_at}
-use Rattle.token_reader.specs.Laws.{Shortens, Finds, FindsAll, Fronts, Takes, Always, many_found, many_only, Many_takes, shortens_from, bind_found, else_found, IfSome_weaker}
-use Rattle.token_reader.specs.TokenLaws.{NoEnd, word_after, mark_after, word_found, by_word_found}
-use Rattle.nft_selectors.specs.Laws.{NoDot, SelectorLaws}
+use Rattle.token_reader.specs.steps.Reading.{after_word, after_mark, word_at, all_at}
+use Rattle.token_reader.specs.steps.Laws.{Shortens, Finds, FindsAll, Fronts, Takes, Always, many_found, many_only, Many_takes, shortens_from, bind_found, else_found, IfSome_weaker}
+use Rattle.token_reader.specs.steps.TokenLaws.{NoEnd, word_after, mark_after, word_found, by_word_found}
+use Rattle.nft_selectors.specs.steps.Laws.{NoDot, SelectorLaws}
 use Rattle.nft_selectors.specs.Selectors.{SpellsSelector}
-use Rattle.nft_selectors.specs.Reading.{selector_at, selectors_at}
+use Rattle.nft_selectors.specs.steps.Reading.{selector_at, selectors_at}
 use Rattle.nft_sets.specs.Sets.{SpellsType, SpellsNextType, SpellsSetType, SpellsMapType}
-use Rattle.nft_sets.specs.Reading.{type_at, next_type_at, types_at, typeof_at, set_type_rows, set_type_at, data_type_at, data_selector_at, type_pair_at, selector_pair_at, map_type_rows, map_type_at}
+use Rattle.nft_sets.specs.steps.Reading.{type_at, next_type_at, types_at, typeof_at, set_type_rows, set_type_at, data_type_at, data_selector_at, type_pair_at, selector_pair_at, map_type_rows, map_type_at}
 
 -- what an option holds, it holds
 pub known : {A : Type 0} (o : Option A) → IfSome o (λ x. o ≡ Some x)
@@ -84,7 +84,7 @@ set_type_only S (tree.types (t ∷ ts)) from to s none =
     let first : type_at s.0 ≡ Some (t, s.1) = type_only t s.0 s.1 s.3 tt in
     let others : all_at next_type_at s.1 ≡ (ts, to) = many_only SpellsNextType Always next_type_at next_type_only (λ _ _ _ _. tt) next_type_takes (length s.1) ts s.1 to s.4 tt (no_next_type to none) (omega arith) in
     rw (s.2, first, others) refl
-set_type_only S (tree.selectors ss) from to s none = rw (s.1, S.selectors_only ss s.0 to s.2 none) refl
+set_type_only S (tree.selectors ss) from to s none = rw (s.1, S.selectors_only ss s.0 to s.2 (S.no_dot_ends to none)) refl
 
 pub set_type_takes : SelectorLaws → Takes SpellsSetType
 set_type_takes S (tree.types []) from to s = absurd s
@@ -104,13 +104,13 @@ set_type_none ts no_type no_typeof = rw (no_type, no_typeof) refl
 
 -- TYPE | "verdict"
 abbrev SpellsDataType : TypeOrVerdict → List Sign → List Sign → Type 0
-SpellsDataType (type_kinds.Type d) from to = SpellsType d from to
-SpellsDataType type_kinds.Verdict from to = from ≡ word (codes "verdict") ∷ to
+SpellsDataType (types_or_verdicts.Type d) from to = SpellsType d from to
+SpellsDataType types_or_verdicts.Verdict from to = from ≡ word (codes "verdict") ∷ to
 
 -- anysel | "verdict"
 abbrev SpellsDataSelector : SelectorOrVerdict → List Sign → List Sign → Type 0
-SpellsDataSelector (selector_kinds.Selector d) from to = SpellsSelector d from to
-SpellsDataSelector selector_kinds.Verdict from to = from ≡ word (codes "verdict") ∷ to
+SpellsDataSelector (selectors_or_verdicts.Selector d) from to = SpellsSelector d from to
+SpellsDataSelector selectors_or_verdicts.Verdict from to = from ≡ word (codes "verdict") ∷ to
 
 data_type_found : Finds SpellsDataType data_type_at
 unfolding data_type_at
@@ -125,12 +125,12 @@ data_selector_found S ts =
     (else_found _ (after_word (codes "verdict") ts) _ _ (word_after (codes "verdict") ts) (λ a ea. ea) tt)
 
 type_pair_joined : (t : ValueType) (d : TypeOrVerdict) (ts a b to : List Sign) → SpellsType t ts a → a ≡ mark Colon ∷ b → SpellsDataType d b to → SpellsMapType (map_types.Types t d) (word (codes "type") ∷ ts) to
-type_pair_joined t (type_kinds.Type d) ts a b to et colon ed = (ts, b, refl, rw colon at et, ed)
-type_pair_joined t type_kinds.Verdict ts a b to et colon ed = (ts, refl, rw (colon, ed) at et)
+type_pair_joined t (types_or_verdicts.Type d) ts a b to et colon ed = (ts, b, refl, rw colon at et, ed)
+type_pair_joined t types_or_verdicts.Verdict ts a b to et colon ed = (ts, refl, rw (colon, ed) at et)
 
 selector_pair_joined : (s : Selector) (d : SelectorOrVerdict) (ts a b to : List Sign) → SpellsSelector s ts a → a ≡ mark Colon ∷ b → SpellsDataSelector d b to → SpellsMapType (map_types.Selectors s d) (word (codes "typeof") ∷ ts) to
-selector_pair_joined s (selector_kinds.Selector d) ts a b to es colon ed = (ts, b, refl, rw colon at es, ed)
-selector_pair_joined s selector_kinds.Verdict ts a b to es colon ed = (ts, refl, rw (colon, ed) at es)
+selector_pair_joined s (selectors_or_verdicts.Selector d) ts a b to es colon ed = (ts, b, refl, rw colon at es, ed)
+selector_pair_joined s selectors_or_verdicts.Verdict ts a b to es colon ed = (ts, refl, rw (colon, ed) at es)
 
 type_pair_found : (ts : List Sign) → IfSome (type_pair_at ts) (λ x. SpellsMapType x.0 (word (codes "type") ∷ ts) x.1)
 unfolding type_pair_at
@@ -152,24 +152,24 @@ map_type_found S = by_word_found (λ ts x. SpellsMapType x.0 ts x.1) map_type_ro
 
 pub map_type_only : SelectorLaws → FindsAll SpellsMapType Always map_type_at
 unfolding map_type_at type_pair_at selector_pair_at data_type_at data_selector_at type_at
-map_type_only S (map_types.Types t (type_kinds.Type d)) from to s follow = rw (s.2, s.3.1, s.3.2, s.4.1, s.4.2) refl
-map_type_only S (map_types.Types t type_kinds.Verdict) from to s follow = rw (s.1, s.2.1, s.2.2) refl
-map_type_only S (map_types.Selectors x (selector_kinds.Selector d)) from to s follow =
+map_type_only S (map_types.Types t (types_or_verdicts.Type d)) from to s follow = rw (s.2, s.3.1, s.3.2, s.4.1, s.4.2) refl
+map_type_only S (map_types.Types t types_or_verdicts.Verdict) from to s follow = rw (s.1, s.2.1, s.2.2) refl
+map_type_only S (map_types.Selectors x (selectors_or_verdicts.Selector d)) from to s follow =
     rw (s.2, S.selector_only x s.0 (mark Colon ∷ s.1) s.3 tt, S.selector_only d s.1 to s.4 tt) refl
-map_type_only S (map_types.Selectors x selector_kinds.Verdict) from to s follow =
+map_type_only S (map_types.Selectors x selectors_or_verdicts.Verdict) from to s follow =
     rw (s.1, S.selector_only x s.0 (mark Colon ∷ word (codes "verdict") ∷ to) s.2 tt, S.selector_none (word (codes "verdict") ∷ to) refl) refl
 
 pub map_type_takes : SelectorLaws → Takes SpellsMapType
-map_type_takes S (map_types.Types t (type_kinds.Type d)) from to s = omega (arith, ap length s.2, type_takes t s.0 (mark Colon ∷ s.1) s.3, type_takes d s.1 to s.4)
-map_type_takes S (map_types.Types t type_kinds.Verdict) from to s = omega (arith, ap length s.1, type_takes t s.0 (mark Colon ∷ word (codes "verdict") ∷ to) s.2)
-map_type_takes S (map_types.Selectors x (selector_kinds.Selector d)) from to s = omega (arith, ap length s.2, S.selector_takes x s.0 (mark Colon ∷ s.1) s.3, S.selector_takes d s.1 to s.4)
-map_type_takes S (map_types.Selectors x selector_kinds.Verdict) from to s = omega (arith, ap length s.1, S.selector_takes x s.0 (mark Colon ∷ word (codes "verdict") ∷ to) s.2)
+map_type_takes S (map_types.Types t (types_or_verdicts.Type d)) from to s = omega (arith, ap length s.2, type_takes t s.0 (mark Colon ∷ s.1) s.3, type_takes d s.1 to s.4)
+map_type_takes S (map_types.Types t types_or_verdicts.Verdict) from to s = omega (arith, ap length s.1, type_takes t s.0 (mark Colon ∷ word (codes "verdict") ∷ to) s.2)
+map_type_takes S (map_types.Selectors x (selectors_or_verdicts.Selector d)) from to s = omega (arith, ap length s.2, S.selector_takes x s.0 (mark Colon ∷ s.1) s.3, S.selector_takes d s.1 to s.4)
+map_type_takes S (map_types.Selectors x selectors_or_verdicts.Verdict) from to s = omega (arith, ap length s.1, S.selector_takes x s.0 (mark Colon ∷ word (codes "verdict") ∷ to) s.2)
 
 pub map_type_front : Fronts SpellsMapType NoEnd
-map_type_front (map_types.Types t (type_kinds.Type d)) from to s = rw s.2 refl
-map_type_front (map_types.Types t type_kinds.Verdict) from to s = rw s.1 refl
-map_type_front (map_types.Selectors x (selector_kinds.Selector d)) from to s = rw s.2 refl
-map_type_front (map_types.Selectors x selector_kinds.Verdict) from to s = rw s.1 refl
+map_type_front (map_types.Types t (types_or_verdicts.Type d)) from to s = rw s.2 refl
+map_type_front (map_types.Types t types_or_verdicts.Verdict) from to s = rw s.1 refl
+map_type_front (map_types.Selectors x (selectors_or_verdicts.Selector d)) from to s = rw s.2 refl
+map_type_front (map_types.Selectors x selectors_or_verdicts.Verdict) from to s = rw s.1 refl
 
 pub map_type_none : (ts : List Sign) → after_word (codes "type") ts ≡ None → after_word (codes "typeof") ts ≡ None → map_type_at ts ≡ None
 unfolding map_type_at

@@ -1,4 +1,2 @@
 pub mod Sets
-pub mod Reading
-pub mod Views
-pub mod Laws
+pub mod steps

@@ -6,11 +6,11 @@ use Rattle.nft_lexer.specs.Sign as signs
 use Rattle.nft_lexer.specs.Sign.{Sign, mark}
 use Rattle.nft_tree.specs.declared.selector.ValueType.{ValueType}
 use Rattle.nft_tree.specs.declared.set.SetFlag.{SetFlag}
-use Rattle.nft_tree.specs.declared.set.SetFlag.TheVariants.{Constant, Interval}
 use Rattle.nft_tree.specs.declared.set.MapType.{MapType}
+use Rattle.nft_tree.specs.declared.set.SetFlag.TheVariants.{Constant, Interval}
 use Rattle.nft_tree.specs.declared.set.MapType.TheVariants as map_types
-use Rattle.nft_tree.specs.declared.set.TypeOrVerdict.TheVariants as type_kinds
-use Rattle.nft_tree.specs.declared.set.SelectorOrVerdict.TheVariants as selector_kinds
+use Rattle.nft_tree.specs.declared.set.TypeOrVerdict.TheVariants as types_or_verdicts
+use Rattle.nft_tree.specs.declared.set.SelectorOrVerdict.TheVariants as selectors_or_verdicts
 use Rattle.nft_tree.specs.Tree as tree
 use Rattle.nft_tree.specs.Tree.{Text, ElementTree, PairTree, SetTypeTree, SetTree, MapTree}
 use Rattle.nft_tree.specs.Words.{type_named}
@@ -80,10 +80,10 @@ SpellsSetType (tree.selectors ss) from to = (a : List Sign) × (from ≡ signs.w
 
 -- "type" TYPE ":" (TYPE | "verdict") | "typeof" anysel ":" (anysel | "verdict")
 abbrev pub SpellsMapType : MapType → List Sign → List Sign → Type 0
-SpellsMapType (map_types.Types t (type_kinds.Type d)) from to = (a b : List Sign) × (from ≡ signs.word (codes "type") ∷ a) × SpellsType t a (mark marks.Colon ∷ b) × SpellsType d b to
-SpellsMapType (map_types.Types t type_kinds.Verdict) from to = (a : List Sign) × (from ≡ signs.word (codes "type") ∷ a) × SpellsType t a (mark marks.Colon ∷ signs.word (codes "verdict") ∷ to)
-SpellsMapType (map_types.Selectors s (selector_kinds.Selector d)) from to = (a b : List Sign) × (from ≡ signs.word (codes "typeof") ∷ a) × SpellsSelector s a (mark marks.Colon ∷ b) × SpellsSelector d b to
-SpellsMapType (map_types.Selectors s selector_kinds.Verdict) from to = (a : List Sign) × (from ≡ signs.word (codes "typeof") ∷ a) × SpellsSelector s a (mark marks.Colon ∷ signs.word (codes "verdict") ∷ to)
+SpellsMapType (map_types.Types t (types_or_verdicts.Type d)) from to = (a b : List Sign) × (from ≡ signs.word (codes "type") ∷ a) × SpellsType t a (mark marks.Colon ∷ b) × SpellsType d b to
+SpellsMapType (map_types.Types t types_or_verdicts.Verdict) from to = (a : List Sign) × (from ≡ signs.word (codes "type") ∷ a) × SpellsType t a (mark marks.Colon ∷ signs.word (codes "verdict") ∷ to)
+SpellsMapType (map_types.Selectors s (selectors_or_verdicts.Selector d)) from to = (a b : List Sign) × (from ≡ signs.word (codes "typeof") ∷ a) × SpellsSelector s a (mark marks.Colon ∷ b) × SpellsSelector d b to
+SpellsMapType (map_types.Selectors s selectors_or_verdicts.Verdict) from to = (a : List Sign) × (from ≡ signs.word (codes "typeof") ∷ a) × SpellsSelector s a (mark marks.Colon ∷ signs.word (codes "verdict") ∷ to)
 
 abbrev pub flag_word : SetFlag → Text
 flag_word Constant = codes "constant"

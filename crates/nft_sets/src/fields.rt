@@ -1,8 +1,9 @@
 //! The fields of sets and maps, which stand in any order.
-ghost use Rattle.std.specs.Prelude.{◌≡◌, Option, Some, None, IfOk, if◌then◌else◌};
-ghost use Rattle.token_reader.specs.Places.{ahead, option_view};
-ghost use Rattle.nft_sets.specs.Reading.{flags_field_at, size_field_at, comment_field_at, elements_field_at, other_field_at, field_at, next_field_at, nothing, with_field, more_fields_at, fields_at};
-ghost use Rattle.nft_sets.specs.Views.{field_tree, collected};
+ghost use Rattle.std.specs.Prelude.{◌≡◌, ◌≤◌, length, Option, Some, None, IfOk, IfSome, if◌then◌else◌};
+ghost use Rattle.std.specs.Option.{option_map};
+ghost use Rattle.token_reader.specs.Places.{ahead};
+ghost use Rattle.nft_sets.specs.steps.Reading.{flags_field_at, size_field_at, comment_field_at, elements_field_at, other_field_at, field_at, next_field_at, nothing, with_field, more_fields_at, fields_at};
+ghost use Rattle.nft_sets.specs.steps.Views.{field_tree, collected};
 
 use crate::flags::set_flags;
 use crate::parts::Part;
@@ -64,13 +65,13 @@ impl<K: Part, E: Part> Fields<K, E> {
 }
 
 /// sflag {"," sflag}
-#[tactic(auto, unfolding(crate::specs::Reading::flags_field_at))]
+#[tactic(auto, unfolding(crate::specs::steps::Reading::flags_field_at))]
 fn flags_field<K: Part, E: Part>(
     alloc: Global,
     tokens: &[Token],
     at: usize,
 ) -> Result<Option<(Field<K, E>, usize)>, Memory>
-    ensures { IfOk result (λ o. option_view (λ x. (field_tree K.tree E.tree x.0, ahead tokens.now x.1)) o ≡ flags_field_at (ahead tokens.now at)) }
+    ensures { IfOk result (λ o. option_map (λ x. (field_tree K.tree E.tree x.0, ahead tokens.now x.1)) o ≡ flags_field_at (ahead tokens.now at)) }
 {
     let Some((flags, at)) = set_flags(alloc, tokens, at)? else {
         return Ok(None);
@@ -79,22 +80,22 @@ fn flags_field<K: Part, E: Part>(
 }
 
 /// NUM
-#[tactic(auto, unfolding(crate::specs::Reading::size_field_at))]
+#[tactic(auto, unfolding(crate::specs::steps::Reading::size_field_at))]
 fn size_field<K: Part, E: Part>(tokens: &[Token], at: usize) -> Option<(Field<K, E>, usize)>
-    ensures { option_view (λ x. (field_tree K.tree E.tree x.0, ahead tokens.now x.1)) result ≡ size_field_at (ahead tokens.now at) }
+    ensures { option_map (λ x. (field_tree K.tree E.tree x.0, ahead tokens.now x.1)) result ≡ size_field_at (ahead tokens.now at) }
 {
     let (size, at) = number(tokens, at)?;
     Some((Field::Size(size), at))
 }
 
 /// STRING
-#[tactic(auto, unfolding(crate::specs::Reading::comment_field_at))]
+#[tactic(auto, unfolding(crate::specs::steps::Reading::comment_field_at))]
 fn comment_field<K: Part, E: Part>(
     alloc: Global,
     tokens: &[Token],
     at: usize,
 ) -> Result<Option<(Field<K, E>, usize)>, Memory>
-    ensures { IfOk result (λ o. option_view (λ x. (field_tree K.tree E.tree x.0, ahead tokens.now x.1)) o ≡ comment_field_at (ahead tokens.now at)) }
+    ensures { IfOk result (λ o. option_map (λ x. (field_tree K.tree E.tree x.0, ahead tokens.now x.1)) o ≡ comment_field_at (ahead tokens.now at)) }
 {
     let Some((text, at)) = string(tokens, at) else {
         return Ok(None);
@@ -104,13 +105,13 @@ fn comment_field<K: Part, E: Part>(
 }
 
 /// "=" "{" elements "}"
-#[tactic(auto, unfolding(crate::specs::Reading::elements_field_at))]
+#[tactic(auto, unfolding(crate::specs::steps::Reading::elements_field_at))]
 fn elements_field<K: Part, E: Part>(
     alloc: Global,
     tokens: &[Token],
     at: usize,
 ) -> Result<Option<(Field<K, E>, usize)>, Memory>
-    ensures { IfOk result (λ o. option_view (λ x. (field_tree K.tree E.tree x.0, ahead tokens.now x.1)) o ≡ elements_field_at E.read_at (ahead tokens.now at)) }
+    ensures { IfOk result (λ o. option_map (λ x. (field_tree K.tree E.tree x.0, ahead tokens.now x.1)) o ≡ elements_field_at E.read_at (ahead tokens.now at)) }
 {
     let Some(at) = after_mark(tokens, at, Mark::Equals) else {
         return Ok(None);
@@ -128,13 +129,13 @@ fn elements_field<K: Part, E: Part>(
 }
 
 /// A field but the key.
-#[tactic(auto, unfolding(crate::specs::Reading::other_field_at))]
+#[tactic(auto, unfolding(crate::specs::steps::Reading::other_field_at))]
 fn other_field<K: Part, E: Part>(
     alloc: Global,
     tokens: &[Token],
     at: usize,
 ) -> Result<Option<(Field<K, E>, usize)>, Memory>
-    ensures { IfOk result (λ o. option_view (λ x. (field_tree K.tree E.tree x.0, ahead tokens.now x.1)) o ≡ other_field_at E.read_at (ahead tokens.now at)) }
+    ensures { IfOk result (λ o. option_map (λ x. (field_tree K.tree E.tree x.0, ahead tokens.now x.1)) o ≡ other_field_at E.read_at (ahead tokens.now at)) }
 {
     if let Some(at) = after_word(tokens, at, b"flags") {
         return flags_field(alloc, tokens, at);
@@ -155,13 +156,13 @@ fn other_field<K: Part, E: Part>(
 }
 
 /// A field.
-#[tactic(auto, unfolding(crate::specs::Reading::field_at))]
+#[tactic(auto, unfolding(crate::specs::steps::Reading::field_at))]
 fn any_field<K: Part, E: Part>(
     alloc: Global,
     tokens: &[Token],
     at: usize,
 ) -> Result<Option<(Field<K, E>, usize)>, Memory>
-    ensures { IfOk result (λ o. option_view (λ x. (field_tree K.tree E.tree x.0, ahead tokens.now x.1)) o ≡ field_at K.read_at E.read_at (ahead tokens.now at)) }
+    ensures { IfOk result (λ o. option_map (λ x. (field_tree K.tree E.tree x.0, ahead tokens.now x.1)) o ≡ field_at K.read_at E.read_at (ahead tokens.now at)) }
 {
     match K::read(alloc, tokens, at)? {
         Some((key, at)) => Ok(Some((Field::Key(key), at))),
@@ -170,13 +171,13 @@ fn any_field<K: Part, E: Part>(
 }
 
 /// end {end} field
-#[tactic(auto, unfolding(crate::specs::Reading::next_field_at))]
+#[tactic(auto, unfolding(crate::specs::steps::Reading::next_field_at))]
 fn next_field<K: Part, E: Part>(
     alloc: Global,
     tokens: &[Token],
     at: usize,
 ) -> Result<Option<(Field<K, E>, usize)>, Memory>
-    ensures { IfOk result (λ o. option_view (λ x. (field_tree K.tree E.tree x.0, ahead tokens.now x.1)) o ≡ next_field_at K.read_at E.read_at (ahead tokens.now at)) }
+    ensures { IfOk result (λ o. option_map (λ x. (field_tree K.tree E.tree x.0, ahead tokens.now x.1)) o ≡ next_field_at K.read_at E.read_at (ahead tokens.now at)) }
 {
     let Some(at) = after_ends(tokens, at) else {
         return Ok(None);
@@ -191,7 +192,7 @@ fn more_fields<K: Part, E: Part>(
     at: usize,
     fields: &mut Fields<K, E>,
 ) -> Result<Option<usize>, Memory>
-    ensures { IfOk result (λ o. option_view (λ end. (collected K.tree E.tree fields.new, ahead tokens.now end)) o ≡ more_fields_at K.read_at E.read_at (collected K.tree E.tree fields.old) (ahead tokens.now at)) }
+    ensures { IfOk result (λ o. option_map (λ end. (collected K.tree E.tree fields.new, ahead tokens.now end)) o ≡ more_fields_at K.read_at E.read_at (collected K.tree E.tree fields.old) (ahead tokens.now at)) }
 {
     K::laws();
     E::laws();
@@ -206,13 +207,14 @@ fn more_fields<K: Part, E: Part>(
 }
 
 /// "{" {end} field {end {end} field} {end} "}"
-#[tactic(auto, unfolding(crate::specs::Reading::fields_at))]
+#[tactic(auto, unfolding(crate::specs::steps::Reading::fields_at))]
 pub(crate) fn all_fields<K: Part, E: Part>(
     alloc: Global,
     tokens: &[Token],
     at: usize,
 ) -> Result<Option<(Fields<K, E>, usize)>, Memory>
-    ensures { IfOk result (λ o. option_view (λ x. (collected K.tree E.tree x.0, ahead tokens.now x.1)) o ≡ fields_at K.read_at E.read_at (ahead tokens.now at)) }
+    ensures read { IfOk result (λ o. option_map (λ x. (collected K.tree E.tree x.0, ahead tokens.now x.1)) o ≡ fields_at K.read_at E.read_at (ahead tokens.now at)) }
+    ensures within { IfOk result (λ o. IfSome o (λ x. x.1 ≤ length tokens.now)) }
 {
     let Some(at) = after_mark(tokens, at, Mark::OpenBrace) else {
         return Ok(None);

@@ -1,8 +1,9 @@
 //! The flags of sets and maps.
 ghost use Rattle.std.specs.Prelude.{◌≡◌, IfOk};
-ghost use Rattle.token_reader.specs.Places.{ahead, option_view};
-ghost use Rattle.token_reader.specs.Reading.{all_at, with_front};
-ghost use Rattle.nft_sets.specs.Reading.{flag_at, next_flag_at, flags_at};
+ghost use Rattle.std.specs.Option.{option_map};
+ghost use Rattle.token_reader.specs.Places.{ahead};
+ghost use Rattle.token_reader.specs.steps.Reading.{all_at, with_front};
+ghost use Rattle.nft_sets.specs.steps.Reading.{flag_at, next_flag_at, flags_at};
 
 use nft_lexer::{Mark, Token};
 use nft_tree::{Memory, SetFlag};
@@ -10,9 +11,9 @@ use std::alloc::Global;
 use token_reader::{after_mark, after_word};
 
 /// "constant" | "interval"
-#[tactic(auto, unfolding(crate::specs::Reading::flag_at))]
+#[tactic(auto, unfolding(crate::specs::steps::Reading::flag_at))]
 fn flag(tokens: &[Token], at: usize) -> Option<(SetFlag, usize)>
-    ensures { option_view (λ x. (x.0, ahead tokens.now x.1)) result ≡ flag_at (ahead tokens.now at) }
+    ensures { option_map (λ x. (x.0, ahead tokens.now x.1)) result ≡ flag_at (ahead tokens.now at) }
 {
     if let Some(at) = after_word(tokens, at, b"constant") {
         return Some((SetFlag::Constant, at));
@@ -22,9 +23,9 @@ fn flag(tokens: &[Token], at: usize) -> Option<(SetFlag, usize)>
 }
 
 /// "," sflag
-#[tactic(auto, unfolding(crate::specs::Reading::next_flag_at))]
+#[tactic(auto, unfolding(crate::specs::steps::Reading::next_flag_at))]
 fn next_flag(tokens: &[Token], at: usize) -> Option<(SetFlag, usize)>
-    ensures { option_view (λ x. (x.0, ahead tokens.now x.1)) result ≡ next_flag_at (ahead tokens.now at) }
+    ensures { option_map (λ x. (x.0, ahead tokens.now x.1)) result ≡ next_flag_at (ahead tokens.now at) }
 {
     let at = after_mark(tokens, at, Mark::Comma)?;
     flag(tokens, at)
@@ -43,13 +44,13 @@ fn more_flags(tokens: &[Token], at: usize, found: &mut Vec<SetFlag>) -> Result<u
 }
 
 /// sflag {"," sflag}
-#[tactic(auto, unfolding(crate::specs::Reading::flags_at))]
+#[tactic(auto, unfolding(crate::specs::steps::Reading::flags_at))]
 pub(crate) fn set_flags(
     alloc: Global,
     tokens: &[Token],
     at: usize,
 ) -> Result<Option<(Vec<SetFlag>, usize)>, Memory>
-    ensures { IfOk result (λ o. option_view (λ x. (x.0.items, ahead tokens.now x.1)) o ≡ flags_at (ahead tokens.now at)) }
+    ensures { IfOk result (λ o. option_map (λ x. (x.0.items, ahead tokens.now x.1)) o ≡ flags_at (ahead tokens.now at)) }
 {
     let Some((first, at)) = flag(tokens, at) else {
         return Ok(None);

@@ -1,5 +1,5 @@
 //! Laws of sets and maps, as the contract of a function that does nothing.
-ghost use Rattle.nft_sets.specs.Laws.{SetLaws};
+ghost use Rattle.nft_sets.specs.steps.Laws.{SetLaws};
 
 use nft_lists::list_laws;
 use nft_selectors::selector_laws;

@@ -2,9 +2,10 @@
 ghost use Rattle.std.specs.Prelude.{◌≡◌, List, Option, IfOk, map};
 ghost use Rattle.nft_lexer.specs.Sign.{Sign};
 ghost use Rattle.nft_tree.specs.Tree.{ElementTree, PairTree, element_tree, pair_tree};
-ghost use Rattle.token_reader.specs.Places.{ahead, option_view};
-ghost use Rattle.token_reader.specs.Laws.{Shortens};
-ghost use Rattle.nft_lists.specs.Reading.{elements_at, pairs_at};
+ghost use Rattle.std.specs.Option.{option_map};
+ghost use Rattle.token_reader.specs.Places.{ahead};
+ghost use Rattle.token_reader.specs.steps.Laws.{Shortens};
+ghost use Rattle.nft_lists.specs.steps.Reading.{elements_at, pairs_at};
 
 use nft_lexer::Token;
 use nft_lists::{elems, list_laws, pairs};
@@ -22,7 +23,7 @@ pub(crate) trait Part: Drop {
 
     /// The part here, and the place after it.
     fn read(alloc: Global, tokens: &[Token], at: usize) -> Result<Option<(Self, usize)>, Memory>
-        ensures { IfOk result (λ o. option_view (λ x. (tree x.0, ahead tokens.now x.1)) o ≡ read_at (ahead tokens.now at)) };
+        ensures { IfOk result (λ o. option_map (λ x. (tree x.0, ahead tokens.now x.1)) o ≡ read_at (ahead tokens.now at)) };
 
     /// Each reading takes a token.
     fn laws()

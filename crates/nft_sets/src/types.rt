@@ -3,10 +3,11 @@ ghost use Rattle.std.specs.Prelude.{◌≡◌, List, Option, IfOk};
 ghost use Rattle.nft_lexer.specs.Sign.{Sign};
 ghost use Rattle.nft_tree.specs.declared.set.MapType.{MapType};
 ghost use Rattle.nft_tree.specs.Tree.{SetTypeTree, set_type_tree};
-ghost use Rattle.token_reader.specs.Places.{ahead, option_view};
-ghost use Rattle.token_reader.specs.Reading.{all_at, with_front};
-ghost use Rattle.token_reader.specs.Laws.{Shortens};
-ghost use Rattle.nft_sets.specs.Reading.{type_at, next_type_at, types_at, typeof_at, set_type_at, data_type_at, data_selector_at, type_pair_at, selector_pair_at, map_type_at};
+ghost use Rattle.std.specs.Option.{option_map};
+ghost use Rattle.token_reader.specs.Places.{ahead};
+ghost use Rattle.token_reader.specs.steps.Reading.{all_at, with_front};
+ghost use Rattle.token_reader.specs.steps.Laws.{Shortens};
+ghost use Rattle.nft_sets.specs.steps.Reading.{type_at, next_type_at, types_at, typeof_at, set_type_at, data_type_at, data_selector_at, type_pair_at, selector_pair_at, map_type_at};
 
 use crate::parts::Part;
 use nft_lexer::{Mark, Token};
@@ -16,18 +17,18 @@ use std::alloc::Global;
 use token_reader::{after_mark, after_word, word};
 
 /// TYPE
-#[tactic(auto, unfolding(crate::specs::Reading::type_at))]
+#[tactic(auto, unfolding(crate::specs::steps::Reading::type_at))]
 fn value_type(tokens: &[Token], at: usize) -> Option<(ValueType, usize)>
-    ensures { option_view (λ x. (x.0, ahead tokens.now x.1)) result ≡ type_at (ahead tokens.now at) }
+    ensures { option_map (λ x. (x.0, ahead tokens.now x.1)) result ≡ type_at (ahead tokens.now at) }
 {
     let (name, at) = word(tokens, at)?;
     Some((ValueType::named(name)?, at))
 }
 
 /// "." TYPE
-#[tactic(auto, unfolding(crate::specs::Reading::next_type_at))]
+#[tactic(auto, unfolding(crate::specs::steps::Reading::next_type_at))]
 fn next_type(tokens: &[Token], at: usize) -> Option<(ValueType, usize)>
-    ensures { option_view (λ x. (x.0, ahead tokens.now x.1)) result ≡ next_type_at (ahead tokens.now at) }
+    ensures { option_map (λ x. (x.0, ahead tokens.now x.1)) result ≡ next_type_at (ahead tokens.now at) }
 {
     let at = after_mark(tokens, at, Mark::Dot)?;
     value_type(tokens, at)
@@ -46,9 +47,9 @@ fn more_types(tokens: &[Token], at: usize, found: &mut Vec<ValueType>) -> Result
 }
 
 /// TYPE {"." TYPE}
-#[tactic(auto, unfolding(crate::specs::Reading::types_at))]
+#[tactic(auto, unfolding(crate::specs::steps::Reading::types_at))]
 fn types(alloc: Global, tokens: &[Token], at: usize) -> Result<Option<(SetType, usize)>, Memory>
-    ensures { IfOk result (λ o. option_view (λ x. (set_type_tree x.0, ahead tokens.now x.1)) o ≡ types_at (ahead tokens.now at)) }
+    ensures { IfOk result (λ o. option_map (λ x. (set_type_tree x.0, ahead tokens.now x.1)) o ≡ types_at (ahead tokens.now at)) }
 {
     let Some((first, at)) = value_type(tokens, at) else {
         return Ok(None);
@@ -60,9 +61,9 @@ fn types(alloc: Global, tokens: &[Token], at: usize) -> Result<Option<(SetType, 
 }
 
 /// keys
-#[tactic(auto, unfolding(crate::specs::Reading::typeof_at))]
+#[tactic(auto, unfolding(crate::specs::steps::Reading::typeof_at))]
 fn type_of(alloc: Global, tokens: &[Token], at: usize) -> Result<Option<(SetType, usize)>, Memory>
-    ensures { IfOk result (λ o. option_view (λ x. (set_type_tree x.0, ahead tokens.now x.1)) o ≡ typeof_at (ahead tokens.now at)) }
+    ensures { IfOk result (λ o. option_map (λ x. (set_type_tree x.0, ahead tokens.now x.1)) o ≡ typeof_at (ahead tokens.now at)) }
 {
     let Some((found, at)) = selectors(alloc, tokens, at)? else {
         return Ok(None);
@@ -71,9 +72,9 @@ fn type_of(alloc: Global, tokens: &[Token], at: usize) -> Result<Option<(SetType
 }
 
 /// "type" TYPE {"." TYPE} | "typeof" keys
-#[tactic(auto, unfolding(crate::specs::Reading::set_type_at))]
+#[tactic(auto, unfolding(crate::specs::steps::Reading::set_type_at))]
 fn set_type(alloc: Global, tokens: &[Token], at: usize) -> Result<Option<(SetType, usize)>, Memory>
-    ensures { IfOk result (λ o. option_view (λ x. (set_type_tree x.0, ahead tokens.now x.1)) o ≡ set_type_at (ahead tokens.now at)) }
+    ensures { IfOk result (λ o. option_map (λ x. (set_type_tree x.0, ahead tokens.now x.1)) o ≡ set_type_at (ahead tokens.now at)) }
 {
     if let Some(at) = after_word(tokens, at, b"type") {
         return types(alloc, tokens, at);
@@ -85,9 +86,9 @@ fn set_type(alloc: Global, tokens: &[Token], at: usize) -> Result<Option<(SetTyp
 }
 
 /// TYPE | "verdict"
-#[tactic(auto, unfolding(crate::specs::Reading::data_type_at))]
+#[tactic(auto, unfolding(crate::specs::steps::Reading::data_type_at))]
 fn data_type(tokens: &[Token], at: usize) -> Option<(TypeOrVerdict, usize)>
-    ensures { option_view (λ x. (x.0, ahead tokens.now x.1)) result ≡ data_type_at (ahead tokens.now at) }
+    ensures { option_map (λ x. (x.0, ahead tokens.now x.1)) result ≡ data_type_at (ahead tokens.now at) }
 {
     if let Some((found, at)) = value_type(tokens, at) {
         return Some((TypeOrVerdict::Type(found), at));
@@ -97,9 +98,9 @@ fn data_type(tokens: &[Token], at: usize) -> Option<(TypeOrVerdict, usize)>
 }
 
 /// anysel | "verdict"
-#[tactic(auto, unfolding(crate::specs::Reading::data_selector_at))]
+#[tactic(auto, unfolding(crate::specs::steps::Reading::data_selector_at))]
 fn data_selector(tokens: &[Token], at: usize) -> Option<(SelectorOrVerdict, usize)>
-    ensures { option_view (λ x. (x.0, ahead tokens.now x.1)) result ≡ data_selector_at (ahead tokens.now at) }
+    ensures { option_map (λ x. (x.0, ahead tokens.now x.1)) result ≡ data_selector_at (ahead tokens.now at) }
 {
     if let Some((found, at)) = anysel(tokens, at) {
         return Some((SelectorOrVerdict::Selector(found), at));
@@ -109,9 +110,9 @@ fn data_selector(tokens: &[Token], at: usize) -> Option<(SelectorOrVerdict, usiz
 }
 
 /// TYPE ":" (TYPE | "verdict")
-#[tactic(auto, unfolding(crate::specs::Reading::type_pair_at))]
+#[tactic(auto, unfolding(crate::specs::steps::Reading::type_pair_at))]
 fn type_pair(tokens: &[Token], at: usize) -> Option<(MapType, usize)>
-    ensures { option_view (λ x. (x.0, ahead tokens.now x.1)) result ≡ type_pair_at (ahead tokens.now at) }
+    ensures { option_map (λ x. (x.0, ahead tokens.now x.1)) result ≡ type_pair_at (ahead tokens.now at) }
 {
     let (key, at) = value_type(tokens, at)?;
     let at = after_mark(tokens, at, Mark::Colon)?;
@@ -120,9 +121,9 @@ fn type_pair(tokens: &[Token], at: usize) -> Option<(MapType, usize)>
 }
 
 /// anysel ":" (anysel | "verdict")
-#[tactic(auto, unfolding(crate::specs::Reading::selector_pair_at))]
+#[tactic(auto, unfolding(crate::specs::steps::Reading::selector_pair_at))]
 fn selector_pair(tokens: &[Token], at: usize) -> Option<(MapType, usize)>
-    ensures { option_view (λ x. (x.0, ahead tokens.now x.1)) result ≡ selector_pair_at (ahead tokens.now at) }
+    ensures { option_map (λ x. (x.0, ahead tokens.now x.1)) result ≡ selector_pair_at (ahead tokens.now at) }
 {
     let (key, at) = anysel(tokens, at)?;
     let at = after_mark(tokens, at, Mark::Colon)?;
@@ -131,9 +132,9 @@ fn selector_pair(tokens: &[Token], at: usize) -> Option<(MapType, usize)>
 }
 
 /// "type" TYPE ":" (TYPE | "verdict") | "typeof" anysel ":" (anysel | "verdict")
-#[tactic(auto, unfolding(crate::specs::Reading::map_type_at))]
+#[tactic(auto, unfolding(crate::specs::steps::Reading::map_type_at))]
 fn map_type(tokens: &[Token], at: usize) -> Option<(MapType, usize)>
-    ensures { option_view (λ x. (x.0, ahead tokens.now x.1)) result ≡ map_type_at (ahead tokens.now at) }
+    ensures { option_map (λ x. (x.0, ahead tokens.now x.1)) result ≡ map_type_at (ahead tokens.now at) }
 {
     if let Some(at) = after_word(tokens, at, b"type") {
         return type_pair(tokens, at);

@@ -1,2 +1,6 @@
+pub mod Types
 pub mod Tree
 pub mod Words
+pub mod Kinds
+pub mod Priorities
+pub mod Parts

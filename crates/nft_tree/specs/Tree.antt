@@ -1,5 +1,6 @@
 -- Trees without where they lie in memory: what contracts compare. A type that holds no vector is its own mirror.
-use Rattle.std.specs.Prelude.{ℕ, Bool, List, map, Option, Some, None}
+use Rattle.std.specs.Prelude.{ℕ, Bool, List, map, Option}
+use Rattle.std.specs.Option.{option_map}
 use Rattle.nft_tree.specs.declared.ruleset.Ruleset.{Ruleset}
 use Rattle.nft_tree.specs.declared.ruleset.Table.{Table}
 use Rattle.nft_tree.specs.declared.ruleset.Family.{Family}
@@ -40,7 +41,7 @@ use Rattle.nft_tree.specs.declared.nat.PortRange.{PortRange}
 use Rattle.nft_tree.specs.declared.statement.Stmt.{Stmt}
 use Rattle.nft_tree.specs.declared.statement.Stmt.TheVariants as stmts
 use Rattle.nft_tree.specs.declared.statement.CounterStart.{CounterStart}
-use Rattle.nft_tree.specs.declared.statement.Mark.{Mark}
+use Rattle.nft_tree.specs.declared.statement.MarkField.{MarkField}
 use Rattle.nft_tree.specs.declared.statement.Operand.{Operand}
 use Rattle.nft_tree.specs.declared.statement.Operand.TheVariants as operands
 use Rattle.nft_tree.specs.declared.statement.Look.{Look}
@@ -114,7 +115,7 @@ pub record LookTree : Type 0 where
 
 pub data OperandTree : Type 0 where
   constant : ℕ → OperandTree
-  mark_of : Mark → OperandTree
+  mark_of : MarkField → OperandTree
   looked_up : LookTree → OperandTree
 
 pub data FlagTree : Type 0 where
@@ -127,9 +128,9 @@ pub data MatchTree : Type 0 where
   not_in : List Selector → SetRefTree → MatchTree
   bits : BitField → BitTest → List Text → MatchTree
   any_flag : List FlagTree → MatchTree
-  all_flags : List FlagTree → MatchTree
+  exact_flags : List FlagTree → MatchTree
   masked_flags : (wanted mask : List FlagTree) → MatchTree
-  other_flags : (wanted mask : List FlagTree) → MatchTree
+  masked_flags_unequal : (wanted mask : List FlagTree) → MatchTree
 
 pub data SourceTree : Type 0 where
   source_address : ℕ → Option PortRange → SourceTree
@@ -149,7 +150,7 @@ pub data Statement : Type 0 where
   matching : MatchTree → Statement
   counter : Option CounterStart → Statement
   log : Option Text → Statement
-  set_mark : Mark → OperandTree → Statement
+  set_mark : MarkField → OperandTree → Statement
   verdict_map : Selector → MapRefTree → Statement
   verdict : VerdictTree → Statement
   nat : NatTree → Statement
@@ -206,11 +207,6 @@ pub record TableTree : Type 0 where
 
 -- ---- what each value of the code shows
 
--- the option with its value seen so
-abbrev pub option_view : {A B : Type 0} → (A → B) → Option A → Option B
-option_view f None = None
-option_view f (Some x) = Some (f x)
-
 abbrev pub value_tree : Value → ValueTree
 value_tree (values.Number n) = number n
 value_tree (values.Address a) = address a
@@ -235,14 +231,14 @@ key_tree (keys.Single r) = single (range_tree r)
 key_tree (keys.Joined vs) = joined (map value_tree vs.items)
 
 abbrev pub element_tree : Element → ElementTree
-element_tree e = record { key = key_tree e.key; comment = option_view (λ c. c.items) e.comment }
+element_tree e = record { key = key_tree e.key; comment = option_map (λ c. c.items) e.comment }
 
 abbrev pub data_tree : Data → DataTree
 data_tree (datas.Verdict v) = to_verdict (verdict_tree v)
 data_tree (datas.Value v) = to_value (value_tree v)
 
 abbrev pub pair_tree : Pair → PairTree
-pair_tree p = record { key = range_tree p.key; comment = option_view (λ c. c.items) p.comment; value = data_tree p.value }
+pair_tree p = record { key = range_tree p.key; comment = option_map (λ c. c.items) p.comment; value = data_tree p.value }
 
 abbrev pub set_ref_tree : SetRef → SetRefTree
 set_ref_tree (set_refs.Named name) = named_set name.items
@@ -270,9 +266,9 @@ match_tree (matches.In ss r) = is_in ss.items (set_ref_tree r)
 match_tree (matches.NotIn ss r) = not_in ss.items (set_ref_tree r)
 match_tree (matches.Bits field test words) = bits field test (map (λ w. w.items) words.items)
 match_tree (matches.AnyFlag fs) = any_flag (map flag_tree fs.items)
-match_tree (matches.AllFlags fs) = all_flags (map flag_tree fs.items)
+match_tree (matches.ExactFlags fs) = exact_flags (map flag_tree fs.items)
 match_tree (matches.MaskedFlags m) = masked_flags (map flag_tree m.wanted.items) (map flag_tree m.mask.items)
-match_tree (matches.OtherFlags m) = other_flags (map flag_tree m.wanted.items) (map flag_tree m.mask.items)
+match_tree (matches.MaskedFlagsUnequal m) = masked_flags_unequal (map flag_tree m.wanted.items) (map flag_tree m.mask.items)
 
 abbrev pub source_tree : SourceTarget → SourceTree
 source_tree (sources.Address a ports) = source_address a ports
@@ -291,30 +287,30 @@ nat_tree (nats.Redirect port) = redirect port
 abbrev pub statement : Stmt → Statement
 statement (stmts.Match m) = matching (match_tree m)
 statement (stmts.Counter start) = counter start
-statement (stmts.Log text) = log (option_view (λ t. t.items) text)
+statement (stmts.Log text) = log (option_map (λ t. t.items) text)
 statement (stmts.SetMark m o) = set_mark m (operand_tree o)
 statement (stmts.VerdictMap s m) = verdict_map s (map_ref_tree m)
 statement (stmts.Verdict v) = verdict (verdict_tree v)
 statement (stmts.Nat n) = nat (nat_tree n)
 
 abbrev pub rule_tree : Rule → RuleTree
-rule_tree r = record { statements = map statement r.statements.items; comment = option_view (λ c. c.items) r.comment }
+rule_tree r = record { statements = map statement r.statements.items; comment = option_map (λ c. c.items) r.comment }
 
 abbrev pub head_tree : Head → HeadTree
 head_tree h = record { kind = h.kind; hook = h.hook; priority = h.priority; policy = h.policy; notes = map (λ n. n.items) h.notes.items }
 
 abbrev pub chain_tree : Chain → ChainTree
-chain_tree c = record { name = c.name.items; notes = map (λ n. n.items) c.notes.items; head = option_view head_tree c.head; rules = map rule_tree c.rules.items }
+chain_tree c = record { name = c.name.items; notes = map (λ n. n.items) c.notes.items; head = option_map head_tree c.head; rules = map rule_tree c.rules.items }
 
 abbrev pub set_type_tree : SetType → SetTypeTree
 set_type_tree (set_types.Types ts) = types ts.items
 set_type_tree (set_types.Selectors ss) = selectors ss.items
 
 abbrev pub set_tree : SetDecl → SetTree
-set_tree s = record { name = s.name.items; key = set_type_tree s.key; flags = option_view (λ f. f.items) s.flags; size = s.size; auto_merge = s.auto_merge; comment = option_view (λ c. c.items) s.comment; elements = option_view (λ es. map element_tree es.items) s.elements }
+set_tree s = record { name = s.name.items; key = set_type_tree s.key; flags = option_map (λ f. f.items) s.flags; size = s.size; auto_merge = s.auto_merge; comment = option_map (λ c. c.items) s.comment; elements = option_map (λ es. map element_tree es.items) s.elements }
 
 abbrev pub map_tree : MapDecl → MapTree
-map_tree m = record { name = m.name.items; types = m.types; flags = option_view (λ f. f.items) m.flags; size = m.size; auto_merge = m.auto_merge; comment = option_view (λ c. c.items) m.comment; elements = option_view (λ ps. map pair_tree ps.items) m.elements }
+map_tree m = record { name = m.name.items; types = m.types; flags = option_map (λ f. f.items) m.flags; size = m.size; auto_merge = m.auto_merge; comment = option_map (λ c. c.items) m.comment; elements = option_map (λ ps. map pair_tree ps.items) m.elements }
 
 abbrev pub item_tree : Item → ItemTree
 item_tree (items.Comment c) = comment c.items

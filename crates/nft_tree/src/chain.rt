@@ -2,7 +2,7 @@
 use crate::statement::Stmt;
 
 /// A chain: `chain NAME { .. }`. With a head it is a base chain.
-#[derive(Debug, Drop)]
+#[derive(Drop)]
 pub struct Chain {
     pub name: Vec<u8>,
     /// The comments before the head, or before the rules of a chain without one.
@@ -13,7 +13,7 @@ pub struct Chain {
 }
 
 /// What makes a chain a base chain: `type KIND hook HOOK priority PRIORITY; policy POLICY;`.
-#[derive(Debug, Drop)]
+#[derive(Drop)]
 pub struct Head {
     pub kind: ChainKind,
     pub hook: Hook,
@@ -24,14 +24,14 @@ pub struct Head {
 }
 
 /// The type of a base chain.
-#[derive(Clone, Copy, Debug, PartialEq, Eq)]
+#[derive(Clone, Copy)]
 pub enum ChainKind {
     Filter,
     Nat,
 }
 
 /// Where a base chain sees packets.
-#[derive(Clone, Copy, Debug, PartialEq, Eq)]
+#[derive(Clone, Copy)]
 pub enum Hook {
     Prerouting,
     Input,
@@ -41,25 +41,25 @@ pub enum Hook {
 }
 
 /// The priority of a base chain: lower ones run first.
-#[derive(Clone, Copy, Debug, PartialEq, Eq)]
+#[derive(Clone, Copy)]
 pub enum Priority {
     /// A number, or the negative of one.
-    Number(Sign, u64),
+    Number(OffsetSign, u64),
     /// A name alone.
     Named(PriorityName),
     /// A name and a number added to it or taken from it.
-    Offset(PriorityName, Sign, u64),
+    Offset(PriorityName, OffsetSign, u64),
 }
 
 /// Whether a number is added or taken away.
-#[derive(Clone, Copy, Debug, PartialEq, Eq)]
-pub enum Sign {
+#[derive(Clone, Copy)]
+pub enum OffsetSign {
     Plus,
     Minus,
 }
 
 /// The names of priorities.
-#[derive(Clone, Copy, Debug, PartialEq, Eq)]
+#[derive(Clone, Copy)]
 pub enum PriorityName {
     /// -300
     Raw,
@@ -76,14 +76,14 @@ pub enum PriorityName {
 }
 
 /// What a base chain decides of a packet that comes to its end.
-#[derive(Clone, Copy, Debug, PartialEq, Eq)]
+#[derive(Clone, Copy)]
 pub enum Policy {
     Accept,
     Drop,
 }
 
 /// A rule: its statements from left to right, and its comment.
-#[derive(Debug, Drop)]
+#[derive(Drop)]
 pub struct Rule {
     pub statements: Vec<Stmt>,
     pub comment: Option<Vec<u8>>,

@@ -168,9 +168,9 @@ impl Match {
             Match::NotIn(selectors, set) => Match::NotIn(selectors.clone()?, set.try_clone()?),
             Match::Bits(field, test, words) => Match::Bits(*field, *test, copies(words)?),
             Match::AnyFlag(flags) => Match::AnyFlag(copies(flags)?),
-            Match::AllFlags(flags) => Match::AllFlags(copies(flags)?),
+            Match::ExactFlags(flags) => Match::ExactFlags(copies(flags)?),
             Match::MaskedFlags(masked) => Match::MaskedFlags(masked.try_clone()?),
-            Match::OtherFlags(masked) => Match::OtherFlags(masked.try_clone()?),
+            Match::MaskedFlagsUnequal(masked) => Match::MaskedFlagsUnequal(masked.try_clone()?),
         })
     }
 }

@@ -7,9 +7,12 @@
 
 mod chain;
 mod copies;
+mod kind;
 mod lists;
 mod memory;
 mod nat;
+mod parts;
+mod priority;
 mod ruleset;
 mod selector;
 mod set;
@@ -17,7 +20,8 @@ mod statement;
 mod tables;
 mod word;
 
-pub use chain::{Chain, ChainKind, Head, Hook, Policy, Priority, PriorityName, Rule, Sign};
+pub use chain::{Chain, ChainKind, Head, Hook, OffsetSign, Policy, Priority, PriorityName, Rule};
+pub use kind::Kind;
 pub use memory::Memory;
 pub use nat::{DestinationTarget, Nat, PortRange, SourceTarget};
 pub use ruleset::{Family, Item, RuleNo, Ruleset, Table};
@@ -27,7 +31,7 @@ pub use set::{
     TypeOrVerdict,
 };
 pub use statement::{
-    BitField, BitTest, CounterStart, Flag, Look, MapRef, Mark, Masked, Match, Operand, Operator,
-    SetRef, Stmt, Verdict,
+    BitField, BitTest, CounterStart, Flag, Look, MapRef, MarkField, Masked, Match, Operand,
+    Operator, SetRef, Stmt, Verdict,
 };
 pub use word::{Range, Value};

@@ -3,7 +3,7 @@ use std::alloc::{AllocError, AllocFailed};
 use thiserror::Error;
 
 /// There was no room to grow.
-#[derive(Clone, Copy, Debug, PartialEq, Eq, Drop, Error)]
+#[derive(Clone, Copy, Debug, Drop, Error)]
 #[error("memory")]
 pub struct Memory;
 

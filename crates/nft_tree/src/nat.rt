@@ -2,7 +2,7 @@
 use crate::statement::Look;
 
 /// A statement that translates.
-#[derive(Debug, Drop)]
+#[derive(Drop)]
 pub enum Nat {
     /// `snat to`
     Source(SourceTarget),
@@ -15,21 +15,21 @@ pub enum Nat {
 }
 
 /// What a source becomes.
-#[derive(Debug, Drop)]
+#[derive(Drop)]
 pub enum SourceTarget {
     Address(u32, Option<PortRange>),
     Look(Look),
 }
 
 /// What a destination becomes.
-#[derive(Debug, Drop)]
+#[derive(Drop)]
 pub enum DestinationTarget {
     Address(u32, Option<u64>),
     Look(Look),
 }
 
 /// A port, or the ports from one to another.
-#[derive(Clone, Copy, Debug, PartialEq, Eq)]
+#[derive(Clone, Copy)]
 pub enum PortRange {
     One(u64),
     Between(u64, u64),

@@ -3,13 +3,13 @@ use crate::chain::Chain;
 use crate::set::{MapDecl, SetDecl};
 
 /// All tables of a text, in text order.
-#[derive(Debug, Drop)]
+#[derive(Drop)]
 pub struct Ruleset {
     pub tables: Vec<Table>,
 }
 
 /// A table: `table FAMILY NAME { .. }`.
-#[derive(Debug, Drop)]
+#[derive(Drop)]
 pub struct Table {
     pub family: Family,
     pub name: Vec<u8>,
@@ -18,14 +18,14 @@ pub struct Table {
 }
 
 /// The packets that a table sees. A table without a family is of `ip`.
-#[derive(Clone, Copy, Debug, PartialEq, Eq)]
+#[derive(Clone, Copy, PartialEq, Eq)]
 pub enum Family {
     Ip,
     Inet,
 }
 
 /// What a table holds.
-#[derive(Debug, Drop)]
+#[derive(Drop)]
 pub enum Item {
     /// `comment "TEXT"`
     Comment(Vec<u8>),
@@ -36,7 +36,7 @@ pub enum Item {
 
 /// The place of a rule: its table and its chain within the table from 0, in text order, and the
 /// rule's number within its chain, from 1.
-#[derive(Clone, Copy, Debug, PartialEq, Eq)]
+#[derive(Clone, Copy)]
 pub struct RuleNo {
     pub table: u32,
     pub chain: u32,

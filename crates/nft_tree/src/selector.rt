@@ -1,7 +1,7 @@
 //! What matches read of a packet, and the types of values.
 
 /// What a match reads of a packet.
-#[derive(Clone, Copy, Debug, PartialEq, Eq)]
+#[derive(Clone, Copy)]
 pub enum Selector {
     /// `ip saddr`
     IpSource,
@@ -56,7 +56,7 @@ pub enum Selector {
 }
 
 /// The named types of values.
-#[derive(Clone, Copy, Debug, PartialEq, Eq)]
+#[derive(Clone, Copy, PartialEq, Eq)]
 pub enum ValueType {
     /// `ipv4_addr`
     Address,

@@ -4,7 +4,7 @@ use crate::statement::Verdict;
 use crate::word::{Range, Value};
 
 /// A named set: `set NAME { .. }`. Its fields may stand in any order.
-#[derive(Debug, Drop)]
+#[derive(Drop)]
 pub struct SetDecl {
     pub name: Vec<u8>,
     pub key: SetType,
@@ -16,7 +16,7 @@ pub struct SetDecl {
 }
 
 /// A named map: `map NAME { .. }`. Its fields may stand in any order.
-#[derive(Debug, Drop)]
+#[derive(Drop)]
 pub struct MapDecl {
     pub name: Vec<u8>,
     pub types: MapType,
@@ -28,7 +28,7 @@ pub struct MapDecl {
 }
 
 /// What a set's elements are: types by name, or those of selectors. More than one are joined.
-#[derive(Debug, Drop)]
+#[derive(Drop)]
 pub enum SetType {
     /// `type TYPE . TYPE`
     Types(Vec<ValueType>),
@@ -37,7 +37,7 @@ pub enum SetType {
 }
 
 /// What a map's keys and data are.
-#[derive(Clone, Copy, Debug, PartialEq, Eq)]
+#[derive(Clone, Copy)]
 pub enum MapType {
     /// `type TYPE : TYPE`
     Types(ValueType, TypeOrVerdict),
@@ -45,33 +45,33 @@ pub enum MapType {
     Selectors(Selector, SelectorOrVerdict),
 }
 
-#[derive(Clone, Copy, Debug, PartialEq, Eq)]
+#[derive(Clone, Copy)]
 pub enum TypeOrVerdict {
     Type(ValueType),
     Verdict,
 }
 
-#[derive(Clone, Copy, Debug, PartialEq, Eq)]
+#[derive(Clone, Copy)]
 pub enum SelectorOrVerdict {
     Selector(Selector),
     Verdict,
 }
 
-#[derive(Clone, Copy, Debug, PartialEq, Eq)]
+#[derive(Clone, Copy)]
 pub enum SetFlag {
     Constant,
     Interval,
 }
 
 /// An element of a set, and its comment.
-#[derive(Debug, Drop)]
+#[derive(Drop)]
 pub struct Element {
     pub key: Key,
     pub comment: Option<Vec<u8>>,
 }
 
 /// What an element holds: a value, a range or a prefix, or values joined.
-#[derive(Debug, Drop)]
+#[derive(Drop)]
 pub enum Key {
     Single(Range),
     /// `VALUE . VALUE`, two or more.
@@ -79,7 +79,7 @@ pub enum Key {
 }
 
 /// An element of a map: a key, its comment, and the data.
-#[derive(Debug, Drop)]
+#[derive(Drop)]
 pub struct Pair {
     pub key: Range,
     pub comment: Option<Vec<u8>>,
@@ -87,7 +87,7 @@ pub struct Pair {
 }
 
 /// The data of a map's element.
-#[derive(Debug, Drop)]
+#[derive(Drop)]
 pub enum Data {
     Verdict(Verdict),
     Value(Value),

@@ -5,7 +5,7 @@ use crate::set::{Element, Pair};
 use crate::word::Range;
 
 /// One statement of a rule.
-#[derive(Debug, Drop)]
+#[derive(Drop)]
 pub enum Stmt {
     Match(Match),
     /// `counter`, with its start
@@ -13,7 +13,7 @@ pub enum Stmt {
     /// `log`, with its prefix
     Log(Option<Vec<u8>>),
     /// `meta mark set`, `ct mark set`
-    SetMark(Mark, Operand),
+    SetMark(MarkField, Operand),
     /// `SELECTOR vmap MAP`
     VerdictMap(Selector, MapRef),
     Verdict(Verdict),
@@ -21,50 +21,50 @@ pub enum Stmt {
 }
 
 /// Where a counter begins: `packets NUMBER bytes NUMBER`.
-#[derive(Clone, Copy, Debug, PartialEq, Eq)]
+#[derive(Clone, Copy)]
 pub struct CounterStart {
     pub packets: u64,
     pub bytes: u64,
 }
 
 /// The marks: the packet's and the connection's.
-#[derive(Clone, Copy, Debug, PartialEq, Eq)]
-pub enum Mark {
+#[derive(Clone, Copy)]
+pub enum MarkField {
     Meta,
     Ct,
 }
 
 /// What a mark is set to.
-#[derive(Debug, Drop)]
+#[derive(Drop)]
 pub enum Operand {
     Number(u64),
-    Mark(Mark),
+    Mark(MarkField),
     Look(Look),
 }
 
 /// A look-up: `SELECTOR map MAP`.
-#[derive(Debug, Drop)]
+#[derive(Drop)]
 pub struct Look {
     pub selector: Selector,
     pub map: MapRef,
 }
 
 /// A map by its name, `@NAME`, or by its elements.
-#[derive(Debug, Drop)]
+#[derive(Drop)]
 pub enum MapRef {
     Named(Vec<u8>),
     Anonymous(Vec<Pair>),
 }
 
 /// A set by its name, `@NAME`, or by its elements.
-#[derive(Debug, Drop)]
+#[derive(Drop)]
 pub enum SetRef {
     Named(Vec<u8>),
     Anonymous(Vec<Element>),
 }
 
 /// What a rule decides of a packet.
-#[derive(Debug, Drop)]
+#[derive(Drop)]
 pub enum Verdict {
     Accept,
     Drop,
@@ -75,7 +75,7 @@ pub enum Verdict {
 }
 
 /// How a value is compared.
-#[derive(Clone, Copy, Debug, PartialEq, Eq)]
+#[derive(Clone, Copy)]
 pub enum Operator {
     /// `==`, or no operator
     Equal,
@@ -92,7 +92,7 @@ pub enum Operator {
 }
 
 /// A test of a packet.
-#[derive(Debug, Drop)]
+#[derive(Drop)]
 pub enum Match {
     /// A selector against a value, a range or a prefix.
     Compare(Selector, Operator, Range),
@@ -105,40 +105,40 @@ pub enum Match {
     /// `tcp flags FLAGS`: one of them at least is set.
     AnyFlag(Vec<Flag>),
     /// `tcp flags == FLAGS`: these and no other are set.
-    AllFlags(Vec<Flag>),
+    ExactFlags(Vec<Flag>),
     /// `tcp flags WANTED / MASK`: of the mask's flags those wanted are set, and no other.
     MaskedFlags(Masked),
     /// The same with `!=`: not so.
-    OtherFlags(Masked),
+    MaskedFlagsUnequal(Masked),
 }
 
 /// What bits are tested: those of `ct state` or of `ct status`.
-#[derive(Clone, Copy, Debug, PartialEq, Eq)]
+#[derive(Clone, Copy)]
 pub enum BitField {
     State,
     Status,
 }
 
 /// How bits are tested.
-#[derive(Clone, Copy, Debug, PartialEq, Eq)]
+#[derive(Clone, Copy)]
 pub enum BitTest {
     /// No operator: one of the named bits at least is set.
     Any,
     /// `==`: the value is all the named bits and no other.
-    All,
+    Exactly,
     /// `!=`: none of the named bits is set.
     None,
 }
 
 /// Flags under a mask.
-#[derive(Debug, Drop)]
+#[derive(Drop)]
 pub struct Masked {
     pub wanted: Vec<Flag>,
     pub mask: Vec<Flag>,
 }
 
 /// A flag of TCP by its word, or bits by their number.
-#[derive(Debug, Drop)]
+#[derive(Drop)]
 pub enum Flag {
     Word(Vec<u8>),
     Number(u64),

@@ -1,7 +1,7 @@
 //! Values as they are written.
 
 /// A value as it is written; what it stands for depends on its type.
-#[derive(Debug, Drop)]
+#[derive(Drop)]
 pub enum Value {
     Number(u64),
     /// An IPv4 address, its first group the highest byte.
@@ -12,7 +12,7 @@ pub enum Value {
 }
 
 /// One value, a range or a prefix.
-#[derive(Debug, Drop)]
+#[derive(Drop)]
 pub enum Range {
     One(Value),
     /// `LOW-HIGH`

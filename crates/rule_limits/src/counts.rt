@@ -2,7 +2,7 @@
 ghost use Rattle.std.specs.Prelude.{◌≡◌, min};
 ghost use Rattle.nft_tree.specs.Tree.{item_tree, table_tree, tables_of};
 ghost use Rattle.rule_limits.specs.Limits.{item_rules, rule_count};
-ghost use Rattle.rule_limits.specs.Shares.{table_rules};
+ghost use Rattle.rule_limits.specs.steps.Shares.{table_rules};
 
 use nft_tree::{Item, Ruleset, Table};
 

@@ -3,7 +3,7 @@
 ghost use Rattle.std.specs.Prelude.{◌≡◌, min};
 ghost use Rattle.nft_tree.specs.Tree.{chain_tree, item_tree, map_ref_tree, rule_tree, set_ref_tree, statement, table_tree, tables_of};
 ghost use Rattle.rule_limits.specs.Limits.{element_count, item_elements, map_ref_elements, rule_elements, set_ref_elements, statement_elements};
-ghost use Rattle.rule_limits.specs.Shares.{chain_elements, table_elements};
+ghost use Rattle.rule_limits.specs.steps.Shares.{chain_elements, table_elements};
 
 use nft_tree::{
     Chain, DestinationTarget, Item, Look, MapRef, Match, Nat, Operand, Rule, Ruleset, SetRef,

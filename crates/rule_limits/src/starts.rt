@@ -2,7 +2,7 @@
 ghost use Rattle.std.specs.Prelude.{◌≡◌};
 ghost use Rattle.nft_tree.specs.Tree.{chain_tree, item_tree, rule_tree, statement, table_tree, tables_of};
 ghost use Rattle.rule_limits.specs.Limits.{item_starts_too_high, some_start_too_high, starts_too_high};
-ghost use Rattle.rule_limits.specs.Shares.{chain_starts_too_high, rule_starts_too_high, table_starts_too_high};
+ghost use Rattle.rule_limits.specs.steps.Shares.{chain_starts_too_high, rule_starts_too_high, table_starts_too_high};
 
 use nft_tree::{Chain, Item, Rule, Ruleset, Stmt, Table};
 

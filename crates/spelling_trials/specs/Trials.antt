@@ -8,7 +8,7 @@ use Rattle.nft_tree.specs.declared.chain.Hook.TheVariants as hooks
 use Rattle.nft_tree.specs.declared.chain.Priority.TheVariants as priorities
 use Rattle.nft_tree.specs.declared.chain.PriorityName.TheVariants as priority_names
 use Rattle.nft_tree.specs.declared.chain.Policy.TheVariants as policies
-use Rattle.nft_tree.specs.declared.chain.Sign.TheVariants as signs
+use Rattle.nft_tree.specs.declared.chain.OffsetSign.TheVariants as signs
 use Rattle.nft_tree.specs.declared.chain.Hook.{Hook}
 use Rattle.nft_tree.specs.declared.chain.Policy.{Policy}
 use Rattle.nft_tree.specs.declared.selector.Selector.{Selector}
@@ -19,7 +19,7 @@ use Rattle.nft_tree.specs.declared.set.MapType.TheVariants as map_types
 use Rattle.nft_tree.specs.declared.set.TypeOrVerdict.TheVariants as type_kinds
 use Rattle.nft_tree.specs.declared.set.SelectorOrVerdict.TheVariants as selector_kinds
 use Rattle.nft_tree.specs.declared.nat.PortRange.TheVariants as port_ranges
-use Rattle.nft_tree.specs.declared.statement.Mark.TheVariants as marks
+use Rattle.nft_tree.specs.declared.statement.MarkField.TheVariants as marks
 use Rattle.nft_tree.specs.declared.statement.Operator.TheVariants as operators
 use Rattle.nft_tree.specs.declared.statement.BitField.TheVariants as bit_fields
 use Rattle.nft_tree.specs.declared.statement.BitTest.TheVariants as bit_tests
@@ -231,7 +231,7 @@ some_flag_tokens rest =
 
 abbrev pub some_flag : RuleTree
 some_flag = uncommented (
-    tree.matching (tree.other_flags
+    tree.matching (tree.masked_flags_unequal
     (tree.flag_number 0 ∷ [])
     (tree.flag_word (codes "fin") ∷ tree.flag_word (codes "syn") ∷ []))
     ∷ tree.verdict tree.continue
@@ -245,7 +245,7 @@ answered_tokens rest =
 
 abbrev pub answered : RuleTree
 answered = uncommented (
-    tree.matching (tree.all_flags (tree.flag_word (codes "syn") ∷ tree.flag_word (codes "ack") ∷ []))
+    tree.matching (tree.exact_flags (tree.flag_word (codes "syn") ∷ tree.flag_word (codes "ack") ∷ []))
     ∷ tree.matching (tree.bits bit_fields.Status bit_tests.None (codes "dnat" ∷ []))
     ∷ tree.verdict tree.drop
     ∷ [])

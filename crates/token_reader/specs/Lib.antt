@@ -1,5 +1,4 @@
 pub mod Places
+pub mod Tokens
 pub mod Repeats
-pub mod Reading
-pub mod Laws
-pub mod TokenLaws
+pub mod steps

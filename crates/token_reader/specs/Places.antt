@@ -1,13 +1,8 @@
 -- What stands from a place in the tokens on, as a grammar sees it.
-use Rattle.std.specs.Prelude.{ℕ, List, drop, Option, Some, None}
+use Rattle.std.specs.Prelude.{ℕ, List, drop}
 use Rattle.nft_lexer.specs.declared.token.Token.{Token}
 use Rattle.nft_lexer.specs.Sign.{Sign, signs}
 
 -- what stands from a place on
 abbrev pub ahead : List Token → ℕ → List Sign
 ahead tokens at = signs (drop at tokens)
-
--- the option with its value seen so
-abbrev pub option_view : {A B : Type 0} → (A → B) → Option A → Option B
-option_view f None = None
-option_view f (Some x) = Some (f x)

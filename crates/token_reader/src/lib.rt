@@ -1,8 +1,8 @@
 //! Reads single tokens at a place, and what may stand between parts.
 //!
-//! A place past the last token is one at which nothing stands. `specs/Repeats.antt` says what
-//! "any number of" means for every grammar on these tokens, `specs/Laws.antt` what holds of each
-//! reading from left to right.
+//! A place past the last token is one at which nothing stands; each place that a reader gives lies
+//! within the tokens. `specs/Repeats.antt` says what "any number of" means for every grammar on
+//! these tokens, `specs/steps/Laws.antt` what holds of each reading from left to right.
 #![tactic(auto)]
 
 mod ends;

@@ -1,14 +1,15 @@
 //! Single tokens at a place.
 
-ghost use Rattle.std.specs.Prelude.{◌≡◌};
-ghost use Rattle.token_reader.specs.Places.{ahead, option_view};
-ghost use Rattle.token_reader.specs.Reading.{after_word, after_mark, word_at, number_at, address_at, string_at};
+ghost use Rattle.std.specs.Prelude.{◌≡◌, ◌≤◌, length, option_map, IfSome};
+ghost use Rattle.token_reader.specs.Places.{ahead};
+ghost use Rattle.token_reader.specs.Tokens.{after_word, after_mark, word_at, number_at, address_at, string_at};
 
 use nft_lexer::{Kind, Mark, Token};
 
 /// The place after the word, where it stands here.
 pub fn after_word(tokens: &[Token], at: usize, word: &[u8]) -> Option<usize>
-    ensures { option_view (ahead tokens.now) result ≡ after_word word.now (ahead tokens.now at) }
+    ensures read { option_map (ahead tokens.now) result ≡ after_word word.now (ahead tokens.now at) }
+    ensures within { IfSome result (λ end. end ≤ length tokens.now) }
 {
     let token = tokens.get(at)?;
     match token.kind {
@@ -19,7 +20,8 @@ pub fn after_word(tokens: &[Token], at: usize, word: &[u8]) -> Option<usize>
 
 /// The place after the mark, where it stands here.
 pub fn after_mark(tokens: &[Token], at: usize, mark: Mark) -> Option<usize>
-    ensures { option_view (ahead tokens.now) result ≡ after_mark mark (ahead tokens.now at) }
+    ensures read { option_map (ahead tokens.now) result ≡ after_mark mark (ahead tokens.now at) }
+    ensures within { IfSome result (λ end. end ≤ length tokens.now) }
 {
     match tokens.get(at)?.kind {
         Kind::Mark(found) if found == mark => Some(at + 1),
@@ -29,7 +31,8 @@ pub fn after_mark(tokens: &[Token], at: usize, mark: Mark) -> Option<usize>
 
 /// The word here, and the place after it.
 pub fn word<'t>(tokens: &[Token<'t>], at: usize) -> Option<(&'t [u8], usize)>
-    ensures { option_view (λ x. (x.0.now, ahead tokens.now x.1)) result ≡ word_at (ahead tokens.now at) }
+    ensures read { option_map (λ x. (x.0.now, ahead tokens.now x.1)) result ≡ word_at (ahead tokens.now at) }
+    ensures within { IfSome result (λ x. x.1 ≤ length tokens.now) }
 {
     let token = tokens.get(at)?;
     match token.kind {
@@ -40,7 +43,8 @@ pub fn word<'t>(tokens: &[Token<'t>], at: usize) -> Option<(&'t [u8], usize)>
 
 /// The number here, and the place after it.
 pub fn number(tokens: &[Token], at: usize) -> Option<(u64, usize)>
-    ensures { option_view (λ x. (x.0, ahead tokens.now x.1)) result ≡ number_at (ahead tokens.now at) }
+    ensures read { option_map (λ x. (x.0, ahead tokens.now x.1)) result ≡ number_at (ahead tokens.now at) }
+    ensures within { IfSome result (λ x. x.1 ≤ length tokens.now) }
 {
     match tokens.get(at)?.kind {
         Kind::Number(found) => Some((found, at + 1)),
@@ -50,7 +54,8 @@ pub fn number(tokens: &[Token], at: usize) -> Option<(u64, usize)>
 
 /// The IPv4 address here, its first group the highest byte, and the place after it.
 pub fn address(tokens: &[Token], at: usize) -> Option<(u32, usize)>
-    ensures { option_view (λ x. (x.0, ahead tokens.now x.1)) result ≡ address_at (ahead tokens.now at) }
+    ensures read { option_map (λ x. (x.0, ahead tokens.now x.1)) result ≡ address_at (ahead tokens.now at) }
+    ensures within { IfSome result (λ x. x.1 ≤ length tokens.now) }
 {
     match tokens.get(at)?.kind {
         Kind::Address(found) => Some((found, at + 1)),
@@ -60,7 +65,8 @@ pub fn address(tokens: &[Token], at: usize) -> Option<(u32, usize)>
 
 /// The bytes between the quotes of the string here, and the place after it.
 pub fn string<'t>(tokens: &[Token<'t>], at: usize) -> Option<(&'t [u8], usize)>
-    ensures { option_view (λ x. (x.0.now, ahead tokens.now x.1)) result ≡ string_at (ahead tokens.now at) }
+    ensures read { option_map (λ x. (x.0.now, ahead tokens.now x.1)) result ≡ string_at (ahead tokens.now at) }
+    ensures within { IfSome result (λ x. x.1 ≤ length tokens.now) }
 {
     match tokens.get(at)?.kind {
         Kind::String(found) => Some((found, at + 1)),

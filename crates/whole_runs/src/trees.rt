@@ -2,7 +2,7 @@
 use nft_parser::parse;
 use nft_tree::{
     BitField, BitTest, Chain, ChainKind, CounterStart, Data, DestinationTarget, Element, Family,
-    Flag, Head, Hook, Item, Key, Look, MapDecl, MapRef, MapType, Mark, Masked, Match, Nat, Operand,
+    Flag, Head, Hook, Item, Key, Look, MapDecl, MapRef, MapType, MarkField, Masked, Match, Nat, Operand,
     Operator, Pair, Policy, PortRange, Priority, PriorityName, Range, Rule, Ruleset, Selector,
     SetDecl, SetFlag, SetRef, SetType, SourceTarget, Stmt, Table, TypeOrVerdict, Value, ValueType,
     Verdict,
@@ -216,7 +216,7 @@ fn bits(alloc: Global) -> Result<Vec<Stmt>, Fail> {
     Ok(vec![in alloc;
         Stmt::Match(Match::MaskedFlags(masked)),
         Stmt::Match(Match::AnyFlag(vec![in alloc; Flag::Number(3)]?)),
-        Stmt::Match(Match::AllFlags(vec![in alloc; Flag::Number(3)]?)),
+        Stmt::Match(Match::ExactFlags(vec![in alloc; Flag::Number(3)]?)),
         Stmt::Match(Match::Bits(BitField::Status, BitTest::Any, snat)),
     ]?)
 }
@@ -231,7 +231,7 @@ fn actions(alloc: Global) -> Result<Vec<Stmt>, Fail> {
         map,
     };
     Ok(vec![in alloc;
-        Stmt::SetMark(Mark::Meta, Operand::Mark(Mark::Ct)),
+        Stmt::SetMark(MarkField::Meta, Operand::Mark(MarkField::Ct)),
         Stmt::Log(Some(text(alloc, "in")?)),
         Stmt::Nat(Nat::Source(source)),
         Stmt::Nat(Nat::Destination(DestinationTarget::Look(look))),

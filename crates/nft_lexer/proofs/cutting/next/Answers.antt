@@ -1,7 +1,7 @@
 use Rattle.std.proofs.Common.{◌≡◌, ◌-◌, [], ◌∷◌, length, take, sym, ap, ◌∙◌, Option, Some}
 use Rattle.std.proofs.lemmas.Result.{err_from_is_err_and}
 use Rattle.nft_lexer.specs.declared.token.Kind.{Kind}
-use Rattle.nft_lexer.specs.Reading.{meaning, listed, part, spelled_as}
+use Rattle.nft_lexer.specs.steps.Reading.{meaning, listed, part, spelled_as}
 use Rattle.nft_lexer.proofs.Longest.{byte_fault, string_fault, number_fault, passes, piece_within}
 use Rattle.nft_lexer.proofs.cutting.next.Goals as goal
 use Rattle.nft_lexer.proofs.cutting.next.Goals.{then-text-eq34, else-text-eq34}

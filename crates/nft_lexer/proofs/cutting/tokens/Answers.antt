@@ -1,6 +1,6 @@
 use Rattle.std.proofs.Common.{map}
 use Rattle.nft_lexer.specs.Sign.{spelled}
-use Rattle.nft_lexer.specs.Reading.{listed}
+use Rattle.nft_lexer.specs.steps.Reading.{listed}
 use Rattle.nft_lexer.proofs.Cuttings.{reached_none, reached_push}
 use Rattle.nft_lexer.proofs.cutting.tokens.Goals as goal
 

@@ -1,5 +1,5 @@
 use Rattle.std.proofs.Common.{◌≡◌, false, ◌∙◌}
-use Rattle.nft_lexer.specs.Reading.{leads_with_zero}
+use Rattle.nft_lexer.specs.steps.Reading.{leads_with_zero}
 use Rattle.nft_lexer.proofs.Numbers.{utf8_digits, ok_given, ok_not_given, decimal_parsed}
 use Rattle.nft_lexer.proofs.number.group.Goals as goal
 

@@ -13,6 +13,7 @@ returns c =
       range_none = value_laws.range_none;
       comment_found = value_laws.comment_found;
       comment_only = value_laws.comment_only;
+      comment_takes = value_laws.comment_takes;
       verdict_found = verdict_laws.verdict_found;
       verdict_only = verdict_laws.verdict_only;
       verdict_takes = verdict_laws.verdict_takes;

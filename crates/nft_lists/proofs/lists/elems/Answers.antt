@@ -1,19 +1,15 @@
 use Rattle.std.proofs.Common.{map}
-use Rattle.std.proofs.lemmas.Result.{IfOk-weaker}
 use Rattle.nft_tree.specs.Tree.{element_tree}
 use Rattle.token_reader.specs.Places.{ahead}
-use Rattle.token_reader.specs.Laws.{seen_found}
+use Rattle.token_reader.specs.steps.Laws.{taking_found, taking_only}
 use Rattle.nft_lists.specs.Elements.{SpellsElements}
-use Rattle.nft_lists.specs.Reading.{elements_at}
-use Rattle.nft_lists.proofs.BraceLaws.{seen_pair, elements_found, elements_only}
+use Rattle.nft_lists.specs.steps.Reading.{elements_at}
+use Rattle.nft_lists.proofs.BraceLaws.{elements_found, elements_only}
 use Rattle.nft_lists.proofs.lists.elems.Goals as goal
 
 pub returns-clause-found : goal.returns-clause-found
-returns-clause-found c =
-    let here = ahead c.args.tokens.now c.args.at in
-    IfOk-weaker c.elements_here.result _ _ (λ o e. seen_found (λ x. SpellsElements x.0 here x.1) (λ x. (map element_tree x.0.items, ahead c.args.tokens.now x.1)) o (elements_at here) e (elements_found here)) c.elements_here.ensures
+returns-clause-found c = taking_found SpellsElements (λ es. map element_tree es.items) (ahead c.args.tokens.now) elements_at (ahead c.args.tokens.now c.args.at) c.elements_here.result c.elements_here.ensures.read elements_found
 
 pub returns-clause-only : goal.returns-clause-only
-returns-clause-only c = λ xs to s.
-    let here = ahead c.args.tokens.now c.args.at in
-    IfOk-weaker c.elements_here.result _ _ (λ o e. seen_pair (λ x. map element_tree x.0.items) (λ x. ahead c.args.tokens.now x.1) o (elements_at here) xs to e (elements_only xs here to s tt)) c.elements_here.ensures
+returns-clause-only c = λ tree to s.
+    taking_only (λ es. map element_tree es.items) (ahead c.args.tokens.now) elements_at (ahead c.args.tokens.now c.args.at) c.elements_here.result c.elements_here.ensures.read tree to (elements_only tree (ahead c.args.tokens.now c.args.at) to s tt)

@@ -6,7 +6,7 @@ use Rattle.nft_parser.specs.declared.fault.ParseError.{ParseError}
 use Rattle.nft_parser.specs.declared.fault.ParseError.TheVariants.{Memory}
 use Rattle.nft_parser.specs.Reading.{refusal}
 use Rattle.nft_parser.specs.Rulesets.{has_left_out, SpellsRuleset}
-use Rattle.nft_parser.specs.Spells.{HasFault}
+use Rattle.nft_parser.specs.Spells.{HasTextFault}
 use Rattle.nft_parser.proofs.TextLaws.{spelled_text, spelled_tokens, refused, refused_only, uncut_only, at_error}
 use Rattle.nft_parser.proofs.parsing.parse.Goals as goal
 
@@ -40,7 +40,7 @@ returns-clause-only c = λ tree s. absurd (none c tree (spelled_tokens tree c.ar
 pub returns-clause-fault : goal.returns-clause-fault
 returns-clause-fault c =
     let told : c.refusal.result ≡ refusal (has_left_out (signs c.in_ok-tokens.tokens.items)) = rw c.deref-in-None.ensures.value at c.refusal.ensures in
-    inr (subst (λ (answer : ParseError). HasFault c.args.text.now answer) (sym told) (refused c.args.text.now c.in_ok-tokens.tokens.items c.in_ok-tokens.ensures.found (none c)))
+    inr (subst (λ (answer : ParseError). HasTextFault c.args.text.now answer) (sym told) (refused c.args.text.now c.in_ok-tokens.tokens.items c.in_ok-tokens.ensures.found (none c)))
 
 pub returns-clause-only_fault : goal.returns-clause-only_fault
 returns-clause-only_fault c = λ error h.

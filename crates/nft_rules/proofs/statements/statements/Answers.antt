@@ -2,8 +2,8 @@ use Rattle.std.proofs.Common.{◌≡◌, map, ◌++◌, ◌∷◌, [], sym}
 use Rattle.std.proofs.lemmas.List.{map_push}
 use Rattle.nft_tree.specs.Tree.{statement}
 use Rattle.token_reader.specs.Places.{ahead}
-use Rattle.token_reader.specs.Laws.{goes_on, is_done}
-use Rattle.nft_rules.specs.Reading.{statement_at}
+use Rattle.token_reader.specs.steps.Laws.{goes_on, is_done}
+use Rattle.nft_rules.specs.steps.Reading.{statement_at}
 use Rattle.nft_rules.proofs.StatementLaws.{statement_shortens}
 use Rattle.nft_rules.proofs.statements.statements.Goals as goal
 

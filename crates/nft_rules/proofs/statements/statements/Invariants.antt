@@ -1,8 +1,8 @@
 use Rattle.std.proofs.Common.{◌≡◌, map, length}
 use Rattle.nft_tree.specs.Tree.{statement}
 use Rattle.token_reader.specs.Places.{ahead}
-use Rattle.token_reader.specs.Reading.{all_at, with_front}
-use Rattle.nft_rules.specs.Reading.{statement_at}
+use Rattle.token_reader.specs.steps.Reading.{all_at, with_front}
+use Rattle.nft_rules.specs.steps.Reading.{statement_at}
 use Rattle.nft_rules.proofs.statements.statements.Given as goal
 
 abbrev pub invariant-loop-found : goal.invariant-loop-found

@@ -1,5 +1,5 @@
 use Rattle.std.proofs.Common.{◌≡◌, map, drop}
-use Rattle.nft_selectors.specs.Reading.{row_in, row_of}
+use Rattle.nft_selectors.specs.steps.Reading.{row_in, row_of}
 use Rattle.nft_selectors.proofs.spellings.find.Given as goal
 
 -- the rows before this one have other words

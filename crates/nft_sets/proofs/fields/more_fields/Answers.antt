@@ -1,6 +1,6 @@
 use Rattle.std.proofs.Common.{sym, ◌∙◌}
 use Rattle.token_reader.specs.Places.{ahead}
-use Rattle.nft_sets.specs.Views.{field_tree, collected}
+use Rattle.nft_sets.specs.steps.Views.{field_tree, collected}
 use Rattle.nft_sets.proofs.FieldLaws.{fields_shorten, more_goes_on, more_refused, more_done}
 use Rattle.nft_sets.proofs.fields.more_fields.Goals as goal
 

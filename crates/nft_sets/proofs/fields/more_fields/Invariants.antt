@@ -1,7 +1,7 @@
 use Rattle.std.proofs.Common.{◌≡◌, length}
 use Rattle.token_reader.specs.Places.{ahead}
-use Rattle.nft_sets.specs.Reading.{more_fields_at}
-use Rattle.nft_sets.specs.Views.{collected}
+use Rattle.nft_sets.specs.steps.Reading.{more_fields_at}
+use Rattle.nft_sets.specs.steps.Views.{collected}
 use Rattle.nft_sets.proofs.fields.more_fields.Given as goal
 
 abbrev pub invariant-loop-field : goal.invariant-loop-field

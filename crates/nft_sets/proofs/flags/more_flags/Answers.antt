@@ -1,7 +1,7 @@
 use Rattle.std.proofs.Common.{sym}
 use Rattle.token_reader.specs.Places.{ahead}
-use Rattle.token_reader.specs.Laws.{goes_on, is_done}
-use Rattle.nft_sets.specs.Reading.{next_flag_at}
+use Rattle.token_reader.specs.steps.Laws.{goes_on, is_done}
+use Rattle.nft_sets.specs.steps.Reading.{next_flag_at}
 use Rattle.nft_sets.proofs.FlagLaws.{flags_shorten}
 use Rattle.nft_sets.proofs.flags.more_flags.Goals as goal
 

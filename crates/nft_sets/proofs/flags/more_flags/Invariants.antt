@@ -1,7 +1,7 @@
 use Rattle.std.proofs.Common.{◌≡◌, length}
 use Rattle.token_reader.specs.Places.{ahead}
-use Rattle.token_reader.specs.Reading.{all_at, with_front}
-use Rattle.nft_sets.specs.Reading.{next_flag_at}
+use Rattle.token_reader.specs.steps.Reading.{all_at, with_front}
+use Rattle.nft_sets.specs.steps.Reading.{next_flag_at}
 use Rattle.nft_sets.proofs.flags.more_flags.Given as goal
 
 abbrev pub invariant-loop-next : goal.invariant-loop-next

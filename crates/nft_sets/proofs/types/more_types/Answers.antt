@@ -1,7 +1,7 @@
 use Rattle.std.proofs.Common.{sym}
 use Rattle.token_reader.specs.Places.{ahead}
-use Rattle.token_reader.specs.Laws.{goes_on, is_done}
-use Rattle.nft_sets.specs.Reading.{next_type_at}
+use Rattle.token_reader.specs.steps.Laws.{goes_on, is_done}
+use Rattle.nft_sets.specs.steps.Reading.{next_type_at}
 use Rattle.nft_sets.proofs.TypeLaws.{types_shorten}
 use Rattle.nft_sets.proofs.types.more_types.Goals as goal
 

@@ -1,7 +1,7 @@
 use Rattle.std.proofs.Common.{◌≡◌, ◌^◌, ◌-◌, map, take, min}
 use Rattle.std.specs.List.{sum_by}
 use Rattle.nft_tree.specs.Tree.{table_tree}
-use Rattle.rule_limits.specs.Shares.{table_rules}
+use Rattle.rule_limits.specs.steps.Shares.{table_rules}
 use Rattle.rule_limits.proofs.counts.rule_count.Given as goal
 
 -- the rules of the tables so far

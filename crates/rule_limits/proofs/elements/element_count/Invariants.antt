@@ -1,7 +1,7 @@
 use Rattle.std.proofs.Common.{◌≡◌, ◌^◌, ◌-◌, map, take, min}
 use Rattle.std.specs.List.{sum_by}
 use Rattle.nft_tree.specs.Tree.{table_tree}
-use Rattle.rule_limits.specs.Shares.{table_elements}
+use Rattle.rule_limits.specs.steps.Shares.{table_elements}
 use Rattle.rule_limits.proofs.elements.element_count.Given as goal
 
 -- the elements of the tables so far

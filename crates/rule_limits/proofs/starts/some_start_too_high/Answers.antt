@@ -2,7 +2,7 @@ use Rattle.std.proofs.Common.{rules, tests, ◌∙◌}
 use Rattle.std.proofs.lemmas.Iterator.{YieldsList-from_slice}
 use Rattle.std.proofs.lemmas.Iterator.Search.{any_from_yields_List}
 use Rattle.nft_tree.specs.Tree.{table_tree}
-use Rattle.rule_limits.specs.Shares.{table_starts_too_high}
+use Rattle.rule_limits.specs.steps.Shares.{table_starts_too_high}
 use Rattle.rule_limits.proofs.Tests.{any_over}
 use Rattle.rule_limits.proofs.starts.some_start_too_high.Goals as goal
 

@@ -1,6 +1,6 @@
-use Rattle.token_reader.specs.Laws.{shortens_from}
+use Rattle.token_reader.specs.steps.Laws.{shortens_from}
 use Rattle.nft_sets.specs.Sets.{SpellsSetType}
-use Rattle.nft_sets.specs.Reading.{set_type_at}
+use Rattle.nft_sets.specs.steps.Reading.{set_type_at}
 use Rattle.nft_sets.proofs.TypeLaws.{set_type_found, set_type_takes}
 use Rattle.nft_sets.proofs.types.SetTypePart.laws.Goals as goal
 

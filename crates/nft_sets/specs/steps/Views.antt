@@ -1,0 +1,18 @@
+-- What the fields that are read show, without where they lie in memory.
+use Rattle.std.specs.Option.{option_map}
+use Rattle.nft_sets.specs.declared.fields.Field.TheVariants as fields
+use Rattle.nft_sets.specs.declared.fields.Field.{Field}
+use Rattle.nft_sets.specs.declared.fields.Fields.{Fields}
+use Rattle.nft_sets.specs.Sets as trees
+use Rattle.nft_sets.specs.steps.Reading.{Collected}
+
+abbrev pub field_tree : {K E T U : Type 0} → (K → T) → (E → U) → Field K E → trees.Field T U
+field_tree key elements (fields.Key k) = trees.key (key k)
+field_tree key elements (fields.Flags fs) = trees.flags fs.items
+field_tree key elements (fields.Size n) = trees.size n
+field_tree key elements fields.AutoMerge = trees.auto_merge
+field_tree key elements (fields.Comment text) = trees.comment text.items
+field_tree key elements (fields.Elements es) = trees.elements (elements es)
+
+abbrev pub collected : {K E T U : Type 0} → (K → T) → (E → U) → Fields K E → Collected T U
+collected key elements c = record { key = option_map key c.key; flags = option_map (λ f. f.items) c.flags; size = c.size; auto_merge = c.auto_merge; comment = option_map (λ t. t.items) c.comment; elements = option_map elements c.elements }

@@ -1,0 +1,36 @@
+-- What counts of a type where two are compared: its name, or its width where it has none (nft(8), "Data types", "typeof").
+use Rattle.std.specs.Prelude.{ℕ, List, map, Option, Some, None}
+use Rattle.nft_tree.specs.Types.{ValueType, Selector, MapType, Kind}
+use Rattle.nft_tree.specs.Types.kinds
+use Rattle.nft_tree.specs.Types.map_types
+use Rattle.nft_tree.specs.Types.types_or_verdicts
+use Rattle.nft_tree.specs.Types.selectors_or_verdicts
+use Rattle.nft_tree.specs.Tree as tree
+use Rattle.nft_tree.specs.Tree.{SetTypeTree}
+use Rattle.nft_tree.specs.Words.{selector_type, selector_width}
+
+-- the name of the type, or the width where it has none
+abbrev pub name_or_width : Option ValueType → ℕ → Kind
+name_or_width (Some t) width = kinds.Named t
+name_or_width None width = kinds.Unnamed width
+
+-- what a selector reads
+abbrev pub selector_kind : Selector → Kind
+selector_kind s = name_or_width (selector_type s) (selector_width s)
+
+-- the keys of a set, part by part
+abbrev pub key_kinds : SetTypeTree → List Kind
+key_kinds (tree.types ts) = map kinds.Named ts
+key_kinds (tree.selectors ss) = map selector_kind ss
+
+-- the keys of a map
+abbrev pub map_key_kind : MapType → Kind
+map_key_kind (map_types.Types t d) = kinds.Named t
+map_key_kind (map_types.Selectors s d) = selector_kind s
+
+-- the data of a map; none where they are verdicts
+abbrev pub map_data_kind : MapType → Option Kind
+map_data_kind (map_types.Types t (types_or_verdicts.Type d)) = Some (kinds.Named d)
+map_data_kind (map_types.Types t types_or_verdicts.Verdict) = None
+map_data_kind (map_types.Selectors s (selectors_or_verdicts.Selector d)) = Some (selector_kind d)
+map_data_kind (map_types.Selectors s selectors_or_verdicts.Verdict) = None

@@ -1,0 +1,22 @@
+-- The numbers of priorities (nft(8), "Chains", the table of standard priority names).
+use Rattle.std.specs.Prelude.{ℤ, pos, negsuc, ◌+ℤ◌, ◌-ℤ◌}
+use Rattle.nft_tree.specs.Types.{Priority, PriorityName}
+use Rattle.nft_tree.specs.Types.priorities
+use Rattle.nft_tree.specs.Types.priority_names
+use Rattle.nft_tree.specs.Types.offset_signs
+
+abbrev pub name_number : PriorityName → ℤ
+name_number priority_names.Raw = negsuc 299
+name_number priority_names.Mangle = negsuc 149
+name_number priority_names.DstNat = negsuc 99
+name_number priority_names.Filter = pos 0
+name_number priority_names.Security = pos 50
+name_number priority_names.SrcNat = pos 100
+
+-- the number of a priority, which may be out of the 32 bits that it is to have
+abbrev pub priority_number : Priority → ℤ
+priority_number (priorities.Number offset_signs.Plus n) = pos n
+priority_number (priorities.Number offset_signs.Minus n) = pos 0 -ℤ pos n
+priority_number (priorities.Named name) = name_number name
+priority_number (priorities.Offset name offset_signs.Plus n) = name_number name +ℤ pos n
+priority_number (priorities.Offset name offset_signs.Minus n) = name_number name -ℤ pos n
