@@ -6,6 +6,8 @@ mod boxes;
 #[cfg(test)]
 mod faults;
 #[cfg(test)]
+mod lexing;
+#[cfg(test)]
 mod parts;
 #[cfg(test)]
 mod runs;
