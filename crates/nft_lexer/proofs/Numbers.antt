@@ -7,7 +7,7 @@ use Rattle.std.specs.List.{list_all}
 use Rattle.std.specs.Result.{OkIff, result_ok}
 use Rattle.std.specs.Str.{IsUtf8, IsAscii}
 use Rattle.std.specs.Str.Parse.{AllDigits, IsNumeral, ParsesUnsigned, digits_value, without_leading_plus}
-use Rattle.std.proofs.lemmas.Bool.{lt-ltb, le-ltb, ltb-true, ne_eqb}
+use Rattle.std.proofs.lemmas.Bool.{and_parts, lt-ltb, le-ltb, ltb-true, ne_eqb}
 use Rattle.std.proofs.lemmas.Bool.Decides.{nat_tests}
 use Rattle.std.proofs.lemmas.Fmt.{decimal_digit, decimal_is_IsNumeral, decimal-digits_value, first_decimal, IsAscii-from_digits}
 use Rattle.std.proofs.lemmas.Str.{IsUtf8-from_ascii}
@@ -15,7 +15,7 @@ use Rattle.std.proofs.lemmas.Str.Parse.{IsNumeralModel, numerals_by_value, parse
 use Rattle.nft_lexer.specs.Sign.{Spelled, word, number, address}
 use Rattle.nft_lexer.specs.Cut.{Part, blank, joined_line, comment, line_end, name, digits, hexadecimal, dotted, quoted, sole, IsDigits, IsHexadecimal, IsSoundDecimal, AreGroups, SpellsPart, Means}
 use Rattle.nft_lexer.specs.steps.Reading.{Groups, AreDigits, leads_with_zero, decimal_at, hexadecimal_value_at, address_at, meaning, one}
-use Rattle.nft_lexer.proofs.Runs.{IfSome_weaker, both, bind_found, view_found, IsDigits_all, IsDigits_some, IsRun_some, IsRun-hexadecimal}
+use Rattle.nft_lexer.proofs.Runs.{IfSome_weaker, bind_found, view_found, IsDigits_all, IsDigits_some, IsRun_some, IsRun-hexadecimal}
 
 own : IsNumeralModel (λ ds. list_all is_ascii_digit ds ≡ true) (digits_value 10)
 own = numerals_by_value _ (search rules)
@@ -62,13 +62,13 @@ hexadecimal_no_plus b e = grind (arith, nat_tests)
 all_hexadecimal : (ds : List ℕ) → list_all is_ascii_hexdigit ds ≡ true → AllDigits 16 ds
 all_hexadecimal [] all = tt
 all_hexadecimal (b ∷ bs) all =
-    let parts = both (is_ascii_hexdigit b) (list_all is_ascii_hexdigit bs) all in
+    let parts = and_parts (is_ascii_hexdigit b) (list_all is_ascii_hexdigit bs) all in
     (hexadecimal_value b parts.0, all_hexadecimal bs parts.1)
 
 ascii_hexadecimal : (ds : List ℕ) → list_all is_ascii_hexdigit ds ≡ true → IsAscii ds
 ascii_hexadecimal [] all i = omega arith
-ascii_hexadecimal (b ∷ bs) all zero = hexadecimal_low b (both (is_ascii_hexdigit b) (list_all is_ascii_hexdigit bs) all).0
-ascii_hexadecimal (b ∷ bs) all (suc i) = ascii_hexadecimal bs (both (is_ascii_hexdigit b) (list_all is_ascii_hexdigit bs) all).1 i
+ascii_hexadecimal (b ∷ bs) all zero = hexadecimal_low b (and_parts (is_ascii_hexdigit b) (list_all is_ascii_hexdigit bs) all).0
+ascii_hexadecimal (b ∷ bs) all (suc i) = ascii_hexadecimal bs (and_parts (is_ascii_hexdigit b) (list_all is_ascii_hexdigit bs) all).1 i
 
 hexadecimal_all : (ds : List ℕ) → IsHexadecimal ds → list_all is_ascii_hexdigit ds ≡ true
 hexadecimal_all [] s = absurd s

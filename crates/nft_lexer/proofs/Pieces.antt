@@ -3,7 +3,7 @@ use Rattle.std.proofs.Common.{◌≡◌, ℕ, ◌+◌, ◌≤◌, Bool, true, fa
 use Rattle.std.specs.Prelude.{IfSome, IsSomeAnd, IsTrue}
 use Rattle.std.specs.Char.{is_ascii_digit, is_ascii_hexdigit}
 use Rattle.std.specs.List.{prefix_len, list_all}
-use Rattle.std.proofs.lemmas.Bool.{eqb-true}
+use Rattle.std.proofs.lemmas.Bool.{and_parts, eqb-true}
 use Rattle.std.proofs.lemmas.Bool.Decides.{nat_tests}
 use Rattle.std.proofs.lemmas.List.{take_at, drop_at, take-append-drop, length-drop, length-append, append-nil}
 use Rattle.std.proofs.Math.Seq.{take-append-add, drop-append-add}
@@ -13,7 +13,7 @@ use Rattle.nft_lexer.specs.declared.piece.Class.{Class}
 use Rattle.nft_lexer.specs.declared.piece.Class.TheVariants as classes
 use Rattle.nft_lexer.specs.Cut.{Part, blank, joined_line, comment, line_end, name, digits, hexadecimal, dotted, quoted, sole, is_blank, begins_word, continues_word, is_no_line_end, stands_in_string, mark_text, IsDigits, IsHexadecimal, SpellsPart}
 use Rattle.nft_lexer.specs.steps.Reading.{option_else, class_of, mark_of, long_mark_of, after_byte, digits_at, hexadecimal_at, Groups, AreDigits, dotted_at, number_at, quoted_at, mark_at, class_at, piece_at}
-use Rattle.nft_lexer.proofs.Runs.{both, some_is, option_cases, IfSome_at, else_found, view_found, front_all, front_append, digits_found, digits_more, digits_exact, byte_found, hexadecimal_found, hexadecimal_more, hexadecimal_none, hexadecimal_none-one, bytes_of, bytes_regroup, dotted_found, dotted_more, dotted_none-end}
+use Rattle.nft_lexer.proofs.Runs.{some_is, option_cases, IfSome_at, else_found, view_found, front_all, front_append, digits_found, digits_more, digits_exact, byte_found, hexadecimal_found, hexadecimal_more, hexadecimal_none, hexadecimal_none-one, bytes_of, bytes_regroup, dotted_found, dotted_more, dotted_none-end}
 
 -- ---- classes
 
@@ -221,12 +221,12 @@ hexadecimal_read n rest s = rw (hexadecimal_more n rest s) refl
 dot_no_hexadecimal : (d rest : List ℕ) → IsDigits d → hexadecimal_at (d ++ 46 ∷ rest) ≡ None
 dot_no_hexadecimal [] rest s = absurd s
 dot_no_hexadecimal (b ∷ []) rest s = hexadecimal_none b 46 rest refl
-dot_no_hexadecimal (b ∷ c ∷ cs) rest s = hexadecimal_none b c (cs ++ 46 ∷ rest) (digit_no_x c (both (is_ascii_digit c) (list_all is_ascii_digit cs) s.1).0)
+dot_no_hexadecimal (b ∷ c ∷ cs) rest s = hexadecimal_none b c (cs ++ 46 ∷ rest) (digit_no_x c (and_parts (is_ascii_digit c) (list_all is_ascii_digit cs) s.1).0)
 
 alone_no_hexadecimal : (d : List ℕ) → IsDigits d → hexadecimal_at d ≡ None
 alone_no_hexadecimal [] s = absurd s
 alone_no_hexadecimal (b ∷ []) s = hexadecimal_none-one b
-alone_no_hexadecimal (b ∷ c ∷ cs) s = hexadecimal_none b c cs (digit_no_x c (both (is_ascii_digit c) (list_all is_ascii_digit cs) s.1).0)
+alone_no_hexadecimal (b ∷ c ∷ cs) s = hexadecimal_none b c cs (digit_no_x c (and_parts (is_ascii_digit c) (list_all is_ascii_digit cs) s.1).0)
 
 groups_read : (g : Groups) (rest : List ℕ) → AreDigits g
     → number_at (bytes_of g ++ rest) ≡ Some (dotted g.first g.second g.third (g.fourth ++ take (prefix_len is_ascii_digit rest) rest), drop (prefix_len is_ascii_digit rest) rest)
@@ -260,7 +260,7 @@ hexadecimal_shorter [] rest s d to e = absurd s
 hexadecimal_shorter (b ∷ []) rest s d to e = omega (arith, ap length e, length-append d to)
 hexadecimal_shorter (b ∷ c ∷ cs) rest s d to e =
     let x : c ≡ 120 = cc in
-    let no_x : (c == 120) ≡ false = digit_no_x c (both (is_ascii_digit c) (list_all is_ascii_digit cs) s.1).0 in
+    let no_x : (c == 120) ≡ false = digit_no_x c (and_parts (is_ascii_digit c) (list_all is_ascii_digit cs) s.1).0 in
     let never : true ≡ false = rw x at no_x in
     absurd cc
 

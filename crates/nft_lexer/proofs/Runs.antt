@@ -6,7 +6,7 @@ use Rattle.std.specs.List.{prefix_len, list_all}
 use Rattle.std.proofs.lemmas.List.{take-append-drop, length-take, append-nil}
 use Rattle.std.proofs.lemmas.List.Sums.{prefix_len-le-length}
 use Rattle.std.proofs.Math.Seq.{take-append-add, drop-append-add}
-use Rattle.std.proofs.lemmas.Bool.{eqb-true, eqb-false, ne_eqb}
+use Rattle.std.proofs.lemmas.Bool.{and_parts, eqb-true, eqb-false, ne_eqb}
 use Rattle.nft_lexer.specs.Cut.{IsDigits, IsHexadecimal}
 use Rattle.nft_lexer.specs.steps.Reading.{◌>>=◌, option_else, run_at, digits_at, after_byte, after_two, hexadecimal_at, next_group_at, Groups, AreDigits, dotted_at}
 
@@ -40,10 +40,6 @@ view_found Q (Some x) f h k = k x h
 
 -- ---- tests
 
-pub both : (a b : Bool) → a && b ≡ true → (a ≡ true) × (b ≡ true)
-both true b e = (refl, e)
-both false b e = absurd cc
-
 front_step : (p : ℕ → Bool) (b : ℕ) (bs : List ℕ) (n : ℕ) (c : Bool) → p b ≡ c → list_all p (take n bs) ≡ true → list_all p (take (cond c (1 + n) 0) (b ∷ bs)) ≡ true
 front_step p b bs n true e rest = let one : 1 + n ≡ suc n = omega arith in rw (one, e) rest
 front_step p b bs n false e rest = refl
@@ -57,7 +53,7 @@ front_all p (b ∷ bs) = front_step p b bs (prefix_len p bs) (p b) refl (front_a
 pub front_append : (p : ℕ → Bool) (xs rest : List ℕ) → list_all p xs ≡ true → prefix_len p (xs ++ rest) ≡ length xs + prefix_len p rest
 front_append p [] rest all = omega arith
 front_append p (x ∷ xs) rest all =
-    let parts = both (p x) (list_all p xs) all in
+    let parts = and_parts (p x) (list_all p xs) all in
     let ih = front_append p xs rest parts.1 in
     rw parts.0 (omega arith)
 
@@ -89,7 +85,7 @@ IsRun_all p (b ∷ bs) s = rw s.0 s.1
 
 IsRun_from : (p : ℕ → Bool) (d : List ℕ) → list_all p d ≡ true → 0 < length d → IsRun p d
 IsRun_from p [] all some = absurd (omega arith)
-IsRun_from p (b ∷ bs) all some = both (p b) (list_all p bs) all
+IsRun_from p (b ∷ bs) all some = and_parts (p b) (list_all p bs) all
 
 pub IsRun_some : (p : ℕ → Bool) (d : List ℕ) → IsRun p d → 0 < length d
 IsRun_some p [] s = absurd s

@@ -1,5 +1,5 @@
 -- Data and pairs: what is read is spelled so, and what is spelled so is read.
-use Rattle.std.proofs.Common.{◌≡◌, Bool, true, false, not, IsTrue, List, ◌∷◌, length, Some, None, refl, ap, arith}
+use Rattle.std.proofs.Common.{◌≡◌, IsTrue, List, ◌∷◌, length, Some, None, refl, ap, arith}
 use Rattle.std.proofs.lemmas.Bool.{not-true}
 use Rattle.nft_lexer.specs.declared.token.Mark.TheVariants.{Colon}
 use Rattle.nft_lexer.specs.Sign as signs

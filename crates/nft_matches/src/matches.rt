@@ -17,11 +17,7 @@ use std::alloc::Global;
 
 /// sel [op] one | keys ["==" | "!="] setref | bits
 #[tactic(auto, unfolding(crate::specs::steps::Reading::match_at, crate::specs::steps::Reading::set_test_at))]
-fn found_here(
-    alloc: Global,
-    tokens: &[Token],
-    at: usize,
-) -> Result<Option<(Match, usize)>, Memory>
+fn found_here(alloc: Global, tokens: &[Token], at: usize) -> Result<Option<(Match, usize)>, Memory>
     ensures read { IfOk result (λ o. option_map (λ x. (match_tree x.0, ahead tokens.now x.1)) o ≡ match_at (ahead tokens.now at)) }
     ensures within { IfOk result (λ o. IfSome o (λ x. x.1 ≤ length tokens.now)) }
 {

@@ -11,10 +11,10 @@ use Rattle.nft_lexer.specs.declared.token.Mark.TheVariants.{CloseBrace}
 use Rattle.nft_lexer.specs.Sign.{Sign, mark, word, address}
 use Rattle.token_reader.specs.Repeats.{Many, Ends}
 use Rattle.plain_parser.specs.Grammar.{SpellsMatch, SpellsVerdict, SpellsStatements, SpellsRule, SpellsNextRule, SpellsRules}
-use Rattle.token_reader.specs.Reading.{after_word, after_ends, address_at, skip_ends, many_at, all_at}
+use Rattle.token_reader.specs.steps.Reading.{after_word, after_ends, address_at, skip_ends, many_at, all_at}
 use Rattle.plain_parser.specs.Reading.{selector_rows, selector_at, match_at, verdict_rows, verdict_at, rule_at, next_rule_at, rules_at}
-use Rattle.token_reader.specs.Laws.{Always, option_cases, IfSome_at, IfSome_weaker, bind_found, Shortens, Finds, FindsAll, Takes, many_found, many_only, shortens_from, Many_takes}
-use Rattle.token_reader.specs.TokenLaws.{word_after, address_found, NoEnd, ends_found, ends_only, after_ends_skips, some_ends_found, some_ends_only, some_ends_takes, by_word_found}
+use Rattle.token_reader.specs.steps.Laws.{Always, option_cases, IfSome_at, IfSome_weaker, bind_found, Shortens, Finds, FindsAll, Takes, many_found, many_only, shortens_from, Many_takes}
+use Rattle.token_reader.specs.steps.TokenLaws.{word_after, address_found, NoEnd, ends_found, ends_only, after_ends_skips, some_ends_found, some_ends_only, some_ends_takes, by_word_found}
 
 -- ---- matches
 

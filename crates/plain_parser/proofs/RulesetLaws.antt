@@ -1,21 +1,19 @@
 -- For each part above a rule the two laws: what is read is spelled so, and what is spelled so is read.
 use Rattle.std.proofs.Common.{◌≡◌, ◌==◌, ℕ, List, [], ◌∷◌, length, Option, Some, None, inl, inr, refl, ap}
-use Rattle.std.specs.Prelude.{codes, IfSome, map}
+use Rattle.std.specs.Prelude.{codes, IfSome}
 use Rattle.std.proofs.lemmas.Bool.{eqb-true}
 use Rattle.std.proofs.lemmas.List.{nil_from_length}
 use Rattle.plain_tree.specs.declared.Policy.{Policy}
 use Rattle.plain_tree.specs.declared.Policy.TheVariants as policies
 use Rattle.plain_tree.specs.Tree.{ChainTree, TableTree}
 use Rattle.nft_lexer.specs.declared.token.Mark.TheVariants.{OpenBrace, CloseBrace}
-use Rattle.nft_lexer.specs.declared.token.Token.{Token}
-use Rattle.plain_parser.specs.Spells.{signs_of}
-use Rattle.nft_lexer.specs.Sign.{Sign, sign_of, signs, spelled, newline, mark, word, number, address, string}
+use Rattle.nft_lexer.specs.Sign.{Sign, newline, mark, word, number, address, string}
 use Rattle.token_reader.specs.Repeats.{SomeEnds}
 use Rattle.plain_parser.specs.Grammar.{IsForwardPriority, SpellsHead, SpellsPolicy, SpellsRules, SpellsChain, SpellsChains, SpellsTable, SpellsTables, SpellsRuleset}
-use Rattle.token_reader.specs.Reading.{after_word, after_mark, after_ends, word_at, skip_ends}
+use Rattle.token_reader.specs.steps.Reading.{after_word, after_mark, after_ends, word_at, skip_ends}
 use Rattle.plain_parser.specs.Reading.{after_zero, policy_rows, after_priority, after_head, decision_at, policy_at, policy_if_at, rules_at, chain_at, chains_at, table_at, tables_at, ruleset_at}
-use Rattle.token_reader.specs.Laws.{Always, option_cases, IfSome_at, IfSome_weaker, bind_found, else_found, Finds, FindsAll}
-use Rattle.token_reader.specs.TokenLaws.{when_found, word_after, mark_after, word_found, NoEnd, ends_found, ends_only, some_ends_found, some_ends_only, by_word_found}
+use Rattle.token_reader.specs.steps.Laws.{Always, option_cases, IfSome_at, IfSome_weaker, bind_found, else_found, Finds, FindsAll}
+use Rattle.token_reader.specs.steps.TokenLaws.{when_found, word_after, mark_after, word_found, NoEnd, ends_found, ends_only, some_ends_found, some_ends_only, by_word_found}
 use Rattle.plain_parser.proofs.RuleLaws.{NoPolicy, rules_found, rules_only, rules_front}
 
 -- ---- the head of a chain
@@ -209,8 +207,3 @@ ruleset_only tables ts s =
     let skipped : skip_ends ts ≡ s.0 = ends_only ts s.0 s.1 (tables_front tables s.0 s.2) in
     let all : tables_at s.0 ≡ (tables, []) = tables_only tables s.0 s.2 in
     rw (skipped, all) refl
-
--- a token's sign is that of its spelling
-pub signs_of_spelled : (ts : List Token) → signs_of (map spelled ts) ≡ signs ts
-signs_of_spelled [] = refl
-signs_of_spelled (t ∷ ts) = ap (λ (others : List Sign). sign_of t.kind t.text.now ∷ others) (signs_of_spelled ts)

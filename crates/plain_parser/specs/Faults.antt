@@ -6,8 +6,5 @@ use Rattle.plain_parser.specs.declared.fault.ParseError.TheVariants.{OtherForm, 
 
 -- a text that isn't cut into tokens spells no tree
 abbrev pub of_lexing : LexError → ParseError
-of_lexing (lexical.Byte line) = OtherForm
-of_lexing (lexical.OpenString line) = OtherForm
-of_lexing (lexical.Number line) = OtherForm
-of_lexing lexical.TooLong = OtherForm
+of_lexing (lexical.Refused fault) = OtherForm
 of_lexing lexical.Memory = Memory

@@ -10,7 +10,7 @@ use Rattle.plain_tree.specs.declared.Value.TheVariants.{Address}
 use Rattle.plain_tree.specs.Tree.{Statement, matching, verdict, RuleTree, ChainTree, TableTree}
 use Rattle.nft_lexer.specs.declared.token.Mark.TheVariants.{OpenBrace, CloseBrace}
 use Rattle.nft_lexer.specs.Sign.{Sign, number}
-use Rattle.token_reader.specs.Reading.{option_else, ◌>>=◌, all_at, with_front, by_word, after_word, after_mark, word_at, address_at, skip_ends, after_ends}
+use Rattle.token_reader.specs.steps.Reading.{option_else, ◌>>=◌, all_at, with_front, by_word, after_word, after_mark, word_at, address_at, skip_ends, after_ends}
 
 -- ---- rules
 

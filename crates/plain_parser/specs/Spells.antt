@@ -1,13 +1,9 @@
 -- What a text says as a ruleset of the plain forms.
-use Rattle.std.specs.Prelude.{ℕ, List, map}
-use Rattle.nft_lexer.specs.Sign.{Sign, Spelled}
+use Rattle.std.specs.Prelude.{ℕ, List}
+use Rattle.nft_lexer.specs.Sign.{Spelled, signs_of}
 use Rattle.nft_lexer.specs.Cut.{IsCut}
 use Rattle.plain_tree.specs.Tree.{TableTree}
 use Rattle.plain_parser.specs.Grammar.{SpellsRuleset}
-
--- the tokens as a grammar sees them
-abbrev pub signs_of : List Spelled → List Sign
-signs_of tokens = map (λ t. t.sign) tokens
 
 -- the text is cut into tokens, and these spell the tree
 abbrev pub Spells : List TableTree → List ℕ → Type 0

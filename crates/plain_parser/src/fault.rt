@@ -33,10 +33,7 @@ impl From<LexError> for ParseError {
 
     fn from(fault: LexError) -> ParseError {
         match fault {
-            LexError::Byte { .. }
-            | LexError::OpenString { .. }
-            | LexError::Number { .. }
-            | LexError::TooLong => ParseError::OtherForm,
+            LexError::Refused(_) => ParseError::OtherForm,
             LexError::Memory => ParseError::Memory,
         }
     }

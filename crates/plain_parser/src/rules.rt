@@ -1,9 +1,9 @@
 //! Rules: matches, and the verdict that ends them.
 
-ghost use Rattle.std.specs.Prelude.{◌≡◌, IfOk, map};
+ghost use Rattle.std.specs.Prelude.{◌≡◌, IfOk, map, option_map};
 ghost use Rattle.plain_tree.specs.Tree.{matching, statement, rule_tree};
-ghost use Rattle.token_reader.specs.Places.{ahead, option_view};
-ghost use Rattle.token_reader.specs.Reading.{with_front, all_at};
+ghost use Rattle.token_reader.specs.Places.{ahead};
+ghost use Rattle.token_reader.specs.steps.Reading.{with_front, all_at};
 ghost use Rattle.plain_parser.specs.Reading.{selector_at, match_at, verdict_at, rule_at, next_rule_at, rules_at};
 
 use nft_lexer::Token;
@@ -14,7 +14,7 @@ use token_reader::{address, after_ends, after_word, skip_ends};
 /// "saddr" | "daddr"
 #[tactic(auto, unfolding(crate::specs::Reading::selector_at))]
 fn selector(tokens: &[Token], at: usize) -> Option<(Selector, usize)>
-    ensures { option_view (λ x. (x.0, ahead tokens.now x.1)) result ≡ selector_at (ahead tokens.now at) }
+    ensures { option_map (λ x. (x.0, ahead tokens.now x.1)) result ≡ selector_at (ahead tokens.now at) }
 {
     if let Some(at) = after_word(tokens, at, b"saddr") {
         return Some((Selector::SourceAddress, at));
@@ -26,7 +26,7 @@ fn selector(tokens: &[Token], at: usize) -> Option<(Selector, usize)>
 /// "ip" selector ADDR
 #[tactic(auto, unfolding(crate::specs::Reading::match_at))]
 fn address_match(tokens: &[Token], at: usize) -> Option<(Match, usize)>
-    ensures { option_view (λ x. (matching x.0.selector x.0.value, ahead tokens.now x.1)) result ≡ match_at (ahead tokens.now at) }
+    ensures { option_map (λ x. (matching x.0.selector x.0.value, ahead tokens.now x.1)) result ≡ match_at (ahead tokens.now at) }
 {
     let at = after_word(tokens, at, b"ip")?;
     let (selector, at) = selector(tokens, at)?;
@@ -54,7 +54,7 @@ fn matches(alloc: Global, tokens: &[Token], at: usize) -> Result<(Vec<Stmt>, usi
 /// "accept" | "drop"
 #[tactic(auto, unfolding(crate::specs::Reading::verdict_at))]
 fn verdict(tokens: &[Token], at: usize) -> Option<(Verdict, usize)>
-    ensures { option_view (λ x. (x.0, ahead tokens.now x.1)) result ≡ verdict_at (ahead tokens.now at) }
+    ensures { option_map (λ x. (x.0, ahead tokens.now x.1)) result ≡ verdict_at (ahead tokens.now at) }
 {
     if let Some(at) = after_word(tokens, at, b"accept") {
         return Some((Verdict::Accept, at));
@@ -66,7 +66,7 @@ fn verdict(tokens: &[Token], at: usize) -> Option<(Verdict, usize)>
 /// {match} verdict
 #[tactic(auto, unfolding(crate::specs::Reading::rule_at))]
 fn rule(alloc: Global, tokens: &[Token], at: usize) -> Result<Option<(Rule, usize)>, AllocError>
-    ensures { IfOk result (λ o. option_view (λ x. (rule_tree x.0, ahead tokens.now x.1)) o ≡ rule_at (ahead tokens.now at)) }
+    ensures { IfOk result (λ o. option_map (λ x. (rule_tree x.0, ahead tokens.now x.1)) o ≡ rule_at (ahead tokens.now at)) }
 {
     let (mut statements, at) = matches(alloc, tokens, at)?;
     let Some((last, at)) = verdict(tokens, at) else {
@@ -83,7 +83,7 @@ fn next_rule(
     tokens: &[Token],
     at: usize,
 ) -> Result<Option<(Rule, usize)>, AllocError>
-    ensures { IfOk result (λ o. option_view (λ x. (rule_tree x.0, ahead tokens.now x.1)) o ≡ next_rule_at (ahead tokens.now at)) }
+    ensures { IfOk result (λ o. option_map (λ x. (rule_tree x.0, ahead tokens.now x.1)) o ≡ next_rule_at (ahead tokens.now at)) }
 {
     let Some(at) = after_ends(tokens, at) else {
         return Ok(None);

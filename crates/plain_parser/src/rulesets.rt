@@ -1,9 +1,9 @@
 //! Chains, tables and rulesets.
 
-ghost use Rattle.std.specs.Prelude.{◌≡◌, List, IfOk, IfSome, IsSomeAnd, map};
+ghost use Rattle.std.specs.Prelude.{◌≡◌, List, IfOk, IfSome, IsSomeAnd, map, option_map};
 ghost use Rattle.plain_tree.specs.Tree.{TableTree, chain_tree, table_tree, tables_of};
 ghost use Rattle.nft_lexer.specs.Sign.{signs};
-ghost use Rattle.token_reader.specs.Places.{ahead, option_view};
+ghost use Rattle.token_reader.specs.Places.{ahead};
 ghost use Rattle.plain_parser.specs.Grammar.{SpellsRuleset};
 ghost use Rattle.plain_parser.specs.Reading.{after_zero, after_priority, after_head, decision_at, policy_at, policy_if_at, chain_at, chains_at, table_at, tables_at, ruleset_at};
 
@@ -15,7 +15,7 @@ use token_reader::{after_ends, after_mark, after_word, skip_ends, word};
 
 /// The place after the number 0, where it stands here.
 fn after_zero(tokens: &[Token], at: usize) -> Option<usize>
-    ensures { option_view (ahead tokens.now) result ≡ after_zero (ahead tokens.now at) }
+    ensures { option_map (ahead tokens.now) result ≡ after_zero (ahead tokens.now at) }
 {
     match tokens.get(at)?.kind {
         Kind::Number(0) => Some(at + 1),
@@ -26,7 +26,7 @@ fn after_zero(tokens: &[Token], at: usize) -> Option<usize>
 /// "filter" | "0"
 #[tactic(auto, unfolding(crate::specs::Reading::after_priority))]
 fn after_priority(tokens: &[Token], at: usize) -> Option<usize>
-    ensures { option_view (ahead tokens.now) result ≡ after_priority (ahead tokens.now at) }
+    ensures { option_map (ahead tokens.now) result ≡ after_priority (ahead tokens.now at) }
 {
     if let Some(at) = after_word(tokens, at, b"filter") {
         return Some(at);
@@ -37,7 +37,7 @@ fn after_priority(tokens: &[Token], at: usize) -> Option<usize>
 /// "type" "filter" "hook" "forward" "priority" ("filter" | "0") end {end}
 #[tactic(auto, unfolding(crate::specs::Reading::after_head))]
 fn after_head(tokens: &[Token], at: usize) -> Option<usize>
-    ensures { option_view (ahead tokens.now) result ≡ after_head (ahead tokens.now at) }
+    ensures { option_map (ahead tokens.now) result ≡ after_head (ahead tokens.now at) }
 {
     let at = after_word(tokens, at, b"type")?;
     let at = after_word(tokens, at, b"filter")?;
@@ -51,7 +51,7 @@ fn after_head(tokens: &[Token], at: usize) -> Option<usize>
 /// "accept" | "drop"
 #[tactic(auto, unfolding(crate::specs::Reading::decision_at))]
 fn decision(tokens: &[Token], at: usize) -> Option<(Policy, usize)>
-    ensures { option_view (λ x. (x.0, ahead tokens.now x.1)) result ≡ decision_at (ahead tokens.now at) }
+    ensures { option_map (λ x. (x.0, ahead tokens.now x.1)) result ≡ decision_at (ahead tokens.now at) }
 {
     if let Some(at) = after_word(tokens, at, b"accept") {
         return Some((Policy::Accept, at));
@@ -63,7 +63,7 @@ fn decision(tokens: &[Token], at: usize) -> Option<(Policy, usize)>
 /// "policy" ("accept" | "drop") end {end}
 #[tactic(auto, unfolding(crate::specs::Reading::policy_at))]
 fn policy(tokens: &[Token], at: usize) -> Option<(Policy, usize)>
-    ensures { option_view (λ x. (x.0, ahead tokens.now x.1)) result ≡ policy_at (ahead tokens.now at) }
+    ensures { option_map (λ x. (x.0, ahead tokens.now x.1)) result ≡ policy_at (ahead tokens.now at) }
 {
     let at = after_word(tokens, at, b"policy")?;
     let (policy, at) = decision(tokens, at)?;
@@ -85,7 +85,7 @@ fn policy_if(tokens: &[Token], at: usize) -> (Option<Policy>, usize)
 /// "chain" NAME "{" {end} head policy rules "}"
 #[tactic(auto, unfolding(crate::specs::Reading::chain_at))]
 fn chain(alloc: Global, tokens: &[Token], at: usize) -> Result<Option<(Chain, usize)>, AllocError>
-    ensures { IfOk result (λ o. option_view (λ x. (chain_tree x.0, ahead tokens.now x.1)) o ≡ chain_at (ahead tokens.now at)) }
+    ensures { IfOk result (λ o. option_map (λ x. (chain_tree x.0, ahead tokens.now x.1)) o ≡ chain_at (ahead tokens.now at)) }
 {
     let Some(at) = after_word(tokens, at, b"chain") else {
         return Ok(None);
@@ -129,7 +129,7 @@ fn chains(alloc: Global, tokens: &[Token], at: usize) -> Result<(Vec<Chain>, usi
 /// "table" "ip" NAME "{" {end} [chain {end}] "}"
 #[tactic(auto, unfolding(crate::specs::Reading::table_at))]
 fn table(alloc: Global, tokens: &[Token], at: usize) -> Result<Option<(Table, usize)>, AllocError>
-    ensures { IfOk result (λ o. option_view (λ x. (table_tree x.0, ahead tokens.now x.1)) o ≡ table_at (ahead tokens.now at)) }
+    ensures { IfOk result (λ o. option_map (λ x. (table_tree x.0, ahead tokens.now x.1)) o ≡ table_at (ahead tokens.now at)) }
 {
     let Some(at) = after_word(tokens, at, b"table") else {
         return Ok(None);
@@ -167,7 +167,7 @@ fn tables(alloc: Global, tokens: &[Token], at: usize) -> Result<(Vec<Table>, usi
 /// {end} [table {end}], all of the tokens
 #[tactic(auto, unfolding(crate::specs::Reading::ruleset_at))]
 fn ruleset_here(alloc: Global, tokens: &[Token]) -> Result<Option<Ruleset>, AllocError>
-    ensures { IfOk result (λ o. option_view (λ r. tables_of r) o ≡ ruleset_at (signs tokens.now)) }
+    ensures { IfOk result (λ o. option_map (λ r. tables_of r) o ≡ ruleset_at (signs tokens.now)) }
 {
     let (tables, end) = tables(alloc, tokens, skip_ends(tokens, 0))?;
     if end < tokens.len() {

@@ -10,6 +10,8 @@ mod faults;
 #[cfg(test)]
 mod headers;
 #[cfg(test)]
+mod lexing;
+#[cfg(test)]
 mod parts;
 #[cfg(test)]
 mod programs;

@@ -1,6 +1,6 @@
 -- Single tokens in front, and runs of ends: what is read is what stands there.
 use Rattle.std.proofs.Common.{◌≡◌, ℕ, zero, suc, ◌<◌, ◌≤◌, Bool, true, false, ◌&&◌, ◌==◌, cond, List, [], ◌∷◌, length, Option, Some, None, ◌⊎◌, inl, inr, refl, sym, ap, subst, ◌∙◌, arith}
-use Rattle.std.proofs.lemmas.Bool.{eqb-true}
+use Rattle.std.proofs.lemmas.Bool.{and_parts, eqb-true}
 use Rattle.std.specs.Prelude.{IfSome, map}
 use Rattle.std.specs.Str.{bytes_eq}
 use Rattle.nft_lexer.specs.declared.token.Mark.{Mark}
@@ -12,16 +12,12 @@ use Rattle.token_reader.specs.Tokens.{place, after_word, after_mark, after_end, 
 use Rattle.token_reader.specs.steps.Reading.{by_word}
 use Rattle.token_reader.specs.steps.Laws.{some_is, map_found, else_found}
 
-both : (a b : Bool) → a && b ≡ true → (a ≡ true) × (b ≡ true)
-both true b e = (refl, e)
-both false b e = absurd cc
-
 pub bytes_eq-true : (v w : List ℕ) → bytes_eq v w ≡ true → v ≡ w
 bytes_eq-true [] [] e = refl
 bytes_eq-true [] (y ∷ ys) e = absurd cc
 bytes_eq-true (x ∷ xs) [] e = absurd cc
 bytes_eq-true (x ∷ xs) (y ∷ ys) e =
-    let p = both (x == y) (bytes_eq xs ys) e in
+    let p = and_parts (x == y) (bytes_eq xs ys) e in
     let head : x ≡ y = eqb-true _ _ p.0 in
     let tail : xs ≡ ys = bytes_eq-true xs ys p.1 in
     cc

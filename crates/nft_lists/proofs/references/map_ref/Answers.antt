@@ -1,4 +1,3 @@
-use Rattle.std.proofs.Common.{map}
 use Rattle.nft_tree.specs.Tree.{map_ref_tree}
 use Rattle.token_reader.specs.Places.{ahead}
 use Rattle.token_reader.specs.steps.Laws.{taking_found, taking_only}

@@ -1,8 +1,7 @@
 use Rattle.std.proofs.Common.{◌≡◌, ◌∙◌, List, sym, subst}
-use Rattle.nft_lexer.specs.Sign.{Spelled}
-use Rattle.token_reader.specs.Laws.{some_is}
+use Rattle.nft_lexer.specs.Sign.{Spelled, signs_of}
+use Rattle.token_reader.specs.steps.Laws.{some_is}
 use Rattle.plain_parser.specs.Grammar.{SpellsRuleset}
-use Rattle.plain_parser.specs.Spells.{signs_of}
 use Rattle.plain_parser.proofs.RulesetLaws.{ruleset_only}
 use Rattle.plain_parser.proofs.laws.one_tree.Goals as goal
 

@@ -4,7 +4,7 @@ use Rattle.plain_tree.specs.Tree.{statement}
 use Rattle.plain_tree.specs.declared.Stmt.TheVariants as stmts
 use Rattle.token_reader.specs.Places.{ahead}
 use Rattle.plain_parser.specs.Reading.{match_at}
-use Rattle.token_reader.specs.Laws.{goes_on, is_done}
+use Rattle.token_reader.specs.steps.Laws.{goes_on, is_done}
 use Rattle.plain_parser.proofs.RuleLaws.{match_shortens}
 use Rattle.plain_parser.proofs.rules.matches.Goals as goal
 

@@ -1,7 +1,7 @@
 use Rattle.std.proofs.Common.{◌≡◌, map, length}
 use Rattle.plain_tree.specs.Tree.{statement}
 use Rattle.token_reader.specs.Places.{ahead}
-use Rattle.token_reader.specs.Reading.{all_at, with_front}
+use Rattle.token_reader.specs.steps.Reading.{all_at, with_front}
 use Rattle.plain_parser.specs.Reading.{match_at}
 use Rattle.plain_parser.proofs.rules.matches.Given as goal
 

@@ -3,7 +3,7 @@ use Rattle.std.proofs.lemmas.List.{map_push}
 use Rattle.token_reader.specs.Places.{ahead}
 use Rattle.plain_tree.specs.Tree.{rule_tree}
 use Rattle.plain_parser.specs.Reading.{next_rule_at}
-use Rattle.token_reader.specs.Laws.{goes_on, is_done}
+use Rattle.token_reader.specs.steps.Laws.{goes_on, is_done}
 use Rattle.plain_parser.proofs.RuleLaws.{next_rule_shortens}
 use Rattle.plain_parser.proofs.rules.more_rules.Goals as goal
 

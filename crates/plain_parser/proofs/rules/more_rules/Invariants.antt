@@ -1,7 +1,7 @@
 use Rattle.std.proofs.Common.{◌≡◌, map, length}
 use Rattle.token_reader.specs.Places.{ahead}
 use Rattle.plain_tree.specs.Tree.{rule_tree}
-use Rattle.token_reader.specs.Reading.{all_at, with_front}
+use Rattle.token_reader.specs.steps.Reading.{all_at, with_front}
 use Rattle.plain_parser.specs.Reading.{next_rule_at}
 use Rattle.plain_parser.proofs.rules.more_rules.Given as goal
 

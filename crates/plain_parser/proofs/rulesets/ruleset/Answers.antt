@@ -3,7 +3,7 @@ use Rattle.plain_tree.specs.Tree.{tables_of}
 use Rattle.nft_lexer.specs.Sign.{signs}
 use Rattle.plain_parser.specs.Grammar.{SpellsRuleset}
 use Rattle.plain_parser.specs.Reading.{ruleset_at}
-use Rattle.token_reader.specs.Laws.{seen_found, seen_only}
+use Rattle.token_reader.specs.steps.Laws.{seen_found, seen_only}
 use Rattle.plain_parser.proofs.RulesetLaws.{ruleset_found, ruleset_only}
 use Rattle.plain_parser.proofs.rulesets.ruleset.Goals as goal
 
