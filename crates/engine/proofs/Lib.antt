@@ -1,13 +1,9 @@
-pub mod BoxReads
-pub mod BoxFinds
-pub mod LineLaws
-pub mod BoxLaws
-pub mod BestLaws
-pub mod Chains
-pub mod Parts
-pub mod Entries
-pub mod Replays
-pub mod Stops
-pub mod Texts
-pub mod Runs
-pub mod Refusals
+mod Writes
+mod Stories
+mod Replays
+mod Stops
+mod Texts
+mod Meanings
+mod Judging
+mod Refusing
+mod Answering

@@ -1,157 +1,242 @@
--- The two texts of a capture whose header is accepted, from the replay of its records.
-use Rattle.std.proofs.Common.{◌≡◌, ℕ, ◌+◌, suc, false, Bool, List, [], ◌∷◌, map, length, Option, Some, None, IfSome, refl, ap, ◌∙◌, arith, length-append, max}
+-- The two texts of a capture whose header is accepted, from what was written one after another.
+use Rattle.std.proofs.Common.{◌≡◌, ◌≢◌, ◌⊎◌, ℕ, Bool, true, false, List, [], ◌++◌, length, Option, Some, None, IfSome, Result, Ok, Err, IfErr, refl, sym, subst, ◌∙◌, arith, append-nil, inl, inr}
+use Rattle.std.specs.Prelude.{IsErrOf}
 use Rattle.std.specs.Io.KnownBytes.{Appends, Keeps}
-use Rattle.std.proofs.KnownBytes.{Appends-trans, Appends-kept}
-use Rattle.std.proofs.lemmas.List.{length-map}
-use Rattle.plain_tree.specs.Tree.{TableTree}
+use Rattle.pcap_io.specs.declared.format.Format.{Format}
+use Rattle.pcap_io.specs.declared.fault.CaptureFault.{CaptureFault}
 use Rattle.pcap_io.specs.declared.fault.CaptureFault.TheVariants as captures
-use Rattle.pcap_io.specs.Pcap.{Captured, Recorded, Ending, Malformed, Over, own_moment, told, told_after}
+use Rattle.pcap_io.specs.Pcap.{Ending, Malformed, Over, Torn, Whole}
 use Rattle.pcap_io.specs.Sll2.{sll2_header}
-use Rattle.pcap_io.specs.Counting.{AppendsPart}
+use Rattle.pcap_io.specs.Counting.{AppendsPart, one_more}
+use Rattle.pcap_io.specs.Waiting.{Gets}
+use Rattle.nft_tree.specs.Tree.{TableTree}
+use Rattle.story.specs.Story.{Entry, capture_text}
+use Rattle.report.specs.Report.{Numbers, Counts, closing_lines}
+use Rattle.stepping.specs.Next.{Setup}
 use Rattle.engine.specs.declared.fault.RunFault.{RunFault}
 use Rattle.engine.specs.declared.fault.RunFault.TheVariants.{Rules, Box, Capture, Device, Memory}
-use Rattle.engine.specs.declared.outcome.Outcome.{Outcome}
-use Rattle.engine.specs.Box.{PlantTree}
-use Rattle.engine.specs.Story.{Entry, next, story_of, story_after, in_order}
-use Rattle.engine.specs.Report.{text_for, report_text}
-use Rattle.engine.specs.Stands.{Shown, Stands}
 use Rattle.engine.specs.Meaning.{ending_of}
-use Rattle.engine.specs.Replayed.{Replayed, Stopped, SaysWithin, sent_records}
-use Rattle.engine.specs.Written.{Told, Held, Halted, SaysHeld}
-use Rattle.engine.proofs.Parts.{part_first, part_after, part_none, part_whole, part_kept, part_same, appends_same}
+use Rattle.engine.specs.Refusals.{fault_at}
+use Rattle.engine.specs.Left.{Outputs}
+use Rattle.engine.specs.steps.Replayed.{Interrupted, IsStop, Replayed, ending_at, sent_records}
+use Rattle.engine.specs.steps.Written.{Halted, Held, IsWithin, SaysWithin, Told, Untold, torn_at}
+use Rattle.engine.proofs.Stories.{story_length}
+use Rattle.engine.proofs.Writes.{part_same, part_whole, gets_all, gets_more, gets_part, gets_some}
 
--- ---- one entry a record
+abbrev outputs : Option (List ℕ) → Option (List ℕ) → ℕ → Outputs
+outputs sent report failures = record { sent = sent; report = report; failures = failures }
 
-length_told_after : (latest : ℕ) (records : List Captured) → length (told_after latest records) ≡ length records
-length_told_after latest [] = refl
-length_told_after latest (r ∷ rs) = ap suc (length_told_after (max latest (own_moment r)) rs)
+-- ---- the header
 
-length_story_after : (plant : PlantTree) (tables : List TableTree) (story : List Entry) (rs : List Recorded) → length (story_after plant tables story rs) ≡ length story + length rs
-length_story_after plant tables story [] = omega arith
-length_story_after plant tables story (r ∷ rs) = omega (arith, length_story_after plant tables (next plant tables story r ∷ story) rs)
-
-length_in_order : (story : List Entry) → length (in_order story) ≡ length story
-length_in_order [] = refl
-length_in_order (e ∷ story) = omega (arith, length_in_order story, length-append (in_order story) (e ∷ []))
-
-abbrev outcome_of : Entry → Outcome
-outcome_of e = e.outcome
-
-count_of : (plant : PlantTree) (tables : List TableTree) (records : List Captured) (outcomes : List Outcome) (count : ℕ) → outcomes ≡ map (λ e. e.outcome) (in_order (story_of plant tables (told records)))
-    → count ≡ length outcomes → count ≡ length records
-count_of plant tables records outcomes count stands is =
-    is ∙ ap length stands ∙ length-map (in_order (story_of plant tables (told records))) outcome_of ∙ length_in_order (story_of plant tables (told records))
-    ∙ omega (arith, length_story_after plant tables [] (told records), length_told_after 0 records)
-
-text_of_story : (engine : Shown) (story : List Entry) (torn : Bool) → Stands engine story → text_for engine.outcomes torn ≡ report_text story torn
-text_of_story engine story torn s = ap (λ outcomes. text_for outcomes torn) s.outcomes
-
--- ---- the texts
-
-pub texts_told : (plant : PlantTree) (tables : List TableTree) (a w0 w1 w2 w3 r0 r1 r2 : Option (List ℕ)) (engine : Shown) (torn : Bool) (count : ℕ)
-    → Appends w0 w1 sll2_header → IfSome a (λ bytes. Replayed plant tables bytes (ending_of torn) engine w1 w2) → Appends r0 r1 (text_for engine.outcomes torn)
-    → Keeps w2 w3 → Keeps r1 r2 → count ≡ length engine.outcomes
-    → IfSome a (λ bytes. Told plant tables bytes count torn w0 w3 r0 r2)
-texts_told plant tables None w0 w1 w2 w3 r0 r1 r2 engine torn count head replay tells kept kept' is = tt
-texts_told plant tables (Some bytes) w0 w1 w2 w3 r0 r1 r2 engine torn count head replay tells kept kept' is =
-    let story : List Entry = story_of plant tables (told replay.records) in
+-- nothing but a beginning of the header was written
+pub halted_open : (setup : Setup) (format : Format) (a w0 w1 r0 r1 : Option (List ℕ)) (n m : ℕ) → AppendsPart w0 w1 sll2_header → Keeps r0 r1
+    → IfSome a (λ bytes. Halted setup format bytes (outputs w0 r0 n) (outputs w1 r1 m))
+halted_open setup format None w0 w1 r0 r1 n m part kept = tt
+halted_open setup format (Some bytes) w0 w1 r0 r1 n m part kept =
     record {
-      records = replay.records;
-      rest = replay.rest;
-      joined = replay.joined;
-      each = replay.each;
-      not_over = replay.not_over;
-      ends = replay.ends;
-      counted = count_of plant tables replay.records engine.outcomes count replay.stands.outcomes is;
-      appends = Appends-kept w0 w2 w3 _ (Appends-trans w0 w1 w2 sll2_header (sent_records story) head replay.appends) kept;
-      tells = Appends-kept r0 r1 r2 _ (appends_same r0 r1 _ _ tells (text_of_story engine story torn replay.stands)) kept';
+      records = [];
+      more = bytes;
+      joined = refl;
+      each = λ k d lt. absurd (omega (arith, lt));
+      not_over = omega arith;
+      story = [];
+      grows = refl;
+      sent = part_same w0 w1 sll2_header (sll2_header ++ []) part (sym (append-nil sll2_header));
+      report = kept;
     }
 
--- the writer of the capture stops within its header
-pub halted_open : (plant : PlantTree) (tables : List TableTree) (a w0 w1 r : Option (List ℕ)) → AppendsPart w0 w1 sll2_header → IfSome a (λ bytes. Halted plant tables bytes w0 w1 r r)
-halted_open plant tables None w0 w1 r part = tt
-halted_open plant tables (Some bytes) w0 w1 r part =
-    record { records = []; more = bytes; joined = refl; each = λ k d lt. absurd (omega (arith, lt)); not_over = omega arith; torn = false; appends = part_first w0 w1 sll2_header [] part; tells = part_none r _ }
+-- ---- the records
 
--- the replay stops
-pub halted_replay : (plant : PlantTree) (tables : List TableTree) (a w0 w1 w2 r : Option (List ℕ)) → Appends w0 w1 sll2_header → IfSome a (λ bytes. Stopped plant tables bytes w1 w2)
-    → IfSome a (λ bytes. Halted plant tables bytes w0 w2 r r)
-halted_replay plant tables None w0 w1 w2 r head replay = tt
-halted_replay plant tables (Some bytes) w0 w1 w2 r head replay =
+-- it stopped at or between records
+pub halted_replay : (setup : Setup) (format : Format) (a w0 w1 w2 r0 r1 : Option (List ℕ)) (waits : List ℕ) (n m : ℕ) → Gets [] w0 w1 waits sll2_header
+    → IfSome a (λ bytes. Interrupted setup format bytes waits w1 w2) → Keeps r0 r1 → IfSome a (λ bytes. Halted setup format bytes (outputs w0 r0 n) (outputs w2 r1 m))
+halted_replay setup format None w0 w1 w2 r0 r1 waits n m head i kept = tt
+halted_replay setup format (Some bytes) w0 w1 w2 r0 r1 waits n m head i kept =
     record {
-      records = replay.records;
-      more = replay.more;
-      joined = replay.joined;
-      each = replay.each;
-      not_over = replay.not_over;
-      torn = false;
-      appends = part_after w0 w1 w2 sll2_header (sent_records (story_of plant tables (told replay.records))) head replay.appends;
-      tells = part_none r _;
+      records = i.records;
+      more = i.more;
+      joined = i.joined;
+      each = i.each;
+      not_over = i.not_over;
+      story = i.story;
+      grows = i.grows;
+      sent = gets_part [] waits w0 w1 w2 sll2_header (sent_records i.story) head i.sent;
+      report = kept;
     }
 
--- the writer of the report stops within it
-pub halted_tell : (plant : PlantTree) (tables : List TableTree) (a w0 w1 w2 r0 r1 : Option (List ℕ)) (engine : Shown) (torn : Bool)
-    → Appends w0 w1 sll2_header → IfSome a (λ bytes. Replayed plant tables bytes (ending_of torn) engine w1 w2) → AppendsPart r0 r1 (text_for engine.outcomes torn)
-    → IfSome a (λ bytes. Halted plant tables bytes w0 w2 r0 r1)
-halted_tell plant tables None w0 w1 w2 r0 r1 engine torn head replay tells = tt
-halted_tell plant tables (Some bytes) w0 w1 w2 r0 r1 engine torn head replay tells =
-    let story : List Entry = story_of plant tables (told replay.records) in
+-- the last bytes weren't all written
+pub halted_finish : (setup : Setup) (format : Format) (ending : Ending) (a w0 w1 w2 w3 r0 r1 : Option (List ℕ)) (numbers : Numbers) (waits waits' : List ℕ) (n m : ℕ) → Gets [] w0 w1 waits sll2_header
+    → IfSome a (λ bytes. Replayed setup format bytes ending numbers waits w1 w2 waits') → AppendsPart w2 w3 waits' → Keeps r0 r1
+    → IfSome a (λ bytes. Halted setup format bytes (outputs w0 r0 n) (outputs w3 r1 m))
+halted_finish setup format ending None w0 w1 w2 w3 r0 r1 numbers waits waits' n m head i part kept = tt
+halted_finish setup format ending (Some bytes) w0 w1 w2 w3 r0 r1 numbers waits waits' n m head i part kept =
     record {
-      records = replay.records;
-      more = replay.rest;
-      joined = replay.joined;
-      each = replay.each;
-      not_over = replay.not_over;
+      records = i.records;
+      more = i.rest;
+      joined = i.joined;
+      each = i.each;
+      not_over = i.not_over;
+      story = i.story;
+      grows = i.grows;
+      sent = gets_some [] waits' w0 w2 w3 (sll2_header ++ sent_records i.story) (gets_more [] waits waits' w0 w1 w2 sll2_header (sent_records i.story) head i.gets) part;
+      report = kept;
+    }
+
+-- all of it is written
+all_sent : (w0 w1 w2 w3 : Option (List ℕ)) (waits waits' : List ℕ) (story : List Entry) → Gets [] w0 w1 waits sll2_header → Gets waits w1 w2 waits' (sent_records story) → Appends w2 w3 waits'
+    → Appends w0 w3 (capture_text story)
+all_sent w0 w1 w2 w3 waits waits' story head gets rest = gets_all [] waits' w0 w2 w3 (sll2_header ++ sent_records story) (gets_more [] waits waits' w0 w1 w2 sll2_header (sent_records story) head gets) rest
+
+-- ---- after them
+
+-- no room for the report
+pub halted_tell : (setup : Setup) (format : Format) (ending : Ending) (a w0 w1 w2 w3 r0 r1 : Option (List ℕ)) (numbers : Numbers) (waits waits' : List ℕ) (n m : ℕ) → Gets [] w0 w1 waits sll2_header
+    → IfSome a (λ bytes. Replayed setup format bytes ending numbers waits w1 w2 waits') → Appends w2 w3 waits' → Keeps r0 r1
+    → IfSome a (λ bytes. Halted setup format bytes (outputs w0 r0 n) (outputs w3 r1 m))
+halted_tell setup format ending a w0 w1 w2 w3 r0 r1 numbers waits waits' n m head i rest kept = halted_finish setup format ending a w0 w1 w2 w3 r0 r1 numbers waits waits' n m head i (part_whole w2 w3 waits' rest) kept
+
+-- a refused record
+held : (setup : Setup) (format : Format) (ending : Ending) (fault : CaptureFault) (a w0 w1 w2 w3 r0 r1 : Option (List ℕ)) (numbers : Numbers) (waits waits' : List ℕ) (n m : ℕ) → (fault_at ending ≡ Some fault)
+    → Gets [] w0 w1 waits sll2_header → IfSome a (λ bytes. Replayed setup format bytes ending numbers waits w1 w2 waits') → Appends w2 w3 waits' → Keeps r0 r1
+    → IfSome a (λ bytes. Held setup format bytes fault (outputs w0 r0 n) (outputs w3 r1 m))
+held setup format ending fault None w0 w1 w2 w3 r0 r1 numbers waits waits' n m is head i rest kept = tt
+held setup format ending fault (Some bytes) w0 w1 w2 w3 r0 r1 numbers waits waits' n m is head i rest kept =
+    record {
+      records = i.records;
+      rest = i.rest;
+      joined = i.joined;
+      each = i.each;
+      not_over = i.not_over;
+      ending = ending;
+      refused = is;
+      ends = i.ends;
+      story = i.story;
+      grows = i.grows;
+      sent = all_sent w0 w1 w2 w3 waits waits' i.story head i.gets rest;
+      report = kept;
+    }
+
+pub held_stop : (setup : Setup) (format : Format) (stop : Option CaptureFault) (a w0 w1 w2 w3 r0 r1 : Option (List ℕ)) (numbers : Numbers) (waits waits' : List ℕ) (n m : ℕ) → IsStop stop
+    → Gets [] w0 w1 waits sll2_header → IfSome a (λ bytes. Replayed setup format bytes (ending_at stop) numbers waits w1 w2 waits') → Appends w2 w3 waits' → Keeps r0 r1
+    → IfErr (torn_at stop) (λ fault. IfSome a (λ bytes. SaysWithin setup format bytes (outputs w0 r0 n) (outputs w3 r1 m) fault))
+held_stop setup format None a w0 w1 w2 w3 r0 r1 numbers waits waits' n m is head i rest kept = tt
+held_stop setup format (Some captures.TornEnd) a w0 w1 w2 w3 r0 r1 numbers waits waits' n m is head i rest kept = tt
+held_stop setup format (Some captures.Malformed) a w0 w1 w2 w3 r0 r1 numbers waits waits' n m is head i rest kept =
+    held setup format Malformed captures.Malformed a w0 w1 w2 w3 r0 r1 numbers waits waits' n m refl head i rest kept
+held_stop setup format (Some captures.TooMany) a w0 w1 w2 w3 r0 r1 numbers waits waits' n m is head i rest kept =
+    held setup format Over captures.TooMany a w0 w1 w2 w3 r0 r1 numbers waits waits' n m refl head i rest kept
+held_stop setup format (Some captures.Magic) a w0 w1 w2 w3 r0 r1 numbers waits waits' n m is head i rest kept = absurd is
+held_stop setup format (Some captures.Version) a w0 w1 w2 w3 r0 r1 numbers waits waits' n m is head i rest kept = absurd is
+held_stop setup format (Some captures.LinkType) a w0 w1 w2 w3 r0 r1 numbers waits waits' n m is head i rest kept = absurd is
+
+pub within_stop : (stop : Option CaptureFault) → IsStop stop → IfErr (torn_at stop) IsWithin
+within_stop None is = tt
+within_stop (Some captures.TornEnd) is = tt
+within_stop (Some captures.Malformed) is = tt
+within_stop (Some captures.TooMany) is = tt
+within_stop (Some captures.Magic) is = absurd is
+within_stop (Some captures.Version) is = absurd is
+within_stop (Some captures.LinkType) is = absurd is
+
+pub not_device : (stop : Option CaptureFault) (P : Type 0) → torn_at stop ≡ Err Device → P
+not_device None P e = cc
+not_device (Some captures.TornEnd) P e = cc
+not_device (Some captures.Malformed) P e = cc
+not_device (Some captures.TooMany) P e = cc
+not_device (Some captures.Magic) P e = cc
+not_device (Some captures.Version) P e = cc
+not_device (Some captures.LinkType) P e = cc
+
+-- the end is torn or not as the records stop
+pub ending_torn : (stop : Option CaptureFault) (torn : Bool) → torn_at stop ≡ Ok torn → ending_at stop ≡ ending_of torn
+ending_torn None true e = cc
+ending_torn None false e = refl
+ending_torn (Some captures.TornEnd) true e = refl
+ending_torn (Some captures.TornEnd) false e = cc
+ending_torn (Some captures.Malformed) torn e = cc
+ending_torn (Some captures.TooMany) torn e = cc
+ending_torn (Some captures.Magic) torn e = cc
+ending_torn (Some captures.Version) torn e = cc
+ending_torn (Some captures.LinkType) torn e = cc
+
+-- a call of the report's writer failed
+pub untold : (setup : Setup) (format : Format) (stop : Option CaptureFault) (torn : Bool) (a w0 w1 w2 w3 r0 r1 : Option (List ℕ)) (numbers : Numbers) (waits waits' : List ℕ) (n m : ℕ) → torn_at stop ≡ Ok torn
+    → Gets [] w0 w1 waits sll2_header → IfSome a (λ bytes. Replayed setup format bytes (ending_at stop) numbers waits w1 w2 waits') → Appends w2 w3 waits'
+    → ((rules : List TableTree) (story : List Entry) → Counts numbers story → AppendsPart r0 r1 (closing_lines rules story torn)) → m ≡ one_more n
+    → IfSome a (λ bytes. Untold setup format bytes (outputs w0 r0 n) (outputs w3 r1 m))
+untold setup format stop torn None w0 w1 w2 w3 r0 r1 numbers waits waits' n m is head i rest part failed = tt
+untold setup format stop torn (Some bytes) w0 w1 w2 w3 r0 r1 numbers waits waits' n m is head i rest part failed =
+    let j : Replayed setup format bytes (ending_of torn) numbers waits w1 w2 waits' = subst (λ (x : Ending). Replayed setup format bytes x numbers waits w1 w2 waits') (ending_torn stop torn is) i in
+    record {
+      records = j.records;
+      rest = j.rest;
+      joined = j.joined;
+      each = j.each;
+      not_over = j.not_over;
       torn = torn;
-      appends = part_whole w0 w2 _ (Appends-trans w0 w1 w2 sll2_header (sent_records story) head replay.appends);
-      tells = part_same r0 r1 _ _ tells (text_of_story engine story torn replay.stands);
+      ends = j.ends;
+      story = j.story;
+      grows = j.grows;
+      sent = all_sent w0 w1 w2 w3 waits waits' j.story head j.gets rest;
+      report = part setup.rules j.story j.counts;
+      failed = failed;
     }
 
--- a flush fails
-pub halted_flush : (plant : PlantTree) (tables : List TableTree) (a w0 w1 w2 w3 r0 r1 r2 : Option (List ℕ)) (engine : Shown) (torn : Bool)
-    → Appends w0 w1 sll2_header → IfSome a (λ bytes. Replayed plant tables bytes (ending_of torn) engine w1 w2) → Appends r0 r1 (text_for engine.outcomes torn)
-    → Keeps w2 w3 → Keeps r1 r2
-    → IfSome a (λ bytes. Halted plant tables bytes w0 w3 r0 r2)
-halted_flush plant tables None w0 w1 w2 w3 r0 r1 r2 engine torn head replay tells kept kept' = tt
-halted_flush plant tables (Some bytes) w0 w1 w2 w3 r0 r1 r2 engine torn head replay tells kept kept' =
-    let h = halted_tell plant tables (Some bytes) w0 w1 w2 r0 r1 engine torn head replay (part_whole r0 r1 _ tells) in
+-- all is done
+pub told_all : (setup : Setup) (format : Format) (stop : Option CaptureFault) (torn : Bool) (count : ℕ) (a w0 w1 w2 w3 r0 r1 : Option (List ℕ)) (numbers : Numbers) (waits waits' : List ℕ) → torn_at stop ≡ Ok torn
+    → Gets [] w0 w1 waits sll2_header → IfSome a (λ bytes. Replayed setup format bytes (ending_at stop) numbers waits w1 w2 waits') → Appends w2 w3 waits'
+    → ((rules : List TableTree) (story : List Entry) → Counts numbers story → Appends r0 r1 (closing_lines rules story torn)) → count ≡ numbers.records
+    → IfSome a (λ bytes. Told setup format bytes count torn w0 w3 r0 r1)
+told_all setup format stop torn count None w0 w1 w2 w3 r0 r1 numbers waits waits' is head i rest tells counted = tt
+told_all setup format stop torn count (Some bytes) w0 w1 w2 w3 r0 r1 numbers waits waits' is head i rest tells counted =
+    let j : Replayed setup format bytes (ending_of torn) numbers waits w1 w2 waits' = subst (λ (x : Ending). Replayed setup format bytes x numbers waits w1 w2 waits') (ending_torn stop torn is) i in
     record {
-      records = h.records;
-      more = h.more;
-      joined = h.joined;
-      each = h.each;
-      not_over = h.not_over;
-      torn = h.torn;
-      appends = part_kept w0 w2 w3 _ h.appends kept;
-      tells = part_kept r0 r1 r2 _ h.tells kept';
+      records = j.records;
+      rest = j.rest;
+      joined = j.joined;
+      each = j.each;
+      not_over = j.not_over;
+      ends = j.ends;
+      counted = counted ∙ j.counts.records ∙ story_length setup format j.records j.story j.grows;
+      story = j.story;
+      grows = j.grows;
+      appends = all_sent w0 w1 w2 w3 waits waits' j.story head j.gets rest;
+      tells = tells setup.rules j.story j.counts;
     }
 
-held : (plant : PlantTree) (tables : List TableTree) (ending : Ending) (a w0 w1 w2 : Option (List ℕ)) (engine : Shown) → Appends w0 w1 sll2_header
-    → IfSome a (λ bytes. Replayed plant tables bytes ending engine w1 w2) → IfSome a (λ bytes. Held plant tables bytes ending w0 w2)
-held plant tables ending None w0 w1 w2 engine head replay = tt
-held plant tables ending (Some bytes) w0 w1 w2 engine head replay =
-    record {
-      records = replay.records;
-      rest = replay.rest;
-      joined = replay.joined;
-      each = replay.each;
-      not_over = replay.not_over;
-      ends = replay.ends;
-      appends = Appends-trans w0 w1 w2 sll2_header (sent_records (story_of plant tables (told replay.records))) head replay.appends;
-    }
+-- ---- by the fault
 
--- what a fault within the records says, with the header that was written before them
-pub held_replay : (plant : PlantTree) (tables : List TableTree) (fault : RunFault) (a w0 w1 w2 : Option (List ℕ)) (engine : Shown) → Appends w0 w1 sll2_header
-    → IfSome a (λ bytes. SaysWithin plant tables bytes engine w1 w2 fault) → IfSome a (λ bytes. SaysHeld plant tables bytes w0 w2 fault)
-held_replay plant tables (Capture captures.Malformed) a w0 w1 w2 engine head says = held plant tables Malformed a w0 w1 w2 engine head says
-held_replay plant tables (Capture captures.TooMany) a w0 w1 w2 engine head says = held plant tables Over a w0 w1 w2 engine head says
-held_replay plant tables (Capture captures.TornEnd) a w0 w1 w2 engine head says = says
-held_replay plant tables (Capture captures.Magic) a w0 w1 w2 engine head says = says
-held_replay plant tables (Capture captures.Version) a w0 w1 w2 engine head says = says
-held_replay plant tables (Capture captures.LinkType) a w0 w1 w2 engine head says = says
-held_replay plant tables (Capture captures.Device) a w0 w1 w2 engine head says = says
-held_replay plant tables (Capture captures.Memory) a w0 w1 w2 engine head says = says
-held_replay plant tables Device a w0 w1 w2 engine head says = says
-held_replay plant tables Memory a w0 w1 w2 engine head says = says
-held_replay plant tables (Rules fault) a w0 w1 w2 engine head says = says
-held_replay plant tables (Box fault) a w0 w1 w2 engine head says = says
+-- want of memory and device faults leave a beginning
+pub says_halted : {T : Type 0} (setup : Setup) (format : Format) (a : Option (List ℕ)) (old new : Outputs) (fault : RunFault) → IsErrOf {T = T} (Err fault) Device ⊎ IsErrOf {T = T} (Err fault) Memory
+    → IfSome a (λ bytes. Halted setup format bytes old new) → IfSome a (λ bytes. SaysWithin setup format bytes old new fault)
+says_halted setup format None old new fault is h = tt
+says_halted setup format (Some bytes) old new Device is h = inl h
+says_halted setup format (Some bytes) old new Memory is h = h
+says_halted setup format (Some bytes) old new (Rules fault) (inl e) h = cc
+says_halted setup format (Some bytes) old new (Rules fault) (inr e) h = cc
+says_halted setup format (Some bytes) old new (Box fault) (inl e) h = cc
+says_halted setup format (Some bytes) old new (Box fault) (inr e) h = cc
+says_halted setup format (Some bytes) old new (Capture fault) (inl e) h = cc
+says_halted setup format (Some bytes) old new (Capture fault) (inr e) h = cc
+
+pub device_halted : (setup : Setup) (format : Format) (a : Option (List ℕ)) (old new : Outputs) → IfSome a (λ bytes. Halted setup format bytes old new) → IfSome a (λ bytes. SaysWithin setup format bytes old new Device)
+device_halted setup format None old new h = tt
+device_halted setup format (Some bytes) old new h = inl h
+
+-- the report's writer failed, or there was no room for its lines
+pub says_told : {T : Type 0} (setup : Setup) (format : Format) (a : Option (List ℕ)) (old new : Outputs) (fault : RunFault) → IsErrOf {T = T} (Err fault) Device ⊎ IsErrOf {T = T} (Err fault) Memory
+    → (fault ≡ Device → IfSome a (λ bytes. Untold setup format bytes old new)) → (fault ≡ Memory → IfSome a (λ bytes. Halted setup format bytes old new))
+    → IfSome a (λ bytes. SaysWithin setup format bytes old new fault)
+says_told setup format None old new fault is u h = tt
+says_told setup format (Some bytes) old new Device is u h = inr (u refl)
+says_told setup format (Some bytes) old new Memory is u h = h refl
+says_told setup format (Some bytes) old new (Rules fault) (inl e) u h = cc
+says_told setup format (Some bytes) old new (Rules fault) (inr e) u h = cc
+says_told setup format (Some bytes) old new (Box fault) (inl e) u h = cc
+says_told setup format (Some bytes) old new (Box fault) (inr e) u h = cc
+says_told setup format (Some bytes) old new (Capture fault) (inl e) u h = cc
+says_told setup format (Some bytes) old new (Capture fault) (inr e) u h = cc
+
+-- the fault at which the records stop
+pub from_stop : (stop : Option CaptureFault) (fault : RunFault) (P : RunFault → Type 0) → torn_at stop ≡ Err fault → IfErr (torn_at stop) P → P fault
+from_stop stop fault P e h = let Q : Result Bool RunFault → Type 0 = λ r. IfErr r P in subst Q e h

@@ -1,14 +1,5 @@
-pub mod Box
-pub mod BoxReading
-pub mod Plant
-pub mod Best
-pub mod Rules
 pub mod WellFormed
-pub mod Sizes
-pub mod Story
-pub mod Report
-pub mod Stands
-pub mod Replayed
-pub mod Written
 pub mod Meaning
-pub mod Inputs
+pub mod Refusals
+pub mod Left
+pub mod steps

@@ -1,19 +1,28 @@
-//! What a tree costs.
-ghost use Rattle.std.specs.Prelude.{◌≡◌, ◌+◌, nat_lt, min};
-ghost use Rattle.plain_tree.specs.Tree.{chain_tree, table_tree, tables_of};
-ghost use Rattle.engine.specs.WellFormed.{MOST_COST, chain_cost, cost};
-ghost use Rattle.engine.specs.Sizes.{table_cost};
+//! What is wrong with a tree.
+ghost use Rattle.std.specs.Prelude.{◌≡◌, ◌+◌, ◌<◌, nat_lt, min, map, sum_by, true, false};
+ghost use Rattle.nft_tree.specs.Tree.{item_tree, rule_tree, tables_of};
+ghost use Rattle.engine.specs.WellFormed.{MOST_COST, cost, item_cost, rule_cost};
+ghost use Rattle.engine.specs.steps.Inputs.{Judges};
+ghost use Rattle.stepping.specs.Taken.{takes};
 
-use plain_tree::{Chain, Ruleset, Table};
+use crate::fault::CheckFault;
+use nft_tree::{Item, Rule, Ruleset};
+use rule_limits::too_large;
 
 /// A ruleset may cost as much as this.
 const MOST_COST: usize = 65_536;
 
-/// Whether the ruleset costs more than it may.
-pub(crate) fn costs_too_much(tree: &Ruleset) -> bool
-    ensures { result ≡ nat_lt MOST_COST (cost (tables_of tree.now)) }
+/// The least that is wrong with the ruleset, of which it is told whether runs take it.
+pub(crate) fn least_fault(tree: &Ruleset, is_taken: bool) -> Option<CheckFault>
+    ensures { is_taken ≡ takes (tables_of tree.now) → Judges (tables_of tree.now) result }
 {
-    ruleset_cost(tree) > MOST_COST
+    if is_taken && ruleset_cost(tree) > MOST_COST {
+        return Some(CheckFault::Cost);
+    }
+    if too_large(tree) {
+        return Some(CheckFault::TooLarge);
+    }
+    None
 }
 
 /// The sum over the tables. Sums stop at `usize::MAX`, which is far over the limit.
@@ -22,27 +31,36 @@ fn ruleset_cost(tree: &Ruleset) -> usize
 {
     let mut cost = 0usize;
     for table in &tree.tables {
-        cost = cost.saturating_add(table_cost(table));
+        cost = cost.saturating_add(items_cost(&table.items));
     }
     cost
 }
 
-fn table_cost(table: &Table) -> usize
-    ensures { result ≡ min (table_cost (table_tree table.now)) usize.MAX }
+fn items_cost(items: &[Item]) -> usize
+    ensures { result ≡ min (sum_by item_cost (map item_tree items.now)) usize.MAX }
 {
     let mut cost = 0usize;
-    for chain in &table.chains {
-        cost = cost.saturating_add(chain_cost(chain));
+    for item in items {
+        cost = cost.saturating_add(item_cost(item));
     }
     cost
+}
+
+fn item_cost(item: &Item) -> usize
+    ensures { result ≡ min (item_cost (item_tree item.now)) usize.MAX }
+{
+    match item {
+        Item::Chain(chain) if chain.head.is_some() => base_cost(&chain.rules),
+        _ => 0,
+    }
 }
 
 /// A base chain costs 1 more than its statements.
-fn chain_cost(chain: &Chain) -> usize
-    ensures { result ≡ min (1 + chain_cost (chain_tree chain.now)) usize.MAX }
+fn base_cost(rules: &[Rule]) -> usize
+    ensures { result ≡ min (1 + sum_by rule_cost (map rule_tree rules.now)) usize.MAX }
 {
     let mut cost = 1usize;
-    for rule in &chain.rules {
+    for rule in rules {
         cost = cost.saturating_add(rule.statements.len());
     }
     cost

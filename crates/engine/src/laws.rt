@@ -1,12 +1,14 @@
 //! Laws of the meaning, each as the contract of a function that does nothing: two texts and a
 //! capture have one meaning, or one refusal, and never both.
-ghost use Rattle.std.specs.Prelude.{◌≡◌, List, ℕ, Bool, Some};
+ghost use Rattle.std.specs.Prelude.{◌≡◌, ◌⊎◌, List, ℕ, Bool, Some};
 ghost use Rattle.engine.specs.declared.fault.RunFault.{RunFault};
-ghost use Rattle.engine.specs.Meaning.{IsRefusal, Meaning, Refuses};
+ghost use Rattle.engine.specs.Meaning.{Meaning};
+ghost use Rattle.engine.specs.Refusals.{IsRefusal, Refuses};
 
+use box_file::{one_box, some_box};
 use nft_parser::{one_fault, one_tree};
-use pcap_io::one_reading;
-use plain_parser::one_tree as one_plain_tree;
+use pcap_io::{one_reading, some_reading};
+use stepping::one_entry;
 
 /// Two texts and a capture mean at most one count of records, one kind of end, one capture and
 /// one report.
@@ -15,8 +17,10 @@ pub fn one_meaning()
         → Meaning rules box capture trace count torn sent report → Meaning rules box capture trace others sign other_sent other_report
         → (count ≡ others) × (torn ≡ sign) × (sent ≡ other_sent) × (report ≡ other_report) }
 {
-    one_plain_tree();
+    one_tree();
+    one_box();
     one_reading();
+    one_entry();
 }
 
 /// Two texts and a capture are refused for at most one fault.
@@ -26,7 +30,7 @@ pub fn one_refusal()
 {
     one_tree();
     one_fault();
-    one_plain_tree();
+    one_box();
     one_reading();
 }
 
@@ -37,6 +41,18 @@ pub fn no_meaning()
 {
     one_tree();
     one_fault();
-    one_plain_tree();
+    one_box();
     one_reading();
+}
+
+/// Two texts and a capture have a meaning, or a refusal.
+pub fn some_answer()
+    ensures { (rules box capture : List ℕ) (trace : Bool)
+        → ((count : ℕ) × (torn : Bool) × (sent : List ℕ) × (report : List ℕ) × Meaning rules box capture trace count torn sent report)
+        ⊎ ((fault : RunFault) × IsRefusal fault × Refuses rules box (Some capture) fault) }
+{
+    nft_parser::some_answer();
+    some_box();
+    some_reading();
+    one_entry();
 }

@@ -1,5 +1,5 @@
 use Rattle.std.proofs.Common.{◌≡◌, ◌^◌, ◌-◌, map, take, min}
-use Rattle.plain_tree.specs.Tree.{table_tree}
+use Rattle.nft_tree.specs.Tree.{table_tree}
 use Rattle.engine.specs.WellFormed.{cost}
 use Rattle.engine.proofs.check.ruleset_cost.Given as goal
 

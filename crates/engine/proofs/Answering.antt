@@ -1,0 +1,91 @@
+-- Two texts and a capture have a meaning, or a refusal.
+use Rattle.std.proofs.Common.{◌≡◌, ◌⊎◌, ◌<◌, ◌≤◌, ℕ, true, false, Bool, List, [], length, Option, Some, None, refl, inl, inr, arith}
+use Rattle.std.proofs.lemmas.Bool.{cases_lt}
+use Rattle.nft_tree.specs.Tree.{TableTree}
+use Rattle.nft_parser.specs.declared.fault.TextFault.{TextFault}
+use Rattle.nft_parser.specs.declared.fault.TextFault.TheVariants.{LeftOut}
+use Rattle.nft_parser.specs.Spells.{Spells, HasTextFault}
+use Rattle.rule_limits.specs.Limits.{too_large}
+use Rattle.box_file.specs.declared.fault.BoxFault.{BoxFault}
+use Rattle.box_file.specs.Box.{PlantTree, IsBox, HasBoxFault}
+use Rattle.pcap_io.specs.declared.fault.CaptureFault.{CaptureFault}
+use Rattle.pcap_io.specs.declared.fault.CaptureFault.TheVariants as captures
+use Rattle.pcap_io.specs.Pcap.{Captured, Pcap, Ending, Whole, Torn, Malformed, Over, header_fault, told}
+use Rattle.story.specs.Story.{capture_text}
+use Rattle.report.specs.Report.{report_text}
+use Rattle.stepping.specs.Taken.{takes}
+use Rattle.engine.specs.declared.fault.CheckFault.TheVariants as checks
+use Rattle.engine.specs.declared.fault.RulesFault.TheVariants.{Text, Check}
+use Rattle.engine.specs.declared.fault.RunFault.{RunFault}
+use Rattle.engine.specs.declared.fault.RunFault.TheVariants.{Rules, Box, Capture}
+use Rattle.engine.specs.WellFormed.{WellFormed, cost, MOST_COST}
+use Rattle.engine.specs.Meaning.{Accepted, Meaning, ending_of}
+use Rattle.engine.specs.Refusals.{IsRefusal, Refuses, Spelled}
+use Rattle.engine.proofs.Judging.{costly, large, sound}
+use Rattle.engine.proofs.Stories.{SomeEntry, some_story}
+
+-- what the readers of the texts and of the capture, and the rules, promise
+pub record Answers : Type 0 where
+  pub text : (text : List ℕ) → ((tables : List TableTree) × Spells tables text) ⊎ ((fault : TextFault) × HasTextFault text fault)
+  pub plant : (text : List ℕ) → ((p : PlantTree) × IsBox text p) ⊎ ((fault : BoxFault) × HasBoxFault text fault)
+  pub reading : (bytes : List ℕ) → ((fault : CaptureFault) × (header_fault bytes ≡ Some fault)) ⊎ ((records : List Captured) × (ending : Ending) × Pcap bytes records ending)
+  pub entry : SomeEntry
+
+abbrev pub Answer : List ℕ → List ℕ → List ℕ → Bool → Type 0
+Answer rules box capture trace =
+    ((count : ℕ) × (torn : Bool) × (sent : List ℕ) × (report : List ℕ) × Meaning rules box capture trace count torn sent report)
+    ⊎ ((fault : RunFault) × IsRefusal fault × Refuses rules box (Some capture) fault)
+
+meant : Answers → (rules box capture : List ℕ) (trace : Bool) (accepted : Accepted rules box) (records : List Captured) (torn : Bool) → Pcap capture records (ending_of torn) → Answer rules box capture trace
+meant answers rules box capture trace accepted records torn read =
+    let s = some_story answers.entry accepted.setup [] (told read.format records) in
+    inl (length records, torn, capture_text s.0, report_text accepted.setup.rules trace s.0 torn,
+    record { accepted = accepted; records = records; read = read; counted = refl; story = s.0; grows = s.1; captured = refl; reported = refl })
+
+-- by how the records stop
+stopped : Answers → (rules box capture : List ℕ) (trace : Bool) → Accepted rules box → (records : List Captured) (ending : Ending) → Pcap capture records ending → Answer rules box capture trace
+stopped answers rules box capture trace accepted records Whole read = meant answers rules box capture trace accepted records false read
+stopped answers rules box capture trace accepted records Torn read = meant answers rules box capture trace accepted records true read
+stopped answers rules box capture trace accepted records Malformed read = inr (Capture captures.Malformed, tt, (accepted, inr (records, Malformed, read, refl)))
+stopped answers rules box capture trace accepted records Over read = inr (Capture captures.TooMany, tt, (accepted, inr (records, Over, read, refl)))
+
+-- by the capture
+captured : Answers → (rules box capture : List ℕ) (trace : Bool) → Accepted rules box → Answer rules box capture trace
+captured answers rules box capture trace accepted = by_reading (answers.reading capture)
+  where
+    by_reading : ((fault : CaptureFault) × (header_fault capture ≡ Some fault)) ⊎ ((records : List Captured) × (ending : Ending) × Pcap capture records ending) → Answer rules box capture trace
+    by_reading (inl h) = inr (Capture h.0, tt, (accepted, inl h.1))
+    by_reading (inr r) = stopped answers rules box capture trace accepted r.0 r.1 r.2
+
+-- by the forms that the ruleset has, where nothing is wrong with it
+formed : Answers → (rules box capture : List ℕ) (trace : Bool) (texts : Spelled rules box) → WellFormed texts.tables texts.plant → (taken : Bool) → takes texts.tables ≡ taken → Answer rules box capture trace
+formed answers rules box capture trace texts well true is =
+    captured answers rules box capture trace (record { setup = record { rules = texts.tables; plant = texts.plant }; spelled = texts.spelled; read = texts.read; well_formed = well; taken = is })
+formed answers rules box capture trace texts well false is = inr (Rules (Text LeftOut), tt, inr (refl, texts, well, is))
+
+-- by what is wrong with it
+judged : Answers → (rules box capture : List ℕ) (trace : Bool) (texts : Spelled rules box) (taken : Bool) → takes texts.tables ≡ taken → (large_one : Bool) → too_large texts.tables ≡ large_one
+    → (cost texts.tables ≤ MOST_COST) ⊎ (MOST_COST < cost texts.tables) → Answer rules box capture trace
+judged answers rules box capture trace texts true is big big_is (inr over) = inr (Rules (Check checks.Cost), tt, (texts, costly texts.tables is over texts.plant))
+judged answers rules box capture trace texts true is true big_is (inl within) =
+    inr (Rules (Check checks.TooLarge), tt, (texts, large texts.tables (λ taken over. omega arith) big_is texts.plant))
+judged answers rules box capture trace texts true is false big_is (inl within) =
+    formed answers rules box capture trace texts (sound texts.tables (λ taken over. omega arith) big_is texts.plant) true is
+judged answers rules box capture trace texts false is true big_is cheap =
+    inr (Rules (Check checks.TooLarge), tt, (texts, large texts.tables (λ taken over. cc) big_is texts.plant))
+judged answers rules box capture trace texts false is false big_is cheap =
+    formed answers rules box capture trace texts (sound texts.tables (λ taken over. cc) big_is texts.plant) false is
+
+cheap_or_not : (n : ℕ) → (n ≤ MOST_COST) ⊎ (MOST_COST < n)
+cheap_or_not n = elim (cases_lt MOST_COST n) [ inl over ↦ inr over | inr within ↦ inl within ]
+
+-- by the texts
+pub answered : Answers → (rules box capture : List ℕ) (trace : Bool) → Answer rules box capture trace
+answered answers rules box capture trace = by_text (answers.text rules) (answers.plant box)
+  where
+    by_text : ((tables : List TableTree) × Spells tables rules) ⊎ ((fault : TextFault) × HasTextFault rules fault) → ((p : PlantTree) × IsBox box p) ⊎ ((fault : BoxFault) × HasBoxFault box fault) → Answer rules box capture trace
+    by_text (inr h) other = inr (Rules (Text h.0), tt, inl h.1)
+    by_text (inl s) (inr h) = inr (Box h.0, tt, (s.0, s.1, h.1))
+    by_text (inl s) (inl p) =
+        let texts : Spelled rules box = record { tables = s.0; spelled = s.1; plant = p.0; read = p.1 } in
+        judged answers rules box capture trace texts (takes s.0) refl (too_large s.0) refl (cheap_or_not (cost s.0))

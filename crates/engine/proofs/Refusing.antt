@@ -1,0 +1,153 @@
+-- Two texts and a capture are refused for one fault at most, and then they mean nothing.
+use Rattle.std.proofs.Common.{◌≡◌, ◌⊎◌, ◌≤◌, ℕ, true, false, Bool, List, Option, Some, None, Ok, Err, refl, sym, ap, subst, ◌∙◌, inl, inr, arith}
+use Rattle.std.specs.Result.{result_err}
+use Rattle.nft_tree.specs.Tree.{TableTree}
+use Rattle.nft_parser.specs.declared.fault.TextFault.{TextFault}
+use Rattle.nft_parser.specs.declared.fault.TextFault.TheVariants.{LeftOut}
+use Rattle.nft_parser.specs.Spells.{Spells, HasTextFault}
+use Rattle.box_file.specs.declared.fault.BoxFault.{BoxFault}
+use Rattle.box_file.specs.Box.{PlantTree, IsBox, HasBoxFault}
+use Rattle.pcap_io.specs.declared.fault.CaptureFault.{CaptureFault}
+use Rattle.pcap_io.specs.Pcap.{Captured, Pcap, Ending, header_fault}
+use Rattle.stepping.specs.Taken.{takes}
+use Rattle.engine.specs.declared.fault.CheckFault.{CheckFault}
+use Rattle.engine.specs.declared.fault.CheckFault.TheVariants as checks
+use Rattle.engine.specs.declared.fault.RulesFault.{RulesFault}
+use Rattle.engine.specs.declared.fault.RulesFault.TheVariants.{Text, Check}
+use Rattle.engine.specs.declared.fault.RunFault.{RunFault}
+use Rattle.engine.specs.declared.fault.RunFault.TheVariants.{Rules, Box, Capture, Device, Memory}
+use Rattle.engine.specs.WellFormed.{Least, WellFormed, number}
+use Rattle.engine.specs.Meaning.{Accepted, Meaning, ending_of}
+use Rattle.engine.specs.Refusals.{IsRefused, IsRefusedWithin, IsRefusal, Refuses, RefusesRules, Spelled, fault_at}
+use Rattle.engine.proofs.Meanings.{OneBox, OneReading, OneTree}
+
+-- what the readers of the texts and of the capture promise
+pub record Laws : Type 0 where
+  pub tree : OneTree
+  -- a text spells no ruleset where it has a fault
+  pub faultless : (text : List ℕ) (tables : List TableTree) (fault : TextFault) → Spells tables text → HasTextFault text fault → ⊥
+  -- of which it has at most one
+  pub one_fault : (text : List ℕ) (first second : TextFault) → HasTextFault text first → HasTextFault text second → first ≡ second
+  pub plant : OneBox
+  -- and alike for boxes
+  pub sound_box : (text : List ℕ) (p : PlantTree) (fault : BoxFault) → IsBox text p → HasBoxFault text fault → ⊥
+  pub one_box_fault : (text : List ℕ) (fault other : BoxFault) → HasBoxFault text fault → HasBoxFault text other → fault ≡ other
+  pub reading : OneReading
+
+-- ---- refusals of a capture
+
+-- a header with a fault has no records after it
+not_both : (capture : List ℕ) (fault : CaptureFault) (records : List Captured) (ending : Ending) → header_fault capture ≡ Some fault → Pcap capture records ending → ⊥
+not_both capture fault records ending h read = let e = sym h ∙ ap result_err read.accepted in cc
+
+one_of : Laws → (capture : List ℕ) (fault other : CaptureFault) → IsRefused capture fault → IsRefused capture other → fault ≡ other
+one_of laws capture fault other (inl h) (inl k) = let e = sym h ∙ k in cc
+one_of laws capture fault other (inl h) (inr k) = absurd (not_both capture fault k.0 k.1 h k.2)
+one_of laws capture fault other (inr h) (inl k) = absurd (not_both capture other h.0 h.1 k h.2)
+one_of laws capture fault other (inr h) (inr k) =
+    let same = laws.reading capture h.0 k.0 h.1 k.1 h.2 k.2 in
+    let e = sym h.3 ∙ ap fault_at same.1 ∙ k.3 in cc
+
+not_ending : (torn : Bool) (fault : CaptureFault) → fault_at (ending_of torn) ≡ Some fault → ⊥
+not_ending true fault e = cc
+not_ending false fault e = cc
+
+not_read : Laws → (capture : List ℕ) (fault : CaptureFault) (records : List Captured) (torn : Bool) → IsRefused capture fault → Pcap capture records (ending_of torn) → ⊥
+not_read laws capture fault records torn (inl h) read = not_both capture fault records (ending_of torn) h read
+not_read laws capture fault records torn (inr h) read =
+    not_ending torn fault (ap fault_at (sym (laws.reading capture h.0 records h.1 (ending_of torn) h.2 read).1) ∙ h.3)
+
+-- ---- refusals of the texts
+
+same_number : (a b : CheckFault) → number a ≤ number b → number b ≤ number a → a ≡ b
+same_number checks.Cost checks.Cost h k = refl
+same_number checks.TooLarge checks.TooLarge h k = refl
+same_number checks.Cost checks.TooLarge h k = absurd (omega (arith, h, k))
+same_number checks.TooLarge checks.Cost h k = absurd (omega (arith, h, k))
+
+-- the texts spell one ruleset and one box
+same_tables : Laws → (rules box : List ℕ) (a b : Spelled rules box) → a.tables ≡ b.tables
+same_tables laws rules box a b = laws.tree rules a.tables b.tables a.spelled b.spelled
+
+same_plant : Laws → (rules box : List ℕ) (a b : Spelled rules box) → a.plant ≡ b.plant
+same_plant laws rules box a b = laws.plant box a.plant b.plant a.read b.read
+
+-- texts that are accepted spell a ruleset and a box
+abbrev spelled_of : (rules box : List ℕ) → Accepted rules box → Spelled rules box
+spelled_of rules box a = record { tables = a.setup.rules; spelled = a.spelled; plant = a.setup.plant; read = a.read }
+
+moved : (P : List TableTree → PlantTree → Type 0) (s t : List TableTree) (p q : PlantTree) → s ≡ t → p ≡ q → P s p → P t q
+moved P s t p q e f h = subst (λ (x : PlantTree). P t x) f (subst (λ (x : List TableTree). P x p) e h)
+
+-- a ruleset that spells one has no fault of its text, and one in which nothing is wrong no other
+not_sound : Laws → (rules box : List ℕ) (fault : CheckFault) (a b : Spelled rules box) → Least fault a.tables a.plant → WellFormed b.tables b.plant → ⊥
+not_sound laws rules box fault a b least sound =
+    sound fault (moved (λ s p. Least fault s p) a.tables b.tables a.plant b.plant (same_tables laws rules box a b) (same_plant laws rules box a b) least).wrong
+
+one_rules : Laws → (rules box : List ℕ) (fault other : RulesFault) → RefusesRules rules box fault → RefusesRules rules box other → fault ≡ other
+one_rules laws rules box (Text f) (Text g) (inl h) (inl k) = ap Text (laws.one_fault rules f g h k)
+one_rules laws rules box (Text f) (Text g) (inl h) (inr k) = absurd (laws.faultless rules k.1.tables f k.1.spelled h)
+one_rules laws rules box (Text f) (Text g) (inr h) (inl k) = absurd (laws.faultless rules h.1.tables g h.1.spelled k)
+one_rules laws rules box (Text f) (Text g) (inr h) (inr k) = ap Text (h.0 ∙ sym k.0)
+one_rules laws rules box (Text f) (Check g) (inl h) k = absurd (laws.faultless rules k.0.tables f k.0.spelled h)
+one_rules laws rules box (Text f) (Check g) (inr h) k = absurd (not_sound laws rules box g k.0 h.1 k.1 h.2)
+one_rules laws rules box (Check f) (Text g) h (inl k) = absurd (laws.faultless rules h.0.tables g h.0.spelled k)
+one_rules laws rules box (Check f) (Text g) h (inr k) = absurd (not_sound laws rules box f h.0 k.1 h.1 k.2)
+one_rules laws rules box (Check f) (Check g) h k =
+    let least : Least g h.0.tables h.0.plant =
+    moved (λ s p. Least g s p) k.0.tables h.0.tables k.0.plant h.0.plant (same_tables laws rules box k.0 h.0) (same_plant laws rules box k.0 h.0) k.1 in
+    ap Check (same_number f g (h.1.least g least.wrong) (least.least f h.1.wrong))
+
+rules_or_box : Laws → (rules box : List ℕ) (fault : RulesFault) (of_box : BoxFault) (tables : List TableTree) → RefusesRules rules box fault → Spells tables rules → HasBoxFault box of_box → ⊥
+rules_or_box laws rules box (Text f) of_box tables (inl h) spelled k = laws.faultless rules tables f spelled h
+rules_or_box laws rules box (Text f) of_box tables (inr h) spelled k = laws.sound_box box h.1.plant of_box h.1.read k
+rules_or_box laws rules box (Check f) of_box tables h spelled k = laws.sound_box box h.0.plant of_box h.0.read k
+
+rules_or_accepted : Laws → (rules box : List ℕ) (fault : RulesFault) → RefusesRules rules box fault → Accepted rules box → ⊥
+rules_or_accepted laws rules box (Text f) (inl h) a = laws.faultless rules a.setup.rules f a.spelled h
+rules_or_accepted laws rules box (Text f) (inr h) a =
+    let e : true ≡ false = sym a.taken ∙ sym (ap takes (same_tables laws rules box h.1 (spelled_of rules box a))) ∙ h.3 in cc
+rules_or_accepted laws rules box (Check f) h a = not_sound laws rules box f h.0 (spelled_of rules box a) h.1 a.well_formed
+
+-- ---- the laws
+
+-- what is refused means nothing
+pub refused_means_nothing : Laws → (rules box capture : List ℕ) (fault : RunFault) (trace : Bool) (count : ℕ) (torn : Bool) (sent report : List ℕ)
+    → IsRefusal fault → Refuses rules box (Some capture) fault → Meaning rules box capture trace count torn sent report → ⊥
+refused_means_nothing laws rules box capture (Rules fault) trace count torn sent report is h m = rules_or_accepted laws rules box fault h m.accepted
+refused_means_nothing laws rules box capture (Box fault) trace count torn sent report is h m = laws.sound_box box m.accepted.setup.plant fault m.accepted.read h.2
+refused_means_nothing laws rules box capture (Capture fault) trace count torn sent report is h m = not_read laws capture fault m.records torn h.1 m.read
+refused_means_nothing laws rules box capture Device trace count torn sent report is h m = is
+refused_means_nothing laws rules box capture Memory trace count torn sent report is h m = is
+
+rules_only : Laws → (rules box capture : List ℕ) (fault : RulesFault) (other : RunFault) → RefusesRules rules box fault → IsRefusal other → Refuses rules box (Some capture) other → Rules fault ≡ other
+rules_only laws rules box capture fault (Rules other) h is k = ap Rules (one_rules laws rules box fault other h k)
+rules_only laws rules box capture fault (Box other) h is k = absurd (rules_or_box laws rules box fault other k.0 h k.1 k.2)
+rules_only laws rules box capture fault (Capture other) h is k = absurd (rules_or_accepted laws rules box fault h k.0)
+rules_only laws rules box capture fault Device h is k = absurd is
+rules_only laws rules box capture fault Memory h is k = absurd is
+
+box_only : Laws → (rules box capture : List ℕ) (fault : BoxFault) (other : RunFault) (tables : List TableTree) → Spells tables rules → HasBoxFault box fault → IsRefusal other → Refuses rules box (Some capture) other
+    → Box fault ≡ other
+box_only laws rules box capture fault (Rules other) tables spelled h is k = absurd (rules_or_box laws rules box other fault tables k spelled h)
+box_only laws rules box capture fault (Box other) tables spelled h is k = ap Box (laws.one_box_fault box fault other h k.2)
+box_only laws rules box capture fault (Capture other) tables spelled h is k = absurd (laws.sound_box box k.0.setup.plant fault k.0.read h)
+box_only laws rules box capture fault Device tables spelled h is k = absurd is
+box_only laws rules box capture fault Memory tables spelled h is k = absurd is
+
+capture_only : Laws → (rules box capture : List ℕ) (fault : CaptureFault) (other : RunFault) → Accepted rules box → IsRefused capture fault → IsRefusal other → Refuses rules box (Some capture) other
+    → Capture fault ≡ other
+capture_only laws rules box capture fault (Rules other) a h is k = absurd (rules_or_accepted laws rules box other k a)
+capture_only laws rules box capture fault (Box other) a h is k = absurd (laws.sound_box box a.setup.plant other a.read k.2)
+capture_only laws rules box capture fault (Capture other) a h is k = ap Capture (one_of laws capture fault other h k.1)
+capture_only laws rules box capture fault Device a h is k = absurd is
+capture_only laws rules box capture fault Memory a h is k = absurd is
+
+-- there is one refusal at most
+pub refused_for_one : Laws → (rules box capture : List ℕ) (fault other : RunFault) → IsRefusal fault → IsRefusal other
+    → Refuses rules box (Some capture) fault → Refuses rules box (Some capture) other → fault ≡ other
+refused_for_one laws rules box capture (Rules fault) other is is' h k = rules_only laws rules box capture fault other h is' k
+refused_for_one laws rules box capture (Box fault) other is is' h k = box_only laws rules box capture fault other h.0 h.1 h.2 is' k
+refused_for_one laws rules box capture (Capture fault) other is is' h k = capture_only laws rules box capture fault other h.0 h.1 is' k
+refused_for_one laws rules box capture Device other is is' h k = absurd is
+refused_for_one laws rules box capture Memory other is is' h k = absurd is

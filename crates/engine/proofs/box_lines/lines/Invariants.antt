@@ -1,9 +1,0 @@
-use Rattle.std.proofs.Common.{◌≡◌, map, length, ◌++◌}
-use Rattle.engine.specs.BoxReading.{option_view, lines_in, line_tree}
-use Rattle.engine.proofs.box_lines.lines.Given as goal
-
-abbrev pub invariant-loop-rest : goal.invariant-loop-rest
-invariant-loop-rest l = option_view (λ ls. map line_tree l.found.items ++ ls) (lines_in l.rest) ≡ lines_in l.text
-
-abbrev pub decreases-loop-rest : goal.decreases-loop-rest
-decreases-loop-rest l = length l.rest

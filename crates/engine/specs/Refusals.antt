@@ -1,0 +1,84 @@
+-- Why there is no meaning.
+use Rattle.std.specs.Prelude.{◌≡◌, ℕ, false, List, Option, Some, None, IfSome, ◌⊎◌}
+use Rattle.nft_tree.specs.Tree.{TableTree}
+use Rattle.nft_parser.specs.declared.fault.TextFault.{TextFault}
+use Rattle.nft_parser.specs.declared.fault.TextFault.TheVariants.{LeftOut}
+use Rattle.nft_parser.specs.Spells.{Spells, HasTextFault}
+use Rattle.box_file.specs.Box.{PlantTree, IsBox, HasBoxFault}
+use Rattle.pcap_io.specs.declared.fault.CaptureFault.{CaptureFault}
+use Rattle.pcap_io.specs.declared.fault.CaptureFault.TheVariants as captures
+use Rattle.pcap_io.specs.Pcap.{Captured, Pcap, Ending, Whole, Torn, Malformed, Over, header_fault}
+use Rattle.stepping.specs.Taken.{takes}
+use Rattle.engine.specs.declared.fault.RulesFault.{RulesFault}
+use Rattle.engine.specs.declared.fault.RulesFault.TheVariants.{Text, Check}
+use Rattle.engine.specs.declared.fault.RunFault.{RunFault}
+use Rattle.engine.specs.declared.fault.RunFault.TheVariants.{Rules, Box, Capture, Device, Memory}
+use Rattle.engine.specs.WellFormed.{Least, WellFormed}
+use Rattle.engine.specs.Meaning.{Accepted}
+
+-- the two texts spell this ruleset and this box
+pub record Spelled (rules box : List ℕ) : Type 0 where
+  pub tables : List TableTree
+  pub spelled : Spells tables rules
+  pub plant : PlantTree
+  pub read : IsBox box plant
+
+-- the ruleset is refused, where the box file is accepted if the fault isn't one of the text: for the fault of its text;
+-- for the least that is wrong with its tree; or as left out, where nothing is wrong with it and runs don't take a form of it yet
+abbrev pub RefusesRules : List ℕ → List ℕ → RulesFault → Type 0
+RefusesRules rules box (Text fault) =
+    HasTextFault rules fault
+    ⊎ ((fault ≡ LeftOut) × (texts : Spelled rules box) × WellFormed texts.tables texts.plant × (takes texts.tables ≡ false))
+RefusesRules rules box (Check fault) = (texts : Spelled rules box) × Least fault texts.tables texts.plant
+
+-- the fault of records that stop so; a torn end is none
+abbrev pub fault_at : Ending → Option CaptureFault
+fault_at Whole = None
+fault_at Torn = None
+fault_at Malformed = Some captures.Malformed
+fault_at Over = Some captures.TooMany
+
+-- a capture is refused within its records
+abbrev pub IsRefusedWithin : List ℕ → CaptureFault → Type 0
+IsRefusedWithin capture fault = (records : List Captured) × (ending : Ending) × Pcap capture records ending × (fault_at ending ≡ Some fault)
+
+-- a capture is refused at its header, or within its records
+abbrev pub IsRefused : List ℕ → CaptureFault → Type 0
+IsRefused capture fault = (header_fault capture ≡ Some fault) ⊎ IsRefusedWithin capture fault
+
+-- why there is no meaning: the rules' text, the box file, the tree, the capture, in this order
+abbrev pub Refuses : List ℕ → List ℕ → Option (List ℕ) → RunFault → Type 0
+Refuses rules box capture (Rules fault) = RefusesRules rules box fault
+Refuses rules box capture (Box fault) = (tables : List TableTree) × Spells tables rules × HasBoxFault box fault
+Refuses rules box capture (Capture fault) = Accepted rules box × IfSome capture (λ bytes. IsRefused bytes fault)
+Refuses rules box capture Device = Unit {0}
+Refuses rules box capture Memory = Unit {0}
+
+-- a fault that tells of the texts or of the capture, not of a device or of memory
+abbrev pub IsRefusal : RunFault → Type 0
+IsRefusal (Rules fault) = Unit {0}
+IsRefusal (Box fault) = Unit {0}
+IsRefusal (Capture fault) = Unit {0}
+IsRefusal Device = ⊥
+IsRefusal Memory = ⊥
+
+-- a fault of one of the two texts
+abbrev pub IsOfTexts : RunFault → Type 0
+IsOfTexts (Rules fault) = Unit {0}
+IsOfTexts (Box fault) = Unit {0}
+IsOfTexts (Capture fault) = ⊥
+IsOfTexts Device = ⊥
+IsOfTexts Memory = ⊥
+
+-- a fault that is told before the capture's header is accepted
+abbrev pub IsEarly : RunFault → Type 0
+IsEarly (Rules fault) = Unit {0}
+IsEarly (Box fault) = Unit {0}
+IsEarly (Capture captures.TornEnd) = Unit {0}
+IsEarly (Capture captures.Magic) = Unit {0}
+IsEarly (Capture captures.Version) = Unit {0}
+IsEarly (Capture captures.LinkType) = Unit {0}
+IsEarly (Capture captures.Malformed) = ⊥
+IsEarly (Capture captures.TooMany) = ⊥
+IsEarly Device = ⊥
+IsEarly Memory = ⊥

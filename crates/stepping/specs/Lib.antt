@@ -1,0 +1,5 @@
+pub mod Rules
+pub mod Taken
+pub mod Next
+pub mod Stands
+pub mod steps

@@ -1,0 +1,103 @@
+//! One record at a time.
+ghost use Rattle.std.specs.Prelude.{◌≡◌, ◌<◌, ◌+◌, [], ◌∷◌, List, IfOk, IfSome, OnErr, OnOk};
+ghost use Rattle.nft_tree.specs.Tree.{tables_of};
+ghost use Rattle.pcap_io.specs.Sll2.{IsSent, sent};
+ghost use Rattle.story.specs.Story.{Entry};
+ghost use Rattle.stepping.specs.Next.{Next};
+ghost use Rattle.stepping.specs.Stands.{Stands, lent, told_of};
+
+use crate::fate::{fate, way_of};
+use box_file::Plant;
+use nft_tree::Ruleset;
+use pcap_io::{Leaving, Record};
+use std::alloc::{AllocError, Global};
+use std::marker::Model;
+use story::Outcome;
+
+/// The greatest length of a packet.
+const MOST_PACKET_BYTES: usize = 65_535;
+
+/// A box with its rules, and what it has to know of the records so far.
+#[derive(Drop)]
+pub struct Engine {
+    rules: Ruleset,
+    plant: Plant,
+    records: u64,
+    latest: u64,
+    /// The interface that the last record's packet left by, if one left.
+    way: Option<u32>,
+    /// The packet that left.
+    packet: Vec<u8>,
+}
+
+impl Model for Engine {
+    ghost use Rattle.std.specs.Prelude.{◌≤◌, ◌<◌, length};
+    ghost use Rattle.nft_tree.specs.Tree.{tables_of};
+    ghost use Rattle.stepping.specs.Stands.{Shown, sends_in};
+
+    ghost Value = { Shown };
+
+    ghost view = { λ e. record { setup = record { rules = tables_of e.rules; plant = e.plant }; records = e.records; latest = e.latest; sends = sends_in e.way e.latest e.packet.items } };
+
+    ghost invariant = { λ e. (length e.packet.items ≤ 65535) × (e.latest < 4294967296000000000) };
+}
+
+impl Engine {
+    /// Before the first record. It takes no memory.
+    pub fn new(alloc: Global, rules: Ruleset, plant: Plant) -> Self
+        ensures setup { result.setup ≡ record { rules = tables_of rules; plant = plant } }
+        ensures none { Stands result [] }
+    {
+        Engine {
+            rules,
+            plant,
+            records: 0,
+            latest: 0,
+            way: None,
+            packet: Vec::new(alloc),
+        }
+    }
+
+    /// Takes a record, and tells how it ends. On `Err`, which comes only for want of memory, the
+    /// engine is as it was. A capture's moment has seconds of 32 bits.
+    pub fn step(&mut self, record: &Record) -> Result<Outcome, AllocError>
+        requires few { self.old.records < 4294967296 }
+        requires early { record.now.moment < 4294967296000000000 }
+        // Whatever story the engine stands for, it then stands for that story and the one entry that follows.
+        ensures stands { (story : List Entry) → Stands self.old story → IfOk result (λ outcome. (e : Entry) × Next self.old.setup story (told_of record.now) e × Stands self.new (e ∷ story) × (outcome ≡ e.outcome)) }
+        ensures setup { self.new.setup ≡ self.old.setup }
+        ensures records { OnOk result (self.new.records ≡ self.old.records + 1) }
+        ensures err { OnErr result (self.new ≡ self.old) }
+    {
+        // All growth first: after it nothing can fail.
+        let missing = MOST_PACKET_BYTES - self.packet.len();
+        self.packet.reserve(missing)?;
+        self.packet.clear();
+        let outcome = fate(&self.plant, &self.rules, record.bytes, &mut self.packet);
+        self.records += 1;
+        self.latest = self.latest.max(record.moment);
+        self.way = way_of(outcome);
+        Ok(outcome)
+    }
+
+    /// The packet that the last record sent on, with the moment and the interface; none where it
+    /// sent none, or before a record.
+    pub fn leaving(&self) -> Option<Leaving<'_>>
+        ensures sends { lent result ≡ self.now.sends }
+        ensures fits { IfSome result (λ leaving. IsSent (sent leaving)) }
+    {
+        let interface = self.way?;
+        Some(Leaving {
+            moment: self.latest,
+            interface,
+            packet: &self.packet,
+        })
+    }
+
+    /// How many records it took.
+    pub fn records(&self) -> u64
+        ensures { result ≡ self.now.records }
+    {
+        self.records
+    }
+}

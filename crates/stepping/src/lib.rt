@@ -1,0 +1,12 @@
+//! One record at a time: what a forwarding box with its rules makes of it.
+#![tactic(auto)]
+
+mod engine;
+mod fate;
+mod laws;
+mod rules;
+mod taken;
+
+pub use engine::Engine;
+pub use laws::one_entry;
+pub use taken::takes;
