@@ -9,7 +9,7 @@ use Rattle.nft_tree.specs.declared.chain.ChainKind.TheVariants as kinds
 use Rattle.nft_tree.specs.declared.chain.Priority.{Priority}
 use Rattle.nft_tree.specs.declared.chain.Priority.TheVariants as priorities
 use Rattle.nft_tree.specs.declared.chain.PriorityName.TheVariants as names
-use Rattle.nft_tree.specs.declared.chain.Sign.TheVariants as offsets
+use Rattle.nft_tree.specs.declared.chain.OffsetSign.TheVariants as offsets
 use Rattle.nft_tree.specs.declared.ruleset.Family.{Family}
 use Rattle.nft_tree.specs.declared.ruleset.Family.TheVariants as families
 use Rattle.nft_tree.specs.Tree as tree

@@ -1,13 +1,13 @@
 //! The forms that runs take so far.
 ghost use Rattle.std.specs.Prelude.{◌≡◌, map};
 ghost use Rattle.std.specs.List.{list_all};
-ghost use Rattle.nft_tree.specs.Tree.{chain_tree, head_tree, item_tree, match_tree, option_view, rule_tree, statement, table_tree, tables_of};
+ghost use Rattle.nft_tree.specs.Tree.{chain_tree, head_tree, item_tree, match_tree, option_map, rule_tree, statement, table_tree, tables_of};
 ghost use Rattle.stepping.specs.Taken.{takes, takes_chain, takes_head, takes_item, takes_match, takes_priority, takes_rule, takes_statements, takes_table};
 
 use crate::rules::is_forward;
 use nft_tree::{
     Chain, ChainKind, Family, Head, Item, Match, Operator, Priority, PriorityName, Range, Rule,
-    Ruleset, Selector, Sign, Stmt, Table, Value, Verdict,
+    Ruleset, Selector, OffsetSign, Stmt, Table, Value, Verdict,
 };
 
 /// Whether runs take the ruleset: its tables are of ip, with base chains of the forward hook at
@@ -47,7 +47,7 @@ fn takes_chain(chain: &Chain) -> bool
 
 /// `type filter hook forward priority filter`, without notes.
 fn takes_head(head: &Option<Head>) -> bool
-    ensures { result ≡ takes_head (option_view head_tree head.now) }
+    ensures { result ≡ takes_head (option_map head_tree head.now) }
 {
     match head {
         Some(head) => {
@@ -66,7 +66,7 @@ fn takes_priority(priority: Priority) -> bool
 {
     match priority {
         Priority::Named(PriorityName::Filter) => true,
-        Priority::Number(Sign::Plus, number) => number == 0,
+        Priority::Number(OffsetSign::Plus, number) => number == 0,
         _ => false,
     }
 }
