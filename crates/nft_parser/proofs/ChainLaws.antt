@@ -11,15 +11,15 @@ use Rattle.nft_tree.specs.declared.statement.MarkField.TheVariants.{Meta, Ct}
 use Rattle.nft_tree.specs.Tree as tree
 use Rattle.nft_tree.specs.Tree.{Text, Statement, RuleTree, ChainTree}
 use Rattle.token_reader.specs.Repeats.{Many, OneOf, SpellsEnd, Ends}
-use Rattle.token_reader.specs.Reading.{all_at, after_end, after_word, after_mark, after_ends, word_at, skip_ends}
-use Rattle.token_reader.specs.Laws.{option_cases, IfSome_at, IfSome_weaker, bind_found, Shortens, Finds, FindsAll, Fronts, Takes, many_found, many_only, shortens_from, Many_takes, Many_front, Always}
-use Rattle.token_reader.specs.TokenLaws.{word_after, mark_after, word_found, NoEnd, ends_found, ends_only, ends_takes, some_ends_found, some_ends_only, some_ends_takes}
+use Rattle.token_reader.specs.steps.Reading.{all_at, after_end, after_word, after_mark, after_ends, word_at, skip_ends}
+use Rattle.token_reader.specs.steps.Laws.{option_cases, IfSome_at, IfSome_weaker, bind_found, Shortens, Finds, FindsAll, Fronts, Takes, many_found, many_only, shortens_from, Many_takes, Many_front, Always}
+use Rattle.token_reader.specs.steps.TokenLaws.{word_after, mark_after, word_found, NoEnd, ends_found, ends_only, ends_takes, some_ends_found, some_ends_only, some_ends_takes}
 use Rattle.nft_selectors.specs.Selectors.{also_meta, two_words, SpellsSelector}
-use Rattle.nft_rules.specs.Rules.{SpellsStatement, SpellsRule, Stops}
-use Rattle.nft_rules.specs.Reading.{rule_at}
-use Rattle.nft_rules.specs.Laws.{RuleLaws}
+use Rattle.nft_rules.specs.Rules.{SpellsStatement, SpellsRule, Stops, SpellsEndedRule}
+use Rattle.nft_rules.specs.steps.Reading.{ended_rule_at}
+use Rattle.nft_rules.specs.steps.Laws.{RuleLaws}
 use Rattle.nft_parser.specs.Chains.{SpellsNote, SpellsNextRule, SpellsRules, SpellsChain}
-use Rattle.nft_parser.specs.Reading.{note_at, head_if_at, next_rule_at, rules_at, chain_front_at, chain_at}
+use Rattle.nft_parser.specs.steps.Reading.{note_at, head_if_at, next_rule_at, rules_at, chain_front_at, chain_at}
 use Rattle.nft_parser.proofs.HeadLaws.{Plain, note_front, note_takes, notes_found, notes_only, head_if_found, head_if_only, head_if_front, head_if_takes}
 
 -- ---- what a rule begins with
@@ -159,7 +159,7 @@ module _ (R : RuleLaws) where
   unfolding next_rule_at
   next_rule_found ts =
       bind_found _ (after_ends ts) _ (some_ends_found ts) (λ a ea.
-      IfSome_weaker (rule_at a) _ _ (λ r er. (a, ea, er)) (R.rule_found a))
+      IfSome_weaker (ended_rule_at a) _ _ (λ r er. (a, ea, er.0)) (R.rule_found a))
 
   next_rule_only : FindsAll SpellsNextRule Stops next_rule_at
   unfolding next_rule_at
@@ -173,12 +173,12 @@ module _ (R : RuleLaws) where
   pub next_rule_shortens : Shortens next_rule_at
   next_rule_shortens = shortens_from SpellsNextRule next_rule_at next_rule_found next_rule_takes
 
-  no_rule : (rest : List Sign) → rule_at (mark marks.CloseBrace ∷ rest) ≡ None
+  no_rule : (rest : List Sign) → ended_rule_at (mark marks.CloseBrace ∷ rest) ≡ None
   no_rule rest =
-      elim (option_cases (rule_at (mark marks.CloseBrace ∷ rest))) [
+      elim (option_cases (ended_rule_at (mark marks.CloseBrace ∷ rest))) [
         | inl e ↦ e
         | inr r ↦
-            let s : SpellsRule r.0.0 (mark marks.CloseBrace ∷ rest) r.0.1 = IfSome_at (rule_at (mark marks.CloseBrace ∷ rest)) _ r.0 r.1 (R.rule_found (mark marks.CloseBrace ∷ rest)) in
+            let s : SpellsRule r.0.0 (mark marks.CloseBrace ∷ rest) r.0.1 = (IfSome_at (ended_rule_at (mark marks.CloseBrace ∷ rest)) (λ x. SpellsEndedRule x.0 (mark marks.CloseBrace ∷ rest) x.1) r.0 r.1 (R.rule_found (mark marks.CloseBrace ∷ rest))).0 in
             let e = (rule_front r.0.0 (mark marks.CloseBrace ∷ rest) r.0.1 s).2 in
             absurd cc
       ]
@@ -191,9 +191,9 @@ module _ (R : RuleLaws) where
   pub rules_found : (ts : List Sign) → SpellsRules (rules_at ts).0 ts (rules_at ts).1
   unfolding rules_at
   rules_found ts =
-      elim (option_cases (rule_at ts)) [
+      elim (option_cases (ended_rule_at ts)) [
         | inl e ↦ rw e refl
-        | inr r ↦ rw r.1 (r.0.1, (all_at next_rule_at r.0.1).1, IfSome_at (rule_at ts) _ r.0 r.1 (R.rule_found ts), many_found SpellsNextRule next_rule_at next_rule_found (length r.0.1) r.0.1, ends_found (all_at next_rule_at r.0.1).1)
+        | inr r ↦ rw r.1 (r.0.1, (all_at next_rule_at r.0.1).1, (IfSome_at (ended_rule_at ts) (λ x. SpellsEndedRule x.0 ts x.1) r.0 r.1 (R.rule_found ts)).0, many_found SpellsNextRule next_rule_at next_rule_found (length r.0.1) r.0.1, ends_found (all_at next_rule_at r.0.1).1)
       ]
 
   pub rules_only : (rs : List RuleTree) (from rest : List Sign) → SpellsRules rs from (mark marks.CloseBrace ∷ rest) → rules_at from ≡ (rs, mark marks.CloseBrace ∷ rest)
@@ -201,7 +201,7 @@ module _ (R : RuleLaws) where
   rules_only [] from rest s = rw (s, no_rule rest) refl
   rules_only (r ∷ rs) from rest s =
       let stop : Stops s.1 = ends_stop s.1 rest s.4 in
-      let first : rule_at from ≡ Some (r, s.0) = R.rule_only r from s.0 s.2 (Many_front SpellsNextRule Stops next_rule_front rs s.0 s.1 s.3 stop) in
+      let first : ended_rule_at from ≡ Some (r, s.0) = R.rule_only r from s.0 s.2 (Many_front SpellsNextRule Stops next_rule_front rs s.0 s.1 s.3 stop) in
       let others : all_at next_rule_at s.0 ≡ (rs, s.1) = many_only SpellsNextRule Stops next_rule_at next_rule_only next_rule_front next_rule_takes (length s.0) rs s.0 s.1 s.3 stop (no_next_rule s.1 rest s.4) (omega arith) in
       let skipped : skip_ends s.1 ≡ mark marks.CloseBrace ∷ rest = ends_only s.1 (mark marks.CloseBrace ∷ rest) s.4 refl in
       rw (first, others, skipped) refl

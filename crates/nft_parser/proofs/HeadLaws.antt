@@ -5,24 +5,24 @@ use Rattle.nft_lexer.specs.declared.token.Mark.{Mark}
 use Rattle.nft_lexer.specs.declared.token.Mark.TheVariants as marks
 use Rattle.nft_lexer.specs.Sign.{Sign, mark, word, number, string}
 use Rattle.nft_tree.specs.declared.chain.ChainKind.{ChainKind}
-use Rattle.nft_tree.specs.declared.chain.ChainKind.TheVariants as kinds
 use Rattle.nft_tree.specs.declared.chain.Hook.{Hook}
-use Rattle.nft_tree.specs.declared.chain.Hook.TheVariants as hooks
 use Rattle.nft_tree.specs.declared.chain.Priority.{Priority}
-use Rattle.nft_tree.specs.declared.chain.Priority.TheVariants.{Number, Named, Offset}
 use Rattle.nft_tree.specs.declared.chain.PriorityName.{PriorityName}
-use Rattle.nft_tree.specs.declared.chain.PriorityName.TheVariants as priorities
 use Rattle.nft_tree.specs.declared.chain.OffsetSign.{OffsetSign}
-use Rattle.nft_tree.specs.declared.chain.OffsetSign.TheVariants.{Plus, Minus}
 use Rattle.nft_tree.specs.declared.chain.Policy.{Policy}
+use Rattle.nft_tree.specs.declared.chain.ChainKind.TheVariants as chain_kinds
+use Rattle.nft_tree.specs.declared.chain.Hook.TheVariants as hooks
+use Rattle.nft_tree.specs.declared.chain.Priority.TheVariants.{Number, Named, Offset}
+use Rattle.nft_tree.specs.declared.chain.PriorityName.TheVariants as priority_names
+use Rattle.nft_tree.specs.declared.chain.OffsetSign.TheVariants.{Plus, Minus}
 use Rattle.nft_tree.specs.declared.chain.Policy.TheVariants as policies
 use Rattle.nft_tree.specs.Tree.{Text, HeadTree}
 use Rattle.token_reader.specs.Repeats.{Many, SpellsEnd, SomeEnds}
-use Rattle.token_reader.specs.Reading.{all_at, after_end, after_word, after_mark, after_ends, string_at, number_at}
-use Rattle.token_reader.specs.Laws.{option_cases, IfSome_at, IfSome_weaker, bind_found, else_found, Shortens, Finds, FindsAll, Fronts, Takes, many_found, many_only, shortens_from, Many_takes}
-use Rattle.token_reader.specs.TokenLaws.{word_after, mark_after, number_found, string_found, NoEnd, some_ends_found, some_ends_only, some_ends_takes, by_word_found}
+use Rattle.token_reader.specs.steps.Reading.{all_at, after_end, after_word, after_mark, after_ends, string_at, number_at}
+use Rattle.token_reader.specs.steps.Laws.{option_cases, IfSome_at, IfSome_weaker, bind_found, else_found, Shortens, Finds, FindsAll, Fronts, Takes, many_found, many_only, shortens_from, Many_takes}
+use Rattle.token_reader.specs.steps.TokenLaws.{word_after, mark_after, number_found, string_found, NoEnd, some_ends_found, some_ends_only, some_ends_takes, by_word_found}
 use Rattle.nft_parser.specs.Chains.{SpellsNote, SpellsPriority, SpellsPolicy, SpellsHead, SpellsHeadIf, kind_word, hook_word, priority_word, policy_word}
-use Rattle.nft_parser.specs.Reading.{comment_at, note_at, kind_rows, kind_at, hook_rows, hook_at, priority_rows, priority_name_at, negative_at, number_priority_at, sign_at, offset_at, named_priority_at, priority_at, policy_rows, decision_at, policy_at, policy_if_at, base_at, rank_at, head_at, head_if_at}
+use Rattle.nft_parser.specs.steps.Reading.{comment_at, note_at, kind_rows, kind_at, hook_rows, hook_at, priority_rows, priority_name_at, negative_at, number_priority_at, sign_at, offset_at, named_priority_at, priority_at, policy_rows, decision_at, policy_at, policy_if_at, base_at, rank_at, head_at, head_if_at}
 
 -- ---- what no rule begins with
 
@@ -102,8 +102,8 @@ kind_found = by_word_found (λ ts x. ts ≡ word (kind_word x.0) ∷ x.1) kind_r
 
 kind_only : (k : ChainKind) (to : List Sign) → kind_at (word (kind_word k) ∷ to) ≡ Some (k, to)
 unfolding kind_at
-kind_only kinds.Filter to = refl
-kind_only kinds.Nat to = refl
+kind_only chain_kinds.Filter to = refl
+kind_only chain_kinds.Nat to = refl
 
 hook_found : (ts : List Sign) → IfSome (hook_at ts) (λ x. ts ≡ word (hook_word x.0) ∷ x.1)
 unfolding hook_at
@@ -123,12 +123,12 @@ name_found = by_word_found (λ ts x. ts ≡ word (priority_word x.0) ∷ x.1) pr
 
 name_only : (p : PriorityName) (to : List Sign) → priority_name_at (word (priority_word p) ∷ to) ≡ Some (p, to)
 unfolding priority_name_at
-name_only priorities.Raw to = refl
-name_only priorities.Mangle to = refl
-name_only priorities.DstNat to = refl
-name_only priorities.Filter to = refl
-name_only priorities.Security to = refl
-name_only priorities.SrcNat to = refl
+name_only priority_names.Raw to = refl
+name_only priority_names.Mangle to = refl
+name_only priority_names.DstNat to = refl
+name_only priority_names.Filter to = refl
+name_only priority_names.Security to = refl
+name_only priority_names.SrcNat to = refl
 
 negative_found : Finds SpellsPriority negative_at
 unfolding negative_at

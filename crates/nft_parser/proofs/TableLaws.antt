@@ -10,14 +10,14 @@ use Rattle.nft_tree.specs.declared.ruleset.Family.TheVariants.{Ip, Inet}
 use Rattle.nft_tree.specs.Tree as tree
 use Rattle.nft_tree.specs.Tree.{Text, ItemTree, TableTree}
 use Rattle.token_reader.specs.Repeats.{Ends, SomeEnds}
-use Rattle.token_reader.specs.Reading.{all_at, after_end, after_word, after_mark, after_ends, word_at, skip_ends}
-use Rattle.token_reader.specs.Laws.{option_cases, IfSome_at, IfSome_weaker, bind_found, else_found, Shortens, Finds, FindsAll, Fronts, Takes, many_found, many_only, shortens_from, Many_takes, Many_front, Always}
-use Rattle.token_reader.specs.TokenLaws.{when_found, word_after, mark_after, word_found, NoEnd, ends_found, ends_only, ends_takes, some_ends_found, some_ends_only, by_word_found}
-use Rattle.nft_sets.specs.Reading.{set_at, map_at}
-use Rattle.nft_sets.specs.Laws.{SetLaws}
-use Rattle.nft_rules.specs.Laws.{RuleLaws}
+use Rattle.token_reader.specs.steps.Reading.{all_at, after_end, after_word, after_mark, after_ends, word_at, skip_ends}
+use Rattle.token_reader.specs.steps.Laws.{option_cases, IfSome_at, IfSome_weaker, bind_found, else_found, Shortens, Finds, FindsAll, Fronts, Takes, many_found, many_only, shortens_from, Many_takes, Many_front, Always}
+use Rattle.token_reader.specs.steps.TokenLaws.{when_found, word_after, mark_after, word_found, NoEnd, ends_found, ends_only, ends_takes, some_ends_found, some_ends_only, by_word_found}
+use Rattle.nft_sets.specs.steps.Reading.{set_at, map_at}
+use Rattle.nft_sets.specs.steps.Laws.{SetLaws}
+use Rattle.nft_rules.specs.steps.Laws.{RuleLaws}
 use Rattle.nft_parser.specs.Rulesets.{SpellsItem, SpellsNextItem, SpellsFamily, SpellsTable, SpellsNextTable, SpellsFlush, SpellsRuleset}
-use Rattle.nft_parser.specs.Reading.{comment_at, chain_at, lookup_at, item_at, next_item_at, family_rows, family_at, family_name_at, sole_name_at, table_name_at, table_front_at, table_at, next_table_at, after_flush, skip_flush, ruleset_at}
+use Rattle.nft_parser.specs.steps.Reading.{comment_at, chain_at, lookup_at, item_at, next_item_at, family_rows, family_at, family_name_at, sole_name_at, table_name_at, table_front_at, table_at, next_table_at, after_flush, skip_flush, ruleset_at}
 use Rattle.nft_parser.proofs.HeadLaws.{comment_found, comment_only, no_comment_at}
 use Rattle.nft_parser.proofs.ChainLaws.{chain_found, chain_only, chain_takes, no_chain}
 

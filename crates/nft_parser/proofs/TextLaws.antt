@@ -4,22 +4,24 @@ use Rattle.std.specs.Prelude.{Result, Ok, Err, IsErrAnd, MatchResult}
 use Rattle.std.specs.List.{list_any}
 use Rattle.nft_lexer.specs.declared.token.Token.{Token}
 use Rattle.nft_lexer.specs.Sign as signs
-use Rattle.nft_lexer.specs.Sign.{Sign, Spelled, sign_of, spelled, mark}
-use Rattle.nft_lexer.specs.Cut as cut
-use Rattle.nft_lexer.specs.Cut.{IsCut}
+use Rattle.nft_lexer.specs.Sign.{Sign, Spelled, sign_of, signs_of, spelled, mark}
+use Rattle.nft_lexer.specs.Cut.{IsCut, HasLexFault}
+use Rattle.nft_lexer.specs.declared.fault.LexFault.{LexFault}
 use Rattle.nft_lexer.specs.declared.fault.LexError.{LexError}
 use Rattle.nft_lexer.specs.declared.fault.LexError.TheVariants as lexical
 use Rattle.nft_tree.specs.Tree.{TableTree}
-use Rattle.token_reader.specs.Laws.{some_is}
-use Rattle.nft_rules.specs.Laws.{RuleLaws}
-use Rattle.nft_sets.specs.Laws.{SetLaws}
-use Rattle.nft_parser.specs.Rulesets.{has_left_out, SpellsRuleset}
-use Rattle.nft_parser.specs.Reading.{names_left_out, refusal}
-use Rattle.nft_parser.proofs.TableLaws.{ruleset_only}
+use Rattle.token_reader.specs.steps.Laws.{option_cases, IfSome_at, some_is}
+use Rattle.nft_rules.specs.steps.Laws.{RuleLaws}
+use Rattle.nft_sets.specs.steps.Laws.{SetLaws}
+use Rattle.nft_parser.specs.declared.fault.TextFault.{TextFault}
+use Rattle.nft_parser.specs.declared.fault.TextFault.TheVariants.{Cutting, Syntax, LeftOut}
 use Rattle.nft_parser.specs.declared.fault.ParseError.{ParseError}
-use Rattle.nft_parser.specs.declared.fault.ParseError.TheVariants.{Byte, OpenString, Number, TooLong, Syntax, LeftOut, Memory}
-use Rattle.nft_parser.specs.Faults.{of_lexing}
-use Rattle.nft_parser.specs.Spells.{signs_of, Spells, SpellsNone, HasTextFault}
+use Rattle.nft_parser.specs.declared.fault.ParseError.TheVariants.{Refused, Memory}
+use Rattle.nft_parser.specs.Rulesets.{has_left_out, SpellsRuleset}
+use Rattle.nft_parser.specs.Spells.{Spells, SpellsNone, HasTextFault}
+use Rattle.nft_parser.specs.steps.Faults.{of_cutting, refusal}
+use Rattle.nft_parser.specs.steps.Reading.{names_left_out, ruleset_at}
+use Rattle.nft_parser.proofs.TableLaws.{ruleset_found, ruleset_only}
 
 has_left_out-front : (t : Sign) (ts : List Sign) → has_left_out (t ∷ ts) ≡ (names_left_out t || has_left_out ts)
 has_left_out-front signs.newline ts = refl
@@ -60,17 +62,13 @@ trees_equal R T ts first second f s = some_is first second (sym (ruleset_only R 
 -- ---- faults
 
 -- the fault is one of the tokens, or that they spell no tree
-abbrev pub FaultCases : List ℕ → ParseError → Type 0
-FaultCases text error = ((e : LexError) × (error ≡ of_lexing e) × cut.HasFault text e) ⊎ ((b : Bool) × (error ≡ refusal b) × SpellsNone b text)
+abbrev pub FaultCases : List ℕ → TextFault → Type 0
+FaultCases text fault = ((f : LexFault) × (fault ≡ Cutting f) × HasLexFault text f) ⊎ ((b : Bool) × (fault ≡ refusal b) × SpellsNone b text)
 
-pub fault_cases : (text : List ℕ) (error : ParseError) → HasTextFault text error → FaultCases text error
-fault_cases text (Byte line) h = inl (lexical.Byte line, refl, h)
-fault_cases text (OpenString line) h = inl (lexical.OpenString line, refl, h)
-fault_cases text (Number line) h = inl (lexical.Number line, refl, h)
-fault_cases text TooLong h = inl (lexical.TooLong, refl, h)
+pub fault_cases : (text : List ℕ) (fault : TextFault) → HasTextFault text fault → FaultCases text fault
+fault_cases text (Cutting f) h = inl (f, refl, h)
 fault_cases text Syntax h = inr (false, refl, h)
 fault_cases text LeftOut h = inr (true, refl, h)
-fault_cases text Memory h = absurd h
 
 refused_so : (text : List ℕ) (b : Bool) → SpellsNone b text → HasTextFault text (refusal b)
 refused_so text true h = h
@@ -84,29 +82,57 @@ refused text tokens cut none =
     refused_so text (has_left_out (signs.signs tokens)) (map spelled tokens, cut, no_tree, ap has_left_out same)
 
 -- any other reason to refuse the text is that one
-pub refused_only : (text : List ℕ) (tokens : List Token) → OnlyCut text (map spelled tokens) → ((e : LexError) → cut.HasFault text e → ⊥) → (error : ParseError) → HasTextFault text error → refusal (has_left_out (signs.signs tokens)) ≡ error
-refused_only text tokens only none error h =
-    elim (fault_cases text error h) [
+pub refused_only : (text : List ℕ) (tokens : List Token) → OnlyCut text (map spelled tokens) → ((f : LexFault) → HasLexFault text f → ⊥) → (fault : TextFault) → HasTextFault text fault → refusal (has_left_out (signs.signs tokens)) ≡ fault
+refused_only text tokens only none fault h =
+    elim (fault_cases text fault h) [
       | inl l ↦ absurd (none l.0 l.2)
       | inr n ↦
           let same : signs_of n.2.0 ≡ signs.signs tokens = ap signs_of (sym (only n.2.0 n.2.1)) ∙ signs_of-spelled tokens in
           ap refusal (sym (ap has_left_out same) ∙ n.2.3) ∙ sym n.1
     ]
 
+-- a fault told of a text that isn't cut is the text's
+pub uncut_fault : (text : List ℕ) (answer : LexError) → ((f : LexFault) → answer ≡ lexical.Refused f → HasLexFault text f) → (fault : TextFault) → of_cutting answer ≡ Refused fault → HasTextFault text fault
+uncut_fault text (lexical.Refused f) told fault e =
+    let same : Cutting f ≡ fault = cc in
+    subst (λ (t : TextFault). HasTextFault text t) same (told f refl)
+uncut_fault text lexical.Memory told fault e = absurd cc
+
 -- of a text that isn't cut the fault is the one told, want of memory aside
-pub uncut_only : (text : List ℕ) (answer : LexError) → ((tokens : List Spelled) → IsCut text tokens → answer ≡ lexical.Memory) → ((e : LexError) → cut.HasFault text e → (answer ≡ e) ⊎ (answer ≡ lexical.Memory))
-    → (error : ParseError) → HasTextFault text error → (of_lexing answer ≡ error) ⊎ (of_lexing answer ≡ Memory)
-uncut_only text answer uncut only error h =
-    elim (fault_cases text error h) [
+pub uncut_only : (text : List ℕ) (answer : LexError) → ((tokens : List Spelled) → IsCut text tokens → answer ≡ lexical.Memory) → ((f : LexFault) → HasLexFault text f → (answer ≡ lexical.Refused f) ⊎ (answer ≡ lexical.Memory))
+    → (fault : TextFault) → HasTextFault text fault → (of_cutting answer ≡ Refused fault) ⊎ (of_cutting answer ≡ Memory)
+uncut_only text answer uncut only fault h =
+    elim (fault_cases text fault h) [
       | inl l ↦
           elim (only l.0 l.2) [
-            | inl e ↦ inl (ap of_lexing e ∙ sym l.1)
-            | inr e ↦ inr (ap of_lexing e)
+            | inl e ↦ inl (ap of_cutting e ∙ ap Refused (sym l.1))
+            | inr e ↦ inr (ap of_cutting e)
           ]
-      | inr n ↦ inr (ap of_lexing (uncut n.2.0 n.2.1))
+      | inr n ↦ inr (ap of_cutting (uncut n.2.0 n.2.1))
     ]
 
 -- an error that is this
 pub at_error : {A E : Type 0} (r : Result A E) (P : A → Type 0) (Q S : E → Type 0) → IsErrAnd r Q → ((e : E) → Q e → S e) → MatchResult r P S
 at_error (Ok x) P Q S h k = absurd h
 at_error (Err e) P Q S h k = k e h
+
+-- ---- each text
+
+-- tokens spell a tree, or have the fault that they spell none
+tokens_answer : RuleLaws → SetLaws → (text : List ℕ) (tokens : List Spelled) → IsCut text tokens → ((tree : List TableTree) × Spells tree text) ⊎ ((fault : TextFault) × HasTextFault text fault)
+tokens_answer R T text tokens cut =
+    let said = signs_of tokens in
+    elim (option_cases (ruleset_at said)) [
+      | inl none ↦
+          let no_tree : (tree : List TableTree) → SpellsRuleset tree said → ⊥ = λ tree s. absurd (cc (none, ruleset_only R T tree said s)) in
+          inr (refusal (has_left_out said), refused_so text (has_left_out said) (tokens, cut, no_tree, refl))
+      | inr tree ↦ inl (tree.0, (tokens, cut, IfSome_at (ruleset_at said) (λ t. SpellsRuleset t said) tree.0 tree.1 (ruleset_found R T said)))
+    ]
+
+pub each_answer : RuleLaws → SetLaws → ((text : List ℕ) → ((tokens : List Spelled) × IsCut text tokens) ⊎ ((f : LexFault) × HasLexFault text f))
+    → (text : List ℕ) → ((tree : List TableTree) × Spells tree text) ⊎ ((fault : TextFault) × HasTextFault text fault)
+each_answer R T cutting text =
+    elim (cutting text) [
+      | inl cut ↦ tokens_answer R T text cut.0 cut.1
+      | inr f ↦ inr (Cutting f.0, f.1)
+    ]

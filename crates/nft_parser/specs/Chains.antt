@@ -4,15 +4,15 @@ use Rattle.nft_lexer.specs.declared.token.Mark.TheVariants as marks
 use Rattle.nft_lexer.specs.Sign as signs
 use Rattle.nft_lexer.specs.Sign.{Sign, mark}
 use Rattle.nft_tree.specs.declared.chain.ChainKind.{ChainKind}
-use Rattle.nft_tree.specs.declared.chain.ChainKind.TheVariants as kinds
 use Rattle.nft_tree.specs.declared.chain.Hook.{Hook}
-use Rattle.nft_tree.specs.declared.chain.Hook.TheVariants as hooks
 use Rattle.nft_tree.specs.declared.chain.Priority.{Priority}
-use Rattle.nft_tree.specs.declared.chain.Priority.TheVariants.{Number, Named, Offset}
 use Rattle.nft_tree.specs.declared.chain.PriorityName.{PriorityName}
-use Rattle.nft_tree.specs.declared.chain.PriorityName.TheVariants as priorities
-use Rattle.nft_tree.specs.declared.chain.OffsetSign.TheVariants.{Plus, Minus}
 use Rattle.nft_tree.specs.declared.chain.Policy.{Policy}
+use Rattle.nft_tree.specs.declared.chain.ChainKind.TheVariants as chain_kinds
+use Rattle.nft_tree.specs.declared.chain.Hook.TheVariants as hooks
+use Rattle.nft_tree.specs.declared.chain.Priority.TheVariants.{Number, Named, Offset}
+use Rattle.nft_tree.specs.declared.chain.PriorityName.TheVariants as priority_names
+use Rattle.nft_tree.specs.declared.chain.OffsetSign.TheVariants.{Plus, Minus}
 use Rattle.nft_tree.specs.declared.chain.Policy.TheVariants as policies
 use Rattle.nft_tree.specs.Tree.{Text, RuleTree, HeadTree, ChainTree}
 use Rattle.token_reader.specs.Repeats.{Many, Ends, SomeEnds}
@@ -23,8 +23,8 @@ abbrev pub SpellsNote : Text → List Sign → List Sign → Type 0
 SpellsNote text from to = (a : List Sign) × (from ≡ signs.word (codes "comment") ∷ signs.string text ∷ a) × SomeEnds a to
 
 abbrev pub kind_word : ChainKind → Text
-kind_word kinds.Filter = codes "filter"
-kind_word kinds.Nat = codes "nat"
+kind_word chain_kinds.Filter = codes "filter"
+kind_word chain_kinds.Nat = codes "nat"
 
 abbrev pub hook_word : Hook → Text
 hook_word hooks.Prerouting = codes "prerouting"
@@ -34,12 +34,12 @@ hook_word hooks.Output = codes "output"
 hook_word hooks.Postrouting = codes "postrouting"
 
 abbrev pub priority_word : PriorityName → Text
-priority_word priorities.Raw = codes "raw"
-priority_word priorities.Mangle = codes "mangle"
-priority_word priorities.DstNat = codes "dstnat"
-priority_word priorities.Filter = codes "filter"
-priority_word priorities.Security = codes "security"
-priority_word priorities.SrcNat = codes "srcnat"
+priority_word priority_names.Raw = codes "raw"
+priority_word priority_names.Mangle = codes "mangle"
+priority_word priority_names.DstNat = codes "dstnat"
+priority_word priority_names.Filter = codes "filter"
+priority_word priority_names.Security = codes "security"
+priority_word priority_names.SrcNat = codes "srcnat"
 
 -- prio = ["-"] NUM | pname [("+" | "-") NUM]
 abbrev pub SpellsPriority : Priority → List Sign → List Sign → Type 0

@@ -1,5 +1,4 @@
 pub mod Chains
 pub mod Rulesets
-pub mod Faults
 pub mod Spells
-pub mod Reading
+pub mod steps

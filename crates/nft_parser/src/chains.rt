@@ -3,26 +3,26 @@ ghost use Rattle.std.specs.Prelude.{◌≡◌, IfOk, map};
 ghost use Rattle.nft_tree.specs.Tree.{rule_tree, chain_tree};
 ghost use Rattle.std.specs.Option.{option_map};
 ghost use Rattle.token_reader.specs.Places.{ahead};
-ghost use Rattle.token_reader.specs.Reading.{all_at, with_front};
-ghost use Rattle.nft_parser.specs.Reading.{next_rule_at, rules_at, chain_front_at, chain_at};
+ghost use Rattle.token_reader.specs.steps.Reading.{all_at, with_front};
+ghost use Rattle.nft_parser.specs.steps.Reading.{next_rule_at, rules_at, chain_front_at, chain_at};
 
 use crate::heads::head_if;
 use crate::notes::notes;
 use nft_lexer::{Mark, Token};
-use nft_rules::{rule_here, rule_laws};
+use nft_rules::{rule, rule_laws};
 use nft_tree::{Chain, Memory, Rule};
 use std::alloc::Global;
 use token_reader::{after_ends, after_mark, after_word, skip_ends, word};
 
 /// end {end} rule
-#[tactic(auto, unfolding(crate::specs::Reading::next_rule_at))]
+#[tactic(auto, unfolding(crate::specs::steps::Reading::next_rule_at))]
 fn next_rule(alloc: Global, tokens: &[Token], at: usize) -> Result<Option<(Rule, usize)>, Memory>
     ensures { IfOk result (λ o. option_map (λ x. (rule_tree x.0, ahead tokens.now x.1)) o ≡ next_rule_at (ahead tokens.now at)) }
 {
     let Some(at) = after_ends(tokens, at) else {
         return Ok(None);
     };
-    rule_here(alloc, tokens, at)
+    rule(alloc, tokens, at)
 }
 
 /// {end {end} rule}, each rule put at the end of `rules`.
@@ -44,12 +44,12 @@ fn more_rules(
 }
 
 /// [rule {end {end} rule} {end}]
-#[tactic(auto, unfolding(crate::specs::Reading::rules_at))]
+#[tactic(auto, unfolding(crate::specs::steps::Reading::rules_at))]
 fn rules(alloc: Global, tokens: &[Token], at: usize) -> Result<(Vec<Rule>, usize), Memory>
     ensures { IfOk result (λ x. (map rule_tree x.0.items, ahead tokens.now x.1) ≡ rules_at (ahead tokens.now at)) }
 {
     let mut rules = Vec::new(alloc);
-    let Some((first, second)) = rule_here(alloc, tokens, at)? else {
+    let Some((first, second)) = rule(alloc, tokens, at)? else {
         return Ok((rules, at));
     };
     rules.push(first)?;
@@ -58,7 +58,7 @@ fn rules(alloc: Global, tokens: &[Token], at: usize) -> Result<(Vec<Rule>, usize
 }
 
 /// "chain" NAME "{" {end}
-#[tactic(auto, unfolding(crate::specs::Reading::chain_front_at))]
+#[tactic(auto, unfolding(crate::specs::steps::Reading::chain_front_at))]
 fn chain_front<'t>(tokens: &[Token<'t>], at: usize) -> Option<(&'t [u8], usize)>
     ensures { option_map (λ x. (x.0.now, ahead tokens.now x.1)) result ≡ chain_front_at (ahead tokens.now at) }
 {
@@ -69,7 +69,7 @@ fn chain_front<'t>(tokens: &[Token<'t>], at: usize) -> Option<(&'t [u8], usize)>
 }
 
 /// "chain" NAME "{" {end} {note} [head {note}] [rule {end {end} rule} {end}] "}"
-#[tactic(auto, unfolding(crate::specs::Reading::chain_at))]
+#[tactic(auto, unfolding(crate::specs::steps::Reading::chain_at))]
 pub(crate) fn chain(
     alloc: Global,
     tokens: &[Token],

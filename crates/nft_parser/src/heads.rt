@@ -3,7 +3,7 @@ ghost use Rattle.std.specs.Prelude.{◌≡◌, IfOk};
 ghost use Rattle.nft_tree.specs.Tree.{head_tree};
 ghost use Rattle.std.specs.Option.{option_map};
 ghost use Rattle.token_reader.specs.Places.{ahead};
-ghost use Rattle.nft_parser.specs.Reading.{kind_at, hook_at, priority_name_at, negative_at, number_priority_at, sign_at, offset_at, named_priority_at, priority_at, decision_at, policy_at, policy_if_at, base_at, rank_at, head_at, head_if_at};
+ghost use Rattle.nft_parser.specs.steps.Reading.{kind_at, hook_at, priority_name_at, negative_at, number_priority_at, sign_at, offset_at, named_priority_at, priority_at, decision_at, policy_at, policy_if_at, base_at, rank_at, head_at, head_if_at};
 
 use crate::notes::notes;
 use nft_lexer::{Mark, Token};
@@ -12,7 +12,7 @@ use std::alloc::Global;
 use token_reader::{after_ends, after_mark, after_word, number};
 
 /// "filter" | "nat"
-#[tactic(auto, unfolding(crate::specs::Reading::kind_at))]
+#[tactic(auto, unfolding(crate::specs::steps::Reading::kind_at))]
 fn kind(tokens: &[Token], at: usize) -> Option<(ChainKind, usize)>
     ensures { option_map (λ x. (x.0, ahead tokens.now x.1)) result ≡ kind_at (ahead tokens.now at) }
 {
@@ -24,7 +24,7 @@ fn kind(tokens: &[Token], at: usize) -> Option<(ChainKind, usize)>
 }
 
 /// "prerouting" | "input" | "forward" | "output" | "postrouting"
-#[tactic(auto, unfolding(crate::specs::Reading::hook_at))]
+#[tactic(auto, unfolding(crate::specs::steps::Reading::hook_at))]
 fn hook(tokens: &[Token], at: usize) -> Option<(Hook, usize)>
     ensures { option_map (λ x. (x.0, ahead tokens.now x.1)) result ≡ hook_at (ahead tokens.now at) }
 {
@@ -45,7 +45,7 @@ fn hook(tokens: &[Token], at: usize) -> Option<(Hook, usize)>
 }
 
 /// "raw" | "mangle" | "dstnat" | "filter" | "security" | "srcnat"
-#[tactic(auto, unfolding(crate::specs::Reading::priority_name_at))]
+#[tactic(auto, unfolding(crate::specs::steps::Reading::priority_name_at))]
 fn priority_name(tokens: &[Token], at: usize) -> Option<(PriorityName, usize)>
     ensures { option_map (λ x. (x.0, ahead tokens.now x.1)) result ≡ priority_name_at (ahead tokens.now at) }
 {
@@ -69,7 +69,7 @@ fn priority_name(tokens: &[Token], at: usize) -> Option<(PriorityName, usize)>
 }
 
 /// "-" NUM
-#[tactic(auto, unfolding(crate::specs::Reading::negative_at))]
+#[tactic(auto, unfolding(crate::specs::steps::Reading::negative_at))]
 fn negative(tokens: &[Token], at: usize) -> Option<(Priority, usize)>
     ensures { option_map (λ x. (x.0, ahead tokens.now x.1)) result ≡ negative_at (ahead tokens.now at) }
 {
@@ -79,7 +79,7 @@ fn negative(tokens: &[Token], at: usize) -> Option<(Priority, usize)>
 }
 
 /// ["-"] NUM
-#[tactic(auto, unfolding(crate::specs::Reading::number_priority_at))]
+#[tactic(auto, unfolding(crate::specs::steps::Reading::number_priority_at))]
 fn number_priority(tokens: &[Token], at: usize) -> Option<(Priority, usize)>
     ensures { option_map (λ x. (x.0, ahead tokens.now x.1)) result ≡ number_priority_at (ahead tokens.now at) }
 {
@@ -90,7 +90,7 @@ fn number_priority(tokens: &[Token], at: usize) -> Option<(Priority, usize)>
 }
 
 /// "+" | "-"
-#[tactic(auto, unfolding(crate::specs::Reading::sign_at))]
+#[tactic(auto, unfolding(crate::specs::steps::Reading::sign_at))]
 fn sign(tokens: &[Token], at: usize) -> Option<(OffsetSign, usize)>
     ensures { option_map (λ x. (x.0, ahead tokens.now x.1)) result ≡ sign_at (ahead tokens.now at) }
 {
@@ -102,7 +102,7 @@ fn sign(tokens: &[Token], at: usize) -> Option<(OffsetSign, usize)>
 }
 
 /// ("+" | "-") NUM, after the name.
-#[tactic(auto, unfolding(crate::specs::Reading::offset_at))]
+#[tactic(auto, unfolding(crate::specs::steps::Reading::offset_at))]
 fn offset(tokens: &[Token], at: usize, name: PriorityName) -> Option<(Priority, usize)>
     ensures { option_map (λ x. (x.0, ahead tokens.now x.1)) result ≡ offset_at name (ahead tokens.now at) }
 {
@@ -112,7 +112,7 @@ fn offset(tokens: &[Token], at: usize, name: PriorityName) -> Option<(Priority, 
 }
 
 /// pname [("+" | "-") NUM]
-#[tactic(auto, unfolding(crate::specs::Reading::named_priority_at))]
+#[tactic(auto, unfolding(crate::specs::steps::Reading::named_priority_at))]
 fn named_priority(tokens: &[Token], at: usize) -> Option<(Priority, usize)>
     ensures { option_map (λ x. (x.0, ahead tokens.now x.1)) result ≡ named_priority_at (ahead tokens.now at) }
 {
@@ -124,7 +124,7 @@ fn named_priority(tokens: &[Token], at: usize) -> Option<(Priority, usize)>
 }
 
 /// ["-"] NUM | pname [("+" | "-") NUM]
-#[tactic(auto, unfolding(crate::specs::Reading::priority_at))]
+#[tactic(auto, unfolding(crate::specs::steps::Reading::priority_at))]
 fn priority(tokens: &[Token], at: usize) -> Option<(Priority, usize)>
     ensures { option_map (λ x. (x.0, ahead tokens.now x.1)) result ≡ priority_at (ahead tokens.now at) }
 {
@@ -135,7 +135,7 @@ fn priority(tokens: &[Token], at: usize) -> Option<(Priority, usize)>
 }
 
 /// "accept" | "drop"
-#[tactic(auto, unfolding(crate::specs::Reading::decision_at))]
+#[tactic(auto, unfolding(crate::specs::steps::Reading::decision_at))]
 fn decision(tokens: &[Token], at: usize) -> Option<(Policy, usize)>
     ensures { option_map (λ x. (x.0, ahead tokens.now x.1)) result ≡ decision_at (ahead tokens.now at) }
 {
@@ -147,7 +147,7 @@ fn decision(tokens: &[Token], at: usize) -> Option<(Policy, usize)>
 }
 
 /// "policy" ("accept" | "drop") end {end}
-#[tactic(auto, unfolding(crate::specs::Reading::policy_at))]
+#[tactic(auto, unfolding(crate::specs::steps::Reading::policy_at))]
 fn policy(tokens: &[Token], at: usize) -> Option<(Policy, usize)>
     ensures { option_map (λ x. (x.0, ahead tokens.now x.1)) result ≡ policy_at (ahead tokens.now at) }
 {
@@ -158,7 +158,7 @@ fn policy(tokens: &[Token], at: usize) -> Option<(Policy, usize)>
 }
 
 /// ["policy" ("accept" | "drop") end {end}]
-#[tactic(auto, unfolding(crate::specs::Reading::policy_if_at))]
+#[tactic(auto, unfolding(crate::specs::steps::Reading::policy_if_at))]
 fn policy_if(tokens: &[Token], at: usize) -> (Option<Policy>, usize)
     ensures { (result.0, ahead tokens.now result.1) ≡ policy_if_at (ahead tokens.now at) }
 {
@@ -169,7 +169,7 @@ fn policy_if(tokens: &[Token], at: usize) -> (Option<Policy>, usize)
 }
 
 /// "type" ("filter" | "nat") "hook" hook
-#[tactic(auto, unfolding(crate::specs::Reading::base_at))]
+#[tactic(auto, unfolding(crate::specs::steps::Reading::base_at))]
 fn base(tokens: &[Token], at: usize) -> Option<((ChainKind, Hook), usize)>
     ensures { option_map (λ x. (x.0, ahead tokens.now x.1)) result ≡ base_at (ahead tokens.now at) }
 {
@@ -181,7 +181,7 @@ fn base(tokens: &[Token], at: usize) -> Option<((ChainKind, Hook), usize)>
 }
 
 /// "priority" prio end {end}
-#[tactic(auto, unfolding(crate::specs::Reading::rank_at))]
+#[tactic(auto, unfolding(crate::specs::steps::Reading::rank_at))]
 fn rank(tokens: &[Token], at: usize) -> Option<(Priority, usize)>
     ensures { option_map (λ x. (x.0, ahead tokens.now x.1)) result ≡ rank_at (ahead tokens.now at) }
 {
@@ -193,7 +193,7 @@ fn rank(tokens: &[Token], at: usize) -> Option<(Priority, usize)>
 
 /// "type" ("filter" | "nat") "hook" hook "priority" prio end {end} ["policy" ..], and the notes
 /// after it.
-#[tactic(auto, unfolding(crate::specs::Reading::head_at))]
+#[tactic(auto, unfolding(crate::specs::steps::Reading::head_at))]
 fn head(alloc: Global, tokens: &[Token], at: usize) -> Result<Option<(Head, usize)>, Memory>
     ensures { IfOk result (λ o. option_map (λ x. (head_tree x.0, ahead tokens.now x.1)) o ≡ head_at (ahead tokens.now at)) }
 {
@@ -216,7 +216,7 @@ fn head(alloc: Global, tokens: &[Token], at: usize) -> Result<Option<(Head, usiz
 }
 
 /// [head {note}]
-#[tactic(auto, unfolding(crate::specs::Reading::head_if_at))]
+#[tactic(auto, unfolding(crate::specs::steps::Reading::head_if_at))]
 pub(crate) fn head_if(
     alloc: Global,
     tokens: &[Token],

@@ -3,7 +3,7 @@ ghost use Rattle.std.specs.Prelude.{◌≡◌};
 ghost use Rattle.std.specs.List.{list_any};
 ghost use Rattle.std.specs.Str.{bytes_eq};
 ghost use Rattle.nft_lexer.specs.Sign.{sign_of, signs};
-ghost use Rattle.nft_parser.specs.Reading.{names_left_out};
+ghost use Rattle.nft_parser.specs.steps.Reading.{names_left_out};
 ghost use Rattle.nft_parser.specs.Rulesets.{left_out, has_left_out};
 
 use nft_lexer::{Kind, Token};

@@ -10,6 +10,6 @@ mod notes;
 mod parsing;
 mod tables;
 
-pub use fault::ParseError;
-pub use laws::{one_fault, one_tree};
+pub use fault::{ParseError, TextFault};
+pub use laws::{one_fault, one_tree, some_answer};
 pub use parsing::parse;

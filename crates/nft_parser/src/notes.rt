@@ -2,8 +2,8 @@
 ghost use Rattle.std.specs.Prelude.{◌≡◌, IfOk, map};
 ghost use Rattle.std.specs.Option.{option_map};
 ghost use Rattle.token_reader.specs.Places.{ahead};
-ghost use Rattle.token_reader.specs.Reading.{all_at};
-ghost use Rattle.nft_parser.specs.Reading.{comment_at, note_at};
+ghost use Rattle.token_reader.specs.steps.Reading.{all_at};
+ghost use Rattle.nft_parser.specs.steps.Reading.{comment_at, note_at};
 
 use nft_lexer::Token;
 use nft_tree::Memory;
@@ -11,7 +11,7 @@ use std::alloc::Global;
 use token_reader::{after_ends, after_word, string};
 
 /// "comment" STRING
-#[tactic(auto, unfolding(crate::specs::Reading::comment_at))]
+#[tactic(auto, unfolding(crate::specs::steps::Reading::comment_at))]
 pub(crate) fn comment<'t>(tokens: &[Token<'t>], at: usize) -> Option<(&'t [u8], usize)>
     ensures { option_map (λ x. (x.0.now, ahead tokens.now x.1)) result ≡ comment_at (ahead tokens.now at) }
 {
@@ -20,7 +20,7 @@ pub(crate) fn comment<'t>(tokens: &[Token<'t>], at: usize) -> Option<(&'t [u8], 
 }
 
 /// "comment" STRING end {end}
-#[tactic(auto, unfolding(crate::specs::Reading::note_at))]
+#[tactic(auto, unfolding(crate::specs::steps::Reading::note_at))]
 fn note<'t>(tokens: &[Token<'t>], at: usize) -> Option<(&'t [u8], usize)>
     ensures { option_map (λ x. (x.0.now, ahead tokens.now x.1)) result ≡ note_at (ahead tokens.now at) }
 {

@@ -1,14 +1,16 @@
 //! From a text to its tree.
-ghost use Rattle.std.specs.Prelude.{◌≡◌, ◌<◌, ◌↔◌, ◌⊎◌, ℕ, List, length, Err, IfOk, IfErr, MatchResult};
-ghost use Rattle.nft_tree.specs.Tree.{TableTree, tables_of};
-ghost use Rattle.nft_lexer.specs.Cut.{MOST_BYTES};
-ghost use Rattle.nft_parser.specs.declared.fault.ParseError.{ParseError};
+ghost use Rattle.std.specs.Prelude.{◌≡◌, ◌<◌, ◌↔◌, ◌⊎◌, ℕ, List, length, Err, IfOk, MatchResult};
+ghost use Rattle.nft_lexer.specs.declared.fault.LexFault.{LexFault};
 ghost use Rattle.nft_lexer.specs.Sign.{signs};
-ghost use Rattle.nft_parser.specs.Reading.{refusal};
+ghost use Rattle.nft_lexer.specs.Cut.{MOST_BYTES};
+ghost use Rattle.nft_tree.specs.Tree.{TableTree, tables_of};
+ghost use Rattle.nft_parser.specs.declared.fault.ParseError.{ParseError};
+ghost use Rattle.nft_parser.specs.declared.fault.TextFault.{TextFault};
 ghost use Rattle.nft_parser.specs.Rulesets.{has_left_out};
 ghost use Rattle.nft_parser.specs.Spells.{Spells, HasTextFault};
+ghost use Rattle.nft_parser.specs.steps.Faults.{refusal};
 
-use crate::fault::ParseError;
+use crate::fault::{ParseError, TextFault};
 use crate::laws::one_tree;
 use crate::left_out::has_left_out;
 use crate::tables::ruleset;
@@ -27,27 +29,27 @@ pub fn parse(alloc: Global, text: &[u8]) -> Result<Ruleset, ParseError>
     // A tree that the text spells is the one answered, want of memory aside: it is the only one.
     ensures only { (tree : List TableTree) → Spells tree text.now → MatchResult result (λ answer. tables_of answer ≡ tree) (λ error. error ≡ ParseError.Memory) }
     // A fault that is answered is the text's.
-    ensures fault { IfErr result (λ error. (error ≡ ParseError.Memory) ⊎ HasTextFault text.now error) }
+    ensures fault { (fault : TextFault) → result ≡ Err (ParseError.Refused fault) → HasTextFault text.now fault }
     // The text's fault is the one answered, want of memory aside.
-    ensures only_fault { (error : ParseError) → HasTextFault text.now error → MatchResult result (λ _. ⊥) (λ answer. (answer ≡ error) ⊎ (answer ≡ ParseError.Memory)) }
+    ensures only_fault { (fault : TextFault) → HasTextFault text.now fault → MatchResult result (λ _. ⊥) (λ error. (error ≡ ParseError.Refused fault) ⊎ (error ≡ ParseError.Memory)) }
     // A text that is too long is told before anything else.
-    ensures long { (result ≡ Err ParseError.TooLong) ↔ (MOST_BYTES < length text.now) }
+    ensures long { (result ≡ Err (ParseError.Refused (TextFault.Cutting LexFault.TooLong))) ↔ (MOST_BYTES < length text.now) }
 {
     one_tree();
     let tokens = lex(alloc, text)?;
     match ruleset(alloc, &tokens)? {
         Some(ruleset) => Ok(ruleset),
-        None => Err(refusal(&tokens)),
+        None => Err(ParseError::Refused(refusal(&tokens))),
     }
 }
 
-/// Why the tokens, which spell no tree, are no ruleset.
-fn refusal(tokens: &[Token]) -> ParseError
+/// The fault of the tokens, which spell no tree.
+fn refusal(tokens: &[Token]) -> TextFault
     ensures { result ≡ refusal (has_left_out (signs tokens.now)) }
 {
     if has_left_out(tokens) {
-        ParseError::LeftOut
+        TextFault::LeftOut
     } else {
-        ParseError::Syntax
+        TextFault::Syntax
     }
 }

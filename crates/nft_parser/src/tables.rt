@@ -4,9 +4,9 @@ ghost use Rattle.nft_lexer.specs.Sign.{signs};
 ghost use Rattle.nft_tree.specs.Tree.{TableTree, item_tree, table_tree, tables_of};
 ghost use Rattle.std.specs.Option.{option_map};
 ghost use Rattle.token_reader.specs.Places.{ahead};
-ghost use Rattle.token_reader.specs.Reading.{all_at};
+ghost use Rattle.token_reader.specs.steps.Reading.{all_at};
 ghost use Rattle.nft_parser.specs.Rulesets.{SpellsRuleset};
-ghost use Rattle.nft_parser.specs.Reading.{lookup_at, item_at, next_item_at, family_at, family_name_at, sole_name_at, table_name_at, table_front_at, table_at, next_table_at, after_flush, skip_flush, ruleset_at};
+ghost use Rattle.nft_parser.specs.steps.Reading.{lookup_at, item_at, next_item_at, family_at, family_name_at, sole_name_at, table_name_at, table_front_at, table_at, next_table_at, after_flush, skip_flush, ruleset_at};
 
 use crate::chains::chain;
 use crate::notes::comment;
@@ -18,7 +18,7 @@ use std::alloc::Global;
 use token_reader::{after_ends, after_mark, after_word, skip_ends, word};
 
 /// set | map
-#[tactic(auto, unfolding(crate::specs::Reading::lookup_at))]
+#[tactic(auto, unfolding(crate::specs::steps::Reading::lookup_at))]
 fn lookup(alloc: Global, tokens: &[Token], at: usize) -> Result<Option<(Item, usize)>, Memory>
     ensures { IfOk result (λ o. option_map (λ x. (item_tree x.0, ahead tokens.now x.1)) o ≡ lookup_at (ahead tokens.now at)) }
 {
@@ -32,7 +32,7 @@ fn lookup(alloc: Global, tokens: &[Token], at: usize) -> Result<Option<(Item, us
 }
 
 /// "comment" STRING | chain | set | map
-#[tactic(auto, unfolding(crate::specs::Reading::item_at))]
+#[tactic(auto, unfolding(crate::specs::steps::Reading::item_at))]
 fn item(alloc: Global, tokens: &[Token], at: usize) -> Result<Option<(Item, usize)>, Memory>
     ensures { IfOk result (λ o. option_map (λ x. (item_tree x.0, ahead tokens.now x.1)) o ≡ item_at (ahead tokens.now at)) }
 {
@@ -47,7 +47,7 @@ fn item(alloc: Global, tokens: &[Token], at: usize) -> Result<Option<(Item, usiz
 }
 
 /// item {end}
-#[tactic(auto, unfolding(crate::specs::Reading::next_item_at))]
+#[tactic(auto, unfolding(crate::specs::steps::Reading::next_item_at))]
 fn next_item(alloc: Global, tokens: &[Token], at: usize) -> Result<Option<(Item, usize)>, Memory>
     ensures { IfOk result (λ o. option_map (λ x. (item_tree x.0, ahead tokens.now x.1)) o ≡ next_item_at (ahead tokens.now at)) }
 {
@@ -73,7 +73,7 @@ fn items(alloc: Global, tokens: &[Token], at: usize) -> Result<(Vec<Item>, usize
 }
 
 /// "ip" | "inet"
-#[tactic(auto, unfolding(crate::specs::Reading::family_at))]
+#[tactic(auto, unfolding(crate::specs::steps::Reading::family_at))]
 fn family(tokens: &[Token], at: usize) -> Option<(Family, usize)>
     ensures { option_map (λ x. (x.0, ahead tokens.now x.1)) result ≡ family_at (ahead tokens.now at) }
 {
@@ -85,7 +85,7 @@ fn family(tokens: &[Token], at: usize) -> Option<(Family, usize)>
 }
 
 /// ("ip" | "inet") NAME
-#[tactic(auto, unfolding(crate::specs::Reading::family_name_at))]
+#[tactic(auto, unfolding(crate::specs::steps::Reading::family_name_at))]
 fn family_name<'t>(tokens: &[Token<'t>], at: usize) -> Option<((Family, &'t [u8]), usize)>
     ensures { option_map (λ x. ((x.0.0, x.0.1.now), ahead tokens.now x.1)) result ≡ family_name_at (ahead tokens.now at) }
 {
@@ -95,7 +95,7 @@ fn family_name<'t>(tokens: &[Token<'t>], at: usize) -> Option<((Family, &'t [u8]
 }
 
 /// NAME
-#[tactic(auto, unfolding(crate::specs::Reading::sole_name_at))]
+#[tactic(auto, unfolding(crate::specs::steps::Reading::sole_name_at))]
 fn sole_name<'t>(tokens: &[Token<'t>], at: usize) -> Option<((Family, &'t [u8]), usize)>
     ensures { option_map (λ x. ((x.0.0, x.0.1.now), ahead tokens.now x.1)) result ≡ sole_name_at (ahead tokens.now at) }
 {
@@ -104,7 +104,7 @@ fn sole_name<'t>(tokens: &[Token<'t>], at: usize) -> Option<((Family, &'t [u8]),
 }
 
 /// ["ip" | "inet"] NAME: a table may have the name of a family.
-#[tactic(auto, unfolding(crate::specs::Reading::table_name_at))]
+#[tactic(auto, unfolding(crate::specs::steps::Reading::table_name_at))]
 fn table_name<'t>(tokens: &[Token<'t>], at: usize) -> Option<((Family, &'t [u8]), usize)>
     ensures { option_map (λ x. ((x.0.0, x.0.1.now), ahead tokens.now x.1)) result ≡ table_name_at (ahead tokens.now at) }
 {
@@ -115,7 +115,7 @@ fn table_name<'t>(tokens: &[Token<'t>], at: usize) -> Option<((Family, &'t [u8])
 }
 
 /// "table" ["ip" | "inet"] NAME "{" {end}
-#[tactic(auto, unfolding(crate::specs::Reading::table_front_at))]
+#[tactic(auto, unfolding(crate::specs::steps::Reading::table_front_at))]
 fn table_front<'t>(tokens: &[Token<'t>], at: usize) -> Option<((Family, &'t [u8]), usize)>
     ensures { option_map (λ x. ((x.0.0, x.0.1.now), ahead tokens.now x.1)) result ≡ table_front_at (ahead tokens.now at) }
 {
@@ -126,7 +126,7 @@ fn table_front<'t>(tokens: &[Token<'t>], at: usize) -> Option<((Family, &'t [u8]
 }
 
 /// "table" ["ip" | "inet"] NAME "{" {end} {item {end}} "}"
-#[tactic(auto, unfolding(crate::specs::Reading::table_at))]
+#[tactic(auto, unfolding(crate::specs::steps::Reading::table_at))]
 fn table(alloc: Global, tokens: &[Token], at: usize) -> Result<Option<(Table, usize)>, Memory>
     ensures { IfOk result (λ o. option_map (λ x. (table_tree x.0, ahead tokens.now x.1)) o ≡ table_at (ahead tokens.now at)) }
 {
@@ -147,7 +147,7 @@ fn table(alloc: Global, tokens: &[Token], at: usize) -> Result<Option<(Table, us
 }
 
 /// table {end}
-#[tactic(auto, unfolding(crate::specs::Reading::next_table_at))]
+#[tactic(auto, unfolding(crate::specs::steps::Reading::next_table_at))]
 fn next_table(alloc: Global, tokens: &[Token], at: usize) -> Result<Option<(Table, usize)>, Memory>
     ensures { IfOk result (λ o. option_map (λ x. (table_tree x.0, ahead tokens.now x.1)) o ≡ next_table_at (ahead tokens.now at)) }
 {
@@ -173,7 +173,7 @@ fn tables(alloc: Global, tokens: &[Token], at: usize) -> Result<(Vec<Table>, usi
 }
 
 /// "flush" "ruleset" end {end}
-#[tactic(auto, unfolding(crate::specs::Reading::after_flush))]
+#[tactic(auto, unfolding(crate::specs::steps::Reading::after_flush))]
 fn after_flush(tokens: &[Token], at: usize) -> Option<usize>
     ensures { option_map (ahead tokens.now) result ≡ after_flush (ahead tokens.now at) }
 {
@@ -183,7 +183,7 @@ fn after_flush(tokens: &[Token], at: usize) -> Option<usize>
 }
 
 /// ["flush" "ruleset" end {end}]
-#[tactic(auto, unfolding(crate::specs::Reading::skip_flush))]
+#[tactic(auto, unfolding(crate::specs::steps::Reading::skip_flush))]
 fn skip_flush(tokens: &[Token], at: usize) -> usize
     ensures { ahead tokens.now result ≡ skip_flush (ahead tokens.now at) }
 {
@@ -191,7 +191,7 @@ fn skip_flush(tokens: &[Token], at: usize) -> usize
 }
 
 /// {end} ["flush" "ruleset" end {end}] {table {end}}, all of the tokens.
-#[tactic(auto, unfolding(crate::specs::Reading::ruleset_at))]
+#[tactic(auto, unfolding(crate::specs::steps::Reading::ruleset_at))]
 fn ruleset_here(alloc: Global, tokens: &[Token]) -> Result<Option<Ruleset>, Memory>
     ensures { IfOk result (λ o. option_map (λ r. tables_of r) o ≡ ruleset_at (signs tokens.now)) }
 {

@@ -1,10 +1,13 @@
 -- What counts of a type where two are compared: its name, or its width where it has none (nft(8), "Data types", "typeof").
 use Rattle.std.specs.Prelude.{ℕ, List, map, Option, Some, None}
-use Rattle.nft_tree.specs.Types.{ValueType, Selector, MapType, Kind}
-use Rattle.nft_tree.specs.Types.kinds
-use Rattle.nft_tree.specs.Types.map_types
-use Rattle.nft_tree.specs.Types.types_or_verdicts
-use Rattle.nft_tree.specs.Types.selectors_or_verdicts
+use Rattle.nft_tree.specs.declared.selector.ValueType.{ValueType}
+use Rattle.nft_tree.specs.declared.selector.Selector.{Selector}
+use Rattle.nft_tree.specs.declared.set.MapType.{MapType}
+use Rattle.nft_tree.specs.declared.kind.Kind.{Kind}
+use Rattle.nft_tree.specs.Variants.kinds
+use Rattle.nft_tree.specs.Variants.map_types
+use Rattle.nft_tree.specs.Variants.types_or_verdicts
+use Rattle.nft_tree.specs.Variants.selectors_or_verdicts
 use Rattle.nft_tree.specs.Tree as tree
 use Rattle.nft_tree.specs.Tree.{SetTypeTree}
 use Rattle.nft_tree.specs.Words.{selector_type, selector_width}

@@ -1,4 +1,4 @@
-pub mod Types
+pub mod Variants
 pub mod Tree
 pub mod Words
 pub mod Kinds

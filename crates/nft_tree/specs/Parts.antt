@@ -2,7 +2,8 @@
 use Rattle.std.specs.Prelude.{ℕ, zero, suc, List, Option, Some, None, slice_get}
 use Rattle.std.specs.List.{filter_map}
 use Rattle.std.specs.Option.{option_and_then}
-use Rattle.nft_tree.specs.Types.{RuleNo, CounterStart}
+use Rattle.nft_tree.specs.declared.ruleset.RuleNo.{RuleNo}
+use Rattle.nft_tree.specs.declared.statement.CounterStart.{CounterStart}
 use Rattle.nft_tree.specs.Tree as tree
 use Rattle.nft_tree.specs.Tree.{Statement, RuleTree, ChainTree, SetTree, MapTree, ItemTree, TableTree}
 

@@ -1,9 +1,10 @@
 -- The numbers of priorities (nft(8), "Chains", the table of standard priority names).
 use Rattle.std.specs.Prelude.{ℤ, pos, negsuc, ◌+ℤ◌, ◌-ℤ◌}
-use Rattle.nft_tree.specs.Types.{Priority, PriorityName}
-use Rattle.nft_tree.specs.Types.priorities
-use Rattle.nft_tree.specs.Types.priority_names
-use Rattle.nft_tree.specs.Types.offset_signs
+use Rattle.nft_tree.specs.declared.chain.Priority.{Priority}
+use Rattle.nft_tree.specs.declared.chain.PriorityName.{PriorityName}
+use Rattle.nft_tree.specs.Variants.priorities
+use Rattle.nft_tree.specs.Variants.priority_names
+use Rattle.nft_tree.specs.Variants.offset_signs
 
 abbrev pub name_number : PriorityName → ℤ
 name_number priority_names.Raw = negsuc 299

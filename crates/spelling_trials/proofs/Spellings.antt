@@ -5,9 +5,9 @@ use Rattle.std.specs.Str.{bytes_eq}
 use Rattle.nft_lexer.specs.declared.token.Mark.TheVariants.{Comma, Semicolon, Colon, Minus}
 use Rattle.nft_lexer.specs.Sign.{Sign, newline, mark, word, number}
 use Rattle.nft_tree.specs.declared.ruleset.Family.{Family}
+use Rattle.nft_tree.specs.declared.statement.Operator.{Operator}
 use Rattle.nft_tree.specs.declared.ruleset.Family.TheVariants.{Ip, Inet}
 use Rattle.nft_tree.specs.declared.selector.Selector.TheVariants as selectors
-use Rattle.nft_tree.specs.declared.statement.Operator.{Operator}
 use Rattle.nft_tree.specs.Tree as tree
 use Rattle.nft_tree.specs.Tree.{Text, VerdictTree, RangeTree, TableTree}
 use Rattle.token_reader.specs.Repeats.{Many, Ends, SomeEnds}

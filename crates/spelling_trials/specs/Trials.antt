@@ -2,24 +2,24 @@
 use Rattle.std.specs.Prelude.{List, [], ◌∷◌, Some, None, codes, true, false}
 use Rattle.nft_lexer.specs.declared.token.Mark.TheVariants.{OpenBrace, CloseBrace, OpenParenthesis, CloseParenthesis, Comma, Semicolon, Colon, Dot, Slash, Minus, Plus, Equals, At, Ampersand, Bar, EqualTo, NotEqualTo, AtLeast}
 use Rattle.nft_lexer.specs.Sign.{Sign, newline, mark, word, number, address, string}
+use Rattle.nft_tree.specs.declared.chain.Hook.{Hook}
+use Rattle.nft_tree.specs.declared.chain.Policy.{Policy}
+use Rattle.nft_tree.specs.declared.selector.Selector.{Selector}
 use Rattle.nft_tree.specs.declared.ruleset.Family.TheVariants as families
-use Rattle.nft_tree.specs.declared.chain.ChainKind.TheVariants as kinds
+use Rattle.nft_tree.specs.declared.chain.ChainKind.TheVariants as chain_kinds
 use Rattle.nft_tree.specs.declared.chain.Hook.TheVariants as hooks
 use Rattle.nft_tree.specs.declared.chain.Priority.TheVariants as priorities
 use Rattle.nft_tree.specs.declared.chain.PriorityName.TheVariants as priority_names
 use Rattle.nft_tree.specs.declared.chain.Policy.TheVariants as policies
-use Rattle.nft_tree.specs.declared.chain.OffsetSign.TheVariants as signs
-use Rattle.nft_tree.specs.declared.chain.Hook.{Hook}
-use Rattle.nft_tree.specs.declared.chain.Policy.{Policy}
-use Rattle.nft_tree.specs.declared.selector.Selector.{Selector}
+use Rattle.nft_tree.specs.declared.chain.OffsetSign.TheVariants as offset_signs
 use Rattle.nft_tree.specs.declared.selector.Selector.TheVariants as selectors
 use Rattle.nft_tree.specs.declared.selector.ValueType.TheVariants as value_types
 use Rattle.nft_tree.specs.declared.set.SetFlag.TheVariants as set_flags
 use Rattle.nft_tree.specs.declared.set.MapType.TheVariants as map_types
-use Rattle.nft_tree.specs.declared.set.TypeOrVerdict.TheVariants as type_kinds
-use Rattle.nft_tree.specs.declared.set.SelectorOrVerdict.TheVariants as selector_kinds
+use Rattle.nft_tree.specs.declared.set.TypeOrVerdict.TheVariants as types_or_verdicts
+use Rattle.nft_tree.specs.declared.set.SelectorOrVerdict.TheVariants as selectors_or_verdicts
 use Rattle.nft_tree.specs.declared.nat.PortRange.TheVariants as port_ranges
-use Rattle.nft_tree.specs.declared.statement.MarkField.TheVariants as marks
+use Rattle.nft_tree.specs.declared.statement.MarkField.TheVariants as mark_fields
 use Rattle.nft_tree.specs.declared.statement.Operator.TheVariants as operators
 use Rattle.nft_tree.specs.declared.statement.BitField.TheVariants as bit_fields
 use Rattle.nft_tree.specs.declared.statement.BitTest.TheVariants as bit_tests
@@ -213,14 +213,14 @@ mark_from_connection_tokens rest =
     word (codes "meta") ∷ word (codes "mark") ∷ word (codes "set") ∷ word (codes "ct") ∷ word (codes "mark") ∷ rest
 
 abbrev pub mark_from_connection : RuleTree
-mark_from_connection = uncommented (tree.set_mark marks.Meta (tree.mark_of marks.Ct) ∷ [])
+mark_from_connection = uncommented (tree.set_mark mark_fields.Meta (tree.mark_of mark_fields.Ct) ∷ [])
 
 -- ct mark set 7
 abbrev pub connection_marked_tokens : List Sign → List Sign
 connection_marked_tokens rest = word (codes "ct") ∷ word (codes "mark") ∷ word (codes "set") ∷ number 7 ∷ rest
 
 abbrev pub connection_marked : RuleTree
-connection_marked = uncommented (tree.set_mark marks.Ct (tree.constant 7) ∷ [])
+connection_marked = uncommented (tree.set_mark mark_fields.Ct (tree.constant 7) ∷ [])
 
 -- tcp flags & (fin | syn) != 0 continue
 abbrev pub some_flag_tokens : List Sign → List Sign
@@ -259,7 +259,7 @@ mark_by_source_tokens rest =
 
 abbrev pub mark_by_source : RuleTree
 mark_by_source = uncommented (
-    tree.set_mark marks.Meta (tree.looked_up (record {
+    tree.set_mark mark_fields.Meta (tree.looked_up (record {
       selector = selectors.IpSource;
       map = tree.pairs (record {
         key = tree.between (tree.address 0x0A000001) (tree.address 0x0A000009);
@@ -368,7 +368,7 @@ by_interface_tokens rest =
 abbrev pub by_interface : MapTree
 by_interface = record {
   name = codes "by_interface";
-  types = map_types.Selectors selectors.InputName selector_kinds.Verdict;
+  types = map_types.Selectors selectors.InputName selectors_or_verdicts.Verdict;
   flags = None;
   size = None;
   auto_merge = false;
@@ -390,9 +390,9 @@ watch = record {
   name = codes "watch";
   notes = [];
   head = Some (record {
-    kind = kinds.Filter;
+    kind = chain_kinds.Filter;
     hook = hooks.Forward;
-    priority = priorities.Number signs.Minus 150;
+    priority = priorities.Number offset_signs.Minus 150;
     policy = None;
     notes = [];
   });
@@ -408,7 +408,7 @@ watch = record {
 -- the head of a filter chain with a policy, at the priority `filter`
 abbrev pub filter_head : Hook → Policy → HeadTree
 filter_head hook policy = record {
-  kind = kinds.Filter;
+  kind = chain_kinds.Filter;
   hook = hook;
   priority = priorities.Named priority_names.Filter;
   policy = Some policy;
@@ -577,7 +577,7 @@ translation =
           tree.comment (codes "translation")
           ∷ tree.map_item (record {
             name = codes "web";
-            types = map_types.Types value_types.Service (type_kinds.Type value_types.Address);
+            types = map_types.Types value_types.Service (types_or_verdicts.Type value_types.Address);
             flags = None;
             size = None;
             auto_merge = false;
@@ -588,9 +588,9 @@ translation =
             name = codes "in";
             notes = codes "from outside" ∷ [];
             head = Some (record {
-              kind = kinds.Nat;
+              kind = chain_kinds.Nat;
               hook = hooks.Prerouting;
-              priority = priorities.Offset priority_names.DstNat signs.Plus 10;
+              priority = priorities.Offset priority_names.DstNat offset_signs.Plus 10;
               policy = None;
               notes = codes "before routing" ∷ [];
             });

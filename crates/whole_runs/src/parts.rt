@@ -91,11 +91,11 @@ fn pairs_are_read_up_to_their_brace(rt: HostRuntime) -> Result<(), Fail> {
 #[test]
 fn a_selector_is_read_whatever_follows(rt: HostRuntime) -> Result<(), Fail> {
     let tokens = lex(rt.alloc(), b"meta iifname ct state , iif")?;
-    assert_eq!(rt; anysel(&tokens, 0), Some((Selector::InputName, 2)));
-    assert_eq!(rt; anysel(&tokens, 1), Some((Selector::InputName, 2)));
-    assert_eq!(rt; anysel(&tokens, 2), Some((Selector::CtState, 4)));
-    assert_eq!(rt; anysel(&tokens, 3), None);
-    assert_eq!(rt; anysel(&tokens, 5), Some((Selector::InputIndex, 6)));
-    assert_eq!(rt; anysel(&tokens, 6), None);
+    assert!(rt; matches!(anysel(&tokens, 0), Some((Selector::InputName, 2))));
+    assert!(rt; matches!(anysel(&tokens, 1), Some((Selector::InputName, 2))));
+    assert!(rt; matches!(anysel(&tokens, 2), Some((Selector::CtState, 4))));
+    assert!(rt; anysel(&tokens, 3).is_none());
+    assert!(rt; matches!(anysel(&tokens, 5), Some((Selector::InputIndex, 6))));
+    assert!(rt; anysel(&tokens, 6).is_none());
     Ok(())
 }

@@ -1,12 +1,17 @@
--- What a fault of the tokens is as a fault of the ruleset.
+-- What a refusal of the lexer is as a refusal of the parser, and why tokens that spell no tree are refused.
+use Rattle.std.specs.Prelude.{Bool, true, false}
 use Rattle.nft_lexer.specs.declared.fault.LexError.{LexError}
 use Rattle.nft_lexer.specs.declared.fault.LexError.TheVariants as lexical
+use Rattle.nft_parser.specs.declared.fault.TextFault.{TextFault}
+use Rattle.nft_parser.specs.declared.fault.TextFault.TheVariants.{Cutting, Syntax, LeftOut}
 use Rattle.nft_parser.specs.declared.fault.ParseError.{ParseError}
-use Rattle.nft_parser.specs.declared.fault.ParseError.TheVariants.{Byte, OpenString, Number, TooLong, Memory}
+use Rattle.nft_parser.specs.declared.fault.ParseError.TheVariants.{Refused, Memory}
 
-abbrev pub of_lexing : LexError → ParseError
-of_lexing (lexical.Byte line) = Byte line
-of_lexing (lexical.OpenString line) = OpenString line
-of_lexing (lexical.Number line) = Number line
-of_lexing lexical.TooLong = TooLong
-of_lexing lexical.Memory = Memory
+abbrev pub of_cutting : LexError → ParseError
+of_cutting (lexical.Refused fault) = Refused (Cutting fault)
+of_cutting lexical.Memory = Memory
+
+-- the fault of tokens that spell no tree, by whether one of their words is left out
+abbrev pub refusal : Bool → TextFault
+refusal true = LeftOut
+refusal false = Syntax

@@ -5,26 +5,24 @@ use Rattle.std.specs.Str.{bytes_eq}
 use Rattle.nft_lexer.specs.declared.token.Mark.TheVariants as marks
 use Rattle.nft_lexer.specs.Sign.{Sign, word}
 use Rattle.nft_tree.specs.declared.ruleset.Family.{Family}
-use Rattle.nft_tree.specs.declared.ruleset.Family.TheVariants.{Ip, Inet}
 use Rattle.nft_tree.specs.declared.chain.ChainKind.{ChainKind}
-use Rattle.nft_tree.specs.declared.chain.ChainKind.TheVariants as kinds
 use Rattle.nft_tree.specs.declared.chain.Hook.{Hook}
-use Rattle.nft_tree.specs.declared.chain.Hook.TheVariants as hooks
 use Rattle.nft_tree.specs.declared.chain.Priority.{Priority}
-use Rattle.nft_tree.specs.declared.chain.Priority.TheVariants.{Number, Named, Offset}
 use Rattle.nft_tree.specs.declared.chain.PriorityName.{PriorityName}
-use Rattle.nft_tree.specs.declared.chain.PriorityName.TheVariants as priorities
 use Rattle.nft_tree.specs.declared.chain.OffsetSign.{OffsetSign}
-use Rattle.nft_tree.specs.declared.chain.OffsetSign.TheVariants.{Plus, Minus}
 use Rattle.nft_tree.specs.declared.chain.Policy.{Policy}
+use Rattle.nft_tree.specs.declared.ruleset.Family.TheVariants.{Ip, Inet}
+use Rattle.nft_tree.specs.declared.chain.ChainKind.TheVariants as chain_kinds
+use Rattle.nft_tree.specs.declared.chain.Hook.TheVariants as hooks
+use Rattle.nft_tree.specs.declared.chain.Priority.TheVariants.{Number, Named, Offset}
+use Rattle.nft_tree.specs.declared.chain.PriorityName.TheVariants as priority_names
+use Rattle.nft_tree.specs.declared.chain.OffsetSign.TheVariants.{Plus, Minus}
 use Rattle.nft_tree.specs.declared.chain.Policy.TheVariants as policies
 use Rattle.nft_tree.specs.Tree as tree
 use Rattle.nft_tree.specs.Tree.{Text, RuleTree, HeadTree, ChainTree, ItemTree, TableTree}
-use Rattle.token_reader.specs.Reading.{option_else, ◌>>=◌, all_at, with_front, after_word, after_mark, after_ends, word_at, number_at, string_at, skip_ends, by_word}
-use Rattle.nft_rules.specs.steps.Reading.{rule_at}
+use Rattle.token_reader.specs.steps.Reading.{option_else, ◌>>=◌, all_at, with_front, after_word, after_mark, after_ends, word_at, number_at, string_at, skip_ends, by_word}
+use Rattle.nft_rules.specs.steps.Reading.{ended_rule_at}
 use Rattle.nft_sets.specs.steps.Reading.{set_at, map_at}
-use Rattle.nft_parser.specs.declared.fault.ParseError.{ParseError}
-use Rattle.nft_parser.specs.declared.fault.ParseError.TheVariants.{Syntax, LeftOut}
 use Rattle.nft_parser.specs.Rulesets.{left_out}
 
 -- what a reading of A gives
@@ -49,7 +47,7 @@ note_at ts = do
 -- ---- the head of a chain
 
 abbrev pub kind_rows : List (Text × Reads ChainKind)
-kind_rows = (codes "filter", λ a. Some (kinds.Filter, a)) ∷ (codes "nat", λ a. Some (kinds.Nat, a)) ∷ []
+kind_rows = (codes "filter", λ a. Some (chain_kinds.Filter, a)) ∷ (codes "nat", λ a. Some (chain_kinds.Nat, a)) ∷ []
 
 unfoldable pub kind_at : Reads ChainKind
 kind_at ts = by_word kind_rows ts
@@ -64,8 +62,8 @@ hook_at ts = by_word hook_rows ts
 
 abbrev pub priority_rows : List (Text × Reads PriorityName)
 priority_rows =
-    (codes "raw", λ a. Some (priorities.Raw, a)) ∷ (codes "mangle", λ a. Some (priorities.Mangle, a)) ∷ (codes "dstnat", λ a. Some (priorities.DstNat, a))
-    ∷ (codes "filter", λ a. Some (priorities.Filter, a)) ∷ (codes "security", λ a. Some (priorities.Security, a)) ∷ (codes "srcnat", λ a. Some (priorities.SrcNat, a)) ∷ []
+    (codes "raw", λ a. Some (priority_names.Raw, a)) ∷ (codes "mangle", λ a. Some (priority_names.Mangle, a)) ∷ (codes "dstnat", λ a. Some (priority_names.DstNat, a))
+    ∷ (codes "filter", λ a. Some (priority_names.Filter, a)) ∷ (codes "security", λ a. Some (priority_names.Security, a)) ∷ (codes "srcnat", λ a. Some (priority_names.SrcNat, a)) ∷ []
 
 unfoldable pub priority_name_at : Reads PriorityName
 priority_name_at ts = by_word priority_rows ts
@@ -152,11 +150,11 @@ head_if_at ts = option_else (head_at ts) (λ h. (Some h.0, h.1)) (None, ts)
 unfoldable pub next_rule_at : Reads RuleTree
 next_rule_at ts = do
   a ← after_ends ts
-  rule_at a
+  ended_rule_at a
 
 unfoldable pub rules_at : List Sign → List RuleTree × List Sign
 rules_at ts =
-    option_else (rule_at ts) (λ r. let rs = with_front (r.0 ∷ []) (all_at next_rule_at r.1) in (rs.0, skip_ends rs.1))
+    option_else (ended_rule_at ts) (λ r. let rs = with_front (r.0 ∷ []) (all_at next_rule_at r.1) in (rs.0, skip_ends rs.1))
     ([], ts)
 
 -- "chain" NAME "{" {end}
@@ -261,8 +259,3 @@ ruleset_at ts =
 abbrev pub names_left_out : Sign → Bool
 names_left_out (word w) = list_any (bytes_eq w) left_out
 names_left_out _ = false
-
--- why tokens that spell no tree are no ruleset, by whether one of their words is left out
-abbrev pub refusal : Bool → ParseError
-refusal true = LeftOut
-refusal false = Syntax

@@ -2,8 +2,8 @@ use Rattle.std.proofs.Common.{◌≡◌, map, ◌++◌, ◌∷◌, [], sym}
 use Rattle.std.proofs.lemmas.List.{map_push}
 use Rattle.nft_tree.specs.Tree.{rule_tree}
 use Rattle.token_reader.specs.Places.{ahead}
-use Rattle.token_reader.specs.Laws.{goes_on, is_done}
-use Rattle.nft_parser.specs.Reading.{next_rule_at}
+use Rattle.token_reader.specs.steps.Laws.{goes_on, is_done}
+use Rattle.nft_parser.specs.steps.Reading.{next_rule_at}
 use Rattle.nft_parser.proofs.ChainLaws.{next_rule_shortens}
 use Rattle.nft_parser.proofs.chains.more_rules.Goals as goal
 

@@ -1,8 +1,8 @@
 use Rattle.std.proofs.Common.{◌≡◌, map, length}
 use Rattle.nft_tree.specs.Tree.{rule_tree}
 use Rattle.token_reader.specs.Places.{ahead}
-use Rattle.token_reader.specs.Reading.{all_at, with_front}
-use Rattle.nft_parser.specs.Reading.{next_rule_at}
+use Rattle.token_reader.specs.steps.Reading.{all_at, with_front}
+use Rattle.nft_parser.specs.steps.Reading.{next_rule_at}
 use Rattle.nft_parser.proofs.chains.more_rules.Given as goal
 
 abbrev pub invariant-loop-rule : goal.invariant-loop-rule

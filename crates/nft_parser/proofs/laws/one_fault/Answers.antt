@@ -1,9 +1,8 @@
 use Rattle.std.proofs.Common.{◌≡◌, ◌∙◌, List, inl, inr, sym, ap}
-use Rattle.nft_lexer.specs.Sign.{Spelled}
-use Rattle.nft_parser.specs.Faults.{of_lexing}
-use Rattle.nft_parser.specs.Reading.{refusal}
+use Rattle.nft_lexer.specs.Sign.{Spelled, signs_of}
+use Rattle.nft_parser.specs.declared.fault.TextFault.TheVariants.{Cutting}
 use Rattle.nft_parser.specs.Rulesets.{has_left_out}
-use Rattle.nft_parser.specs.Spells.{signs_of}
+use Rattle.nft_parser.specs.steps.Faults.{refusal}
 use Rattle.nft_parser.proofs.TextLaws.{fault_cases}
 use Rattle.nft_parser.proofs.laws.one_fault.Goals as goal
 
@@ -12,7 +11,7 @@ returns c = λ text first second f s.
     elim (fault_cases text first f) [
       | inl l ↦
           elim (fault_cases text second s) [
-            | inl m ↦ l.1 ∙ ap of_lexing (c.one_fault.ensures text l.0 m.0 l.2 m.2) ∙ sym m.1
+            | inl m ↦ l.1 ∙ ap Cutting (c.one_fault.ensures text l.0 m.0 l.2 m.2) ∙ sym m.1
             | inr n ↦ absurd (c.one_cutting.ensures.faultless text n.2.0 l.0 n.2.1 l.2)
           ]
       | inr n ↦

@@ -3,7 +3,7 @@ use Rattle.std.proofs.lemmas.Iterator.{YieldsList-from_slice}
 use Rattle.std.proofs.lemmas.Iterator.Search.{any_from_yields_List}
 use Rattle.nft_lexer.specs.declared.token.Token.{Token}
 use Rattle.nft_lexer.specs.Sign.{sign_of}
-use Rattle.nft_parser.specs.Reading.{names_left_out}
+use Rattle.nft_parser.specs.steps.Reading.{names_left_out}
 use Rattle.nft_parser.proofs.TextLaws.{has_left_out-any}
 use Rattle.nft_parser.proofs.left_out.has_left_out.Goals as goal
 

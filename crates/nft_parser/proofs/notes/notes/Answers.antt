@@ -1,8 +1,8 @@
 use Rattle.std.proofs.Common.{◌≡◌, map, ◌++◌, ◌∷◌, [], sym, ◌∙◌, ap, ℕ, List}
 use Rattle.std.proofs.lemmas.List.{map_push}
 use Rattle.token_reader.specs.Places.{ahead}
-use Rattle.token_reader.specs.Laws.{goes_on, is_done}
-use Rattle.nft_parser.specs.Reading.{note_at}
+use Rattle.token_reader.specs.steps.Laws.{goes_on, is_done}
+use Rattle.nft_parser.specs.steps.Reading.{note_at}
 use Rattle.nft_parser.proofs.HeadLaws.{note_shortens}
 use Rattle.nft_parser.proofs.notes.notes.Goals as goal
 

@@ -1,7 +1,7 @@
 use Rattle.std.proofs.Common.{◌≡◌, map, length}
 use Rattle.token_reader.specs.Places.{ahead}
-use Rattle.token_reader.specs.Reading.{all_at, with_front}
-use Rattle.nft_parser.specs.Reading.{note_at}
+use Rattle.token_reader.specs.steps.Reading.{all_at, with_front}
+use Rattle.nft_parser.specs.steps.Reading.{note_at}
 use Rattle.nft_parser.proofs.notes.notes.Given as goal
 
 abbrev pub invariant-loop-text : goal.invariant-loop-text

@@ -1,9 +1,9 @@
 use Rattle.std.proofs.lemmas.Result.{IfOk-weaker}
 use Rattle.nft_lexer.specs.Sign.{signs}
 use Rattle.nft_tree.specs.Tree.{tables_of}
-use Rattle.token_reader.specs.Laws.{seen_found, seen_only}
+use Rattle.token_reader.specs.steps.Laws.{seen_found, seen_only}
 use Rattle.nft_parser.specs.Rulesets.{SpellsRuleset}
-use Rattle.nft_parser.specs.Reading.{ruleset_at}
+use Rattle.nft_parser.specs.steps.Reading.{ruleset_at}
 use Rattle.nft_parser.proofs.TableLaws.{ruleset_found, ruleset_only}
 use Rattle.nft_parser.proofs.tables.ruleset.Goals as goal
 

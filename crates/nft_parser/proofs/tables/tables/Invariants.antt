@@ -1,8 +1,8 @@
 use Rattle.std.proofs.Common.{◌≡◌, map, length}
 use Rattle.nft_tree.specs.Tree.{table_tree}
 use Rattle.token_reader.specs.Places.{ahead}
-use Rattle.token_reader.specs.Reading.{all_at, with_front}
-use Rattle.nft_parser.specs.Reading.{next_table_at}
+use Rattle.token_reader.specs.steps.Reading.{all_at, with_front}
+use Rattle.nft_parser.specs.steps.Reading.{next_table_at}
 use Rattle.nft_parser.proofs.tables.tables.Given as goal
 
 abbrev pub invariant-loop-found : goal.invariant-loop-found

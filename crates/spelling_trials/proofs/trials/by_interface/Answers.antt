@@ -3,7 +3,7 @@ use Rattle.nft_lexer.specs.declared.token.Mark.TheVariants.{Comma, Colon}
 use Rattle.nft_lexer.specs.Sign.{mark, word, string}
 use Rattle.nft_tree.specs.declared.selector.Selector.TheVariants as selectors
 use Rattle.nft_tree.specs.declared.set.MapType.TheVariants as map_types
-use Rattle.nft_tree.specs.declared.set.SelectorOrVerdict.TheVariants as selector_kinds
+use Rattle.nft_tree.specs.declared.set.SelectorOrVerdict.TheVariants as selectors_or_verdicts
 use Rattle.nft_sets.specs.Sets as fields
 use Rattle.spelling_trials.specs.Trials.{interface_pairs}
 use Rattle.spelling_trials.proofs.trials.by_interface.Goals as goal
@@ -13,7 +13,7 @@ returns c rest = record {
   after = _;
   front = refl;
   fields =
-      fields.elements interface_pairs ∷ fields.key (map_types.Selectors selectors.InputName selector_kinds.Verdict)
+      fields.elements interface_pairs ∷ fields.key (map_types.Selectors selectors.InputName selectors_or_verdicts.Verdict)
       ∷ [];
   spelled = record {
     opened = _;

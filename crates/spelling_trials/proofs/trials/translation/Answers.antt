@@ -3,7 +3,7 @@ use Rattle.nft_lexer.specs.declared.token.Mark.TheVariants.{Comma, Colon}
 use Rattle.nft_lexer.specs.Sign.{mark, word, number, address, string}
 use Rattle.nft_tree.specs.declared.selector.ValueType.TheVariants as value_types
 use Rattle.nft_tree.specs.declared.set.MapType.TheVariants as map_types
-use Rattle.nft_tree.specs.declared.set.TypeOrVerdict.TheVariants as type_kinds
+use Rattle.nft_tree.specs.declared.set.TypeOrVerdict.TheVariants as types_or_verdicts
 use Rattle.nft_sets.specs.Sets as fields
 use Rattle.spelling_trials.specs.Trials.{web_servers}
 use Rattle.spelling_trials.proofs.trials.translation.Goals as goal
@@ -34,7 +34,7 @@ returns c = (
                 after = _;
                 front = refl;
                 fields =
-                    fields.key (map_types.Types value_types.Service (type_kinds.Type value_types.Address))
+                    fields.key (map_types.Types value_types.Service (types_or_verdicts.Type value_types.Address))
                     ∷ fields.elements web_servers ∷ [];
                 spelled = record {
                   opened = _;
