@@ -1,19 +1,18 @@
 -- A well-formed list of words has no fault.
-use Rattle.std.proofs.Common.{◌==◌, ◌≡◌, ◌∙◌, ◌&&◌, ℕ, Bool, cond, codes, true, false, not, refl, sym, ap, ap₂, subst, List, [], ◌∷◌, Option, Some, None, true≢false}
+use Rattle.std.proofs.Common.{◌==◌, ◌≡◌, ◌∙◌, ◌&&◌, ℕ, Bool, cond, codes, true, false, not, refl, sym, ap, ap₂, subst, List, [], ◌∷◌, Some, None, true≢false}
 use Rattle.std.specs.Prelude.{fold, option_and_then}
 use Rattle.std.specs.Option.{option_map_or}
 use Rattle.std.specs.Str.{bytes_eq}
 use Rattle.std.proofs.lemmas.Slice.Eq.{bytes_eq-Decides}
 use Rattle.clap.specs.Lexer.{long_of, long_of_rest, short_of, short_of_rest, strip_byte}
-use Rattle.clap.specs.Walk.{Held, Row, Step, Text, Walk, after_step, arg_by_index, finished, idle, long_or_other, nothing_held, settled, short_or_plain, subcommand_or_other, to_positional, trailing, value, walked}
-use Rattle.clap.specs.Simple.{Shape}
+use Rattle.clap.specs.Walk.{Held, Step, Text, Walk, after_step, arg_by_index, finished, idle, long_or_other, nothing_held, settled, short_or_plain, subcommand_or_other, to_positional, trailing, value, walked}
 use Rattle.clap.specs.Kinds.{Kinds, or_else}
 use Rattle.clap.specs.Faults.{bundle_fault, check_fault, defaults_fault, fault_of, flag_word_fault, level_fault, other_fault, settle_fault, step_fault, walk_fault}
 use Rattle.clap.proofs.OnLiterals.{clap_on_literals}
 use Rattle.clap.proofs.WalkLemmas.{both}
 use Rattle.command_line.specs.CommandLine.{is_plain_word, is_run, is_well_formed}
 use Rattle.command_line.specs.steps.Program.{program_app}
-use Rattle.command_line.proofs.Reading.{at, run, standing, held1, held2, held3, held4}
+use Rattle.command_line.proofs.Reading.{run, standing, held1, held2, held3}
 
 is_false : (b : Bool) → not b ≡ true → b ≡ false
 is_false true e = absurd (true≢false (sym e))

@@ -1,12 +1,12 @@
 -- What clap makes of the words, at the program's command.
-use Rattle.std.proofs.Common.{◌==◌, ◌≡◌, ◌∙◌, ◌⊎◌, ◌||◌, ℕ, Bool, cond, codes, true, false, not, zero, suc, refl, sym, ap, ap₂, subst, arith, List, [], ◌∷◌, length, drop, Option, Some, None, inl, inr, is_some, true≢false}
-use Rattle.std.specs.Prelude.{slice_get, fold, find, option_map}
+use Rattle.std.proofs.Common.{◌==◌, ◌≡◌, ◌∙◌, ◌⊎◌, ◌||◌, ℕ, Bool, cond, codes, true, false, zero, suc, refl, sym, ap, subst, arith, List, [], ◌∷◌, length, Option, Some, None, inl, inr, is_some, true≢false}
+use Rattle.std.specs.Prelude.{slice_get, fold, option_map}
 use Rattle.std.specs.List.{slice_index_or}
 use Rattle.std.specs.Option.{option_map_or}
 use Rattle.std.specs.Str.{bytes_eq, chars}
 use Rattle.std.proofs.lemmas.Slice.Eq.{bytes_eq-Decides}
 use Rattle.clap.specs.Lexer.{long_of, short_of}
-use Rattle.clap.specs.Walk.{Held, Names, Outcome, Row, Rule, Step, Text, Waiting, Walk, after_flag, after_step, reading_by, settled, subcommand_met, idle, plain, value, trailing, arg_by_index, arg_by_long, arg_by_short, bundle_met, bundle_step, finished, first_of, long_or_other, nothing_held, short_or_plain, subcommand_or_other, to_positional, walk, walk_from, walked}
+use Rattle.clap.specs.Walk.{Held, Names, Outcome, Row, Rule, Step, Text, Walk, after_flag, after_step, reading_by, settled, subcommand_met, idle, plain, value, trailing, arg_by_index, arg_by_long, arg_by_short, bundle_met, bundle_step, finished, first_of, long_or_other, nothing_held, short_or_plain, subcommand_or_other, to_positional, walk, walk_from, walked}
 use Rattle.clap.specs.Simple.{App, Shape, built, entered, filled, help_rule, names_of, new_shape, subcommand_of, with_index}
 use Rattle.clap.specs.Kinds.{Kinds, or_else}
 use Rattle.clap.specs.Faults.{bundle_step_fault, check_fault, defaults_fault, entered_fault, fault_of, settle_fault, flag_word_fault, flags_fault, level_fault, long_fault, other_fault, short_fault, step_fault, turn_fault, walk_fault}
