@@ -5,11 +5,11 @@ ghost use Rattle.box_file.specs.Box.{PlantTree, IsBox, HasBoxFault};
 
 /// A text has at most one plant, at most one fault, and never both.
 pub fn one_box()
-    ensures plant { (text : List ℕ) (plant other : PlantTree) → IsBox text plant
+    ensures one { (text : List ℕ) (plant other : PlantTree) → IsBox text plant
         → IsBox text other → plant ≡ other }
-    ensures fault { (text : List ℕ) (fault other : BoxFault) → HasBoxFault text fault
+    ensures one_fault { (text : List ℕ) (fault other : BoxFault) → HasBoxFault text fault
         → HasBoxFault text other → fault ≡ other }
-    ensures never_both { (text : List ℕ) (plant : PlantTree) (fault : BoxFault)
+    ensures faultless { (text : List ℕ) (plant : PlantTree) (fault : BoxFault)
         → IsBox text plant → HasBoxFault text fault → ⊥ }
 {}
 
