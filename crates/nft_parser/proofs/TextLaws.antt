@@ -15,7 +15,6 @@ use Rattle.nft_rules.specs.steps.Laws.{RuleLaws}
 use Rattle.nft_sets.specs.steps.Laws.{SetLaws}
 use Rattle.nft_parser.specs.declared.fault.TextFault.{TextFault}
 use Rattle.nft_parser.specs.declared.fault.TextFault.TheVariants.{Cutting, Syntax, LeftOut}
-use Rattle.nft_parser.specs.declared.fault.ParseError.{ParseError}
 use Rattle.nft_parser.specs.declared.fault.ParseError.TheVariants.{Refused, Memory}
 use Rattle.nft_parser.specs.Rulesets.{has_left_out, SpellsRuleset}
 use Rattle.nft_parser.specs.Spells.{Spells, SpellsNone, HasTextFault}

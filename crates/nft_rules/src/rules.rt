@@ -17,11 +17,7 @@ use token_reader::stops;
 
 /// stmt {stmt} ["comment" STRING], whatever follows it.
 #[tactic(auto, unfolding(crate::specs::steps::Reading::rule_at))]
-fn unended_rule(
-    alloc: Global,
-    tokens: &[Token],
-    at: usize,
-) -> Result<Option<(Rule, usize)>, Memory>
+fn unended_rule(alloc: Global, tokens: &[Token], at: usize) -> Result<Option<(Rule, usize)>, Memory>
     ensures { IfOk result (λ o. option_map (λ x. (rule_tree x.0, ahead tokens.now x.1)) o ≡ rule_at (ahead tokens.now at)) }
 {
     let (statements, at) = statements(alloc, tokens, at)?;
@@ -38,11 +34,7 @@ fn unended_rule(
 
 /// stmt {stmt} ["comment" STRING], and what ends a rule after it.
 #[tactic(auto, unfolding(crate::specs::steps::Reading::ended_rule_at))]
-fn ended_rule(
-    alloc: Global,
-    tokens: &[Token],
-    at: usize,
-) -> Result<Option<(Rule, usize)>, Memory>
+fn ended_rule(alloc: Global, tokens: &[Token], at: usize) -> Result<Option<(Rule, usize)>, Memory>
     ensures read { IfOk result (λ o. option_map (λ x. (rule_tree x.0, ahead tokens.now x.1)) o ≡ ended_rule_at (ahead tokens.now at)) }
     ensures within { IfOk result (λ o. IfSome o (λ x. x.1 ≤ length tokens.now)) }
 {

@@ -16,11 +16,7 @@ use token_reader::{after_word, word};
 
 /// "set" NAME "{" {end} field {end {end} field} {end} "}", its fields in any order.
 #[tactic(auto, unfolding(crate::specs::steps::Reading::set_at))]
-fn set_here(
-    alloc: Global,
-    tokens: &[Token],
-    at: usize,
-) -> Result<Option<(SetDecl, usize)>, Memory>
+fn set_here(alloc: Global, tokens: &[Token], at: usize) -> Result<Option<(SetDecl, usize)>, Memory>
     ensures read { IfOk result (λ o. option_map (λ x. (set_tree x.0, ahead tokens.now x.1)) o ≡ set_at (ahead tokens.now at)) }
     ensures within { IfOk result (λ o. IfSome o (λ x. x.1 ≤ length tokens.now)) }
 {
@@ -59,11 +55,7 @@ fn set_here(
 
 /// "map" NAME "{" {end} mfield {end {end} mfield} {end} "}", its fields in any order.
 #[tactic(auto, unfolding(crate::specs::steps::Reading::map_at))]
-fn map_here(
-    alloc: Global,
-    tokens: &[Token],
-    at: usize,
-) -> Result<Option<(MapDecl, usize)>, Memory>
+fn map_here(alloc: Global, tokens: &[Token], at: usize) -> Result<Option<(MapDecl, usize)>, Memory>
     ensures read { IfOk result (λ o. option_map (λ x. (map_tree x.0, ahead tokens.now x.1)) o ≡ map_at (ahead tokens.now at)) }
     ensures within { IfOk result (λ o. IfSome o (λ x. x.1 ≤ length tokens.now)) }
 {

@@ -4,10 +4,10 @@ use Rattle.nft_tree.specs.declared.selector.ValueType.{ValueType}
 use Rattle.nft_tree.specs.declared.selector.Selector.{Selector}
 use Rattle.nft_tree.specs.declared.set.MapType.{MapType}
 use Rattle.nft_tree.specs.declared.kind.Kind.{Kind}
-use Rattle.nft_tree.specs.Variants.kinds
-use Rattle.nft_tree.specs.Variants.map_types
-use Rattle.nft_tree.specs.Variants.types_or_verdicts
-use Rattle.nft_tree.specs.Variants.selectors_or_verdicts
+use Rattle.nft_tree.specs.declared.kind.Kind.TheVariants as kinds
+use Rattle.nft_tree.specs.declared.set.MapType.TheVariants as map_types
+use Rattle.nft_tree.specs.declared.set.TypeOrVerdict.TheVariants as types_or_verdicts
+use Rattle.nft_tree.specs.declared.set.SelectorOrVerdict.TheVariants as selectors_or_verdicts
 use Rattle.nft_tree.specs.Tree as tree
 use Rattle.nft_tree.specs.Tree.{SetTypeTree}
 use Rattle.nft_tree.specs.Words.{selector_type, selector_width}

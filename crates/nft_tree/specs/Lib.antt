@@ -1,4 +1,3 @@
-pub mod Variants
 pub mod Tree
 pub mod Words
 pub mod Kinds

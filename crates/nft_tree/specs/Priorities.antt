@@ -2,9 +2,9 @@
 use Rattle.std.specs.Prelude.{ℤ, pos, negsuc, ◌+ℤ◌, ◌-ℤ◌}
 use Rattle.nft_tree.specs.declared.chain.Priority.{Priority}
 use Rattle.nft_tree.specs.declared.chain.PriorityName.{PriorityName}
-use Rattle.nft_tree.specs.Variants.priorities
-use Rattle.nft_tree.specs.Variants.priority_names
-use Rattle.nft_tree.specs.Variants.offset_signs
+use Rattle.nft_tree.specs.declared.chain.Priority.TheVariants as priorities
+use Rattle.nft_tree.specs.declared.chain.PriorityName.TheVariants as priority_names
+use Rattle.nft_tree.specs.declared.chain.OffsetSign.TheVariants as offset_signs
 
 abbrev pub name_number : PriorityName → ℤ
 name_number priority_names.Raw = negsuc 299

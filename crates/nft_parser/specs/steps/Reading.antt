@@ -1,5 +1,5 @@
 -- Reading from left to right: for each production, what it reads at the front of some tokens, and what is left.
-use Rattle.std.specs.Prelude.{List, [], ◌∷◌, length, Bool, true, false, ◌==◌, Option, Some, None, if◌then◌else◌, codes}
+use Rattle.std.specs.Prelude.{List, [], ◌∷◌, length, Bool, false, ◌==◌, Option, Some, None, if◌then◌else◌, codes}
 use Rattle.std.specs.List.{list_any}
 use Rattle.std.specs.Str.{bytes_eq}
 use Rattle.nft_lexer.specs.declared.token.Mark.TheVariants as marks

@@ -1,4 +1,4 @@
-use Rattle.std.proofs.Common.{◌≡◌, ◌⊎◌, ◌∙◌, ap, List, inl, inr, sym, subst}
+use Rattle.std.proofs.Common.{◌≡◌, ◌⊎◌, ◌∙◌, ap, List, inl, sym, subst}
 use Rattle.nft_lexer.specs.Sign.{signs}
 use Rattle.nft_tree.specs.Tree.{TableTree, tables_of}
 use Rattle.nft_parser.specs.declared.fault.ParseError.{ParseError}
@@ -7,7 +7,7 @@ use Rattle.nft_parser.specs.declared.fault.TextFault.{TextFault}
 use Rattle.nft_parser.specs.Rulesets.{has_left_out, SpellsRuleset}
 use Rattle.nft_parser.specs.Spells.{HasTextFault}
 use Rattle.nft_parser.specs.steps.Faults.{of_cutting, refusal}
-use Rattle.nft_parser.proofs.TextLaws.{spelled_text, spelled_tokens, refused, refused_only, uncut_fault, uncut_only, at_error}
+use Rattle.nft_parser.proofs.TextLaws.{spelled_text, spelled_tokens, refused, refused_only, uncut_only, at_error}
 use Rattle.nft_parser.proofs.parsing.parse.Goals as goal
 
 pub returns-in_err-tokens-clause-only : goal.returns-in_err-tokens-clause-only
