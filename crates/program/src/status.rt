@@ -3,7 +3,8 @@ ghost use Rattle.std.specs.Prelude.{◌≡◌, MatchResult};
 ghost use Rattle.std.specs.IoError.{error_kind};
 ghost use Rattle.program.specs.Status.{of_end, of_error, of_fault, has_line, code_of};
 
-use engine::{BoxFault, RulesFault, RunFault};
+use box_file::BoxFault;
+use engine::{RulesFault, RunFault};
 use pcap_io::CaptureFault;
 use std::{fmt, io};
 

@@ -1,13 +1,14 @@
 //! The forms that runs take so far.
 ghost use Rattle.std.specs.Prelude.{◌≡◌, map};
 ghost use Rattle.std.specs.List.{list_all};
-ghost use Rattle.nft_tree.specs.Tree.{chain_tree, head_tree, item_tree, match_tree, option_map, rule_tree, statement, table_tree, tables_of};
+ghost use Rattle.std.specs.Option.{option_map};
+ghost use Rattle.nft_tree.specs.Tree.{chain_tree, head_tree, item_tree, match_tree, rule_tree, statement, table_tree, tables_of};
 ghost use Rattle.stepping.specs.Taken.{takes, takes_chain, takes_head, takes_item, takes_match, takes_priority, takes_rule, takes_statements, takes_table};
 
 use crate::rules::is_forward;
 use nft_tree::{
     Chain, ChainKind, Family, Head, Item, Match, Operator, Priority, PriorityName, Range, Rule,
-    Ruleset, Selector, OffsetSign, Stmt, Table, Value, Verdict,
+    OffsetSign, Ruleset, Selector, Stmt, Table, Value, Verdict,
 };
 
 /// Whether runs take the ruleset: its tables are of ip, with base chains of the forward hook at

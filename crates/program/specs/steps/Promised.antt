@@ -1,6 +1,7 @@
 -- What the system's own files promise of a call.
 use Rattle.std.specs.Prelude.{ℕ, false, List, Option, Ok, Err, IfSome}
-use Rattle.engine.specs.Meaning.{Refuses, Wrote}
+use Rattle.engine.specs.Meaning.{Wrote}
+use Rattle.engine.specs.Refusals.{Refuses}
 use Rattle.program.specs.Calls.{Call, run}
 
 -- a run does what the engine promises; of the other calls nothing is known

@@ -7,8 +7,8 @@ returns c =
       tree = c.one_tree.ensures.one;
       faultless = c.one_tree.ensures.faultless;
       one_fault = c.one_fault.ensures;
-      plant = c.one_box.ensures.plant;
-      sound_box = c.one_box.ensures.never_both;
-      one_box_fault = c.one_box.ensures.fault;
+      plant = c.one_box.ensures.one;
+      sound_box = c.one_box.ensures.faultless;
+      one_box_fault = c.one_box.ensures.one_fault;
       reading = c.one_reading.ensures;
     })

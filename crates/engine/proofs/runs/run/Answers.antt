@@ -9,7 +9,7 @@ returns-in_err-ruleset-clause-refusals g c =
 
 pub returns-clause-meaning : goal.returns-clause-meaning
 returns-clause-meaning g c =
-    let one : Single = record { tree = c.one_tree.ensures.one; plant = c.one_box.ensures.plant; reading = c.one_reading.ensures; entry = c.one_entry.ensures.one } in
+    let one : Single = record { tree = c.one_tree.ensures.one; plant = c.one_box.ensures.one; reading = c.one_reading.ensures; entry = c.one_entry.ensures.one } in
     if_ok_then _ _ _ c.write_texts.ensures.ok (λ summary done.
     wrote_all one _ _ _ _ _ _ _ _ _ _ _ _ _ _ _ c.in_ok-ruleset.ensures.taken c.new-engine.ensures.setup c.in-Ok.ensures.bytes done)
 
