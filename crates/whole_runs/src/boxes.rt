@@ -1,5 +1,4 @@
 //! Box files: what they are refused for, and what is found in them.
-use crate::runs::{AT_1_5, BOX, HEADER, OUT_HEADER, PLAIN, PLAIN_OUT, bytes, run_over};
 use box_file::{BoxError, BoxFault, Plant};
 use std::alloc::Global;
 use std::test::Fail;
@@ -166,6 +165,7 @@ fn refuses_more_than_1024_route_lines(rt: HostRuntime) -> Result<(), Fail> {
 fn refuses_more_than_1048576_bytes(rt: HostRuntime) -> Result<(), Fail> {
     let comment = vec![in rt.alloc(); b'#'; 1_048_576]?;
     let mut text = Vec::from_slice(rt.alloc(), TWO.as_bytes())?;
+    assert!(rt; text.len() < comment.len());
     let rest = comment.len() - text.len();
     text.extend_from_slice(&comment[..rest])?;
     assert_eq!(rt; text.len(), 1_048_576);
@@ -228,65 +228,5 @@ fn finds_the_longest_prefix_and_the_first_of_equal_ones(rt: HostRuntime) -> Resu
     assert_eq!(rt; plant.named(b"lan".as_slice()), Some(2));
     assert_eq!(rt; plant.name(2), Some(b"lan".as_slice()));
     assert_eq!(rt; plant.entering(), 3);
-    Ok(())
-}
-
-#[test]
-fn prints_the_faults(rt: HostRuntime) -> Result<(), Fail> {
-    for (error, text) in [
-        (BoxError::Refused(BoxFault::Form), "B1"),
-        (BoxError::Refused(BoxFault::Repeated), "B2"),
-        (BoxError::Refused(BoxFault::UnknownName), "B3"),
-        (BoxError::Refused(BoxFault::TooLarge), "B4"),
-        (BoxError::Memory, "memory"),
-    ] {
-        let printed = format!(in rt.alloc(); "{error}")?;
-        assert_eq!(rt; printed.as_str(), text);
-    }
-    Ok(())
-}
-
-/// The run's box with further lines.
-fn longer_box(alloc: Global, lines: &[u8]) -> Result<Vec<u8>, Fail> {
-    let mut text = Vec::from_slice(alloc, BOX)?;
-    text.extend_from_slice(lines)?;
-    Ok(text)
-}
-
-#[test]
-fn a_packet_takes_the_longest_prefix_and_the_first_of_equal_ones(
-    rt: HostRuntime,
-) -> Result<(), Fail> {
-    let capture = bytes(rt.alloc(), [HEADER, AT_1_5, PLAIN].as_slice())?;
-    let lines =
-        b"interface 7 dmz 198.51.100.1/24\nroute 198.51.100.0/23 lan\nroute 198.51.100.0/24 wan\n";
-    let plant = longer_box(rt.alloc(), lines.as_slice())?;
-    let given = run_over(rt.alloc(), b"", &plant, &capture, 4096);
-    let by_7 = "010000000065cd1d30000000300000000800000000000007000104000000000000000000";
-    let wanted = bytes(rt.alloc(), [OUT_HEADER, by_7, PLAIN_OUT].as_slice())?;
-    assert_eq!(rt; given.sent.as_slice(), wanted.as_slice());
-    Ok(())
-}
-
-#[test]
-fn packets_to_the_box_and_to_nowhere_do_not_leave(rt: HostRuntime) -> Result<(), Fail> {
-    let capture = bytes(rt.alloc(), [HEADER, AT_1_5, PLAIN].as_slice())?;
-    let own = b"interface 2 lan 198.51.100.7/32\ndefault lan\n";
-    let given = run_over(rt.alloc(), b"", own.as_slice(), &capture, 4096);
-    assert!(rt;
-        given
-            .report
-            .as_slice()
-            .starts_with(b"records 1\npassed 0\nlocal 1\n".as_slice())
-    );
-    let far = b"interface 2 lan 10.0.0.1/8\ndefault lan\n";
-    let given = run_over(rt.alloc(), b"", far.as_slice(), &capture, 4096);
-    assert!(rt;
-        given
-            .report
-            .as_slice()
-            .starts_with(b"records 1\npassed 0\nlocal 0\n".as_slice())
-    );
-    assert_eq!(rt; given.sent.len(), 24);
     Ok(())
 }

@@ -49,7 +49,9 @@ fn is_lan4(set: &SetDecl) -> bool {
 
 // The rule of services, the third of `chain input`.
 fn is_of_services(chain: &Chain) -> bool {
-    let rule = &chain.rules[2];
+    let Some(rule) = chain.rules.get(2) else {
+        return false;
+    };
     matches!(&rule.comment, Some(text) if text.as_slice() == b"in".as_slice())
         && rule.statements.len() == 4
         && matches!(
@@ -104,6 +106,7 @@ fn a_rule_is_found_by_its_number(rt: HostRuntime) -> Result<(), Fail> {
         panic!(rt; "no third rule");
     };
     assert!(rt; matches!(&third.comment, Some(text) if text.as_slice() == b"in".as_slice()));
+    assert_eq!(rt; third.statements.len(), 4);
     assert!(rt; third.statements[1].counter().is_none());
     assert!(rt;
         matches!(
@@ -131,7 +134,9 @@ map m { type mark : verdict; }
 map n { typeof meta length : ip daddr; }
 }";
     let ruleset = parse(rt.alloc(), text)?;
+    assert_eq!(rt; ruleset.tables.len(), 1);
     let items = &ruleset.tables[0].items;
+    assert_eq!(rt; items.len(), 3);
     let Some(set) = items[0].set() else {
         panic!(rt; "no set");
     };
@@ -172,6 +177,7 @@ fn priorities_are_numbers(rt: HostRuntime) -> Result<(), Fail> {
         text.extend_from_slice(priority)?;
         text.extend_from_slice(b"; } }")?;
         let ruleset = parse(rt.alloc(), &text)?;
+        assert_eq!(rt; ruleset.tables.len(), 1);
         let Some(chain) = ruleset.tables[0].chain(0) else {
             panic!(rt; "no chain");
         };
@@ -250,6 +256,7 @@ fn are_actions(statements: &[Stmt]) -> bool {
 
 /// The tree has to be that of the other forms.
 fn shows_other_forms<R: Abort>(rt: &R, ruleset: &Ruleset) {
+    assert_eq!(rt; ruleset.tables.len(), 1);
     let table = &ruleset.tables[0];
     assert!(rt; table.family == Family::Ip);
     assert_eq!(rt; table.items.len(), 3);
@@ -286,6 +293,7 @@ fn thousands_of_rules_are_read_and_copied(rt: HostRuntime) -> Result<(), Fail> {
     text.extend_from_slice(b"} }")?;
     let ruleset = parse(rt.alloc(), &text)?;
     let copy = ruleset.try_clone()?;
+    assert_eq!(rt; copy.tables.len(), 1);
     let Some(chain) = copy.tables[0].chain(0) else {
         panic!(rt; "no chain");
     };
