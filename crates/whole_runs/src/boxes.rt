@@ -120,28 +120,28 @@ fn refuses_repeats_before_unknown_names(rt: HostRuntime) -> Result<(), Fail> {
 
 #[test]
 fn refuses_more_than_64_interface_lines(rt: HostRuntime) -> Result<(), Fail> {
-    let mut text = b"default e1\n".to_vec(rt.alloc())?;
+    let mut text = String::from_str(rt.alloc(), "default e1\n")?;
     for index in 1..65u8 {
-        let line = format!(in rt.alloc(); "interface {index} e{index} 10.0.0.{index}/8\n")?;
-        text.extend_from_slice(line.as_bytes())?;
+        writeln!(text, "interface {index} e{index} 10.0.0.{index}/8")?;
     }
-    assert_eq!(rt; fault(rt.alloc(), &text)?, None);
-    let most = text.len();
-    text.extend_from_slice(b"interface 65 e65 10.0.0.65/8\n".as_slice())?;
-    assert_eq!(rt; fault(rt.alloc(), &text)?, Some(BoxFault::TooLarge));
-    text.truncate(most);
-    text.extend_from_slice(b"interface 65 e65 10.0.0.64/8\n".as_slice())?;
-    assert_eq!(rt; fault(rt.alloc(), &text)?, Some(BoxFault::Repeated));
+    assert_eq!(rt; fault(rt.alloc(), text.as_bytes())?, None);
+    for (line, wanted) in [
+        ("interface 65 e65 10.0.0.65/8\n", BoxFault::TooLarge),
+        ("interface 65 e65 10.0.0.64/8\n", BoxFault::Repeated),
+    ] {
+        let more = format!(in rt.alloc(); "{text}{line}")?;
+        assert_eq!(rt; fault(rt.alloc(), more.as_bytes())?, Some(wanted));
+    }
     Ok(())
 }
 
 /// A box with this many routes to addresses of their own.
-fn many_routes(alloc: Global, count: u32) -> Result<Vec<u8>, Fail> {
-    let mut text = b"interface 1 e1 192.168.1.1/24\ndefault e1\n".to_vec(alloc)?;
+fn many_routes(alloc: Global, count: u32) -> Result<String, Fail> {
+    let mut text = String::from_str(alloc, "interface 1 e1 192.168.1.1/24\ndefault e1\n")?;
     for place in 0..count {
-        let [_, second, third, fourth] = place.to_be_bytes();
-        let line = format!(in alloc; "route 10.{second}.{third}.{fourth}/32 e1\n")?;
-        text.extend_from_slice(line.as_bytes())?;
+        let third = place / 256;
+        let fourth = place % 256;
+        writeln!(text, "route 10.0.{third}.{fourth}/32 e1")?;
     }
     Ok(text)
 }
@@ -149,15 +149,24 @@ fn many_routes(alloc: Global, count: u32) -> Result<Vec<u8>, Fail> {
 #[test]
 fn refuses_more_than_1024_route_lines(rt: HostRuntime) -> Result<(), Fail> {
     let mut text = many_routes(rt.alloc(), 1024)?;
-    let plant = Plant::read(rt.alloc(), &text)?;
+    let plant = Plant::read(rt.alloc(), text.as_bytes())?;
     assert_eq!(rt; plant.route(address(10, 0, 3, 255)), Some(1));
     assert_eq!(rt; plant.route(address(10, 0, 4, 0)), None);
-    text.extend_from_slice(b"route 11.0.0.0/8 e1\n".as_slice())?;
-    assert_eq!(rt; fault(rt.alloc(), &text)?, Some(BoxFault::TooLarge));
+    text.push_str("route 11.0.0.0/8 e1\n")?;
+    assert_eq!(rt;
+        fault(rt.alloc(), text.as_bytes())?,
+        Some(BoxFault::TooLarge)
+    );
     let mut text = many_routes(rt.alloc(), 4_000)?;
-    assert_eq!(rt; fault(rt.alloc(), &text)?, Some(BoxFault::TooLarge));
-    text.extend_from_slice(b"route 10.0.0.0/32 e1\n".as_slice())?;
-    assert_eq!(rt; fault(rt.alloc(), &text)?, Some(BoxFault::Repeated));
+    assert_eq!(rt;
+        fault(rt.alloc(), text.as_bytes())?,
+        Some(BoxFault::TooLarge)
+    );
+    text.push_str("route 10.0.0.0/32 e1\n")?;
+    assert_eq!(rt;
+        fault(rt.alloc(), text.as_bytes())?,
+        Some(BoxFault::Repeated)
+    );
     Ok(())
 }
 

@@ -52,13 +52,36 @@ const NOWHERE: &[u8] = b"interface 2 lan 10.0.0.1/8\ndefault lan\n";
 /// want of a route and for their TTL, and whether the end is torn (1); all other numbers are 0.
 fn report(alloc: Global, numbers: [u32; 7]) -> Result<String, Fail> {
     let [records, passed, local, rule, route, ttl, torn] = numbers;
-    let zeros =
-        "drop link 0\ndrop interface 0\ndrop notip 0\ndrop short 0\ndrop version 0\ndrop hlen 0\ndrop length 0\ndrop truncated 0\ndrop checksum 0\ndrop fragment 0\ndrop transport 0\n";
-    let head = format!(in alloc; "records {records}\npassed {passed}\nlocal {local}\n{zeros}")?;
-    let middle = format!(in alloc; "drop rule {rule}\ndrop route {route}\ndrop ttl {ttl}\n")?;
-    Ok(format!(in alloc;
-        "{head}{middle}drop noport 0\ndrop full 0\ndrop clash 0\nbegun 0\nlive 0\ntorn {torn}\n"
-    )?)
+    let lines = [
+        ("records", records),
+        ("passed", passed),
+        ("local", local),
+        ("drop link", 0),
+        ("drop interface", 0),
+        ("drop notip", 0),
+        ("drop short", 0),
+        ("drop version", 0),
+        ("drop hlen", 0),
+        ("drop length", 0),
+        ("drop truncated", 0),
+        ("drop checksum", 0),
+        ("drop fragment", 0),
+        ("drop transport", 0),
+        ("drop rule", rule),
+        ("drop route", route),
+        ("drop ttl", ttl),
+        ("drop noport", 0),
+        ("drop full", 0),
+        ("drop clash", 0),
+        ("begun", 0),
+        ("live", 0),
+        ("torn", torn),
+    ];
+    let mut text = String::new(alloc);
+    for (name, number) in lines {
+        writeln!(text, "{name} {number}")?;
+    }
+    Ok(text)
 }
 
 /// A run over some texts and a capture, and what it has to give. Of a run that is refused the
