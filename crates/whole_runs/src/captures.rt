@@ -1,8 +1,5 @@
 //! Captures as pcap-savefile(5) lays them out, written here byte by byte.
-use pcap_io::{
-    Capture, CaptureError, CaptureFault, Counted, Failing, Leaving, Sink, Slow, write_whole,
-};
-use std::io::Write;
+use pcap_io::{Capture, CaptureError, CaptureFault, Counted, Failing, Leaving, Sink};
 use std::process::Abort;
 use std::test::Fail;
 
@@ -30,29 +27,6 @@ fn two_records(rt: &HostRuntime) -> Result<Vec<u8>, Fail> {
     bytes.extend_from_slice(&PACKET)?;
     bytes.extend_from_slice(&EARLIER)?;
     Ok(bytes)
-}
-
-#[test]
-fn reads_records_in_small_pieces(rt: HostRuntime) -> Result<(), Fail> {
-    let bytes = two_records(&rt)?;
-    for most in [1usize, 7, 70_000] {
-        let mut reader = Counted::new(Slow::new(bytes.as_slice(), most));
-        let mut capture = Capture::open(rt.alloc(), &mut reader)?;
-        assert!(rt; capture.record().is_none());
-        assert!(rt; capture.next(&mut reader)?);
-        let first = capture.record().ok_or("no record")?;
-        assert_eq!(rt; first.moment, 1_500_000_000);
-        assert_eq!(rt; first.bytes, PACKET.as_slice());
-        assert!(rt; capture.next(&mut reader)?);
-        let second = capture.record().ok_or("no record")?;
-        assert_eq!(rt; second.moment, 1_500_000_000, "the greatest so far");
-        assert_eq!(rt; second.bytes, [0x45u8].as_slice());
-        assert!(rt; !capture.next(&mut reader)?);
-        assert!(rt; capture.record().is_none());
-        assert!(rt; !capture.next(&mut reader)?, "the end again");
-        assert_eq!(rt; reader.failures(), 0);
-    }
-    Ok(())
 }
 
 /// How many records the capture has, or its first fault, which comes again.
@@ -117,60 +91,11 @@ fn refuses_what_is_no_capture(rt: HostRuntime) -> Result<(), Fail> {
     Ok(())
 }
 
-/// Magic, version and link type are wrong at once: the first that is tested is told.
-#[test]
-fn tells_the_first_fault_of_a_header(rt: HostRuntime) -> Result<(), Fail> {
-    let mut bytes = two_records(&rt)?;
-    for (place, byte, want) in [
-        (20usize, 1u8, CaptureFault::LinkType),
-        (6, 3, CaptureFault::Version),
-        (0, 0x4d, CaptureFault::Magic),
-    ] {
-        assert!(rt; place < bytes.len());
-        bytes[place] = byte;
-        assert_eq!(rt; count_records(&rt, &bytes), refused(want));
-    }
-    Ok(())
-}
-
-/// Magic a1b23c4d, version 2.4, snaplen 262144, link type 276; then 1.5 seconds, 48 bytes twice;
-/// then the link header with interface 3.
-const WRITTEN: [u8; 60] = [
-    0x4d, 0x3c, 0xb2, 0xa1, 2, 0, 4, 0, 0, 0, 0, 0, 0, 0, 0, 0, 0, 0, 4, 0, 0x14, 1, 0, 0, 1, 0, 0,
-    0, 0, 0x65, 0xcd, 0x1d, 48, 0, 0, 0, 48, 0, 0, 0, 8, 0, 0, 0, 0, 0, 0, 3, 0, 1, 4, 0, 0, 0, 0,
-    0, 0, 0, 0, 0,
-];
-
 const LEAVING: Leaving<'static> = Leaving {
     moment: 1_500_000_000,
     interface: 3,
     packet: &PACKET,
 };
-
-/// The capture with so many records of `LEAVING`.
-fn written(rt: &HostRuntime, count: usize) -> Result<Vec<u8>, Fail> {
-    let mut bytes = Vec::from_slice(rt.alloc(), &WRITTEN[..24])?;
-    for _ in 0..count {
-        bytes.extend_from_slice(&WRITTEN[24..])?;
-        bytes.extend_from_slice(&PACKET)?;
-    }
-    Ok(bytes)
-}
-
-#[test]
-fn writes_a_record_in_small_pieces(rt: HostRuntime) -> Result<(), Fail> {
-    let mut writer = Counted::new(Slow::new(Vec::new(rt.alloc()), 1));
-    let mut sink = Sink::open(rt.alloc(), &mut writer)?;
-    sink.put(&mut writer, &LEAVING)?;
-    assert!(rt; !writer.is_flushed());
-    sink.finish(&mut writer)?;
-    assert!(rt; writer.is_flushed());
-    assert_eq!(rt; writer.failures(), 0);
-    let want = written(&rt, 1)?;
-    let given = writer.into_inner().into_inner();
-    assert_eq!(rt; given.as_slice(), want.as_slice());
-    Ok(())
-}
 
 /// The greatest packets, of which the buffer holds one beside the end of another.
 #[test]
@@ -210,14 +135,5 @@ fn keeps_what_waits_after_a_put_that_failed(rt: HostRuntime) -> Result<(), Fail>
     sink.finish(&mut writer)?;
     let given = writer.into_inner().into_inner();
     assert_eq!(rt; given.len(), 131_096);
-    Ok(())
-}
-
-#[test]
-fn takes_nothing_of_nothing_without_a_failure(rt: HostRuntime) -> Result<(), Fail> {
-    let mut writer = Counted::new(Vec::new(rt.alloc()));
-    assert_eq!(rt; writer.write(&[]).ok(), Some(0));
-    write_whole(&mut writer, &[])?;
-    assert_eq!(rt; writer.failures(), 0);
     Ok(())
 }

@@ -99,6 +99,15 @@ fn other_captures_are_refused_by_their_header(rt: HostRuntime) -> Result<(), Fai
             "a1b2c3d4000200040000000000000000000000ff00000065",
             "nftrun: capture P1",
         ),
+        // All three are wrong, and then version and link type.
+        (
+            "a1b2c3d4000200050000000000000000000000ff00000001",
+            "nftrun: capture P1",
+        ),
+        (
+            "d4c3b2a1020005000000000000000000ffff000001000000",
+            "nftrun: capture P2",
+        ),
         (
             "d4c3b2a1020005000000000000000000ffff000065000000",
             "nftrun: capture P2",

@@ -213,45 +213,62 @@ fn is_hosts(map: &MapDecl) -> bool {
         && matches!(pairs[0].value, Data::Value(Value::Address(0x0a00_0005)))
 }
 
-// `tcp flags syn / syn,ack tcp flags 3 tcp flags == 3 ct status snat`
-fn are_bits(statements: &[Stmt]) -> bool {
-    let [
-        Stmt::Match(Match::MaskedFlags(masked)),
-        Stmt::Match(Match::AnyFlag(any)),
-        Stmt::Match(Match::ExactFlags(exact)),
-        Stmt::Match(Match::Bits(BitField::Status, BitTest::Any, words)),
-        ..
-    ] = statements
-    else {
+// `tcp flags syn / syn,ack`
+fn is_masked(statement: &Stmt) -> bool {
+    let Stmt::Match(Match::MaskedFlags(masked)) = statement else {
         return false;
     };
     masked.wanted.len() == 1
         && masked.mask.len() == 2
         && matches!(&masked.mask[1], Flag::Word(word) if word.as_slice() == b"ack".as_slice())
-        && matches!(any.as_slice(), [Flag::Number(3)])
-        && matches!(exact.as_slice(), [Flag::Number(3)])
-        && words.len() == 1
-        && words[0].as_slice() == b"snat".as_slice()
+}
+
+// `ct status snat`
+fn is_status(statement: &Stmt) -> bool {
+    let Stmt::Match(Match::Bits(BitField::Status, BitTest::Any, words)) = statement else {
+        return false;
+    };
+    words.len() == 1 && words[0].as_slice() == b"snat".as_slice()
+}
+
+// `tcp flags syn / syn,ack tcp flags 3 tcp flags == 3 ct status snat`
+fn are_bits(statements: &[Stmt]) -> bool {
+    statements.len() == 4
+        && is_masked(&statements[0])
+        && matches!(&statements[1], Stmt::Match(Match::AnyFlag(any)) if matches!(any.as_slice(), [Flag::Number(3)]))
+        && matches!(&statements[2], Stmt::Match(Match::ExactFlags(exact)) if matches!(exact.as_slice(), [Flag::Number(3)]))
+        && is_status(&statements[3])
+}
+
+// `dnat to tcp dport map @hosts`
+fn is_look(statement: &Stmt) -> bool {
+    let Stmt::Nat(Nat::Destination(DestinationTarget::Look(look))) = statement else {
+        return false;
+    };
+    matches!(look.selector, Selector::TcpDestination)
+        && matches!(&look.map, MapRef::Named(name) if name.as_slice() == b"hosts".as_slice())
+}
+
+// `snat to 192.0.2.1:1-9`
+fn is_source(statement: &Stmt) -> bool {
+    let Stmt::Nat(Nat::Source(SourceTarget::Address(address, Some(ports)))) = statement else {
+        return false;
+    };
+    *address == 0xc000_0201 && matches!(ports, PortRange::Between(1, 9))
 }
 
 // `meta mark set ct mark log prefix "in" snat to 192.0.2.1:1-9 dnat to tcp dport map @hosts jump web goto web`
 fn are_actions(statements: &[Stmt]) -> bool {
-    let [
-        Stmt::SetMark(MarkField::Meta, Operand::Mark(MarkField::Ct)),
-        Stmt::Log(Some(prefix)),
-        Stmt::Nat(Nat::Source(SourceTarget::Address(0xc000_0201, Some(PortRange::Between(1, 9))))),
-        Stmt::Nat(Nat::Destination(DestinationTarget::Look(look))),
-        Stmt::Verdict(Verdict::Jump(jumped)),
-        Stmt::Verdict(Verdict::Goto(gone)),
-    ] = statements
-    else {
-        return false;
-    };
-    prefix.as_slice() == b"in".as_slice()
-        && matches!(look.selector, Selector::TcpDestination)
-        && matches!(&look.map, MapRef::Named(name) if name.as_slice() == b"hosts".as_slice())
-        && jumped.as_slice() == b"web".as_slice()
-        && gone.as_slice() == b"web".as_slice()
+    statements.len() == 6
+        && matches!(
+            &statements[0],
+            Stmt::SetMark(MarkField::Meta, Operand::Mark(MarkField::Ct))
+        )
+        && matches!(&statements[1], Stmt::Log(Some(prefix)) if prefix.as_slice() == b"in".as_slice())
+        && is_source(&statements[2])
+        && is_look(&statements[3])
+        && matches!(&statements[4], Stmt::Verdict(Verdict::Jump(name)) if name.as_slice() == b"web".as_slice())
+        && matches!(&statements[5], Stmt::Verdict(Verdict::Goto(name)) if name.as_slice() == b"web".as_slice())
 }
 
 /// The tree has to be that of the other forms.
