@@ -1,4 +1,4 @@
-"""Makes the captures, the rulesets and the box file that bench/run measures."""
+"""Makes the captures, the rulesets and the box files that bench/run measures."""
 import struct
 import sys
 
@@ -10,21 +10,18 @@ def checksum(header):
     return 0xFFFF - total
 
 
-PACKET_BYTES = 1000
-
-
-def packet(number):
+def packet(number, length):
     source = 0xC0A80100 + number % 200 + 10
     destination = 0xC6336400 + number % 250
-    parts = [0x45, 0, PACKET_BYTES, number % 65536, 0, 64, 17, 0, source, destination]
+    parts = [0x45, 0, length, number % 65536, 0, 64, 17, 0, source, destination]
     parts[7] = checksum(struct.pack(">BBHHHBBHII", *parts))
-    ports_and_length = struct.pack(">HHHH", 5000, 53, PACKET_BYTES - 20, 0)
-    return struct.pack(">BBHHHBBHII", *parts) + ports_and_length + bytes(PACKET_BYTES - 28)
+    ports_and_length = struct.pack(">HHHH", 5000, 53, length - 20, 0)
+    return struct.pack(">BBHHHBBHII", *parts) + ports_and_length + bytes(length - 28)
 
 
-def capture(count):
+def capture(count, length):
     header = struct.pack("<IHHIIII", 0xA1B2C3D4, 2, 4, 0, 0, 0xFFFF, 101)
-    records = (struct.pack("<IIII", n // 1000, n % 1000, PACKET_BYTES, PACKET_BYTES) + packet(n) for n in range(count))
+    records = (struct.pack("<IIII", n // 1000, n % 1000, length, length) + packet(n, length) for n in range(count))
     return header + b"".join(records)
 
 
@@ -49,18 +46,36 @@ default lan
 """
 
 
+def box_of_routes(routes):
+    """A box of so many routes, those of its two interfaces and the one to all addresses among them."""
+    return BOX + "".join(f"route 10.{n // 256}.{n % 256}.0/24 wan\n" for n in range(routes - 3))
+
+
+def box_of_lines(lines):
+    """A box file of so many lines: route lines, up to 1,000 of them where it is to be accepted, and then comments."""
+    routes = min(lines - 4, 1000) if lines <= 10_000 else lines - 4
+    named = "".join(f"route {n // 65536 + 16}.{n // 256 % 256}.{n % 256}.0/24 wan\n" for n in range(routes))
+    return BOX + named + "# a line of a comment, as long as a route\n" * (lines - 4 - routes)
+
+
+def write(name, content):
+    with open(f"{sys.argv[1]}/{name}", "w" if isinstance(content, str) else "wb") as file:
+        file.write(content)
+
+
 def main():
-    folder = sys.argv[1]
     for power in (3, 4, 5):
-        with open(f"{folder}/{power}.pcap", "wb") as file:
-            file.write(capture(10**power))
-    with open(f"{folder}/rules.nft", "w") as file:
-        file.write(ruleset())
+        write(f"{power}.pcap", capture(10**power, 1000))
+    write("small.pcap", capture(10**6, 60))
+    write("empty.nft", "")
+    write("rules.nft", ruleset())
     for rules in (1000, 4000, 16000):
-        with open(f"{folder}/{rules}.nft", "w") as file:
-            file.write(large_ruleset(rules, rules * 15 // 4))
-    with open(f"{folder}/box.txt", "w") as file:
-        file.write(BOX)
+        write(f"{rules}.nft", large_ruleset(rules, rules * 15 // 4))
+    write("box.txt", BOX)
+    write("two-routes.txt", BOX.replace("interface 3 wan 203.0.113.1/24\n", "").replace("wan", "lan"))
+    write("many-routes.txt", box_of_routes(1021))
+    for power in (4, 5, 6):
+        write(f"lines-{power}.txt", box_of_lines(10**power))
 
 
 main()

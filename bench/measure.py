@@ -1,7 +1,8 @@
-"""Runs the program on the captures and on the large rulesets, and prints time and peak memory.
+"""Runs the program on what make.py made, and prints time and peak memory.
 
 GNU time (Debian's package `time`) reads the peak memory: the usage that this process is told of
-its child counts the interpreter's own memory too.
+its child counts the interpreter's own memory too. OUT is removed before each run, so that no run
+pays for the file of an earlier one.
 """
 import os
 import subprocess
@@ -11,15 +12,17 @@ import time
 RUNS = 5
 
 
-def measured(words, status=0):
+def measured(words, out, status=0):
     """The least time of some runs, in seconds, and the peak memory, in bytes."""
     best = None
     for _ in range(RUNS):
+        if os.path.exists(out):
+            os.unlink(out)
         begin = time.perf_counter()
         done = subprocess.run(words, stdout=subprocess.DEVNULL, stderr=subprocess.DEVNULL)
+        spent = time.perf_counter() - begin
         if done.returncode != status:
             sys.exit(f"{words} ended with {done.returncode}")
-        spent = time.perf_counter() - begin
         best = spent if best is None else min(best, spent)
     timed = ["/usr/bin/time", "-f", "%M", *words]
     told = subprocess.run(timed, stdout=subprocess.DEVNULL, stderr=subprocess.PIPE)
@@ -28,17 +31,29 @@ def measured(words, status=0):
 
 def main():
     program, folder = sys.argv[1], sys.argv[2]
+    out = f"{folder}/out.pcap"
+
+    def run(rules, box, capture, status=0):
+        return measured([program, "run", *(f"{folder}/{name}" for name in (rules, box, capture)), out], out, status)
+
     for power in (3, 4, 5):
-        capture = f"{folder}/{power}.pcap"
-        size = os.path.getsize(capture)
-        spent, memory = measured([program, "run", f"{folder}/rules.nft", f"{folder}/box.txt", capture, f"{folder}/out.pcap"])
+        size = os.path.getsize(f"{folder}/{power}.pcap")
+        spent, memory = run("rules.nft", "box.txt", f"{power}.pcap")
         count = 10**power
         print(f"{count} records, {size} bytes: {spent * 1e6 / count:.3f} us and {memory / count:.0f} bytes a record; peak {memory / size:.2f} times the capture")
+    spent, _ = run("empty.nft", "box.txt", "small.pcap")
+    other, _ = measured(["tcpdump", "-r", f"{folder}/small.pcap", "-w", out], out)
+    print(f"10^6 packets of 60 bytes, empty ruleset: {spent:.3f} s; tcpdump -r -w: {other:.3f} s; {spent / other:.2f} times")
+    few, _ = run("empty.nft", "two-routes.txt", "small.pcap")
+    many, _ = run("empty.nft", "many-routes.txt", "small.pcap")
+    print(f"a box of 2 routes: {few:.3f} s; of 1,021: {many:.3f} s; {many / few:.2f} times")
+    for power, status in ((4, 0), (5, 3), (6, 3)):
+        spent, _ = run("empty.nft", f"lines-{power}.txt", "3.pcap", status)
+        print(f"a box file of 10^{power} lines, status {status}: {spent * 1e9 / 10**power:.0f} ns a line")
     for rules in (1000, 4000, 16000):
-        text = f"{folder}/{rules}.nft"
-        size = os.path.getsize(text)
+        size = os.path.getsize(f"{folder}/{rules}.nft")
         # The text is read and found to have a form that runs don't take yet.
-        spent, memory = measured([program, "run", text, f"{folder}/box.txt", f"{folder}/3.pcap", f"{folder}/out.pcap"], status=1)
+        spent, memory = run(f"{rules}.nft", "box.txt", "3.pcap", 1)
         print(f"{rules} rules, {rules * 15 // 4} elements, {size} bytes: {spent * 1e9 / size:.1f} ns and {memory / size:.1f} bytes a byte of text")
 
 

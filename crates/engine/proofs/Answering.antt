@@ -1,5 +1,5 @@
 -- Two texts and a capture have a meaning, or a refusal.
-use Rattle.std.proofs.Common.{◌≡◌, ◌⊎◌, ◌<◌, ◌≤◌, ℕ, true, false, Bool, List, [], length, Option, Some, None, refl, inl, inr, arith}
+use Rattle.std.proofs.Common.{◌≡◌, ◌⊎◌, ◌<◌, ◌≤◌, ℕ, true, false, Bool, List, [], length, Some, refl, inl, inr, arith}
 use Rattle.std.proofs.lemmas.Bool.{cases_lt}
 use Rattle.nft_tree.specs.Tree.{TableTree}
 use Rattle.nft_parser.specs.declared.fault.TextFault.{TextFault}
@@ -39,8 +39,13 @@ Answer rules box capture trace =
 meant : Answers → (rules box capture : List ℕ) (trace : Bool) (accepted : Accepted rules box) (records : List Captured) (torn : Bool) → Pcap capture records (ending_of torn) → Answer rules box capture trace
 meant answers rules box capture trace accepted records torn read =
     let s = some_story answers.entry accepted.setup [] (told read.format records) in
-    inl (length records, torn, capture_text s.0, report_text accepted.setup.rules trace s.0 torn,
-    record { accepted = accepted; records = records; read = read; counted = refl; story = s.0; grows = s.1; captured = refl; reported = refl })
+    inl (
+      length records,
+      torn,
+      capture_text s.0,
+      report_text accepted.setup.rules trace s.0 torn,
+      record { accepted = accepted; records = records; read = read; counted = refl; story = s.0; grows = s.1; captured = refl; reported = refl },
+    )
 
 -- by how the records stop
 stopped : Answers → (rules box capture : List ℕ) (trace : Bool) → Accepted rules box → (records : List Captured) (ending : Ending) → Pcap capture records ending → Answer rules box capture trace

@@ -1,14 +1,13 @@
 -- A run, from what its parts did.
-use Rattle.std.proofs.Common.{◌≡◌, ◌≢◌, ◌⊎◌, ℕ, true, false, Bool, List, [], drop, length, Option, Some, None, IfSome, Result, Ok, Err, IfOk, IfErr, OnErr, refl, sym, ap, subst, ◌∙◌, inl, inr}
-use Rattle.std.specs.Io.KnownBytes.{Appends, Keeps}
+use Rattle.std.proofs.Common.{◌≡◌, ◌≢◌, ◌⊎◌, ℕ, true, false, Bool, List, [], drop, length, Option, Some, None, IfSome, Result, Ok, Err, IfOk, IfErr, refl, sym, ap, subst, ◌∙◌, inl, inr}
+use Rattle.std.specs.Io.KnownBytes.{Keeps}
 use Rattle.std.proofs.KnownBytes.{Appends-kept, Appends-nil}
 use Rattle.nft_tree.specs.Tree.{TableTree}
 use Rattle.nft_parser.specs.Spells.{Spells}
 use Rattle.box_file.specs.Box.{PlantTree, IsBox}
 use Rattle.pcap_io.specs.declared.format.Format.{Format}
-use Rattle.pcap_io.specs.declared.fault.CaptureFault.{CaptureFault}
 use Rattle.pcap_io.specs.declared.fault.CaptureFault.TheVariants as captures
-use Rattle.pcap_io.specs.Pcap.{Captured, Pcap, Ending, format_of, header_fault, told, HEADER_BYTES}
+use Rattle.pcap_io.specs.Pcap.{Captured, Pcap, Ending, format_of, told, HEADER_BYTES}
 use Rattle.pcap_io.specs.Counting.{AppendsPart}
 use Rattle.story.specs.Story.{Entry, capture_text}
 use Rattle.report.specs.Report.{report_text}
@@ -88,7 +87,7 @@ one_meaning_of one rules box capture trace count others torn sign sent other_sen
       signs,
       m.captured ∙ ap capture_text stories ∙ sym n.captured,
       m.reported ∙ ap (λ (s : Setup). report_text s.rules trace m.story torn) setups ∙ ap (λ s. report_text n.accepted.setup.rules trace s torn) stories
-      ∙ ap (report_text n.accepted.setup.rules trace n.story) signs ∙ sym n.reported,
+          ∙ ap (report_text n.accepted.setup.rules trace n.story) signs ∙ sym n.reported,
     )
 
 -- ---- after the header

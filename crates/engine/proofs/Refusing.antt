@@ -1,9 +1,8 @@
 -- Two texts and a capture are refused for one fault at most, and then they mean nothing.
-use Rattle.std.proofs.Common.{◌≡◌, ◌⊎◌, ◌≤◌, ℕ, true, false, Bool, List, Option, Some, None, Ok, Err, refl, sym, ap, subst, ◌∙◌, inl, inr, arith}
+use Rattle.std.proofs.Common.{◌≡◌, ◌≤◌, ℕ, true, false, Bool, List, Some, refl, sym, ap, subst, ◌∙◌, inl, inr, arith}
 use Rattle.std.specs.Result.{result_err}
 use Rattle.nft_tree.specs.Tree.{TableTree}
 use Rattle.nft_parser.specs.declared.fault.TextFault.{TextFault}
-use Rattle.nft_parser.specs.declared.fault.TextFault.TheVariants.{LeftOut}
 use Rattle.nft_parser.specs.Spells.{Spells, HasTextFault}
 use Rattle.box_file.specs.declared.fault.BoxFault.{BoxFault}
 use Rattle.box_file.specs.Box.{PlantTree, IsBox, HasBoxFault}
@@ -18,7 +17,7 @@ use Rattle.engine.specs.declared.fault.RunFault.{RunFault}
 use Rattle.engine.specs.declared.fault.RunFault.TheVariants.{Rules, Box, Capture, Device, Memory}
 use Rattle.engine.specs.WellFormed.{Least, WellFormed, number}
 use Rattle.engine.specs.Meaning.{Accepted, Meaning, ending_of}
-use Rattle.engine.specs.Refusals.{IsRefused, IsRefusedWithin, IsRefusal, Refuses, RefusesRules, Spelled, fault_at}
+use Rattle.engine.specs.Refusals.{IsRefused, IsRefusal, Refuses, RefusesRules, Spelled, fault_at}
 use Rattle.engine.proofs.Meanings.{OneBox, OneReading, OneTree}
 
 -- what the readers of the texts and of the capture promise

@@ -7,7 +7,7 @@ use Rattle.std.proofs.lemmas.List.Elements.{All-append}
 use Rattle.std.proofs.lemmas.Option.{same_Some}
 use Rattle.pcap_io.specs.declared.format.Format.{Format}
 use Rattle.pcap_io.specs.declared.capture.Record.{Record}
-use Rattle.pcap_io.specs.Pcap.{Captured, Recorded, IsRecord, Ending, Ends, Whole, frame, stream_of, told, own_moment, MOST_RECORDS}
+use Rattle.pcap_io.specs.Pcap.{Captured, Recorded, IsRecord, Ending, Ends, frame, stream_of, told, own_moment, MOST_RECORDS}
 use Rattle.pcap_io.specs.Seen.{Seen, Reads, Says, recorded}
 use Rattle.pcap_io.specs.Sll2.{Sent, sll2_record}
 use Rattle.pcap_io.specs.Counting.{AppendsPart}

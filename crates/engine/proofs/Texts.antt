@@ -1,11 +1,11 @@
 -- The two texts of a capture whose header is accepted, from what was written one after another.
-use Rattle.std.proofs.Common.{◌≡◌, ◌≢◌, ◌⊎◌, ℕ, Bool, true, false, List, [], ◌++◌, length, Option, Some, None, IfSome, Result, Ok, Err, IfErr, refl, sym, subst, ◌∙◌, arith, append-nil, inl, inr}
+use Rattle.std.proofs.Common.{◌≡◌, ◌⊎◌, ℕ, Bool, true, false, List, [], ◌++◌, Option, Some, None, IfSome, Result, Ok, Err, IfErr, refl, sym, subst, ◌∙◌, arith, append-nil, inl, inr}
 use Rattle.std.specs.Prelude.{IsErrOf}
 use Rattle.std.specs.Io.KnownBytes.{Appends, Keeps}
 use Rattle.pcap_io.specs.declared.format.Format.{Format}
 use Rattle.pcap_io.specs.declared.fault.CaptureFault.{CaptureFault}
 use Rattle.pcap_io.specs.declared.fault.CaptureFault.TheVariants as captures
-use Rattle.pcap_io.specs.Pcap.{Ending, Malformed, Over, Torn, Whole}
+use Rattle.pcap_io.specs.Pcap.{Ending, Malformed, Over}
 use Rattle.pcap_io.specs.Sll2.{sll2_header}
 use Rattle.pcap_io.specs.Counting.{AppendsPart, one_more}
 use Rattle.pcap_io.specs.Waiting.{Gets}

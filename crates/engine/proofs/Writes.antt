@@ -1,8 +1,8 @@
 -- What is written, one after another.
 use Rattle.std.proofs.Common.{◌≡◌, refl, ℕ, List, [], ◌++◌, append_assoc, append-nil, ap, sym, subst, ◌∙◌}
 use Rattle.std.specs.declared.option.Option.{Option}
-use Rattle.std.specs.Io.KnownBytes.{Appends, Keeps}
-use Rattle.std.proofs.KnownBytes.{Appends-trans, Appends-nil, Appends-kept}
+use Rattle.std.specs.Io.KnownBytes.{Appends}
+use Rattle.std.proofs.KnownBytes.{Appends-trans, Appends-nil}
 use Rattle.pcap_io.specs.Counting.{AppendsPart}
 use Rattle.pcap_io.specs.Waiting.{Gets}
 

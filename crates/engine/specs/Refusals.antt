@@ -1,7 +1,6 @@
 -- Why there is no meaning.
 use Rattle.std.specs.Prelude.{◌≡◌, ℕ, false, List, Option, Some, None, IfSome, ◌⊎◌}
 use Rattle.nft_tree.specs.Tree.{TableTree}
-use Rattle.nft_parser.specs.declared.fault.TextFault.{TextFault}
 use Rattle.nft_parser.specs.declared.fault.TextFault.TheVariants.{LeftOut}
 use Rattle.nft_parser.specs.Spells.{Spells, HasTextFault}
 use Rattle.box_file.specs.Box.{PlantTree, IsBox, HasBoxFault}

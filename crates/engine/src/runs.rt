@@ -120,7 +120,14 @@ fn write_texts<R: Read, W: Write, W2: Write>(
         Err(SinkError::Memory) => return Err(RunFault::Memory),
     };
     let mut numbers = Report::new();
-    let stop = replay(&mut engine, &mut numbers, &mut records, capture, &mut sink, sent)?;
+    let stop = replay(
+        &mut engine,
+        &mut numbers,
+        &mut records,
+        capture,
+        &mut sink,
+        sent,
+    )?;
     match sink.finish(sent) {
         Ok(()) => {}
         Err(_) => return Err(RunFault::Device),

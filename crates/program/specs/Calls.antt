@@ -23,8 +23,6 @@ pub data Call (Input Output : Type 0) : Type 0 where
   create : Text → Result Output Error → Call Input Output
   -- a ruleset's text, a box file's text, a capture and the capture that leaves, before and after: whether the end is torn
   run : Text → Text → Input → Input → Output → Output → Result Bool RunFault → Call Input Output
-  -- what was written is given to the system
-  close : Output → Result ⊤ Error → Call Input Output
   -- the line of a status
   tell : Status → Call Input Output
   -- what clap says of the words

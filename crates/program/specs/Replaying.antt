@@ -1,23 +1,17 @@
 -- A run over files: the calls in their order, and the status that it ends with.
-use Rattle.std.specs.Prelude.{◌≡◌, Bool, true, false, List, [], ◌∷◌, Ok, Err}
+use Rattle.std.specs.Prelude.{◌≡◌, true, false, List, [], ◌∷◌, Ok, Err}
 use Rattle.command_line.specs.declared.task.Paths.{Paths}
-use Rattle.program.specs.Calls.{Call, Text, read, open_input, compare, create, run, close}
+use Rattle.program.specs.Calls.{Call, Text, read, open_input, compare, create, run}
 use Rattle.program.specs.Status.{of_fault, of_end, of_error}
 use Rattle.program.specs.declared.status.Status.{Status}
 use Rattle.program.specs.declared.status.Status.TheVariants.{SameFile}
 
--- the run is over, and then OUT is closed; of_end tells whether the capture's end is torn
-abbrev pub Closes : {I O : Type 0} → O → Bool → List (Call I O) → Status → Type 0
-Closes output torn (close closed (Ok _) ∷ []) status = (closed ≡ output) × (status ≡ of_end torn)
-Closes output torn (close closed (Err error) ∷ []) status = (closed ≡ output) × (status ≡ of_error error)
-Closes _ _ _ _ = ⊥
-
--- the run gets the ruleset's text as rules, the box file's as box, and the files that were opened
+-- the run gets the ruleset's text as rules, the box file's as box, and the files that were opened, and nothing is called after it; of_end tells whether the capture's end is torn
 abbrev pub Runs : {I O : Type 0} → Text → Text → I → O → List (Call I O) → Status → Type 0
 Runs rules box input output (run r b i i' o o' (Err fault) ∷ []) status =
     (r ≡ rules) × (b ≡ box) × (i ≡ input) × (o ≡ output) × (status ≡ of_fault fault)
-Runs rules box input output (run r b i i' o o' (Ok torn) ∷ calls) status =
-    (r ≡ rules) × (b ≡ box) × (i ≡ input) × (o ≡ output) × Closes o' torn calls status
+Runs rules box input output (run r b i i' o o' (Ok torn) ∷ []) status =
+    (r ≡ rules) × (b ≡ box) × (i ≡ input) × (o ≡ output) × (status ≡ of_end torn)
 Runs _ _ _ _ _ _ = ⊥
 
 -- OUT is created, where it isn't one of the three others

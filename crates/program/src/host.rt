@@ -15,7 +15,7 @@ pub trait Host {
     ghost use Rattle.std.specs.Prelude.{◌≡◌};
     ghost use Rattle.std.specs.Result.{result_map_both};
     ghost use Rattle.clap.specs.Values.{kind_of};
-    ghost use Rattle.program.specs.Calls.{Call, words, read, open_input, compare, create, run, close, tell, explain, texts_of, bytes_of};
+    ghost use Rattle.program.specs.Calls.{Call, words, read, open_input, compare, create, run, tell, explain, texts_of, bytes_of};
 
     /// A capture open for reading.
     type Input: Drop;
@@ -56,10 +56,6 @@ pub trait Host {
         output: &mut Self::Output,
     ) -> Result<bool, RunFault>
         ensures { happens self.old (run rules.now plant.now input.old input.new output.old output.new result) self.new };
-
-    /// Gives what was written to the system, and tells whether it took all.
-    fn close(&mut self, output: Self::Output) -> io::Result<()>
-        ensures { happens self.old (close output result) self.new };
 
     /// Prints the status's line to standard error. Where it can't, the exit status still tells.
     fn tell(&mut self, status: Status)

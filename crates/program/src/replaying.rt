@@ -36,6 +36,5 @@ fn try_replay<H: Host>(host: &mut H, paths: &Paths<'_>) -> Result<bool, Status>
     }
     let mut output = host.create(paths.output)?;
     let torn = host.run(&rules, &plant, &mut input, &mut output)?;
-    host.close(output)?;
     Ok(torn)
 }

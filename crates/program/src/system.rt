@@ -6,7 +6,6 @@ use clap::Error;
 use engine::RunFault;
 use pcap_io::Counted;
 use std::env::{self, Env};
-use std::os::fd::IntoRawFd;
 use std::os::unix::fs::MetadataExt;
 use std::rt::Files;
 use std::{fs, io};
@@ -17,10 +16,7 @@ struct System<'a, R> {
     rt: &'a R,
 }
 
-impl<R: Env + Files + Print + Eprint + AllocGlobal> Host for System<'_, R>
-where
-    R::File: IntoRawFd,
-{
+impl<R: Env + Files + Print + Eprint + AllocGlobal> Host for System<'_, R> {
     ghost use Rattle.program.specs.steps.Promised.{Promised};
 
     type Input = Counted<R::File>;
@@ -77,14 +73,6 @@ where
         Ok(summary.torn)
     }
 
-    // A drop would lose what the system answers.
-    fn close(&mut self, output: Self::Output) -> io::Result<()> {
-        if libc::close(output.into_inner().into_raw_fd()) < 0 {
-            return Err(io::Error::from(io::ErrorKind::Other));
-        }
-        Ok(())
-    }
-
     fn tell(&mut self, status: Status) {
         let rt = self.rt;
         let _ = eprintln!(rt; "{status}");
@@ -96,9 +84,6 @@ where
 }
 
 /// Does what the process's own words ask for, and answers its exit status.
-pub fn start<R: Env + Files + Print + Eprint + AllocGlobal>(rt: &R) -> u8
-where
-    R::File: IntoRawFd,
-{
+pub fn start<R: Env + Files + Print + Eprint + AllocGlobal>(rt: &R) -> u8 {
     perform(rt.alloc(), &mut System { rt })
 }

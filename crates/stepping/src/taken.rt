@@ -7,8 +7,8 @@ ghost use Rattle.stepping.specs.Taken.{takes, takes_chain, takes_head, takes_ite
 
 use crate::rules::is_forward;
 use nft_tree::{
-    Chain, ChainKind, Family, Head, Item, Match, Operator, Priority, PriorityName, Range, Rule,
-    OffsetSign, Ruleset, Selector, Stmt, Table, Value, Verdict,
+    Chain, ChainKind, Family, Head, Item, Match, OffsetSign, Operator, Priority, PriorityName,
+    Range, Rule, Ruleset, Selector, Stmt, Table, Value, Verdict,
 };
 
 /// Whether runs take the ruleset: its tables are of ip, with base chains of the forward hook at

@@ -1,6 +1,5 @@
-use Rattle.std.proofs.Common.{refl, sym, ◌∙◌, Some, None, inr}
+use Rattle.std.proofs.Common.{refl, sym, ◌∙◌, inr}
 use Rattle.nft_tree.specs.Tree.{tables_of}
-use Rattle.engine.specs.steps.Inputs.{Judges}
 use Rattle.engine.proofs.Judging.{judged_none, judged_some}
 use Rattle.engine.proofs.inputs.accepted.Goals as goal
 

@@ -1,7 +1,6 @@
-use Rattle.std.proofs.Common.{rules, ap, ◌∙◌}
-use Rattle.pcap_io.specs.Seen.{ahead}
-use Rattle.engine.proofs.Replays.{more, interrupted_at, interrupted, start}
-use Rattle.engine.proofs.Stops.{ended, refused, stops, on_err}
+use Rattle.std.proofs.Common.{rules}
+use Rattle.engine.proofs.Replays.{more, interrupted_at}
+use Rattle.engine.proofs.Stops.{on_err}
 use Rattle.engine.proofs.replay.replay.Goals as goal
 
 pub each-preserved : goal.each-preserved

@@ -1,7 +1,4 @@
-use Rattle.std.proofs.Common.{◌≡◌, ℕ, List, [], sym, subst, ◌∙◌}
-use Rattle.std.specs.List.{flat_map}
-use Rattle.pcap_io.specs.Sll2.{Sent, sll2_record}
-use Rattle.pcap_io.specs.Waiting.{Gets}
+use Rattle.std.proofs.Common.{sym}
 use Rattle.engine.proofs.Replays.{taken_silently, taken_sending, broken_before, broken_sending}
 use Rattle.engine.proofs.replay.take.Goals as goal
 

@@ -1,5 +1,5 @@
 use Rattle.std.proofs.lemmas.Result.{err_from_is_err_and}
-use Rattle.engine.proofs.Meanings.{Single, if_ok_then, if_err_both, left_all, refuses_all, wrote_all}
+use Rattle.engine.proofs.Meanings.{Single, if_ok_then, if_err_both, left_all, wrote_all}
 use Rattle.engine.proofs.runs.run.Goals as goal
 
 pub returns-in_err-ruleset-clause-refusals : goal.returns-in_err-ruleset-clause-refusals

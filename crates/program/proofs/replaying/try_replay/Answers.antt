@@ -1,7 +1,7 @@
 -- Each return shows the calls that led to it, and where each stands in its order.
 use Rattle.std.proofs.Common.{[], ◌∷◌, refl, sym}
 use Rattle.std.proofs.lemmas.Result.{err_from_is_err_and}
-use Rattle.program.specs.Calls.{read, open_input, compare, create, run, close}
+use Rattle.program.specs.Calls.{read, open_input, compare, create, run}
 use Rattle.program.proofs.replaying.try_replay.Goals as goal
 use Rattle.program.proofs.replaying.try_replay.Goals.{then-branch-via-then-branch, then-branch-via-else-branch+in_ok-is_same_file-2+then-branch-2, then-branch-via-else-branch+in_ok-is_same_file-2+else-branch-2+in_ok-is_same_file-3+then-branch-3}
 
@@ -175,74 +175,12 @@ returns-in_err-torn g c =
       ),
     )
 
-pub returns-in_err-close : goal.returns-in_err-close
-returns-in_err-close g c =
-    let p = err_from_is_err_and c.from_residual-in_err-close.result c.from_residual-in_err-close.ensures.1 in
-    let first = rw c.if-branch.false at c.in_ok-is_same_file.ensures in
-    let second = rw c.if-branch-2.false at c.in_ok-is_same_file-2.ensures in
-    let third = rw c.if-branch-3.false at c.in_ok-is_same_file-3.ensures in
-    rw p.1 (
-      read _ _ ∷ read _ _ ∷ open_input _ _ ∷ compare _ _ _ ∷ compare _ _ _ ∷ compare _ _ _ ∷ create _ _ ∷ run _ _ _ _ _ _ _
-          ∷ close _ _ ∷ [],
-      (
-        _,
-        c.in_ok-rules.ensures,
-        (
-          _,
-          c.in_ok-plant.ensures,
-          (
-            _,
-            c.in_ok-input.ensures,
-            (
-              _,
-              first,
-              (
-                _,
-                second,
-                (
-                  _,
-                  third,
-                  (_, c.in_ok-output.ensures, (_, c.in_ok-torn.ensures, (_, c.in_err-close.ensures, refl))),
-                ),
-              ),
-            ),
-          ),
-        ),
-      ),
-      (
-        refl,
-        (
-          refl,
-          (
-            refl,
-            (
-              refl,
-              refl,
-              (
-                refl,
-                refl,
-                (
-                  refl,
-                  refl,
-                  (
-                    refl,
-                    (c.deref.ensures.value, c.deref-2.ensures.value, refl, refl, (refl, p.2)),
-                  ),
-                ),
-              ),
-            ),
-          ),
-        ),
-      ),
-    )
-
 pub returns : goal.returns
 returns g c =
     let first = rw c.if-branch.false at c.in_ok-is_same_file.ensures in
     let second = rw c.if-branch-2.false at c.in_ok-is_same_file-2.ensures in
     let third = rw c.if-branch-3.false at c.in_ok-is_same_file-3.ensures in (
-      read _ _ ∷ read _ _ ∷ open_input _ _ ∷ compare _ _ _ ∷ compare _ _ _ ∷ compare _ _ _ ∷ create _ _ ∷ run _ _ _ _ _ _ _
-          ∷ close _ _ ∷ [],
+      read _ _ ∷ read _ _ ∷ open_input _ _ ∷ compare _ _ _ ∷ compare _ _ _ ∷ compare _ _ _ ∷ create _ _ ∷ run _ _ _ _ _ _ _ ∷ [],
       (
         _,
         c.in_ok-rules.ensures,
@@ -261,7 +199,7 @@ returns g c =
                 (
                   _,
                   third,
-                  (_, c.in_ok-output.ensures, (_, c.in_ok-torn.ensures, (_, c.in_ok-close.ensures, refl))),
+                  (_, c.in_ok-output.ensures, (_, c.in_ok-torn.ensures, refl)),
                 ),
               ),
             ),
@@ -285,7 +223,7 @@ returns g c =
                   refl,
                   (
                     refl,
-                    (c.deref.ensures.value, c.deref-2.ensures.value, refl, refl, (refl, refl)),
+                    (c.deref.ensures.value, c.deref-2.ensures.value, refl, refl, refl),
                   ),
                 ),
               ),
