@@ -19,7 +19,7 @@ const SAME_FILE: &str = "nftrun: usage: OUT is the same file as RULES, BOX or IN
 const RUN: &[&str] = &["nftrun", "run", "rules", "box", "in", "out"];
 
 /// The calls of a run that succeeds.
-const CALLS: [&str; 10] = [
+const CALLS: [&str; 9] = [
     "words",
     "read rules",
     "read box",
@@ -29,7 +29,6 @@ const CALLS: [&str; 10] = [
     "compare out in",
     "create out",
     "run rules box",
-    "close",
 ];
 
 /// Answers as it is told, and writes its calls down, a line each. A file holds its own path.
@@ -121,10 +120,6 @@ impl Host for Recorder {
         }
     }
 
-    fn close(&mut self, _output: ()) -> io::Result<()> {
-        self.note(&[b"close"])
-    }
-
     fn tell(&mut self, status: Status) {
         if let Ok(line) = format!(in self.alloc; "{status}") {
             let _ = self.note(&[b"tell ", line.as_str().as_bytes()]);
@@ -163,15 +158,15 @@ fn ends<R: Abort + AllocGlobal>(
 
 #[test]
 fn makes_the_calls_of_a_run_in_their_order(rt: HostRuntime) -> Result<(), Fail> {
-    ends(&rt, Recorder::new(rt.alloc(), RUN), 10, &[], 0)?;
+    ends(&rt, Recorder::new(rt.alloc(), RUN), 9, &[], 0)?;
     let mut torn = Recorder::new(rt.alloc(), RUN);
     torn.outcome = Ok(true);
-    ends(&rt, torn, 10, &["tell nftrun: capture torn"], 7)
+    ends(&rt, torn, 9, &["tell nftrun: capture torn"], 7)
 }
 
 #[test]
 fn makes_no_call_after_one_that_failed(rt: HostRuntime) -> Result<(), Fail> {
-    for call in 0..10 {
+    for call in 0..9 {
         let mut refused = Recorder::new(rt.alloc(), RUN);
         refused.failing = Some((call, io::ErrorKind::PermissionDenied));
         ends(&rt, refused, call + 1, &["tell nftrun: device"], 5)?;
@@ -194,7 +189,7 @@ fn writes_over_no_file_that_it_reads(rt: HostRuntime) -> Result<(), Fail> {
 }
 
 #[test]
-fn tells_the_fault_of_a_run_and_closes_nothing(rt: HostRuntime) -> Result<(), Fail> {
+fn tells_the_fault_of_a_run(rt: HostRuntime) -> Result<(), Fail> {
     let mut host = Recorder::new(rt.alloc(), RUN);
     host.outcome = Err(RunFault::Capture(CaptureFault::TornEnd));
     ends(&rt, host, 9, &["tell nftrun: capture P5"], 4)?;
