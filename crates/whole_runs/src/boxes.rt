@@ -1,5 +1,4 @@
 //! Box files: what they are refused for, and what is found in them.
-use crate::runs::{AT_1_5, BOX, HEADER, OUT_HEADER, PLAIN, PLAIN_OUT, bytes, run_over};
 use box_file::{BoxError, BoxFault, Plant};
 use std::alloc::Global;
 use std::test::Fail;
@@ -121,28 +120,28 @@ fn refuses_repeats_before_unknown_names(rt: HostRuntime) -> Result<(), Fail> {
 
 #[test]
 fn refuses_more_than_64_interface_lines(rt: HostRuntime) -> Result<(), Fail> {
-    let mut text = b"default e1\n".to_vec(rt.alloc())?;
+    let mut text = String::from_str(rt.alloc(), "default e1\n")?;
     for index in 1..65u8 {
-        let line = format!(in rt.alloc(); "interface {index} e{index} 10.0.0.{index}/8\n")?;
-        text.extend_from_slice(line.as_bytes())?;
+        writeln!(text, "interface {index} e{index} 10.0.0.{index}/8")?;
     }
-    assert_eq!(rt; fault(rt.alloc(), &text)?, None);
-    let most = text.len();
-    text.extend_from_slice(b"interface 65 e65 10.0.0.65/8\n".as_slice())?;
-    assert_eq!(rt; fault(rt.alloc(), &text)?, Some(BoxFault::TooLarge));
-    text.truncate(most);
-    text.extend_from_slice(b"interface 65 e65 10.0.0.64/8\n".as_slice())?;
-    assert_eq!(rt; fault(rt.alloc(), &text)?, Some(BoxFault::Repeated));
+    assert_eq!(rt; fault(rt.alloc(), text.as_bytes())?, None);
+    for (line, wanted) in [
+        ("interface 65 e65 10.0.0.65/8\n", BoxFault::TooLarge),
+        ("interface 65 e65 10.0.0.64/8\n", BoxFault::Repeated),
+    ] {
+        let more = format!(in rt.alloc(); "{text}{line}")?;
+        assert_eq!(rt; fault(rt.alloc(), more.as_bytes())?, Some(wanted));
+    }
     Ok(())
 }
 
 /// A box with this many routes to addresses of their own.
-fn many_routes(alloc: Global, count: u32) -> Result<Vec<u8>, Fail> {
-    let mut text = b"interface 1 e1 192.168.1.1/24\ndefault e1\n".to_vec(alloc)?;
+fn many_routes(alloc: Global, count: u32) -> Result<String, Fail> {
+    let mut text = String::from_str(alloc, "interface 1 e1 192.168.1.1/24\ndefault e1\n")?;
     for place in 0..count {
-        let [_, second, third, fourth] = place.to_be_bytes();
-        let line = format!(in alloc; "route 10.{second}.{third}.{fourth}/32 e1\n")?;
-        text.extend_from_slice(line.as_bytes())?;
+        let third = place / 256;
+        let fourth = place % 256;
+        writeln!(text, "route 10.0.{third}.{fourth}/32 e1")?;
     }
     Ok(text)
 }
@@ -150,15 +149,24 @@ fn many_routes(alloc: Global, count: u32) -> Result<Vec<u8>, Fail> {
 #[test]
 fn refuses_more_than_1024_route_lines(rt: HostRuntime) -> Result<(), Fail> {
     let mut text = many_routes(rt.alloc(), 1024)?;
-    let plant = Plant::read(rt.alloc(), &text)?;
+    let plant = Plant::read(rt.alloc(), text.as_bytes())?;
     assert_eq!(rt; plant.route(address(10, 0, 3, 255)), Some(1));
     assert_eq!(rt; plant.route(address(10, 0, 4, 0)), None);
-    text.extend_from_slice(b"route 11.0.0.0/8 e1\n".as_slice())?;
-    assert_eq!(rt; fault(rt.alloc(), &text)?, Some(BoxFault::TooLarge));
+    text.push_str("route 11.0.0.0/8 e1\n")?;
+    assert_eq!(rt;
+        fault(rt.alloc(), text.as_bytes())?,
+        Some(BoxFault::TooLarge)
+    );
     let mut text = many_routes(rt.alloc(), 4_000)?;
-    assert_eq!(rt; fault(rt.alloc(), &text)?, Some(BoxFault::TooLarge));
-    text.extend_from_slice(b"route 10.0.0.0/32 e1\n".as_slice())?;
-    assert_eq!(rt; fault(rt.alloc(), &text)?, Some(BoxFault::Repeated));
+    assert_eq!(rt;
+        fault(rt.alloc(), text.as_bytes())?,
+        Some(BoxFault::TooLarge)
+    );
+    text.push_str("route 10.0.0.0/32 e1\n")?;
+    assert_eq!(rt;
+        fault(rt.alloc(), text.as_bytes())?,
+        Some(BoxFault::Repeated)
+    );
     Ok(())
 }
 
@@ -166,6 +174,7 @@ fn refuses_more_than_1024_route_lines(rt: HostRuntime) -> Result<(), Fail> {
 fn refuses_more_than_1048576_bytes(rt: HostRuntime) -> Result<(), Fail> {
     let comment = vec![in rt.alloc(); b'#'; 1_048_576]?;
     let mut text = Vec::from_slice(rt.alloc(), TWO.as_bytes())?;
+    assert!(rt; text.len() < comment.len());
     let rest = comment.len() - text.len();
     text.extend_from_slice(&comment[..rest])?;
     assert_eq!(rt; text.len(), 1_048_576);
@@ -228,65 +237,5 @@ fn finds_the_longest_prefix_and_the_first_of_equal_ones(rt: HostRuntime) -> Resu
     assert_eq!(rt; plant.named(b"lan".as_slice()), Some(2));
     assert_eq!(rt; plant.name(2), Some(b"lan".as_slice()));
     assert_eq!(rt; plant.entering(), 3);
-    Ok(())
-}
-
-#[test]
-fn prints_the_faults(rt: HostRuntime) -> Result<(), Fail> {
-    for (error, text) in [
-        (BoxError::Refused(BoxFault::Form), "B1"),
-        (BoxError::Refused(BoxFault::Repeated), "B2"),
-        (BoxError::Refused(BoxFault::UnknownName), "B3"),
-        (BoxError::Refused(BoxFault::TooLarge), "B4"),
-        (BoxError::Memory, "memory"),
-    ] {
-        let printed = format!(in rt.alloc(); "{error}")?;
-        assert_eq!(rt; printed.as_str(), text);
-    }
-    Ok(())
-}
-
-/// The run's box with further lines.
-fn longer_box(alloc: Global, lines: &[u8]) -> Result<Vec<u8>, Fail> {
-    let mut text = Vec::from_slice(alloc, BOX)?;
-    text.extend_from_slice(lines)?;
-    Ok(text)
-}
-
-#[test]
-fn a_packet_takes_the_longest_prefix_and_the_first_of_equal_ones(
-    rt: HostRuntime,
-) -> Result<(), Fail> {
-    let capture = bytes(rt.alloc(), [HEADER, AT_1_5, PLAIN].as_slice())?;
-    let lines =
-        b"interface 7 dmz 198.51.100.1/24\nroute 198.51.100.0/23 lan\nroute 198.51.100.0/24 wan\n";
-    let plant = longer_box(rt.alloc(), lines.as_slice())?;
-    let given = run_over(rt.alloc(), b"", &plant, &capture, 4096);
-    let by_7 = "010000000065cd1d30000000300000000800000000000007000104000000000000000000";
-    let wanted = bytes(rt.alloc(), [OUT_HEADER, by_7, PLAIN_OUT].as_slice())?;
-    assert_eq!(rt; given.sent.as_slice(), wanted.as_slice());
-    Ok(())
-}
-
-#[test]
-fn packets_to_the_box_and_to_nowhere_do_not_leave(rt: HostRuntime) -> Result<(), Fail> {
-    let capture = bytes(rt.alloc(), [HEADER, AT_1_5, PLAIN].as_slice())?;
-    let own = b"interface 2 lan 198.51.100.7/32\ndefault lan\n";
-    let given = run_over(rt.alloc(), b"", own.as_slice(), &capture, 4096);
-    assert!(rt;
-        given
-            .report
-            .as_slice()
-            .starts_with(b"records 1\npassed 0\nlocal 1\n".as_slice())
-    );
-    let far = b"interface 2 lan 10.0.0.1/8\ndefault lan\n";
-    let given = run_over(rt.alloc(), b"", far.as_slice(), &capture, 4096);
-    assert!(rt;
-        given
-            .report
-            .as_slice()
-            .starts_with(b"records 1\npassed 0\nlocal 0\n".as_slice())
-    );
-    assert_eq!(rt; given.sent.len(), 24);
     Ok(())
 }

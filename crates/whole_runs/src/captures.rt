@@ -1,9 +1,5 @@
 //! Captures as pcap-savefile(5) lays them out, written here byte by byte.
-use pcap_io::{
-    Calls, Capture, CaptureError, CaptureFault, Counted, DeviceFailed, Failing, Leaving, Sink,
-    SinkError, Slow, one_reading, some_reading, write_whole,
-};
-use std::io::Write;
+use pcap_io::{Capture, CaptureError, CaptureFault, Counted, Failing, Leaving, Sink};
 use std::process::Abort;
 use std::test::Fail;
 
@@ -31,29 +27,6 @@ fn two_records(rt: &HostRuntime) -> Result<Vec<u8>, Fail> {
     bytes.extend_from_slice(&PACKET)?;
     bytes.extend_from_slice(&EARLIER)?;
     Ok(bytes)
-}
-
-#[test]
-fn reads_records_in_small_pieces(rt: HostRuntime) -> Result<(), Fail> {
-    let bytes = two_records(&rt)?;
-    for most in [1usize, 7, 70_000] {
-        let mut reader = Counted::new(Slow::new(bytes.as_slice(), most));
-        let mut capture = Capture::open(rt.alloc(), &mut reader)?;
-        assert!(rt; capture.record().is_none());
-        assert!(rt; capture.next(&mut reader)?);
-        let first = capture.record().ok_or("no record")?;
-        assert_eq!(rt; first.moment, 1_500_000_000);
-        assert_eq!(rt; first.bytes, PACKET.as_slice());
-        assert!(rt; capture.next(&mut reader)?);
-        let second = capture.record().ok_or("no record")?;
-        assert_eq!(rt; second.moment, 1_500_000_000, "the greatest so far");
-        assert_eq!(rt; second.bytes, [0x45u8].as_slice());
-        assert!(rt; !capture.next(&mut reader)?);
-        assert!(rt; capture.record().is_none());
-        assert!(rt; !capture.next(&mut reader)?, "the end again");
-        assert_eq!(rt; reader.failures(), 0);
-    }
-    Ok(())
 }
 
 /// How many records the capture has, or its first fault, which comes again.
@@ -118,130 +91,11 @@ fn refuses_what_is_no_capture(rt: HostRuntime) -> Result<(), Fail> {
     Ok(())
 }
 
-/// Magic, version and link type are wrong at once: the first that is tested is told.
-#[test]
-fn tells_the_first_fault_of_a_header(rt: HostRuntime) -> Result<(), Fail> {
-    let mut bytes = two_records(&rt)?;
-    for (place, byte, want) in [
-        (20usize, 1u8, CaptureFault::LinkType),
-        (6, 3, CaptureFault::Version),
-        (0, 0x4d, CaptureFault::Magic),
-    ] {
-        assert!(rt; place < bytes.len());
-        bytes[place] = byte;
-        assert_eq!(rt; count_records(&rt, &bytes), refused(want));
-    }
-    Ok(())
-}
-
-#[test]
-fn tells_a_read_that_failed(rt: HostRuntime) -> Result<(), Fail> {
-    let bytes = two_records(&rt)?;
-    for calls in [0usize, 1, 2] {
-        let mut reader = Counted::new(Failing::new(Slow::new(bytes.as_slice(), 60), calls));
-        let error = Capture::open(rt.alloc(), &mut reader).err();
-        assert_eq!(rt; error, Some(CaptureError::Device), "after {calls}");
-        assert_eq!(rt; reader.failures(), 1, "after {calls}");
-    }
-    Ok(())
-}
-
-#[test]
-fn opens_a_capture_of_many_records(rt: HostRuntime) -> Result<(), Fail> {
-    let mut bytes = Vec::from_slice(rt.alloc(), &HEADER)?;
-    for _ in 0..5_000 {
-        bytes.extend_from_slice(&RECORD)?;
-        bytes.extend_from_slice(&PACKET)?;
-    }
-    let mut reader = Counted::new(bytes.as_slice());
-    let mut capture = Capture::open(rt.alloc(), &mut reader)?;
-    for _ in 0..5_000 {
-        assert!(rt; capture.next(&mut reader)?);
-    }
-    assert!(rt; !capture.next(&mut reader)?);
-    Ok(())
-}
-
-#[test]
-fn faults_as_text(rt: HostRuntime) -> Result<(), Fail> {
-    for (error, want) in [
-        (CaptureError::Refused(CaptureFault::Magic), "P1"),
-        (CaptureError::Refused(CaptureFault::Version), "P2"),
-        (CaptureError::Refused(CaptureFault::LinkType), "P3"),
-        (CaptureError::Refused(CaptureFault::Malformed), "P4"),
-        (CaptureError::Refused(CaptureFault::TornEnd), "P5"),
-        (CaptureError::Device, "P6"),
-        (CaptureError::Refused(CaptureFault::TooMany), "P7"),
-        (CaptureError::Memory, "memory"),
-    ] {
-        let text = format!(in rt.alloc(); "{error}")?;
-        assert_eq!(rt; text.as_str(), want);
-    }
-    for (error, want) in [(SinkError::Device, "device"), (SinkError::Memory, "memory")] {
-        let text = format!(in rt.alloc(); "{error}")?;
-        assert_eq!(rt; text.as_str(), want);
-    }
-    let text = format!(in rt.alloc(); "{DeviceFailed}")?;
-    assert_eq!(rt; text.as_str(), "device");
-    Ok(())
-}
-
-/// Magic a1b23c4d, version 2.4, snaplen 262144, link type 276; then 1.5 seconds, 48 bytes twice;
-/// then the link header with interface 3.
-const WRITTEN: [u8; 60] = [
-    0x4d, 0x3c, 0xb2, 0xa1, 2, 0, 4, 0, 0, 0, 0, 0, 0, 0, 0, 0, 0, 0, 4, 0, 0x14, 1, 0, 0, 1, 0, 0,
-    0, 0, 0x65, 0xcd, 0x1d, 48, 0, 0, 0, 48, 0, 0, 0, 8, 0, 0, 0, 0, 0, 0, 3, 0, 1, 4, 0, 0, 0, 0,
-    0, 0, 0, 0, 0,
-];
-
 const LEAVING: Leaving<'static> = Leaving {
     moment: 1_500_000_000,
     interface: 3,
     packet: &PACKET,
 };
-
-/// The capture with so many records of `LEAVING`.
-fn written(rt: &HostRuntime, count: usize) -> Result<Vec<u8>, Fail> {
-    let mut bytes = Vec::from_slice(rt.alloc(), &WRITTEN[..24])?;
-    for _ in 0..count {
-        bytes.extend_from_slice(&WRITTEN[24..])?;
-        bytes.extend_from_slice(&PACKET)?;
-    }
-    Ok(bytes)
-}
-
-#[test]
-fn writes_a_record_in_small_pieces(rt: HostRuntime) -> Result<(), Fail> {
-    let mut writer = Counted::new(Slow::new(Vec::new(rt.alloc()), 1));
-    let mut sink = Sink::open(rt.alloc(), &mut writer)?;
-    sink.put(&mut writer, &LEAVING)?;
-    assert!(rt; !writer.is_flushed());
-    sink.finish(&mut writer)?;
-    assert!(rt; writer.is_flushed());
-    assert_eq!(rt; writer.failures(), 0);
-    let want = written(&rt, 1)?;
-    let given = writer.into_inner().into_inner();
-    assert_eq!(rt; given.as_slice(), want.as_slice());
-    Ok(())
-}
-
-/// A record of these has 64 bytes, so 2,048 of them fill the buffer of 131,072.
-#[test]
-fn writes_many_records_by_few_calls(rt: HostRuntime) -> Result<(), Fail> {
-    let mut writer = Counted::new(Calls::new(Vec::new(rt.alloc())));
-    let mut sink = Sink::open(rt.alloc(), &mut writer)?;
-    for _ in 0..5_000 {
-        sink.put(&mut writer, &LEAVING)?;
-    }
-    sink.finish(&mut writer)?;
-    let calls = writer.into_inner();
-    // The header, the buffer twice when it is full, the rest, and the flush.
-    assert_eq!(rt; calls.calls(), 5);
-    let want = written(&rt, 5_000)?;
-    let given = calls.into_inner();
-    assert_eq!(rt; given.as_slice(), want.as_slice());
-    Ok(())
-}
 
 /// The greatest packets, of which the buffer holds one beside the end of another.
 #[test]
@@ -267,36 +121,6 @@ fn writes_the_greatest_packets(rt: HostRuntime) -> Result<(), Fail> {
     Ok(())
 }
 
-#[test]
-fn leaves_a_beginning_after_a_write_that_failed(rt: HostRuntime) -> Result<(), Fail> {
-    let mut writer = Counted::new(Failing::new(Slow::new(Vec::new(rt.alloc()), 10), 1));
-    let failed = Sink::open(rt.alloc(), &mut writer).err();
-    assert_eq!(rt; failed, Some(SinkError::Device));
-    assert_eq!(rt; writer.failures(), 1);
-    let given = writer.into_inner().into_inner().into_inner();
-    assert_eq!(rt;
-        given.as_slice(),
-        [0x4du8, 0x3c, 0xb2, 0xa1, 2, 0, 4, 0, 0, 0].as_slice()
-    );
-    Ok(())
-}
-
-/// The header is one call; what waits is the second, and the flush the third.
-#[test]
-fn tells_a_write_or_a_flush_that_failed(rt: HostRuntime) -> Result<(), Fail> {
-    for (calls, length) in [(1usize, 24usize), (2, 88)] {
-        let mut writer = Counted::new(Failing::new(Vec::new(rt.alloc()), calls));
-        let mut sink = Sink::open(rt.alloc(), &mut writer)?;
-        sink.put(&mut writer, &LEAVING)?;
-        assert!(rt; sink.finish(&mut writer).is_err());
-        assert_eq!(rt; writer.failures(), 1);
-        assert!(rt; !writer.is_flushed());
-        let given = writer.into_inner().into_inner();
-        assert_eq!(rt; given.len(), length);
-    }
-    Ok(())
-}
-
 /// A buffer that can't be drained keeps what waits.
 #[test]
 fn keeps_what_waits_after_a_put_that_failed(rt: HostRuntime) -> Result<(), Fail> {
@@ -312,19 +136,4 @@ fn keeps_what_waits_after_a_put_that_failed(rt: HostRuntime) -> Result<(), Fail>
     let given = writer.into_inner().into_inner();
     assert_eq!(rt; given.len(), 131_096);
     Ok(())
-}
-
-#[test]
-fn takes_nothing_of_nothing_without_a_failure(rt: HostRuntime) -> Result<(), Fail> {
-    let mut writer = Counted::new(Vec::new(rt.alloc()));
-    assert_eq!(rt; writer.write(&[]).ok(), Some(0));
-    write_whole(&mut writer, &[])?;
-    assert_eq!(rt; writer.failures(), 0);
-    Ok(())
-}
-
-#[test]
-fn reads_one_way() {
-    one_reading();
-    some_reading();
 }

@@ -159,19 +159,3 @@ fn cuts_thousands_of_tokens(rt: HostRuntime) -> Result<(), Fail> {
     is_refused(&rt, &text, LexFault::Byte { line: 100_001 });
     Ok(())
 }
-
-#[test]
-fn names_faults(rt: HostRuntime) -> Result<(), Fail> {
-    let names = [
-        (LexFault::Byte { line: 1 }, "E01"),
-        (LexFault::OpenString { line: 1 }, "E02"),
-        (LexFault::Number { line: 1 }, "E03"),
-        (LexFault::TooLong, "E04"),
-    ];
-    for (fault, name) in names {
-        assert_eq!(rt; format!(in rt.alloc(); "{fault}")?.as_str(), name);
-        let error = LexError::Refused(fault);
-        assert_eq!(rt; format!(in rt.alloc(); "{error}")?.as_str(), name);
-    }
-    Ok(())
-}

@@ -8,6 +8,8 @@ mod captures;
 #[cfg(test)]
 mod faults;
 #[cfg(test)]
+mod given;
+#[cfg(test)]
 mod headers;
 #[cfg(test)]
 mod lexing;

@@ -1,9 +1,12 @@
 //! The program over a host that records its calls, its words, and each line that it can print.
-use crate::runs::{BOX, HEADER, bytes, run_over};
+use crate::given::shows;
+use box_file::BoxFault;
 use clap::Error;
 use clap::error::ErrorKind;
 use command_line::{Paths, Task, read_task};
-use engine::RunFault;
+use engine::{CheckFault, RulesFault, RunFault};
+use nft_lexer::LexFault;
+use nft_parser::TextFault;
 use pcap_io::CaptureFault;
 use program::{Host, Status, perform};
 use std::alloc::Global;
@@ -11,10 +14,12 @@ use std::io;
 use std::process::Abort;
 use std::test::Fail;
 
+const SAME_FILE: &str = "nftrun: usage: OUT is the same file as RULES, BOX or IN";
+
 const RUN: &[&str] = &["nftrun", "run", "rules", "box", "in", "out"];
 
 /// The calls of a run that succeeds.
-const CALLS: [&str; 10] = [
+const CALLS: [&str; 9] = [
     "words",
     "read rules",
     "read box",
@@ -24,7 +29,6 @@ const CALLS: [&str; 10] = [
     "compare out in",
     "create out",
     "run rules box",
-    "close",
 ];
 
 /// Answers as it is told, and writes its calls down, a line each. A file holds its own path.
@@ -116,10 +120,6 @@ impl Host for Recorder {
         }
     }
 
-    fn close(&mut self, _output: ()) -> io::Result<()> {
-        self.note(&[b"close"])
-    }
-
     fn tell(&mut self, status: Status) {
         if let Ok(line) = format!(in self.alloc; "{status}") {
             let _ = self.note(&[b"tell ", line.as_str().as_bytes()]);
@@ -158,15 +158,15 @@ fn ends<R: Abort + AllocGlobal>(
 
 #[test]
 fn makes_the_calls_of_a_run_in_their_order(rt: HostRuntime) -> Result<(), Fail> {
-    ends(&rt, Recorder::new(rt.alloc(), RUN), 10, &[], 0)?;
+    ends(&rt, Recorder::new(rt.alloc(), RUN), 9, &[], 0)?;
     let mut torn = Recorder::new(rt.alloc(), RUN);
     torn.outcome = Ok(true);
-    ends(&rt, torn, 10, &["tell nftrun: capture torn"], 7)
+    ends(&rt, torn, 9, &["tell nftrun: capture torn"], 7)
 }
 
 #[test]
 fn makes_no_call_after_one_that_failed(rt: HostRuntime) -> Result<(), Fail> {
-    for call in 0..10 {
+    for call in 0..9 {
         let mut refused = Recorder::new(rt.alloc(), RUN);
         refused.failing = Some((call, io::ErrorKind::PermissionDenied));
         ends(&rt, refused, call + 1, &["tell nftrun: device"], 5)?;
@@ -179,20 +179,17 @@ fn makes_no_call_after_one_that_failed(rt: HostRuntime) -> Result<(), Fail> {
 
 #[test]
 fn writes_over_no_file_that_it_reads(rt: HostRuntime) -> Result<(), Fail> {
-    let line = "tell nftrun: usage: OUT is the same file as RULES, BOX or IN";
-    let mut rules = Recorder::new(rt.alloc(), RUN);
-    rules.same = "rules";
-    ends(&rt, rules, 5, &[line], 2)?;
-    let mut plant = Recorder::new(rt.alloc(), RUN);
-    plant.same = "box";
-    ends(&rt, plant, 6, &[line], 2)?;
-    let mut input = Recorder::new(rt.alloc(), RUN);
-    input.same = "in";
-    ends(&rt, input, 7, &[line], 2)
+    let line = format!(in rt.alloc(); "tell {SAME_FILE}")?;
+    for (path, count) in [("rules", 5usize), ("box", 6), ("in", 7)] {
+        let mut host = Recorder::new(rt.alloc(), RUN);
+        host.same = path;
+        ends(&rt, host, count, &[line.as_str()], 2)?;
+    }
+    Ok(())
 }
 
 #[test]
-fn tells_the_fault_of_a_run_and_closes_nothing(rt: HostRuntime) -> Result<(), Fail> {
+fn tells_the_fault_of_a_run(rt: HostRuntime) -> Result<(), Fail> {
     let mut host = Recorder::new(rt.alloc(), RUN);
     host.outcome = Err(RunFault::Capture(CaptureFault::TornEnd));
     ends(&rt, host, 9, &["tell nftrun: capture P5"], 4)?;
@@ -280,103 +277,87 @@ fn names_the_paths_in_its_help(rt: HostRuntime) -> Result<(), Fail> {
     Ok(())
 }
 
-/// A status has this line and this code.
-fn shows<R: Abort + AllocGlobal>(rt: &R, status: Status, line: &str, code: u8) -> Result<(), Fail> {
-    let text = format!(in rt.alloc(); "{status}")?;
-    assert_eq!(rt; text.as_str(), line);
-    assert_eq!(rt; status.code(), code);
-    Ok(())
-}
-
-/// A run over these texts and this capture ends with this line and this code.
-fn run_shows<R: Abort + AllocGlobal>(
-    rt: &R,
-    rules: &[u8],
-    plant: &[u8],
-    capture: &[u8],
-    line: &str,
-    code: u8,
-) -> Result<(), Fail> {
-    let given = run_over(rt.alloc(), rules, plant, capture, 4096);
-    let status = match &given.summary {
-        Ok(summary) => Status::of(Ok(summary.torn)),
-        Err(fault) => Status::of(Err(fault)),
-    };
-    shows(rt, status, line, code)
-}
-
+/// Each line that the program can print, and the exit status beside it.
 #[test]
-fn shows_a_line_for_each_fault_of_a_capture(rt: HostRuntime) -> Result<(), Fail> {
+fn each_status_has_its_line_and_its_code(rt: HostRuntime) -> Result<(), Fail> {
+    let cutting = |fault| Status::Rules(RulesFault::Text(TextFault::Cutting(fault)));
     let rows = [
-        (CaptureFault::Magic, "nftrun: capture P1"),
-        (CaptureFault::Version, "nftrun: capture P2"),
-        (CaptureFault::LinkType, "nftrun: capture P3"),
-        (CaptureFault::Malformed, "nftrun: capture P4"),
-        (CaptureFault::TornEnd, "nftrun: capture P5"),
-        (CaptureFault::TooMany, "nftrun: capture P7"),
+        (Status::of(Ok(false)), "nftrun: done", 0),
+        (cutting(LexFault::Byte { line: 1 }), "nftrun: rules E01", 1),
+        (
+            cutting(LexFault::OpenString { line: 1 }),
+            "nftrun: rules E02",
+            1,
+        ),
+        (
+            cutting(LexFault::Number { line: 1 }),
+            "nftrun: rules E03",
+            1,
+        ),
+        (cutting(LexFault::TooLong), "nftrun: rules E04", 1),
+        (
+            Status::Rules(RulesFault::Text(TextFault::Syntax)),
+            "nftrun: rules E05",
+            1,
+        ),
+        (
+            Status::Rules(RulesFault::Text(TextFault::LeftOut)),
+            "nftrun: rules E06",
+            1,
+        ),
+        (
+            Status::Rules(RulesFault::Check(CheckFault::Cost)),
+            "nftrun: rules N06",
+            1,
+        ),
+        (
+            Status::Rules(RulesFault::Check(CheckFault::TooLarge)),
+            "nftrun: rules N15",
+            1,
+        ),
+        (Status::Usage, "nftrun: usage", 2),
+        (Status::SameFile, SAME_FILE, 2),
+        (Status::Box(BoxFault::Form), "nftrun: box B1", 3),
+        (Status::Box(BoxFault::Repeated), "nftrun: box B2", 3),
+        (Status::Box(BoxFault::UnknownName), "nftrun: box B3", 3),
+        (Status::Box(BoxFault::TooLarge), "nftrun: box B4", 3),
+        (
+            Status::Capture(CaptureFault::Magic),
+            "nftrun: capture P1",
+            4,
+        ),
+        (
+            Status::Capture(CaptureFault::Version),
+            "nftrun: capture P2",
+            4,
+        ),
+        (
+            Status::Capture(CaptureFault::LinkType),
+            "nftrun: capture P3",
+            4,
+        ),
+        (
+            Status::Capture(CaptureFault::Malformed),
+            "nftrun: capture P4",
+            4,
+        ),
+        (
+            Status::Capture(CaptureFault::TornEnd),
+            "nftrun: capture P5",
+            4,
+        ),
+        (
+            Status::Capture(CaptureFault::TooMany),
+            "nftrun: capture P7",
+            4,
+        ),
+        (Status::of(Err(&RunFault::Device)), "nftrun: device", 5),
+        (Status::of(Err(&RunFault::Memory)), "nftrun: memory", 6),
+        (Status::of(Ok(true)), "nftrun: capture torn", 7),
     ];
-    for (fault, line) in rows {
-        shows(&rt, Status::of(Err(&RunFault::Capture(fault))), line, 4)?;
+    for (status, line, code) in rows {
+        shows(&rt, status, line)?;
+        assert_eq!(rt; status.code(), code, "{line}");
     }
     Ok(())
-}
-
-#[test]
-fn shows_a_line_for_each_end_of_its_own(rt: HostRuntime) -> Result<(), Fail> {
-    shows(&rt, Status::of(Err(&RunFault::Device)), "nftrun: device", 5)?;
-    shows(&rt, Status::of(Err(&RunFault::Memory)), "nftrun: memory", 6)?;
-    shows(&rt, Status::of(Ok(true)), "nftrun: capture torn", 7)?;
-    let line = "nftrun: usage: OUT is the same file as RULES, BOX or IN";
-    shows(&rt, Status::SameFile, line, 2)?;
-    // Neither is printed.
-    shows(&rt, Status::of(Ok(false)), "nftrun: done", 0)?;
-    shows(&rt, Status::Usage, "nftrun: usage", 2)
-}
-
-#[test]
-fn shows_a_line_for_each_fault_of_the_rules(rt: HostRuntime) -> Result<(), Fail> {
-    let rows: [(&[u8], &str); 5] = [
-        (b"*", "nftrun: rules E01"),
-        (b"\"open\n", "nftrun: rules E02"),
-        (b"1.2.3.256", "nftrun: rules E03"),
-        (b"table ip t { chain a { tcp dport } }", "nftrun: rules E05"),
-        (
-            b"table ip t { chain a { tcp dport 22 reject } }",
-            "nftrun: rules E06",
-        ),
-    ];
-    for (rules, line) in rows {
-        run_shows(&rt, rules, BOX, b"", line, 1)?;
-    }
-    let long = vec![in rt.alloc(); b' '; 1_048_577]?;
-    run_shows(&rt, &long, BOX, b"", "nftrun: rules E04", 1)
-    // To be completed with the checks of rules: a row each for N06 and N15, and for each check to come.
-}
-
-#[test]
-fn shows_a_line_for_each_fault_of_a_box(rt: HostRuntime) -> Result<(), Fail> {
-    let rows: [(&[u8], &str); 3] = [
-        (b"", "nftrun: box B1"),
-        (
-            b"interface 2 lan 10.0.0.1/8\ninterface 3 lan 11.0.0.1/8\ndefault lan\n",
-            "nftrun: box B2",
-        ),
-        (
-            b"interface 2 lan 10.0.0.1/8\ndefault wan\n",
-            "nftrun: box B3",
-        ),
-    ];
-    for (plant, line) in rows {
-        run_shows(&rt, b"", plant, b"", line, 3)?;
-    }
-    let mut long = vec![in rt.alloc(); b'\n'; 1_048_577]?;
-    long.extend_from_slice(BOX)?;
-    run_shows(&rt, b"", &long, b"", "nftrun: box B4", 3)
-}
-
-#[test]
-fn shows_the_end_of_a_run_over_texts(rt: HostRuntime) -> Result<(), Fail> {
-    let capture = bytes(rt.alloc(), &[HEADER])?;
-    run_shows(&rt, b"", BOX, &capture, "nftrun: done", 0)?;
-    run_shows(&rt, b"", BOX, b"", "nftrun: capture P5", 4)
 }
