@@ -39,6 +39,24 @@ def large_ruleset(rules, elements):
     return "\n".join(["table t {", named, "chain c {", *lines, "}", "}", ""])
 
 
+def table_of(lines):
+    return "\n".join(["table t {", *lines, "}", ""])
+
+
+def hard_to_judge():
+    """Rulesets within the limit of a text that are hard to judge, by name."""
+    begins = "a-name-with-the-same-beginning-as-all-of-them-"
+    pairs = ",".join(f"{n}:jump c{n % 1000}" for n in range(30_000))
+    ranges = ",".join(f"{3 * n}-{3 * n + 1}:{n % 2}" for n in range(65_000))
+    return {
+        "gotos": [f"chain c{n} {{ goto c{n + 1}\n}}" for n in range(16_384)] + ["chain c16384 { }"],
+        "jumps": [f"map m {{ type mark : verdict; elements = {{ {pairs} }} }}", *(f"chain c{n} {{ }}" for n in range(1_000)), "chain all {", *["meta mark vmap @m"] * 8_000, "}"],
+        "doubling": [f"chain c{n} {{ jump c{n + 1}\njump c{n + 1}\n}}" for n in range(16)] + ["chain c16 { accept\n}"],
+        "ranges": [f"map m {{ type mark : mark; elements = {{ {ranges} }} }}"],
+        "names": [f"chain {begins}{n} {{ }}" for n in range(16_384)],
+    }
+
+
 BOX = """interface 2 lan 192.168.1.1/24
 interface 3 wan 203.0.113.1/24
 route 0.0.0.0/0 wan
@@ -71,7 +89,10 @@ def main():
     write("rules.nft", ruleset())
     for rules in (1000, 4000, 16000):
         write(f"{rules}.nft", large_ruleset(rules, rules * 15 // 4))
+    for name, lines in hard_to_judge().items():
+        write(f"hard-{name}.nft", table_of(lines))
     write("box.txt", BOX)
+    write("no-box.txt", "default lan\n")
     write("two-routes.txt", BOX.replace("interface 3 wan 203.0.113.1/24\n", "").replace("wan", "lan"))
     write("many-routes.txt", box_of_routes(1021))
     for power in (4, 5, 6):

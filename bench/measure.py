@@ -55,6 +55,13 @@ def main():
         # The text is read and found to have a form that runs don't take yet.
         spent, memory = run(f"{rules}.nft", "box.txt", "3.pcap", 1)
         print(f"{rules} rules, {rules * 15 // 4} elements, {size} bytes: {spent * 1e9 / size:.1f} ns and {memory / size:.1f} bytes a byte of text")
+    for name in ("gotos", "jumps", "doubling", "ranges", "names"):
+        rules = f"hard-{name}.nft"
+        size = os.path.getsize(f"{folder}/{rules}")
+        judged, memory = measured([program, "check", f"{folder}/{rules}", f"{folder}/box.txt"], out)
+        # The box file is refused once the ruleset is parsed, and before it is judged.
+        parsed, _ = measured([program, "check", f"{folder}/{rules}", f"{folder}/no-box.txt"], out, 3)
+        print(f"check of {name}, {size} bytes: {judged * 1e9 / size:.1f} ns and {memory / size:.1f} bytes a byte of text; {judged / parsed:.2f} times parsing alone")
 
 
 main()

@@ -1,14 +1,14 @@
 -- What the words of the command line ask for.
-use Rattle.std.specs.Prelude.{◌≡◌, ◌==◌, ◌&&◌, Bool, true, not, List, [], ◌∷◌}
+use Rattle.std.specs.Prelude.{◌≡◌, ◌==◌, ◌&&◌, ◌||◌, Bool, true, not, List, [], ◌∷◌}
 use Rattle.std.specs.Prelude.{codes, if◌then◌else◌, false}
 use Rattle.std.specs.List.{list_all}
 use Rattle.std.specs.Str.{bytes_eq}
 use Rattle.clap.specs.Words.{Text}
 use Rattle.command_line.specs.declared.task.Task.{Task}
-use Rattle.command_line.specs.declared.task.Task.TheVariants.{Run}
+use Rattle.command_line.specs.declared.task.Task.TheVariants.{Run, Check}
 use Rattle.command_line.specs.declared.task.Paths.{Paths}
 
--- the words after `run` that are paths: all but the first `--`
+-- the words after `run` or `check` that are paths: all but the first `--`
 abbrev pub operands : List Text → List Text
 operands [] = []
 operands (word ∷ rest) = if bytes_eq word (codes "--") then rest else word ∷ operands rest
@@ -16,10 +16,12 @@ operands (word ∷ rest) = if bytes_eq word (codes "--") then rest else word ∷
 abbrev pub texts_of : Paths → List Text
 texts_of p = p.rules.now ∷ p.plant.now ∷ p.input.now ∷ p.output.now ∷ []
 
--- the words ask for this task: they are the program's name, `run` and the four paths
+-- the words ask for this task: they are the program's name, and `run` and the four paths, or `check` and the two
 abbrev pub Asks : List Text → Task → Type 0
 Asks (program ∷ name ∷ rest) (Run paths) =
     (name ≡ codes "run") × (operands rest ≡ texts_of paths)
+Asks (program ∷ name ∷ rest) (Check texts) =
+    (name ≡ codes "check") × (operands rest ≡ texts.rules.now ∷ texts.plant.now ∷ [])
 Asks _ _ = ⊥
 
 -- the word is read as a path wherever it stands: it is `-`, or does not begin with a hyphen
@@ -33,7 +35,14 @@ is_run (a ∷ b ∷ c ∷ d ∷ []) = list_all is_plain_word (a ∷ b ∷ c ∷ 
 is_run (dashes ∷ a ∷ b ∷ c ∷ d ∷ []) = bytes_eq dashes (codes "--")
 is_run _ = false
 
+-- `check` and two paths, where each path is plain or both stand after `--`
+abbrev pub is_check : List Text → Bool
+is_check (a ∷ b ∷ []) = is_plain_word a && is_plain_word b
+is_check (dashes ∷ a ∷ b ∷ []) = bytes_eq dashes (codes "--")
+is_check _ = false
+
 -- the words are a task
 abbrev pub is_well_formed : List Text → Bool
-is_well_formed (program ∷ name ∷ rest) = bytes_eq name (codes "run") && is_run rest
+is_well_formed (program ∷ name ∷ rest) =
+    bytes_eq name (codes "run") && is_run rest || bytes_eq name (codes "check") && is_check rest
 is_well_formed _ = false

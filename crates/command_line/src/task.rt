@@ -1,12 +1,13 @@
 //! What the words of the command line ask for.
-ghost use Rattle.std.specs.Prelude.{◌≡◌, IfErr, IfOk, false, map, true};
-ghost use Rattle.clap.specs.Words.{app_of, kind_of, rule_of, shape_of};
+ghost use Rattle.std.specs.Prelude.{◌≡◌, IfErr, IfOk, Some, codes, false, map, true};
+ghost use Rattle.std.specs.Option.{IsSome};
+ghost use Rattle.clap.specs.Words.{app_of, first_value, found_of, kind_of, rule_of, shape_of};
 ghost use Rattle.clap.specs.declared.builder.command.Command.TheViews.{out-Command};
 ghost use Rattle.command_line.specs.CommandLine.{Asks, is_well_formed};
-ghost use Rattle.command_line.specs.steps.Program.{path_rule, program_app, run_shape};
+ghost use Rattle.command_line.specs.steps.Program.{check_shape, path_rule, program_app, run_shape};
 
 use clap::error::ErrorKind;
-use clap::{Arg, Command, Error};
+use clap::{Arg, ArgMatches, Command, Error};
 use std::alloc::{AllocError, Global};
 
 /// What the words ask for.
@@ -14,6 +15,8 @@ use std::alloc::{AllocError, Global};
 pub enum Task<'a> {
     /// `run RULES BOX IN OUT`: replay a capture through a ruleset.
     Run(Paths<'a>),
+    /// `check RULES BOX`: judge a ruleset before it is loaded.
+    Check(Texts<'a>),
 }
 
 /// The paths of a run, as the words give them.
@@ -29,10 +32,20 @@ pub struct Paths<'a> {
     pub output: &'a str,
 }
 
+/// The paths of a check, as the words give them.
+#[derive(Clone, Copy)]
+pub struct Texts<'a> {
+    /// RULES, the file of the ruleset.
+    pub rules: &'a str,
+    /// BOX, the file of the box that the rules stand on.
+    pub plant: &'a str,
+}
+
 /// What the words ask for, of which the first is the program's name.
 ///
-/// The other words are `run` and the four paths, in the order RULES, BOX, IN, OUT. A path that
-/// begins with a hyphen stands after a word `--`, which is no path itself; `-` alone is a path.
+/// The other words are `run` and four paths, in the order RULES, BOX, IN, OUT, or `check` and two,
+/// in the order RULES, BOX. A path that begins with a hyphen stands after a word `--`, which is no
+/// path itself; `-` alone is a path.
 ///
 /// # Errors
 /// `clap`'s, whose `exit_code` is 0 where the words ask for help, and 2 where they are no task.
@@ -42,13 +55,27 @@ pub fn read_task<'a>(alloc: Global, words: &'a [&'a str]) -> Result<Task<'a>, Er
         → kind_of e ≡ ErrorKind.OutOfMemory) }
 {
     let matches = program(alloc)?.try_get_matches_from(words)?;
-    let (_, run) = matches.subcommand().unwrap();
+    let (name, given) = matches.subcommand().unwrap();
+    if name == "check" {
+        return Ok(Task::Check(Texts {
+            rules: value_of(given, "rules"),
+            plant: value_of(given, "plant"),
+        }));
+    }
     Ok(Task::Run(Paths {
-        rules: run.get_str("rules").unwrap(),
-        plant: run.get_str("plant").unwrap(),
-        input: run.get_str("input").unwrap(),
-        output: run.get_str("output").unwrap(),
+        rules: value_of(given, "rules"),
+        plant: value_of(given, "plant"),
+        input: value_of(given, "input"),
+        output: value_of(given, "output"),
     }))
+}
+
+// The value of an argument that was given.
+fn value_of<'a>(given: &ArgMatches<'a>, id: &str) -> &'a str
+    requires { IsSome (first_value (found_of given.now) id.now) }
+    ensures { first_value (found_of given.now) id.now ≡ Some result.now }
+{
+    given.get_str(id).unwrap()
 }
 
 fn program<'a>(alloc: Global) -> Result<Command<'a>, AllocError>
@@ -57,23 +84,46 @@ fn program<'a>(alloc: Global) -> Result<Command<'a>, AllocError>
     Command::new(alloc, "nftrun")
         .about("Shows what each packet of a capture would meet in a ruleset of nft(8)")
         .subcommand_required(true)
-        .subcommand(run(alloc)?)
+        .subcommand(run(alloc)?)?
+        .subcommand(check(alloc)?)
 }
 
 fn run<'a>(alloc: Global) -> Result<Command<'a>, AllocError>
     ensures shape { IfOk result (λ c. shape_of c ≡ run_shape) }
     ensures local { IfOk result (λ c. (out-Command c).has_globals ≡ false) }
 {
-    let rules = path(alloc, "rules", "RULES", "The file of the ruleset");
-    let plant = path(alloc, "plant", "BOX", "The file of the box");
     let input = path(alloc, "input", "IN", "The capture to read");
     let output = path(alloc, "output", "OUT", "The capture to write");
     Command::new(alloc, "run")
         .about("Replays a capture through a ruleset")
-        .arg(rules)?
-        .arg(plant)?
+        .arg(rules(alloc))?
+        .arg(plant(alloc))?
         .arg(input)?
         .arg(output)
+}
+
+fn check<'a>(alloc: Global) -> Result<Command<'a>, AllocError>
+    ensures shape { IfOk result (λ c. shape_of c ≡ check_shape) }
+    ensures local { IfOk result (λ c. (out-Command c).has_globals ≡ false) }
+{
+    Command::new(alloc, "check")
+        .about("Judges a ruleset before it is loaded")
+        .arg(rules(alloc))?
+        .arg(plant(alloc))
+}
+
+fn rules<'a>(alloc: Global) -> Arg<'a>
+    ensures rule { rule_of result ≡ path_rule (codes "rules") }
+    ensures local { result.global ≡ false }
+{
+    path(alloc, "rules", "RULES", "The file of the ruleset")
+}
+
+fn plant<'a>(alloc: Global) -> Arg<'a>
+    ensures rule { rule_of result ≡ path_rule (codes "plant") }
+    ensures local { result.global ≡ false }
+{
+    path(alloc, "plant", "BOX", "The file of the box")
 }
 
 // A required argument that stands for one path.

@@ -1,11 +1,11 @@
 -- Two texts and a capture have a meaning, or a refusal.
 use Rattle.std.proofs.Common.{◌≡◌, ◌⊎◌, ◌<◌, ◌≤◌, ℕ, true, false, Bool, List, [], length, Some, refl, inl, inr, arith}
-use Rattle.std.proofs.lemmas.Bool.{cases_lt}
 use Rattle.nft_tree.specs.Tree.{TableTree}
 use Rattle.nft_parser.specs.declared.fault.TextFault.{TextFault}
 use Rattle.nft_parser.specs.declared.fault.TextFault.TheVariants.{LeftOut}
 use Rattle.nft_parser.specs.Spells.{Spells, HasTextFault}
-use Rattle.rule_limits.specs.Limits.{too_large}
+use Rattle.rule_check.specs.declared.fault.CheckFault.{CheckFault}
+use Rattle.rule_check.specs.WellFormed.{Least, WellFormed}
 use Rattle.box_file.specs.declared.fault.BoxFault.{BoxFault}
 use Rattle.box_file.specs.Box.{PlantTree, IsBox, HasBoxFault}
 use Rattle.pcap_io.specs.declared.fault.CaptureFault.{CaptureFault}
@@ -14,20 +14,18 @@ use Rattle.pcap_io.specs.Pcap.{Captured, Pcap, Ending, Whole, Torn, Malformed, O
 use Rattle.story.specs.Story.{capture_text}
 use Rattle.report.specs.Report.{report_text}
 use Rattle.stepping.specs.Taken.{takes}
-use Rattle.engine.specs.declared.fault.CheckFault.TheVariants as checks
 use Rattle.engine.specs.declared.fault.RulesFault.TheVariants.{Text, Check}
 use Rattle.engine.specs.declared.fault.RunFault.{RunFault}
 use Rattle.engine.specs.declared.fault.RunFault.TheVariants.{Rules, Box, Capture}
-use Rattle.engine.specs.WellFormed.{WellFormed, cost, MOST_COST}
 use Rattle.engine.specs.Meaning.{Accepted, Meaning, ending_of}
 use Rattle.engine.specs.Refusals.{IsRefusal, Refuses, Spelled}
-use Rattle.engine.proofs.Judging.{costly, large, sound}
 use Rattle.engine.proofs.Stories.{SomeEntry, some_story}
 
 -- what the readers of the texts and of the capture, and the rules, promise
 pub record Answers : Type 0 where
   pub text : (text : List ℕ) → ((tables : List TableTree) × Spells tables text) ⊎ ((fault : TextFault) × HasTextFault text fault)
   pub plant : (text : List ℕ) → ((p : PlantTree) × IsBox text p) ⊎ ((fault : BoxFault) × HasBoxFault text fault)
+  pub check : (tables : List TableTree) (p : PlantTree) → WellFormed tables p ⊎ ((fault : CheckFault) × Least fault tables p)
   pub reading : (bytes : List ℕ) → ((fault : CaptureFault) × (header_fault bytes ≡ Some fault)) ⊎ ((records : List Captured) × (ending : Ending) × Pcap bytes records ending)
   pub entry : SomeEntry
 
@@ -69,20 +67,9 @@ formed answers rules box capture trace texts well true is =
 formed answers rules box capture trace texts well false is = inr (Rules (Text LeftOut), tt, inr (refl, texts, well, is))
 
 -- by what is wrong with it
-judged : Answers → (rules box capture : List ℕ) (trace : Bool) (texts : Spelled rules box) (taken : Bool) → takes texts.tables ≡ taken → (large_one : Bool) → too_large texts.tables ≡ large_one
-    → (cost texts.tables ≤ MOST_COST) ⊎ (MOST_COST < cost texts.tables) → Answer rules box capture trace
-judged answers rules box capture trace texts true is big big_is (inr over) = inr (Rules (Check checks.Cost), tt, (texts, costly texts.tables is over texts.plant))
-judged answers rules box capture trace texts true is true big_is (inl within) =
-    inr (Rules (Check checks.TooLarge), tt, (texts, large texts.tables (λ taken over. omega arith) big_is texts.plant))
-judged answers rules box capture trace texts true is false big_is (inl within) =
-    formed answers rules box capture trace texts (sound texts.tables (λ taken over. omega arith) big_is texts.plant) true is
-judged answers rules box capture trace texts false is true big_is cheap =
-    inr (Rules (Check checks.TooLarge), tt, (texts, large texts.tables (λ taken over. cc) big_is texts.plant))
-judged answers rules box capture trace texts false is false big_is cheap =
-    formed answers rules box capture trace texts (sound texts.tables (λ taken over. cc) big_is texts.plant) false is
-
-cheap_or_not : (n : ℕ) → (n ≤ MOST_COST) ⊎ (MOST_COST < n)
-cheap_or_not n = elim (cases_lt MOST_COST n) [ inl over ↦ inr over | inr within ↦ inl within ]
+judged : Answers → (rules box capture : List ℕ) (trace : Bool) (texts : Spelled rules box) → WellFormed texts.tables texts.plant ⊎ ((fault : CheckFault) × Least fault texts.tables texts.plant) → Answer rules box capture trace
+judged answers rules box capture trace texts (inl well) = formed answers rules box capture trace texts well (takes texts.tables) refl
+judged answers rules box capture trace texts (inr found) = inr (Rules (Check found.0), tt, inl (texts, found.1))
 
 -- by the texts
 pub answered : Answers → (rules box capture : List ℕ) (trace : Bool) → Answer rules box capture trace
@@ -93,4 +80,4 @@ answered answers rules box capture trace = by_text (answers.text rules) (answers
     by_text (inl s) (inr h) = inr (Box h.0, tt, (s.0, s.1, h.1))
     by_text (inl s) (inl p) =
         let texts : Spelled rules box = record { tables = s.0; spelled = s.1; plant = p.0; read = p.1 } in
-        judged answers rules box capture trace texts (takes s.0) refl (too_large s.0) refl (cheap_or_not (cost s.0))
+        judged answers rules box capture trace texts (answers.check s.0 p.0)

@@ -4,6 +4,6 @@ mod Replays
 mod Stops
 mod Texts
 mod Meanings
-mod Judging
 mod Refusing
 mod Answering
+mod Misjudging

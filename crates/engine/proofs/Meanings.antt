@@ -11,6 +11,8 @@ use Rattle.pcap_io.specs.Pcap.{Captured, Pcap, Ending, format_of, told, HEADER_B
 use Rattle.pcap_io.specs.Counting.{AppendsPart}
 use Rattle.story.specs.Story.{Entry, capture_text}
 use Rattle.report.specs.Report.{report_text}
+use Rattle.rule_check.specs.Checked.{CheckedTree}
+use Rattle.stepping.specs.Stands.{setup_of}
 use Rattle.stepping.specs.Next.{Setup, Grows}
 use Rattle.engine.specs.declared.fault.RunFault.{RunFault}
 use Rattle.engine.specs.declared.fault.RunFault.TheVariants.{Rules, Box, Capture, Device, Memory}
@@ -231,27 +233,27 @@ of_inputs Device of e = absurd of
 -- ---- the same of a setup that the texts were accepted with
 
 -- the setup is the one that was accepted
-same_as : (rules box : List ℕ) (tables : List TableTree) (plant : PlantTree) (setup : Setup) (t : Takes rules box tables plant) → setup ≡ record { rules = tables; plant = plant } → setup ≡ t.accepted.setup
-same_as rules box tables plant setup t e = e ∙ sym t.same
+same_as : (rules box : List ℕ) (checked : CheckedTree) (setup : Setup) (t : Takes rules box checked) → setup ≡ setup_of checked → setup ≡ t.accepted.setup
+same_as rules box checked setup t e = e ∙ sym t.same
 
-pub wrote_all : Single → (rules box : List ℕ) (trace : Bool) (tables : List TableTree) (plant : PlantTree) (setup : Setup) (format : Format) (input ahead old new old_report new_report : Option (List ℕ)) (count : ℕ) (torn : Bool)
-    → Takes rules box tables plant → setup ≡ record { rules = tables; plant = plant } → Opened input ahead format
+pub wrote_all : Single → (rules box : List ℕ) (trace : Bool) (checked : CheckedTree) (setup : Setup) (format : Format) (input ahead old new old_report new_report : Option (List ℕ)) (count : ℕ) (torn : Bool)
+    → Takes rules box checked → setup ≡ setup_of checked → Opened input ahead format
     → IfSome ahead (λ bytes. Told setup format bytes count torn old new old_report new_report)
     → IfSome input (λ bytes. Wrote rules box bytes trace count torn old new old_report new_report)
-wrote_all one rules box trace tables plant setup format input ahead old new old_report new_report count torn t e opened done =
+wrote_all one rules box trace checked setup format input ahead old new old_report new_report count torn t e opened done =
     wrote one rules box trace t.accepted format input ahead old new old_report new_report count torn opened
-    (subst (λ (s : Setup). IfSome ahead (λ bytes. Told s format bytes count torn old new old_report new_report)) (same_as rules box tables plant setup t e) done)
+    (subst (λ (s : Setup). IfSome ahead (λ bytes. Told s format bytes count torn old new old_report new_report)) (same_as rules box checked setup t e) done)
 
-pub refuses_all : (rules box : List ℕ) (tables : List TableTree) (plant : PlantTree) (setup : Setup) (format : Format) (input ahead : Option (List ℕ)) (old new : Outputs) (fault : RunFault)
-    → Takes rules box tables plant → setup ≡ record { rules = tables; plant = plant } → Opened input ahead format → IsWithin fault
+pub refuses_all : (rules box : List ℕ) (checked : CheckedTree) (setup : Setup) (format : Format) (input ahead : Option (List ℕ)) (old new : Outputs) (fault : RunFault)
+    → Takes rules box checked → setup ≡ setup_of checked → Opened input ahead format → IsWithin fault
     → IfSome ahead (λ bytes. SaysWithin setup format bytes old new fault) → Refuses rules box input fault
-refuses_all rules box tables plant setup format input ahead old new fault t e opened within says =
+refuses_all rules box checked setup format input ahead old new fault t e opened within says =
     refuses_within rules box t.accepted format input ahead old new fault opened within
-    (subst (λ (s : Setup). IfSome ahead (λ bytes. SaysWithin s format bytes old new fault)) (same_as rules box tables plant setup t e) says)
+    (subst (λ (s : Setup). IfSome ahead (λ bytes. SaysWithin s format bytes old new fault)) (same_as rules box checked setup t e) says)
 
-pub left_all : (rules box : List ℕ) (trace : Bool) (tables : List TableTree) (plant : PlantTree) (setup : Setup) (format : Format) (input ahead : Option (List ℕ)) (old new : Outputs) (fault : RunFault)
-    → Takes rules box tables plant → setup ≡ record { rules = tables; plant = plant } → Opened input ahead format → IsWithin fault
+pub left_all : (rules box : List ℕ) (trace : Bool) (checked : CheckedTree) (setup : Setup) (format : Format) (input ahead : Option (List ℕ)) (old new : Outputs) (fault : RunFault)
+    → Takes rules box checked → setup ≡ setup_of checked → Opened input ahead format → IsWithin fault
     → IfSome ahead (λ bytes. SaysWithin setup format bytes old new fault) → IfSome input (λ bytes. Left rules box bytes trace old new fault)
-left_all rules box trace tables plant setup format input ahead old new fault t e opened within says =
+left_all rules box trace checked setup format input ahead old new fault t e opened within says =
     left_within rules box trace t.accepted format input ahead old new fault opened within
-    (subst (λ (s : Setup). IfSome ahead (λ bytes. SaysWithin s format bytes old new fault)) (same_as rules box tables plant setup t e) says)
+    (subst (λ (s : Setup). IfSome ahead (λ bytes. SaysWithin s format bytes old new fault)) (same_as rules box checked setup t e) says)

@@ -9,15 +9,14 @@ use Rattle.box_file.specs.Box.{PlantTree, IsBox, HasBoxFault}
 use Rattle.pcap_io.specs.declared.fault.CaptureFault.{CaptureFault}
 use Rattle.pcap_io.specs.Pcap.{Captured, Pcap, Ending, header_fault}
 use Rattle.stepping.specs.Taken.{takes}
-use Rattle.engine.specs.declared.fault.CheckFault.{CheckFault}
-use Rattle.engine.specs.declared.fault.CheckFault.TheVariants as checks
+use Rattle.rule_check.specs.declared.fault.CheckFault.{CheckFault}
+use Rattle.rule_check.specs.WellFormed.{Least, WellFormed}
 use Rattle.engine.specs.declared.fault.RulesFault.{RulesFault}
 use Rattle.engine.specs.declared.fault.RulesFault.TheVariants.{Text, Check}
 use Rattle.engine.specs.declared.fault.RunFault.{RunFault}
 use Rattle.engine.specs.declared.fault.RunFault.TheVariants.{Rules, Box, Capture, Device, Memory}
-use Rattle.engine.specs.WellFormed.{Least, WellFormed, number}
 use Rattle.engine.specs.Meaning.{Accepted, Meaning, ending_of}
-use Rattle.engine.specs.Refusals.{IsRefused, IsRefusal, Refuses, RefusesRules, Spelled, fault_at}
+use Rattle.engine.specs.Refusals.{IsFaulty, IsRefused, IsRefusal, Refuses, RefusesRules, Spelled, fault_at}
 use Rattle.engine.proofs.Meanings.{OneBox, OneReading, OneTree}
 
 -- what the readers of the texts and of the capture promise
@@ -27,6 +26,8 @@ pub record Laws : Type 0 where
   pub faultless : (text : List ℕ) (tables : List TableTree) (fault : TextFault) → Spells tables text → HasTextFault text fault → ⊥
   -- of which it has at most one
   pub one_fault : (text : List ℕ) (first second : TextFault) → HasTextFault text first → HasTextFault text second → first ≡ second
+  -- nor has a ruleset on a box more than one least fault
+  pub one_check : (tables : List TableTree) (plant : PlantTree) (fault other : CheckFault) → Least fault tables plant → Least other tables plant → fault ≡ other
   pub plant : OneBox
   -- and alike for boxes
   pub sound_box : (text : List ℕ) (p : PlantTree) (fault : BoxFault) → IsBox text p → HasBoxFault text fault → ⊥
@@ -58,12 +59,6 @@ not_read laws capture fault records torn (inr h) read =
 
 -- ---- refusals of the texts
 
-same_number : (a b : CheckFault) → number a ≤ number b → number b ≤ number a → a ≡ b
-same_number checks.Cost checks.Cost h k = refl
-same_number checks.TooLarge checks.TooLarge h k = refl
-same_number checks.Cost checks.TooLarge h k = absurd (omega (arith, h, k))
-same_number checks.TooLarge checks.Cost h k = absurd (omega (arith, h, k))
-
 -- the texts spell one ruleset and one box
 same_tables : Laws → (rules box : List ℕ) (a b : Spelled rules box) → a.tables ≡ b.tables
 same_tables laws rules box a b = laws.tree rules a.tables b.tables a.spelled b.spelled
@@ -83,30 +78,39 @@ not_sound : Laws → (rules box : List ℕ) (fault : CheckFault) (a b : Spelled 
 not_sound laws rules box fault a b least sound =
     sound fault (moved (λ s p. Least fault s p) a.tables b.tables a.plant b.plant (same_tables laws rules box a b) (same_plant laws rules box a b) least).wrong
 
-one_rules : Laws → (rules box : List ℕ) (fault other : RulesFault) → RefusesRules rules box fault → RefusesRules rules box other → fault ≡ other
-one_rules laws rules box (Text f) (Text g) (inl h) (inl k) = ap Text (laws.one_fault rules f g h k)
-one_rules laws rules box (Text f) (Text g) (inl h) (inr k) = absurd (laws.faultless rules k.1.tables f k.1.spelled h)
-one_rules laws rules box (Text f) (Text g) (inr h) (inl k) = absurd (laws.faultless rules h.1.tables g h.1.spelled k)
-one_rules laws rules box (Text f) (Text g) (inr h) (inr k) = ap Text (h.0 ∙ sym k.0)
-one_rules laws rules box (Text f) (Check g) (inl h) k = absurd (laws.faultless rules k.0.tables f k.0.spelled h)
-one_rules laws rules box (Text f) (Check g) (inr h) k = absurd (not_sound laws rules box g k.0 h.1 k.1 h.2)
-one_rules laws rules box (Check f) (Text g) h (inl k) = absurd (laws.faultless rules h.0.tables g h.0.spelled k)
-one_rules laws rules box (Check f) (Text g) h (inr k) = absurd (not_sound laws rules box f h.0 k.1 h.1 k.2)
-one_rules laws rules box (Check f) (Check g) h k =
+-- two faults of the text or the tree are one
+one_faulty : Laws → (rules box : List ℕ) (fault other : RulesFault) → IsFaulty rules box fault → IsFaulty rules box other → fault ≡ other
+one_faulty laws rules box (Text f) (Text g) h k = ap Text (laws.one_fault rules f g h k)
+one_faulty laws rules box (Text f) (Check g) h k = absurd (laws.faultless rules k.0.tables f k.0.spelled h)
+one_faulty laws rules box (Check f) (Text g) h k = absurd (laws.faultless rules h.0.tables g h.0.spelled k)
+one_faulty laws rules box (Check f) (Check g) h k =
     let least : Least g h.0.tables h.0.plant =
     moved (λ s p. Least g s p) k.0.tables h.0.tables k.0.plant h.0.plant (same_tables laws rules box k.0 h.0) (same_plant laws rules box k.0 h.0) k.1 in
-    ap Check (same_number f g (h.1.least g least.wrong) (least.least f h.1.wrong))
+    ap Check (laws.one_check h.0.tables h.0.plant f g h.1 least)
+
+-- a ruleset in which nothing is wrong has neither
+not_faulty : Laws → (rules box : List ℕ) (fault : RulesFault) (texts : Spelled rules box) → WellFormed texts.tables texts.plant → IsFaulty rules box fault → ⊥
+not_faulty laws rules box (Text f) texts sound h = laws.faultless rules texts.tables f texts.spelled h
+not_faulty laws rules box (Check f) texts sound h = not_sound laws rules box f h.0 texts h.1 sound
+
+one_rules : Laws → (rules box : List ℕ) (fault other : RulesFault) → RefusesRules rules box fault → RefusesRules rules box other → fault ≡ other
+one_rules laws rules box f g (inl h) (inl k) = one_faulty laws rules box f g h k
+one_rules laws rules box f g (inl h) (inr k) = absurd (not_faulty laws rules box f k.1 k.2 h)
+one_rules laws rules box f g (inr h) (inl k) = absurd (not_faulty laws rules box g h.1 h.2 k)
+one_rules laws rules box f g (inr h) (inr k) = h.0 ∙ sym k.0
+
+faulty_or_box : Laws → (rules box : List ℕ) (fault : RulesFault) (of_box : BoxFault) (tables : List TableTree) → IsFaulty rules box fault → Spells tables rules → HasBoxFault box of_box → ⊥
+faulty_or_box laws rules box (Text f) of_box tables h spelled k = laws.faultless rules tables f spelled h
+faulty_or_box laws rules box (Check f) of_box tables h spelled k = laws.sound_box box h.0.plant of_box h.0.read k
 
 rules_or_box : Laws → (rules box : List ℕ) (fault : RulesFault) (of_box : BoxFault) (tables : List TableTree) → RefusesRules rules box fault → Spells tables rules → HasBoxFault box of_box → ⊥
-rules_or_box laws rules box (Text f) of_box tables (inl h) spelled k = laws.faultless rules tables f spelled h
-rules_or_box laws rules box (Text f) of_box tables (inr h) spelled k = laws.sound_box box h.1.plant of_box h.1.read k
-rules_or_box laws rules box (Check f) of_box tables h spelled k = laws.sound_box box h.0.plant of_box h.0.read k
+rules_or_box laws rules box f of_box tables (inl h) spelled k = faulty_or_box laws rules box f of_box tables h spelled k
+rules_or_box laws rules box f of_box tables (inr h) spelled k = laws.sound_box box h.1.plant of_box h.1.read k
 
 rules_or_accepted : Laws → (rules box : List ℕ) (fault : RulesFault) → RefusesRules rules box fault → Accepted rules box → ⊥
-rules_or_accepted laws rules box (Text f) (inl h) a = laws.faultless rules a.setup.rules f a.spelled h
-rules_or_accepted laws rules box (Text f) (inr h) a =
+rules_or_accepted laws rules box f (inl h) a = not_faulty laws rules box f (spelled_of rules box a) a.well_formed h
+rules_or_accepted laws rules box f (inr h) a =
     let e : true ≡ false = sym a.taken ∙ sym (ap takes (same_tables laws rules box h.1 (spelled_of rules box a))) ∙ h.3 in cc
-rules_or_accepted laws rules box (Check f) h a = not_sound laws rules box f h.0 (spelled_of rules box a) h.1 a.well_formed
 
 -- ---- the laws
 

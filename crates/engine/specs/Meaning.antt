@@ -8,7 +8,7 @@ use Rattle.story.specs.Story.{Entry, capture_text}
 use Rattle.report.specs.Report.{report_text}
 use Rattle.stepping.specs.Next.{Setup, Grows}
 use Rattle.stepping.specs.Taken.{takes}
-use Rattle.engine.specs.WellFormed.{WellFormed}
+use Rattle.rule_check.specs.WellFormed.{WellFormed}
 
 -- both texts are accepted: the first spells a ruleset in which nothing is wrong and which runs take, the second a box
 pub record Accepted (rules box : List ℕ) : Type 0 where

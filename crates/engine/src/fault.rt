@@ -2,19 +2,8 @@
 use box_file::BoxFault;
 use nft_parser::TextFault;
 use pcap_io::CaptureFault;
+use rule_check::CheckFault;
 use thiserror::Error;
-
-/// What is wrong with a ruleset that is spelled.
-#[derive(Clone, Copy, Debug, Drop, Error)]
-pub enum CheckFault {
-    /// It costs more than 65,536: a statement costs 1, and a base chain 1 more than its statements.
-    #[error("N06")]
-    Cost,
-    /// It has more than 16,384 rules, more than 65,536 elements in all its sets and maps, or a
-    /// counter that starts over 2^62.
-    #[error("N15")]
-    TooLarge,
-}
 
 /// What a ruleset is refused for.
 #[derive(Clone, Copy, Debug, Drop, Error)]
@@ -23,7 +12,7 @@ pub enum RulesFault {
     /// left out.
     #[error("{0}")]
     Text(TextFault),
-    /// Its text is a ruleset in which something is wrong.
+    /// Its text is a ruleset in which something is wrong on the box.
     #[error("{0}")]
     Check(CheckFault),
 }

@@ -8,6 +8,7 @@ ghost use Rattle.engine.specs.Refusals.{IsRefusal, Refuses};
 use box_file::{one_box, some_box};
 use nft_parser::{one_fault, one_tree};
 use pcap_io::{one_reading, some_reading};
+use rule_check::{one_judgement, some_judgement};
 use stepping::one_entry;
 
 /// Two texts and a capture mean at most one count of records, one kind of end, one capture and
@@ -30,6 +31,7 @@ pub fn one_refusal()
 {
     one_tree();
     one_fault();
+    one_judgement();
     one_box();
     one_reading();
 }
@@ -41,6 +43,7 @@ pub fn no_meaning()
 {
     one_tree();
     one_fault();
+    one_judgement();
     one_box();
     one_reading();
 }
@@ -53,6 +56,7 @@ pub fn some_answer()
 {
     nft_parser::some_answer();
     some_box();
+    some_judgement();
     some_reading();
     one_entry();
 }

@@ -74,7 +74,7 @@ pub fn run<R: Read, W: Write, W2: Write>(
     ensures calm { result ≢ Err RunFault.Device → (capture.new.failures ≡ capture.old.failures) × (sent.new.failures ≡ sent.old.failures) × (report.new.failures ≡ report.old.failures) }
 {
     let _ = trace;
-    let (ruleset, plant) = accepted(alloc, rules, plant)?;
+    let checked = accepted(alloc, rules, plant)?;
     let records = match Capture::open(alloc, capture) {
         Ok(records) => records,
         Err(CaptureError::Refused(fault)) => return Err(RunFault::Capture(fault)),
@@ -86,7 +86,7 @@ pub fn run<R: Read, W: Write, W2: Write>(
     one_box();
     one_reading();
     one_entry();
-    let engine = Engine::new(alloc, ruleset, plant);
+    let engine = Engine::new(alloc, checked);
     write_texts(alloc, engine, records, capture, sent, report)
 }
 

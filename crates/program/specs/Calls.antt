@@ -3,6 +3,7 @@ use Rattle.std.specs.Prelude.{◌≡◌, ℕ, Bool, List, [], ◌∷◌, Result,
 use Rattle.std.specs.declared.io.Error.{Error}
 use Rattle.clap.specs.declared.error.kind.ErrorKind.{ErrorKind}
 use Rattle.engine.specs.declared.fault.RunFault.{RunFault}
+use Rattle.engine.specs.declared.judging.Counts.{Counts}
 use Rattle.program.specs.declared.status.Status.{Status}
 
 -- the bytes of a path
@@ -23,6 +24,10 @@ pub data Call (Input Output : Type 0) : Type 0 where
   create : Text → Result Output Error → Call Input Output
   -- a ruleset's text, a box file's text, a capture and the capture that leaves, before and after: whether the end is torn
   run : Text → Text → Input → Input → Output → Output → Result Bool RunFault → Call Input Output
+  -- a ruleset's text and a box file's text: how many tables, chains and rules it has
+  judge : Text → Text → Result Counts RunFault → Call Input Output
+  -- the line of a ruleset that is accepted
+  announce : Counts → Result ⊤ Error → Call Input Output
   -- the line of a status
   tell : Status → Call Input Output
   -- what clap says of the words

@@ -1,5 +1,6 @@
 pub mod Status
 pub mod Calls
 pub mod Replaying
+pub mod Examining
 pub mod Performing
 pub mod steps

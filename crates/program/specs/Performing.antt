@@ -4,8 +4,10 @@ use Rattle.clap.specs.declared.error.kind.ErrorKind.{ErrorKind}
 use Rattle.clap.specs.declared.error.kind.ErrorKind.TheVariants.{DisplayHelp, DisplayVersion, OutOfMemory}
 use Rattle.command_line.specs.CommandLine.{Asks, is_well_formed}
 use Rattle.command_line.specs.declared.task.Paths.{Paths}
-use Rattle.command_line.specs.declared.task.Task.TheVariants.{Run}
+use Rattle.command_line.specs.declared.task.Task.TheVariants.{Run, Check}
+use Rattle.command_line.specs.declared.task.Texts.{Texts}
 use Rattle.program.specs.Calls.{Call, Text, words, explain, tell}
+use Rattle.program.specs.Examining.{Examines}
 use Rattle.program.specs.Replaying.{Replays}
 use Rattle.program.specs.Status.{code_of, has_line, of_error}
 use Rattle.program.specs.declared.status.Status.{Status}
@@ -24,11 +26,12 @@ Explains kind (explain k (Ok _) ∷ []) status = (k ≡ kind) × (status ≡ sho
 Explains kind (explain k (Err error) ∷ []) status = (k ≡ kind) × (status ≡ of_error error)
 Explains _ _ _ = ⊥
 
--- the words ask for a run, or they are no task; words of the right form are none only where there was no room to grow
+-- the words ask for a run or for a check, or they are no task; words of the right form are none only where there was no room to grow
 abbrev pub Acts : {I O : Type 0} → List Text → List (Call I O) → Status → Type 0
 Acts given calls status =
     ((paths : Paths) × Asks given (Run paths) × Replays paths calls status)
-    ⊎ ((kind : ErrorKind) × (is_well_formed given ≡ true → kind ≡ OutOfMemory) × Explains kind calls status)
+    ⊎ (((texts : Texts) × Asks given (Check texts) × Examines texts calls status)
+    ⊎ ((kind : ErrorKind) × (is_well_formed given ≡ true → kind ≡ OutOfMemory) × Explains kind calls status))
 
 -- the words are had, and then it is done what they ask for
 abbrev pub Does : {I O : Type 0} → List (Call I O) → Status → Type 0

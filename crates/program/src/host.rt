@@ -1,11 +1,11 @@
 //! What stands around the program.
 use crate::status::Status;
 use clap::Error;
-use engine::RunFault;
+use engine::{Counts, RunFault};
 use std::io;
 
-/// What stands around the program: its words, the files by their paths, the run over them,
-/// and the lines that it prints.
+/// What stands around the program: its words, the files by their paths, the run and the judgement
+/// over them, and the lines that it prints.
 ///
 /// No contract can say what a file holds. So a host knows each call by a relation of its own: the
 /// moment before it, the call with its arguments and its answer, and the moment after it. What is
@@ -15,7 +15,7 @@ pub trait Host {
     ghost use Rattle.std.specs.Prelude.{◌≡◌};
     ghost use Rattle.std.specs.Result.{result_map_both};
     ghost use Rattle.clap.specs.Values.{kind_of};
-    ghost use Rattle.program.specs.Calls.{Call, words, read, open_input, compare, create, run, tell, explain, texts_of, bytes_of};
+    ghost use Rattle.program.specs.Calls.{Call, words, read, open_input, compare, create, run, judge, announce, tell, explain, texts_of, bytes_of};
 
     /// A capture open for reading.
     type Input: Drop;
@@ -56,6 +56,14 @@ pub trait Host {
         output: &mut Self::Output,
     ) -> Result<bool, RunFault>
         ensures { happens self.old (run rules.now plant.now input.old input.new output.old output.new result) self.new };
+
+    /// Judges a ruleset on a box, and counts what it has.
+    fn judge(&mut self, rules: &[u8], plant: &[u8]) -> Result<Counts, RunFault>
+        ensures { happens self.old (judge rules.now plant.now result) self.new };
+
+    /// Prints the line of a ruleset that is accepted to standard output.
+    fn announce(&mut self, counts: Counts) -> io::Result<()>
+        ensures { happens self.old (announce counts result) self.new };
 
     /// Prints the status's line to standard error. Where it can't, the exit status still tells.
     fn tell(&mut self, status: Status)

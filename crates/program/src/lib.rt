@@ -1,12 +1,14 @@
 //! What the program does with its words, its files and its two outputs.
 #![tactic(auto)]
 
+mod examining;
 mod host;
 mod performing;
 mod replaying;
 mod status;
 mod system;
 
+pub use examining::examine;
 pub use host::Host;
 pub use performing::perform;
 pub use replaying::replay;

@@ -4,6 +4,7 @@ ghost use Rattle.clap.specs.Values.{kind_of};
 ghost use Rattle.program.specs.Calls.{Call, Leads};
 ghost use Rattle.program.specs.Performing.{Acts, Does, Explains, Performs, shown};
 
+use crate::examining::examine;
 use crate::host::Host;
 use crate::replaying::replay;
 use crate::status::Status;
@@ -53,6 +54,7 @@ fn act_on<H: Host>(alloc: Global, host: &mut H, words: &[&str]) -> Status
 {
     match read_task(alloc, words) {
         Ok(Task::Run(paths)) => replay(host, &paths),
+        Ok(Task::Check(texts)) => examine(host, &texts),
         Err(error) => explain(host, &error),
     }
 }

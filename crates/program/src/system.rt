@@ -1,9 +1,9 @@
-//! The system's own files and outputs, and the run over them.
+//! The system's own files and outputs, and the run and the judgement over them.
 use crate::host::Host;
 use crate::performing::perform;
 use crate::status::Status;
 use clap::Error;
-use engine::RunFault;
+use engine::{Counts, RunFault};
 use pcap_io::Counted;
 use std::env::{self, Env};
 use std::os::unix::fs::MetadataExt;
@@ -23,7 +23,8 @@ impl<R: Env + Files + Print + Eprint + AllocGlobal> Host for System<'_, R> {
 
     type Output = Counted<R::File>;
 
-    // What files hold can't be said. What a run gives for its texts and its capture can.
+    // What files hold can't be said. What a run gives for its texts and its
+    // capture can, and what a judgement gives for its texts.
     ghost happens = { λ _ call _. Promised (λ c. R.File.remaining c.inner) (λ c. R.File.contents c.inner) call };
 
     fn words(&mut self) -> io::Result<Vec<String>> {
@@ -71,6 +72,18 @@ impl<R: Env + Files + Print + Eprint + AllocGlobal> Host for System<'_, R> {
             false,
         )?;
         Ok(summary.torn)
+    }
+
+    fn judge(&mut self, rules: &[u8], plant: &[u8]) -> Result<Counts, RunFault> {
+        engine::judge(self.rt.alloc(), rules, plant)
+    }
+
+    fn announce(&mut self, counts: Counts) -> io::Result<()> {
+        let rt = self.rt;
+        println!(rt;
+            "accepted tables {} chains {} rules {}",
+            counts.tables, counts.chains, counts.rules
+        )
     }
 
     fn tell(&mut self, status: Status) {

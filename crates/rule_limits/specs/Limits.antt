@@ -49,6 +49,15 @@ item_rules _ = 0
 abbrev pub rule_count : List TableTree → ℕ
 rule_count tables = sum_by (λ t. sum_by item_rules t.items) tables
 
+-- ---- chains
+
+abbrev pub item_chains : ItemTree → ℕ
+item_chains (tree.chain c) = 1
+item_chains _ = 0
+
+abbrev pub chain_count : List TableTree → ℕ
+chain_count tables = sum_by (λ t. sum_by item_chains t.items) tables
+
 -- ---- counters
 
 abbrev pub GREATEST_START : ℕ

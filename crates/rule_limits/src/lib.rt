@@ -1,4 +1,4 @@
-//! How large a ruleset may be.
+//! How large a ruleset is, and may be.
 #![tactic(auto)]
 
 ghost use Rattle.std.specs.Prelude.{◌≡◌};
@@ -9,7 +9,7 @@ mod counts;
 mod elements;
 mod starts;
 
-use counts::rule_count;
+pub use counts::{chain_count, rule_count};
 use elements::element_count;
 use nft_tree::Ruleset;
 use starts::some_start_too_high;

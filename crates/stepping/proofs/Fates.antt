@@ -1,6 +1,8 @@
 -- What becomes of a record, and what an engine stands for after it.
-use Rattle.std.proofs.Common.{◌≡◌, ℕ, ◌+◌, List, [], ◌∷◌, Some, None, Ok, Err, refl, sym, ap, ◌∙◌, arith}
+use Rattle.std.proofs.Common.{◌≡◌, ℕ, ◌+◌, List, [], ◌∷◌, Some, None, Ok, Err, refl, sym, ap, subst, ◌∙◌, arith}
 use Rattle.std.specs.Prelude.{max}
+use Rattle.nft_tree.specs.Tree.{TableTree}
+use Rattle.box_file.specs.Box.{PlantTree}
 use Rattle.ip_headers.specs.declared.view.HeaderFault.{HeaderFault}
 use Rattle.ip_headers.specs.Header.{fault_of, packet_of}
 use Rattle.pcap_io.specs.Pcap.{Recorded}
@@ -22,6 +24,13 @@ fate_of_packet setup bytes packet fate faultless is ends =
 pub fate_of_fault : (setup : Setup) (bytes : List ℕ) (fault : HeaderFault) (cause : Cause) (packet : List ℕ) → Some fault ≡ fault_of bytes → cause ≡ cause_of fault → packet ≡ [] → HasFate setup bytes (Dropped cause, packet)
 fate_of_fault setup bytes fault cause packet faulty is none =
     record { packet = Err cause; carried = (fault, sym faulty, is); forward = Accept; decided = tt; is = ap (λ (p : List ℕ). let fate : Fate = (Dropped cause, p) in fate) none }
+
+-- what was lent of a setup is the setup
+pub fate_of_setup : (rules rules' : List TableTree) (plant plant' : PlantTree) (bytes : List ℕ) (fate : Fate) → rules ≡ rules' → plant ≡ plant'
+    → HasFate (record { rules = rules; plant = plant }) bytes fate → HasFate (record { rules = rules'; plant = plant' }) bytes fate
+fate_of_setup rules rules' plant plant' bytes fate e f h =
+    let g : HasFate (record { rules = rules'; plant = plant }) bytes fate = subst (λ (ts : List TableTree). HasFate (record { rules = ts; plant = plant }) bytes fate) e h in
+    subst (λ (p : PlantTree). HasFate (record { rules = rules'; plant = p }) bytes fate) f g
 
 sends_by : (outcome : Outcome) (moment : ℕ) (packet : List ℕ) → sends_in (way_of outcome) moment packet ≡ sent_by outcome moment packet
 sends_by (Passed interface) moment packet = refl

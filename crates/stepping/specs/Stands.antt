@@ -5,6 +5,7 @@ use Rattle.pcap_io.specs.declared.sink.Leaving.{Leaving}
 use Rattle.pcap_io.specs.Pcap.{Recorded}
 use Rattle.pcap_io.specs.Sll2.{Sent, sent}
 use Rattle.story.specs.Story.{Entry, moment_of, sends}
+use Rattle.rule_check.specs.Checked.{CheckedTree}
 use Rattle.stepping.specs.Next.{Setup}
 
 -- what an engine shows: what it was set up with, how many records it took, the last moment, and the packet that left last, if the last record sent one
@@ -13,6 +14,10 @@ pub record Shown : Type 0 where
   pub records : ℕ
   pub latest : ℕ
   pub sends : List Sent
+
+-- what a checked ruleset is set up with
+abbrev pub setup_of : CheckedTree → Setup
+setup_of checked = record { rules = checked.rules; plant = checked.plant }
 
 -- what the newest entry sends
 abbrev pub last_sends : List Entry → List Sent
@@ -38,3 +43,8 @@ lent (Some leaving) = sent leaving ∷ []
 abbrev pub sends_in : Option ℕ → ℕ → List ℕ → List Sent
 sends_in None moment packet = []
 sends_in (Some interface) moment packet = record { moment = moment; interface = interface; packet = packet } ∷ []
+
+-- the bytes of the packet that is sent; none where none is
+abbrev pub packet_of : List Sent → List ℕ
+packet_of [] = []
+packet_of (s ∷ ss) = s.packet

@@ -1,15 +1,13 @@
 //! One record at a time.
 ghost use Rattle.std.specs.Prelude.{◌≡◌, ◌<◌, ◌+◌, [], ◌∷◌, List, IfOk, IfSome, OnErr, OnOk};
-ghost use Rattle.nft_tree.specs.Tree.{tables_of};
 ghost use Rattle.pcap_io.specs.Sll2.{IsSent, sent};
 ghost use Rattle.story.specs.Story.{Entry};
 ghost use Rattle.stepping.specs.Next.{Next};
-ghost use Rattle.stepping.specs.Stands.{Stands, lent, told_of};
+ghost use Rattle.stepping.specs.Stands.{Stands, lent, packet_of, setup_of, told_of};
 
 use crate::fate::{fate, way_of};
-use box_file::Plant;
-use nft_tree::Ruleset;
 use pcap_io::{Leaving, Record};
+use rule_check::Checked;
 use std::alloc::{AllocError, Global};
 use std::marker::Model;
 use story::Outcome;
@@ -20,8 +18,7 @@ const MOST_PACKET_BYTES: usize = 65_535;
 /// A box with its rules, and what it has to know of the records so far.
 #[derive(Drop)]
 pub struct Engine {
-    rules: Ruleset,
-    plant: Plant,
+    checked: Checked,
     records: u64,
     latest: u64,
     /// The interface that the last record's packet left by, if one left.
@@ -32,25 +29,23 @@ pub struct Engine {
 
 impl Model for Engine {
     ghost use Rattle.std.specs.Prelude.{◌≤◌, ◌<◌, length};
-    ghost use Rattle.nft_tree.specs.Tree.{tables_of};
-    ghost use Rattle.stepping.specs.Stands.{Shown, sends_in};
+    ghost use Rattle.stepping.specs.Stands.{Shown, sends_in, setup_of};
 
     ghost Value = { Shown };
 
-    ghost view = { λ e. record { setup = record { rules = tables_of e.rules; plant = e.plant }; records = e.records; latest = e.latest; sends = sends_in e.way e.latest e.packet.items } };
+    ghost view = { λ e. record { setup = setup_of e.checked; records = e.records; latest = e.latest; sends = sends_in e.way e.latest e.packet.items } };
 
     ghost invariant = { λ e. (length e.packet.items ≤ 65535) × (e.latest < 4294967296000000000) };
 }
 
 impl Engine {
     /// Before the first record. It takes no memory.
-    pub fn new(alloc: Global, rules: Ruleset, plant: Plant) -> Self
-        ensures setup { result.setup ≡ record { rules = tables_of rules; plant = plant } }
+    pub fn new(alloc: Global, checked: Checked) -> Self
+        ensures setup { result.setup ≡ setup_of checked }
         ensures none { Stands result [] }
     {
         Engine {
-            rules,
-            plant,
+            checked,
             records: 0,
             latest: 0,
             way: None,
@@ -73,7 +68,12 @@ impl Engine {
         let missing = MOST_PACKET_BYTES - self.packet.len();
         self.packet.reserve(missing)?;
         self.packet.clear();
-        let outcome = fate(&self.plant, &self.rules, record.bytes, &mut self.packet);
+        let outcome = fate(
+            self.checked.plant(),
+            self.checked.tree(),
+            record.bytes,
+            &mut self.packet,
+        );
         self.records += 1;
         self.latest = self.latest.max(record.moment);
         self.way = way_of(outcome);
@@ -92,6 +92,16 @@ impl Engine {
             interface,
             packet: &self.packet,
         })
+    }
+
+    /// The packet that the last record sent on; empty where it sent none, or before a record.
+    pub fn packet(&self) -> &[u8]
+        ensures { result.now ≡ packet_of self.now.sends }
+    {
+        match self.way {
+            Some(_) => &self.packet,
+            None => &[],
+        }
     }
 
     /// How many records it took.

@@ -1,17 +1,19 @@
 //! Box files: what they are refused for, and what is found in them.
+use crate::given::repeated;
 use box_file::{BoxError, BoxFault, Plant};
 use std::alloc::Global;
+use std::process::Abort;
 use std::test::Fail;
 
 /// A box with two interfaces and a route to everywhere.
-const TWO: &str = "interface 2 lan 192.168.1.1/24
+const TWO: &[u8] = b"interface 2 lan 192.168.1.1/24
 interface 3 wan 203.0.113.1/24
 route 0.0.0.0/0 wan
 default lan
 ";
 
 /// A box with a second address, overlapping prefixes and an own multicast address.
-const SEVERAL: &str = "# the way out stands before its interface
+const SEVERAL: &[u8] = b"# the way out stands before its interface
 route 10.0.0.0/23 up
 interface 2 lan 10.0.0.1/24
 interface 3 wan 10.0.1.1/24
@@ -21,118 +23,100 @@ route 10.0.1.0/24 lan
 
 default wan";
 
+/// A text, further lines behind it, and what the whole is refused for.
+type Row<'a> = (&'a [u8], &'a [u8], Option<BoxFault>);
+
+const FORM: Option<BoxFault> = Some(BoxFault::Form);
+
+const REPEATED: Option<BoxFault> = Some(BoxFault::Repeated);
+
+const UNKNOWN_NAME: Option<BoxFault> = Some(BoxFault::UnknownName);
+
+const TOO_LARGE: Option<BoxFault> = Some(BoxFault::TooLarge);
+
+const ROWS: [Row<'static>; 38] = [
+    (TWO, b"", None),
+    (TWO, b"\n \t \n", None),
+    (TWO, b"# a comment\n#\n", None),
+    (TWO, b"route 10.0.0.0/8 lan#a comment\n", None),
+    (TWO, b"\troute \t 10.0.0.0/8  lan \t\n", None),
+    (TWO, b"route 10.0.0.0/8 lan", None),
+    (
+        TWO,
+        b"route 10.0.0.0/8 dmz\ninterface 4 dmz 10.0.0.1/8\n",
+        None,
+    ),
+    (TWO, b"interface 2 lan 192.168.1.2/24\n", None),
+    (TWO, b"interface 2147483647 dmz 10.0.0.1/8\n", None),
+    (TWO, b"interface 4 dmz 10.0.0.1/32\n", None),
+    (TWO, b"interface 4 fifteen-byte.1_ 10.0.0.1/1\n", None),
+    (TWO, b"default wan\n", FORM),
+    (TWO, b"route 10.0.0.1/8 lan\n", FORM),
+    (TWO, b"route 010.0.0.0/8 lan\n", FORM),
+    (TWO, b"route 10.0.0.0/8 lan\r\n", FORM),
+    (TWO, b"route 10.0.0.0/8 lan lan\n", FORM),
+    (TWO, b"route 10.0.0.0/8#lan\n", FORM),
+    (TWO, b"route 10.0.0.0/33 lan\n", FORM),
+    (TWO, b"Route 10.0.0.0/8 lan\n", FORM),
+    (TWO, b"interface 0 dmz 10.0.0.1/8\n", FORM),
+    (TWO, b"interface 2147483648 dmz 10.0.0.1/8\n", FORM),
+    (TWO, b"interface 4 dmz 10.0.0.1/0\n", FORM),
+    (TWO, b"interface 4 dmz 10.0.0.1/33\n", FORM),
+    (TWO, b"interface 4 dmz 10.0.0.256/8\n", FORM),
+    (TWO, b"interface 4 sixteen-bytes-16 10.0.0.1/8\n", FORM),
+    (TWO, b"interface 4 d/z 10.0.0.1/8\n", FORM),
+    (TWO, b"interface 2 lan 192.168.1.1/24\nno such line\n", FORM),
+    (b"", b"", FORM),
+    (b"", b"# nothing\n", FORM),
+    (b"", b"interface 2 lan 192.168.1.1/24\n", FORM),
+    (TWO, b"interface 2 lan 192.168.1.1/24\n", REPEATED),
+    (TWO, b"interface 4 dmz 192.168.1.1/16\n", REPEATED),
+    (TWO, b"interface 2 dmz 10.0.0.1/8\n", REPEATED),
+    (TWO, b"interface 4 lan 10.0.0.1/8\n", REPEATED),
+    (TWO, b"route 0.0.0.0/0 lan\n", REPEATED),
+    (
+        TWO,
+        b"route 10.0.0.0/8 foo\nroute 10.0.0.0/8 bar\n",
+        REPEATED,
+    ),
+    (TWO, b"route 10.0.0.0/8 foo\n", UNKNOWN_NAME),
+    (
+        b"interface 2 lan 192.168.1.1/24\n",
+        b"default la\n",
+        UNKNOWN_NAME,
+    ),
+];
+
 /// What the box file is refused for.
-fn fault(alloc: Global, text: &[u8]) -> Result<Option<BoxFault>, Fail> {
+fn fault(alloc: Global, text: &[u8]) -> Result<Option<BoxFault>, BoxError> {
     match Plant::read(alloc, text) {
         Ok(_) => Ok(None),
         Err(BoxError::Refused(fault)) => Ok(Some(fault)),
-        Err(BoxError::Memory) => Err(Fail::from(BoxError::Memory)),
+        Err(error) => Err(error),
     }
 }
 
-/// What the box with two interfaces and further lines is refused for.
-fn with(alloc: Global, lines: &str) -> Result<Option<BoxFault>, Fail> {
-    let mut text = Vec::from_slice(alloc, TWO.as_bytes())?;
-    text.extend_from_slice(lines.as_bytes())?;
-    fault(alloc, &text)
-}
-
-fn address(first: u8, second: u8, third: u8, fourth: u8) -> u32 {
-    u32::from_be_bytes([first, second, third, fourth])
-}
-
-#[test]
-fn takes_blanks_comments_and_further_addresses(rt: HostRuntime) -> Result<(), Fail> {
-    for lines in [
-        "",
-        "\n \t \n",
-        "# a comment\n#\n",
-        "route 10.0.0.0/8 lan#a comment\n",
-        "\troute \t 10.0.0.0/8  lan \t\n",
-        "route 10.0.0.0/8 lan",
-        "route 10.0.0.0/8 dmz\ninterface 4 dmz 10.0.0.1/8\n",
-        "interface 2 lan 192.168.1.2/24\n",
-        "interface 2147483647 dmz 10.0.0.1/8\n",
-        "interface 4 dmz 10.0.0.1/32\n",
-        "interface 4 fifteen-byte.1_ 10.0.0.1/1\n",
-    ] {
-        assert_eq!(rt; with(rt.alloc(), lines)?, None, "{lines}");
+/// Each text has to be read, or refused so.
+fn answers<R: Abort + AllocGlobal>(rt: &R, rows: &[Row<'_>]) -> Result<(), Fail> {
+    for (number, (beginning, lines, wanted)) in rows.iter().enumerate() {
+        let text = repeated(rt.alloc(), beginning, lines, 1, b"")?;
+        assert_eq!(rt; fault(rt.alloc(), &text)?, *wanted, "row {number}");
     }
     Ok(())
 }
 
 #[test]
-fn refuses_other_forms(rt: HostRuntime) -> Result<(), Fail> {
-    for lines in [
-        "default wan\n",
-        "route 10.0.0.1/8 lan\n",
-        "route 010.0.0.0/8 lan\n",
-        "route 10.0.0.0/8 lan\r\n",
-        "route 10.0.0.0/8 lan lan\n",
-        "route 10.0.0.0/8#lan\n",
-        "route 10.0.0.0/33 lan\n",
-        "Route 10.0.0.0/8 lan\n",
-        "interface 0 dmz 10.0.0.1/8\n",
-        "interface 2147483648 dmz 10.0.0.1/8\n",
-        "interface 4 dmz 10.0.0.1/0\n",
-        "interface 4 dmz 10.0.0.1/33\n",
-        "interface 4 dmz 10.0.0.256/8\n",
-        "interface 4 sixteen-bytes-16 10.0.0.1/8\n",
-        "interface 4 d/z 10.0.0.1/8\n",
-        "interface 2 lan 192.168.1.1/24\nno such line\n",
-    ] {
-        assert_eq!(rt; with(rt.alloc(), lines)?, Some(BoxFault::Form), "{lines}");
-    }
-    for text in ["", "# nothing\n", "interface 2 lan 192.168.1.1/24\n"] {
-        assert_eq!(rt;
-            fault(rt.alloc(), text.as_bytes())?,
-            Some(BoxFault::Form),
-            "{text}"
-        );
-    }
-    Ok(())
+fn texts_are_read_or_refused(rt: HostRuntime) -> Result<(), Fail> {
+    answers(&rt, &ROWS)
 }
 
-#[test]
-fn refuses_repeats_before_unknown_names(rt: HostRuntime) -> Result<(), Fail> {
-    for lines in [
-        "interface 2 lan 192.168.1.1/24\n",
-        "interface 4 dmz 192.168.1.1/16\n",
-        "interface 2 dmz 10.0.0.1/8\n",
-        "interface 4 lan 10.0.0.1/8\n",
-        "route 0.0.0.0/0 lan\n",
-        "route 10.0.0.0/8 foo\nroute 10.0.0.0/8 bar\n",
-    ] {
-        assert_eq!(rt;
-            with(rt.alloc(), lines)?,
-            Some(BoxFault::Repeated),
-            "{lines}"
-        );
-    }
-    assert_eq!(rt;
-        with(rt.alloc(), "route 10.0.0.0/8 foo\n")?,
-        Some(BoxFault::UnknownName)
-    );
-    let unknown = b"interface 2 lan 192.168.1.1/24\ndefault la\n".as_slice();
-    assert_eq!(rt; fault(rt.alloc(), unknown)?, Some(BoxFault::UnknownName));
-    Ok(())
-}
-
-#[test]
-fn refuses_more_than_64_interface_lines(rt: HostRuntime) -> Result<(), Fail> {
-    let mut text = String::from_str(rt.alloc(), "default e1\n")?;
+/// A box with 64 interfaces.
+fn many_interfaces(alloc: Global) -> Result<String, Fail> {
+    let mut text = String::from_str(alloc, "default e1\n")?;
     for index in 1..65u8 {
         writeln!(text, "interface {index} e{index} 10.0.0.{index}/8")?;
     }
-    assert_eq!(rt; fault(rt.alloc(), text.as_bytes())?, None);
-    for (line, wanted) in [
-        ("interface 65 e65 10.0.0.65/8\n", BoxFault::TooLarge),
-        ("interface 65 e65 10.0.0.64/8\n", BoxFault::Repeated),
-    ] {
-        let more = format!(in rt.alloc(); "{text}{line}")?;
-        assert_eq!(rt; fault(rt.alloc(), more.as_bytes())?, Some(wanted));
-    }
-    Ok(())
+    Ok(text)
 }
 
 /// A box with this many routes to addresses of their own.
@@ -146,96 +130,125 @@ fn many_routes(alloc: Global, count: u32) -> Result<String, Fail> {
     Ok(text)
 }
 
+/// There are at most 64 lines of interfaces, 1,024 of routes, and 1,048,576 bytes.
 #[test]
-fn refuses_more_than_1024_route_lines(rt: HostRuntime) -> Result<(), Fail> {
-    let mut text = many_routes(rt.alloc(), 1024)?;
-    let plant = Plant::read(rt.alloc(), text.as_bytes())?;
-    assert_eq!(rt; plant.route(address(10, 0, 3, 255)), Some(1));
-    assert_eq!(rt; plant.route(address(10, 0, 4, 0)), None);
-    text.push_str("route 11.0.0.0/8 e1\n")?;
-    assert_eq!(rt;
-        fault(rt.alloc(), text.as_bytes())?,
-        Some(BoxFault::TooLarge)
-    );
-    let mut text = many_routes(rt.alloc(), 4_000)?;
-    assert_eq!(rt;
-        fault(rt.alloc(), text.as_bytes())?,
-        Some(BoxFault::TooLarge)
-    );
-    text.push_str("route 10.0.0.0/32 e1\n")?;
-    assert_eq!(rt;
-        fault(rt.alloc(), text.as_bytes())?,
-        Some(BoxFault::Repeated)
-    );
-    Ok(())
+fn texts_have_limits(rt: HostRuntime) -> Result<(), Fail> {
+    let interfaces = many_interfaces(rt.alloc())?;
+    let routes = many_routes(rt.alloc(), 1024)?;
+    let more = many_routes(rt.alloc(), 4_000)?;
+    let long = repeated(rt.alloc(), TWO, b"#", 1_048_576 - TWO.len(), b"")?;
+    let rows: [Row<'_>; 10] = [
+        (interfaces.as_bytes(), b"", None),
+        (
+            interfaces.as_bytes(),
+            b"interface 65 e65 10.0.0.65/8\n",
+            TOO_LARGE,
+        ),
+        (
+            interfaces.as_bytes(),
+            b"interface 65 e65 10.0.0.64/8\n",
+            REPEATED,
+        ),
+        (routes.as_bytes(), b"", None),
+        (routes.as_bytes(), b"route 11.0.0.0/8 e1\n", TOO_LARGE),
+        (more.as_bytes(), b"", TOO_LARGE),
+        (more.as_bytes(), b"route 10.0.0.0/32 e1\n", REPEATED),
+        (&long, b"", None),
+        (&long, b"#", TOO_LARGE),
+        (&long, b"#\ndefault lan\n", FORM),
+    ];
+    answers(&rt, &rows)
 }
 
-#[test]
-fn refuses_more_than_1048576_bytes(rt: HostRuntime) -> Result<(), Fail> {
-    let comment = vec![in rt.alloc(); b'#'; 1_048_576]?;
-    let mut text = Vec::from_slice(rt.alloc(), TWO.as_bytes())?;
-    assert!(rt; text.len() < comment.len());
-    let rest = comment.len() - text.len();
-    text.extend_from_slice(&comment[..rest])?;
-    assert_eq!(rt; text.len(), 1_048_576);
-    assert_eq!(rt; fault(rt.alloc(), &text)?, None);
-    text.push(b'#')?;
-    assert_eq!(rt; fault(rt.alloc(), &text)?, Some(BoxFault::TooLarge));
-    text.extend_from_slice(b"\ndefault lan\n".as_slice())?;
-    assert_eq!(rt; fault(rt.alloc(), &text)?, Some(BoxFault::Form));
-    Ok(())
+/// An address, the interface by which it is reached, and the one that has it.
+type Way = ([u8; 4], Option<u32>, Option<u32>);
+
+const WAYS_OF_TWO: [Way; 12] = [
+    ([192, 168, 1, 1], Some(2), Some(2)),
+    ([192, 168, 1, 2], Some(2), None),
+    ([192, 168, 1, 10], Some(2), None),
+    ([192, 168, 1, 255], Some(2), None),
+    ([192, 168, 2, 0], Some(3), None),
+    ([203, 0, 113, 1], Some(3), Some(3)),
+    ([203, 0, 113, 2], Some(3), None),
+    ([203, 0, 113, 9], Some(3), None),
+    ([0, 0, 0, 0], Some(3), None),
+    ([223, 255, 255, 255], Some(3), None),
+    ([224, 0, 0, 0], None, None),
+    ([255, 255, 255, 255], None, None),
+];
+
+const WAYS_OF_SEVERAL: [Way; 9] = [
+    ([9, 255, 255, 255], None, None),
+    ([10, 0, 0, 0], Some(2), None),
+    ([10, 0, 1, 0], Some(3), None),
+    ([10, 0, 1, 127], Some(3), None),
+    ([10, 0, 1, 128], Some(2), None),
+    ([10, 0, 1, 129], Some(2), Some(2)),
+    ([10, 0, 1, 255], Some(2), None),
+    ([10, 0, 2, 0], None, None),
+    ([239, 0, 0, 1], None, Some(7)),
+];
+
+const WAYS_OF_MANY: [Way; 2] = [
+    ([10, 0, 3, 255], Some(1), None),
+    ([10, 0, 4, 0], None, None),
+];
+
+/// Whether the box knows this way.
+fn is_known(plant: &Plant, way: &Way) -> bool {
+    let (groups, route, owner) = way;
+    let address = u32::from_be_bytes(*groups);
+    plant.route(address) == *route
+        && plant.owner(address) == *owner
+        && plant.is_own(address) == owner.is_some()
 }
 
-#[test]
-fn finds_routes_and_names_of_two_interfaces(rt: HostRuntime) -> Result<(), Fail> {
-    let plant = Plant::read(rt.alloc(), TWO.as_bytes())?;
-    for (address, interface) in [
-        (address(192, 168, 1, 10), Some(2)),
-        (address(192, 168, 1, 255), Some(2)),
-        (address(192, 168, 2, 0), Some(3)),
-        (address(203, 0, 113, 9), Some(3)),
-        (0, Some(3)),
-        (address(223, 255, 255, 255), Some(3)),
-        (address(224, 0, 0, 0), None),
-        (u32::MAX, None),
-    ] {
-        assert_eq!(rt; plant.route(address), interface, "{address}");
+/// The ways have to be found in the box.
+fn finds<R: Abort + AllocGlobal>(rt: &R, text: &[u8], ways: &[Way]) -> Result<(), Fail> {
+    let plant = Plant::read(rt.alloc(), text)?;
+    for (number, way) in ways.iter().enumerate() {
+        assert!(rt; is_known(&plant, way), "row {number}");
     }
-    assert!(rt; plant.is_own(address(192, 168, 1, 1)));
-    assert!(rt; !plant.is_own(address(192, 168, 1, 2)));
-    assert_eq!(rt; plant.owner(address(203, 0, 113, 1)), Some(3));
-    assert_eq!(rt; plant.owner(address(203, 0, 113, 2)), None);
-    assert_eq!(rt; plant.first_address(2), Some(address(192, 168, 1, 1)));
-    assert_eq!(rt; plant.first_address(4), None);
-    assert_eq!(rt; plant.named(b"wan".as_slice()), Some(3));
-    assert_eq!(rt; plant.named(b"wa".as_slice()), None);
-    assert_eq!(rt; plant.name(3), Some(b"wan".as_slice()));
-    assert_eq!(rt; plant.name(1), None);
-    assert_eq!(rt; plant.entering(), 2);
     Ok(())
 }
 
+/// The longest prefix tells the route, and of equal ones that of an interface or the first.
 #[test]
-fn finds_the_longest_prefix_and_the_first_of_equal_ones(rt: HostRuntime) -> Result<(), Fail> {
-    let plant = Plant::read(rt.alloc(), SEVERAL.as_bytes())?;
-    for (address, interface) in [
-        (address(9, 255, 255, 255), None),
-        (address(10, 0, 0, 0), Some(2)),
-        (address(10, 0, 1, 0), Some(3)),
-        (address(10, 0, 1, 127), Some(3)),
-        (address(10, 0, 1, 128), Some(2)),
-        (address(10, 0, 1, 255), Some(2)),
-        (address(10, 0, 2, 0), None),
-        (address(239, 0, 0, 1), None),
-    ] {
-        assert_eq!(rt; plant.route(address), interface, "{address}");
+fn routes_and_owners_are_found(rt: HostRuntime) -> Result<(), Fail> {
+    finds(&rt, TWO, &WAYS_OF_TWO)?;
+    finds(&rt, SEVERAL, &WAYS_OF_SEVERAL)?;
+    finds(
+        &rt,
+        many_routes(rt.alloc(), 1024)?.as_bytes(),
+        &WAYS_OF_MANY,
+    )
+}
+
+/// A box, the interface by which its packets enter, a word, the number of the interface of that
+/// name, and the interface's first address; None where there is no such interface.
+type Named<'a> = (&'a [u8], u32, &'a [u8], u32, Option<u32>);
+
+const NAMES: [Named<'static>; 5] = [
+    (TWO, 2, b"wa", 1, None),
+    (TWO, 2, b"lan", 2, Some(0xc0a8_0101)),
+    (TWO, 2, b"wan", 3, Some(0xcb00_7101)),
+    (TWO, 2, b"dmz", 4, None),
+    (SEVERAL, 3, b"lan", 2, Some(0x0a00_0001)),
+];
+
+#[test]
+fn interfaces_are_found_by_their_names(rt: HostRuntime) -> Result<(), Fail> {
+    for (text, entering, word, number, first) in NAMES {
+        let plant = Plant::read(rt.alloc(), text)?;
+        let (name, named) = match first {
+            Some(_) => (Some(word), Some(number)),
+            None => (None, None),
+        };
+        assert!(&rt; plant.first_address(number) == first, "{number}");
+        assert!(&rt; plant.name(number) == name, "{number}");
+        assert!(&rt; plant.named(word) == named, "{number}");
+        assert!(&rt; plant.entering() == entering, "{number}");
     }
-    assert!(rt; plant.is_own(address(239, 0, 0, 1)));
-    assert_eq!(rt; plant.owner(address(10, 0, 1, 129)), Some(2));
-    assert_eq!(rt; plant.owner(address(239, 0, 0, 1)), Some(7));
-    assert_eq!(rt; plant.first_address(2), Some(address(10, 0, 0, 1)));
-    assert_eq!(rt; plant.named(b"lan".as_slice()), Some(2));
-    assert_eq!(rt; plant.name(2), Some(b"lan".as_slice()));
-    assert_eq!(rt; plant.entering(), 3);
     Ok(())
 }

@@ -1,33 +1,11 @@
-//! Captures as pcap-savefile(5) lays them out, written here byte by byte.
+//! Captures as pcap-savefile(5) lays them out, read and written.
+use crate::given::{AT_1_5, HEADER, OUT_AT_1_5, OUT_HEADER, PLAIN, bytes, repeated};
 use pcap_io::{Capture, CaptureError, CaptureFault, Counted, Failing, Leaving, Sink};
 use std::process::Abort;
 use std::test::Fail;
 
-/// Microseconds, version 2.4, snaplen 65535, LINKTYPE_RAW.
-const HEADER: [u8; 24] = [
-    0xd4, 0xc3, 0xb2, 0xa1, 2, 0, 4, 0, 0, 0, 0, 0, 0, 0, 0, 0, 0xff, 0xff, 0, 0, 101, 0, 0, 0,
-];
-
-/// A packet of 28 bytes at 1.5 seconds.
-const RECORD: [u8; 16] = [1, 0, 0, 0, 0x20, 0xa1, 7, 0, 0x1c, 0, 0, 0, 0x1c, 0, 0, 0];
-
-/// UDP from 192.168.1.10 to 198.51.100.7.
-const PACKET: [u8; 28] = [
-    0x45, 0, 0, 0x1c, 0, 1, 0, 0, 0x40, 0x11, 0x8e, 0xe3, 192, 168, 1, 10, 198, 51, 100, 7, 0x13,
-    0x88, 0, 0x35, 0, 8, 0, 0,
-];
-
 /// A packet of one byte at 0 seconds, which is earlier; 4 bytes were on the wire.
-const EARLIER: [u8; 17] = [0, 0, 0, 0, 0, 0, 0, 0, 1, 0, 0, 0, 4, 0, 0, 0, 0x45];
-
-fn two_records(rt: &HostRuntime) -> Result<Vec<u8>, Fail> {
-    let mut bytes = Vec::new(rt.alloc());
-    bytes.extend_from_slice(&HEADER)?;
-    bytes.extend_from_slice(&RECORD)?;
-    bytes.extend_from_slice(&PACKET)?;
-    bytes.extend_from_slice(&EARLIER)?;
-    Ok(bytes)
-}
+const EARLIER: &str = "0000000000000000010000000400000045";
 
 /// How many records the capture has, or its first fault, which comes again.
 fn count_records<R: Abort + AllocGlobal>(rt: &R, bytes: &[u8]) -> Result<u64, CaptureError> {
@@ -38,7 +16,7 @@ fn count_records<R: Abort + AllocGlobal>(rt: &R, bytes: &[u8]) -> Result<u64, Ca
             Ok(true) => {}
             Ok(false) => return Ok(count),
             Err(error) => {
-                assert_eq!(rt; capture.next(&mut reader), Err(error));
+                assert!(rt; capture.next(&mut reader) == Err(error));
                 assert!(rt; capture.record().is_none());
                 return Err(error);
             }
@@ -47,93 +25,108 @@ fn count_records<R: Abort + AllocGlobal>(rt: &R, bytes: &[u8]) -> Result<u64, Ca
     Ok(9)
 }
 
-fn refused(fault: CaptureFault) -> Result<u64, CaptureError> {
-    Err(CaptureError::Refused(fault))
-}
+const MAGIC: Result<u64, CaptureError> = Err(CaptureError::Refused(CaptureFault::Magic));
+
+const VERSION: Result<u64, CaptureError> = Err(CaptureError::Refused(CaptureFault::Version));
+
+const LINK_TYPE: Result<u64, CaptureError> = Err(CaptureError::Refused(CaptureFault::LinkType));
+
+const MALFORMED: Result<u64, CaptureError> = Err(CaptureError::Refused(CaptureFault::Malformed));
+
+const TORN_END: Result<u64, CaptureError> = Err(CaptureError::Refused(CaptureFault::TornEnd));
+
+/// A place of a capture of two records, the byte that is put there, how long the capture is then,
+/// and how many records it has or why it is refused.
+const ROWS: [(usize, u8, usize, Result<u64, CaptureError>); 17] = [
+    (0, 0x4d, 85, MAGIC),
+    (4, 3, 85, VERSION),
+    (6, 3, 85, VERSION),
+    (20, 1, 85, LINK_TYPE),
+    // The high bits of the link type's field don't count.
+    (23, 0x14, 85, Ok(2)),
+    // A fraction of 1,024,288.
+    (30, 0x0f, 85, MALFORMED),
+    // Captured lengths of 65,564 and of 262,172.
+    (34, 1, 85, TORN_END),
+    (34, 4, 85, MALFORMED),
+    // The original length isn't used.
+    (39, 0xff, 85, Ok(2)),
+    (0, 0xd4, 0, TORN_END),
+    (0, 0xd4, 23, TORN_END),
+    (0, 0xd4, 24, Ok(0)),
+    (0, 0xd4, 25, TORN_END),
+    (0, 0xd4, 67, TORN_END),
+    (0, 0xd4, 68, Ok(1)),
+    (0, 0xd4, 84, TORN_END),
+    (0, 0xd4, 85, Ok(2)),
+];
 
 #[test]
-fn refuses_what_is_no_capture(rt: HostRuntime) -> Result<(), Fail> {
-    let cases = [
-        (0usize, 0x4du8, refused(CaptureFault::Magic)),
-        (4, 3, refused(CaptureFault::Version)),
-        (6, 3, refused(CaptureFault::Version)),
-        (20, 1, refused(CaptureFault::LinkType)),
-        // The high bits of the link type's field don't count.
-        (23, 0x14, Ok(2)),
-        // A fraction of 1,024,288.
-        (30, 0x0f, refused(CaptureFault::Malformed)),
-        // Captured lengths of 65,564 and of 262,172.
-        (34, 1, refused(CaptureFault::TornEnd)),
-        (34, 4, refused(CaptureFault::Malformed)),
-        // The original length isn't used.
-        (39, 0xff, Ok(2)),
-    ];
-    for (place, byte, want) in cases {
-        let mut bytes = two_records(&rt)?;
-        assert!(rt; place < bytes.len());
-        bytes[place] = byte;
-        assert_eq!(rt; count_records(&rt, &bytes), want, "at {place}");
-    }
-    for (length, want) in [
-        (0usize, refused(CaptureFault::TornEnd)),
-        (23, refused(CaptureFault::TornEnd)),
-        (24, Ok(0)),
-        (25, refused(CaptureFault::TornEnd)),
-        (67, refused(CaptureFault::TornEnd)),
-        (68, Ok(1)),
-        (84, refused(CaptureFault::TornEnd)),
-        (85, Ok(2)),
-    ] {
-        let bytes = two_records(&rt)?;
-        assert!(rt; length <= bytes.len());
-        assert_eq!(rt; count_records(&rt, &bytes[..length]), want, "of {length}");
+fn records_are_counted_or_refused(rt: HostRuntime) -> Result<(), Fail> {
+    for (place, byte, length, wanted) in ROWS {
+        let mut capture = bytes(rt.alloc(), &[HEADER, AT_1_5, PLAIN, EARLIER])?;
+        assert!(&rt; place < capture.len());
+        capture[place] = byte;
+        capture.truncate(length);
+        let found = count_records(&rt, &capture);
+        assert!(&rt; found == wanted, "byte {place} of {length}");
     }
     Ok(())
 }
-
-const LEAVING: Leaving<'static> = Leaving {
-    moment: 1_500_000_000,
-    interface: 3,
-    packet: &PACKET,
-};
 
 /// The greatest packets, of which the buffer holds one beside the end of another.
 #[test]
 fn writes_the_greatest_packets(rt: HostRuntime) -> Result<(), Fail> {
     let mut packet = Vec::new(rt.alloc());
     packet.resize(65_535, 7u8)?;
+    let mut wanted = bytes(rt.alloc(), &[OUT_HEADER])?;
     let mut writer = Counted::new(Vec::new(rt.alloc()));
     let mut sink = Sink::open(rt.alloc(), &mut writer)?;
-    for moment in 0..3 {
+    for (moment, start) in [
+        (0, "00000000000000001300010013000100"),
+        (1, "00000000010000001300010013000100"),
+        (2, "00000000020000001300010013000100"),
+    ] {
         let leaving = Leaving {
             moment,
             interface: 1,
             packet: &packet,
         };
         sink.put(&mut writer, &leaving)?;
+        let headers = bytes(
+            rt.alloc(),
+            &[start, "0800000000000001000104000000000000000000"],
+        )?;
+        wanted.extend_from_slice(&headers)?;
+        wanted.extend_from_slice(&packet)?;
     }
     sink.finish(&mut writer)?;
-    let given = writer.into_inner();
-    assert_eq!(rt; given.len(), 196_737);
-    // The nanoseconds of the second and of the third record.
-    assert_eq!(rt; given.get(65_599).copied(), Some(1));
-    assert_eq!(rt; given.get(131_170).copied(), Some(2));
+    assert!(&rt; writer.into_inner().as_slice() == wanted.as_slice());
     Ok(())
 }
 
 /// A buffer that can't be drained keeps what waits.
 #[test]
 fn keeps_what_waits_after_a_put_that_failed(rt: HostRuntime) -> Result<(), Fail> {
+    let header = bytes(rt.alloc(), &[OUT_HEADER])?;
+    let packet = bytes(rt.alloc(), &[PLAIN])?;
+    assert!(&rt; packet.len() == 28);
+    let leaving = Leaving {
+        moment: 1_500_000_000,
+        interface: 3,
+        packet: &packet,
+    };
     let mut writer = Counted::new(Failing::new(Vec::new(rt.alloc()), 1));
     let mut sink = Sink::open(rt.alloc(), &mut writer)?;
     for _ in 0..2_048 {
-        sink.put(&mut writer, &LEAVING)?;
+        sink.put(&mut writer, &leaving)?;
     }
-    assert!(rt; sink.put(&mut writer, &LEAVING).is_err());
-    assert_eq!(rt; writer.failures(), 1);
+    assert!(&rt; sink.put(&mut writer, &leaving).is_err());
+    assert!(&rt; writer.failures() == 1);
     // The call fails once; what waited is all there.
     sink.finish(&mut writer)?;
-    let given = writer.into_inner().into_inner();
-    assert_eq!(rt; given.len(), 131_096);
+    let record = bytes(rt.alloc(), &[OUT_AT_1_5, PLAIN])?;
+    let wanted = repeated(rt.alloc(), &header, &record, 2_048, b"")?;
+    assert!(&rt; writer.into_inner().into_inner().as_slice() == wanted.as_slice());
     Ok(())
 }

@@ -1,17 +1,8 @@
-//! What the tests of whole runs share: captures, a box, and a run over readers and writers that
-//! may be slow and may fail.
-use engine::run;
-use pcap_io::{Calls, Counted, Failing, Slow};
+//! What tests share: a packet and its records, texts of pieces, and the line of a status.
 use program::Status;
 use std::alloc::Global;
 use std::process::Abort;
 use std::test::Fail;
-
-pub const BOX: &[u8] = b"interface 2 lan 192.168.1.1/24
-interface 3 wan 203.0.113.1/24
-route 0.0.0.0/0 wan
-default lan
-";
 
 /// Magic a1b2c3d4, which tells microseconds, version 2.4, LINKTYPE_RAW.
 pub const HEADER: &str = "d4c3b2a1020004000000000000000000ffff000065000000";
@@ -41,104 +32,26 @@ pub fn bytes(alloc: Global, parts: &[&str]) -> Result<Vec<u8>, Fail> {
     Ok(all)
 }
 
-/// A text of a beginning, so many times the same piece, and an end.
-pub fn repeated(
+/// A beginning, so many times the same piece, and an end.
+pub fn repeated<T: Copy>(
     alloc: Global,
-    beginning: &[u8],
-    piece: &[u8],
+    beginning: &[T],
+    piece: &[T],
     count: usize,
-    end: &[u8],
-) -> Result<Vec<u8>, Fail> {
-    let mut text = Vec::from_slice(alloc, beginning)?;
+    end: &[T],
+) -> Result<Vec<T>, Fail> {
+    let mut all = Vec::new(alloc);
+    all.extend_from_slice(beginning)?;
     for _ in 0..count {
-        text.extend_from_slice(piece)?;
+        all.extend_from_slice(piece)?;
     }
-    text.extend_from_slice(end)?;
-    Ok(text)
-}
-
-/// What a run gives.
-#[derive(Drop)]
-pub struct Given {
-    /// What the program would end with.
-    pub status: Status,
-    /// The number of records that the summary tells; 0 where there is none.
-    pub records: u64,
-    /// What the writer of packets holds.
-    pub sent: Vec<u8>,
-    /// What the writer of the report holds.
-    pub report: Vec<u8>,
-    /// How many calls failed, of all three.
-    pub failures: [u64; 3],
-    /// How many calls of the two writers there were, flushes too.
-    pub calls: [u64; 2],
-}
-
-/// How the reader and the two writers work.
-#[derive(Clone, Copy)]
-pub struct Working {
-    /// At most so many bytes a call.
-    pub most: usize,
-    /// After so many calls one fails: of the reader, the writer of packets, the writer of the report.
-    pub calls: [usize; 3],
-}
-
-impl Working {
-    /// At most so many bytes a call, and none fails.
-    pub const fn slowly(most: usize) -> Self {
-        Working {
-            most,
-            calls: [usize::MAX; 3],
-        }
-    }
-}
-
-fn writer(alloc: Global, working: Working, calls: usize) -> Counted<Calls<Failing<Slow<Vec<u8>>>>> {
-    let slow = Slow::new(Vec::new(alloc), working.most);
-    Counted::new(Calls::new(Failing::new(slow, calls)))
-}
-
-/// A run over these texts and this capture.
-pub fn run_over(
-    alloc: Global,
-    rules: &[u8],
-    plant: &[u8],
-    capture: &[u8],
-    working: Working,
-) -> Given {
-    let [reads, sends, reports] = working.calls;
-    let mut reader = Counted::new(Failing::new(Slow::new(capture, working.most), reads));
-    let mut sent = writer(alloc, working, sends);
-    let mut report = writer(alloc, working, reports);
-    let (status, records) = match run(
-        alloc,
-        rules,
-        plant,
-        &mut reader,
-        &mut sent,
-        &mut report,
-        false,
-    ) {
-        Ok(summary) => (Status::of(Ok(summary.torn)), summary.records),
-        Err(fault) => (Status::of(Err(&fault)), 0),
-    };
-    let failures = [reader.failures(), sent.failures(), report.failures()];
-    let sent = sent.into_inner();
-    let report = report.into_inner();
-    let calls = [sent.calls(), report.calls()];
-    Given {
-        status,
-        records,
-        sent: sent.into_inner().into_inner().into_inner(),
-        report: report.into_inner().into_inner().into_inner(),
-        failures,
-        calls,
-    }
+    all.extend_from_slice(end)?;
+    Ok(all)
 }
 
 /// A status has this line.
 pub fn shows<R: Abort + AllocGlobal>(rt: &R, status: Status, line: &str) -> Result<(), Fail> {
     let text = format!(in rt.alloc(); "{status}")?;
-    assert_eq!(rt; text.as_str(), line);
+    assert!(rt; text.as_str() == line, "{text}");
     Ok(())
 }

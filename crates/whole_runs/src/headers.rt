@@ -1,87 +1,94 @@
 //! Packets read in place and sent on.
+use crate::given::{PLAIN, PLAIN_OUT, bytes};
 use ip_headers::{Change, HeaderFault, View, emit, ones_sum};
 use std::test::Fail;
 
-// UDP from 192.168.1.10:5000 to 198.51.100.7:53, with TTL 64.
-const PACKET: [u8; 28] = [
-    0x45, 0x00, 0x00, 0x1c, 0x00, 0x01, 0x00, 0x00, 0x40, 0x11, 0x8e, 0xe3, 0xc0, 0xa8, 0x01, 0x0a,
-    0xc6, 0x33, 0x64, 0x07, 0x13, 0x88, 0x00, 0x35, 0x00, 0x08, 0x00, 0x00,
+/// The first is that of RFC 1071, section 3.
+const SUMS: [(&[u8], u16); 5] = [
+    (&[0x00, 0x01, 0xf2, 0x03, 0xf4, 0xf5, 0xf6, 0xf7], 0xddf2),
+    (&[], 0),
+    (&[0x01], 0x0100),
+    (&[0xff, 0xff, 0x00, 0x01], 0x0001),
+    (&[0xff, 0xff, 0xff, 0xff], 0xffff),
 ];
 
 #[test]
 fn sums(rt: HostRuntime) {
-    // RFC 1071, section 3.
-    let example = [0x00, 0x01, 0xf2, 0x03, 0xf4, 0xf5, 0xf6, 0xf7];
-    assert_eq!(rt; ones_sum(&example), 0xddf2);
-    assert_eq!(rt; ones_sum(&[]), 0);
-    assert_eq!(rt; ones_sum(&[0x01]), 0x0100);
-    assert_eq!(rt; ones_sum(&[0xff, 0xff, 0x00, 0x01]), 0x0001);
-    assert_eq!(rt; ones_sum(&[0xff, 0xff, 0xff, 0xff]), 0xffff);
+    for (words, sum) in SUMS {
+        assert_eq!(rt; ones_sum(words), sum);
+    }
 }
 
 #[test]
 fn reads_and_sends_on(rt: HostRuntime) -> Result<(), Fail> {
-    let view = View::read(&PACKET)?;
-    assert_eq!(rt; view.source(), 0xc0a8_010a);
-    assert_eq!(rt; view.destination(), 0xc633_6407);
-    assert_eq!(rt; view.ttl(), 64);
-    assert_eq!(rt; view.payload.len(), 8);
-    let mut out = [0xaa].to_vec(rt.alloc())?;
+    let packet = bytes(rt.alloc(), &[PLAIN])?;
+    let view = View::read(&packet)?;
+    let found = (view.source(), view.destination(), view.ttl());
+    assert_eq!(rt; found, (0xc0a8_010a, 0xc633_6407, 64));
+    let mut out = bytes(rt.alloc(), &["aa"])?;
+    out.extend_from_slice(view.payload)?;
     emit(&view, &Change { ttl: Some(63) }, &mut out)?;
     emit(&view, &Change { ttl: None }, &mut out)?;
-    let mut sent = PACKET;
-    sent[8] = 0x3f;
-    sent[10] = 0x8f;
-    assert_eq!(rt; out.len(), 57);
-    assert_eq!(rt; &out[1..29], sent.as_slice());
-    assert_eq!(rt; &out[29..], PACKET.as_slice());
+    let wanted = bytes(rt.alloc(), &["aa", "1388003500080000", PLAIN_OUT, PLAIN])?;
+    assert_eq!(rt; out.as_slice(), wanted.as_slice());
     Ok(())
 }
 
-#[test]
-fn first_fault(rt: HostRuntime) {
-    assert_eq!(rt; fault(&PACKET[..19]), Some(HeaderFault::Short));
-    assert_eq!(rt; fault(&PACKET[..27]), Some(HeaderFault::Truncated));
-    let mut more_fragments = PACKET;
-    more_fragments[6] = 0x20;
-    more_fragments[10] = 0x6e;
-    assert_eq!(rt; fault(&more_fragments), Some(HeaderFault::Fragment));
-    let mut later = PACKET;
-    later[7] = 0x01;
-    later[11] = 0xe2;
-    assert_eq!(rt; fault(&later), Some(HeaderFault::Fragment));
-    later[11] = 0xe3;
-    assert_eq!(rt; fault(&later), Some(HeaderFault::Checksum));
-    let mut version = PACKET;
-    version[0] = 0x65;
-    assert_eq!(rt; fault(&version), Some(HeaderFault::Version));
-    let mut header_length = PACKET;
-    header_length[0] = 0x44;
-    assert_eq!(rt; fault(&header_length), Some(HeaderFault::HeaderLength));
-    let options = [
-        0x4f, 0x00, 0x00, 0x14, 0x00, 0x01, 0x00, 0x00, 0x40, 0x11, 0x00, 0x00, 0xc0, 0xa8, 0x01,
-        0x0a, 0xc6, 0x33, 0x64, 0x07,
-    ];
-    assert_eq!(rt; fault(&options), Some(HeaderFault::Length));
+/// Beginnings of packets, and the first fault of each with its word.
+const FAULTS: [(&str, HeaderFault, &str); 8] = [
+    (
+        "4500001c0001000040118ee3c0a8010ac63364",
+        HeaderFault::Short,
+        "short",
+    ),
+    (
+        "4500001c0001000040118ee3c0a8010ac633640713880035000800",
+        HeaderFault::Truncated,
+        "truncated",
+    ),
+    (
+        "4500001c0001200040116ee3c0a8010ac63364071388003500080000",
+        HeaderFault::Fragment,
+        "fragment",
+    ),
+    (
+        "4500001c0001000140118ee2c0a8010ac63364071388003500080000",
+        HeaderFault::Fragment,
+        "fragment",
+    ),
+    (
+        "4500001c0001000140118ee3c0a8010ac63364071388003500080000",
+        HeaderFault::Checksum,
+        "checksum",
+    ),
+    (
+        "6500001c0001000040118ee3c0a8010ac63364071388003500080000",
+        HeaderFault::Version,
+        "version",
+    ),
+    (
+        "4400001c0001000040118ee3c0a8010ac63364071388003500080000",
+        HeaderFault::HeaderLength,
+        "hlen",
+    ),
+    (
+        "4f0000140001000040110000c0a8010ac6336407",
+        HeaderFault::Length,
+        "length",
+    ),
+];
+
+fn first_fault(bytes: &[u8]) -> Option<HeaderFault> {
+    View::read(bytes).err()
 }
 
 #[test]
-fn faults_as_text(rt: HostRuntime) -> Result<(), Fail> {
-    for (fault, want) in [
-        (HeaderFault::Short, "short"),
-        (HeaderFault::Version, "version"),
-        (HeaderFault::HeaderLength, "hlen"),
-        (HeaderFault::Length, "length"),
-        (HeaderFault::Truncated, "truncated"),
-        (HeaderFault::Checksum, "checksum"),
-        (HeaderFault::Fragment, "fragment"),
-    ] {
+fn first_faults(rt: HostRuntime) -> Result<(), Fail> {
+    for (packet, fault, word) in &FAULTS {
+        let read = bytes(rt.alloc(), &[*packet])?;
+        assert!(&rt; first_fault(&read) == Some(*fault), "{word}");
         let text = format!(in rt.alloc(); "{fault}")?;
-        assert_eq!(rt; text.as_str(), want);
+        assert!(&rt; text.as_str() == *word, "{text}");
     }
     Ok(())
-}
-
-fn fault(bytes: &[u8]) -> Option<HeaderFault> {
-    View::read(bytes).err()
 }

@@ -1,161 +1,186 @@
 //! Texts cut into tokens, and the faults of texts that aren't.
-use nft_lexer::{Kind, LexError, LexFault, Mark, Token, lex};
+use crate::given::repeated;
+use nft_lexer::{Kind, LexError, LexFault, Mark, lex};
+use std::alloc::Global;
 use std::process::Abort;
 use std::test::Fail;
 
-fn token<'t>(text: &'t [u8], kind: Kind<'t>) -> Token<'t> {
-    Token { text, kind }
-}
-
-fn is_same(found: Kind, expected: Kind) -> bool {
-    match (found, expected) {
-        (Kind::NewLine, Kind::NewLine) | (Kind::Word, Kind::Word) => true,
-        (Kind::Mark(mark), Kind::Mark(other)) => mark == other,
-        (Kind::Number(number), Kind::Number(other)) => number == other,
-        (Kind::Address(address), Kind::Address(other)) => address == other,
-        (Kind::String(string), Kind::String(other)) => string == other,
-        _ => false,
+/// The tokens of a text, each with what it is and a newline.
+fn shown(alloc: Global, text: &[u8]) -> Result<Vec<u8>, Fail> {
+    let mut all = Vec::new(alloc);
+    for token in &lex(alloc, text)? {
+        all.extend_from_slice(token.text)?;
+        let value = match token.kind {
+            Kind::NewLine => format!(in alloc; " newline")?,
+            Kind::Mark(_) => format!(in alloc; " mark")?,
+            Kind::Word => format!(in alloc; " word")?,
+            Kind::Number(number) => format!(in alloc; " number {number}")?,
+            Kind::Address(address) => format!(in alloc; " address {address:08x}")?,
+            Kind::String(string) => {
+                all.extend_from_slice(string)?;
+                format!(in alloc; " string")?
+            }
+        };
+        all.extend_from_slice(value.as_bytes())?;
+        all.push(b'\n')?;
     }
+    Ok(all)
 }
 
-/// The text is cut into these tokens.
-fn is_cut<R: Abort + AllocGlobal>(rt: &R, text: &[u8], expected: &[Token]) -> Result<(), Fail> {
-    let tokens = lex(rt.alloc(), text)?;
-    assert_eq!(rt; tokens.len(), expected.len());
-    for (found, expected) in tokens.iter().zip(expected) {
-        assert_eq!(rt; found.text, expected.text);
-        assert!(rt; is_same(found.kind, expected.kind));
+/// Many kinds of tokens; what is nearly one token; the largest numbers; no token.
+const CUT: [(&[u8], &[u8]); 4] = [
+    (
+        b"tcp dport != 22 # x\n0x1fF \"a b\" 1.2.3.4.80 80accept \\\n\t<=\r=<=0x",
+        b"tcp word
+dport word
+!= mark
+22 number 22
+
+ newline
+0x1fF number 511
+\"a b\"a b string
+1.2.3.4 address 01020304
+. mark
+80 number 80
+80 number 80
+accept word
+<= mark
+= mark
+<= mark
+0 number 0
+x word
+",
+    ),
+    (
+        b"0X1 1.2.3 a-b./c \"#;{\xff\"",
+        b"0 number 0
+X1 word
+1 number 1
+. mark
+2 number 2
+. mark
+3 number 3
+a-b./c word
+\"#;{\xff\"#;{\xff string
+",
+    ),
+    (
+        b"18446744073709551615 0x00ffffffffffffffff 255.255.255.255",
+        b"18446744073709551615 number 18446744073709551615
+0x00ffffffffffffffff number 18446744073709551615
+255.255.255.255 address ffffffff
+",
+    ),
+    (b"# x", b""),
+];
+
+#[test]
+fn texts_are_cut(rt: HostRuntime) -> Result<(), Fail> {
+    for (text, tokens) in CUT {
+        assert_eq!(rt; shown(rt.alloc(), text)?.as_slice(), tokens);
     }
     Ok(())
 }
 
-/// The text has this fault.
-fn is_refused<R: Abort + AllocGlobal>(rt: &R, text: &[u8], fault: LexFault) {
-    match lex(rt.alloc(), text) {
-        Err(LexError::Refused(found)) => assert_eq!(rt; found, fault),
-        _ => assert!(rt; false, "no fault"),
+const MARKS: [(&[u8], Mark); 21] = [
+    (b"{", Mark::OpenBrace),
+    (b"}", Mark::CloseBrace),
+    (b"(", Mark::OpenParenthesis),
+    (b")", Mark::CloseParenthesis),
+    (b",", Mark::Comma),
+    (b";", Mark::Semicolon),
+    (b":", Mark::Colon),
+    (b".", Mark::Dot),
+    (b"/", Mark::Slash),
+    (b"-", Mark::Minus),
+    (b"+", Mark::Plus),
+    (b"=", Mark::Equals),
+    (b"@", Mark::At),
+    (b"&", Mark::Ampersand),
+    (b"|", Mark::Bar),
+    (b"==", Mark::EqualTo),
+    (b"!=", Mark::NotEqualTo),
+    (b"<=", Mark::AtMost),
+    (b">=", Mark::AtLeast),
+    (b"<", Mark::Below),
+    (b">", Mark::Above),
+];
+
+#[test]
+fn marks_are_told_apart(rt: HostRuntime) -> Result<(), Fail> {
+    for (text, mark) in MARKS {
+        let tokens = lex(rt.alloc(), text)?;
+        assert_eq!(rt; tokens.len(), 1);
+        assert!(rt; matches!(tokens[0].kind, Kind::Mark(found) if found == mark));
     }
-}
-
-#[test]
-fn cuts_a_text(rt: HostRuntime) -> Result<(), Fail> {
-    let text = b"tcp dport != 22 # x\n0x1fF \"a b\" 1.2.3.4.80 80accept \\\n\t<=\r=<=0x";
-    let expected = [
-        token(b"tcp", Kind::Word),
-        token(b"dport", Kind::Word),
-        token(b"!=", Kind::Mark(Mark::NotEqualTo)),
-        token(b"22", Kind::Number(22)),
-        token(b"\n", Kind::NewLine),
-        token(b"0x1fF", Kind::Number(511)),
-        token(b"\"a b\"", Kind::String(b"a b")),
-        token(b"1.2.3.4", Kind::Address(0x0102_0304)),
-        token(b".", Kind::Mark(Mark::Dot)),
-        token(b"80", Kind::Number(80)),
-        token(b"80", Kind::Number(80)),
-        token(b"accept", Kind::Word),
-        token(b"<=", Kind::Mark(Mark::AtMost)),
-        token(b"=", Kind::Mark(Mark::Equals)),
-        token(b"<=", Kind::Mark(Mark::AtMost)),
-        token(b"0", Kind::Number(0)),
-        token(b"x", Kind::Word),
-    ];
-    is_cut(&rt, text, &expected)
-}
-
-#[test]
-fn cuts_what_is_nearly_one_token(rt: HostRuntime) -> Result<(), Fail> {
-    let text = b"0X1 1.2.3 a-b./c \"#;{\xff\"";
-    let expected = [
-        token(b"0", Kind::Number(0)),
-        token(b"X1", Kind::Word),
-        token(b"1", Kind::Number(1)),
-        token(b".", Kind::Mark(Mark::Dot)),
-        token(b"2", Kind::Number(2)),
-        token(b".", Kind::Mark(Mark::Dot)),
-        token(b"3", Kind::Number(3)),
-        token(b"a-b./c", Kind::Word),
-        token(b"\"#;{\xff\"", Kind::String(b"#;{\xff")),
-    ];
-    is_cut(&rt, text, &expected)
-}
-
-#[test]
-fn cuts_largest_numbers(rt: HostRuntime) -> Result<(), Fail> {
-    let text = b"18446744073709551615 0x00ffffffffffffffff 255.255.255.255";
-    let expected = [
-        token(b"18446744073709551615", Kind::Number(u64::MAX)),
-        token(b"0x00ffffffffffffffff", Kind::Number(u64::MAX)),
-        token(b"255.255.255.255", Kind::Address(u32::MAX)),
-    ];
-    is_cut(&rt, text, &expected)
-}
-
-#[test]
-fn tells_first_fault(rt: HostRuntime) {
-    let faults = [
-        (b"accept\n$ 007".as_slice(), LexFault::Byte { line: 2 }),
-        (b"!".as_slice(), LexFault::Byte { line: 1 }),
-        (b"a \\\nb \\".as_slice(), LexFault::Byte { line: 2 }),
-        (
-            b"table ip t { comment \"x".as_slice(),
-            LexFault::OpenString { line: 1 },
-        ),
-        (b"\n\"x\n\"".as_slice(), LexFault::OpenString { line: 2 }),
-        (
-            b"ip saddr 1.2.3.256".as_slice(),
-            LexFault::Number { line: 1 },
-        ),
-        (
-            b"# x\nmeta mark 007".as_slice(),
-            LexFault::Number { line: 2 },
-        ),
-        (
-            b"table ip t { chain a { accept $ } }".as_slice(),
-            LexFault::Byte { line: 1 },
-        ),
-        (
-            b"table ip t { chain a { ip saddr 1.2.3.256 drop } }".as_slice(),
-            LexFault::Number { line: 1 },
-        ),
-        (
-            b"table ip t { chain a { meta mark 007 drop } }".as_slice(),
-            LexFault::Number { line: 1 },
-        ),
-        (b"1.2.3.0004".as_slice(), LexFault::Number { line: 1 }),
-        (b"a \\\r\n".as_slice(), LexFault::Byte { line: 1 }),
-        (
-            b"18446744073709551616".as_slice(),
-            LexFault::Number { line: 1 },
-        ),
-    ];
-    for (text, fault) in faults {
-        is_refused(&rt, text, fault);
-    }
-}
-
-/// A comment of so many bytes.
-fn comment(rt: &HostRuntime, length: usize) -> Result<Vec<u8>, Fail> {
-    let mut text = Vec::new(rt.alloc());
-    text.push(b'#')?;
-    text.resize(length, b'a')?;
-    Ok(text)
-}
-
-#[test]
-fn bounds_the_text(rt: HostRuntime) -> Result<(), Fail> {
-    assert_eq!(rt; lex(rt.alloc(), &comment(&rt, 1_048_576)?)?.len(), 0);
-    is_refused(&rt, &comment(&rt, 1_048_577)?, LexFault::TooLong);
     Ok(())
 }
 
-#[test]
-fn cuts_thousands_of_tokens(rt: HostRuntime) -> Result<(), Fail> {
-    let mut text = Vec::new(rt.alloc());
-    for _ in 0..100_000 {
-        text.extend_from_slice(b"accept;\n")?;
+/// The number of the text's tokens, or its fault.
+fn count(alloc: Global, text: &[u8]) -> Result<Result<usize, LexFault>, LexError> {
+    match lex(alloc, text) {
+        Ok(tokens) => Ok(Ok(tokens.len())),
+        Err(LexError::Refused(fault)) => Ok(Err(fault)),
+        Err(error) => Err(error),
     }
-    assert_eq!(rt; lex(rt.alloc(), &text)?.len(), 300_000);
-    text.extend_from_slice(b"$")?;
-    is_refused(&rt, &text, LexFault::Byte { line: 100_001 });
+}
+
+/// Each text has so many tokens, or this fault.
+fn answers<R: Abort + AllocGlobal>(
+    rt: &R,
+    rows: &[(&[u8], Result<usize, LexFault>)],
+) -> Result<(), Fail> {
+    for (number, (text, wanted)) in rows.iter().enumerate() {
+        assert_eq!(rt; count(rt.alloc(), text)?, *wanted, "row {number}");
+    }
     Ok(())
+}
+
+const FAULTS: [(&[u8], Result<usize, LexFault>); 13] = [
+    (b"accept\n$ 007", Err(LexFault::Byte { line: 2 })),
+    (b"!", Err(LexFault::Byte { line: 1 })),
+    (b"a \\\nb \\", Err(LexFault::Byte { line: 2 })),
+    (
+        b"table ip t { comment \"x",
+        Err(LexFault::OpenString { line: 1 }),
+    ),
+    (b"\n\"x\n\"", Err(LexFault::OpenString { line: 2 })),
+    (b"ip saddr 1.2.3.256", Err(LexFault::Number { line: 1 })),
+    (b"# x\nmeta mark 007", Err(LexFault::Number { line: 2 })),
+    (
+        b"table ip t { chain a { accept $ } }",
+        Err(LexFault::Byte { line: 1 }),
+    ),
+    (
+        b"table ip t { chain a { ip saddr 1.2.3.256 drop } }",
+        Err(LexFault::Number { line: 1 }),
+    ),
+    (
+        b"table ip t { chain a { meta mark 007 drop } }",
+        Err(LexFault::Number { line: 1 }),
+    ),
+    (b"1.2.3.0004", Err(LexFault::Number { line: 1 })),
+    (b"a \\\r\n", Err(LexFault::Byte { line: 1 })),
+    (b"18446744073709551616", Err(LexFault::Number { line: 1 })),
+];
+
+#[test]
+fn first_faults_are_told(rt: HostRuntime) -> Result<(), Fail> {
+    answers(&rt, &FAULTS)
+}
+
+/// A comment of 1,048,576 bytes, a longer one, and thousands of tokens with and without a fault.
+#[test]
+fn long_texts_are_cut(rt: HostRuntime) -> Result<(), Fail> {
+    let most = repeated(rt.alloc(), b"#", b"a", 1_048_575, b"")?;
+    let more = repeated(rt.alloc(), b"#", b"a", 1_048_576, b"")?;
+    let tokens = repeated(rt.alloc(), b"", b"accept;\n", 100_000, b"")?;
+    let fault = repeated(rt.alloc(), b"", b"accept;\n", 100_000, b"$")?;
+    let rows: [(&[u8], Result<usize, LexFault>); 4] = [
+        (&most, Ok(0)),
+        (&more, Err(LexFault::TooLong)),
+        (&tokens, Ok(300_000)),
+        (&fault, Err(LexFault::Byte { line: 100_001 })),
+    ];
+    answers(&rt, &rows)
 }

@@ -6,7 +6,7 @@ mod boxes;
 #[cfg(test)]
 mod captures;
 #[cfg(test)]
-mod faults;
+mod checks;
 #[cfg(test)]
 mod given;
 #[cfg(test)]
@@ -21,5 +21,3 @@ mod programs;
 mod runs;
 #[cfg(test)]
 mod texts;
-#[cfg(test)]
-mod trees;

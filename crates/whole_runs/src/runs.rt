@@ -1,12 +1,23 @@
 //! Each run takes two texts and the bytes of a capture, and is compared with the bytes that it has
-//! to write, which were worked out by hand.
+//! to write, which were worked out by hand; then each call of its reader and its writers fails.
 use crate::given::{
-    AT_1_5, BOX, Given, HEADER, OUT_AT_1_5, OUT_HEADER, PLAIN, PLAIN_OUT, Working, bytes, repeated,
-    run_over, shows,
+    AT_1_5, HEADER, OUT_AT_1_5, OUT_HEADER, PLAIN, PLAIN_OUT, bytes, repeated, shows,
 };
+use engine::run;
+use pcap_io::{Calls, Counted, Failing, Slow};
+use program::Status;
 use std::alloc::Global;
 use std::process::Abort;
 use std::test::Fail;
+
+const BOX: &[u8] = b"interface 2 lan 192.168.1.1/24
+interface 3 wan 203.0.113.1/24
+route 0.0.0.0/0 wan
+default lan
+";
+
+/// A box with a default that no line names.
+const NO_BOX: &[u8] = b"default lan\n";
 
 const ONE_DROPPED: &[u8] =
     b"table ip t { chain fwd { type filter hook forward priority 0; policy accept; ip saddr 192.168.1.10 ip daddr 198.51.100.7 drop } }";
@@ -48,9 +59,78 @@ const OWN: &[u8] = b"interface 2 lan 198.51.100.7/32\ndefault lan\n";
 
 const NOWHERE: &[u8] = b"interface 2 lan 10.0.0.1/8\ndefault lan\n";
 
+/// How the reader and the two writers work.
+#[derive(Clone, Copy)]
+struct Working {
+    /// At most so many bytes a call.
+    most: usize,
+    /// After so many calls one fails: of the reader, the writer of packets, the writer of the report.
+    calls: [usize; 3],
+}
+
+/// What a run gives.
+#[derive(Drop)]
+struct Given {
+    /// What the program would end with.
+    status: Status,
+    /// The number of records that the summary tells; 0 where there is none.
+    records: u64,
+    /// What the writer of packets holds.
+    sent: Vec<u8>,
+    /// What the writer of the report holds.
+    report: Vec<u8>,
+    /// How many calls failed, of all three.
+    failures: [u64; 3],
+    /// How many calls of the two writers there were, flushes too.
+    calls: [u64; 2],
+}
+
+fn writer(alloc: Global, working: Working, calls: usize) -> Counted<Calls<Failing<Slow<Vec<u8>>>>> {
+    let slow = Slow::new(Vec::new(alloc), working.most);
+    Counted::new(Calls::new(Failing::new(slow, calls)))
+}
+
+/// A run over these texts and this capture.
+fn run_over(alloc: Global, rules: &[u8], plant: &[u8], capture: &[u8], working: Working) -> Given {
+    let [reads, sends, reports] = working.calls;
+    let mut reader = Counted::new(Failing::new(Slow::new(capture, working.most), reads));
+    let mut sent = writer(alloc, working, sends);
+    let mut report = writer(alloc, working, reports);
+    let answer = run(
+        alloc,
+        rules,
+        plant,
+        &mut reader,
+        &mut sent,
+        &mut report,
+        false,
+    );
+    let (status, records) = match answer {
+        Ok(summary) => (Status::of(Ok(summary.torn)), summary.records),
+        Err(fault) => (Status::of(Err(&fault)), 0),
+    };
+    let failures = [reader.failures(), sent.failures(), report.failures()];
+    let sent = sent.into_inner();
+    let report = report.into_inner();
+    let calls = [sent.calls(), report.calls()];
+    Given {
+        status,
+        records,
+        sent: sent.into_inner().into_inner().into_inner(),
+        report: report.into_inner().into_inner().into_inner(),
+        failures,
+        calls,
+    }
+}
+
 /// The report with these numbers of records, of those passed, for the box, dropped by a rule, for
 /// want of a route and for their TTL, and whether the end is torn (1); all other numbers are 0.
-fn report(alloc: Global, numbers: [u32; 7]) -> Result<String, Fail> {
+/// Without numbers it is empty.
+fn report(alloc: Global, numbers: Option<[u32; 7]>) -> Result<String, Fail> {
+    let mut text = String::new(alloc);
+    let Some(numbers) = numbers else {
+        return Ok(text);
+    };
     let [records, passed, local, rule, route, ttl, torn] = numbers;
     let lines = [
         ("records", records),
@@ -77,181 +157,288 @@ fn report(alloc: Global, numbers: [u32; 7]) -> Result<String, Fail> {
         ("live", 0),
         ("torn", torn),
     ];
-    let mut text = String::new(alloc);
     for (name, number) in lines {
         writeln!(text, "{name} {number}")?;
     }
     Ok(text)
 }
 
-/// A run over some texts and a capture, and what it has to give. Of a run that is refused the
-/// report is empty.
+/// A run over some texts and a capture, and what it has to give.
+#[derive(Clone, Copy)]
 struct Row<'a> {
     rules: &'a [u8],
     plant: &'a [u8],
     capture: &'a [&'a str],
-    records: u64,
     line: &'a str,
     sent: &'a [&'a str],
+    /// The numbers of the report; a run that is refused has none, and tells no records.
     numbers: Option<[u32; 7]>,
+    /// The calls of both writers, where they are told.
+    calls: Option<[u64; 2]>,
 }
 
-/// The run has to give what the row tells, however few bytes a call reads or writes.
-fn gives<R: Abort + AllocGlobal>(rt: &R, row: &Row<'_>) -> Result<(), Fail> {
-    let capture = bytes(rt.alloc(), row.capture)?;
-    let sent = bytes(rt.alloc(), row.sent)?;
-    let text = match row.numbers {
-        Some(numbers) => report(rt.alloc(), numbers)?,
-        None => String::new(rt.alloc()),
+/// A packet that passes.
+const DONE: Row<'static> = Row {
+    rules: b"",
+    plant: BOX,
+    capture: &[HEADER, AT_1_5, PLAIN],
+    line: "nftrun: done",
+    sent: &[OUT_HEADER, OUT_AT_1_5, PLAIN_OUT],
+    numbers: Some([1, 1, 0, 0, 0, 0, 0]),
+    calls: None,
+};
+
+/// A run that is refused before anything is written, for an input that has no header.
+const REFUSED: Row<'static> = Row {
+    rules: b"",
+    plant: BOX,
+    capture: &[],
+    line: "nftrun: capture P5",
+    sent: &[],
+    numbers: None,
+    calls: Some([0, 0]),
+};
+
+/// Whether a run of which no call failed gave what its row tells.
+fn is_told(row: &Row<'_>, given: &Given, sent: &[u8], report: &[u8]) -> bool {
+    let records = match row.numbers {
+        Some(numbers) => u64::from(numbers[0]),
+        None => 0,
     };
-    for most in [1usize, 2, 3, 7, 4096] {
-        let working = Working::slowly(most);
+    let calls = row.calls.unwrap_or(given.calls);
+    given.records == records
+        && given.calls == calls
+        && given.failures == [0, 0, 0]
+        && given.sent.as_slice() == sent
+        && given.report.as_slice() == report
+}
+
+/// Each run has to give what its row tells, with calls of at most so many bytes.
+fn give<R: Abort + AllocGlobal>(rt: &R, rows: &[Row<'_>], most: usize) -> Result<(), Fail> {
+    let calls = [usize::MAX; 3];
+    for (number, row) in rows.iter().enumerate() {
+        let capture = bytes(rt.alloc(), row.capture)?;
+        let sent = bytes(rt.alloc(), row.sent)?;
+        let text = report(rt.alloc(), row.numbers)?;
+        let working = Working { most, calls };
         let given = run_over(rt.alloc(), row.rules, row.plant, &capture, working);
         shows(rt, given.status, row.line)?;
-        assert_eq!(rt; given.records, row.records);
-        assert_eq!(rt; given.sent.as_slice(), sent.as_slice());
-        assert_eq!(rt; given.report.as_slice(), text.as_bytes());
-        assert_eq!(rt; given.failures, [0, 0, 0]);
+        assert!(rt;
+            is_told(row, &given, &sent, text.as_bytes()),
+            "row {number}"
+        );
     }
     Ok(())
 }
 
 /// An empty capture; a packet that passes; a rule that drops it, and lets another pass; the last
-/// hop, which comes before the chains; a torn end; moments, which never fall; a header cut short;
-/// a record that is refused after a good one; the longest prefix, and the first of equal ones; a
-/// packet for the box, and one with no route.
-const ROWS: [Row<'static>; 12] = [
+/// hop, which comes before the chains; moments, which never fall; the longest prefix, and the first
+/// of equal ones; a packet for the box, and one with no route; a torn end; a record that is refused
+/// after a good one.
+const ROWS: [Row<'static>; 11] = [
     Row {
-        rules: b"",
-        plant: BOX,
         capture: &[HEADER],
-        records: 0,
-        line: "nftrun: done",
         sent: &[OUT_HEADER],
         numbers: Some([0, 0, 0, 0, 0, 0, 0]),
+        ..DONE
     },
-    Row {
-        rules: b"",
-        plant: BOX,
-        capture: &[HEADER, AT_1_5, PLAIN],
-        records: 1,
-        line: "nftrun: done",
-        sent: &[OUT_HEADER, OUT_AT_1_5, PLAIN_OUT],
-        numbers: Some([1, 1, 0, 0, 0, 0, 0]),
-    },
+    DONE,
     Row {
         rules: ONE_DROPPED,
-        plant: BOX,
-        capture: &[HEADER, AT_1_5, PLAIN],
-        records: 1,
-        line: "nftrun: done",
         sent: &[OUT_HEADER],
         numbers: Some([1, 0, 0, 1, 0, 0, 0]),
+        ..DONE
     },
     Row {
         rules: ONE_DROPPED,
-        plant: BOX,
         capture: &[HEADER, AT_1_5, OTHER],
-        records: 1,
-        line: "nftrun: done",
         sent: &[OUT_HEADER, OUT_AT_1_5, OTHER_OUT],
-        numbers: Some([1, 1, 0, 0, 0, 0, 0]),
+        ..DONE
     },
     Row {
         rules: ONE_DROPPED,
-        plant: BOX,
         capture: &[HEADER, AT_1_5, LAST_HOP],
-        records: 1,
-        line: "nftrun: done",
         sent: &[OUT_HEADER],
         numbers: Some([1, 0, 0, 0, 0, 1, 0]),
+        ..DONE
     },
     Row {
-        rules: b"",
-        plant: BOX,
-        capture: &[HEADER, AT_1_5, PLAIN, CUT],
-        records: 1,
-        line: "nftrun: capture torn",
-        sent: &[OUT_HEADER, OUT_AT_1_5, PLAIN_OUT],
-        numbers: Some([1, 1, 0, 0, 0, 0, 1]),
-    },
-    Row {
-        rules: b"",
-        plant: BOX,
         capture: &[HEADER, AT_10, PLAIN, AT_9, PLAIN],
-        records: 2,
-        line: "nftrun: done",
         sent: &[OUT_HEADER, OUT_AT_10, PLAIN_OUT, OUT_AT_10, PLAIN_OUT],
         numbers: Some([2, 2, 0, 0, 0, 0, 0]),
+        ..DONE
     },
     Row {
-        rules: b"",
-        plant: BOX,
-        capture: &["d4c3b2a1020004000000"],
-        records: 0,
-        line: "nftrun: capture P5",
-        sent: &[],
-        numbers: None,
-    },
-    Row {
-        rules: b"",
-        plant: BOX,
-        capture: &[HEADER, AT_1_5, PLAIN, TOO_LONG],
-        records: 0,
-        line: "nftrun: capture P4",
-        sent: &[OUT_HEADER, OUT_AT_1_5, PLAIN_OUT],
-        numbers: None,
-    },
-    Row {
-        rules: b"",
         plant: LONGEST,
-        capture: &[HEADER, AT_1_5, PLAIN],
-        records: 1,
-        line: "nftrun: done",
         sent: &[OUT_HEADER, OUT_BY_7, PLAIN_OUT],
-        numbers: Some([1, 1, 0, 0, 0, 0, 0]),
+        ..DONE
     },
     Row {
-        rules: b"",
         plant: OWN,
-        capture: &[HEADER, AT_1_5, PLAIN],
-        records: 1,
-        line: "nftrun: done",
         sent: &[OUT_HEADER],
         numbers: Some([1, 0, 1, 0, 0, 0, 0]),
+        ..DONE
     },
     Row {
-        rules: b"",
         plant: NOWHERE,
-        capture: &[HEADER, AT_1_5, PLAIN],
-        records: 1,
-        line: "nftrun: done",
         sent: &[OUT_HEADER],
         numbers: Some([1, 0, 0, 0, 1, 0, 0]),
+        ..DONE
     },
+    Row {
+        capture: &[HEADER, AT_1_5, PLAIN, CUT],
+        line: "nftrun: capture torn",
+        numbers: Some([1, 1, 0, 0, 0, 0, 1]),
+        ..DONE
+    },
+    Row {
+        capture: &[HEADER, AT_1_5, PLAIN, TOO_LONG],
+        line: "nftrun: capture P4",
+        numbers: None,
+        ..DONE
+    },
+];
+
+/// The text of the rules comes first, then the box, the tree of the rules, and the form that runs
+/// take.
+const REFUSED_TEXTS: [(&[u8], &[u8], &str); 11] = [
+    (
+        b"table ip t { chain a { tcp dport } }",
+        NO_BOX,
+        "nftrun: rules E05",
+    ),
+    (
+        b"table t { chain c { counter packets 0 bytes 4611686018427387905 } }",
+        BOX,
+        "nftrun: rules N15",
+    ),
+    (
+        b"table t { chain c { counter packets 0 bytes 4611686018427387904 } }",
+        BOX,
+        "nftrun: rules E06",
+    ),
+    (b"table inet t { }", NO_BOX, "nftrun: box B3"),
+    (b"table inet t { }", BOX, "nftrun: rules E06"),
+    (
+        b"table ip t { chain a { accept } }",
+        BOX,
+        "nftrun: rules E06",
+    ),
+    (
+        b"table ip t { set s { type ipv4_addr; elements = { 10.0.0.1 } } }",
+        BOX,
+        "nftrun: rules E06",
+    ),
+    (
+        b"table t { chain c { type filter hook forward priority 0; tcp dport 22 accept } }",
+        BOX,
+        "nftrun: rules E06",
+    ),
+    (
+        b"table t { chain c { type filter hook forward priority 1; accept } }",
+        BOX,
+        "nftrun: rules E06",
+    ),
+    (
+        b"table t { chain c { type filter hook forward priority 0; accept comment \"x\" } }",
+        BOX,
+        "nftrun: rules E06",
+    ),
+    (b"table ip t { } table u { }", BOX, "nftrun: capture P5"),
+];
+
+/// Its length comes first, then its magic number, its version and its link type.
+const REFUSED_CAPTURES: [(&str, &str); 6] = [
+    ("d4c3b2a1020004000000", "nftrun: capture P5"),
+    (
+        "a1b2c3d4000200040000000000000000000000ff00000065",
+        "nftrun: capture P1",
+    ),
+    (
+        "a1b2c3d4000200050000000000000000000000ff00000001",
+        "nftrun: capture P1",
+    ),
+    (
+        "d4c3b2a1020005000000000000000000ffff000001000000",
+        "nftrun: capture P2",
+    ),
+    (
+        "d4c3b2a1020005000000000000000000ffff000065000000",
+        "nftrun: capture P2",
+    ),
+    (
+        "d4c3b2a1020004000000000000000000ffff000001000000",
+        "nftrun: capture P3",
+    ),
 ];
 
 #[test]
 fn runs_write_these_bytes(rt: HostRuntime) -> Result<(), Fail> {
-    for row in &ROWS {
-        gives(&rt, row)?;
+    for most in [1usize, 2, 3, 7, 4096] {
+        give(&rt, &ROWS, most)?;
     }
     Ok(())
 }
 
-/// A run has to succeed with this report, and with so many calls of its two writers, none of
-/// which fails.
-fn counts<R: Abort + AllocGlobal>(
+/// These texts have to be refused so, where the capture has no header.
+fn refuse<'a, R: Abort + AllocGlobal>(
     rt: &R,
-    given: &Given,
-    numbers: [u32; 7],
-    calls: [u64; 2],
+    rows: &'a [(&'a [u8], &'a [u8], &'a str)],
 ) -> Result<(), Fail> {
-    let text = report(rt.alloc(), numbers)?;
-    assert_eq!(rt; given.report.as_slice(), text.as_bytes());
-    assert_eq!(rt; given.calls, calls);
-    assert_eq!(rt; given.failures, [0, 0, 0]);
+    for (rules, plant, line) in rows {
+        let row = Row {
+            rules: *rules,
+            plant: *plant,
+            capture: &[],
+            line: *line,
+            sent: &[],
+            numbers: None,
+            calls: Some([0, 0]),
+        };
+        give(rt, &[row], 4096)?;
+    }
     Ok(())
+}
+
+#[test]
+fn texts_are_refused_before_the_capture(rt: HostRuntime) -> Result<(), Fail> {
+    refuse(&rt, &REFUSED_TEXTS)
+}
+
+#[test]
+fn captures_are_refused_by_their_header(rt: HostRuntime) -> Result<(), Fail> {
+    for (header, line) in &REFUSED_CAPTURES {
+        let row = Row {
+            capture: &[*header],
+            line,
+            ..REFUSED
+        };
+        give(&rt, &[row], 4096)?;
+    }
+    Ok(())
+}
+
+/// A chain that runs take, of so many rules `drop`, each of which costs 1; the chain costs 1 more.
+fn rules_of(alloc: Global, count: usize) -> Result<Vec<u8>, Fail> {
+    let head = b"table t { chain c { type filter hook forward priority 0; ";
+    repeated(alloc, head, b"drop\n", count, b"} }")
+}
+
+/// Of several faults the first of all inputs is told.
+#[test]
+fn a_ruleset_has_a_limit_of_rules_and_of_cost(rt: HostRuntime) -> Result<(), Fail> {
+    let most = rules_of(rt.alloc(), 16_384)?;
+    let large = rules_of(rt.alloc(), 16_385)?;
+    let cheap = rules_of(rt.alloc(), 65_535)?;
+    let dear = rules_of(rt.alloc(), 65_536)?;
+    let rows = [
+        (most.as_slice(), BOX, "nftrun: capture P5"),
+        (large.as_slice(), NO_BOX, "nftrun: box B3"),
+        (large.as_slice(), BOX, "nftrun: rules N15"),
+        (cheap.as_slice(), BOX, "nftrun: rules N15"),
+        (dear.as_slice(), BOX, "nftrun: rules N06"),
+    ];
+    refuse(&rt, &rows)
 }
 
 /// 5,000 packets, each second one of which the last of 2,000 rules drops. A packet that leaves takes
@@ -259,9 +446,6 @@ fn counts<R: Abort + AllocGlobal>(
 /// one each time that the buffer is full, one for the rest, and a flush.
 #[test]
 fn thousands_of_records_take_few_calls(rt: HostRuntime) -> Result<(), Fail> {
-    let header = bytes(rt.alloc(), &[HEADER])?;
-    let pair = bytes(rt.alloc(), &[AT_1_5, PLAIN, AT_1_5, OTHER])?;
-    let capture = repeated(rt.alloc(), &header, &pair, 2_500, b"")?;
     let rules = repeated(
         rt.alloc(),
         b"table ip t { chain c { type filter hook forward priority 0; ",
@@ -269,12 +453,89 @@ fn thousands_of_records_take_few_calls(rt: HostRuntime) -> Result<(), Fail> {
         1_999,
         b"ip saddr 192.168.1.10 drop\n} }",
     )?;
-    let working = Working::slowly(usize::MAX);
-    let all = run_over(rt.alloc(), b"", BOX, &capture, working);
-    counts(&rt, &all, [5_000, 5_000, 0, 0, 0, 0, 0], [5, 2])?;
-    assert_eq!(rt; all.sent.len(), 320_024);
-    let half = run_over(rt.alloc(), &rules, BOX, &capture, working);
-    counts(&rt, &half, [5_000, 2_500, 0, 2_500, 0, 0, 0], [4, 2])?;
-    assert_eq!(rt; half.sent.len(), 160_024);
+    let pair = [AT_1_5, PLAIN, AT_1_5, OTHER];
+    let capture = repeated(rt.alloc(), &[HEADER], &pair, 2_500, &[])?;
+    let sent_pair = [OUT_AT_1_5, PLAIN_OUT, OUT_AT_1_5, OTHER_OUT];
+    let all = repeated(rt.alloc(), &[OUT_HEADER], &sent_pair, 2_500, &[])?;
+    let half = repeated(rt.alloc(), &[OUT_HEADER], &sent_pair[2..], 2_500, &[])?;
+    let rows = [
+        Row {
+            rules: b"",
+            plant: BOX,
+            capture: &capture,
+            line: "nftrun: done",
+            sent: &all,
+            numbers: Some([5_000, 5_000, 0, 0, 0, 0, 0]),
+            calls: Some([5, 2]),
+        },
+        Row {
+            rules: &rules,
+            plant: BOX,
+            capture: &capture,
+            line: "nftrun: done",
+            sent: &half,
+            numbers: Some([5_000, 2_500, 0, 2_500, 0, 0, 0]),
+            calls: Some([4, 2]),
+        },
+    ];
+    give(&rt, &rows, usize::MAX)
+}
+
+/// Whether these calls failed, none of which was tried again, each writer holds a beginning, and no
+/// line of the report is written unless its own writer failed.
+fn is_stopped(given: &Given, whole: &Given, failures: [u64; 3]) -> bool {
+    let rest = match failures {
+        [0, 0, 0] => {
+            given.sent.len() == whole.sent.len() && given.report.len() == whole.report.len()
+        }
+        [0, 0, _] => true,
+        _ => given.report.is_empty(),
+    };
+    rest && given.failures == failures
+        && whole.sent.starts_with(given.sent.as_slice())
+        && whole.report.starts_with(given.report.as_slice())
+}
+
+/// Each call of the reader (0), the writer of packets (1) or that of the report (2) fails in turn,
+/// of which there are so many, and then one that isn't made.
+fn stops<R: Abort + AllocGlobal>(
+    rt: &R,
+    capture: &[u8],
+    whole: &Given,
+    device: usize,
+    count: u64,
+) -> Result<(), Fail> {
+    assert!(rt; device < 3);
+    for call in 0..64u8 {
+        let has_failed = u64::from(call) < count;
+        let line = if has_failed {
+            "nftrun: device"
+        } else {
+            "nftrun: done"
+        };
+        let mut calls = [usize::MAX; 3];
+        calls[device] = usize::from(call);
+        let mut failures = [0; 3];
+        failures[device] = u64::from(has_failed);
+        let given = run_over(rt.alloc(), b"", BOX, capture, Working { most: 9, calls });
+        shows(rt, given.status, line)?;
+        assert!(rt;
+            is_stopped(&given, whole, failures),
+            "call {call} of {device}"
+        );
+    }
+    Ok(())
+}
+
+#[test]
+fn each_call_that_fails_stops_the_run(rt: HostRuntime) -> Result<(), Fail> {
+    let capture = bytes(rt.alloc(), &[HEADER, AT_1_5, PLAIN])?;
+    let calls = [usize::MAX; 3];
+    let whole = run_over(rt.alloc(), b"", BOX, &capture, Working { most: 9, calls });
+    let [sends, reports] = whole.calls;
+    // 68 bytes take 8 calls, and the end is seen by one more.
+    for (device, count) in [(0, 9), (1, sends), (2, reports)] {
+        stops(&rt, &capture, &whole, device, count)?;
+    }
     Ok(())
 }

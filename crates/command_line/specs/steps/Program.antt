@@ -13,9 +13,17 @@ run_app =
 abbrev pub run_shape : Shape
 run_shape = run_app.top
 
+abbrev pub check_app : App
+check_app = with_rule (with_rule (new_app (codes "check")) (path_rule (codes "rules"))) (path_rule (codes "plant"))
+
+abbrev pub check_shape : Shape
+check_shape = check_app.top
+
 abbrev pub program_app : App
 program_app = with_subcommand
+    (with_subcommand
     (record (new_app (codes "nftrun")) {
       top = record (new_app (codes "nftrun")).top { subcommand_required = true };
     })
-    run_shape
+    run_shape)
+    check_shape

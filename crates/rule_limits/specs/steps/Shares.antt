@@ -2,7 +2,7 @@
 use Rattle.std.specs.Prelude.{ℕ, Bool, sum_by}
 use Rattle.std.specs.List.{list_any}
 use Rattle.nft_tree.specs.Tree.{RuleTree, ChainTree, TableTree}
-use Rattle.rule_limits.specs.Limits.{rule_elements, item_elements, item_rules, starts_too_high, item_starts_too_high}
+use Rattle.rule_limits.specs.Limits.{rule_elements, item_elements, item_chains, item_rules, starts_too_high, item_starts_too_high}
 
 abbrev pub chain_elements : ChainTree → ℕ
 chain_elements c = sum_by rule_elements c.rules
@@ -12,6 +12,9 @@ table_elements t = sum_by item_elements t.items
 
 abbrev pub table_rules : TableTree → ℕ
 table_rules t = sum_by item_rules t.items
+
+abbrev pub table_chains : TableTree → ℕ
+table_chains t = sum_by item_chains t.items
 
 abbrev pub rule_starts_too_high : RuleTree → Bool
 rule_starts_too_high r = list_any starts_too_high r.statements

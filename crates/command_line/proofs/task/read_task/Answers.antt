@@ -1,48 +1,74 @@
-use Rattle.std.proofs.Common.{◌≡◌, true, map, refl, codes}
-use Rattle.command_line.proofs.Reading.{asks, handed_on, has_read, is_there, refused, rows_given, text_there, value_given}
+use Rattle.std.proofs.Common.{◌≡◌, ◌∙◌, true, map, refl, sym, codes}
+use Rattle.command_line.proofs.Reading.{asks_check, asks_run, given_as, handed_on, has_read, has_value, is_check_task, is_run_task, refused, same_value, value_is}
 use Rattle.clap.specs.Words.{found_of, kind_of}
 use Rattle.clap.specs.declared.error.kind.ErrorKind.TheVariants.{OutOfMemory}
 use Rattle.command_line.specs.CommandLine.{is_well_formed}
 use Rattle.command_line.proofs.Complete.{words_pass}
 use Rattle.command_line.proofs.task.read_task.Goals as goal
 
-pub unwrap-requires-2 : goal.unwrap-requires-2
-unwrap-requires-2 c =
-    let got = has_read _ _ c.in_ok-matches.matches _ c.in_ok-program.ensures c.in_ok-matches.ensures.kinds c.in_ok-matches.ensures.matches
-    (rows_given _ c.unwrap.result _ c.unwrap.ensures c.subcommand.ensures.rows) in
-    is_there c.get_str.result got.2 (value_given (found_of c.unwrap.result.1.now) (codes "rules") _ _ _ c.get_str.ensures got.8 refl)
+pub value_of-requires : goal.value_of-requires
+value_of-requires c =
+    let is = is_check_task _ _ _ (has_read _ _ c.in_ok-matches.matches c.unwrap.result.0.now _ c.in_ok-program.ensures c.in_ok-matches.ensures.kinds c.in_ok-matches.ensures.matches
+    (given_as c.subcommand.result c.unwrap.result _ _ c.unwrap.ensures c.subcommand.ensures.name c.subcommand.ensures.rows)) (sym c.eq.ensures ∙ c.if-eq.true) in
+    let rows = is.1 in
+    has_value _ rows.0 (value_is (found_of c.unwrap.result.1.now) (codes "rules") rows.0 _ rows.3 refl)
 
-pub unwrap-requires-3 : goal.unwrap-requires-3
-unwrap-requires-3 c =
-    let got = has_read _ _ c.in_ok-matches.matches _ c.in_ok-program.ensures c.in_ok-matches.ensures.kinds c.in_ok-matches.ensures.matches
-    (rows_given _ c.unwrap.result _ c.unwrap.ensures c.subcommand.ensures.rows) in
-    is_there c.get_str-2.result got.3 (value_given (found_of c.unwrap.result.1.now) (codes "plant") _ _ _ c.get_str-2.ensures got.8 refl)
+pub value_of-requires-then-eq : goal.value_of-requires-then-eq
+value_of-requires-then-eq c =
+    let is = is_check_task _ _ _ (has_read _ _ c.in_ok-matches.matches c.unwrap.result.0.now _ c.in_ok-program.ensures c.in_ok-matches.ensures.kinds c.in_ok-matches.ensures.matches
+    (given_as c.subcommand.result c.unwrap.result _ _ c.unwrap.ensures c.subcommand.ensures.name c.subcommand.ensures.rows)) (sym c.eq.ensures ∙ c.if-eq.true) in
+    let rows = is.1 in
+    has_value _ rows.1 (value_is (found_of c.unwrap.result.1.now) (codes "plant") rows.1 _ rows.3 refl)
 
-pub unwrap-requires-4 : goal.unwrap-requires-4
-unwrap-requires-4 c =
-    let got = has_read _ _ c.in_ok-matches.matches _ c.in_ok-program.ensures c.in_ok-matches.ensures.kinds c.in_ok-matches.ensures.matches
-    (rows_given _ c.unwrap.result _ c.unwrap.ensures c.subcommand.ensures.rows) in
-    is_there c.get_str-3.result got.4 (value_given (found_of c.unwrap.result.1.now) (codes "input") _ _ _ c.get_str-3.ensures got.8 refl)
-
-pub unwrap-requires-5 : goal.unwrap-requires-5
-unwrap-requires-5 c =
-    let got = has_read _ _ c.in_ok-matches.matches _ c.in_ok-program.ensures c.in_ok-matches.ensures.kinds c.in_ok-matches.ensures.matches
-    (rows_given _ c.unwrap.result _ c.unwrap.ensures c.subcommand.ensures.rows) in
-    is_there c.get_str-4.result got.5 (value_given (found_of c.unwrap.result.1.now) (codes "output") _ _ _ c.get_str-4.ensures got.8 refl)
-
-pub returns : goal.returns
-returns c =
-    let got = has_read _ _ c.in_ok-matches.matches _ c.in_ok-program.ensures c.in_ok-matches.ensures.kinds c.in_ok-matches.ensures.matches
-    (rows_given _ c.unwrap.result _ c.unwrap.ensures c.subcommand.ensures.rows) in
+pub returns-then-eq-clause-asked : goal.returns-then-eq-clause-asked
+returns-then-eq-clause-asked c =
+    let is = is_check_task _ _ _ (has_read _ _ c.in_ok-matches.matches c.unwrap.result.0.now _ c.in_ok-program.ensures c.in_ok-matches.ensures.kinds c.in_ok-matches.ensures.matches
+    (given_as c.subcommand.result c.unwrap.result _ _ c.unwrap.ensures c.subcommand.ensures.name c.subcommand.ensures.rows)) (sym c.eq.ensures ∙ c.if-eq.true) in
+    let rows = is.1 in
     let found = found_of c.unwrap.result.1.now in
-    record {
-      asked = asks _ _ c.unwrap-2.result c.unwrap-3.result c.unwrap-4.result c.unwrap-5.result got
-          (text_there _ c.unwrap-2.result got.2 c.unwrap-2.ensures (value_given found (codes "rules") _ _ _ c.get_str.ensures got.8 refl))
-          (text_there _ c.unwrap-3.result got.3 c.unwrap-3.ensures (value_given found (codes "plant") _ _ _ c.get_str-2.ensures got.8 refl))
-          (text_there _ c.unwrap-4.result got.4 c.unwrap-4.ensures (value_given found (codes "input") _ _ _ c.get_str-3.ensures got.8 refl))
-          (text_there _ c.unwrap-5.result got.5 c.unwrap-5.ensures (value_given found (codes "output") _ _ _ c.get_str-4.ensures got.8 refl));
-      refused = tt;
-    }
+    asks_check _ _ _ _ _ _ _ is.0 rows.2
+    (same_value _ c.value_of.result.now rows.0 c.value_of.ensures (value_is found (codes "rules") rows.0 _ rows.3 refl))
+    (same_value _ c.value_of-then-eq.result.now rows.1 c.value_of-then-eq.ensures (value_is found (codes "plant") rows.1 _ rows.3 refl))
+
+pub value_of-requires-2 : goal.value_of-requires-2
+value_of-requires-2 c =
+    let is = is_run_task _ _ _ (has_read _ _ c.in_ok-matches.matches c.unwrap.result.0.now _ c.in_ok-program.ensures c.in_ok-matches.ensures.kinds c.in_ok-matches.ensures.matches
+    (given_as c.subcommand.result c.unwrap.result _ _ c.unwrap.ensures c.subcommand.ensures.name c.subcommand.ensures.rows)) (sym c.eq.ensures ∙ c.if-eq.false) in
+    let rows = is.1 in
+    has_value _ rows.0 (value_is (found_of c.unwrap.result.1.now) (codes "rules") rows.0 _ rows.5 refl)
+
+pub value_of-requires-3 : goal.value_of-requires-3
+value_of-requires-3 c =
+    let is = is_run_task _ _ _ (has_read _ _ c.in_ok-matches.matches c.unwrap.result.0.now _ c.in_ok-program.ensures c.in_ok-matches.ensures.kinds c.in_ok-matches.ensures.matches
+    (given_as c.subcommand.result c.unwrap.result _ _ c.unwrap.ensures c.subcommand.ensures.name c.subcommand.ensures.rows)) (sym c.eq.ensures ∙ c.if-eq.false) in
+    let rows = is.1 in
+    has_value _ rows.1 (value_is (found_of c.unwrap.result.1.now) (codes "plant") rows.1 _ rows.5 refl)
+
+pub value_of-requires-4 : goal.value_of-requires-4
+value_of-requires-4 c =
+    let is = is_run_task _ _ _ (has_read _ _ c.in_ok-matches.matches c.unwrap.result.0.now _ c.in_ok-program.ensures c.in_ok-matches.ensures.kinds c.in_ok-matches.ensures.matches
+    (given_as c.subcommand.result c.unwrap.result _ _ c.unwrap.ensures c.subcommand.ensures.name c.subcommand.ensures.rows)) (sym c.eq.ensures ∙ c.if-eq.false) in
+    let rows = is.1 in
+    has_value _ rows.2 (value_is (found_of c.unwrap.result.1.now) (codes "input") rows.2 _ rows.5 refl)
+
+pub value_of-requires-5 : goal.value_of-requires-5
+value_of-requires-5 c =
+    let is = is_run_task _ _ _ (has_read _ _ c.in_ok-matches.matches c.unwrap.result.0.now _ c.in_ok-program.ensures c.in_ok-matches.ensures.kinds c.in_ok-matches.ensures.matches
+    (given_as c.subcommand.result c.unwrap.result _ _ c.unwrap.ensures c.subcommand.ensures.name c.subcommand.ensures.rows)) (sym c.eq.ensures ∙ c.if-eq.false) in
+    let rows = is.1 in
+    has_value _ rows.3 (value_is (found_of c.unwrap.result.1.now) (codes "output") rows.3 _ rows.5 refl)
+
+pub returns-clause-asked : goal.returns-clause-asked
+returns-clause-asked c =
+    let is = is_run_task _ _ _ (has_read _ _ c.in_ok-matches.matches c.unwrap.result.0.now _ c.in_ok-program.ensures c.in_ok-matches.ensures.kinds c.in_ok-matches.ensures.matches
+    (given_as c.subcommand.result c.unwrap.result _ _ c.unwrap.ensures c.subcommand.ensures.name c.subcommand.ensures.rows)) (sym c.eq.ensures ∙ c.if-eq.false) in
+    let rows = is.1 in
+    let found = found_of c.unwrap.result.1.now in
+    asks_run _ _ _ _ _ _ _ _ _ _ _ is.0 rows.4
+    (same_value _ c.value_of-2.result.now rows.0 c.value_of-2.ensures (value_is found (codes "rules") rows.0 _ rows.5 refl))
+    (same_value _ c.value_of-3.result.now rows.1 c.value_of-3.ensures (value_is found (codes "plant") rows.1 _ rows.5 refl))
+    (same_value _ c.value_of-4.result.now rows.2 c.value_of-4.ensures (value_is found (codes "input") rows.2 _ rows.5 refl))
+    (same_value _ c.value_of-5.result.now rows.3 c.value_of-5.ensures (value_is found (codes "output") rows.3 _ rows.5 refl))
 
 pub returns-in_err-matches-clause-refused : goal.returns-in_err-matches-clause-refused
 returns-in_err-matches-clause-refused c =

@@ -7,6 +7,7 @@ returns c =
       tree = c.one_tree.ensures.one;
       faultless = c.one_tree.ensures.faultless;
       one_fault = c.one_fault.ensures;
+      one_check = c.one_judgement.ensures.one;
       plant = c.one_box.ensures.one;
       sound_box = c.one_box.ensures.faultless;
       one_box_fault = c.one_box.ensures.one_fault;

@@ -16,4 +16,4 @@ returns-in-Ok-slices_of g c =
     (words _ ∷ acted.0, (_, c.in-Ok.ensures, acted.1), subst Did same acted.2)
 
 pub returns : goal.returns
-returns g c = (words _ ∷ [], (_, c.in-Ok.ensures, refl), inr (OutOfMemory, λ _. refl, (refl, refl)))
+returns g c = (words _ ∷ [], (_, c.in-Ok.ensures, refl), inr (inr (OutOfMemory, λ _. refl, (refl, refl))))

@@ -1,0 +1,9 @@
+pub mod ListLaws
+pub mod NodeLaws
+pub mod CostLaws
+pub mod DepthLaws
+pub mod LeadLaws
+pub mod CycleLaws
+pub mod ReadLaws
+pub mod StepLaws
+pub mod EndLaws

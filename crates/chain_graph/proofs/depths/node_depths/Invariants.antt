@@ -1,0 +1,11 @@
+use Rattle.std.proofs.Common.{◌≡◌, ℕ, length, get_or, take}
+use Rattle.std.specs.Prelude.{Contains}
+use Rattle.chain_graph.specs.Known.{IsDepth}
+use Rattle.chain_graph.specs.Nodes.{graph_of}
+use Rattle.chain_graph.proofs.depths.node_depths.Given as goal
+
+abbrev pub invariant-loop-node : goal.invariant-loop-node
+invariant-loop-node l = record {
+  long : length l.depths.items ≡ length l.nodes;
+  known : (c : ℕ) → Contains (take l.node-index l.order) c → IsDepth (graph_of l.nodes) c (get_or l.depths.items c 0);
+}

@@ -1,0 +1,6 @@
+use Rattle.std.proofs.Common.{◌≡◌, ◌++◌, take, map}
+use Rattle.chain_graph.specs.Nodes.{call_of}
+use Rattle.chain_graph.proofs.targets.add_targets.Given as goal
+
+abbrev pub invariant-loop-call : goal.invariant-loop-call
+invariant-loop-call l = l.targets.items ≡ l.initial.targets.items ++ map (λ e. e.to) (map call_of (take l.call-index l.calls))

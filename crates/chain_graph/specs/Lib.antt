@@ -1,0 +1,5 @@
+pub mod Graph
+pub mod Nodes
+pub mod Order
+pub mod Known
+pub mod steps

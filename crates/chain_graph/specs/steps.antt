@@ -1,0 +1,4 @@
+-- What private functions give on the way: nothing that a public contract cites.
+pub mod Targets
+pub mod Search
+pub mod Passes

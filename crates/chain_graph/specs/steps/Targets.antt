@@ -1,0 +1,24 @@
+-- The targets of each node, which are all that the search looks at.
+use Rattle.std.specs.Prelude.{◌≡◌, ℕ, ◌<◌, List, [], ◌∷◌, length, map, Vec}
+use Rattle.std.specs.declared.alloc.Global.{Global}
+use Rattle.chain_graph.specs.Order.{HasEdge}
+
+-- the targets of each node, by index
+abbrev pub rows_of : List (Vec ℕ Global) → List (List ℕ)
+rows_of rows = map (λ r. r.items) rows
+
+-- a way from a to b through these nodes, of which b is the last
+abbrev pub IsWay : List (List ℕ) → ℕ → List ℕ → ℕ → Type 0
+IsWay g a [] b = a ≡ b
+IsWay g a (c ∷ cs) b = HasEdge g a c × IsWay g c cs b
+
+-- a way of one step or more from a node to itself
+pub record HasRing (g : List (List ℕ)) : Type 0 where
+  pub node : ℕ
+  pub first : ℕ
+  pub rest : List ℕ
+  pub way : IsWay g node (first ∷ rest) node
+
+-- each target is a node
+abbrev pub TargetsInRange : List (List ℕ) → Type 0
+TargetsInRange g = (a b : ℕ) → HasEdge g a b → b < length g

@@ -1,0 +1,18 @@
+//! The graph of chains and verdict maps by index: an order of them, what they cost, how deep they
+//! jump, and which of them lead to which.
+//!
+//! Nothing recurs, and the time is in proportion to the graph, so that thousands of chains in a row
+//! are as safe as two.
+#![tactic(auto)]
+
+mod costs;
+mod depths;
+mod judging;
+mod leads;
+mod node;
+mod search;
+mod targets;
+
+pub use judging::{Judged, judge};
+pub use leads::leads_to_marked;
+pub use node::{Edge, Node};

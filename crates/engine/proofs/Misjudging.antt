@@ -1,0 +1,30 @@
+-- Where judging the texts refuses them a run does.
+use Rattle.std.proofs.Common.{◌≡◌, ℕ, List, length, Option, inl, subst, sym}
+use Rattle.std.proofs.lemmas.List.{length-map}
+use Rattle.nft_tree.specs.declared.ruleset.Ruleset.{Ruleset}
+use Rattle.nft_tree.specs.Tree.{TableTree, table_tree, tables_of}
+use Rattle.box_file.specs.Box.{PlantTree}
+use Rattle.rule_check.specs.declared.fault.CheckError.{CheckError}
+use Rattle.rule_check.specs.declared.fault.CheckError.TheVariants.{Refused}
+use Rattle.rule_check.specs.declared.fault.CheckFault.{CheckFault}
+use Rattle.rule_check.specs.Checked.{IsCheckRefusal}
+use Rattle.rule_check.specs.WellFormed.{Least}
+use Rattle.engine.specs.declared.fault.RunFault.{RunFault}
+use Rattle.engine.specs.declared.fault.RunFault.TheVariants.{Rules, Box, Capture, Device, Memory}
+use Rattle.engine.specs.Judged.{Misjudged}
+use Rattle.engine.specs.Refusals.{Refuses}
+use Rattle.engine.specs.steps.Inputs.{IsOfInputs}
+
+pub misjudged : (rules box : List ℕ) (fault : RunFault) → Misjudged rules box fault → IsOfInputs fault × ((input : Option (List ℕ)) → Refuses rules box input fault)
+misjudged rules box (Rules fault) h = (tt, λ input. inl h)
+misjudged rules box (Box fault) h = (tt, λ input. h)
+misjudged rules box Memory h = (tt, λ input. tt)
+misjudged rules box (Capture fault) h = absurd h
+misjudged rules box Device h = absurd h
+
+pub length_of_tables : (tree : Ruleset) → length tree.tables.items ≡ length (tables_of tree)
+length_of_tables tree = sym (length-map tree.tables.items table_tree)
+
+-- the check's refusal, by its kind
+pub refused_as : (tables : List TableTree) (plant : PlantTree) (error : CheckError) (fault : CheckFault) → error ≡ Refused fault → IsCheckRefusal tables plant error → Least fault tables plant
+refused_as tables plant error fault is h = subst (IsCheckRefusal tables plant) is h

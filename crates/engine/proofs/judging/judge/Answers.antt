@@ -1,0 +1,17 @@
+use Rattle.std.proofs.Common.{◌≡◌, ◌^◌, ◌-◌, length, min, ap, ◌∙◌, arith}
+use Rattle.rule_limits.specs.Limits.{chain_count, rule_count}
+use Rattle.engine.proofs.Misjudging.{length_of_tables}
+use Rattle.engine.proofs.judging.judge.Goals as goal
+
+pub returns-clause-accepted : goal.returns-clause-accepted
+returns-clause-accepted c =
+    let fine = c.in_ok-checked.ensures.fine in
+    let same = c.tree-tree.ensures in
+    let many : c.len.result ≡ length c.tree-tree.result.now.tables.items = omega arith in
+    record {
+      texts = record { tables = c.in_ok-checked.checked.rules; spelled = fine.spelled; plant = c.in_ok-checked.checked.plant; read = fine.read };
+      well_formed = fine.well_formed;
+      all_tables = many ∙ length_of_tables c.tree-tree.result.now ∙ ap length same;
+      all_chains = c.chain_count.ensures ∙ ap (λ ts. min (chain_count ts) (2 ^ 64 - 1)) same;
+      all_rules = c.rule_count.ensures ∙ ap (λ ts. min (rule_count ts) (2 ^ 64 - 1)) same;
+    }

@@ -1,0 +1,2 @@
+-- What only functions of this crate speak of.
+pub mod Bounds

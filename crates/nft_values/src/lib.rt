@@ -1,0 +1,14 @@
+//! The values of each type, and the numbers that they stand for.
+//!
+//! A ruleset writes a value as a number, an address, a word or a string; what it stands for depends
+//! on the type where it stands (nft(8), "Data types"), and for names of interfaces on the box.
+#![tactic(auto)]
+
+mod bounds;
+mod kinds;
+mod names;
+mod ranges;
+mod values;
+
+pub use ranges::{is_range, is_range_on_box, numbers_of, value_numbers};
+pub use values::{is_on_box, is_value};

@@ -1,0 +1,40 @@
+-- Each return shows the calls that led to it, and where each stands in its order.
+use Rattle.std.proofs.Common.{[], ◌∷◌, refl}
+use Rattle.std.proofs.lemmas.Result.{err_from_is_err_and}
+use Rattle.program.specs.Calls.{read, judge, announce}
+use Rattle.program.proofs.examining.try_examine.Goals as goal
+
+pub returns-in_err-rules : goal.returns-in_err-rules
+returns-in_err-rules g c =
+    let p = err_from_is_err_and c.from_residual.result c.from_residual.ensures.1 in
+    rw p.1 (read _ _ ∷ [], (_, c.in_err-rules.ensures, refl), (refl, p.2))
+
+pub returns-in_err-plant : goal.returns-in_err-plant
+returns-in_err-plant g c =
+    let p = err_from_is_err_and c.from_residual-in_err-plant.result c.from_residual-in_err-plant.ensures.1 in
+    rw p.1 (read _ _ ∷ read _ _ ∷ [], (_, c.in_ok-rules.ensures, (_, c.in_err-plant.ensures, refl)), (refl, (refl, p.2)))
+
+pub returns-in_err-counts : goal.returns-in_err-counts
+returns-in_err-counts g c =
+    let p = err_from_is_err_and c.from_residual-in_err-counts.result c.from_residual-in_err-counts.ensures.1 in
+    rw p.1 (
+      read _ _ ∷ read _ _ ∷ judge _ _ _ ∷ [],
+      (_, c.in_ok-rules.ensures, (_, c.in_ok-plant.ensures, (_, c.in_err-counts.ensures, refl))),
+      (refl, (refl, (c.deref.ensures.value, c.deref-2.ensures.value, p.2))),
+    )
+
+pub returns-in_err-announce : goal.returns-in_err-announce
+returns-in_err-announce g c =
+    let p = err_from_is_err_and c.from_residual-in_err-announce.result c.from_residual-in_err-announce.ensures.1 in
+    rw p.1 (
+      read _ _ ∷ read _ _ ∷ judge _ _ _ ∷ announce _ _ ∷ [],
+      (_, c.in_ok-rules.ensures, (_, c.in_ok-plant.ensures, (_, c.in_ok-counts.ensures, (_, c.in_err-announce.ensures, refl)))),
+      (refl, (refl, (c.deref.ensures.value, c.deref-2.ensures.value, (refl, p.2)))),
+    )
+
+pub returns : goal.returns
+returns g c = (
+  read _ _ ∷ read _ _ ∷ judge _ _ _ ∷ announce _ _ ∷ [],
+  (_, c.in_ok-rules.ensures, (_, c.in_ok-plant.ensures, (_, c.in_ok-counts.ensures, (_, c.in_ok-announce.ensures, refl)))),
+  (refl, (refl, (c.deref.ensures.value, c.deref-2.ensures.value, (refl, refl)))),
+)

@@ -1,0 +1,5 @@
+mod Tests
+mod Numbers
+mod Lesser
+mod Stages
+mod Deciding

@@ -1,0 +1,49 @@
+-- The stages of the judging, each behind faults that the ruleset hasn't.
+use Rattle.std.proofs.Common.{◌≡◌, List, Option, Some, None, IfSome, false, subst, sym, ◌∙◌}
+use Rattle.std.specs.Prelude.{MatchOption}
+use Rattle.std.specs.List.{list_any}
+use Rattle.nft_tree.specs.Tree.{TableTree}
+use Rattle.box_file.specs.Box.{PlantTree}
+use Rattle.rule_names.specs.Names.{NameTwice}
+use Rattle.rule_paths.specs.Paths.{Cycles}
+use Rattle.rule_paths.specs.Findings.{AreFindings}
+use Rattle.rule_paths.specs.declared.judging.Findings.{Findings}
+use Rattle.rule_values.specs.Faults.{has_contradiction}
+use Rattle.rule_check.specs.declared.fault.CheckFault.{CheckFault}
+use Rattle.rule_check.specs.declared.fault.CheckFault.TheVariants as faults
+use Rattle.rule_check.specs.WellFormed.{WellFormed}
+use Rattle.rule_check.specs.steps.Judging.{HasNone, Tells}
+use Rattle.rule_check.proofs.Lesser.{more, none_told, not_true, well_formed, without}
+
+-- ---- what an option says, where it is known
+
+pub at_none : {A : Type 0} (o : Option A) (P : Type 0) (Q : A → Type 0) → o ≡ None → MatchOption o P Q → P
+at_none {A = A} o P Q is h = subst (λ (p : Option A). MatchOption p P Q) is h
+
+pub at_some : {A : Type 0} (o : Option A) (P : Type 0) (Q : A → Type 0) (x : A) → o ≡ Some x → MatchOption o P Q → Q x
+at_some {A = A} o P Q x is h = subst (λ (p : Option A). MatchOption p P Q) is h
+
+pub if_some : {A : Type 0} (o : Option A) (Q : A → Type 0) (x : A) → o ≡ Some x → IfSome o Q → Q x
+if_some {A = A} o Q x is h = subst (λ (p : Option A). IfSome p Q) is h
+
+-- ---- the stages
+
+module _ (tables : List TableTree) (plant : PlantTree) where
+  pub after_names : (names : List TableTree) (answer : Option CheckFault) → (NameTwice tables → ⊥) → names ≡ tables → answer ≡ None → Tells 2 4 names plant answer → HasNone 1 4 tables plant
+  after_names names answer apart same is tells =
+      none_told tables plant 2 4 answer (without tables plant faults.NameTwice apart) is (subst (λ (ts : List TableTree). Tells 2 4 ts plant answer) same tells)
+
+  pub findings_of : (names : List TableTree) (found : Findings) → names ≡ tables → AreFindings names found → AreFindings tables found
+  findings_of names found same h = subst (λ (ts : List TableTree). AreFindings ts found) same h
+
+  pub after_cycles : (found : Findings) → HasNone 1 4 tables plant → AreFindings tables found → HasNone 1 5 tables plant
+  after_cycles found none known = more tables plant 1 faults.Cycle none known.acyclic
+
+  pub after_chains : (answer : Option CheckFault) → HasNone 1 5 tables plant → answer ≡ None → Tells 5 12 tables plant answer → HasNone 1 12 tables plant
+  after_chains answer none is tells = none_told tables plant 5 12 answer none is tells
+
+  pub after_maps : HasNone 1 12 tables plant → list_any (has_contradiction plant) tables ≡ false → HasNone 1 13 tables plant
+  after_maps none agree = more tables plant 1 faults.Contradiction none (not_true _ agree)
+
+  pub after_all : (answer : Option CheckFault) → HasNone 1 13 tables plant → answer ≡ None → Tells 13 16 tables plant answer → WellFormed tables plant
+  after_all answer none is tells = well_formed tables plant (none_told tables plant 13 16 answer none is tells)

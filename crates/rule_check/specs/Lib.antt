@@ -1,0 +1,4 @@
+pub mod Chains
+pub mod WellFormed
+pub mod Checked
+pub mod steps

@@ -1,0 +1,63 @@
+-- The base chain of a name.
+use Rattle.std.proofs.Common.{◌≡◌, List, [], ◌∷◌, Bool, true, false, ◌||◌, ◌&&◌, cond, Option, Some, None, map, sym, refl, ap, ◌∙◌, subst, ⊎_elim, arith}
+use Rattle.std.specs.Prelude.{is_some}
+use Rattle.std.specs.List.{list_any}
+use Rattle.std.specs.Option.{option_map}
+use Rattle.std.specs.Str.{bytes_eq}
+use Rattle.std.specs.Cmp.Lexicographic.{same_text}
+use Rattle.nft_tree.specs.Tree.{Text, ChainTree}
+use Rattle.rule_names.specs.Names.{Repeats}
+use Rattle.rule_names.proofs.Texts.{or-split}
+use Rattle.rule_names.proofs.Twice.{Among, among-more, repeats-here, repeats-more}
+use Rattle.rule_names.proofs.Places.{first_named}
+
+-- the chain is a base chain
+abbrev pub is_base : Option ChainTree → Bool
+is_base None = false
+is_base (Some c) = is_some c.head
+
+-- the chain has this name and is a base chain
+abbrev pub base_named : Text → ChainTree → Bool
+base_named name c = bytes_eq c.name name && is_some c.head
+
+pub and-left : (a b : Bool) → a && b ≡ true → a ≡ true
+and-left true b h = refl
+and-left false b h = h
+
+pub not-true-is-false : (b : Bool) → (b ≡ true → ⊥) → b ≡ false
+not-true-is-false true h = absurd (h refl)
+not-true-is-false false h = refl
+
+pub or-false : (a : Bool) → a || false ≡ a
+or-false true = refl
+or-false false = refl
+
+abbrev pub names : List ChainTree → List Text
+names cs = map (λ c. c.name) cs
+
+pub base-among-here : (c : ChainTree) (cs : List ChainTree) (name : Text) → c.name ≡ name → Among (names (c ∷ cs)) name
+base-among-here c cs name e = record { place = 0; within = omega arith; is = e }
+
+pub base-among : (cs : List ChainTree) (name : Text) → list_any (base_named name) cs ≡ true → Among (names cs) name
+base-among [] name t = cc
+base-among (c ∷ cs) name t = ⊎_elim
+    (λ h. base-among-here c cs name (same_text c.name name (sym (and-left (bytes_eq c.name name) (is_some c.head) h))))
+    (λ h. among-more c.name (names cs) name (base-among cs name h))
+    (or-split (base_named name c) (list_any (base_named name) cs) t)
+
+pub base-step : (b : Bool) (c : ChainTree) (rest : Bool) (o : Option ChainTree) → rest ≡ is_base o → (b ≡ true → rest ≡ false) → (b && is_some c.head) || rest ≡ is_base (cond b (Some c) o)
+base-step true c rest o e f = ap (λ r. is_some c.head || r) (f refl) ∙ or-false (is_some c.head)
+base-step false c rest o e f = e
+
+-- where no name stands twice, a base chain has the name if the chain of that name is one
+pub any-base : (cs : List ChainTree) (name : Text) → (Repeats (names cs) → ⊥) → list_any (base_named name) cs ≡ is_base (first_named (λ c. c.name) name cs)
+any-base [] name apart = refl
+any-base (c ∷ cs) name apart =
+    base-step (bytes_eq c.name name) c (list_any (base_named name) cs) (first_named (λ c. c.name) name cs)
+    (any-base cs name (λ r. apart (repeats-more c.name (names cs) r)))
+    (λ t. not-true-is-false (list_any (base_named name) cs) (λ u.
+    apart (repeats-here c.name (names cs) (subst (Among (names cs)) (sym (same_text c.name name (sym t))) (base-among cs name u)))))
+
+pub is-some-map : {A B : Type 0} (f : A → B) (o : Option A) → is_some o ≡ is_some (option_map f o)
+is-some-map f None = refl
+is-some-map f (Some x) = refl

@@ -1,0 +1,58 @@
+-- A set or a map that stands twice stands twice among sets and maps.
+use Rattle.std.proofs.Common.{List, [], ◌∷◌, map, sym, subst, ⊎_elim}
+use Rattle.std.specs.List.{filter_map}
+use Rattle.nft_tree.specs.Tree as tree
+use Rattle.nft_tree.specs.Tree.{Text, ItemTree}
+use Rattle.nft_tree.specs.Parts.{set_in, map_in}
+use Rattle.rule_names.specs.Names.{Repeats, set_or_map_name}
+use Rattle.rule_names.proofs.Twice.{Among, among-here, among-more, among-split, repeats-here, repeats-more, repeats-split}
+
+-- the names of sets, of maps and of both among these items
+abbrev pub of_sets : List ItemTree → List Text
+of_sets items = map (λ s. s.name) (filter_map set_in items)
+
+abbrev pub of_maps : List ItemTree → List Text
+of_maps items = map (λ m. m.name) (filter_map map_in items)
+
+abbrev pub of_both : List ItemTree → List Text
+of_both items = filter_map set_or_map_name items
+
+pub among-same : (n : Text) (small large : List Text) (name : Text) → (Among small name → Among large name) → Among (n ∷ small) name → Among (n ∷ large) name
+among-same n small large name more a = ⊎_elim
+    (λ e. subst (λ x. Among (x ∷ large) name) (sym e) (among-here name large))
+    (λ r. among-more n large name (more r))
+    (among-split n small name a)
+
+pub repeats-same : (n : Text) (small large : List Text) → (Among small n → Among large n) → (Repeats small → Repeats large) → Repeats (n ∷ small) → Repeats (n ∷ large)
+repeats-same n small large among more r = ⊎_elim
+    (λ a. repeats-here n large (among a))
+    (λ s. repeats-more n large (more s))
+    (repeats-split n small r)
+
+pub sets-among : (items : List ItemTree) (name : Text) → Among (of_sets items) name → Among (of_both items) name
+sets-among [] name a = a
+sets-among (tree.comment text ∷ rest) name a = sets-among rest name a
+sets-among (tree.chain c ∷ rest) name a = sets-among rest name a
+sets-among (tree.set s ∷ rest) name a = among-same s.name (of_sets rest) (of_both rest) name (sets-among rest name) a
+sets-among (tree.map_item m ∷ rest) name a = among-more m.name (of_both rest) name (sets-among rest name a)
+
+pub maps-among : (items : List ItemTree) (name : Text) → Among (of_maps items) name → Among (of_both items) name
+maps-among [] name a = a
+maps-among (tree.comment text ∷ rest) name a = maps-among rest name a
+maps-among (tree.chain c ∷ rest) name a = maps-among rest name a
+maps-among (tree.set s ∷ rest) name a = among-more s.name (of_both rest) name (maps-among rest name a)
+maps-among (tree.map_item m ∷ rest) name a = among-same m.name (of_maps rest) (of_both rest) name (maps-among rest name) a
+
+pub sets-repeat : (items : List ItemTree) → Repeats (of_sets items) → Repeats (of_both items)
+sets-repeat [] r = r
+sets-repeat (tree.comment text ∷ rest) r = sets-repeat rest r
+sets-repeat (tree.chain c ∷ rest) r = sets-repeat rest r
+sets-repeat (tree.set s ∷ rest) r = repeats-same s.name (of_sets rest) (of_both rest) (sets-among rest s.name) (sets-repeat rest) r
+sets-repeat (tree.map_item m ∷ rest) r = repeats-more m.name (of_both rest) (sets-repeat rest r)
+
+pub maps-repeat : (items : List ItemTree) → Repeats (of_maps items) → Repeats (of_both items)
+maps-repeat [] r = r
+maps-repeat (tree.comment text ∷ rest) r = maps-repeat rest r
+maps-repeat (tree.chain c ∷ rest) r = maps-repeat rest r
+maps-repeat (tree.set s ∷ rest) r = repeats-more s.name (of_both rest) (maps-repeat rest r)
+maps-repeat (tree.map_item m ∷ rest) r = repeats-same m.name (of_maps rest) (of_both rest) (maps-among rest m.name) (maps-repeat rest) r

@@ -1,0 +1,10 @@
+pub mod Texts
+pub mod Twice
+pub mod Lists
+pub mod Places
+pub mod Items
+pub mod Bases
+pub mod Tests
+pub mod Tables
+pub mod Decisions
+pub mod DecidedNames

@@ -1,0 +1,23 @@
+-- Tests over lists that are made of lists.
+use Rattle.std.proofs.Common.{◌≡◌, Bool, true, false, ◌||◌, List, [], ◌∷◌, Option, Some, None, sym, refl, ap, ◌∙◌}
+use Rattle.std.specs.Prelude.{flat_map}
+use Rattle.std.specs.List.{list_any, filter_map, cons_option}
+use Rattle.std.proofs.lemmas.List.Folds.{list_any-append}
+use Rattle.rule_names.specs.Names.{one_or_none}
+use Rattle.nft_tree.specs.Tree.{Text}
+
+pub any-flat : {X Y : Type 0} (p : Y → Bool) (f : X → List Y) (xs : List X) → list_any (λ x. list_any p (f x)) xs ≡ list_any p (flat_map f xs)
+any-flat p f [] = refl
+any-flat p f (x ∷ xs) = ap (λ b. list_any p (f x) || b) (any-flat p f xs) ∙ sym (list_any-append p (f x) (flat_map f xs))
+
+pub any-one : (p : Text → Bool) (o : Option Text) (rest : List Text) → list_any p (one_or_none o) || list_any p rest ≡ list_any p (cons_option o rest)
+any-one p None rest = refl
+any-one p (Some name) rest = ap (λ b. b || list_any p rest) (or-none (p name))
+  where
+    or-none : (b : Bool) → b || false ≡ b
+    or-none true = refl
+    or-none false = refl
+
+pub any-picked : {X : Type 0} (p : Text → Bool) (f : X → Option Text) (xs : List X) → list_any (λ x. list_any p (one_or_none (f x))) xs ≡ list_any p (filter_map f xs)
+any-picked p f [] = refl
+any-picked p f (x ∷ xs) = ap (λ b. list_any p (one_or_none (f x)) || b) (any-picked p f xs) ∙ any-one p (f x) (filter_map f xs)

@@ -1,0 +1,143 @@
+-- Names that stand twice.
+use Rattle.std.proofs.Common.{◌≡◌, ◌⊎◌, ℕ, zero, suc, ◌+◌, ◌<◌, List, [], ◌∷◌, ◌++◌, Bool, true, false, ◌||◌, not, length, get_or, take, sym, refl, ap, ◌∙◌, inl, inr, ⊎_elim, arith}
+use Rattle.std.specs.Prelude.{if◌then◌else◌}
+use Rattle.std.specs.Borrow.{Bor}
+use Rattle.std.specs.List.{list_any}
+use Rattle.std.specs.Cmp.Lexicographic.{same_text}
+use Rattle.std.specs.Str.{bytes_eq}
+use Rattle.std.proofs.lemmas.Bool.{cases_lt}
+use Rattle.std.proofs.lemmas.List.{get_or_append_left, get_or_push, length_push, map-append, take_more}
+use Rattle.nft_tree.specs.Tree.{Text}
+use Rattle.rule_names.specs.Names.{Repeats}
+use Rattle.rule_names.specs.steps.Index.{texts}
+use Rattle.rule_names.proofs.Texts.{named, text-refl, or-split, any-over}
+
+-- the name stands in the list
+pub record Among (names : List Text) (name : Text) : Type 0 where
+  pub place : ℕ
+  pub within : place < length names
+  pub is : get_or names place [] ≡ name
+
+pub among-more : (n : Text) (names : List Text) (name : Text) → Among names name → Among (n ∷ names) name
+among-more n names name a = let w = a.within in record { place = suc a.place; within = omega arith; is = a.is }
+
+pub among-here : (name : Text) (names : List Text) → Among (name ∷ names) name
+among-here name names = record { place = zero; within = omega arith; is = refl }
+
+pub among-at : (n : Text) (names : List Text) (name : Text) (k : ℕ) → k < length (n ∷ names) → get_or (n ∷ names) k [] ≡ name → (n ≡ name) ⊎ Among names name
+among-at n names name zero l e = inl e
+among-at n names name (suc k) l e = inr (record { place = k; within = omega (arith, l); is = e })
+
+pub among-split : (n : Text) (names : List Text) (name : Text) → Among (n ∷ names) name → (n ≡ name) ⊎ Among names name
+among-split n names name a = among-at n names name a.place a.within a.is
+
+pub repeats-more : (n : Text) (names : List Text) → Repeats names → Repeats (n ∷ names)
+repeats-more n names r = let a = r.apart in let w = r.within in record { first = suc r.first; second = suc r.second; apart = omega arith; within = omega arith; same = r.same }
+
+pub repeats-here : (name : Text) (names : List Text) → Among names name → Repeats (name ∷ names)
+repeats-here name names a = let w = a.within in record { first = zero; second = suc a.place; apart = omega arith; within = omega arith; same = sym a.is }
+
+pub repeats-at : (n : Text) (names : List Text) (i j : ℕ) → i < j → j < length (n ∷ names) → get_or (n ∷ names) i [] ≡ get_or (n ∷ names) j [] → Among names n ⊎ Repeats names
+repeats-at n names i zero a w e = absurd (omega (arith, a))
+repeats-at n names zero (suc j) a w e = inl (record { place = j; within = omega (arith, w); is = sym e })
+repeats-at n names (suc i) (suc j) a w e = inr (record { first = i; second = j; apart = omega (arith, a); within = omega (arith, w); same = e })
+
+pub repeats-split : (n : Text) (names : List Text) → Repeats (n ∷ names) → Among names n ⊎ Repeats names
+repeats-split n names r = repeats-at n names r.first r.second r.apart r.within r.same
+
+pub repeats-none : Repeats [] → ⊥
+repeats-none r = let w = r.within in omega arith
+
+-- ---- a name more
+
+pub any-named : (names : List Text) (name : Text) → list_any (bytes_eq name) names ≡ true → Among names name
+any-named [] name t = cc
+any-named (n ∷ ns) name t = ⊎_elim
+    (λ h. record { place = zero; within = omega arith; is = sym (same_text name n (sym h)) })
+    (λ h. among-more n ns name (any-named ns name h))
+    (or-split (bytes_eq name n) (list_any (bytes_eq name) ns) t)
+
+pub or-right : (a b : Bool) → b ≡ true → a || b ≡ true
+or-right true b h = refl
+or-right false b h = h
+
+pub named-at : (names : List Text) (name : Text) (k : ℕ) → k < length names → get_or names k [] ≡ name → list_any (bytes_eq name) names ≡ true
+named-at [] name k l e = absurd (omega (arith, l))
+named-at (n ∷ ns) name zero l e = ap (λ x. bytes_eq name x || list_any (bytes_eq name) ns) e ∙ ap (λ b. b || list_any (bytes_eq name) ns) (text-refl name)
+named-at (n ∷ ns) name (suc k) l e = or-right (bytes_eq name n) (list_any (bytes_eq name) ns) (named-at ns name k (omega (arith, l)) e)
+
+pub named-any : (names : List Text) (name : Text) → Among names name → list_any (bytes_eq name) names ≡ true
+named-any names name a = named-at names name a.place a.within a.is
+
+pub among-front : (names : List Text) (name : Text) (rest : List Text) → Among names name → Repeats (names ++ name ∷ rest)
+among-front names name rest a =
+    let n = length_push names name in
+    let w = a.within in
+    record {
+      first = a.place;
+      second = length names;
+      apart = w;
+      within = repeats-room names name rest;
+      same = get_or_append_left names (name ∷ rest) [] a.place w ∙ a.is ∙ sym (first-after names name rest);
+    }
+  where
+    repeats-room : (names : List Text) (name : Text) (rest : List Text) → length names < length (names ++ name ∷ rest)
+    repeats-room [] name rest = omega arith
+    repeats-room (n ∷ ns) name rest = let h = repeats-room ns name rest in omega arith
+
+    first-after : (names : List Text) (name : Text) (rest : List Text) → get_or (names ++ name ∷ rest) (length names) [] ≡ name
+    first-after [] name rest = refl
+    first-after (n ∷ ns) name rest = first-after ns name rest
+
+pub apart-more : (names : List Text) (name : Text) → (Repeats names → ⊥) → list_any (bytes_eq name) names ≡ false → Repeats (names ++ name ∷ []) → ⊥
+apart-more names name apart absent r =
+    let n = length_push names name in
+    let a = r.apart in
+    let w = r.within in
+    let front : r.first < length names = omega arith in
+    let first = get_or_append_left names (name ∷ []) [] r.first front in
+    ⊎_elim
+    (λ l. apart (record { first = r.first; second = r.second; apart = r.apart; within = l; same = sym first ∙ r.same ∙ get_or_append_left names (name ∷ []) [] r.second l }))
+    (λ l.
+    let t = named-at names name r.first front (sym first ∙ r.same ∙ get_or_push names name [] r.second (let e : length names ≡ r.second = omega arith in e)) in
+    let q : true ≡ false = sym t ∙ absent in
+    cc)
+    (cases_lt r.second (length names))
+
+-- ---- the keys of an index
+
+-- these keys are these names, no two the same
+pub record Indexes (keys : List (Bor Text)) (names : List Text) : Type 0 where
+  pub keys_are : texts keys ≡ names
+  pub apart : Repeats names → ⊥
+
+pub not-false : (b : Bool) → not b ≡ false → b ≡ true
+not-false true h = refl
+not-false false h = cc
+
+pub not-true : (b : Bool) → not b ≡ true → b ≡ false
+not-true true h = cc
+not-true false h = refl
+
+-- a key that stands already
+pub found-again : (keys : List (Bor Text)) (names : List Text) (name : Text) (rest : List Text) → Indexes keys names → list_any (named name) keys ≡ true → Repeats (names ++ name ∷ rest)
+found-again keys names name rest known t =
+    among-front names name rest (any-named names name (sym (any-over (bytes_eq name) (λ k. k.now) keys ∙ ap (list_any (bytes_eq name)) known.keys_are) ∙ t))
+
+-- a key more
+pub indexes-more : (keys new : List (Bor Text)) (names : List Text) (key : Bor Text) → new ≡ (if list_any (named key.now) keys then keys else keys ++ key ∷ []) → Indexes keys names → list_any (named key.now) keys ≡ false → Indexes new (names ++ key.now ∷ [])
+indexes-more keys new names key is known absent =
+    let now : new ≡ keys ++ key ∷ [] = is ∙ ap (λ b. if b then keys else keys ++ key ∷ []) absent in
+    record {
+      keys_are = ap texts now ∙ map-append (λ k. k.now) keys (key ∷ []) ∙ ap (λ ns. ns ++ key.now ∷ []) known.keys_are;
+      apart = apart-more names key.now known.apart (sym (any-over (bytes_eq key.now) (λ k. k.now) keys ∙ ap (list_any (bytes_eq key.now)) known.keys_are) ∙ absent);
+    }
+
+pub texts-more : (names : List (Bor Text)) (i : ℕ) (d : Bor Text) → i < length names → texts (take (i + 1) names) ≡ texts (take i names) ++ (get_or names i d).now ∷ []
+texts-more names i d h = ap texts (take_more names i d h) ∙ map-append (λ n. n.now) (take i names) (get_or names i d ∷ [])
+
+-- a list is its front, what stands there, and what follows
+pub texts-around : (names : List (Bor Text)) (i : ℕ) (d : Bor Text) → i < length names → (rest : List Text) × (texts names ≡ texts (take i names) ++ (get_or names i d).now ∷ rest)
+texts-around [] i d h = absurd (omega (arith, h))
+texts-around (n ∷ ns) zero d h = (texts ns, refl)
+texts-around (n ∷ ns) (suc i) d h = let more = texts-around ns i d (omega (arith, h)) in (more.0, ap (λ xs. n.now ∷ xs) more.1)

@@ -1,0 +1,15 @@
+use Rattle.std.proofs.Common.{◌∙◌, ap, sym}
+use Rattle.nft_tree.specs.Tree.{head_tree}
+use Rattle.nft_tree.specs.Parts.{chains_of}
+use Rattle.rule_names.proofs.Bases.{is_base, any-base, is-some-map}
+use Rattle.rule_names.proofs.table.TableNames.has_base_chain.Goals as goal
+
+pub returns-in-None : goal.returns-in-None
+returns-in-None c = ap is_base c.in-None.ensures.found ∙ sym (any-base (chains_of c.args.self.now) c.args.name.now c.chain.ensures.apart)
+
+pub returns-in-Some : goal.returns-in-Some
+returns-in-Some c =
+    c.is_some.ensures
+    ∙ is-some-map head_tree c.in-Some.chain.now.head
+    ∙ ap is_base c.in-Some.ensures.found
+    ∙ sym (any-base (chains_of c.args.self.now) c.args.name.now c.chain.ensures.apart)

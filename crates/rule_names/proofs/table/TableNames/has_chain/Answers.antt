@@ -1,0 +1,16 @@
+use Rattle.std.proofs.Common.{◌∙◌, ap}
+use Rattle.std.specs.Prelude.{is_some}
+use Rattle.std.specs.List.{list_any}
+use Rattle.std.specs.Str.{bytes_eq}
+use Rattle.nft_tree.specs.Tree.{table_tree}
+use Rattle.nft_tree.specs.Parts.{chains_of}
+use Rattle.rule_names.specs.Names.{chain_named}
+use Rattle.rule_names.proofs.Places.{any-found}
+use Rattle.rule_names.proofs.table.TableNames.has_chain.Goals as goal
+
+pub returns : goal.returns
+returns c =
+    c.contains.ensures
+    ∙ ap (list_any (bytes_eq c.args.name.now)) c.self.invariant.chain_names_are
+    ∙ any-found (λ x. x.name) c.args.name.now (chains_of (table_tree c.self.inside.table.now))
+    ∙ ap (λ t. is_some (chain_named t c.args.name.now)) c.self.view_is

@@ -1,0 +1,138 @@
+//! What a table jumps or goes to.
+ghost use Rattle.std.specs.Prelude.{◌≡◌, flat_map, map};
+ghost use Rattle.std.specs.List.{list_any};
+ghost use Rattle.nft_tree.specs.Tree.{item_tree, map_ref_tree, pair_tree, rule_tree, statement, verdict_tree};
+ghost use Rattle.rule_names.specs.Names.{data_target, item_targets, jumps_nowhere, jumps_to_base, map_ref_targets, one_or_none, pair_targets, rule_targets, statement_targets, target_of, targets_of};
+ghost use Rattle.rule_names.specs.steps.Questions.{answer};
+
+use crate::table::TableNames;
+use nft_tree::{
+    Data, DestinationTarget, Item, Look, MapDecl, MapRef, Nat, Operand, Pair, Rule, SourceTarget,
+    Stmt, Verdict,
+};
+
+/// What is asked of each name that a table jumps or goes to.
+#[derive(Clone, Copy)]
+enum Question {
+    /// Whether it is the name of no chain of the table.
+    IsNoChain,
+    /// Whether it is the name of a base chain.
+    IsBase,
+}
+
+impl Question {
+    fn answer(self, names: &TableNames, name: &[u8]) -> bool
+        ensures { result ≡ answer self names.now name.now }
+    {
+        match self {
+            Question::IsNoChain => !names.has_chain(name),
+            Question::IsBase => names.has_base_chain(name),
+        }
+    }
+
+    fn of_verdict(self, names: &TableNames, verdict: &Verdict) -> bool
+        ensures { result ≡ list_any (answer self names.now) (one_or_none (target_of (verdict_tree verdict.now))) }
+    {
+        match verdict {
+            Verdict::Jump(name) | Verdict::Goto(name) => self.answer(names, name),
+            _ => false,
+        }
+    }
+
+    fn of_pair(self, names: &TableNames, pair: &Pair) -> bool
+        ensures { result ≡ list_any (answer self names.now) (one_or_none (data_target (pair_tree pair.now).value)) }
+    {
+        match &pair.value {
+            Data::Verdict(verdict) => self.of_verdict(names, verdict),
+            Data::Value(_) => false,
+        }
+    }
+
+    fn of_pairs(self, names: &TableNames, pairs: &[Pair]) -> bool
+        ensures { result ≡ list_any (answer self names.now) (pair_targets (map pair_tree pairs.now)) }
+    {
+        pairs.iter().any(|pair| self.of_pair(names, pair))
+    }
+
+    /// Of the data of a map without a name.
+    fn of_map_ref(self, names: &TableNames, map: &MapRef) -> bool
+        ensures { result ≡ list_any (answer self names.now) (map_ref_targets (map_ref_tree map.now)) }
+    {
+        match map {
+            MapRef::Named(_) => false,
+            MapRef::Anonymous(pairs) => self.of_pairs(names, pairs),
+        }
+    }
+
+    fn of_statement(self, names: &TableNames, stmt: &Stmt) -> bool
+        ensures { result ≡ list_any (answer self names.now) (statement_targets (statement stmt.now)) }
+    {
+        match stmt {
+            Stmt::Verdict(verdict) => self.of_verdict(names, verdict),
+            Stmt::VerdictMap(_, map)
+            | Stmt::SetMark(_, Operand::Look(Look { map, .. }))
+            | Stmt::Nat(
+                Nat::Source(SourceTarget::Look(Look { map, .. }))
+                | Nat::Destination(DestinationTarget::Look(Look { map, .. })),
+            ) => self.of_map_ref(names, map),
+            _ => false,
+        }
+    }
+
+    fn of_rule(self, names: &TableNames, rule: &Rule) -> bool
+        ensures { result ≡ list_any (answer self names.now) (rule_targets (rule_tree rule.now)) }
+    {
+        rule.statements
+            .iter()
+            .any(|stmt| self.of_statement(names, stmt))
+    }
+
+    fn of_rules(self, names: &TableNames, rules: &[Rule]) -> bool
+        ensures { result ≡ list_any (answer self names.now) (flat_map rule_targets (map rule_tree rules.now)) }
+    {
+        rules.iter().any(|rule| self.of_rule(names, rule))
+    }
+
+    /// Of the rules of a chain, or of the data of a map, whether a rule uses it or not.
+    fn of_item(self, names: &TableNames, item: &Item) -> bool
+        ensures { result ≡ list_any (answer self names.now) (item_targets (item_tree item.now)) }
+    {
+        match item {
+            Item::Chain(chain) => self.of_rules(names, &chain.rules),
+            Item::Map(
+                MapDecl {
+                    elements: Some(pairs),
+                    ..
+                },
+            ) => self.of_pairs(names, pairs),
+            _ => false,
+        }
+    }
+
+    fn of_table(self, names: &TableNames) -> bool
+        ensures { result ≡ list_any (answer self names.now) (targets_of names.now) }
+    {
+        names
+            .table()
+            .items
+            .iter()
+            .any(|item| self.of_item(names, item))
+    }
+}
+
+/// Whether a table jumps or goes to a name that is no chain of it, in a rule or in the data of a
+/// map.
+pub fn jumps_nowhere(names: &[TableNames]) -> bool
+    ensures { result ≡ list_any jumps_nowhere names.now }
+{
+    names
+        .iter()
+        .any(|table| Question::IsNoChain.of_table(table))
+}
+
+/// Whether a table jumps or goes to a base chain, in a rule or in the data of a map.
+pub fn jumps_to_base(names: &[TableNames]) -> bool
+    ensures { result ≡ list_any jumps_to_base names.now }
+{
+    names.iter().any(|table| Question::IsBase.of_table(table))
+}

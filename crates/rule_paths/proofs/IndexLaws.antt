@@ -1,0 +1,271 @@
+-- Names, their places, and the graph of a table by number.
+use Rattle.std.proofs.Common.{◌≡◌, ◌⊎◌, ℕ, zero, suc, ◌+◌, ◌-◌, ◌<◌, List, [], ◌∷◌, ◌++◌, Some, None, Bool, true, false, cond, length, get_or, map, sym, refl, ap, subst, ◌∙◌, inl, inr, ⊎_elim, arith}
+use Rattle.std.specs.Prelude.{find}
+use Rattle.std.specs.Option.{option_map}
+use Rattle.std.specs.Str.{bytes_eq}
+use Rattle.std.specs.Cmp.Lexicographic.{same_text}
+use Rattle.std.proofs.lemmas.Bool.{cases_lt}
+use Rattle.std.proofs.lemmas.List.{length-map, length-append, get_or_append_left, get_or-append-add, get_or_default}
+use Rattle.nft_tree.specs.declared.selector.ValueType.TheVariants as value_types
+use Rattle.nft_tree.specs.declared.set.TypeOrVerdict.TheVariants as data_types
+use Rattle.nft_tree.specs.declared.set.MapType.TheVariants as map_types
+use Rattle.nft_tree.specs.Tree.{Text, ChainTree, MapTree, TableTree}
+use Rattle.nft_tree.specs.Parts.{chains_of, maps_of}
+use Rattle.rule_names.specs.Names.{Repeats, place_in, chain_names, map_names}
+use Rattle.chain_graph.specs.Graph.{chain}
+use Rattle.chain_graph.specs.Nodes.{node_at}
+use Rattle.chain_graph.proofs.ListLaws.{get_or-map}
+use Rattle.rule_paths.specs.Paths.{Caller, a_chain, a_map, chain_node, map_node, node_of}
+use Rattle.rule_paths.specs.steps.Numbers.{numbered, IsEmptyNode, StandsFor}
+use Rattle.rule_paths.specs.steps.Index.{place_or, chain_count, map_count, index_of, chain_at, map_at, nothing_there, index_graph}
+
+-- ---- names
+
+pub bool-cases : (b : Bool) → (b ≡ true) ⊎ (b ≡ false)
+bool-cases true = inl refl
+bool-cases false = inr refl
+
+pub text-refl : (xs : Text) → bytes_eq xs xs ≡ true
+text-refl [] = refl
+text-refl (x ∷ xs) = grind (arith, text-refl xs)
+
+module _ {A : Type 0} (name_of : A → Text) where
+  -- what stands first under a name
+  pub record Found (xs : List A) (name : Text) : Type 0 where
+    pub place : ℕ
+    pub item : A
+    pub within : place < length xs
+    pub is : get_or xs place item ≡ item
+    pub named : name_of item ≡ name
+    pub at : place_in name (map name_of xs) ≡ Some place
+    pub finds : find (λ x. bytes_eq (name_of x) name) xs ≡ Some item
+
+  pub record Missing (xs : List A) (name : Text) : Type 0 where
+    pub at : place_in name (map name_of xs) ≡ None
+    pub finds : find (λ x. bytes_eq (name_of x) name) xs ≡ None
+
+  pub found-first : (x : A) (xs : List A) (name : Text) → bytes_eq (name_of x) name ≡ true → Found (x ∷ xs) name
+  found-first x xs name t = record {
+    place = zero;
+    item = x;
+    within = omega arith;
+    is = refl;
+    named = same_text (name_of x) name (sym t);
+    at = ap (λ b. cond b (Some zero) (option_map suc (place_in name (map name_of xs)))) t;
+    finds = ap (λ b. cond b (Some x) (find (λ y. bytes_eq (name_of y) name) xs)) t;
+  }
+
+  pub found-later : (x : A) (xs : List A) (name : Text) → bytes_eq (name_of x) name ≡ false → Found xs name → Found (x ∷ xs) name
+  found-later x xs name f r = let l = r.within in record {
+    place = suc r.place;
+    item = r.item;
+    within = omega arith;
+    is = r.is;
+    named = r.named;
+    at = ap (λ b. cond b (Some zero) (option_map suc (place_in name (map name_of xs)))) f ∙ ap (option_map suc) r.at;
+    finds = ap (λ b. cond b (Some x) (find (λ y. bytes_eq (name_of y) name) xs)) f ∙ r.finds;
+  }
+
+  pub missing-later : (x : A) (xs : List A) (name : Text) → bytes_eq (name_of x) name ≡ false → Missing xs name → Missing (x ∷ xs) name
+  missing-later x xs name f r = record {
+    at = ap (λ b. cond b (Some zero) (option_map suc (place_in name (map name_of xs)))) f ∙ ap (option_map suc) r.at;
+    finds = ap (λ b. cond b (Some x) (find (λ y. bytes_eq (name_of y) name) xs)) f ∙ r.finds;
+  }
+
+  pub look : (xs : List A) (name : Text) → Found xs name ⊎ Missing xs name
+  look [] name = inr (record { at = refl; finds = refl })
+  look (x ∷ xs) name = ⊎_elim
+      (λ t. inl (found-first x xs name t))
+      (λ f. ⊎_elim (λ r. inl (found-later x xs name f r)) (λ r. inr (missing-later x xs name f r)) (look xs name))
+      (bool-cases (bytes_eq (name_of x) name))
+
+  pub name-at : (xs : List A) (i : ℕ) (x : A) → i < length xs → get_or xs i x ≡ x → get_or (map name_of xs) i [] ≡ name_of x
+  name-at xs i x h e = get_or_default (map name_of xs) i [] (name_of x) (let n = length-map xs name_of in omega arith) ∙ get_or-map name_of xs i x ∙ ap name_of e
+
+  -- a name that stands is found
+  pub not-missing-at : (y : A) (xs : List A) (name : Text) (i : ℕ) (x : A) → i < length (y ∷ xs) → get_or (y ∷ xs) i x ≡ x → name_of x ≡ name → bytes_eq (name_of y) name ≡ false → ((j : ℕ) → j < length xs → get_or xs j x ≡ x → Found xs name) → Found (y ∷ xs) name
+  not-missing-at y xs name zero x h e named f later = let t : bytes_eq (name_of y) name ≡ true = ap (λ n. bytes_eq n name) (ap name_of e ∙ named) ∙ text-refl name in let q : true ≡ false = sym t ∙ f in cc
+  not-missing-at y xs name (suc i) x h e named f later = found-later y xs name f (later i (omega (arith, h)) e)
+
+  pub found-at : (xs : List A) (name : Text) (i : ℕ) (x : A) → i < length xs → get_or xs i x ≡ x → name_of x ≡ name → Found xs name
+  found-at [] name i x h e named = absurd (omega (arith, h))
+  found-at (y ∷ xs) name i x h e named = ⊎_elim
+      (λ t. found-first y xs name t)
+      (λ f. not-missing-at y xs name i x h e named f (λ j l k. found-at xs name j x l k named))
+      (bool-cases (bytes_eq (name_of y) name))
+
+  -- where no name stands twice, each is at its own place
+  pub own-place : (xs : List A) → (Repeats (map name_of xs) → ⊥) → (i : ℕ) (x : A) → i < length xs → get_or xs i x ≡ x → place_in (name_of x) (map name_of xs) ≡ Some i
+  own-place xs apart i x h e =
+      let r = found-at xs (name_of x) i x h e refl in
+      let n = length-map xs name_of in
+      let l = r.within in
+      let same : get_or (map name_of xs) r.place [] ≡ get_or (map name_of xs) i [] = name-at xs r.place r.item r.within r.is ∙ r.named ∙ sym (name-at xs i x h e) in
+      let is : r.place ≡ i = ⊎_elim
+      (λ l. absurd (apart (record { first = r.place; second = i; apart = l; within = omega arith; same = same })))
+      (λ l. ⊎_elim
+      (λ m. absurd (apart (record { first = i; second = r.place; apart = m; within = omega arith; same = sym same })))
+      (λ m. omega (arith, l, m))
+      (cases_lt i r.place))
+      (cases_lt r.place i) in
+      r.at ∙ ap Some is
+
+-- ---- the graph
+
+pub no-chain : ChainTree
+no-chain = record { name = []; notes = []; head = None; rules = [] }
+
+pub no-map : MapTree
+no-map = record { name = []; types = map_types.Types value_types.Address data_types.Verdict; flags = None; size = None; auto_merge = false; comment = None; elements = None }
+
+pub nothing-there : (k : ℕ) → IsEmptyNode (get_or nothing_there k (chain []))
+nothing-there zero = refl
+nothing-there (suc zero) = refl
+nothing-there (suc (suc k)) = refl
+
+module _ (t : TableTree) where
+  pub graph-chain : (i : ℕ) (c : ChainTree) → i < chain_count t → get_or (chains_of t) i c ≡ c → node_at (index_graph t) i ≡ chain_at t c
+  graph-chain i c h e =
+      let n = length-map (chains_of t) (chain_at t) in
+      get_or_append_left (map (chain_at t) (chains_of t)) (map (map_at t) (maps_of t) ++ nothing_there) (chain []) i (omega arith)
+      ∙ get_or_default (map (chain_at t) (chains_of t)) i (chain []) (chain_at t c) (omega arith)
+      ∙ get_or-map (chain_at t) (chains_of t) i c ∙ ap (chain_at t) e
+
+  pub graph-rest : (k : ℕ) → node_at (index_graph t) (chain_count t + k) ≡ get_or (map (map_at t) (maps_of t) ++ nothing_there) k (chain [])
+  graph-rest k =
+      ap (λ n. node_at (index_graph t) (n + k)) (sym (length-map (chains_of t) (chain_at t)))
+      ∙ get_or-append-add (map (chain_at t) (chains_of t)) (map (map_at t) (maps_of t) ++ nothing_there) k (chain [])
+
+  pub graph-map : (i : ℕ) (m : MapTree) → i < map_count t → get_or (maps_of t) i m ≡ m → node_at (index_graph t) (chain_count t + i) ≡ map_at t m
+  graph-map i m h e =
+      let n = length-map (maps_of t) (map_at t) in
+      graph-rest i
+      ∙ get_or_append_left (map (map_at t) (maps_of t)) nothing_there (chain []) i (omega arith)
+      ∙ get_or_default (map (map_at t) (maps_of t)) i (chain []) (map_at t m) (omega arith)
+      ∙ get_or-map (map_at t) (maps_of t) i m ∙ ap (map_at t) e
+
+  pub graph-none : (k : ℕ) → node_at (index_graph t) (chain_count t + (map_count t + k)) ≡ get_or nothing_there k (chain [])
+  graph-none k =
+      graph-rest (map_count t + k)
+      ∙ ap (λ n. get_or (map (map_at t) (maps_of t) ++ nothing_there) (n + k) (chain [])) (sym (length-map (maps_of t) (map_at t)))
+      ∙ get_or-append-add (map (map_at t) (maps_of t)) nothing_there k (chain [])
+
+  pub graph-long : length (index_graph t) ≡ chain_count t + map_count t + 2
+  graph-long =
+      let n = length-map (chains_of t) (chain_at t) in
+      let m = length-map (maps_of t) (map_at t) in
+      let l = length-append (map (chain_at t) (chains_of t)) (map (map_at t) (maps_of t) ++ nothing_there) in
+      let k = length-append (map (map_at t) (maps_of t)) nothing_there in
+      omega arith
+
+  -- ---- names to numbers
+
+  abbrev pub FoundChain : Text → Type 0
+  FoundChain name = Found (λ (c : ChainTree). c.name) (chains_of t) name
+
+  abbrev pub FoundMap : Text → Type 0
+  FoundMap name = Found (λ (m : MapTree). m.name) (maps_of t) name
+
+  pub chain-found : (name : Text) (r : FoundChain name) → index_of t (a_chain name) ≡ r.place
+  chain-found name r = ap (place_or 0 (chain_count t + map_count t)) r.at ∙ omega arith
+
+  pub chain-missing : (name : Text) → place_in name (chain_names t) ≡ None → index_of t (a_chain name) ≡ chain_count t + map_count t
+  chain-missing name e = ap (place_or 0 (chain_count t + map_count t)) e
+
+  pub map-found : (name : Text) (r : FoundMap name) → index_of t (a_map name) ≡ chain_count t + r.place
+  map-found name r = ap (place_or (chain_count t) (chain_count t + map_count t + 1)) r.at
+
+  pub map-missing : (name : Text) → place_in name (map_names t) ≡ None → index_of t (a_map name) ≡ chain_count t + map_count t + 1
+  map-missing name e = ap (place_or (chain_count t) (chain_count t + map_count t + 1)) e
+
+  pub look-chain : (name : Text) → FoundChain name ⊎ Missing (λ (c : ChainTree). c.name) (chains_of t) name
+  look-chain name = look (λ (c : ChainTree). c.name) (chains_of t) name
+
+  pub look-map : (name : Text) → FoundMap name ⊎ Missing (λ (m : MapTree). m.name) (maps_of t) name
+  look-map name = look (λ (m : MapTree). m.name) (maps_of t) name
+
+  pub node-of : (a : Caller) → node_at (index_graph t) (index_of t a) ≡ numbered (index_of t) (node_of t a)
+  node-of (a_chain name) = ⊎_elim
+      (λ r. ap (node_at (index_graph t)) (chain-found name r) ∙ graph-chain r.place r.item r.within r.is ∙ ap (λ o. numbered (index_of t) (chain_node o)) (sym r.finds))
+      (λ r. ap (node_at (index_graph t)) (chain-missing name r.at ∙ omega arith) ∙ graph-none 0 ∙ ap (λ o. numbered (index_of t) (chain_node o)) (sym r.finds))
+      (look-chain name)
+  node-of (a_map name) = ⊎_elim
+      (λ r. ap (node_at (index_graph t)) (map-found name r) ∙ graph-map r.place r.item r.within r.is ∙ ap (λ o. numbered (index_of t) (map_node o)) (sym r.finds))
+      (λ r. ap (node_at (index_graph t)) (map-missing name r.at ∙ omega arith) ∙ graph-none 1 ∙ ap (λ o. numbered (index_of t) (map_node o)) (sym r.finds))
+      (look-map name)
+
+  pub inside : (a : Caller) → index_of t a < length (index_graph t)
+  inside (a_chain name) = ⊎_elim
+      (λ r. let e = chain-found name r in let l = r.within in let n = graph-long in omega arith)
+      (λ r. let e = chain-missing name r.at in let n = graph-long in omega arith)
+      (look-chain name)
+  inside (a_map name) = ⊎_elim
+      (λ r. let e = map-found name r in let l = r.within in let n = graph-long in omega arith)
+      (λ r. let e = map-missing name r.at in let n = graph-long in omega arith)
+      (look-map name)
+
+  pub none-chain : (name : Text) → Missing (λ (c : ChainTree). c.name) (chains_of t) name → IsEmptyNode (node_of t (a_chain name))
+  none-chain name r = subst (λ o. IsEmptyNode (chain_node o)) (sym r.finds) refl
+
+  pub none-map : (name : Text) → Missing (λ (m : MapTree). m.name) (maps_of t) name → IsEmptyNode (node_of t (a_map name))
+  none-map name r = subst (λ o. IsEmptyNode (map_node o)) (sym r.finds) refl
+
+  pub same-name : {A : Type 0} (name_of : A → Text) (xs : List A) (x y : Text) (r : Found name_of xs x) (q : Found name_of xs y) → r.place ≡ q.place → x ≡ y
+  same-name name_of xs x y r q e = sym r.named ∙ sym (name-at name_of xs r.place r.item r.within r.is) ∙ ap (λ k. get_or (map name_of xs) k []) e ∙ name-at name_of xs q.place q.item q.within q.is ∙ q.named
+
+  pub apart : (a b : Caller) → index_of t a ≡ index_of t b → (a ≡ b) ⊎ IsEmptyNode (node_of t a)
+  apart (a_chain x) (a_chain y) e = ⊎_elim
+      (λ r. ⊎_elim
+      (λ q. inl (ap a_chain (same-name (λ (c : ChainTree). c.name) (chains_of t) x y r q (sym (chain-found x r) ∙ e ∙ chain-found y q))))
+      (λ q. let p = chain-found x r in let l = r.within in let k = chain-missing y q.at in absurd (omega (arith, e)))
+      (look-chain y))
+      (λ r. inr (none-chain x r))
+      (look-chain x)
+  apart (a_chain x) (a_map y) e = ⊎_elim
+      (λ r. ⊎_elim
+      (λ q. let p = chain-found x r in let l = r.within in let k = map-found y q in absurd (omega (arith, e)))
+      (λ q. let p = chain-found x r in let l = r.within in let k = map-missing y q.at in absurd (omega (arith, e)))
+      (look-map y))
+      (λ r. inr (none-chain x r))
+      (look-chain x)
+  apart (a_map x) (a_chain y) e = ⊎_elim
+      (λ r. ⊎_elim
+      (λ q. let p = map-found x r in let l = q.within in let k = chain-found y q in absurd (omega (arith, e)))
+      (λ q. let p = map-found x r in let l = r.within in let k = chain-missing y q.at in absurd (omega (arith, e)))
+      (look-chain y))
+      (λ r. inr (none-map x r))
+      (look-map x)
+  apart (a_map x) (a_map y) e = ⊎_elim
+      (λ r. ⊎_elim
+      (λ q. let p = map-found x r in let k = map-found y q in inl (ap a_map (same-name (λ (m : MapTree). m.name) (maps_of t) x y r q (omega (arith, e)))))
+      (λ q. let p = map-found x r in let l = r.within in let k = map-missing y q.at in absurd (omega (arith, e)))
+      (look-map y))
+      (λ r. inr (none-map x r))
+      (look-map x)
+
+  module _ (chains_apart : Repeats (chain_names t) → ⊥) (maps_apart : Repeats (map_names t) → ⊥) where
+    -- the place of a chain is its number
+    pub chain-number : (i : ℕ) (c : ChainTree) → i < chain_count t → get_or (chains_of t) i c ≡ c → index_of t (a_chain c.name) ≡ i
+    chain-number i c h e = ap (place_or 0 (chain_count t + map_count t)) (own-place (λ (c : ChainTree). c.name) (chains_of t) chains_apart i c h e) ∙ omega arith
+
+    pub map-number : (i : ℕ) (m : MapTree) → i < map_count t → get_or (maps_of t) i m ≡ m → index_of t (a_map m.name) ≡ chain_count t + i
+    map-number i m h e = ap (place_or (chain_count t) (chain_count t + map_count t + 1)) (own-place (λ (m : MapTree). m.name) (maps_of t) maps_apart i m h e)
+
+    pub back-rest : (k : ℕ) → ((a : Caller) × (index_of t a ≡ chain_count t + k)) ⊎ IsEmptyNode (node_at (index_graph t) (chain_count t + k))
+    back-rest k = ⊎_elim
+        (λ l. let m : MapTree = get_or (maps_of t) k no-map in
+        inl (a_map m.name, map-number k m l (get_or_default (maps_of t) k m no-map l)))
+        (λ l. let is : chain_count t + (map_count t + (k - map_count t)) ≡ chain_count t + k = omega (arith, l) in
+        inr (subst (λ i. IsEmptyNode (node_at (index_graph t) i)) is (subst IsEmptyNode (sym (graph-none (k - map_count t))) (nothing-there (k - map_count t)))))
+        (cases_lt k (map_count t))
+
+    pub back : (i : ℕ) → ((a : Caller) × (index_of t a ≡ i)) ⊎ IsEmptyNode (node_at (index_graph t) i)
+    back i = ⊎_elim
+        (λ l. let c : ChainTree = get_or (chains_of t) i no-chain in
+        inl (a_chain c.name, chain-number i c l (get_or_default (chains_of t) i c no-chain l)))
+        (λ l. let is : chain_count t + (i - chain_count t) ≡ i = omega (arith, l) in
+        subst (λ k. ((a : Caller) × (index_of t a ≡ k)) ⊎ IsEmptyNode (node_at (index_graph t) k)) is (back-rest (i - chain_count t)))
+        (cases_lt i (chain_count t))
+
+    pub stands : StandsFor (node_of t) (index_of t) (index_graph t)
+    stands = record { node = node-of; inside = inside; back = back; apart = apart }

@@ -1,0 +1,221 @@
+-- Paths, costs and marks by number and by what the nodes are known by.
+use Rattle.std.proofs.Common.{◌≡◌, ◌⊎◌, ℕ, ◌+◌, ◌<◌, ◌≤◌, max, List, [], ◌∷◌, ◌++◌, Bool, true, false, length, get_or, map, sym, refl, ap, ap₂, subst, ◌∙◌, inl, inr, ⊎_elim, arith}
+use Rattle.std.specs.Prelude.{Contains, flat_map}
+use Rattle.std.proofs.lemmas.List.{map-append}
+use Rattle.chain_graph.specs.Graph.{Call, NodeTree, chain, verdict_map, itself, calls_in, IsPath, jumps, HasCycle, HasPathOver, greatest, chain_cost, node_cost, Reaches}
+use Rattle.chain_graph.specs.Nodes.{Graph, Calls, calls_of, node_at, InRange}
+use Rattle.chain_graph.specs.Known.{stopped, IsCost, IsDepth, LeadsOn}
+use Rattle.chain_graph.proofs.ListLaws.{Contains-map, Contains-unmap}
+use Rattle.rule_paths.specs.steps.Numbers.{numbered_call, numbered, IsEmptyNode, StandsFor}
+
+-- ---- nodes
+
+pub map-flat : {X Y : Type 0} (f : X → Y) (xss : List (List X)) → map f (flat_map itself xss) ≡ flat_map itself (map (map f) xss)
+map-flat f [] = refl
+map-flat f (xs ∷ xss) = map-append f xs (flat_map itself xss) ∙ ap (λ ys. map f xs ++ ys) (map-flat f xss)
+
+pub empty-calls : {K : Type 0} (n : NodeTree K) → IsEmptyNode n → calls_in n ≡ []
+empty-calls (chain ss) e = ap (flat_map itself) e
+empty-calls (verdict_map es) e = e
+
+pub empty-cost : {K : Type 0} (f : K → ℕ) (n : NodeTree K) → IsEmptyNode n → node_cost f n ≡ 0
+empty-cost f (chain ss) e = ap (chain_cost f) e
+empty-cost f (verdict_map es) e = ap (greatest f) e
+
+pub none-empty : {K : Type 0} (n : NodeTree K) (e : Call K) → IsEmptyNode n → Contains (calls_in n) e → ⊥
+none-empty n e empty h = let none : Contains [] e = subst (λ es. Contains es e) (empty-calls n empty) h in let l = none.1 in absurd (omega arith)
+
+pub greatest-same : {K : Type 0} (f h : K → ℕ) (es : List (Call K)) → ((a : K) → f a ≡ h a) → greatest f es ≡ greatest h es
+greatest-same f h [] p = refl
+greatest-same f h (e ∷ es) p = ap₂ max (p e.to) (greatest-same f h es p)
+
+pub chain-same : {K : Type 0} (f h : K → ℕ) (ss : List (List (Call K))) → ((a : K) → f a ≡ h a) → chain_cost f ss ≡ chain_cost h ss
+chain-same f h [] p = refl
+chain-same f h (es ∷ ss) p = ap₂ (λ x y. 1 + x + y) (greatest-same f h es p) (chain-same f h ss p)
+
+pub cost-same : {K : Type 0} (f h : K → ℕ) (n : NodeTree K) → ((a : K) → f a ≡ h a) → node_cost f n ≡ node_cost h n
+cost-same f h (chain ss) p = chain-same f h ss p
+cost-same f h (verdict_map es) p = greatest-same f h es p
+
+module _ {K : Type 0} (number : K → ℕ) where
+  pub calls-numbered : (n : NodeTree K) → calls_in (numbered number n) ≡ map (numbered_call number) (calls_in n)
+  calls-numbered (chain ss) = sym (map-flat (numbered_call number) ss)
+  calls-numbered (verdict_map es) = refl
+
+  pub empty-named : (n : NodeTree K) → IsEmptyNode (numbered number n) → IsEmptyNode n
+  empty-named (chain []) e = refl
+  empty-named (chain (s ∷ ss)) e = cc
+  empty-named (verdict_map []) e = refl
+  empty-named (verdict_map (c ∷ es)) e = cc
+
+  pub greatest-numbered : (f : ℕ → ℕ) (es : List (Call K)) → greatest f (map (numbered_call number) es) ≡ greatest (λ a. f (number a)) es
+  greatest-numbered f [] = refl
+  greatest-numbered f (e ∷ es) = ap (max (f (number e.to))) (greatest-numbered f es)
+
+  pub chain-numbered : (f : ℕ → ℕ) (ss : List (List (Call K))) → chain_cost f (map (map (numbered_call number)) ss) ≡ chain_cost (λ a. f (number a)) ss
+  chain-numbered f [] = refl
+  chain-numbered f (es ∷ ss) = ap₂ (λ x y. 1 + x + y) (greatest-numbered f es) (chain-numbered f ss)
+
+  pub cost-numbered : (f : ℕ → ℕ) (n : NodeTree K) → node_cost f (numbered number n) ≡ node_cost (λ a. f (number a)) n
+  cost-numbered f (chain ss) = chain-numbered f ss
+  cost-numbered f (verdict_map es) = greatest-numbered f es
+
+  pub jumps-numbered : (es : List (Call K)) → jumps (map (numbered_call number) es) ≡ jumps es
+  jumps-numbered [] = refl
+  jumps-numbered (e ∷ es) = let rest = jumps-numbered es in omega arith
+
+-- ---- paths
+
+module _ {K : Type 0} (nodes : K → NodeTree K) (number : K → ℕ) (g : Graph) (s : StandsFor nodes number g) where
+  abbrev pub CallsIn : K → Call K → Type 0
+  CallsIn a e = Contains (calls_in (nodes a)) e
+
+  pub calls-at : (a : K) → calls_of g (number a) ≡ map (numbered_call number) (calls_in (nodes a))
+  calls-at a = ap calls_in (s.node a) ∙ calls-numbered number (nodes a)
+
+  pub call-down : (a : K) (e : Call K) → CallsIn a e → Calls g (number a) (numbered_call number e)
+  call-down a e h = subst (λ xs. Contains xs (numbered_call number e)) (sym (calls-at a)) (Contains-map (numbered_call number) (calls_in (nodes a)) e h)
+
+  pub call-up : (a : K) (x : Call ℕ) → Calls g (number a) x → (e : Call K) × CallsIn a e × (numbered_call number e ≡ x)
+  call-up a x h = Contains-unmap (numbered_call number) (calls_in (nodes a)) x (subst (λ xs. Contains xs x) (calls-at a) h)
+
+  pub path-down : (a : K) (es : List (Call K)) (b : K) → IsPath CallsIn a es b → IsPath (Calls g) (number a) (map (numbered_call number) es) (number b)
+  path-down a [] b p = ap number p
+  path-down a (e ∷ es) b p = (call-down a e p.0, path-down e.to es b p.1)
+
+  -- a path by number is one of the nodes
+  pub record Up (a : K) (xs : List (Call ℕ)) (j : ℕ) : Type 0 where
+    pub along : List (Call K)
+    pub to : K
+    pub path : IsPath CallsIn a along to
+    pub ends : number to ≡ j
+    pub same : map (numbered_call number) along ≡ xs
+
+  pub path-up : (a : K) (xs : List (Call ℕ)) (j : ℕ) → IsPath (Calls g) (number a) xs j → Up a xs j
+  path-up a [] j p = record { along = []; to = a; path = refl; ends = p; same = refl }
+  path-up a (x ∷ xs) j p =
+      let c = call-up a x p.0 in
+      let more = path-up c.0.to xs j (subst (λ i. IsPath (Calls g) i xs j) (sym (ap (λ e. e.to) c.2)) p.1) in
+      record { along = c.0 ∷ more.along; to = more.to; path = (c.1, more.path); ends = more.ends; same = ap₂ (λ y ys. y ∷ ys) c.2 more.same }
+
+  -- what calls has a name
+  pub caller : (i : ℕ) (x : Call ℕ) → Calls g i x → (a : K) × (number a ≡ i)
+  caller i x h = ⊎_elim (λ p. p) (λ e. absurd (none-empty (node_at g i) x e h)) (s.back i)
+
+  pub in-range : (n : ℕ) → n ≡ length g → InRange g n
+  in-range n long i x h =
+      let a = caller i x h in
+      let c = call-up a.0 x (subst (λ k. Calls g k x) (sym a.1) h) in
+      let inside = s.inside c.0.to in
+      let is : number c.0.to ≡ x.to = ap (λ e. e.to) c.2 in
+      omega arith
+
+  pub cycle-down : HasCycle CallsIn → HasCycle (Calls g)
+  cycle-down k = record { chain = number k.chain; first = numbered_call number k.first; rest = map (numbered_call number) k.rest; path = path-down k.chain (k.first ∷ k.rest) k.chain k.path }
+
+  pub cycle-up : HasCycle (Calls g) → HasCycle CallsIn
+  cycle-up k =
+      let a = caller k.chain k.first k.path.0 in
+      let c = call-up a.0 k.first (subst (λ i. Calls g i k.first) (sym a.1) k.path.0) in
+      let more = path-up c.0.to k.rest k.chain (subst (λ i. IsPath (Calls g) i k.rest k.chain) (sym (ap (λ e. e.to) c.2)) k.path.1) in
+      let same : a.0 ≡ more.to = ⊎_elim (λ e. e) (λ e. absurd (none-empty (nodes a.0) c.0 e c.1)) (s.apart a.0 more.to (a.1 ∙ sym more.ends)) in
+      record { chain = a.0; first = c.0; rest = more.along; path = (c.1, subst (IsPath CallsIn c.0.to more.along) (sym same) more.path) }
+
+  -- ---- depth
+
+  pub deep-up-at : (i : ℕ) (xs : List (Call ℕ)) (j : ℕ) → IsPath (Calls g) i xs j → 17 ≤ jumps xs → HasPathOver 16 CallsIn
+  deep-up-at i [] j p over = absurd (omega (arith, over))
+  deep-up-at i (x ∷ xs) j p over =
+      let a = caller i x p.0 in
+      let up = path-up a.0 (x ∷ xs) j (subst (λ k. IsPath (Calls g) k (x ∷ xs) j) (sym a.1) p) in
+      let same = sym (jumps-numbered number up.along) ∙ ap jumps up.same in
+      record { from = a.0; to = up.to; along = up.along; path = up.path; over = omega (arith, over, same) }
+
+  pub deep-up : (i depth : ℕ) → IsDepth g i depth → 16 < depth → HasPathOver 16 CallsIn
+  deep-up i depth d over = let more = d.deep in deep-up-at i d.along d.to d.path (omega arith)
+
+  pub deep-down : HasPathOver 16 CallsIn → (i : ℕ) × (i < length g) × ((depth : ℕ) → IsDepth g i depth → 16 < depth)
+  deep-down k = (
+    number k.from,
+    s.inside k.from,
+    λ depth d.
+        let most = d.most (number k.to) (map (numbered_call number) k.along) (path-down k.from k.along k.to k.path) in
+        let same = jumps-numbered number k.along in
+        let over = k.over in
+        omega arith,
+  )
+
+  pub most-up : (a : K) (depth : ℕ) → IsDepth g (number a) depth → (b : K) (es : List (Call K)) → IsPath CallsIn a es b → stopped (jumps es) ≤ depth
+  most-up a depth d b es p =
+      let most = d.most (number b) (map (numbered_call number) es) (path-down a es b p) in
+      let same = jumps-numbered number es in
+      omega arith
+
+  pub deep-path : (a : K) (depth : ℕ) → IsDepth g (number a) depth → (to : K) × (along : List (Call K)) × IsPath CallsIn a along to × (depth ≤ jumps along)
+  deep-path a depth d =
+      let up = path-up a d.along d.to d.path in
+      let same = sym (jumps-numbered number up.along) ∙ ap jumps up.same in
+      let deep = d.deep in
+      (up.to, up.along, up.path, omega arith)
+
+  -- ---- costs
+
+  abbrev pub AreCostsOf : (K → ℕ) → Type 0
+  AreCostsOf f = (a : K) → f a ≡ node_cost f (nodes a)
+
+  pub costs-up : (cost : ℕ → ℕ) → IsCost g cost → AreCostsOf (λ a. cost (number a))
+  costs-up cost is a = is (number a) (s.inside a) ∙ ap (node_cost cost) (s.node a) ∙ cost-numbered number cost (nodes a)
+
+  abbrev pub cost_if : (K → ℕ) → (i : ℕ) → ((a : K) × (number a ≡ i)) ⊎ IsEmptyNode (node_at g i) → ℕ
+  cost_if f i back = ⊎_elim (λ p. f p.0) (λ e. 0) back
+
+  -- what a number costs, if its name costs f
+  pub cost_by : (K → ℕ) → ℕ → ℕ
+  cost_by f i = cost_if f i (s.back i)
+
+  pub cost-shared : (f : K → ℕ) → AreCostsOf f → (a b : K) → number a ≡ number b → f a ≡ f b
+  cost-shared f are a b e = ⊎_elim
+      (λ same. ap f same)
+      (λ empty. ⊎_elim (λ same. sym (ap f same)) (λ empty'. are a ∙ empty-cost f (nodes a) empty ∙ sym (are b ∙ empty-cost f (nodes b) empty')) (s.apart b a (sym e)))
+      (s.apart a b e)
+
+  pub cost-none : (f : K → ℕ) → AreCostsOf f → (a : K) → IsEmptyNode (node_at g (number a)) → f a ≡ 0
+  cost-none f are a empty = are a ∙ empty-cost f (nodes a) (empty-named number (nodes a) (subst IsEmptyNode (s.node a) empty))
+
+  pub cost-if-named : (f : K → ℕ) → AreCostsOf f → (a : K) (back : ((b : K) × (number b ≡ number a)) ⊎ IsEmptyNode (node_at g (number a))) → cost_if f (number a) back ≡ f a
+  cost-if-named f are a (inl p) = cost-shared f are p.0 a p.1
+  cost-if-named f are a (inr e) = sym (cost-none f are a e)
+
+  pub cost-if-empty : (f : K → ℕ) → AreCostsOf f → (i : ℕ) → IsEmptyNode (node_at g i) → (back : ((b : K) × (number b ≡ i)) ⊎ IsEmptyNode (node_at g i)) → cost_if f i back ≡ 0
+  cost-if-empty f are i empty (inl p) = cost-none f are p.0 (subst (λ k. IsEmptyNode (node_at g k)) (sym p.1) empty)
+  cost-if-empty f are i empty (inr e) = refl
+
+  pub cost-named : (f : K → ℕ) → AreCostsOf f → (a : K) → cost_by f (number a) ≡ f a
+  unfolding cost_by
+  cost-named f are a = cost-if-named f are a (s.back (number a))
+
+  pub cost-empty : (f : K → ℕ) → AreCostsOf f → (i : ℕ) → IsEmptyNode (node_at g i) → cost_by f i ≡ 0
+  unfolding cost_by
+  cost-empty f are i empty = cost-if-empty f are i empty (s.back i)
+
+  pub cost-numbered-at : (f : K → ℕ) → AreCostsOf f → (a : K) → cost_by f (number a) ≡ node_cost (cost_by f) (node_at g (number a))
+  cost-numbered-at f are a =
+      cost-named f are a ∙ are a ∙ cost-same f (λ b. cost_by f (number b)) (nodes a) (λ b. sym (cost-named f are b))
+      ∙ sym (cost-numbered number (cost_by f) (nodes a)) ∙ ap (node_cost (cost_by f)) (sym (s.node a))
+
+  pub costs-down : (f : K → ℕ) → AreCostsOf f → IsCost g (cost_by f)
+  costs-down f are i h = ⊎_elim
+      (λ p. subst (λ k. cost_by f k ≡ node_cost (cost_by f) (node_at g k)) p.1 (cost-numbered-at f are p.0))
+      (λ e. cost-empty f are i e ∙ sym (empty-cost (cost_by f) (node_at g i) e))
+      (s.back i)
+
+  -- ---- marks
+
+  module _ (marked : List Bool) (has : K → Bool) (mark : (a : K) → get_or marked (number a) false ≡ has a) where
+    pub leads-down : (a : K) → Reaches CallsIn (λ b. has b ≡ true) a → LeadsOn g marked (number a)
+    leads-down a r = record { to = number r.to; along = map (numbered_call number) r.along; path = path-down a r.along r.to r.path; good = mark r.to ∙ r.good }
+
+    pub leads-up : (a : K) → LeadsOn g marked (number a) → Reaches CallsIn (λ b. has b ≡ true) a
+    leads-up a l =
+        let up = path-up a l.along l.to l.path in
+        record { to = up.to; along = up.along; path = up.path; good = sym (mark up.to) ∙ ap (λ k. get_or marked k false) up.ends ∙ l.good }

@@ -1,0 +1,264 @@
+-- From what is found of each table to what is found of all.
+use Rattle.std.proofs.Common.{◌≡◌, ◌⊎◌, ℕ, ◌+◌, ◌<◌, List, [], ◌∷◌, ◌++◌, Bool, true, false, ◌||◌, length, get_or, map, take, sym, refl, ap, ap₂, subst, ◌∙◌, inl, inr, ⊎_elim, arith, Vec, Global, ltb-true, lt-ltb}
+use Rattle.std.specs.Prelude.{Contains, IsTrue, ◌↔◌, ◌&&◌, sum_by, if◌then◌else◌, nat_eq, nat_lt}
+use Rattle.std.specs.Bool.{Decides}
+use Rattle.std.specs.Cmp.{unsigned_Decides}
+use Rattle.std.specs.Cmp.Lexicographic.{pointwise}
+use Rattle.std.proofs.lemmas.Bool.{cases_lt}
+use Rattle.std.proofs.lemmas.Slice.Eq.{slice_eq-Decides}
+use Rattle.std.proofs.lemmas.List.{take_more, length-map, length_push, get_or_append_left, get_or_push, map-append}
+use Rattle.std.proofs.lemmas.List.Elements.{Contains-push_cases, Contains-push, Contains-append_left}
+use Rattle.std.proofs.lemmas.List.Sums.{sum_by_push}
+use Rattle.nft_tree.specs.Tree.{TableTree}
+use Rattle.chain_graph.specs.Graph.{Call, NodeTree, chain, verdict_map, HasCycle, HasPathOver}
+use Rattle.chain_graph.specs.Nodes.{Graph}
+use Rattle.chain_graph.specs.Known.{stopped, IsCost}
+use Rattle.chain_graph.proofs.ListLaws.{or-split, or-right}
+use Rattle.rule_paths.specs.Paths.{Caller, CallsOf, AreCosts, MOST_COST, table_cost, node_of, Cycles, TooDeep, TooCostly, MisplacedNat, misplaced_source, misplaced_destination}
+use Rattle.rule_paths.specs.Findings.{AreChainCosts, AreChainDepths, numbers_at, AreFindings}
+use Rattle.rule_paths.specs.declared.judging.Findings.{Findings}
+use Rattle.rule_paths.specs.declared.marks.Translation.TheVariants.{Source, Destination}
+use Rattle.rule_paths.specs.declared.table.TableFindings.{TableFindings}
+use Rattle.rule_paths.specs.steps.Numbers.{StandsFor}
+use Rattle.rule_paths.specs.steps.Index.{index_of, index_graph}
+use Rattle.rule_paths.specs.steps.Tables.{MisplacesAs, MisplacesIn, AreTableFindings, HaveCosts, AreFoundSoFar}
+use Rattle.rule_paths.proofs.NumberLaws.{costs-up}
+use Rattle.rule_paths.proofs.IndexLaws.{bool-cases}
+
+-- ---- graphs are compared, so that each has one cost
+
+pub and-first : (a b : Bool) → a && b ≡ true → a ≡ true
+and-first true b h = refl
+and-first false b h = cc
+
+pub and-second : (a b : Bool) → a && b ≡ true → b ≡ true
+and-second true b h = h
+and-second false b h = cc
+
+pub and-both : (a b : Bool) → a ≡ true → b ≡ true → a && b ≡ true
+and-both a b e f = ap₂ (λ x y. x && y) e f
+
+abbrev pub bool_eq : Bool → Bool → Bool
+bool_eq true b = b
+bool_eq false true = false
+bool_eq false false = true
+
+pub bool-decides : (a b : Bool) → Decides (bool_eq a b) (a ≡ b)
+bool-decides true true = (λ h. refl, λ e. refl)
+bool-decides true false = (λ h. cc, λ e. cc)
+bool-decides false true = (λ h. cc, λ e. cc)
+bool-decides false false = (λ h. refl, λ e. refl)
+
+abbrev pub call_eq : Call ℕ → Call ℕ → Bool
+call_eq a b = nat_eq a.to b.to && bool_eq a.is_jump b.is_jump
+
+pub call-decides : (a b : Call ℕ) → Decides (call_eq a b) (a ≡ b)
+call-decides a b = (
+  λ h. ap₂ (λ (to : ℕ) (is_jump : Bool). let call : Call ℕ = record { to = to; is_jump = is_jump } in call)
+      ((unsigned_Decides a.to b.to).0 (and-first (nat_eq a.to b.to) (bool_eq a.is_jump b.is_jump) h))
+      ((bool-decides a.is_jump b.is_jump).0 (and-second (nat_eq a.to b.to) (bool_eq a.is_jump b.is_jump) h)),
+  λ e. and-both (nat_eq a.to b.to) (bool_eq a.is_jump b.is_jump) ((unsigned_Decides a.to b.to).1 (ap (λ c. c.to) e)) ((bool-decides a.is_jump b.is_jump).1 (ap (λ c. c.is_jump) e)),
+)
+
+abbrev pub calls_eq : List (Call ℕ) → List (Call ℕ) → Bool
+calls_eq xs ys = pointwise call_eq xs ys
+
+pub calls-decide : (xs ys : List (Call ℕ)) → Decides (calls_eq xs ys) (xs ≡ ys)
+calls-decide xs ys = slice_eq-Decides call-decides xs ys (calls_eq xs ys) refl
+
+pub statements-decide : (xs ys : List (List (Call ℕ))) → Decides (pointwise calls_eq xs ys) (xs ≡ ys)
+statements-decide xs ys = slice_eq-Decides calls-decide xs ys (pointwise calls_eq xs ys) refl
+
+abbrev pub node_eq : NodeTree ℕ → NodeTree ℕ → Bool
+node_eq (chain xs) (chain ys) = pointwise calls_eq xs ys
+node_eq (verdict_map xs) (verdict_map ys) = calls_eq xs ys
+node_eq (chain xs) (verdict_map ys) = false
+node_eq (verdict_map xs) (chain ys) = false
+
+pub node-decides : (a b : NodeTree ℕ) → Decides (node_eq a b) (a ≡ b)
+node-decides (chain xs) (chain ys) = (λ h. ap chain ((statements-decide xs ys).0 h), λ e. (statements-decide xs ys).1 (cc))
+node-decides (verdict_map xs) (verdict_map ys) = (λ h. ap verdict_map ((calls-decide xs ys).0 h), λ e. (calls-decide xs ys).1 (cc))
+node-decides (chain xs) (verdict_map ys) = (λ h. cc, λ e. cc)
+node-decides (verdict_map xs) (chain ys) = (λ h. cc, λ e. cc)
+
+abbrev pub graph_eq : Graph → Graph → Bool
+graph_eq g h = pointwise node_eq g h
+
+pub graph-decides : (g h : Graph) → Decides (graph_eq g h) (g ≡ h)
+graph-decides g h = slice_eq-Decides node-decides g h (graph_eq g h) refl
+
+-- ---- costs of all tables
+
+pub no-costs : HaveCosts []
+no-costs = record { costs = λ g i. 0; are = λ t h. let l = h.1 in absurd (omega arith); stand = λ t h. let l = h.1 in absurd (omega arith) }
+
+abbrev pub with_graph : (Graph → ℕ → ℕ) → Graph → (ℕ → ℕ) → Graph → ℕ → ℕ
+with_graph costs g cost h = if graph_eq h g then cost else costs h
+
+pub costs-more : (ts : List TableTree) (t : TableTree) → HaveCosts ts → StandsFor (node_of t) (index_of t) (index_graph t) → (cost : ℕ → ℕ) → IsCost (index_graph t) cost → HaveCosts (ts ++ t ∷ [])
+costs-more ts t have stands cost is = record {
+  costs = with_graph have.costs (index_graph t) cost;
+  are = λ u h. ⊎_elim
+      (λ same. subst (IsCost (index_graph u)) (sym (ap (λ b. if b then cost else have.costs (index_graph u)) same)) (subst (λ g. IsCost g cost) (sym ((graph-decides (index_graph u) (index_graph t)).0 same)) is))
+      (λ other. subst (IsCost (index_graph u)) (sym (ap (λ b. if b then cost else have.costs (index_graph u)) other)) (⊎_elim
+      (λ k. have.are u k)
+      (λ e. let q : true ≡ false = sym ((graph-decides (index_graph u) (index_graph t)).1 (ap index_graph (sym e))) ∙ other in cc)
+      (Contains-push_cases ts t u h)))
+      (bool-cases (graph_eq (index_graph u) (index_graph t)));
+  stand = λ u h. ⊎_elim (λ k. have.stand u k) (λ e. subst (λ v. StandsFor (node_of v) (index_of v) (index_graph v)) e stands) (Contains-push_cases ts t u h);
+}
+
+-- what a table costs by name
+pub are-costs : (ts : List TableTree) (have : HaveCosts ts) (t : TableTree) → Contains ts t → AreCosts t (λ a. have.costs (index_graph t) (index_of t a))
+are-costs ts have t h = costs-up (node_of t) (index_of t) (index_graph t) (have.stand t h) (have.costs (index_graph t)) (have.are t h)
+
+-- ---- one table more
+
+pub or-first : (a b : Bool) → a ≡ true → a || b ≡ true
+or-first a b h = ap (λ x. x || b) h
+
+module _ (ts : List TableTree) (t : TableTree) where
+  pub stands-before : (u : TableTree) → Contains ts u → Contains (ts ++ t ∷ []) u
+  stands-before u h = Contains-append_left ts (t ∷ []) u h
+
+  pub acyclic-more : (Cycles ts → ⊥) → (HasCycle (CallsOf t) → ⊥) → Cycles (ts ++ t ∷ []) → ⊥
+  acyclic-more before now k = ⊎_elim
+      (λ h. before (record { table = k.table; stands = h; cycle = k.cycle }))
+      (λ e. now (subst (λ u. HasCycle (CallsOf u)) (sym e) k.cycle))
+      (Contains-push_cases ts t k.table k.stands)
+
+  pub deep-more : (a b : Bool) → (IsTrue a ↔ TooDeep ts) → (IsTrue b ↔ HasPathOver 16 (CallsOf t)) → IsTrue (a || b) ↔ TooDeep (ts ++ t ∷ [])
+  deep-more a b p q = (
+    λ h. ⊎_elim
+        (λ k. let d = p.0 k in record { table = d.table; stands = stands-before d.table d.stands; path = d.path })
+        (λ k. record { table = t; stands = Contains-push ts t; path = q.0 k })
+        (or-split a b h),
+    λ d. ⊎_elim
+        (λ h. or-first a b (p.1 (record { table = d.table; stands = h; path = d.path })))
+        (λ e. or-right a b (q.1 (subst (λ u. HasPathOver 16 (CallsOf u)) (sym e) d.path)))
+        (Contains-push_cases ts t d.table d.stands),
+  )
+
+  pub nat-before : MisplacedNat ts → MisplacedNat (ts ++ t ∷ [])
+  nat-before (misplaced_source u h m) = misplaced_source u (stands-before u h) m
+  nat-before (misplaced_destination u h m) = misplaced_destination u (stands-before u h) m
+
+  pub nat-now : MisplacesIn t → MisplacedNat (ts ++ t ∷ [])
+  nat-now (inl m) = misplaced_source t (Contains-push ts t) m
+  nat-now (inr m) = misplaced_destination t (Contains-push ts t) m
+
+  pub nat-cases : MisplacedNat (ts ++ t ∷ []) → MisplacedNat ts ⊎ MisplacesIn t
+  nat-cases (misplaced_source u h m) = ⊎_elim
+      (λ k. inl (misplaced_source u k m))
+      (λ e. inr (inl (subst (MisplacesAs Source) (sym e) m)))
+      (Contains-push_cases ts t u h)
+  nat-cases (misplaced_destination u h m) = ⊎_elim
+      (λ k. inl (misplaced_destination u k m))
+      (λ e. inr (inr (subst (MisplacesAs Destination) (sym e) m)))
+      (Contains-push_cases ts t u h)
+
+  pub nat-more : (a b : Bool) → (IsTrue a ↔ MisplacedNat ts) → (IsTrue b ↔ MisplacesIn t) → IsTrue (a || b) ↔ MisplacedNat (ts ++ t ∷ [])
+  nat-more a b p q = (
+    λ h. ⊎_elim (λ k. nat-before (p.0 k)) (λ k. nat-now (q.0 k)) (or-split a b h),
+    λ m. ⊎_elim (λ k. or-first a b (p.1 k)) (λ k. or-right a b (q.1 k)) (nat-cases m),
+  )
+
+  -- what holds of the numbers of each table
+  pub rows-more : (P : TableTree → List ℕ → Type 0) (rows : List (Vec ℕ Global)) (row : Vec ℕ Global) → length rows ≡ length ts
+      → ((i : ℕ) (u : TableTree) → i < length ts → u ≡ get_or ts i u → P u (numbers_at rows i)) → P t row.items
+      → (i : ℕ) (u : TableTree) → i < length (ts ++ t ∷ []) → u ≡ get_or (ts ++ t ∷ []) i u → P u (numbers_at (rows ++ row ∷ []) i)
+  rows-more P rows row long before now i u h e =
+      let lists : List (List ℕ) = map (λ r. r.items) rows in
+      let n = length-map rows (λ r. r.items) in
+      let pushed : map (λ r. r.items) (rows ++ row ∷ []) ≡ lists ++ row.items ∷ [] = map-append (λ (r : Vec ℕ Global). r.items) rows (row ∷ []) in
+      subst (λ xs. P u (get_or xs i [])) (sym pushed) (⊎_elim
+      (λ l. subst (P u) (sym (get_or_append_left lists (row.items ∷ []) [] i (omega arith)))
+      (before i u l (e ∙ get_or_append_left ts (t ∷ []) u i l)))
+      (λ l. let m = length_push ts t in
+      let last : length ts ≡ i = omega (arith, h, l, m) in
+      let is : u ≡ t = e ∙ get_or_push ts t u i last in
+      subst (λ v. P v (get_or (lists ++ row.items ∷ []) i [])) (sym is) (subst (P t) (sym (get_or_push lists row.items [] i (omega arith))) now))
+      (cases_lt i (length ts)))
+
+pub no-nat : MisplacedNat [] → ⊥
+no-nat (misplaced_source u h m) = let l = h.1 in omega (arith, l)
+no-nat (misplaced_destination u h m) = let l = h.1 in omega (arith, l)
+
+pub none-so-far : AreFoundSoFar [] false false 0 [] []
+none-so-far = record {
+  acyclic = λ k. let l = k.stands.1 in absurd (omega arith);
+  deep = (λ h. cc, λ d. let l = d.stands.1 in absurd (omega arith));
+  nat = (λ h. cc, λ m. absurd (no-nat m));
+  have_costs = no-costs;
+  sum = λ cost_of are. omega arith;
+  costs_long = refl;
+  chain_costs = λ i t h e. absurd (omega (arith, h));
+  depths_long = refl;
+  chain_depths = λ i t h e. absurd (omega (arith, h));
+}
+
+module _ (ts : List TableTree) (t : TableTree) (deep misplaced : Bool) (cost : ℕ) (costs depths : List (Vec ℕ Global)) (found : TableFindings) (s : AreFoundSoFar ts deep misplaced cost costs depths) (f : AreTableFindings t found) where
+  pub sum-more : (cost_of : TableTree → Caller → ℕ) → ((u : TableTree) → Contains (ts ++ t ∷ []) u → AreCosts u (cost_of u)) → stopped (cost + found.base_cost) ≡ stopped (sum_by (λ u. table_cost (cost_of u) u) (ts ++ t ∷ []))
+  sum-more cost_of are =
+      let before = s.sum cost_of (λ u h. are u (stands-before ts t u h)) in
+      let now = f.base_cost (cost_of t) (are t (Contains-push ts t)) in
+      let all = sum_by_push (λ u. table_cost (cost_of u) u) ts t in
+      omega arith
+
+  pub more-so-far : AreFoundSoFar (ts ++ t ∷ []) (deep || found.is_too_deep) (misplaced || found.misplaces_nat) (stopped (cost + found.base_cost)) (costs ++ found.costs ∷ []) (depths ++ found.depths ∷ [])
+  more-so-far = record {
+    acyclic = acyclic-more ts t s.acyclic f.acyclic;
+    deep = deep-more ts t deep found.is_too_deep s.deep f.deep;
+    nat = nat-more ts t misplaced found.misplaces_nat s.nat f.nat;
+    have_costs = (let has = f.has_costs in costs-more ts t s.have_costs f.stands has.0 has.1);
+    sum = sum-more;
+    costs_long = length_push costs found.costs ∙ ap (λ n. n + 1) s.costs_long ∙ sym (length_push ts t);
+    chain_costs = rows-more ts t AreChainCosts costs found.costs s.costs_long s.chain_costs f.costs;
+    depths_long = length_push depths found.depths ∙ ap (λ n. n + 1) s.depths_long ∙ sym (length_push ts t);
+    chain_depths = rows-more ts t AreChainDepths depths found.depths s.depths_long s.chain_depths f.depths;
+  }
+
+-- ---- what the sum says
+
+module _ (ts : List TableTree) (have : HaveCosts ts) (cost : ℕ) (sum : (cost_of : TableTree → Caller → ℕ) → ((t : TableTree) → Contains ts t → AreCosts t (cost_of t)) → cost ≡ stopped (sum_by (λ t. table_cost (cost_of t) t) ts)) where
+  pub too-costly : MOST_COST < cost → TooCostly ts
+  too-costly over =
+      let is = sum (λ t a. have.costs (index_graph t) (index_of t a)) (are-costs ts have) in
+      record { cost = λ t a. have.costs (index_graph t) (index_of t a); are = are-costs ts have; over = omega arith }
+
+  pub is-costly : TooCostly ts → MOST_COST < cost
+  is-costly k = let is = sum k.cost k.are in let over = k.over in omega arith
+
+-- ---- the end
+
+pub cycle-found : (tables : List TableTree) (t : TableTree) → Contains tables t → HasCycle (CallsOf t) → Cycles tables
+cycle-found tables t h k = record { table = t; stands = h; cycle = k }
+
+pub all-found : (tables : List TableTree) (cost : ℕ) (found : Findings) → AreFoundSoFar tables found.is_too_deep found.misplaces_nat cost found.costs.items found.depths.items → found.is_too_costly ≡ nat_lt MOST_COST cost → AreFindings tables found
+all-found tables cost found s e = record {
+  acyclic = s.acyclic;
+  deep = s.deep;
+  costly = (
+    λ h. too-costly tables s.have_costs cost s.sum (ltb-true MOST_COST cost (sym e ∙ h)),
+    λ k. e ∙ lt-ltb MOST_COST cost (is-costly tables s.have_costs cost s.sum k),
+  );
+  nat = s.nat;
+  costs_long = s.costs_long;
+  costs = s.chain_costs;
+  depths_long = s.depths_long;
+  depths = s.chain_depths;
+}
+
+pub none-at : (costs depths : List (Vec ℕ Global)) → costs ≡ [] → depths ≡ [] → AreFoundSoFar [] false false 0 costs depths
+none-at costs depths e h = subst (λ ds. AreFoundSoFar [] false false 0 costs ds) (sym h) (subst (λ cs. AreFoundSoFar [] false false 0 cs []) (sym e) none-so-far)
+
+pub more-at : (tables : List TableTree) (i : ℕ) (t : TableTree) (deep misplaced : Bool) (cost cost' : ℕ) (costs costs' depths depths' : List (Vec ℕ Global)) (found : TableFindings) → i < length tables → t ≡ get_or tables i t
+    → AreFoundSoFar (take i tables) deep misplaced cost costs depths → AreTableFindings t found
+    → cost' ≡ stopped (cost + found.base_cost) → costs' ≡ costs ++ found.costs ∷ [] → depths' ≡ depths ++ found.depths ∷ []
+    → AreFoundSoFar (take (i + 1) tables) (deep || found.is_too_deep) (misplaced || found.misplaces_nat) cost' costs' depths'
+more-at tables i t deep misplaced cost cost' costs costs' depths depths' found h e s f p q r =
+    subst (λ ts. AreFoundSoFar ts (deep || found.is_too_deep) (misplaced || found.misplaces_nat) cost' costs' depths') (sym (take_more tables i t h ∙ ap (λ x. take i tables ++ x ∷ []) (sym e)))
+    (subst (λ n. AreFoundSoFar (take i tables ++ t ∷ []) (deep || found.is_too_deep) (misplaced || found.misplaces_nat) n costs' depths') (sym p)
+    (subst (λ cs. AreFoundSoFar (take i tables ++ t ∷ []) (deep || found.is_too_deep) (misplaced || found.misplaces_nat) (stopped (cost + found.base_cost)) cs depths') (sym q)
+    (subst (λ ds. AreFoundSoFar (take i tables ++ t ∷ []) (deep || found.is_too_deep) (misplaced || found.misplaces_nat) (stopped (cost + found.base_cost)) (costs ++ found.costs ∷ []) ds) (sym r)
+    (more-so-far (take i tables) t deep misplaced cost costs depths found s f))))

@@ -1,0 +1,212 @@
+-- What the graph of a table says of its chains.
+use Rattle.std.proofs.Common.{◌≡◌, ℕ, zero, suc, ◌-◌, ◌<◌, ◌≤◌, List, [], ◌∷◌, Option, Some, None, Bool, true, false, ◌||◌, not, length, get_or, map, take, replicate, sym, refl, ap, subst, ◌∙◌, inl, inr, ⊎_elim, arith, ltb-true, lt-ltb, get_or-take}
+use Rattle.std.specs.Prelude.{IsTrue, nat_lt, ◌↔◌}
+use Rattle.std.specs.List.{list_any}
+use Rattle.std.proofs.lemmas.List.{ext_get_or, length-map, length-take-le, get_or_default, get_or_append_left, get_or-append_right, get_or-replicate, get_or_past, length-replicate}
+use Rattle.std.proofs.lemmas.List.Folds.{list_any_at}
+use Rattle.std.proofs.lemmas.Bool.{cases_lt}
+use Rattle.nft_tree.specs.Tree.{Text, Statement, HeadTree, ChainTree, TableTree}
+use Rattle.nft_tree.specs.Parts.{chains_of}
+use Rattle.rule_names.specs.Names.{Repeats, chain_names, map_names}
+use Rattle.chain_graph.specs.Graph.{HasCycle, HasPathOver}
+use Rattle.chain_graph.specs.declared.judging.Judged.{Judged}
+use Rattle.chain_graph.specs.Nodes.{Graph, Calls}
+use Rattle.chain_graph.specs.Known.{stopped, IsCost, IsDepth, IsJudged, LeadsOn}
+use Rattle.chain_graph.proofs.ListLaws.{get_or-map, or-split, or-right}
+use Rattle.rule_paths.specs.Paths.{Caller, a_chain, a_map, CallsOf, AreCosts, table_cost, node_of, chain_has, caller_has}
+use Rattle.rule_paths.specs.Findings.{AreChainCosts, AreChainDepths}
+use Rattle.rule_paths.specs.declared.marks.Translation.{Translation}
+use Rattle.rule_paths.specs.declared.marks.Translation.TheVariants.{Source, Destination}
+use Rattle.rule_paths.specs.steps.Numbers.{StandsFor}
+use Rattle.rule_paths.specs.steps.Index.{chain_count, index_of, index_graph, IsTableGraph, translates, may_translate, marks_of, is_barred, LeadsWrong}
+use Rattle.rule_paths.specs.steps.Tables.{MisplacesAs, MisplacesIn, AreTableFindings}
+use Rattle.rule_paths.specs.declared.table.TableFindings.{TableFindings}
+use Rattle.rule_paths.proofs.NumberLaws.{cycle-down, costs-up, costs-down, cost_by, cost-named, most-up, deep-path, deep-up, deep-down, leads-up, leads-down}
+use Rattle.rule_paths.proofs.IndexLaws.{stands, chain-number, graph-long, name-at, no-chain, look-chain, look-map, chain-found, chain-missing, map-found, map-missing}
+
+pub table-graph : (t : TableTree) (g : Graph) → g ≡ index_graph t → (Repeats (chain_names t) → ⊥) → (Repeats (map_names t) → ⊥) → IsTableGraph t g
+table-graph t g e chains maps = record {
+  is = e;
+  stands = subst (StandsFor (node_of t) (index_of t)) (sym e) (stands t chains maps);
+  chains_first = λ i h.
+      let c : ChainTree = get_or (chains_of t) i no-chain in
+      let is : get_or (chains_of t) i c ≡ c = get_or_default (chains_of t) i c no-chain h in
+      ap (λ name. index_of t (a_chain name)) (name-at (λ (c : ChainTree). c.name) (chains_of t) i c h is) ∙ chain-number t chains maps i c h is;
+  long = let n = graph-long t in let m = ap length e in omega arith;
+}
+
+-- ---- depth
+
+pub deep-found : (xs : List ℕ) → list_any (λ d. nat_lt 16 d) xs ≡ true → (i : ℕ) × (i < length xs) × (16 < get_or xs i 0)
+deep-found [] t = cc
+deep-found (x ∷ xs) t = ⊎_elim
+    (λ h. (zero, omega arith, ltb-true 16 x h))
+    (λ h. let more = deep-found xs h in let l = more.1 in (suc more.0, omega arith, more.2))
+    (or-split (nat_lt 16 x) (list_any (λ d. nat_lt 16 d) xs) t)
+
+pub named-number : (f : Text → ℕ) (cs : List ChainTree) (i : ℕ) → i < length cs → get_or (map (λ c. f c.name) cs) i 0 ≡ f (get_or (map (λ c. c.name) cs) i [])
+named-number f [] i h = absurd (omega (arith, h))
+named-number f (c ∷ cs) zero h = refl
+named-number f (c ∷ cs) (suc i) h = named-number f cs i (omega (arith, h))
+
+module _ (t : TableTree) (g : Graph) (s : IsTableGraph t g) where
+  pub too-deep : (depths : List ℕ) (b : Bool) → length depths ≡ length g → ((c : ℕ) → c < length g → IsDepth g c (get_or depths c 0)) → b ≡ list_any (λ d. nat_lt 16 d) depths → IsTrue b ↔ HasPathOver 16 (CallsOf t)
+  too-deep depths b long known e = (
+    λ h. let at = deep-found depths (sym e ∙ h) in let l = at.1 in
+        deep-up (node_of t) (index_of t) g s.stands at.0 (get_or depths at.0 0) (known at.0 (omega arith)) at.2,
+    λ k. let at = deep-down (node_of t) (index_of t) g s.stands k in let l = at.1 in
+        e ∙ list_any_at (λ d. nat_lt 16 d) depths at.0 0 (omega arith) (lt-ltb 16 (get_or depths at.0 0) (at.2 (get_or depths at.0 0) (known at.0 at.1))),
+  )
+
+  pub chain-depth : (j depth : ℕ) → j < chain_count t → IsDepth g j depth → IsDepth g (index_of t (a_chain (get_or (chain_names t) j []))) depth
+  chain-depth j depth h d = subst (λ k. IsDepth g k depth) (sym (s.chains_first j h)) d
+
+  pub chain-depths : (depths : List ℕ) → length depths ≡ length g → ((c : ℕ) → c < length g → IsDepth g c (get_or depths c 0)) → AreChainDepths t (take (chain_count t) depths)
+  chain-depths depths long known =
+      let n : length (take (chain_count t) depths) ≡ chain_count t = length-take-le (chain_count t) depths (let l = s.long in omega arith) in
+      record {
+        long = n;
+        are = λ j h.
+            let l : j < chain_count t = omega arith in
+            let m = s.long in
+            let a : Caller = a_chain (get_or (chain_names t) j []) in
+            let depth : ℕ = get_or (take (chain_count t) depths) j 0 in
+            let d : IsDepth g (index_of t a) depth = chain-depth j depth l (subst (IsDepth g j) (sym (get_or-take (chain_count t) depths j 0 l)) (known j (omega arith))) in
+            let path = deep-path (node_of t) (index_of t) g s.stands a depth d in
+            record { most = most-up (node_of t) (index_of t) g s.stands a depth d; to = path.0; along = path.1; path = path.2; deep = path.3 };
+      }
+
+  -- ---- costs
+
+  pub chain-costs : (costs : List ℕ) → length costs ≡ length g → ((cost : ℕ → ℕ) → IsCost g cost → (c : ℕ) → c < length g → get_or costs c 0 ≡ stopped (cost c)) → (cost : ℕ → ℕ) → IsCost g cost → AreChainCosts t (take (chain_count t) costs)
+  chain-costs costs long known cost is =
+      let n : length (take (chain_count t) costs) ≡ chain_count t = length-take-le (chain_count t) costs (let l = s.long in omega arith) in
+      record {
+        are = λ f are. ext_get_or 0 (take (chain_count t) costs) (map (λ c. stopped (f (a_chain c.name))) (chains_of t))
+            (n ∙ sym (length-map (chains_of t) (λ c. stopped (f (a_chain c.name)))))
+            (λ i h.
+            let l : i < chain_count t = omega arith in
+            let m = s.long in
+            let by : ℕ → ℕ = cost_by (node_of t) (index_of t) g s.stands f in
+            let name : Text = get_or (chain_names t) i [] in
+            get_or-take (chain_count t) costs i 0 l
+            ∙ known by (costs-down (node_of t) (index_of t) g s.stands f are) i (omega arith)
+            ∙ ap (λ k. stopped (by k)) (sym (s.chains_first i l))
+            ∙ ap stopped (cost-named (node_of t) (index_of t) g s.stands f are (a_chain name))
+            ∙ sym (named-number (λ x. stopped (f (a_chain x))) (chains_of t) i l));
+        has_costs = (λ a. cost (index_of t a), costs-up (node_of t) (index_of t) g s.stands cost is);
+      }
+
+-- ---- NAT
+
+pub replicate-false : (n i : ℕ) → get_or (replicate n false) i false ≡ false
+replicate-false n i = ⊎_elim
+    (λ l. get_or-replicate n i false false l)
+    (λ l. get_or_past (replicate n false) i false (let m = length-replicate n false in omega arith))
+    (cases_lt i n)
+
+module _ (test : Statement → Bool) (count : ℕ) (t : TableTree) where
+  pub marked-at : (i : ℕ) (c : ChainTree) → i < chain_count t → get_or (chains_of t) i c ≡ c → get_or (marks_of test count t) i false ≡ chain_has test (Some c)
+  marked-at i c h e =
+      let n = length-map (chains_of t) (λ c. chain_has test (Some c)) in
+      get_or_append_left (map (λ c. chain_has test (Some c)) (chains_of t)) (replicate (count - chain_count t) false) false i (omega arith)
+      ∙ get_or_default (map (λ c. chain_has test (Some c)) (chains_of t)) i false (chain_has test (Some c)) (omega arith)
+      ∙ get_or-map (λ (c : ChainTree). chain_has test (Some c)) (chains_of t) i c ∙ ap (λ c. chain_has test (Some c)) e
+
+  pub unmarked : (i : ℕ) → chain_count t ≤ i → get_or (marks_of test count t) i false ≡ false
+  unmarked i h =
+      get_or-append_right (map (λ c. chain_has test (Some c)) (chains_of t)) (replicate (count - chain_count t) false) (chain_count t) i false (length-map (chains_of t) (λ c. chain_has test (Some c))) h
+      ∙ replicate-false (count - chain_count t) (i - chain_count t)
+
+  pub mark : (a : Caller) → get_or (marks_of test count t) (index_of t a) false ≡ caller_has test t a
+  mark (a_chain name) = ⊎_elim
+      (λ r. ap (λ i. get_or (marks_of test count t) i false) (chain-found t name r) ∙ marked-at r.place r.item r.within r.is ∙ ap (chain_has test) (sym r.finds))
+      (λ r. unmarked (index_of t (a_chain name)) (let e = chain-missing t name r.at in omega arith) ∙ ap (chain_has test) (sym r.finds))
+      (look-chain t name)
+  mark (a_map name) = unmarked (index_of t (a_map name)) (⊎_elim
+      (λ r. let e = map-found t name r in omega arith)
+      (λ r. let e = map-missing t name r.at in omega arith)
+      (look-map t name))
+
+pub not-true : (b : Bool) → not b ≡ true → b ≡ false
+not-true true h = cc
+not-true false h = refl
+
+pub barred-head : (kind : Translation) (o : Option HeadTree) → is_barred kind o ≡ true → (head : HeadTree) × (o ≡ Some head) × (may_translate kind head.kind head.hook ≡ false)
+barred-head kind None h = cc
+barred-head kind (Some head) h = (head, refl, not-true (may_translate kind head.kind head.hook) h)
+
+module _ (kind : Translation) (t : TableTree) (g : Graph) (s : IsTableGraph t g) (count : ℕ) (leads : List Bool) (long : count ≡ length g) (known : (c : ℕ) → c < count → IsTrue (get_or leads c false) ↔ LeadsOn g (marks_of (translates kind) count t) c) where
+  pub own : (i : ℕ) (c : ChainTree) → i < chain_count t → get_or (chains_of t) i c ≡ c → index_of t (a_chain c.name) ≡ i
+  own i c h e = ap (λ name. index_of t (a_chain name)) (sym (name-at (λ (c : ChainTree). c.name) (chains_of t) i c h e)) ∙ s.chains_first i h
+
+  pub misplaced-found : LeadsWrong kind (chains_of t) leads → MisplacesAs kind t
+  misplaced-found w =
+      let l = s.long in
+      let h = w.within in
+      let head = barred-head kind w.base.head w.barred in
+      let on : LeadsOn g (marks_of (translates kind) count t) w.place = (known w.place (omega arith)).0 w.leads_on in
+      record {
+        base = w.base;
+        stands = (w.place, w.within, sym w.is);
+        head = head.0;
+        is_base = head.1;
+        may_not = head.2;
+        leads = leads-up (node_of t) (index_of t) g s.stands (marks_of (translates kind) count t) (caller_has (translates kind) t) (mark (translates kind) count t) (a_chain w.base.name)
+            (subst (LeadsOn g (marks_of (translates kind) count t)) (sym (own w.place w.base w.within (sym w.is))) on);
+      }
+
+  pub misplaced-leads : MisplacesAs kind t → LeadsWrong kind (chains_of t) leads
+  misplaced-leads m =
+      let place : ℕ = m.stands.0 in
+      let h : place < chain_count t = m.stands.1 in
+      let l = s.long in
+      let on = leads-down (node_of t) (index_of t) g s.stands (marks_of (translates kind) count t) (caller_has (translates kind) t) (mark (translates kind) count t) (a_chain m.base.name) m.leads in
+      record {
+        place = place;
+        base = m.base;
+        within = m.stands.1;
+        is = sym m.stands.2;
+        barred = ap (is_barred kind) m.is_base ∙ ap not m.may_not;
+        leads_on = (known place (omega arith)).1 (subst (LeadsOn g (marks_of (translates kind) count t)) (own place m.base m.stands.1 m.stands.2) on);
+      }
+
+  pub misplaced : (found : Bool) → (IsTrue found ↔ LeadsWrong kind (chains_of t) leads) → IsTrue found ↔ MisplacesAs kind t
+  misplaced found e = (λ h. misplaced-found (e.0 h), λ m. e.1 (misplaced-leads m))
+
+-- one of the two
+pub either-misplaced : (t : TableTree) (a b : Bool) → (IsTrue a ↔ MisplacesAs Source t) → (IsTrue b ↔ MisplacesAs Destination t) → IsTrue (a || b) ↔ MisplacesIn t
+either-misplaced t a b p q = (
+  λ h. ⊎_elim (λ k. inl (p.0 k)) (λ k. inr (q.0 k)) (or-split a b h),
+  λ m. ⊎_elim (λ k. ap (λ x. x || b) (p.1 k)) (λ k. or-right a b (q.1 k)) m,
+)
+
+-- ---- all of a table
+
+pub table-cycle : (t : TableTree) (g : Graph) → IsTableGraph t g → (HasCycle (Calls g) → ⊥) → HasCycle (CallsOf t) → ⊥
+table-cycle t g s none k = none (cycle-down (node_of t) (index_of t) g s.stands k)
+
+module _ (t : TableTree) (g : Graph) (s : IsTableGraph t g) (judged : Judged) (j : IsJudged g judged) where
+  pub judged-costs : (costs : List ℕ) → costs ≡ take (chain_count t) judged.costs.items → AreChainCosts t costs
+  judged-costs costs e = let cost = j.has_costs in subst (AreChainCosts t) (sym e) (chain-costs t g s judged.costs.items j.costs_long j.costs cost.0 cost.1)
+
+  pub judged-depths : (depths : List ℕ) → depths ≡ take (chain_count t) judged.depths.items → AreChainDepths t depths
+  judged-depths depths e = subst (AreChainDepths t) (sym e) (chain-depths t g s judged.depths.items j.depths_long j.depths)
+
+  pub table-findings : (found : TableFindings)
+      → found.is_too_deep ≡ list_any (λ d. nat_lt 16 d) judged.depths.items
+      → (IsTrue found.misplaces_nat ↔ MisplacesIn t)
+      → ((cost : Caller → ℕ) → AreCosts t cost → found.base_cost ≡ stopped (table_cost cost t))
+      → found.costs.items ≡ take (chain_count t) judged.costs.items
+      → found.depths.items ≡ take (chain_count t) judged.depths.items
+      → AreTableFindings t found
+  table-findings found deep nat base costs depths = record {
+    stands = subst (StandsFor (node_of t) (index_of t)) s.is s.stands;
+    has_costs = subst (λ h. (cost : ℕ → ℕ) × IsCost h cost) s.is j.has_costs;
+    acyclic = table-cycle t g s j.acyclic;
+    deep = too-deep t g s judged.depths.items found.is_too_deep j.depths_long j.depths deep;
+    nat = nat;
+    base_cost = base;
+    costs = judged-costs found.costs.items costs;
+    depths = judged-depths found.depths.items depths;
+  }

@@ -1,0 +1,28 @@
+//! The numbers of chains and maps in the graph of a table.
+ghost use Rattle.std.specs.Prelude.{◌≡◌};
+ghost use Rattle.rule_paths.specs.Paths.{a_chain, a_map};
+ghost use Rattle.rule_paths.specs.steps.Index.{index_of};
+
+use rule_names::TableNames;
+
+/// The number of the chain of that name.
+pub(crate) fn chain_number(names: &TableNames, name: &[u8]) -> usize
+    ensures { result ≡ index_of names.now (a_chain name.now) }
+{
+    match names.chain_place(name) {
+        Some(place) => place,
+        None => names.chains().len() + names.maps().len(),
+    }
+}
+
+/// The number of the map of that name.
+pub(crate) fn map_number(names: &TableNames, name: &[u8]) -> usize
+    ensures { result ≡ index_of names.now (a_map name.now) }
+{
+    let chains = names.chains().len();
+    let maps = names.maps().len();
+    match names.map_place(name) {
+        Some(place) => chains + place,
+        None => chains + maps + 1,
+    }
+}

@@ -1,0 +1,121 @@
+//! What the jumps and gotos of one table come to.
+ghost use Rattle.std.specs.Prelude.{◌≡◌, ◌≤◌, ℕ, length, map, nat_lt, take, IfOk, MatchOption};
+ghost use Rattle.std.specs.List.{list_any};
+ghost use Rattle.nft_tree.specs.Tree.{chain_tree, head_tree};
+ghost use Rattle.nft_tree.specs.Parts.{chains_of};
+ghost use Rattle.chain_graph.specs.Graph.{HasCycle};
+ghost use Rattle.chain_graph.specs.Nodes.{graph_of};
+ghost use Rattle.chain_graph.specs.Known.{stopped, IsJudged};
+ghost use Rattle.rule_paths.specs.Paths.{Caller, AreCosts, CallsOf, MOST_JUMPS, table_cost};
+ghost use Rattle.rule_paths.specs.Findings.{AreChainCosts};
+ghost use Rattle.rule_paths.specs.steps.Index.{with_base, IsTableGraph};
+ghost use Rattle.rule_paths.specs.steps.Tables.{AreTableFindings};
+
+use crate::marks::Translation;
+use crate::misplaced::misplaces;
+use crate::nodes::table_nodes;
+use chain_graph::{Judged, Node, judge};
+use nft_tree::Chain;
+use rule_names::TableNames;
+use std::alloc::{AllocError, Global};
+
+/// The most jumps of a path.
+const MOST_JUMPS: u64 = 16;
+
+/// What the jumps and gotos of a table without cycles come to.
+#[derive(Drop)]
+pub(crate) struct TableFindings {
+    /// Whether some path has more than 16 jumps.
+    pub(crate) is_too_deep: bool,
+    /// Whether a NAT statement has no place where it stands, or where it is reached from.
+    pub(crate) misplaces_nat: bool,
+    /// What the base chains cost, or the greatest number.
+    pub(crate) base_cost: u64,
+    /// What each chain costs, or the greatest number.
+    pub(crate) costs: Vec<u64>,
+    /// The most jumps of a path from each chain.
+    pub(crate) depths: Vec<u64>,
+}
+
+/// Whether one of the depths is over 16.
+fn is_too_deep(depths: &[u64]) -> bool
+    ensures { result ≡ list_any (λ depth. nat_lt MOST_JUMPS depth) depths.now }
+{
+    depths.iter().any(|depth| *depth > MOST_JUMPS)
+}
+
+/// The sum with a chain that may be a base chain.
+fn add_base(sum: u64, chain: &Chain, cost: u64) -> u64
+    ensures { result ≡ with_base sum cost (chain_tree chain.now).head }
+{
+    match chain.head {
+        None => sum,
+        Some(_) => sum.saturating_add(1).saturating_add(cost),
+    }
+}
+
+/// What the base chains cost, or the greatest number.
+fn base_cost(names: &TableNames, costs: &[u64]) -> u64
+    requires { AreChainCosts names.now costs.now }
+    ensures { (cost : Caller → ℕ) → AreCosts names.now cost → result ≡ stopped (table_cost cost names.now) }
+{
+    let mut sum = 0u64;
+    for (place, chain) in names.chains().iter().enumerate() {
+        sum = add_base(sum, chain, costs[place]);
+    }
+    sum
+}
+
+/// The numbers of the first nodes, which are the chains.
+fn of_chains(names: &TableNames, mut numbers: Vec<u64>) -> Vec<u64>
+    ensures { result.items ≡ take (length (chains_of names.now)) numbers.items }
+{
+    numbers.truncate(names.chains().len());
+    numbers
+}
+
+/// What is found of a table whose graph is judged.
+fn findings(
+    alloc: Global,
+    names: &TableNames,
+    nodes: &[Node],
+    judged: Judged,
+) -> Result<TableFindings, AllocError>
+    requires graph { IsTableGraph names.now (graph_of nodes.now) }
+    requires judged { IsJudged (graph_of nodes.now) judged }
+    ensures { IfOk result (λ found. AreTableFindings names.now found) }
+{
+    let is_source = misplaces(alloc, names, nodes, &judged.order, Translation::Source)?;
+    let is_destination = misplaces(alloc, names, nodes, &judged.order, Translation::Destination)?;
+    let is_too_deep = is_too_deep(&judged.depths);
+    let Judged {
+        order: _,
+        costs,
+        depths,
+    } = judged;
+    let costs = of_chains(names, costs);
+    let depths = of_chains(names, depths);
+    let base_cost = base_cost(names, &costs);
+    Ok(TableFindings {
+        is_too_deep,
+        misplaces_nat: is_source | is_destination,
+        base_cost,
+        costs,
+        depths,
+    })
+}
+
+/// Judges the jumps and gotos of a table; `None` where there is a cycle.
+pub(crate) fn judge_table(
+    alloc: Global,
+    names: &TableNames,
+) -> Result<Option<TableFindings>, AllocError>
+    ensures { IfOk result (λ answer. MatchOption answer (HasCycle (CallsOf names.now))
+        (λ found. AreTableFindings names.now found)) }
+{
+    let nodes = table_nodes(alloc, names)?;
+    let Some(judged) = judge(alloc, &nodes)? else {
+        return Ok(None);
+    };
+    Ok(Some(findings(alloc, names, &nodes, judged)?))
+}

@@ -1,0 +1,80 @@
+-- The places of names.
+use Rattle.std.proofs.Common.{◌≡◌, ℕ, suc, ◌+◌, List, [], ◌∷◌, ◌++◌, Bool, true, false, ◌||◌, ◌&&◌, not, cond, Option, Some, None, refl, sym, ap, ◌∙◌, arith, eq-eqb}
+use Rattle.std.specs.Prelude.{nat_eq, if◌then◌else◌}
+use Rattle.std.specs.Borrow.{Bor}
+use Rattle.std.specs.List.{list_any, position_or_len}
+use Rattle.std.specs.Option.{option_map}
+use Rattle.std.specs.Cmp.Lexicographic.{pointwise, same_text}
+use Rattle.std.specs.Str.{bytes_eq}
+use Rattle.nft_tree.specs.Tree.{Text}
+use Rattle.rule_values.specs.steps.Outcomes.{place_of, IsPlace, Keeps}
+
+-- the key has this name
+abbrev pub named : Text → Bor Text → Bool
+named name k = pointwise nat_eq name k.now
+
+pub text-refl : (xs : Text) → bytes_eq xs xs ≡ true
+text-refl [] = refl
+text-refl (x ∷ xs) = ap (λ b. b && bytes_eq xs xs) (eq-eqb x x refl) ∙ text-refl xs
+
+-- ---- one name more
+
+kept-push : (name : Text) (keys rest : List (Bor Text)) (i : ℕ) → place_of name keys ≡ Some i → place_of name (keys ++ rest) ≡ Some i
+kept-push name [] rest i h = cc
+kept-push name (k ∷ ks) rest i h = by (bytes_eq name k.now) (place_of name ks) (λ j e. kept-push name ks rest j e) h
+  where
+    by : (b : Bool) (o : Option ℕ) → ((j : ℕ) → o ≡ Some j → place_of name (ks ++ rest) ≡ Some j) → cond b (Some 0) (option_map suc o) ≡ Some i → cond b (Some 0) (option_map suc (place_of name (ks ++ rest))) ≡ Some i
+    by true o more h = h
+    by false None more h = cc
+    by false (Some j) more h = ap (λ o. option_map suc o) (more j refl) ∙ h
+
+-- a name that stands in the list
+place-there : (name : Text) (keys : List (Bor Text)) → list_any (named name) keys ≡ true → place_of name keys ≡ Some (position_or_len (named name) keys)
+place-there name [] h = cc
+place-there name (k ∷ ks) h = by (bytes_eq name k.now) (place-there name ks) h
+  where
+    by : (b : Bool) → (list_any (named name) ks ≡ true → place_of name ks ≡ Some (position_or_len (named name) ks)) → b || list_any (named name) ks ≡ true → cond b (Some 0) (option_map suc (place_of name ks)) ≡ Some (cond (not b) (1 + position_or_len (named name) ks) 0)
+    by true more h = refl
+    by false more h = ap (λ o. option_map suc o) (more h) ∙ ap Some (omega arith)
+
+-- a name that comes at the end
+place-new : (key : Bor Text) (keys : List (Bor Text)) → list_any (named key.now) keys ≡ false → place_of key.now (keys ++ key ∷ []) ≡ Some (position_or_len (named key.now) keys)
+place-new key [] h = ap (λ b. cond b (Some 0) (option_map suc (place_of key.now []))) (text-refl key.now)
+place-new key (k ∷ ks) h = by (bytes_eq key.now k.now) (place-new key ks) h
+  where
+    by : (b : Bool) → (list_any (named key.now) ks ≡ false → place_of key.now (ks ++ key ∷ []) ≡ Some (position_or_len (named key.now) ks)) → b || list_any (named key.now) ks ≡ false → cond b (Some 0) (option_map suc (place_of key.now (ks ++ key ∷ []))) ≡ Some (cond (not b) (1 + position_or_len (named key.now) ks) 0)
+    by true more h = cc
+    by false more h = ap (λ o. option_map suc o) (more h) ∙ ap Some (omega arith)
+
+abbrev pub with_key : Bor Text → List (Bor Text) → List (Bor Text)
+with_key key keys = if list_any (named key.now) keys then keys else keys ++ key ∷ []
+
+pub keeps-key : (key : Bor Text) (keys new : List (Bor Text)) → new ≡ with_key key keys → Keeps keys new
+keeps-key key keys new is = record { kept = λ name i h. record { is = ap (place_of name) is ∙ by (list_any (named key.now) keys) name i h.is } }
+  where
+    by : (b : Bool) (name : Text) (i : ℕ) → place_of name keys ≡ Some i → place_of name (if b then keys else keys ++ key ∷ []) ≡ Some i
+    by true name i h = h
+    by false name i h = kept-push name keys (key ∷ []) i h
+
+pub place-key : (key : Bor Text) (keys new : List (Bor Text)) (i : ℕ) → new ≡ with_key key keys → i ≡ position_or_len (named key.now) keys → IsPlace new key.now i
+place-key key keys new i is at = record { is = ap (place_of key.now) is ∙ by (list_any (named key.now) keys) refl ∙ ap Some (sym at) }
+  where
+    by : (b : Bool) → list_any (named key.now) keys ≡ b → place_of key.now (if b then keys else keys ++ key ∷ []) ≡ Some (position_or_len (named key.now) keys)
+    by true h = place-there key.now keys h
+    by false h = place-new key keys h
+
+-- ---- a place is that of one name
+
+pub place-one : (a b : Text) (keys : List (Bor Text)) (i : ℕ) → place_of a keys ≡ Some i → place_of b keys ≡ Some i → a ≡ b
+place-one a b [] i p q = cc
+place-one a b (k ∷ ks) i p q = by (bytes_eq a k.now) (bytes_eq b k.now) (place_of a ks) (place_of b ks) refl refl (λ n e f. place-one a b ks n e f) refl refl p q
+  where
+    by : (s t : Bool) (o u : Option ℕ) → bytes_eq a k.now ≡ s → bytes_eq b k.now ≡ t → ((n : ℕ) → place_of a ks ≡ Some n → place_of b ks ≡ Some n → a ≡ b) → place_of a ks ≡ o → place_of b ks ≡ u → cond s (Some 0) (option_map suc o) ≡ Some i → cond t (Some 0) (option_map suc u) ≡ Some i → a ≡ b
+    by true true o u f g one h j p q = same_text a k.now (sym f) ∙ sym (same_text b k.now (sym g))
+    by true false o None f g one h j p q = cc
+    by true false o (Some m) f g one h j p q = let e : Some 0 ≡ Some (suc m) = p ∙ sym q in cc
+    by false true None u f g one h j p q = cc
+    by false true (Some n) u f g one h j p q = let e : Some 0 ≡ Some (suc n) = q ∙ sym p in cc
+    by false false None u f g one h j p q = cc
+    by false false (Some n) None f g one h j p q = cc
+    by false false (Some n) (Some m) f g one h j p q = let e : Some (suc n) ≡ Some (suc m) = p ∙ sym q in let d : n ≡ m = cc in one n h (j ∙ ap Some (sym d))

@@ -1,0 +1,122 @@
+//! Elements of a map that contradict each other.
+ghost use Rattle.std.specs.Prelude.{◌≡◌, flat_map, map, IfOk, OnOk};
+ghost use Rattle.std.specs.List.{list_any};
+ghost use Rattle.nft_tree.specs.Tree.{item_tree, pair_tree, rule_tree, statement, table_tree};
+ghost use Rattle.rule_values.specs.Places.{item_maps, rule_maps, statement_maps};
+ghost use Rattle.rule_values.specs.Faults.{entry_of, has_contradiction, map_contradicts};
+ghost use Rattle.rule_values.specs.steps.Seen.{elements_tree};
+ghost use Rattle.rule_values.specs.steps.Outcomes.{AreEntry, Keeps, Stand, entries_of};
+
+use crate::elements::{Elements, declared_elements, statement_elements};
+use crate::outcome::{Outcome, data_outcome};
+use box_file::Plant;
+use indexmap::IndexSet;
+use nft_tree::{Item, Pair, Rule, Stmt, Table};
+use nft_values::numbers_of;
+use set_intervals::{Intervals, Range, SetError};
+use std::alloc::{AllocError, Global};
+
+/// Whether a map of the table contradicts itself.
+pub(crate) fn table_contradicts(
+    alloc: Global,
+    plant: &Plant,
+    table: &Table,
+) -> Result<bool, AllocError>
+    ensures { IfOk result (λ b. b ≡ has_contradiction plant.now (table_tree table.now)) }
+{
+    for item in &table.items {
+        if item_contradicts(alloc, plant, item)? {
+            return Ok(true);
+        }
+    }
+    Ok(false)
+}
+
+fn item_contradicts(alloc: Global, plant: &Plant, item: &Item) -> Result<bool, AllocError>
+    ensures { IfOk result (λ b. b ≡ list_any (map_contradicts plant.now) (item_maps (item_tree item.now))) }
+{
+    match item {
+        Item::Chain(chain) => rules_contradict(alloc, plant, &chain.rules),
+        Item::Map(map) => map_contradicts(alloc, plant, &declared_elements(map)),
+        Item::Comment(_) | Item::Set(_) => Ok(false),
+    }
+}
+
+fn rules_contradict(alloc: Global, plant: &Plant, rules: &[Rule]) -> Result<bool, AllocError>
+    ensures { IfOk result (λ b. b ≡ list_any (map_contradicts plant.now) (flat_map rule_maps (map rule_tree rules.now))) }
+{
+    for rule in rules {
+        if rule_contradicts(alloc, plant, rule)? {
+            return Ok(true);
+        }
+    }
+    Ok(false)
+}
+
+fn rule_contradicts(alloc: Global, plant: &Plant, rule: &Rule) -> Result<bool, AllocError>
+    ensures { IfOk result (λ b. b ≡ list_any (map_contradicts plant.now) (rule_maps (rule_tree rule.now))) }
+{
+    for stmt in &rule.statements {
+        if statement_contradicts(alloc, plant, stmt)? {
+            return Ok(true);
+        }
+    }
+    Ok(false)
+}
+
+fn statement_contradicts(alloc: Global, plant: &Plant, stmt: &Stmt) -> Result<bool, AllocError>
+    ensures { IfOk result (λ b. b ≡ list_any (map_contradicts plant.now) (statement_maps (statement stmt.now))) }
+{
+    match statement_elements(stmt) {
+        None => Ok(false),
+        Some(elements) => map_contradicts(alloc, plant, &elements),
+    }
+}
+
+/// Whether two elements have a number in common and give different things.
+fn map_contradicts(alloc: Global, plant: &Plant, elements: &Elements) -> Result<bool, AllocError>
+    ensures { IfOk result (λ b. b ≡ map_contradicts plant.now (elements_tree elements.now)) }
+{
+    let pairs = gather(alloc, plant, elements)?;
+    match Intervals::build(alloc, &pairs) {
+        Ok(_) => Ok(false),
+        Err(SetError::Clash) => Ok(true),
+        Err(SetError::Memory) => Err(AllocError),
+    }
+}
+
+/// The elements that stand for numbers, each by its numbers and what it gives.
+fn gather(
+    alloc: Global,
+    plant: &Plant,
+    elements: &Elements,
+) -> Result<Vec<(Range, Outcome)>, AllocError>
+    ensures { IfOk result (λ pairs. Stand pairs.items (entries_of plant.now (elements_tree elements.now))) }
+{
+    let mut names = IndexSet::new(alloc);
+    let mut pairs = Vec::new(alloc);
+    for pair in elements.pairs {
+        if let Some(entry) = entry(&mut names, plant, elements, pair)? {
+            pairs.push(entry)?;
+        }
+    }
+    Ok(pairs)
+}
+
+/// The numbers of an element's key and what the element gives; `None` where the key or a value that
+/// it gives stands for no number.
+fn entry<'t>(
+    names: &mut IndexSet<&'t [u8]>,
+    plant: &Plant,
+    elements: &Elements,
+    pair: &'t Pair,
+) -> Result<Option<(Range, Outcome)>, AllocError>
+    ensures keeps { OnOk result (Keeps names.old.keys names.new.keys) }
+    ensures entry { IfOk result (λ e. AreEntry names.new.keys (entry_of plant.now (elements_tree elements.now) (pair_tree pair.now)) e) }
+{
+    let given = data_outcome(names, plant, elements.value, &pair.value)?;
+    match (numbers_of(plant, elements.key, &pair.key), given) {
+        (Some(keys), Some(given)) => Ok(Some((keys, given))),
+        _ => Ok(None),
+    }
+}

@@ -1,0 +1,65 @@
+//! The elements of maps.
+ghost use Rattle.std.specs.Prelude.{◌≡◌};
+ghost use Rattle.std.specs.Option.{option_map};
+ghost use Rattle.nft_tree.specs.Tree.{map_ref_tree, map_tree, statement};
+ghost use Rattle.rule_values.specs.Places.{anonymous_map, declared_map, statement_maps};
+ghost use Rattle.rule_values.specs.steps.Seen.{elements_tree, listed};
+
+use nft_tree::{
+    DestinationTarget, Kind, Look, MapDecl, MapRef, Nat, Operand, Pair, Selector, SourceTarget,
+    Stmt, ValueType,
+};
+
+/// A map's elements with the type of their keys and that of their data.
+#[derive(Clone, Copy)]
+pub(crate) struct Elements<'t> {
+    pub(crate) key: Kind,
+    /// `None` where the data are verdicts.
+    pub(crate) value: Option<Kind>,
+    pub(crate) pairs: &'t [Pair],
+}
+
+/// Those of a map with a name.
+pub(crate) fn declared_elements(map: &MapDecl) -> Elements<'_>
+    ensures { elements_tree result ≡ declared_map (map_tree map.now) }
+{
+    Elements {
+        key: map.types.key(),
+        value: map.types.data(),
+        pairs: match &map.elements {
+            None => &[],
+            Some(pairs) => pairs.as_slice(),
+        },
+    }
+}
+
+/// Those of a map without a name, where the selector is looked up.
+fn anonymous_elements(selector: Selector, value: Option<Kind>, map: &MapRef) -> Option<Elements<'_>>
+    ensures { listed (option_map elements_tree result) ≡ anonymous_map selector value (map_ref_tree map.now) }
+{
+    match map {
+        MapRef::Named(_) => None,
+        MapRef::Anonymous(pairs) => Some(Elements {
+            key: selector.kind(),
+            value,
+            pairs: pairs.as_slice(),
+        }),
+    }
+}
+
+/// Those of the map without a name in a statement.
+pub(crate) fn statement_elements(stmt: &Stmt) -> Option<Elements<'_>>
+    ensures { listed (option_map elements_tree result) ≡ statement_maps (statement stmt.now) }
+{
+    match stmt {
+        Stmt::VerdictMap(selector, map) => anonymous_elements(*selector, None, map),
+        Stmt::SetMark(_, Operand::Look(Look { selector, map })) => {
+            anonymous_elements(*selector, Some(Kind::Named(ValueType::Mark)), map)
+        }
+        Stmt::Nat(
+            Nat::Source(SourceTarget::Look(Look { selector, map }))
+            | Nat::Destination(DestinationTarget::Look(Look { selector, map })),
+        ) => anonymous_elements(*selector, Some(Kind::Named(ValueType::Address)), map),
+        _ => None,
+    }
+}

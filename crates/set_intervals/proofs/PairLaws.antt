@@ -1,0 +1,170 @@
+-- What edits of a list of pairs do to what it holds.
+use Rattle.std.proofs.Common.{◌≡◌, ℕ, zero, suc, ◌+◌, ◌<◌, ◌≤◌, List, [], ◌∷◌, ◌++◌, length, get_or, set, max, Bool, true, false, ◌⊎◌, inl, inr, ⊎_elim, refl, sym, ap, ◌∙◌, subst, arith, take, Option, Some, None, MatchOption, if◌then◌else◌}
+use Rattle.std.proofs.lemmas.Bool.{cases_lt}
+use Rattle.std.proofs.lemmas.Bool.Decides.{nat_tests}
+use Rattle.std.specs.List.Sorted.{IsPermutation}
+use Rattle.std.proofs.lemmas.List.{take_more, take_all}
+use Rattle.std.proofs.lemmas.List.Sorted.{Contains-permutation, IsPermutation-sym}
+use Rattle.set_intervals.specs.declared.range.Range.{Range}
+use Rattle.set_intervals.specs.Pairs.{Covers, Holds, Same, Clashing, in_range, look}
+use Rattle.set_intervals.specs.steps.Pieces.{Adds, ClashesWith}
+
+-- ---- a pair with a number
+
+holds_at : {V : Type 0} (xs : List (Range × V)) (i : ℕ) (d : Range × V) (key : ℕ) → i < length xs → Covers (get_or xs i d).0 key → Holds xs key (get_or xs i d).1
+holds_at [] i d key lt c = absurd (omega arith)
+holds_at (x ∷ xs) zero d key lt c = inl (c, refl)
+holds_at (x ∷ xs) (suc i) d key lt c = inr (holds_at xs i d key (omega arith) c)
+
+-- a pair that was read
+pub holds_read : {V : Type 0} (xs : List (Range × V)) (i : ℕ) (p : Range × V) (key : ℕ) → i < length xs → p ≡ get_or xs i p → Covers p.0 key → Holds xs key p.1
+holds_read {V} xs i p key lt is c =
+    let at = holds_at xs i p key lt (subst (λ (s : Range × V). Covers s.0 key) is c) in
+    subst (λ (s : Range × V). Holds xs key s.1) (sym is) at
+
+-- a pair with the number and the value, and where it stands
+pub record Place {V : Type 0} (xs : List (Range × V)) (key : ℕ) (v : V) : Type 0 where
+  pub pair : Range × V
+  pub at : ℕ
+  pub in_list : at < length xs
+  pub stands : (d : Range × V) → get_or xs at d ≡ pair
+  pub covers : Covers pair.0 key
+  pub value : pair.1 ≡ v
+
+pub place_of : {V : Type 0} (xs : List (Range × V)) (key : ℕ) (v : V) → Holds xs key v → Place xs key v
+place_of [] key v h = absurd h
+place_of (x ∷ xs) key v (inl h) = record { pair = x; at = 0; in_list = omega arith; stands = λ d. refl; covers = h.0; value = h.1 }
+place_of (x ∷ xs) key v (inr h) =
+    let r = place_of xs key v h in
+    record { pair = r.pair; at = suc r.at; in_list = omega (arith, r.in_list); stands = r.stands; covers = r.covers; value = r.value }
+
+push_forth : {V : Type 0} (xs : List (Range × V)) (r : Range) (v : V) (key : ℕ) (w : V) → Holds (xs ++ (r, v) ∷ []) key w → Holds xs key w ⊎ (Covers r key × (v ≡ w))
+push_forth [] r v key w (inl h) = inr h
+push_forth [] r v key w (inr h) = absurd h
+push_forth (x ∷ xs) r v key w (inl h) = inl (inl h)
+push_forth (x ∷ xs) r v key w (inr h) = ⊎_elim (λ a. inl (inr a)) (λ b. inr b) (push_forth xs r v key w h)
+
+push_back : {V : Type 0} (xs : List (Range × V)) (r : Range) (v : V) (key : ℕ) (w : V) → Holds xs key w ⊎ (Covers r key × (v ≡ w)) → Holds (xs ++ (r, v) ∷ []) key w
+push_back [] r v key w (inl h) = absurd h
+push_back [] r v key w (inr h) = inl h
+push_back (x ∷ xs) r v key w (inl (inl h)) = inl h
+push_back (x ∷ xs) r v key w (inl (inr h)) = inr (push_back xs r v key w (inl h))
+push_back (x ∷ xs) r v key w (inr h) = inr (push_back xs r v key w (inr h))
+
+-- a new piece at the end
+pub adds_push : {V : Type 0} (xs : List (Range × V)) (r : Range) (v : V) → Adds xs r v (xs ++ (r, v) ∷ [])
+adds_push xs r v key w = (push_forth xs r v key w, push_back xs r v key w)
+
+-- a piece that is made wider
+widen_forth : {V : Type 0} (xs : List (Range × V)) (i : ℕ) (d : Range × V) (q r : Range) (key : ℕ) (w : V) → i < length xs → (Covers q key → Covers (get_or xs i d).0 key ⊎ Covers r key) → Holds (set xs i (q, (get_or xs i d).1)) key w → Holds xs key w ⊎ (Covers r key × ((get_or xs i d).1 ≡ w))
+widen_forth [] i d q r key w lt split h = absurd (omega arith)
+widen_forth (x ∷ xs) zero d q r key w lt split (inl h) = ⊎_elim (λ a. inl (inl (a, h.1))) (λ b. inr (b, h.1)) (split h.0)
+widen_forth (x ∷ xs) zero d q r key w lt split (inr h) = inl (inr h)
+widen_forth (x ∷ xs) (suc i) d q r key w lt split (inl h) = inl (inl h)
+widen_forth (x ∷ xs) (suc i) d q r key w lt split (inr h) = ⊎_elim (λ a. inl (inr a)) (λ b. inr b) (widen_forth xs i d q r key w (omega arith) split h)
+
+widen_back : {V : Type 0} (xs : List (Range × V)) (i : ℕ) (d : Range × V) (q r : Range) (key : ℕ) (w : V) → i < length xs → (Covers (get_or xs i d).0 key ⊎ Covers r key → Covers q key) → Holds xs key w ⊎ (Covers r key × ((get_or xs i d).1 ≡ w)) → Holds (set xs i (q, (get_or xs i d).1)) key w
+widen_back [] i d q r key w lt join h = absurd (omega arith)
+widen_back (x ∷ xs) zero d q r key w lt join (inl (inl h)) = inl (join (inl h.0), h.1)
+widen_back (x ∷ xs) zero d q r key w lt join (inl (inr h)) = inr h
+widen_back (x ∷ xs) zero d q r key w lt join (inr h) = inl (join (inr h.0), h.1)
+widen_back (x ∷ xs) (suc i) d q r key w lt join (inl (inl h)) = inl h
+widen_back (x ∷ xs) (suc i) d q r key w lt join (inl (inr h)) = inr (widen_back xs i d q r key w (omega arith) join (inl h))
+widen_back (x ∷ xs) (suc i) d q r key w lt join (inr h) = inr (widen_back xs i d q r key w (omega arith) join (inr h))
+
+-- a wider piece, in the place of one that it begins with
+pub adds_widen : {V : Type 0} (xs : List (Range × V)) (i : ℕ) (p : Range × V) (q r : Range) (v : V) → i < length xs → p ≡ get_or xs i p → p.1 ≡ v → ((key : ℕ) → Covers q key → Covers p.0 key ⊎ Covers r key) → ((key : ℕ) → Covers p.0 key ⊎ Covers r key → Covers q key) → Adds xs r v (set xs i (q, p.1))
+adds_widen {V} xs i p q r v lt is same split join key w =
+    let split' = subst (λ (s : Range × V). Covers q key → Covers s.0 key ⊎ Covers r key) is (split key) in
+    let join' = subst (λ (s : Range × V). Covers s.0 key ⊎ Covers r key → Covers q key) is (join key) in
+    let e : (get_or xs i p).1 ≡ v = ap (λ (s : Range × V). s.1) (sym is) ∙ same in
+    let set_is : set xs i (q, p.1) ≡ set xs i (q, (get_or xs i p).1) = ap (λ (s : Range × V). set xs i (q, s.1)) is in (
+      λ h. subst (λ u. Holds xs key w ⊎ (Covers r key × (u ≡ w))) e (widen_forth xs i p q r key w lt split' (subst (λ l. Holds l key w) set_is h)),
+      λ h. subst (λ l. Holds l key w) (sym set_is) (widen_back xs i p q r key w lt join' (subst (λ u. Holds xs key w ⊎ (Covers r key × (u ≡ w))) (sym e) h)),
+    )
+
+-- two ranges that overlap or touch, and the one from the beginning of the first to the end of both
+pub covers_split : (first later both : Range) → later.low ≤ first.high + 1 → both.low ≡ first.low → both.high ≡ max first.high later.high → (key : ℕ) → Covers both key → Covers first key ⊎ Covers later key
+covers_split first later both near low high key h =
+    ⊎_elim
+    (λ past. inr (record { above = omega arith; below = omega (arith, h.below) }))
+    (λ within. inl (record { above = omega (arith, h.above); below = within }))
+    (cases_lt first.high key)
+
+pub covers_join : (first later both : Range) → first.low ≤ later.low → both.low ≡ first.low → both.high ≡ max first.high later.high → (key : ℕ) → Covers first key ⊎ Covers later key → Covers both key
+covers_join first later both rising low high key (inl h) = record { above = omega (arith, h.above); below = omega (arith, h.below) }
+covers_join first later both rising low high key (inr h) = record { above = omega (arith, h.above); below = omega (arith, h.below) }
+
+-- ---- the pairs so far
+
+-- one pair more
+pub adds_take : {V : Type 0} (xs : List (Range × V)) (i : ℕ) (r : Range) (v : V) → i < length xs → (r, v) ≡ get_or xs i (r, v) → Adds (take i xs) r v (take (i + 1) xs)
+adds_take {V} xs i r v lt is =
+    let e : take (i + 1) xs ≡ take i xs ++ (r, v) ∷ [] = take_more xs i (r, v) lt ∙ ap (λ (p : Range × V). take i xs ++ p ∷ []) (sym is) in
+    subst (λ l. Adds (take i xs) r v l) (sym e) (adds_push (take i xs) r v)
+
+-- both lists get the same pair
+pub same_more : {V : Type 0} (old new xs ys : List (Range × V)) (r : Range) (v : V) → Same old xs → Adds old r v new → Adds xs r v ys → Same new ys
+same_more {V} old new xs ys r v same adds adds' key w = (
+  λ h. (adds' key w).1 (⊎_elim (λ a. inl ((same key w).0 a)) (λ b. inr b) ((adds key w).0 h)),
+  λ h. (adds key w).1 (⊎_elim (λ a. inl ((same key w).1 a)) (λ b. inr b) ((adds' key w).0 h)),
+)
+
+-- another order of the pairs
+pub holds_permutation : {V : Type 0} (xs ys : List (Range × V)) → IsPermutation xs ys → (key : ℕ) (v : V) → Holds xs key v → Holds ys key v
+holds_permutation {V} xs ys perm key v h =
+    let r = place_of xs key v h in
+    let c = Contains-permutation xs ys r.pair perm (r.at, r.in_list, r.stands r.pair) in
+    subst (λ u. Holds ys key u) r.value (holds_read ys c.0 r.pair key c.1 (sym c.2) r.covers)
+
+-- the pieces say what all pairs say, whatever their order
+pub same_permutation : {V : Type 0} (pieces xs ys : List (Range × V)) (i : ℕ) → length xs ≤ i → Same pieces (take i xs) → IsPermutation ys xs → Same pieces ys
+same_permutation {V} pieces xs ys i all same perm key v =
+    let whole : take i xs ≡ xs = take_all i xs all in
+    let back = IsPermutation-sym ys xs perm in (
+      λ h. holds_permutation xs ys back key v (subst (λ l. Holds l key v) whole ((same key v).0 h)),
+      λ h. (same key v).1 (subst (λ l. Holds l key v) (sym whole) (holds_permutation ys xs perm key v h)),
+    )
+
+-- a pair that the first ones disagree with
+pub clash_of : {V : Type 0} (pieces xs ys : List (Range × V)) (i : ℕ) (r : Range) (v : V) → i < length xs → (r, v) ≡ get_or xs i (r, v) → Same pieces (take i xs) → IsPermutation ys xs → ClashesWith pieces r v → Clashing ys
+clash_of {V} pieces xs ys i r v lt is same perm h =
+    let back = IsPermutation-sym ys xs perm in
+    record {
+      key = h.key;
+      one = h.other;
+      other = v;
+      has_one = holds_permutation xs ys back h.key h.other (holds_before xs i h.key h.other ((same h.key h.other).0 h.has_other));
+      has_other = holds_permutation xs ys back h.key v (holds_read xs i (r, v) h.key lt is h.within);
+      differ = h.differ;
+    }
+  where
+    holds_before : (xs : List (Range × V)) (i key : ℕ) (w : V) → Holds (take i xs) key w → Holds xs key w
+    holds_before xs zero key w h = absurd h
+    holds_before [] (suc i) key w h = absurd h
+    holds_before (x ∷ xs) (suc i) key w (inl h) = inl h
+    holds_before (x ∷ xs) (suc i) key w (inr h) = inr (holds_before xs i key w h)
+
+-- ---- the first pair with a number
+
+-- a look-up says what the pairs say
+abbrev pub Says : {V : Type 0} → List (Range × V) → ℕ → Option V → Type 0
+Says {V} xs key o = MatchOption o ((v : V) → Holds xs key v → ⊥) (λ v. Holds xs key v)
+
+covers_from_test : (r : Range) (key : ℕ) → in_range r key ≡ true → Covers r key
+covers_from_test r key h = record { above = grind (arith, nat_tests, h); below = grind (arith, nat_tests, h) }
+
+test_from_covers : (r : Range) (key : ℕ) → in_range r key ≡ false → Covers r key → ⊥
+test_from_covers r key h c = let above = c.above in let below = c.below in grind (arith, nat_tests, h)
+
+look_step : {V : Type 0} (x : Range × V) (xs : List (Range × V)) (key : ℕ) (b : Bool) → in_range x.0 key ≡ b → (o : Option V) → Says xs key o → Says (x ∷ xs) key (if b then Some x.1 else o)
+look_step x xs key true e o h = inl (covers_from_test x.0 key e, refl)
+look_step x xs key false e None h = λ v held. ⊎_elim (λ a. test_from_covers x.0 key e a.0) (λ b. h v b) held
+look_step x xs key false e (Some v) h = inr h
+
+pub look_says : {V : Type 0} (xs : List (Range × V)) (key : ℕ) → Says xs key (look xs key)
+look_says [] key = λ v h. h
+look_says (x ∷ xs) key = look_step x xs key (in_range x.0 key) refl (look xs key) (look_says xs key)
+
+pub same_itself : {V : Type 0} (xs : List (Range × V)) → Same xs xs
+same_itself xs key v = (λ h. h, λ h. h)

@@ -1,0 +1,148 @@
+-- What holds of a table's pieces.
+use Rattle.std.proofs.Common.{◌≡◌, ◌≢◌, ℕ, ◌+◌, ◌-◌, ◌<◌, ◌≤◌, List, [], ◌∷◌, ◌++◌, length, get_or, set, ⊎_elim, refl, sym, ap, ◌∙◌, subst, arith, ltb, length-append, Option, Some, None}
+use Rattle.std.specs.List.Sorted.{IsNonDecreasingBy, IsPartitionedBy}
+use Rattle.std.proofs.Math.Seq.{get_or-append_seam}
+use Rattle.std.proofs.lemmas.List.{get_or_append_left, get_or_default, get_or-set_same, get_or-set_other, length-set}
+use Rattle.std.proofs.lemmas.Bool.{cases_lt}
+use Rattle.std.proofs.lemmas.List.Sorted.{IsPartitionedBy-ltb}
+use Rattle.set_intervals.specs.declared.range.Range.{Range}
+use Rattle.set_intervals.specs.declared.table.Meeting.TheVariants.{Apart}
+use Rattle.set_intervals.specs.Pairs.{Holds, Same, Clashing}
+use Rattle.set_intervals.specs.steps.Pieces.{IsSeparate, IsJoined, IsTable, StartsBefore, Meets, IsReach}
+use Rattle.set_intervals.proofs.PairLaws.{place_of, Says}
+
+-- the ends of pieces rise
+highs_rise : {V : Type 0} (xs : List (Range × V)) → IsSeparate xs → IsNonDecreasingBy (λ (p : Range × V). p.0.high) xs
+highs_rise xs sep i j d le lt =
+    ⊎_elim
+    (λ below. omega (arith, sep i j d below lt, (get_or xs j d).0.ordered))
+    (λ above. let e : i ≡ j = omega arith in omega (arith, ap (λ n. (get_or xs n d).0.high) e))
+    (cases_lt i j)
+
+-- the partition point of the ends, from the search's clause
+pub ends_parted : {V : Type 0} (xs : List (Range × V)) → IsSeparate xs → (key : ℕ) → IsPartitionedBy (λ (y : Range × V). ltb y.0.high key) xs
+ends_parted xs sep key = IsPartitionedBy-ltb (λ y. y.0.high) xs key (highs_rise xs sep)
+
+-- ---- a new last piece
+
+-- the last piece, read at any place and default
+last_is : {V : Type 0} (xs : List (Range × V)) (n i : ℕ) (d q : Range × V) → n ≡ length xs → i + 1 ≡ length xs → q ≡ get_or xs (n - 1) q → get_or xs i d ≡ q
+last_is xs n i d q whole last is =
+    let e : i ≡ n - 1 = omega arith in
+    let lt : i < length xs = omega arith in
+    get_or_default xs i d q lt ∙ ap (λ m. get_or xs m q) e ∙ sym is
+
+separate_push : {V : Type 0} (xs : List (Range × V)) (p : Range × V) → IsSeparate xs → ((i : ℕ) (d : Range × V) → i + 1 ≡ length xs → (get_or xs i d).0.high < p.0.low) → IsSeparate (xs ++ p ∷ [])
+separate_push {V} xs p sep after i j d lt in_range = ⊎_elim old new (cases_lt j (length xs))
+  where
+    len : length (xs ++ p ∷ []) ≡ length xs + 1
+    len = omega (arith, length-append xs (p ∷ []))
+
+    old : j < length xs → (get_or (xs ++ p ∷ []) i d).0.high < (get_or (xs ++ p ∷ []) j d).0.low
+    old in_old =
+        let in_old' : i < length xs = omega arith in
+        rw (get_or_append_left xs (p ∷ []) d i in_old', get_or_append_left xs (p ∷ []) d j in_old) (sep i j d lt in_old)
+
+    new : length xs ≤ j → (get_or (xs ++ p ∷ []) i d).0.high < (get_or (xs ++ p ∷ []) j d).0.low
+    new past =
+        let j_is : j ≡ length xs = omega (arith, len) in
+        let i_in : i < length xs = omega arith in
+        let last_lt : length xs - 1 < length xs = omega arith in
+        let at_end : get_or (xs ++ p ∷ []) j d ≡ p = ap (λ n. get_or (xs ++ p ∷ []) n d) j_is ∙ get_or-append_seam xs p [] d in
+        let rise = highs_rise xs sep i (length xs - 1) d (omega arith) last_lt in
+        let before = after (length xs - 1) d (omega arith) in
+        rw (get_or_append_left xs (p ∷ []) d i i_in, at_end) (omega (arith, rise, before))
+
+joined_push : {V : Type 0} (xs : List (Range × V)) (p : Range × V) → IsJoined xs → ((i : ℕ) (d : Range × V) → i + 1 ≡ length xs → (get_or xs i d).0.high + 1 ≡ p.0.low → (get_or xs i d).1 ≢ p.1) → IsJoined (xs ++ p ∷ [])
+joined_push {V} xs p joined last i d lt = ⊎_elim old new (cases_lt (i + 1) (length xs))
+  where
+    len : length (xs ++ p ∷ []) ≡ length xs + 1
+    len = omega (arith, length-append xs (p ∷ []))
+
+    in_old : i < length xs
+    in_old = omega (arith, len)
+
+    old : i + 1 < length xs → (get_or (xs ++ p ∷ []) i d).0.high + 1 ≡ (get_or (xs ++ p ∷ []) (i + 1) d).0.low → (get_or (xs ++ p ∷ []) i d).1 ≢ (get_or (xs ++ p ∷ []) (i + 1) d).1
+    old next = rw (get_or_append_left xs (p ∷ []) d i in_old, get_or_append_left xs (p ∷ []) d (i + 1) next) (joined i d next)
+
+    new : length xs ≤ i + 1 → (get_or (xs ++ p ∷ []) i d).0.high + 1 ≡ (get_or (xs ++ p ∷ []) (i + 1) d).0.low → (get_or (xs ++ p ∷ []) i d).1 ≢ (get_or (xs ++ p ∷ []) (i + 1) d).1
+    new past =
+        let j_is : i + 1 ≡ length xs = omega (arith, len) in
+        let at_end : get_or (xs ++ p ∷ []) (i + 1) d ≡ p = ap (λ n. get_or (xs ++ p ∷ []) n d) j_is ∙ get_or-append_seam xs p [] d in
+        rw (get_or_append_left xs (p ∷ []) d i in_old, at_end) (last i d j_is)
+
+-- a new last piece that lies apart from the one before it
+pub table_push : {V : Type 0} (xs : List (Range × V)) (n : ℕ) (q p : Range × V) → IsTable xs → n ≡ length xs → q ≡ get_or xs (n - 1) q → Meets q p Apart → IsTable (xs ++ p ∷ [])
+table_push {V} xs n q p table whole is apart = record {
+  separate = separate_push xs p table.separate (λ i d last. subst (λ (s : Range × V). s.0.high < p.0.low) (sym (last_is xs n i d q whole last is)) apart.0);
+  joined = joined_push xs p table.joined (λ i d last. subst (λ (s : Range × V). s.0.high + 1 ≡ p.0.low → s.1 ≢ p.1) (sym (last_is xs n i d q whole last is)) apart.1);
+}
+
+pub starts_push : {V : Type 0} (xs : List (Range × V)) (p : Range × V) → StartsBefore xs p.0.low → StartsBefore (xs ++ p ∷ []) p.0.low
+starts_push {V} xs p before i d lt =
+    ⊎_elim
+    (λ old. rw (get_or_append_left xs (p ∷ []) d i old) (before i d old))
+    (λ past. let e : i ≡ length xs = omega (arith, length-append xs (p ∷ [])) in omega (arith, ap (λ (s : Range × V). s.0.low) (ap (λ n. get_or (xs ++ p ∷ []) n d) e ∙ get_or-append_seam xs p [] d)))
+    (cases_lt i (length xs))
+
+-- ---- a wider piece
+
+pub starts_widen : {V : Type 0} (xs : List (Range × V)) (i : ℕ) (p q : Range × V) (n : ℕ) → i < length xs → p ≡ get_or xs i p → q.0.low ≡ p.0.low → StartsBefore xs n → StartsBefore (set xs i q) n
+starts_widen {V} xs i p q n lt is same before j d in_list =
+    let j_in : j < length xs = omega (arith, length-set xs i q) in
+    ⊎_elim
+    (λ less. let ne : j ≢ i = omega arith in rw (get_or-set_other xs i j q d ne) (before j d j_in))
+    (λ more. ⊎_elim
+    (λ greater. let ne : j ≢ i = omega arith in rw (get_or-set_other xs i j q d ne) (before j d j_in))
+    (λ le. let e : j ≡ i = omega arith in omega (arith, ap (λ (s : Range × V). s.0.low) (ap (λ m. get_or (set xs i q) m d) e ∙ get_or-set_same xs i q d lt), ap (λ (s : Range × V). s.0.low) is, before i p lt, same))
+    (cases_lt i j))
+    (cases_lt j i)
+
+-- ---- the one value at a number
+
+-- nothing has a key that lies after the pieces before a place and before the piece there
+pub not_held : {V : Type 0} (xs : List (Range × V)) → IsSeparate xs → (key at : ℕ) → IsReach xs key at → ((d : Range × V) → at < length xs → key < (get_or xs at d).0.low) → (v : V) → Holds xs key v → ⊥
+not_held {V} xs sep key at reach later v h =
+    let r = place_of xs key v h in
+    let d = r.pair in
+    let i = r.at in
+    let in_list : i < length xs = r.in_list in
+    let low : d.0.low ≤ key = r.covers.above in
+    let high : key ≤ d.0.high = r.covers.below in
+    let here : get_or xs i d ≡ d = r.stands d in
+    ⊎_elim
+    (λ before. omega (arith, (reach i d in_list).0 before, ap (λ (s : Range × V). s.0.high) here))
+    (λ from. ⊎_elim
+    (λ after. omega (arith, sep at i d after in_list, later d (omega arith), (get_or xs at d).0.ordered, ap (λ (s : Range × V). s.0.low) here))
+    (λ le. let e : i ≡ at = omega arith in omega (arith, later d (omega arith), ap (λ (n : ℕ). (get_or xs n d).0.low) e, ap (λ (s : Range × V). s.0.low) here))
+    (cases_lt at i))
+    (cases_lt i at)
+
+-- separate pieces have one value at a key
+one_value : {V : Type 0} (xs : List (Range × V)) → IsSeparate xs → (key : ℕ) (v w : V) → Holds xs key v → Holds xs key w → v ≡ w
+one_value {V} xs sep key v w hv hw =
+    let a = place_of xs key v hv in
+    let b = place_of xs key w hw in
+    let d = a.pair in
+    let a_high : key ≤ (get_or xs a.at d).0.high = omega (arith, a.covers.below, ap (λ (s : Range × V). s.0.high) (a.stands d)) in
+    let a_low : (get_or xs a.at d).0.low ≤ key = omega (arith, a.covers.above, ap (λ (s : Range × V). s.0.low) (a.stands d)) in
+    let b_high : key ≤ (get_or xs b.at d).0.high = omega (arith, b.covers.below, ap (λ (s : Range × V). s.0.high) (b.stands d)) in
+    let b_low : (get_or xs b.at d).0.low ≤ key = omega (arith, b.covers.above, ap (λ (s : Range × V). s.0.low) (b.stands d)) in
+    ⊎_elim
+    (λ lt. absurd (omega (arith, a_high, b_low, sep a.at b.at d lt b.in_list)))
+    (λ le. ⊎_elim
+    (λ gt. absurd (omega (arith, b_high, a_low, sep b.at a.at d gt a.in_list)))
+    (λ ge. let e : a.at ≡ b.at = omega arith in sym a.value ∙ ap (λ (s : Range × V). s.1) (sym (a.stands d) ∙ ap (λ n. get_or xs n d) e ∙ b.stands d) ∙ b.value)
+    (cases_lt b.at a.at))
+    (cases_lt a.at b.at)
+
+-- the one answer
+pub one_answer : {V : Type 0} (xs ys : List (Range × V)) → IsSeparate xs → Same xs ys → (key : ℕ) (a b : Option V) → Says xs key a → Says ys key b → a ≡ b
+one_answer xs ys sep same key None None ha hb = refl
+one_answer xs ys sep same key None (Some w) ha hb = absurd (ha w ((same key w).1 hb))
+one_answer xs ys sep same key (Some v) None ha hb = absurd (hb v ((same key v).0 ha))
+one_answer xs ys sep same key (Some v) (Some w) ha hb = ap Some (one_value xs sep key v w ha ((same key w).1 hb))
+
+-- a table's pairs don't clash
+pub no_clash : {V : Type 0} (xs ys : List (Range × V)) → IsSeparate xs → Same xs ys → Clashing ys → ⊥
+no_clash xs ys sep same clash = clash.differ (one_value xs sep clash.key clash.one clash.other ((same clash.key clash.one).1 clash.has_one) ((same clash.key clash.other).1 clash.has_other))

@@ -1,0 +1,25 @@
+use Rattle.std.proofs.Common.{◌≤◌, ◌<◌, length, sym, ap, ◌∙◌, arith}
+use Rattle.std.proofs.lemmas.Bool.{ltb-false, ltb-true}
+use Rattle.std.proofs.lemmas.List.{get_or_default}
+use Rattle.set_intervals.proofs.PairLaws.{holds_read}
+use Rattle.set_intervals.proofs.PieceLaws.{not_held}
+use Rattle.set_intervals.proofs.table.find_in.Goals as goal
+use Rattle.set_intervals.proofs.table.find_in.Goals.{in_default-via-in-Some+else-low-key, in_default-via-in_default}
+
+pub returns-in-Some : goal.returns-in-Some
+returns-in-Some g c =
+    let xs = c.args.pieces.now in
+    let at = c.first_reaching-at.result in
+    let piece = c.in-Some.field-0.now in
+    let lt : at < length xs = ltb-true _ _ (sym c.in-Some.ensures.lookup.0) in
+    let is = c.in-Some.ensures.lookup.1 in
+    let high : c.args.key ≤ piece.0.high = omega (arith, (c.first_reaching-at.ensures at piece lt).1, ap (λ p. p.0.high) is) in
+    holds_read xs at piece c.args.key lt is (record { above = omega arith; below = high })
+
+pub returns-in_default : goal.returns-in_default
+returns-in_default g c =
+    not_held c.args.pieces.now c.requires.separate c.args.key c.first_reaching-at.result c.first_reaching-at.ensures
+    (λ d lt. elim c.in_default.branch [
+      | in_default-via-in-Some+else-low-key w ↦ omega (arith, w.low.ensures, w.if-low-key.false, ap (λ p. p.0.low) (w.in-Some.ensures.lookup.1 ∙ get_or_default _ _ w.in-Some.field-0.now d lt))
+      | in_default-via-in_default w ↦ absurd (omega (arith, lt, ltb-false _ _ (sym w.in_default.ensures.lookup.0)))
+    ])

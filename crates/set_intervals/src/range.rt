@@ -1,0 +1,63 @@
+//! Ranges of numbers.
+ghost use Rattle.std.specs.Prelude.{◌≡◌, ◌≤◌, ◌<◌, ◌+◌, ◌↔◌, max, IsTrue, MatchOption};
+
+/// The numbers from `low` to `high`, both included: at least one.
+#[derive(Clone, Copy, Debug)]
+pub struct Range {
+    low: u128,
+    high: u128,
+    pub ghost ordered: { low ≤ high },
+}
+
+impl Range {
+    /// The numbers from `low` to `high`. `None` where `high` is the lesser.
+    pub fn new(low: u128, high: u128) -> Option<Range>
+        ensures { MatchOption result (high < low) (λ r. (r.low ≡ low) × (r.high ≡ high)) }
+    {
+        if low <= high {
+            Some(Range { low, high })
+        } else {
+            None
+        }
+    }
+
+    /// The least number.
+    pub fn low(self) -> u128
+        ensures { result ≡ self.low }
+    {
+        self.low
+    }
+
+    /// The greatest number.
+    pub fn high(self) -> u128
+        ensures { result ≡ self.high }
+    {
+        self.high
+    }
+
+    /// Whether the two have a number in common.
+    pub(crate) fn overlaps(self, later: Range) -> bool
+        requires { self.low ≤ later.low }
+        ensures { IsTrue result ↔ (later.low ≤ self.high) }
+    {
+        later.low <= self.high
+    }
+
+    /// Whether the later one begins right after this one. `high + 1` may be too large.
+    pub(crate) fn touches(self, later: Range) -> bool
+        ensures { IsTrue result ↔ (self.high + 1 ≡ later.low) }
+    {
+        self.high < later.low && later.low - self.high == 1
+    }
+
+    /// From the beginning of this one to the end of both.
+    pub(crate) fn joined(self, later: Range) -> Range
+        ensures low { result.low ≡ self.low }
+        ensures high { result.high ≡ max self.high later.high }
+    {
+        Range {
+            low: self.low,
+            high: self.high.max(later.high),
+        }
+    }
+}

@@ -1,0 +1,152 @@
+//! A table of values by number, as sorted intervals.
+ghost use Rattle.std.specs.Prelude.{◌≡◌, ◌≤◌, ◌<◌, ◌↔◌, ℕ, List, length, IsTrue, IfOk, OnOk, IfErr, MatchOption};
+ghost use Rattle.std.specs.Option.{option_copied};
+ghost use Rattle.set_intervals.specs.declared.range.Range.{Range};
+ghost use Rattle.set_intervals.specs.Pairs.{Clashing, HasRuns, Holds, IsExact, Same, look};
+ghost use Rattle.set_intervals.specs.steps.Pieces.{Adds, ClashesWith, IsReach, IsTable, Meets, StartsBefore};
+
+use crate::fault::SetError;
+use crate::range::Range;
+use std::alloc::{AllocError, Global};
+use std::marker::Model;
+
+/// Values by number: no number has two.
+#[derive(Debug, Drop)]
+pub struct Intervals<V> {
+    /// Apart and rising. Neighbours that touch have different values.
+    pieces: Vec<(Range, V)>,
+}
+
+impl<V> Model for Intervals<V> {
+    ghost Value = { List (Range × V) };
+
+    ghost view = { λ t. t.pieces.items };
+
+    ghost invariant = { λ t. IsTable t.pieces.items };
+}
+
+impl<V: Copy + Eq> Intervals<V> {
+    /// The table of these pairs, whatever their order. Ranges with the same value that overlap or
+    /// touch become one. `exact`: `==` holds for what is the same and nothing else, as a derived
+    /// one over numbers does.
+    ///
+    /// # Errors
+    ///
+    /// `Clash` where a number has two different values, `Memory` where there is no room.
+    pub fn build(alloc: Global, pairs: &[(Range, V)]) -> Result<Self, SetError>
+        requires exact { IsExact V.eq }
+        ensures looks { IfOk result (λ table. (key : ℕ) → look table key ≡ look pairs.now key) }
+        ensures same { IfOk result (λ table. Same table pairs.now) }
+        ensures agrees { IfOk result (λ table. Clashing pairs.now → ⊥) }
+        ensures clash { IfErr result (λ e. e ≡ SetError.Clash → Clashing pairs.now) }
+    {
+        let mut sorted = copied(alloc, pairs)?;
+        sorted.sort_unstable_by_key(|pair| pair.0.low());
+        let mut pieces = Vec::new(alloc);
+        for &(range, value) in &sorted {
+            add(&mut pieces, range, value)?;
+        }
+        Ok(Intervals { pieces })
+    }
+
+    /// The value at a number. `None` where it has none.
+    pub fn find(&self, key: u128) -> Option<&V>
+        ensures held { MatchOption (option_copied result)
+            ((v : V) → Holds self.now key v → ⊥)
+            (λ v. Holds self.now key v) }
+        ensures looks { option_copied result ≡ look self.now key }
+    {
+        find_in(&self.pieces, key)
+    }
+
+    /// The number of runs: neighbours with the same value are one, however many pairs gave them.
+    pub fn count(&self) -> usize
+        ensures { HasRuns self.now result }
+    {
+        self.pieces.len()
+    }
+}
+
+/// How a pair stands to a piece that begins no later.
+enum Meeting {
+    /// It lies past the piece, and has another value where it touches it.
+    Apart,
+    /// It has the same value, and overlaps the piece or touches it.
+    Joins,
+    /// It has another value at a number of the piece.
+    Clashes,
+}
+
+/// How the pair stands to the piece.
+fn meet<V: Copy + Eq>(piece: (Range, V), pair: (Range, V)) -> Meeting
+    requires exact { IsExact V.eq }
+    requires rising { piece.0.low ≤ pair.0.low }
+    ensures { Meets piece pair result }
+{
+    let same = piece.1 == pair.1;
+    if piece.0.overlaps(pair.0) {
+        if same {
+            Meeting::Joins
+        } else {
+            Meeting::Clashes
+        }
+    } else if same && piece.0.touches(pair.0) {
+        Meeting::Joins
+    } else {
+        Meeting::Apart
+    }
+}
+
+/// One more pair, whose range begins no earlier than those before it.
+fn add<V: Copy + Eq>(pieces: &mut Vec<(Range, V)>, range: Range, value: V) -> Result<(), SetError>
+    requires exact { IsExact V.eq }
+    requires table { IsTable pieces.old.items }
+    requires after { StartsBefore pieces.old.items range.low }
+    ensures table { OnOk result (IsTable pieces.new.items) }
+    ensures after { OnOk result (StartsBefore pieces.new.items range.low) }
+    ensures adds { OnOk result (Adds pieces.old.items range value pieces.new.items) }
+    ensures clash { IfErr result (λ e. e ≡ SetError.Clash
+        → ClashesWith pieces.old.items range value) }
+{
+    let len = pieces.len();
+    if len == 0 {
+        pieces.push((range, value))?;
+        return Ok(());
+    }
+    let last = pieces[len - 1];
+    match meet(last, (range, value)) {
+        Meeting::Apart => pieces.push((range, value))?,
+        Meeting::Joins => pieces[len - 1] = (last.0.joined(range), last.1),
+        Meeting::Clashes => return Err(SetError::Clash),
+    }
+    Ok(())
+}
+
+/// The same pairs.
+fn copied<V: Copy>(alloc: Global, pairs: &[(Range, V)]) -> Result<Vec<(Range, V)>, AllocError>
+    ensures { IfOk result (λ copy. copy.items ≡ pairs.now) }
+{
+    pairs.iter().copied().collect(alloc)
+}
+
+/// The value at a number.
+fn find_in<V>(pieces: &[(Range, V)], key: u128) -> Option<&V>
+    requires { IsTable pieces.now }
+    ensures { MatchOption (option_copied result)
+        ((v : V) → Holds pieces.now key v → ⊥)
+        (λ v. Holds pieces.now key v) }
+{
+    let at = first_reaching(pieces, key);
+    match pieces.get(at) {
+        Some((range, value)) if range.low() <= key => Some(value),
+        _ => None,
+    }
+}
+
+/// The place of the first piece that doesn't end before the number.
+fn first_reaching<V>(pieces: &[(Range, V)], key: u128) -> usize
+    requires { IsTable pieces.now }
+    ensures { IsReach pieces.now key result }
+{
+    pieces.partition_point(|pair| pair.0.high() < key)
+}
