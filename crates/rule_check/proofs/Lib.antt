@@ -3,3 +3,4 @@ mod Numbers
 mod Lesser
 mod Stages
 mod Deciding
+mod Measures

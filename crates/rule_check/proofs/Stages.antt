@@ -1,11 +1,10 @@
 -- The stages of the judging, each behind faults that the ruleset hasn't.
-use Rattle.std.proofs.Common.{◌≡◌, List, Option, Some, None, IfSome, false, subst, sym, ◌∙◌}
+use Rattle.std.proofs.Common.{◌≡◌, List, Option, Some, None, IfSome, false, subst}
 use Rattle.std.specs.Prelude.{MatchOption}
 use Rattle.std.specs.List.{list_any}
 use Rattle.nft_tree.specs.Tree.{TableTree}
 use Rattle.box_file.specs.Box.{PlantTree}
 use Rattle.rule_names.specs.Names.{NameTwice}
-use Rattle.rule_paths.specs.Paths.{Cycles}
 use Rattle.rule_paths.specs.Findings.{AreFindings}
 use Rattle.rule_paths.specs.declared.judging.Findings.{Findings}
 use Rattle.rule_values.specs.Faults.{has_contradiction}

@@ -1,5 +1,5 @@
 -- Chains of type nat where they can't stand, and statements behind the end of a rule (nft(8), "Chains", "Statements").
-use Rattle.std.specs.Prelude.{ℤ, negsuc, int_le, ◌&&◌, ◌||◌, Bool, true, false, List, [], ◌∷◌, Option, Some, None}
+use Rattle.std.specs.Prelude.{negsuc, int_le, ◌&&◌, ◌||◌, Bool, true, false, List, [], ◌∷◌, Option, Some, None}
 use Rattle.std.specs.List.{list_any}
 use Rattle.nft_tree.specs.declared.chain.ChainKind.{ChainKind}
 use Rattle.nft_tree.specs.declared.chain.ChainKind.TheVariants as kinds

@@ -1,7 +1,10 @@
 //! Rulesets in which nothing is wrong.
-ghost use Rattle.std.specs.Prelude.{◌≡◌, IfOk, IfErr};
-ghost use Rattle.nft_tree.specs.Tree.{tables_of};
-ghost use Rattle.rule_check.specs.Checked.{CheckedTree, IsCheckRefusal};
+ghost use Rattle.std.specs.Prelude.{◌≡◌, ◌<◌, ◌≤◌, ℕ, List, [], IfOk, IfErr, get_or, slice_get, slice_index};
+ghost use Rattle.nft_tree.specs.Tree.{ChainTree, HeadTree, TableTree, tables_of};
+ghost use Rattle.nft_tree.specs.Parts.{chains_of};
+ghost use Rattle.rule_paths.specs.Paths.{MOST_COST, MOST_JUMPS};
+ghost use Rattle.rule_paths.specs.Findings.{AreChainCosts, AreChainDepths, numbers_at};
+ghost use Rattle.rule_check.specs.Checked.{AreRulesetCosts, CheckedTree, IsCheckRefusal, ruleset_sum};
 ghost use Rattle.rule_check.specs.WellFormed.{WellFormed};
 
 use crate::fault::CheckError;
@@ -12,23 +15,26 @@ use std::alloc::Global;
 use std::marker::Model;
 
 /// A ruleset with the box that it was judged on, in which nothing is wrong: there is no other way
-/// to make one than to have it checked.
+/// to make one than to have it checked. It keeps what its chains cost and how deep they jump.
 #[derive(Drop)]
 pub struct Checked {
     tree: Ruleset,
     plant: Plant,
+    /// By table and chain.
+    costs: Vec<Vec<u64>>,
+    /// By table and chain.
+    depths: Vec<Vec<u64>>,
 }
 
 impl Model for Checked {
     ghost use Rattle.nft_tree.specs.Tree.{tables_of};
-    ghost use Rattle.rule_check.specs.Checked.{CheckedTree};
-    ghost use Rattle.rule_check.specs.WellFormed.{WellFormed};
+    ghost use Rattle.rule_check.specs.Checked.{CheckedTree, IsChecked};
 
     ghost Value = { CheckedTree };
 
     ghost view = { λ c. record { rules = tables_of c.tree; plant = c.plant } };
 
-    ghost invariant = { λ c. WellFormed (tables_of c.tree) c.plant };
+    ghost invariant = { λ c. IsChecked (tables_of c.tree) c.plant c.costs.items c.depths.items };
 }
 
 /// Judges a ruleset on a box: it is handed back checked exactly where nothing is wrong with it,
@@ -39,8 +45,13 @@ pub fn check(alloc: Global, tree: Ruleset, plant: Plant) -> Result<Checked, Chec
     ensures fine { IfOk result (λ checked. WellFormed (tables_of tree) plant) }
     ensures refused { IfErr result (λ error. IsCheckRefusal (tables_of tree) plant error) }
 {
-    judge(alloc, &tree, &plant)?;
-    Ok(Checked { tree, plant })
+    let found = judge(alloc, &tree, &plant)?;
+    Ok(Checked {
+        tree,
+        plant,
+        costs: found.costs,
+        depths: found.depths,
+    })
 }
 
 impl Checked {
@@ -56,5 +67,49 @@ impl Checked {
         ensures { result.now ≡ self.now.plant }
     {
         &self.plant
+    }
+
+    /// What the chains of a table cost, in text order: for each statement 1 and the cost of what it
+    /// leads to; 2^64 - 1 stands for all that is more. A base chain costs less than 65,536. Empty
+    /// where there is no such table.
+    pub fn costs(&self, table: usize) -> &[u64]
+        ensures costs { (t : TableTree) → slice_get self.now.rules table ≡ Some t → AreChainCosts t result.now }
+        ensures base { (t : TableTree) (j : ℕ) (c : ChainTree) (head : HeadTree) → slice_get self.now.rules table ≡ Some t
+            → slice_get (chains_of t) j ≡ Some c → c.head ≡ Some head → slice_index result.now j < MOST_COST }
+        // These are the table's costs in any lists of all costs, as `measured` has them.
+        ensures same { (costs : List (List ℕ)) → AreRulesetCosts self.now.rules costs → result.now ≡ get_or costs table [] }
+        ensures none { slice_get self.now.rules table ≡ None → result.now ≡ [] }
+    {
+        row(&self.costs, table)
+    }
+
+    /// The most jumps of a path from each chain of a table, in text order: at most 16. Empty where
+    /// there is no such table.
+    pub fn depths(&self, table: usize) -> &[u64]
+        ensures depths { (t : TableTree) → slice_get self.now.rules table ≡ Some t → AreChainDepths t result.now }
+        ensures shallow { (j : ℕ) → slice_index result.now j ≤ MOST_JUMPS }
+        ensures none { slice_get self.now.rules table ≡ None → result.now ≡ [] }
+    {
+        row(&self.depths, table)
+    }
+
+    /// What is known of a ruleset by its being checked: nothing is wrong with it, its chains have
+    /// costs, and all base chains with 1 more each cost at most 65,536 together. It does nothing.
+    pub fn measured(&self)
+        ensures fine { WellFormed self.now.rules self.now.plant }
+        ensures some { (costs : List (List ℕ)) × AreRulesetCosts self.now.rules costs }
+        ensures total { (costs : List (List ℕ)) → AreRulesetCosts self.now.rules costs → ruleset_sum self.now.rules costs ≤ MOST_COST }
+    {
+        let _ = &self.costs;
+    }
+}
+
+/// The numbers of a table, none where there is no such table.
+fn row(rows: &[Vec<u64>], table: usize) -> &[u64]
+    ensures { result.now ≡ numbers_at rows.now table }
+{
+    match rows.get(table) {
+        Some(numbers) => numbers,
+        None => &[],
     }
 }

@@ -243,6 +243,7 @@ all-found tables cost found s e = record {
     λ k. e ∙ lt-ltb MOST_COST cost (is-costly tables s.have_costs cost s.sum k),
   );
   nat = s.nat;
+  has_costs = (λ t a. s.have_costs.costs (index_graph t) (index_of t a), are-costs tables s.have_costs);
   costs_long = s.costs_long;
   costs = s.chain_costs;
   depths_long = s.depths_long;

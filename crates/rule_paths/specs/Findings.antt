@@ -1,5 +1,5 @@
 -- What is found of rulesets whose jumps and gotos lead to no cycle.
-use Rattle.std.specs.Prelude.{◌≡◌, ◌↔◌, ℕ, ◌<◌, ◌≤◌, IsTrue, List, [], length, get_or, map, slice_index, Vec}
+use Rattle.std.specs.Prelude.{◌≡◌, ◌↔◌, ℕ, ◌<◌, ◌≤◌, IsTrue, List, [], length, get_or, map, slice_index, Contains, Vec}
 use Rattle.std.specs.declared.alloc.Global.{Global}
 use Rattle.nft_tree.specs.Tree.{TableTree}
 use Rattle.nft_tree.specs.Parts.{chains_of}
@@ -31,11 +31,13 @@ pub record AreChainDepths (t : TableTree) (depths : List ℕ) : Type 0 where
 abbrev pub numbers_at : List (Vec ℕ Global) → ℕ → List ℕ
 numbers_at rows i = get_or (map (λ row. row.items) rows) i []
 
+-- what is found of a ruleset; that all its tables have costs
 pub record AreFindings (tables : List TableTree) (found : Findings) : Type 0 where
   pub acyclic : Cycles tables → ⊥
   pub deep : IsTrue found.is_too_deep ↔ TooDeep tables
   pub costly : IsTrue found.is_too_costly ↔ TooCostly tables
   pub nat : IsTrue found.misplaces_nat ↔ MisplacedNat tables
+  pub has_costs : (cost : TableTree → Caller → ℕ) × ((t : TableTree) → Contains tables t → AreCosts t (cost t))
   pub costs_long : length found.costs.items ≡ length tables
   pub costs : (i : ℕ) (t : TableTree) → i < length tables → t ≡ get_or tables i t → AreChainCosts t (numbers_at found.costs.items i)
   pub depths_long : length found.depths.items ≡ length tables

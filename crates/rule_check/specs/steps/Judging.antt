@@ -1,5 +1,5 @@
 -- What is told of some of the faults, in their order.
-use Rattle.std.specs.Prelude.{◌≡◌, ℕ, ◌<◌, ◌≤◌, List, Option, Some, None}
+use Rattle.std.specs.Prelude.{ℕ, ◌<◌, ◌≤◌, List, Option, Some, None}
 use Rattle.nft_tree.specs.Tree.{TableTree}
 use Rattle.box_file.specs.Box.{PlantTree}
 use Rattle.rule_check.specs.declared.fault.CheckFault.{CheckFault}

@@ -1,11 +1,10 @@
-use Rattle.std.proofs.Common.{rules, ◌≡◌, ◌∙◌, ap, sym, false, List, arith}
+use Rattle.std.proofs.Common.{◌≡◌, ◌∙◌, ap, sym, false, List, arith}
 use Rattle.std.specs.List.{list_any}
 use Rattle.nft_tree.specs.Tree.{TableTree, tables_of}
 use Rattle.box_file.specs.Box.{PlantTree}
 use Rattle.rule_names.specs.Names.{jumps_to_base}
 use Rattle.rule_types.specs.Types.{table_misfits}
 use Rattle.rule_check.specs.declared.fault.CheckFault.TheVariants as faults
-use Rattle.rule_check.specs.steps.Judging.{HasNone}
 use Rattle.rule_check.proofs.Lesser.{more, none_yet, not_so, not_true, told}
 use Rattle.rule_check.proofs.judging.fault_of_chains.Goals as goal
 

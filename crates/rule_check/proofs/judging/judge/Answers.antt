@@ -1,4 +1,4 @@
-use Rattle.std.proofs.Common.{rules, ◌≡◌, List, Option, false, subst, sym, ◌∙◌}
+use Rattle.std.proofs.Common.{rules, ◌≡◌, List, false, subst, sym, ◌∙◌}
 use Rattle.std.specs.List.{list_any}
 use Rattle.nft_tree.specs.Tree.{TableTree, tables_of}
 use Rattle.box_file.specs.Box.{PlantTree}

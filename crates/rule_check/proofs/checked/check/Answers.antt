@@ -1,0 +1,6 @@
+use Rattle.nft_tree.specs.Tree.{tables_of}
+use Rattle.rule_check.proofs.Measures.{is_checked}
+use Rattle.rule_check.proofs.checked.check.Goals as goal
+
+pub invariant_of-result : goal.invariant_of-result
+invariant_of-result c = is_checked (tables_of c.args.tree) c.args.plant c.in_ok-found.found c.in_ok-found.ensures.fine c.in_ok-found.ensures.found
