@@ -1,12 +1,13 @@
 -- A packet whose TTL is another.
-use Rattle.std.proofs.Common.{◌≡◌, ◌≢◌, ℕ, ◌+◌, ◌*◌, ◌/◌, ◌%◌, ◌<◌, ◌≤◌, List, length, get_or, set, take, None, refl, sym, ap, ◌∙◌, arith, ◌⊎◌, ⊎_elim}
+use Rattle.std.proofs.Common.{◌≡◌, ◌≢◌, ℕ, ◌+◌, ◌*◌, ◌/◌, ◌%◌, ◌<◌, ◌≤◌, List, length, get_or, set, take, drop, length-drop, None, refl, sym, ap, ◌∙◌, arith, ◌⊎◌, ⊎_elim}
 use mathlib.Core.Bool.{not}
 use Rattle.std.proofs.Math.Seq.{take-set-lt}
 use Rattle.std.proofs.lemmas.Bool.Decides.{eqb_tells}
 use Rattle.std.proofs.Math.Logic.{⊎_map}
-use Rattle.std.proofs.lemmas.Grind.{common_steps}
+use Rattle.std.proofs.lemmas.Grind.{common_steps, same_number_lists}
 use Rattle.ip_headers.specs.Sum.{words_sum, ones_sum_of}
-use Rattle.ip_headers.specs.Header.{word_at, header, header_len, ttl, protocol, header_checksum, fault_of}
+use Rattle.ip_headers.specs.Bytes.{word_at}
+use Rattle.ip_headers.specs.Header.{header, header_len, total_len, ttl, protocol, header_checksum, fault_of}
 use Rattle.ip_headers.specs.Rewritten.{corrected, with_word, with_ttl, ChangesTtlAlone}
 use Rattle.ip_headers.proofs.Words.{words_sum-set, words_sum-word, take-word, kept, still_ones}
 use Rattle.ip_headers.proofs.Faults.{Passes, passes, fault_free}
@@ -42,19 +43,19 @@ changed_right : (p : List ℕ) (new : ℕ) → Passes p → ones_sum_of (header 
 changed_right p new ok =
     let q = changed p new in
     let n = header_len p in
-    let whole : n ≤ length p = omega (arith, ok.but_last.head, ok.but_last.whole) in
-    let some : 0 < get_or (take n q) 0 0 = grind (arith, common_steps, ok.but_last.long, ok.but_last.four) in
-    rw (changed_header_len p new) (still_ones (take n p) (take n q) (changed_sum p new n ok.but_last.long whole) ok.but_last.sum some)
+    let whole : n ≤ length p = omega (arith, ok.head.head, ok.head.whole) in
+    let some : 0 < get_or (take n q) 0 0 = grind (arith, common_steps, ok.head.long, ok.head.four) in
+    rw (changed_header_len p new) (still_ones (take n p) (take n q) (changed_sum p new n ok.head.long whole) ok.head.sum some)
 
 changed_alone : (p : List ℕ) (new : ℕ) → Passes p → new ≢ ttl p → ChangesTtlAlone p new (changed p new)
 changed_alone p new ok other =
     record {
       same_length = grind (arith, common_steps);
-      ttl_is = grind (arith, common_steps, ok.but_last.long, ok.but_last.head, ok.but_last.whole);
+      ttl_is = grind (arith, common_steps, ok.head.long, ok.head.head, ok.head.whole);
       checksum_stays = λ same. absurd (other same);
       checksum_is = λ _.
           let w = corrected (header_checksum p) (word_at p 8) (new * 256 + protocol p) in
-          let long : 20 ≤ length p = omega (arith, ok.but_last.long, ok.but_last.head, ok.but_last.whole) in
+          let long : 20 ≤ length p = omega (arith, ok.head.long, ok.head.head, ok.head.whole) in
           let high : get_or (changed p new) 10 0 ≡ w / 256 = grind (arith, common_steps) in
           let low : get_or (changed p new) 11 0 ≡ w % 256 = grind (arith, common_steps) in
           omega (arith, high, low);
@@ -84,6 +85,13 @@ same_or_other a b = ⊎_map (λ t. t.1) (λ t. t.1) (eqb_tells a b)
 pub with_ttl_alone : (p : List ℕ) (new : ℕ) → Passes p → ChangesTtlAlone p new (with_ttl p new)
 with_ttl_alone p new ok = ⊎_elim (λ same. rw (with_same p new same) (same_alone p new same)) (λ other. rw (with_other p new other) (changed_alone p new ok other)) (same_or_other new (ttl p))
 
+-- past the header's first 20 bytes all is as it was
+same_payload : (p q : List ℕ) (n h : ℕ) → 20 ≤ h → length q ≡ length p → ((i : ℕ) → i ≢ 8 → i ≢ 10 → i ≢ 11 → get_or q i 0 ≡ get_or p i 0) → drop h (take n q) ≡ drop h (take n p)
+same_payload p q n h long same elsewhere =
+    same_number_lists (drop h (take n q)) (drop h (take n p)) (grind (arith, common_steps)) (λ k lt.
+    let here : h + k < length (take n q) = omega (arith, length-drop h (take n q)) in
+    grind (arith, common_steps, elsewhere (h + k) (omega arith) (omega arith) (omega arith)))
+
 -- what leaves passes the tests as what came did
 alone_passes : (p q : List ℕ) (new : ℕ) → Passes p → ChangesTtlAlone p new q → Passes q
 alone_passes p q new ok alone =
@@ -91,15 +99,20 @@ alone_passes p q new ok alone =
     let second = alone.elsewhere 2 (omega arith) (omega arith) (omega arith) in
     let third = alone.elsewhere 3 (omega arith) (omega arith) (omega arith) in
     let flags : word_at q 6 ≡ word_at p 6 = omega (arith, alone.elsewhere 6 (omega arith) (omega arith) (omega arith), alone.elsewhere 7 (omega arith) (omega arith) (omega arith)) in
+    let header_len-same : header_len q ≡ header_len p = ap (λ b. b % 16 * 4) first in
+    let total_len-same : total_len q ≡ total_len p = omega (arith, second, third) in
+    let number : protocol q ≡ protocol p = alone.elsewhere 9 (omega arith) (omega arith) (omega arith) in
+    let payload = same_payload p q (total_len p) (header_len p) ok.head.long alone.same_length alone.elsewhere in
     record {
-      but_last = record {
-        long = omega (arith, first, ok.but_last.long);
-        head = omega (arith, first, second, third, ok.but_last.head);
-        whole = omega (arith, second, third, ok.but_last.whole, alone.same_length);
-        four = omega (arith, first, ok.but_last.four);
-        sum = alone.right ok.but_last.sum;
+      head = record {
+        long = omega (arith, first, ok.head.long);
+        head = omega (arith, first, second, third, ok.head.head);
+        whole = omega (arith, second, third, ok.head.whole, alone.same_length);
+        four = omega (arith, first, ok.head.four);
+        sum = alone.right ok.head.sum;
       };
       unbroken = ap (λ w. not (w % 16384 == 0)) flags ∙ ok.unbroken;
+      carried = rw (header_len-same, total_len-same, number, payload) ok.carried;
     }
 
 pub with_ttl_faultless : (p : List ℕ) (new : ℕ) → fault_of p ≡ None → fault_of (with_ttl p new) ≡ None

@@ -1,12 +1,39 @@
 -- What the tests of a header leave.
-use Rattle.std.proofs.Common.{◌≡◌, ◌≢◌, ℕ, ◌%◌, ◌≤◌, List, length, Some, None, false, arith}
+use Rattle.std.proofs.Common.{◌≡◌, ◌≢◌, ℕ, ◌<◌, ◌≤◌, List, length, Option, Some, None, Bool, true, false, refl, ap, ◌∙◌, arith}
+use Rattle.std.specs.Prelude.{◌==◌, nat_lt, not, if◌then◌else◌}
+use Rattle.std.proofs.lemmas.Bool.{le-ltb, lt-ltb, eq-eqb, ne_eqb}
 use Rattle.std.proofs.lemmas.Grind.{common_steps}
-use Rattle.ip_headers.specs.declared.view.HeaderFault.TheVariants.{Fragment}
+use Rattle.ip_headers.specs.declared.view.HeaderFault.{HeaderFault}
+use Rattle.ip_headers.specs.declared.view.HeaderFault.TheVariants.{Short, Version, HeaderLength, Length, Truncated, Checksum, Fragment, Transport}
 use Rattle.ip_headers.specs.Sum.{ones_sum_of}
-use Rattle.ip_headers.specs.Header.{header, header_len, total_len, version, flags_and_offset, is_fragment, fault_of, packet_of}
+use Rattle.ip_headers.specs.Transport.{transport_is_wrong}
+use Rattle.ip_headers.specs.steps.Ends.{has_ports}
+use Rattle.ip_headers.specs.Header.{header, header_len, total_len, version, protocol, is_fragment, fault_of, packet_of, payload_of}
 
--- every test but the last
-pub record PassesButLast (p : List ℕ) : Type 0 where
+-- ---- the tests by their answers
+
+abbrev first : Bool → Bool → Bool → Bool → Bool → Bool → Bool → Bool → Option HeaderFault
+first a b c d e f g h =
+    if a then Some Short else (if b then Some Version else (if c then Some HeaderLength else (if d then Some Length
+    else (if e then Some Truncated else (if f then Some Checksum else (if g then Some Fragment else (if h then Some Transport else None)))))))
+
+after_three : (a b c d e f g h : Bool) → a ≡ false → b ≡ false → c ≡ false
+    → first a b c d e f g h ≡ (if d then Some Length else (if e then Some Truncated else (if f then Some Checksum else (if g then Some Fragment else (if h then Some Transport else None)))))
+after_three a b c d e f g h is_a is_b is_c = rw (is_a, is_b, is_c) refl
+
+last_is : (a b c d e f g h : Bool) → first a b c d e f g h ≡ None → h ≡ false
+last_is a b c d e f g false none = refl
+last_is true b c d e f g true none = cc
+last_is false true c d e f g true none = cc
+last_is false false true d e f g true none = cc
+last_is false false false true e f g true none = cc
+last_is false false false false true f g true none = cc
+last_is false false false false false true g true none = cc
+last_is false false false false false false true true none = cc
+last_is false false false false false false false true none = cc
+
+-- every test but the last two
+pub record PassesHeader (p : List ℕ) : Type 0 where
   pub long : 20 ≤ header_len p
   pub head : header_len p ≤ total_len p
   pub whole : total_len p ≤ length p
@@ -14,12 +41,13 @@ pub record PassesButLast (p : List ℕ) : Type 0 where
   pub sum : ones_sum_of (header p) ≡ 65535
 
 pub record Passes (p : List ℕ) : Type 0 where
-  pub but_last : PassesButLast p
+  pub head : PassesHeader p
   pub unbroken : is_fragment p ≡ false
+  pub carried : transport_is_wrong (protocol p) (payload_of p) ≡ false
 
 pub passes : (p : List ℕ) → fault_of p ≡ None → Passes p
 passes p none = record {
-  but_last = record {
+  head = record {
     long = grind (arith, none);
     head = grind (arith, none);
     whole = grind (arith, none);
@@ -27,28 +55,76 @@ passes p none = record {
     sum = grind (arith, none);
   };
   unbroken = grind (arith, none);
+  carried = last_is (nat_lt (length p) 20) (not (version p == 4)) (nat_lt (header_len p) 20) (nat_lt (total_len p) (header_len p)) (nat_lt (length p) (total_len p)) (not (ones_sum_of (header p) == 65535)) (is_fragment p) (transport_is_wrong (protocol p) (payload_of p)) none;
 }
 
+-- what the first three tests let through, the others judge
+abbrev judged : List ℕ → Option HeaderFault
+judged p =
+    if nat_lt (total_len p) (header_len p) then Some Length else (if nat_lt (length p) (total_len p) then Some Truncated
+    else (if not (ones_sum_of (header p) == 65535) then Some Checksum else (if is_fragment p then Some Fragment
+    else (if transport_is_wrong (protocol p) (payload_of p) then Some Transport else None))))
+
+by_others : (p : List ℕ) → 20 ≤ length p → version p ≡ 4 → 20 ≤ header_len p → fault_of p ≡ judged p
+by_others p long four head =
+    after_three (nat_lt (length p) 20) (not (version p == 4)) (nat_lt (header_len p) 20) (nat_lt (total_len p) (header_len p)) (nat_lt (length p) (total_len p)) (not (ones_sum_of (header p) == 65535)) (is_fragment p) (transport_is_wrong (protocol p) (payload_of p))
+    (le-ltb _ _ long) (ap not (eq-eqb _ _ four)) (le-ltb _ _ head)
+
+pub too_small : (p : List ℕ) → 20 ≤ length p → version p ≡ 4 → 20 ≤ header_len p → total_len p < header_len p → fault_of p ≡ Some Length
+too_small p long four head small = by_others p long four head ∙ rw (lt-ltb _ _ small) refl
+
+pub cut : (p : List ℕ) → 20 ≤ length p → version p ≡ 4 → 20 ≤ header_len p → header_len p ≤ total_len p → length p < total_len p → fault_of p ≡ Some Truncated
+cut p long four head fits short = by_others p long four head ∙ rw (le-ltb _ _ fits, lt-ltb _ _ short) refl
+
+pub damaged : (p : List ℕ) → 20 ≤ length p → version p ≡ 4 → 20 ≤ header_len p → header_len p ≤ total_len p → total_len p ≤ length p → ones_sum_of (header p) ≢ 65535 → fault_of p ≡ Some Checksum
+damaged p long four head fits whole wrong = by_others p long four head ∙ rw (le-ltb _ _ fits, le-ltb _ _ whole, ne_eqb _ _ wrong) refl
+
+by_last_two : (p : List ℕ) → PassesHeader p → fault_of p ≡ (if is_fragment p then Some Fragment else (if transport_is_wrong (protocol p) (payload_of p) then Some Transport else None))
+by_last_two p ok = by_others p (omega (arith, ok.long, ok.head, ok.whole)) ok.four ok.long ∙ rw (le-ltb _ _ ok.head, le-ltb _ _ ok.whole, eq-eqb _ _ ok.sum) refl
+
 pub fault_free : (p : List ℕ) → Passes p → fault_of p ≡ None
-fault_free p ok = grind (arith, ok.but_last.long, ok.but_last.head, ok.but_last.whole, ok.but_last.four, ok.but_last.sum, ok.unbroken)
+fault_free p ok = by_last_two p ok.head ∙ rw (ok.unbroken, ok.carried) refl
 
-pub unbroken_by : (p : List ℕ) (flags : ℕ) → flags ≡ flags_and_offset p → flags % 16384 ≡ 0 → is_fragment p ≡ false
-unbroken_by p flags is none = grind (arith, is, none)
+pub broken : (p : List ℕ) → PassesHeader p → is_fragment p ≡ true → fault_of p ≡ Some Fragment
+broken p ok is = by_last_two p ok ∙ rw is refl
 
-pub broken_by : (p : List ℕ) (flags : ℕ) → PassesButLast p → flags ≡ flags_and_offset p → flags % 16384 ≢ 0 → fault_of p ≡ Some Fragment
-broken_by p flags ok is some = grind (arith, ok.long, ok.head, ok.whole, ok.four, ok.sum, is, some)
+pub refused : (p : List ℕ) → PassesHeader p → is_fragment p ≡ false → transport_is_wrong (protocol p) (payload_of p) ≡ true → fault_of p ≡ Some Transport
+refused p ok unbroken wrong = by_last_two p ok ∙ rw (unbroken, wrong) refl
 
--- a packet passes by itself
+-- ---- a packet passes by itself
+
+pub total_len-packet : (p : List ℕ) → PassesHeader p → total_len (packet_of p) ≡ total_len p
+total_len-packet p ok = grind (arith, common_steps, ok.long, ok.head)
+
+pub header_len-packet : (p : List ℕ) → PassesHeader p → header_len (packet_of p) ≡ header_len p
+header_len-packet p ok = grind (arith, common_steps, ok.long, ok.head)
+
+pub packet-packet : (p : List ℕ) → PassesHeader p → packet_of (packet_of p) ≡ packet_of p
+packet-packet p ok = rw (total_len-packet p ok) (grind (arith, common_steps, ok.whole))
+
 pub packet_passes : (p : List ℕ) → Passes p → Passes (packet_of p)
 packet_passes p ok =
-    let last = ok.but_last in
+    let one = ok.head in
+    let same : protocol (packet_of p) ≡ protocol p = grind (arith, common_steps, one.long, one.head) in
     record {
-      but_last = record {
-        long = grind (arith, common_steps, last.long, last.head);
-        head = grind (arith, common_steps, last.long, last.head);
-        whole = grind (arith, common_steps, last.long, last.head, last.whole);
-        four = grind (arith, common_steps, last.long, last.head, last.four);
-        sum = grind (arith, common_steps, last.long, last.head, last.sum);
+      head = record {
+        long = grind (arith, common_steps, one.long, one.head);
+        head = grind (arith, common_steps, one.long, one.head);
+        whole = grind (arith, common_steps, one.long, one.head, one.whole);
+        four = grind (arith, common_steps, one.long, one.head, one.four);
+        sum = grind (arith, common_steps, one.long, one.head, one.sum);
       };
-      unbroken = grind (arith, common_steps, last.long, last.head, ok.unbroken);
+      unbroken = grind (arith, common_steps, one.long, one.head, ok.unbroken);
+      carried = rw (same, header_len-packet p one, packet-packet p one) ok.carried;
     }
+
+-- ---- how long a packet is that passes
+
+pub long_enough : (p : List ℕ) → fault_of p ≡ None → 20 ≤ length p
+long_enough p none = let ok = (passes p none).head in omega (arith, ok.long, ok.head, ok.whole)
+
+eight_of : (number : ℕ) (payload : List ℕ) → transport_is_wrong number payload ≡ false → has_ports number ≡ true → 8 ≤ length payload
+eight_of number payload right some = grind (arith, right, some)
+
+pub eight_bytes : (p : List ℕ) → Passes p → has_ports (protocol p) ≡ true → 8 ≤ length (payload_of p)
+eight_bytes p ok some = eight_of (protocol p) (payload_of p) ok.carried some

@@ -1,4 +1,5 @@
 pub mod Changed
 pub mod Faults
+pub mod Numbers
 pub mod Sums
 pub mod Words

@@ -4,7 +4,7 @@ use mathlib.Core.Bool.{not}
 use Rattle.std.proofs.Math.Seq.{take-set-lt}
 use Rattle.std.proofs.lemmas.Grind.{common_steps}
 use Rattle.ip_headers.specs.Sum.{words_sum, ones_sum_of}
-use Rattle.ip_headers.specs.Header.{word_at}
+use Rattle.ip_headers.specs.Bytes.{word_at}
 use Rattle.ip_headers.specs.Rewritten.{corrected, with_word}
 use Rattle.ip_headers.proofs.Sums.{placed, at_place, placed_is}
 

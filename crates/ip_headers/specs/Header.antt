@@ -1,18 +1,11 @@
 -- What bytes are as a packet of IPv4 (RFC 791, section 3.1).
-use Rattle.std.specs.Prelude.{ℕ, ◌+◌, ◌*◌, ◌/◌, ◌%◌, ◌==◌, nat_lt, not, Bool, List, length, take, slice_index, Option, Some, None, if◌then◌else◌}
+use Rattle.std.specs.Prelude.{ℕ, ◌*◌, ◌/◌, ◌%◌, ◌==◌, nat_lt, not, Bool, List, length, take, drop, Option, Some, None, if◌then◌else◌}
 use Rattle.ip_headers.specs.declared.view.HeaderFault.{HeaderFault}
-use Rattle.ip_headers.specs.declared.view.HeaderFault.TheVariants.{Short, Version, HeaderLength, Length, Truncated, Checksum, Fragment}
+use Rattle.ip_headers.specs.declared.view.HeaderFault.TheVariants.{Short, Version, HeaderLength, Length, Truncated, Checksum, Fragment, Transport}
+use Rattle.ip_headers.specs.Bytes.{byte_at, word_at, number_at}
 use Rattle.ip_headers.specs.Sum.{ones_sum_of}
-
--- the 8, 16 and 32 bits from a place on, the highest first
-abbrev pub byte_at : List ℕ → ℕ → ℕ
-byte_at bytes i = slice_index bytes i
-
-abbrev pub word_at : List ℕ → ℕ → ℕ
-word_at bytes i = slice_index bytes i * 256 + slice_index bytes (i + 1)
-
-abbrev pub number_at : List ℕ → ℕ → ℕ
-number_at bytes i = word_at bytes i * 65536 + word_at bytes (i + 2)
+use Rattle.ip_headers.specs.Transport.{transport_in, transport_is_wrong}
+use Rattle.ip_headers.specs.declared.transport.Transport.{Transport as Carried}
 
 -- the fields of the header
 abbrev pub version : List ℕ → ℕ
@@ -48,11 +41,19 @@ destination bytes = number_at bytes 16
 abbrev pub header : List ℕ → List ℕ
 header bytes = take (header_len bytes) bytes
 
+-- the packet that a record begins with: bytes past the total length are ignored
+abbrev pub packet_of : List ℕ → List ℕ
+packet_of bytes = take (total_len bytes) bytes
+
+-- what follows the header
+abbrev pub payload_of : List ℕ → List ℕ
+payload_of bytes = drop (header_len bytes) (packet_of bytes)
+
 -- MF is set or the offset isn't 0: all but the two highest bits
 abbrev pub is_fragment : List ℕ → Bool
 is_fragment bytes = not (flags_and_offset bytes % 16384 == 0)
 
--- the tests in their order: the first that fails is the fault; bytes past the total length are ignored
+-- the tests in their order: the first that fails is the fault
 abbrev pub fault_of : List ℕ → Option HeaderFault
 fault_of bytes =
     if nat_lt (length bytes) 20 then Some Short
@@ -62,8 +63,9 @@ fault_of bytes =
     else (if nat_lt (length bytes) (total_len bytes) then Some Truncated
     else (if not (ones_sum_of (header bytes) == 65535) then Some Checksum
     else (if is_fragment bytes then Some Fragment
-    else None))))))
+    else (if transport_is_wrong (protocol bytes) (payload_of bytes) then Some Transport
+    else None)))))))
 
--- the packet that a record without a fault begins with
-abbrev pub packet_of : List ℕ → List ℕ
-packet_of bytes = take (total_len bytes) bytes
+-- what a packet carries
+abbrev pub transport_of : List ℕ → Carried
+transport_of packet = transport_in (protocol packet) (payload_of packet)

@@ -1,3 +1,7 @@
 pub mod Sum
+pub mod Bytes
+pub mod Transport
 pub mod Header
+pub mod Tuple
 pub mod Rewritten
+pub mod steps

@@ -2,7 +2,8 @@
 use Rattle.std.specs.Prelude.{◌≡◌, ℕ, ◌+◌, ◌-◌, ◌*◌, ◌/◌, ◌%◌, ◌==◌, ◌≢◌, List, length, slice_index, slice_set, Option, Some, None, if◌then◌else◌}
 use Rattle.ip_headers.specs.declared.rewrite.Change.{Change}
 use Rattle.ip_headers.specs.Sum.{ones_sum_of}
-use Rattle.ip_headers.specs.Header.{word_at, header, header_checksum, ttl, protocol}
+use Rattle.ip_headers.specs.Bytes.{word_at}
+use Rattle.ip_headers.specs.Header.{header, header_checksum, ttl, protocol}
 
 -- the field's new value, and else the old one
 abbrev pub changed_to : Option ℕ → ℕ → ℕ

@@ -3,8 +3,12 @@
 
 mod rewrite;
 mod sum;
+mod transport;
+mod tuple;
 mod view;
 
 pub use rewrite::{Change, emit};
 pub use sum::ones_sum;
+pub use transport::Transport;
+pub use tuple::{Endpoint, Kind, Mapping, Tuple};
 pub use view::{HeaderFault, View};

@@ -1,13 +1,16 @@
 //! A packet of IPv4, read in place.
 ghost use Rattle.std.specs.Prelude.{◌≤◌, length, ◌≡◌, None, take, drop, IfOk};
 ghost use Rattle.std.specs.Result.{result_err as err_of};
-ghost use Rattle.ip_headers.specs.Header.{fault_of, packet_of, header_len, source, destination, ttl};
+ghost use Rattle.ip_headers.specs.Header.{fault_of, packet_of, payload_of, header_len, total_len, protocol, source, destination, transport_of, ttl};
+ghost use Rattle.ip_headers.specs.Tuple.{inner_tuple_of, is_error, tuple_of};
 
 use crate::sum::ones_sum;
+use crate::transport::{self, Transport};
+use crate::tuple::{self, Tuple};
 use byteorder::{BigEndian, ByteOrder};
 use thiserror::Error;
 
-/// Why a record carries no packet: the first test that fails (RFC 791, section 3.1).
+/// Why a record carries no packet: the first test that fails (RFC 791, section 3.1, but for the last).
 #[derive(Clone, Copy, Debug, PartialEq, Error)]
 pub enum HeaderFault {
     /// Fewer than 20 bytes.
@@ -31,6 +34,10 @@ pub enum HeaderFault {
     /// MF is set, or the offset isn't 0.
     #[error("fragment")]
     Fragment,
+    /// The payload is too short for TCP, UDP or ICMP, or its data offset or length is too small or
+    /// beyond the end (RFC 9293, section 3.1; RFC 768; RFC 792).
+    #[error("transport")]
+    Transport,
 }
 
 /// The parts of a packet, which borrow the record. Bytes past the total length are left out.
@@ -44,7 +51,8 @@ pub struct View<'a> {
     pub payload: &'a [u8],
     pub ghost whole: { fault_of packet.now ≡ None },
     pub ghost head: { header.now ≡ take (header_len packet.now) packet.now },
-    pub ghost tail: { payload.now ≡ drop (header_len packet.now) packet.now },
+    pub ghost tail: { payload.now ≡ payload_of packet.now },
+    pub ghost exact: { length packet.now ≡ total_len packet.now },
     pub ghost small: { length packet.now ≤ 65535 },
 }
 
@@ -81,6 +89,9 @@ impl<'a> View<'a> {
         if BigEndian::read_u16(&packet[6..]) % 16384 != 0 {
             return Err(HeaderFault::Fragment);
         }
+        if transport::is_wrong(packet[9], payload) {
+            return Err(HeaderFault::Transport);
+        }
         Ok(View {
             packet,
             header,
@@ -107,5 +118,53 @@ impl<'a> View<'a> {
         ensures { result ≡ ttl self.now.packet.now }
     {
         self.packet[8]
+    }
+
+    /// The number of the protocol that the packet carries.
+    pub fn protocol(&self) -> u8
+        ensures { result ≡ protocol self.now.packet.now }
+    {
+        self.packet[9]
+    }
+
+    /// The bytes of the packet, its header among them.
+    pub fn total_length(&self) -> u16
+        ensures { result ≡ total_len self.now.packet.now }
+    {
+        BigEndian::read_u16(&self.packet[2..])
+    }
+
+    /// What the packet carries.
+    pub fn transport(&self) -> Transport
+        ensures { result ≡ transport_of self.now.packet.now }
+    {
+        transport::read(self.protocol(), self.payload)
+    }
+
+    /// The kind of the packet and its two endpoints; `None` for messages of ICMP other than an echo and
+    /// its reply.
+    pub fn tuple(&self) -> Option<Tuple>
+        ensures { result ≡ tuple_of self.now.packet.now }
+    {
+        tuple::tuple_in(self.packet, self.payload)
+    }
+
+    /// Whether the packet is a message of ICMP about another datagram, of type 3, 4, 5, 11 or 12.
+    pub fn is_error(&self) -> bool
+        ensures { result ≡ is_error self.now.packet.now }
+    {
+        self.protocol() == transport::ICMP && tuple::is_error_type(self.payload[0])
+    }
+
+    /// The tuple of the datagram that an ICMP error is about. `None` where the packet is no such
+    /// error, where the datagram's beginning can't be read (version 4, a header of at least 20 bytes,
+    /// offset 0, 8 bytes past it), and where it has no tuple.
+    pub fn inner_tuple(&self) -> Option<Tuple>
+        ensures { result ≡ inner_tuple_of self.now.packet.now }
+    {
+        if !self.is_error() {
+            return None;
+        }
+        tuple::inner_tuple(&self.payload[8..])
     }
 }

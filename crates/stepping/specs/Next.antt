@@ -32,6 +32,7 @@ cause_of headers.Length = causes.Length
 cause_of headers.Truncated = causes.Truncated
 cause_of headers.Checksum = causes.Checksum
 cause_of headers.Fragment = causes.Fragment
+cause_of headers.Transport = causes.Transport
 
 -- the bytes carry this packet; or they carry none, for the first of the header's tests that fails (RFC 791)
 abbrev pub Carries : List ℕ → Result (List ℕ) Cause → Type 0

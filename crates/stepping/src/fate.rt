@@ -81,5 +81,6 @@ fn cause_of(fault: HeaderFault) -> Cause
         HeaderFault::Truncated => Cause::Truncated,
         HeaderFault::Checksum => Cause::Checksum,
         HeaderFault::Fragment => Cause::Fragment,
+        HeaderFault::Transport => Cause::Transport,
     }
 }

@@ -1,6 +1,7 @@
 //! Packets read in place and sent on.
 use crate::given::{PLAIN, PLAIN_OUT, bytes};
-use ip_headers::{Change, HeaderFault, View, emit, ones_sum};
+use ip_headers::{Change, Endpoint, HeaderFault, Kind, Transport, Tuple, View, emit, ones_sum};
+use std::alloc::Global;
 use std::test::Fail;
 
 /// The first is that of RFC 1071, section 3.
@@ -35,7 +36,7 @@ fn reads_and_sends_on(rt: HostRuntime) -> Result<(), Fail> {
 }
 
 /// Beginnings of packets, and the first fault of each with its word.
-const FAULTS: [(&str, HeaderFault, &str); 8] = [
+const FAULTS: [(&str, HeaderFault, &str); 9] = [
     (
         "4500001c0001000040118ee3c0a8010ac63364",
         HeaderFault::Short,
@@ -76,6 +77,11 @@ const FAULTS: [(&str, HeaderFault, &str); 8] = [
         HeaderFault::Length,
         "length",
     ),
+    (
+        "4500001c0001000040118ee3c0a8010ac63364071388003500070000",
+        HeaderFault::Transport,
+        "transport",
+    ),
 ];
 
 fn first_fault(bytes: &[u8]) -> Option<HeaderFault> {
@@ -90,5 +96,253 @@ fn first_faults(rt: HostRuntime) -> Result<(), Fail> {
         let text = format!(in rt.alloc(); "{fault}")?;
         assert!(&rt; text.as_str() == *word, "{text}");
     }
+    Ok(())
+}
+
+/// A packet from 192.168.1.10 to 198.51.100.7, whose payload begins so and goes on with zeros; and
+/// behind its end nine bytes that don't count.
+fn packet(alloc: Global, protocol: u8, beginning: &[&str], length: u8) -> Result<Vec<u8>, Fail> {
+    let mut packet = bytes(alloc, &["450000000001000040000000c0a8010ac6336407"])?;
+    packet.extend_from_slice(&bytes(alloc, beginning)?)?;
+    packet.resize(20 + usize::from(length), 0)?;
+    let [high, low] = (20 + u16::from(length)).to_be_bytes();
+    packet[2] = high;
+    packet[3] = low;
+    packet[9] = protocol;
+    let [high, low] = (0xffff - ones_sum(&packet[..20])).to_be_bytes();
+    packet[10] = high;
+    packet[11] = low;
+    packet.resize(29 + usize::from(length), 0xff)?;
+    Ok(packet)
+}
+
+/// A tuple's kind and its two ports.
+fn ends(tuple: Option<Tuple>) -> Option<(Kind, u16, u16)> {
+    let tuple = tuple?;
+    Some((tuple.kind, tuple.source.port, tuple.destination.port))
+}
+
+/// What a payload is that begins so.
+#[derive(Clone, Copy)]
+struct Payload {
+    protocol: u8,
+    beginning: &'static str,
+    /// It fits its protocol from this length on; `None` where it never does.
+    least: Option<u8>,
+    transport: Transport,
+    ends: Option<(Kind, u16, u16)>,
+}
+
+const SEGMENT: Payload = Payload {
+    protocol: 6,
+    beginning: "1388005000000000000000005012",
+    least: Some(20),
+    transport: Transport::Tcp {
+        source: 5000,
+        destination: 80,
+        flags: 0x12,
+    },
+    ends: Some((Kind::Tcp, 5000, 80)),
+};
+
+const DATAGRAM: Payload = Payload {
+    protocol: 17,
+    beginning: "1388003500080000",
+    least: Some(8),
+    transport: Transport::Udp {
+        source: 5000,
+        destination: 53,
+    },
+    ends: Some((Kind::Udp, 5000, 53)),
+};
+
+/// A message has 8 bytes and more, whatever its code.
+const ECHO: Payload = Payload {
+    protocol: 1,
+    beginning: "0809000012340001",
+    least: Some(8),
+    transport: Transport::Icmp { icmp_type: 8 },
+    ends: Some((Kind::Ask, 0x1234, 0)),
+};
+
+/// Offsets of 5, 6, 15 and 4 words; lengths of 8, 9 and 7; an echo, its reply and a timestamp; GRE.
+const PAYLOADS: [Payload; 11] = [
+    SEGMENT,
+    Payload {
+        beginning: "1388005000000000000000006012",
+        least: Some(24),
+        ..SEGMENT
+    },
+    Payload {
+        beginning: "138800500000000000000000f012",
+        least: Some(60),
+        ..SEGMENT
+    },
+    Payload {
+        beginning: "1388005000000000000000004f12",
+        least: None,
+        ..SEGMENT
+    },
+    DATAGRAM,
+    Payload {
+        beginning: "1388003500090000",
+        least: Some(9),
+        ..DATAGRAM
+    },
+    Payload {
+        beginning: "1388003500070000",
+        least: None,
+        ..DATAGRAM
+    },
+    ECHO,
+    Payload {
+        beginning: "0009000012340001",
+        transport: Transport::Icmp { icmp_type: 0 },
+        ends: Some((Kind::Answer, 0, 0x1234)),
+        ..ECHO
+    },
+    Payload {
+        beginning: "0d00000012340001",
+        transport: Transport::Icmp { icmp_type: 13 },
+        ends: None,
+        ..ECHO
+    },
+    Payload {
+        protocol: 47,
+        beginning: "",
+        least: Some(0),
+        transport: Transport::Other,
+        ends: Some((Kind::Other(47), 0, 0)),
+    },
+];
+
+/// A packet that fits, or the fault of one that doesn't, at each length.
+#[test]
+fn payloads_fit_their_protocol(rt: HostRuntime) -> Result<(), Fail> {
+    for (row, payload) in PAYLOADS.iter().enumerate() {
+        for length in 0..64u8 {
+            let read = packet(rt.alloc(), payload.protocol, &[payload.beginning], length)?;
+            let found = match View::read(&read) {
+                Ok(view) => Ok((view.protocol(), view.transport(), ends(view.tuple()))),
+                Err(fault) => Err(fault),
+            };
+            let wanted = match payload.least {
+                Some(least) if least <= length => {
+                    Ok((payload.protocol, payload.transport, payload.ends))
+                }
+                _ => Err(HeaderFault::Transport),
+            };
+            assert!(&rt; found == wanted, "row {row} of {length} bytes");
+        }
+    }
+    Ok(())
+}
+
+/// A message's type; of the datagram that follows its 8 bytes version and IHL, the flags and the
+/// offset, the protocol and what follows the addresses; from how many of its bytes on it is read, and
+/// the kind and the ports that it then has.
+type Message = (
+    &'static str,
+    [&'static str; 4],
+    Option<(u8, Kind, u16, u16)>,
+);
+
+/// A header without options and one of 24 bytes; MF, DF and the reserved bit; an echo, its reply, GRE.
+/// None: messages that are no errors, an inner timestamp and an inner error, offsets of 1 and of 1fff,
+/// version 6, a header of 16 bytes.
+const MESSAGES: [Message; 15] = [
+    (
+        "03",
+        ["45", "0000", "11", "00351388"],
+        Some((28, Kind::Udp, 53, 5000)),
+    ),
+    (
+        "04",
+        ["46", "0000", "06", "0101010100501388"],
+        Some((32, Kind::Tcp, 80, 5000)),
+    ),
+    (
+        "05",
+        ["45", "2000", "11", "00351388"],
+        Some((28, Kind::Udp, 53, 5000)),
+    ),
+    (
+        "0b",
+        ["45", "c000", "11", "00351388"],
+        Some((28, Kind::Udp, 53, 5000)),
+    ),
+    (
+        "0c",
+        ["45", "0000", "01", "080900001234"],
+        Some((28, Kind::Ask, 0x1234, 0)),
+    ),
+    (
+        "03",
+        ["45", "0000", "01", "000900001234"],
+        Some((28, Kind::Answer, 0, 0x1234)),
+    ),
+    (
+        "03",
+        ["45", "0000", "2f", "00000800"],
+        Some((28, Kind::Other(47), 0, 0)),
+    ),
+    ("0d", ["45", "0000", "11", "00351388"], None),
+    ("08", ["45", "0000", "11", "00351388"], None),
+    ("03", ["45", "0000", "01", "0d0000001234"], None),
+    ("03", ["45", "0000", "01", "030000001234"], None),
+    ("03", ["45", "0001", "11", "00351388"], None),
+    ("03", ["45", "1fff", "11", "00351388"], None),
+    ("03", ["65", "0000", "11", "00351388"], None),
+    ("03", ["44", "0000", "11", "00351388"], None),
+];
+
+/// The inner total length, TTL and checksum are wrong in each.
+#[test]
+fn errors_tell_of_datagrams(rt: HostRuntime) -> Result<(), Fail> {
+    for (row, (message, inner, wanted)) in MESSAGES.iter().enumerate() {
+        let [first, flags, protocol, rest] = *inner;
+        let payload = [
+            *message,
+            "00000000000000",
+            first,
+            "00ffff0001",
+            flags,
+            "00",
+            protocol,
+            "0000c6336407c0a8010a",
+            rest,
+        ];
+        for length in 0..40u8 {
+            let read = packet(rt.alloc(), 1, &payload, 8 + length)?;
+            let view = View::read(&read)?;
+            let found = ends(view.inner_tuple());
+            let told = match wanted {
+                Some((least, kind, from, to)) if *least <= length => Some((*kind, *from, *to)),
+                _ => None,
+            };
+            assert!(&rt; found == told, "row {row} of {length} bytes");
+            assert!(&rt; view.is_error() || wanted.is_none());
+        }
+    }
+    Ok(())
+}
+
+#[test]
+fn a_tuple_has_its_addresses(rt: HostRuntime) -> Result<(), Fail> {
+    let read = bytes(rt.alloc(), &[PLAIN])?;
+    let view = View::read(&read)?;
+    assert!(&rt; view.total_length() == 28);
+    let wanted = Tuple {
+        kind: Kind::Udp,
+        source: Endpoint {
+            address: 0xc633_6407,
+            port: 53,
+        },
+        destination: Endpoint {
+            address: 0xc0a8_010a,
+            port: 5000,
+        },
+    };
+    assert!(&rt; view.tuple().map(Tuple::inverse) == Some(wanted));
     Ok(())
 }

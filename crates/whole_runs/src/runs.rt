@@ -27,6 +27,11 @@ const OTHER: &str = "4500001c0001000040118ee2c0a8010bc63364071388003500080000";
 
 const OTHER_OUT: &str = "4500001c000100003f118fe2c0a8010bc63364071388003500080000";
 
+/// `PLAIN` with a length of 7 in its UDP header, and with one of 9, which is beyond its end.
+const TOO_SMALL: &str = "4500001c0001000040118ee3c0a8010ac63364071388003500070000";
+
+const BEYOND: &str = "4500001c0001000040118ee3c0a8010ac63364071388003500090000";
+
 /// `PLAIN` with TTL 1, whose sum asks for the checksum cde3.
 const LAST_HOP: &str = "4500001c000100000111cde3c0a8010ac63364071388003500080000";
 
@@ -123,15 +128,15 @@ fn run_over(alloc: Global, rules: &[u8], plant: &[u8], capture: &[u8], working: 
     }
 }
 
-/// The report with these numbers of records, of those passed, for the box, dropped by a rule, for
-/// want of a route and for their TTL, and whether the end is torn (1); all other numbers are 0.
-/// Without numbers it is empty.
-fn report(alloc: Global, numbers: Option<[u32; 7]>) -> Result<String, Fail> {
+/// The report with these numbers of records, of those passed, for the box, dropped for their
+/// transport header, by a rule, for want of a route and for their TTL, and whether the end is torn
+/// (1); all other numbers are 0. Without numbers it is empty.
+fn report(alloc: Global, numbers: Option<[u32; 8]>) -> Result<String, Fail> {
     let mut text = String::new(alloc);
     let Some(numbers) = numbers else {
         return Ok(text);
     };
-    let [records, passed, local, rule, route, ttl, torn] = numbers;
+    let [records, passed, local, transport, rule, route, ttl, torn] = numbers;
     let lines = [
         ("records", records),
         ("passed", passed),
@@ -146,7 +151,7 @@ fn report(alloc: Global, numbers: Option<[u32; 7]>) -> Result<String, Fail> {
         ("drop truncated", 0),
         ("drop checksum", 0),
         ("drop fragment", 0),
-        ("drop transport", 0),
+        ("drop transport", transport),
         ("drop rule", rule),
         ("drop route", route),
         ("drop ttl", ttl),
@@ -172,7 +177,7 @@ struct Row<'a> {
     line: &'a str,
     sent: &'a [&'a str],
     /// The numbers of the report; a run that is refused has none, and tells no records.
-    numbers: Option<[u32; 7]>,
+    numbers: Option<[u32; 8]>,
     /// The calls of both writers, where they are told.
     calls: Option<[u64; 2]>,
 }
@@ -184,7 +189,7 @@ const DONE: Row<'static> = Row {
     capture: &[HEADER, AT_1_5, PLAIN],
     line: "nftrun: done",
     sent: &[OUT_HEADER, OUT_AT_1_5, PLAIN_OUT],
-    numbers: Some([1, 1, 0, 0, 0, 0, 0]),
+    numbers: Some([1, 1, 0, 0, 0, 0, 0, 0]),
     calls: None,
 };
 
@@ -231,22 +236,27 @@ fn give<R: Abort + AllocGlobal>(rt: &R, rows: &[Row<'_>], most: usize) -> Result
     Ok(())
 }
 
-/// An empty capture; a packet that passes; a rule that drops it, and lets another pass; the last
-/// hop, which comes before the chains; moments, which never fall; the longest prefix, and the first
-/// of equal ones; a packet for the box, and one with no route; a torn end; a record that is refused
-/// after a good one.
-const ROWS: [Row<'static>; 11] = [
+/// An empty capture; a packet that passes; one that passes between two whose UDP header doesn't fit;
+/// a rule that drops it, and lets another pass; the last hop, which comes before the chains; moments,
+/// which never fall; the longest prefix, and the first of equal ones; a packet for the box, and one
+/// with no route; a torn end; a record that is refused after a good one.
+const ROWS: [Row<'static>; 12] = [
     Row {
         capture: &[HEADER],
         sent: &[OUT_HEADER],
-        numbers: Some([0, 0, 0, 0, 0, 0, 0]),
+        numbers: Some([0, 0, 0, 0, 0, 0, 0, 0]),
         ..DONE
     },
     DONE,
     Row {
+        capture: &[HEADER, AT_1_5, TOO_SMALL, AT_1_5, PLAIN, AT_1_5, BEYOND],
+        numbers: Some([3, 1, 0, 2, 0, 0, 0, 0]),
+        ..DONE
+    },
+    Row {
         rules: ONE_DROPPED,
         sent: &[OUT_HEADER],
-        numbers: Some([1, 0, 0, 1, 0, 0, 0]),
+        numbers: Some([1, 0, 0, 0, 1, 0, 0, 0]),
         ..DONE
     },
     Row {
@@ -259,13 +269,13 @@ const ROWS: [Row<'static>; 11] = [
         rules: ONE_DROPPED,
         capture: &[HEADER, AT_1_5, LAST_HOP],
         sent: &[OUT_HEADER],
-        numbers: Some([1, 0, 0, 0, 0, 1, 0]),
+        numbers: Some([1, 0, 0, 0, 0, 0, 1, 0]),
         ..DONE
     },
     Row {
         capture: &[HEADER, AT_10, PLAIN, AT_9, PLAIN],
         sent: &[OUT_HEADER, OUT_AT_10, PLAIN_OUT, OUT_AT_10, PLAIN_OUT],
-        numbers: Some([2, 2, 0, 0, 0, 0, 0]),
+        numbers: Some([2, 2, 0, 0, 0, 0, 0, 0]),
         ..DONE
     },
     Row {
@@ -276,19 +286,19 @@ const ROWS: [Row<'static>; 11] = [
     Row {
         plant: OWN,
         sent: &[OUT_HEADER],
-        numbers: Some([1, 0, 1, 0, 0, 0, 0]),
+        numbers: Some([1, 0, 1, 0, 0, 0, 0, 0]),
         ..DONE
     },
     Row {
         plant: NOWHERE,
         sent: &[OUT_HEADER],
-        numbers: Some([1, 0, 0, 0, 1, 0, 0]),
+        numbers: Some([1, 0, 0, 0, 0, 1, 0, 0]),
         ..DONE
     },
     Row {
         capture: &[HEADER, AT_1_5, PLAIN, CUT],
         line: "nftrun: capture torn",
-        numbers: Some([1, 1, 0, 0, 0, 0, 1]),
+        numbers: Some([1, 1, 0, 0, 0, 0, 0, 1]),
         ..DONE
     },
     Row {
@@ -465,7 +475,7 @@ fn thousands_of_records_take_few_calls(rt: HostRuntime) -> Result<(), Fail> {
             capture: &capture,
             line: "nftrun: done",
             sent: &all,
-            numbers: Some([5_000, 5_000, 0, 0, 0, 0, 0]),
+            numbers: Some([5_000, 5_000, 0, 0, 0, 0, 0, 0]),
             calls: Some([5, 2]),
         },
         Row {
@@ -474,7 +484,7 @@ fn thousands_of_records_take_few_calls(rt: HostRuntime) -> Result<(), Fail> {
             capture: &capture,
             line: "nftrun: done",
             sent: &half,
-            numbers: Some([5_000, 2_500, 0, 2_500, 0, 0, 0]),
+            numbers: Some([5_000, 2_500, 0, 0, 2_500, 0, 0, 0]),
             calls: Some([4, 2]),
         },
     ];

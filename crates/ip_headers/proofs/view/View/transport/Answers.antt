@@ -1,0 +1,7 @@
+use Rattle.ip_headers.proofs.Faults.{passes}
+use Rattle.ip_headers.proofs.view.View.transport.Goals as goal
+
+pub read-requires : goal.read-requires
+read-requires c =
+    let carried = (passes c.args.self.now.packet.now c.args.self.now.whole).carried in
+    rw (c.protocol.ensures, c.args.self.now.tail) carried

@@ -1,0 +1,137 @@
+//! What a packet carries: TCP, UDP or ICMP.
+ghost use Rattle.std.specs.Prelude.{◌≡◌, false, length};
+ghost use Rattle.ip_headers.specs.Transport.{destination_port_of, icmp_is_wrong, icmp_type_of, source_port_of, tcp_flags_of, tcp_is_wrong, transport_in, transport_is_wrong, udp_is_wrong};
+
+use byteorder::{BigEndian, ByteOrder};
+
+/// The number of ICMP in an IPv4 header, as IANA assigns it.
+pub(crate) const ICMP: u8 = 1;
+/// The number of TCP.
+pub(crate) const TCP: u8 = 6;
+/// The number of UDP.
+pub(crate) const UDP: u8 = 17;
+
+/// What a packet carries, by its protocol, with the fields that rules ask for.
+#[derive(Clone, Copy, Debug, PartialEq)]
+pub enum Transport {
+    /// A segment of TCP (RFC 9293, section 3.1).
+    Tcp {
+        /// The source port.
+        source: u16,
+        /// The destination port.
+        destination: u16,
+        /// CWR, ECE, URG, ACK, PSH, RST, SYN and FIN, from the highest bit to the lowest.
+        flags: u8,
+    },
+    /// A datagram of UDP (RFC 768).
+    Udp {
+        /// The source port.
+        source: u16,
+        /// The destination port.
+        destination: u16,
+    },
+    /// A message of ICMP (RFC 792).
+    Icmp {
+        /// Its type.
+        icmp_type: u8,
+    },
+    /// Anything else.
+    Other,
+}
+
+impl Transport {
+    /// The source port; `None` but for TCP and UDP.
+    pub fn source_port(self) -> Option<u16>
+        ensures { result ≡ source_port_of self }
+    {
+        match self {
+            Self::Tcp { source, .. } | Self::Udp { source, .. } => Some(source),
+            Self::Icmp { .. } | Self::Other => None,
+        }
+    }
+
+    /// The destination port; `None` but for TCP and UDP.
+    pub fn destination_port(self) -> Option<u16>
+        ensures { result ≡ destination_port_of self }
+    {
+        match self {
+            Self::Tcp { destination, .. } | Self::Udp { destination, .. } => Some(destination),
+            Self::Icmp { .. } | Self::Other => None,
+        }
+    }
+
+    /// The flags of TCP, FIN the lowest bit; `None` for other protocols.
+    pub fn tcp_flags(self) -> Option<u8>
+        ensures { result ≡ tcp_flags_of self }
+    {
+        match self {
+            Self::Tcp { flags, .. } => Some(flags),
+            _ => None,
+        }
+    }
+
+    /// The type of an ICMP message; `None` for other protocols.
+    pub fn icmp_type(self) -> Option<u8>
+        ensures { result ≡ icmp_type_of self }
+    {
+        match self {
+            Self::Icmp { icmp_type } => Some(icmp_type),
+            _ => None,
+        }
+    }
+}
+
+/// Whether a payload is too short for its protocol, or tells a length that isn't there.
+pub(crate) fn is_wrong(protocol: u8, payload: &[u8]) -> bool
+    ensures { result ≡ transport_is_wrong protocol payload.now }
+{
+    match protocol {
+        TCP => tcp_is_wrong(payload),
+        UDP => udp_is_wrong(payload),
+        ICMP => payload.len() < 8,
+        _ => false,
+    }
+}
+
+fn tcp_is_wrong(payload: &[u8]) -> bool
+    ensures { result ≡ tcp_is_wrong payload.now }
+{
+    if payload.len() < 20 {
+        return true;
+    }
+    // The data offset counts words of four bytes.
+    let offset = (payload[12] / 16) as usize;
+    offset < 5 || payload.len() < offset * 4
+}
+
+fn udp_is_wrong(payload: &[u8]) -> bool
+    ensures { result ≡ udp_is_wrong payload.now }
+{
+    if payload.len() < 8 {
+        return true;
+    }
+    let length = BigEndian::read_u16(&payload[4..]) as usize;
+    length < 8 || payload.len() < length
+}
+
+/// What a payload is that the tests let through.
+pub(crate) fn read(protocol: u8, payload: &[u8]) -> Transport
+    requires { transport_is_wrong protocol payload.now ≡ false }
+    ensures { result ≡ transport_in protocol payload.now }
+{
+    match protocol {
+        TCP => Transport::Tcp {
+            source: BigEndian::read_u16(payload),
+            destination: BigEndian::read_u16(&payload[2..]),
+            flags: payload[13],
+        },
+        UDP => Transport::Udp {
+            source: BigEndian::read_u16(payload),
+            destination: BigEndian::read_u16(&payload[2..]),
+        },
+        ICMP => Transport::Icmp {
+            icmp_type: payload[0],
+        },
+        _ => Transport::Other,
+    }
+}
