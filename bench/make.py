@@ -1,4 +1,5 @@
 """Makes the captures, the rulesets and the box files that bench/run measures."""
+import random
 import struct
 import sys
 
@@ -31,8 +32,33 @@ def ruleset():
     return "\n".join(["table ip bench {", "\tchain forward {", head, *rules, "\t}", "}", ""])
 
 
+def forward(rules, before=""):
+    head = "type filter hook forward priority filter; policy accept;"
+    return "\n".join(["table ip bench {", before, "chain forward {", head, *rules, "}", "}", ""])
+
+
+def rules_in_line(count):
+    """So many rules, none of which a packet of ours meets."""
+    return forward(f"ip saddr 10.{n // 65536}.{n // 256 % 256}.{n % 256} drop" for n in range(count))
+
+
+def addresses(count):
+    """Addresses of no packet of ours, spread over all that there are."""
+    numbers = random.Random(1).sample(range(1 << 24, 190 << 24), count)
+    return [".".join(str(n >> shift & 255) for shift in (24, 16, 8, 0)) for n in numbers]
+
+
+def set_of(count):
+    return forward(["ip saddr @s drop"], f"set s {{ type ipv4_addr; elements = {{ {','.join(addresses(count))} }} }}")
+
+
+def verdicts_of(count):
+    pairs = ",".join(f"{address}:drop" for address in addresses(count))
+    return forward([f"ip saddr vmap {{ {pairs} }}"])
+
+
 def large_ruleset(rules, elements):
-    """A ruleset of the whole language, which runs don't take yet: it is read, and then refused."""
+    """Many rules, and a set of many elements that none of them uses."""
     addresses = ", ".join(f"1.0.{n // 250}.{n % 250}" for n in range(elements))
     named = f"set s {{ type ipv4_addr; elements = {{ {addresses} }} }}".replace(", ", ",")
     lines = [f"tcp dport {n % 100} accept" for n in range(rules)]
@@ -85,8 +111,16 @@ def main():
     for power in (3, 4, 5):
         write(f"{power}.pcap", capture(10**power, 1000))
     write("small.pcap", capture(10**6, 60))
+    for power in (0, 4, 5):
+        write(f"small-{power}.pcap", capture(10**power if power else 0, 60))
     write("empty.nft", "")
     write("rules.nft", ruleset())
+    for rules in (10, 1000, 16000):
+        write(f"line-{rules}.nft", rules_in_line(rules))
+    write("one.nft", forward(["ip saddr 10.0.0.1 drop"]))
+    write("set.nft", set_of(50_000))
+    write("verdicts.nft", verdicts_of(1_000))
+    write("largest.nft", large_ruleset(16_384, 60_000))
     for rules in (1000, 4000, 16000):
         write(f"{rules}.nft", large_ruleset(rules, rules * 15 // 4))
     for name, lines in hard_to_judge().items():

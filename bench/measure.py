@@ -50,10 +50,23 @@ def main():
     for power, status in ((4, 0), (5, 3), (6, 3)):
         spent, _ = run("empty.nft", f"lines-{power}.txt", "3.pcap", status)
         print(f"a box file of 10^{power} lines, status {status}: {spent * 1e9 / 10**power:.0f} ns a line")
+    for rules, packets, name in ((10, 10**6, "small"), (1000, 10**5, "small-5"), (1000, 10**4, "small-4"), (16000, 10**4, "small-4")):
+        met, _ = run(f"line-{rules}.nft", "box.txt", f"{name}.pcap")
+        empty, _ = run("empty.nft", "box.txt", f"{name}.pcap")
+        made, _ = run(f"line-{rules}.nft", "box.txt", "small-0.pcap")
+        none, _ = run("empty.nft", "box.txt", "small-0.pcap")
+        print(f"{packets} packets over {rules} rules: {(met - empty - made + none) * 1e9 / packets / rules:.2f} ns a statement that is met")
+    one, _ = run("one.nft", "box.txt", "small.pcap")
+    for name, text in (("set", "a set of 50,000 addresses"), ("verdicts", "a verdict map of 1,000 addresses")):
+        spent, _ = run(f"{name}.nft", "box.txt", "small.pcap")
+        made, _ = run(f"{name}.nft", "box.txt", "small-0.pcap")
+        print(f"{text}: {(spent - made - one) * 1e9 / 10**6:.0f} ns a packet more than one address")
+    judged, judging = measured([program, "check", f"{folder}/largest.nft", f"{folder}/box.txt"], out)
+    made, making = run("largest.nft", "box.txt", "small-0.pcap")
+    print(f"compiling 16,384 rules and 60,000 elements: {made - judged:.3f} s, {(making - judging) / 76_384:.0f} bytes a rule or element more than the check")
     for rules in (1000, 4000, 16000):
         size = os.path.getsize(f"{folder}/{rules}.nft")
-        # The text is read and found to have a form that runs don't take yet.
-        spent, memory = run(f"{rules}.nft", "box.txt", "3.pcap", 1)
+        spent, memory = run(f"{rules}.nft", "box.txt", "3.pcap")
         print(f"{rules} rules, {rules * 15 // 4} elements, {size} bytes: {spent * 1e9 / size:.1f} ns and {memory / size:.1f} bytes a byte of text")
     for name in ("gotos", "jumps", "doubling", "ranges", "names"):
         rules = f"hard-{name}.nft"

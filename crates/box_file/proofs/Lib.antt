@@ -7,6 +7,5 @@ pub mod KeyLaws
 pub mod CheckLaws
 pub mod ListLaws
 pub mod BestLaws
-pub mod TableLaws
 pub mod PlantLaws
 pub mod BoxLaws

@@ -4,8 +4,8 @@ use Rattle.std.specs.Prelude.{filter, find, unwrap_or, IfSome, is_some}
 use Rattle.std.specs.List.{list_any, filter_map}
 use Rattle.std.specs.Option.{option_map}
 use Rattle.box_file.specs.Box.{Interface, NamedRoute, RouteTo, Line, interface_line, route_line, default_line, each_is_line, IsIndex, interfaces_in, routes_in, defaults_in, route_to, is_named, is_unknown, is_misformed, known_index, entering_of, covers, greatest, best_way}
-use Rattle.box_file.specs.declared.table.Step.{Step}
-use Rattle.box_file.specs.steps.Table.{IsTable}
+use Rattle.set_intervals.specs.declared.range.Range.{Range}
+use Rattle.box_file.specs.steps.Best.{GivesBest}
 use Rattle.box_file.specs.steps.Plant.{EachIndexed, EachWay, KnowsNames}
 
 -- ---- numbers of interfaces
@@ -115,5 +115,5 @@ sound_ways rs ss e h = let P : List RouteTo → Type 0 = λ ts. EachWay ts in su
 pub sound_entry : (m n : ℕ) → m ≡ n → IsIndex n → IsIndex m
 sound_entry m n e h = let P : ℕ → Type 0 = λ k. IsIndex k in subst P (sym e) h
 
-pub sound_table : (steps : List Step) (rs ss : List RouteTo) → rs ≡ ss → IsTable steps rs → IsTable steps ss
-sound_table steps rs ss e h = let P : List RouteTo → Type 0 = λ ts. IsTable steps ts in subst P e h
+pub sound_table : (table : List (Range × ℕ)) (rs ss : List RouteTo) → rs ≡ ss → GivesBest table rs → GivesBest table ss
+sound_table table rs ss e h a = h a ∙ ap (λ ts. best_way ts a) e

@@ -2,5 +2,4 @@
 pub mod Reading
 pub mod Tests
 pub mod Best
-pub mod Table
 pub mod Plant

@@ -10,7 +10,6 @@ mod numbers;
 mod plant;
 mod repeats;
 mod routes;
-mod table;
 mod words;
 
 pub use fault::{BoxError, BoxFault};

@@ -10,9 +10,9 @@ ghost use Rattle.box_file.specs.steps.Plant.{interface_of, KnowsNames};
 use crate::checks::{defaults, fault_of, interfaces};
 use crate::fault::{BoxError, BoxFault};
 use crate::line::{InterfaceLine, Line, lines};
-use crate::routes::Route;
-use crate::table::{Step, look_up, table};
+use crate::routes::{Route, table};
 use crate::words::same_text;
+use set_intervals::Intervals;
 use std::alloc::{AllocError, Global};
 use std::marker::Model;
 
@@ -39,7 +39,7 @@ pub struct Plant {
     /// In text order; an interface's own prefix stands at the place of its line.
     routes: Vec<Route>,
     /// The routes as a table.
-    steps: Vec<Step>,
+    table: Intervals<IfIndex>,
     /// The interface that packets of a capture without interfaces enter by.
     entering: IfIndex,
 }
@@ -52,7 +52,7 @@ impl Model for Plant {
 
     ghost view = { λ p. plant_tree p.interfaces.items p.routes.items p.entering };
 
-    ghost invariant = { λ p. IsSound p.interfaces.items p.routes.items p.steps.items p.entering };
+    ghost invariant = { λ p. IsSound p.interfaces.items p.routes.items p.table p.entering };
 }
 
 /// The interfaces with their names copied.
@@ -152,11 +152,11 @@ fn plant_of(alloc: Global, lines: &[Line]) -> Result<Plant, AllocError>
     let entering = entering(&found, &defaults);
     let interfaces = copied(alloc, &found)?;
     let routes = routes(alloc, &found, lines)?;
-    let steps = table(alloc, &routes)?;
+    let table = table(alloc, &routes)?;
     Ok(Plant {
         interfaces,
         routes,
-        steps,
+        table,
         entering,
     })
 }
@@ -230,7 +230,7 @@ impl Plant {
         if address >= FIRST_MULTICAST {
             return None;
         }
-        look_up(&self.steps, u64::from(address))
+        self.table.find(u128::from(address)).copied()
     }
 
     /// Whether the address is one of the box's own.

@@ -1,8 +1,9 @@
-//! Routes, and the best of them for an address.
-ghost use Rattle.std.specs.Prelude.{◌≡◌, map, filter};
-ghost use Rattle.std.specs.Option.{option_map};
-ghost use Rattle.box_file.specs.Box.{covers, best_of, best_way};
-ghost use Rattle.box_file.specs.steps.Best.{way_tree, longer};
+//! Routes, and the table in which an address finds the best of them.
+ghost use Rattle.std.specs.Prelude.{◌≡◌, ◌+◌, ◌-◌, ◌<◌, ◌≤◌, ◌^◌, map, IfOk};
+ghost use Rattle.box_file.specs.steps.Best.{begin_of, end_of, way_tree, GivesBest, GivesFirst, IsLongestFirst};
+
+use set_intervals::{Intervals, Range};
+use std::alloc::{AllocError, Global};
 
 /// A way out: packets to the prefix leave by the interface of this index.
 #[derive(Clone, Copy)]
@@ -12,48 +13,61 @@ pub struct Route {
     pub interface: u32,
 }
 
-impl Route {
-    ghost use Rattle.std.specs.Prelude.{◌≡◌};
-    ghost use Rattle.box_file.specs.Box.{covers};
-    ghost use Rattle.box_file.specs.steps.Best.{way_tree};
-
-    /// Whether the address agrees with the route's in the prefix's bits.
-    fn covers(&self, address: u64) -> bool
-        ensures { result ≡ covers address (way_tree self.now) }
-    {
-        let bits = 32u8.saturating_sub(self.prefix);
-        u64::from(self.address) >> bits == address >> bits
-    }
+/// How many addresses the route covers.
+#[tactic(auto, using(crate::proofs::BestLaws::size_fits))]
+fn size_of(route: &Route) -> u128
+    ensures value { result ≡ 2 ^ (32 - route.now.prefix) }
+    ensures some { 0 < result }
+    ensures fits { result ≤ 2 ^ 32 }
+{
+    1u128 << 32u8.saturating_sub(route.prefix)
 }
 
-/// Of the routes that cover the address the first of greatest prefix.
-fn best_route(routes: &[Route], address: u64) -> Option<Route>
-    ensures { option_map way_tree result
-        ≡ best_of (filter (covers address) (map way_tree routes.now)) }
+/// The first address that the route covers.
+#[tactic(auto, using(crate::proofs::BestLaws::begin_is))]
+fn begin_of(route: &Route) -> u128
+    ensures value { result ≡ begin_of (way_tree route.now) }
+    ensures fits { result < 2 ^ 32 }
 {
-    let mut best: Option<Route> = None;
+    let address = u128::from(route.address);
+    address - address % size_of(route)
+}
+
+/// The addresses that the route covers.
+fn range_of(route: &Route) -> Range
+    ensures low { result.low ≡ begin_of (way_tree route.now) }
+    ensures high { result.high + 1 ≡ end_of (way_tree route.now) }
+{
+    let begin = begin_of(route);
+    Range::new(begin, begin + (size_of(route) - 1)).unwrap()
+}
+
+/// The routes by their prefixes, the longest first; those of one length stay in order.
+fn longest_first(alloc: Global, routes: &[Route]) -> Result<Vec<Route>, AllocError>
+    ensures { IfOk result (λ sorted.
+        IsLongestFirst (map way_tree routes.now) (map way_tree sorted.items)) }
+{
+    let mut sorted = Vec::from_slice(alloc, routes)?;
+    sorted.sort_by(|one, other| other.prefix.cmp(&one.prefix))?;
+    Ok(sorted)
+}
+
+/// The routes' addresses with their interfaces.
+fn pairs_of(alloc: Global, routes: &[Route]) -> Result<Vec<(Range, u32)>, AllocError>
+    ensures { IfOk result (λ pairs. GivesFirst pairs.items (map way_tree routes.now)) }
+{
+    let mut pairs = Vec::new(alloc);
     for route in routes {
-        if route.covers(address) {
-            best = Some(longer(best, *route));
-        }
+        pairs.push((range_of(route), route.interface))?;
     }
-    best
+    Ok(pairs)
 }
 
-/// The later route if its prefix is longer, and else the best so far.
-fn longer(best: Option<Route>, later: Route) -> Route
-    ensures { way_tree result ≡ longer (option_map way_tree best) (way_tree later) }
+/// The table of the routes: the interface of the best of those that cover an address.
+pub fn table(alloc: Global, routes: &[Route]) -> Result<Intervals<u32>, AllocError>
+    ensures { IfOk result (λ table. GivesBest table (map way_tree routes.now)) }
 {
-    match best {
-        Some(best) if later.prefix <= best.prefix => best,
-        _ => later,
-    }
-}
-
-/// The interface of the best of the routes that cover the address.
-pub fn best_way(routes: &[Route], address: u64) -> Option<u32>
-    ensures { result ≡ best_way (map way_tree routes.now) address }
-{
-    let best = best_route(routes, address)?;
-    Some(best.interface)
+    let sorted = longest_first(alloc, routes)?;
+    let pairs = pairs_of(alloc, &sorted)?;
+    Intervals::first_wins(alloc, &pairs)
 }

@@ -1,3 +1,4 @@
 pub mod PairLaws
 pub mod PieceLaws
 pub mod RunLaws
+pub mod LayerLaws

@@ -26,13 +26,13 @@ ends_parted xs sep key = IsPartitionedBy-ltb (λ y. y.0.high) xs key (highs_rise
 -- ---- a new last piece
 
 -- the last piece, read at any place and default
-last_is : {V : Type 0} (xs : List (Range × V)) (n i : ℕ) (d q : Range × V) → n ≡ length xs → i + 1 ≡ length xs → q ≡ get_or xs (n - 1) q → get_or xs i d ≡ q
+pub last_is : {V : Type 0} (xs : List (Range × V)) (n i : ℕ) (d q : Range × V) → n ≡ length xs → i + 1 ≡ length xs → q ≡ get_or xs (n - 1) q → get_or xs i d ≡ q
 last_is xs n i d q whole last is =
     let e : i ≡ n - 1 = omega arith in
     let lt : i < length xs = omega arith in
     get_or_default xs i d q lt ∙ ap (λ m. get_or xs m q) e ∙ sym is
 
-separate_push : {V : Type 0} (xs : List (Range × V)) (p : Range × V) → IsSeparate xs → ((i : ℕ) (d : Range × V) → i + 1 ≡ length xs → (get_or xs i d).0.high < p.0.low) → IsSeparate (xs ++ p ∷ [])
+pub separate_push : {V : Type 0} (xs : List (Range × V)) (p : Range × V) → IsSeparate xs → ((i : ℕ) (d : Range × V) → i + 1 ≡ length xs → (get_or xs i d).0.high < p.0.low) → IsSeparate (xs ++ p ∷ [])
 separate_push {V} xs p sep after i j d lt in_range = ⊎_elim old new (cases_lt j (length xs))
   where
     len : length (xs ++ p ∷ []) ≡ length xs + 1
@@ -53,7 +53,7 @@ separate_push {V} xs p sep after i j d lt in_range = ⊎_elim old new (cases_lt 
         let before = after (length xs - 1) d (omega arith) in
         rw (get_or_append_left xs (p ∷ []) d i i_in, at_end) (omega (arith, rise, before))
 
-joined_push : {V : Type 0} (xs : List (Range × V)) (p : Range × V) → IsJoined xs → ((i : ℕ) (d : Range × V) → i + 1 ≡ length xs → (get_or xs i d).0.high + 1 ≡ p.0.low → (get_or xs i d).1 ≢ p.1) → IsJoined (xs ++ p ∷ [])
+pub joined_push : {V : Type 0} (xs : List (Range × V)) (p : Range × V) → IsJoined xs → ((i : ℕ) (d : Range × V) → i + 1 ≡ length xs → (get_or xs i d).0.high + 1 ≡ p.0.low → (get_or xs i d).1 ≢ p.1) → IsJoined (xs ++ p ∷ [])
 joined_push {V} xs p joined last i d lt = ⊎_elim old new (cases_lt (i + 1) (length xs))
   where
     len : length (xs ++ p ∷ []) ≡ length xs + 1

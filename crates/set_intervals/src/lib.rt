@@ -3,6 +3,7 @@
 #![tactic(auto)]
 
 mod fault;
+mod overlay;
 mod range;
 mod table;
 

@@ -1,5 +1,5 @@
 //! Ranges of numbers.
-ghost use Rattle.std.specs.Prelude.{◌≡◌, ◌≤◌, ◌<◌, ◌+◌, ◌↔◌, max, IsTrue, MatchOption};
+ghost use Rattle.std.specs.Prelude.{◌≡◌, ◌≤◌, ◌<◌, ◌+◌, ◌↔◌, max, min, IsTrue, MatchOption};
 
 /// The numbers from `low` to `high`, both included: at least one.
 #[derive(Clone, Copy, Debug)]
@@ -58,6 +58,36 @@ impl Range {
         Range {
             low: self.low,
             high: self.high.max(later.high),
+        }
+    }
+
+    /// The part of this one that lies before the other one, if there is one.
+    pub(crate) fn before(self, other: Range) -> Option<Range>
+        ensures { MatchOption result (other.low ≤ self.low)
+            (λ r. (r.low ≡ self.low) × (r.high + 1 ≡ min (self.high + 1) other.low)) }
+    {
+        if self.low < other.low {
+            Some(Range {
+                low: self.low,
+                high: self.high.min(other.low - 1),
+            })
+        } else {
+            None
+        }
+    }
+
+    /// The part of this one that lies past the other one, if there is one.
+    pub(crate) fn after(self, other: Range) -> Option<Range>
+        ensures { MatchOption result (self.high ≤ other.high)
+            (λ r. (r.low ≡ max self.low (other.high + 1)) × (r.high ≡ self.high)) }
+    {
+        if other.high < self.high {
+            Some(Range {
+                low: self.low.max(other.high + 1),
+                high: self.high,
+            })
+        } else {
+            None
         }
     }
 }

@@ -6,6 +6,7 @@ ghost use Rattle.set_intervals.specs.Pairs.{Clashing, HasRuns, Holds, IsExact, S
 ghost use Rattle.set_intervals.specs.steps.Pieces.{Adds, ClashesWith, IsReach, IsTable, Meets, StartsBefore};
 
 use crate::fault::SetError;
+use crate::overlay::first_wins;
 use crate::range::Range;
 use std::alloc::{AllocError, Global};
 use std::marker::Model;
@@ -46,6 +47,20 @@ impl<V: Copy + Eq> Intervals<V> {
         for &(range, value) in &sorted {
             add(&mut pieces, range, value)?;
         }
+        Ok(Intervals { pieces })
+    }
+
+    /// The table in which, of the pairs that have a number, the first one's value stands: no two
+    /// clash, whatever overlaps. `exact` is as for `build`.
+    ///
+    /// # Errors
+    ///
+    /// Where there is no room.
+    pub fn first_wins(alloc: Global, pairs: &[(Range, V)]) -> Result<Self, AllocError>
+        requires exact { IsExact V.eq }
+        ensures { IfOk result (λ table. (key : ℕ) → look table key ≡ look pairs.now key) }
+    {
+        let pieces = first_wins(alloc, pairs)?;
         Ok(Intervals { pieces })
     }
 

@@ -1,11 +1,10 @@
 -- A plant as the code keeps it.
 use Rattle.std.specs.Prelude.{◌≡◌, false, List, [], ◌∷◌, map, ℕ}
 use Rattle.box_file.specs.declared.plant.Interface as kept
+use Rattle.set_intervals.specs.declared.range.Range.{Range}
 use Rattle.box_file.specs.declared.routes.Route.{Route}
-use Rattle.box_file.specs.declared.table.Step.{Step}
 use Rattle.box_file.specs.Box.{Interface, RouteTo, PlantTree, Line, IsIndex, interfaces_in, routes_in, defaults_in, is_misformed, has_unknown}
-use Rattle.box_file.specs.steps.Best.{way_tree}
-use Rattle.box_file.specs.steps.Table.{IsTable}
+use Rattle.box_file.specs.steps.Best.{way_tree, GivesBest}
 
 abbrev pub interface_of : kept.Interface → Interface
 interface_of i = record { index = i.index; name = i.name.items; address = i.address; prefix = i.prefix }
@@ -21,9 +20,9 @@ abbrev pub EachWay : List RouteTo → Type 0
 EachWay [] = Unit {0}
 EachWay (r ∷ rs) = IsIndex r.interface × EachWay rs
 
--- the steps are the routes' table, and each number of an interface is one
-pub record IsSound (interfaces : List kept.Interface) (routes : List Route) (steps : List Step) (entering : ℕ) : Type 0 where
-  pub table : IsTable steps (map way_tree routes)
+-- the table gives the routes' best ways, and each number of an interface is one
+pub record IsSound (interfaces : List kept.Interface) (routes : List Route) (table : List (Range × ℕ)) (entering : ℕ) : Type 0 where
+  pub best : GivesBest table (map way_tree routes)
   pub indexes : EachIndexed (map interface_of interfaces)
   pub ways : EachWay (map way_tree routes)
   pub entry : IsIndex entering

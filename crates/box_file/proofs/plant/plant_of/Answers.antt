@@ -16,7 +16,7 @@ invariant_of-result c =
     let ways : map way_tree c.in_ok-routes.routes.items ≡ filter_map (route_to (interfaces_in ls)) ls = c.in_ok-routes.ensures ∙ ap (λ is. filter_map (route_to is) ls) (ap (map interface_tree) c.deref-4.ensures.value ∙ found) in
     let entry : c.entering-entering.result ≡ entering_of (interfaces_in ls) (defaults_in ls) = c.entering-entering.ensures ∙ ap (λ (is : List Interface). entering_of is (map (λ (n : Bor (List ℕ)). n.now) c.deref-2.result.now)) (ap (map interface_tree) c.deref.ensures.value ∙ found) ∙ ap (entering_of (interfaces_in ls)) (ap (map (λ (n : Bor (List ℕ)). n.now)) c.deref-2.ensures.value ∙ c.in_ok-defaults.ensures) in
     record {
-      table = sound_table _ _ _ (ap (map way_tree) c.deref-5.ensures.value) c.in_ok-steps.ensures;
+      best = sound_table _ _ _ (ap (map way_tree) c.deref-5.ensures.value) c.in_ok-table.ensures;
       indexes = sound_indexes _ _ kept (each_indexed ls c.requires.lines);
       ways = sound_ways _ _ ways (each_way ls c.requires.lines c.requires.names);
       entry = sound_entry _ _ entry (entry_is_index ls c.requires.lines c.requires.names);

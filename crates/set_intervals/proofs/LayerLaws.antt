@@ -1,0 +1,219 @@
+-- What pieces laid over others say of a number.
+use Rattle.std.proofs.Common.{◌≡◌, ℕ, suc, ◌+◌, ◌-◌, ◌<◌, ◌≤◌, List, [], ◌∷◌, ◌++◌, length, get_or, set, take, drop, max, min, Bool, true, false, ◌||◌, zero, ⊎_elim, refl, sym, ap, ◌∙◌, subst, arith, Option, Some, None, if◌then◌else◌, append_assoc}
+use Rattle.std.specs.Option.{option_or}
+use Rattle.std.proofs.lemmas.Bool.{cases_lt, and_from, and_left, and_right, or_from, or_left, le-leb, lt-leb}
+use Rattle.std.proofs.lemmas.List.{append-nil, drop_more, take-append-drop, take_all}
+use Rattle.set_intervals.specs.declared.range.Range.{Range}
+use Rattle.set_intervals.specs.Pairs.{in_range, look}
+use Rattle.set_intervals.specs.steps.Pieces.{IsTable, IsSeparate}
+use Rattle.set_intervals.specs.steps.Layers.{SameLooks, EndsBefore, IsRising, Follows, AddsBelow}
+use Rattle.set_intervals.proofs.PieceLaws.{separate_push, joined_push}
+
+-- ---- whether a range has a number
+
+within : (r : Range) (key : ℕ) → r.low ≤ key → key ≤ r.high → in_range r key ≡ true
+within r key low high = and_from _ _ (le-leb r.low key low) (le-leb key r.high high)
+
+under : (r : Range) (key : ℕ) → key < r.low → in_range r key ≡ false
+under r key low = and_left _ _ (lt-leb r.low key low)
+
+past : (r : Range) (key : ℕ) → r.high < key → in_range r key ≡ false
+past r key high = and_right _ _ (lt-leb key r.high high)
+
+-- two ranges that begin together have the same numbers up to where one ends
+same_below : (r s : Range) (key : ℕ) → r.low ≡ s.low → key ≤ r.high → key ≤ s.high → in_range r key ≡ in_range s key
+same_below r s key low one other =
+    ⊎_elim
+    (λ less. under r key less ∙ sym (under s key (omega arith)))
+    (λ more. within r key more one ∙ sym (within s key (omega arith) other))
+    (cases_lt key r.low)
+
+-- two ranges that end together have the same numbers from where both have begun
+same_above : (r s : Range) (key : ℕ) → r.high ≡ s.high → r.low ≤ key → s.low ≤ key → in_range r key ≡ in_range s key
+same_above r s key high one other =
+    ⊎_elim
+    (λ less. past r key less ∙ sym (past s key (omega arith)))
+    (λ more. within r key one more ∙ sym (within s key other (omega arith)))
+    (cases_lt r.high key)
+
+-- ---- one pair
+
+hit : {V : Type 0} (r : Range) (v : V) (xs : List (Range × V)) (key : ℕ) → in_range r key ≡ true → look ((r, v) ∷ xs) key ≡ Some v
+hit r v xs key e = rw e
+
+miss : {V : Type 0} (r : Range) (v : V) (xs : List (Range × V)) (key : ℕ) → in_range r key ≡ false → look ((r, v) ∷ xs) key ≡ look xs key
+miss r v xs key e = rw e
+
+-- ---- one list behind another
+
+choose : {V : Type 0} (b : Bool) (v : V) (o p q : Option V) → o ≡ option_or p q → (if b then Some v else o) ≡ option_or (if b then Some v else p) q
+choose true v o p q e = refl
+choose false v o p q e = e
+
+pub look-append : {V : Type 0} (xs ys : List (Range × V)) (key : ℕ) → look (xs ++ ys) key ≡ option_or (look xs key) (look ys key)
+look-append [] ys key = refl
+look-append (x ∷ xs) ys key = choose (in_range x.0 key) x.1 (look (xs ++ ys) key) (look xs key) (look ys key) (look-append xs ys key)
+
+-- the same front, the same back
+front_at : {V : Type 0} (xs ys zs : List (Range × V)) (key : ℕ) → look xs key ≡ look ys key → look (xs ++ zs) key ≡ look (ys ++ zs) key
+front_at xs ys zs key same = look-append xs zs key ∙ ap (λ o. option_or o (look zs key)) same ∙ sym (look-append ys zs key)
+
+pub same_front : {V : Type 0} (xs ys zs : List (Range × V)) → SameLooks xs ys → SameLooks (xs ++ zs) (ys ++ zs)
+same_front xs ys zs same key = front_at xs ys zs key (same key)
+
+pub same_back : {V : Type 0} (zs xs ys : List (Range × V)) (key : ℕ) → look xs key ≡ look ys key → look (zs ++ xs) key ≡ look (zs ++ ys) key
+same_back zs xs ys key same = look-append zs xs key ∙ ap (λ o. option_or (look zs key) o) same ∙ sym (look-append zs ys key)
+
+-- a list that says nothing of the number
+skip : {V : Type 0} (xs ys : List (Range × V)) (key : ℕ) → look xs key ≡ None → look (xs ++ ys) key ≡ look ys key
+skip xs ys key none = look-append xs ys key ∙ ap (λ o. option_or o (look ys key)) none
+
+-- a list that a pattern parts into its first pair and the others
+pub parted : {X : Type 0} (xs : List X) (x : X) → 1 ≤ length xs → x ≡ get_or xs 0 x → xs ≡ x ∷ take (length xs - 1) (drop 1 xs)
+parted [] x some is = absurd (omega arith)
+parted (y ∷ ys) x some is = ap (λ z. z ∷ ys) (sym is) ∙ ap (λ l. x ∷ l) (sym (take_all (length (y ∷ ys) - 1) ys (omega arith)))
+
+-- ---- lists in order
+
+pub rising_less : {V : Type 0} (m n : ℕ) (xs : List (Range × V)) → m ≤ n → IsRising n xs → IsRising m xs
+rising_less m n [] le h = h
+rising_less m n (x ∷ xs) le h = (omega (arith, h.0), h.1)
+
+-- nothing is said of a number below all of them
+none_below : {V : Type 0} (n key : ℕ) (xs : List (Range × V)) → key < n → IsRising n xs → look xs key ≡ None
+none_below n key [] lt h = refl
+none_below n key (x ∷ xs) lt h = miss x.0 x.1 xs key (under x.0 key (omega (arith, h.0))) ∙ none_below (x.0.high + 1) key xs (omega (arith, h.0, x.0.ordered)) h.1
+
+pub follows : {V : Type 0} (done : List (Range × V)) (n : ℕ) (xs : List (Range × V)) → EndsBefore done n → IsRising n xs → Follows done xs
+follows done n [] ends rising = tt
+follows done n (x ∷ xs) ends rising = (λ i d lt. omega (arith, ends i d lt, rising.0), rising.1)
+
+rising : {V : Type 0} (n : ℕ) (xs : List (Range × V)) → IsSeparate xs → ((d : Range × V) → 0 < length xs → n ≤ (get_or xs 0 d).0.low) → IsRising n xs
+rising n [] sep first = tt
+rising n (x ∷ xs) sep first = (first x (omega arith), rising (x.0.high + 1) xs (λ i j d lt in_list. sep (suc i) (suc j) d (omega arith) (omega arith)) (λ d some. omega (arith, sep 0 1 d (omega arith) (omega arith))))
+
+-- a table follows where nothing is done
+pub table_follows : {V : Type 0} (done xs : List (Range × V)) → done ≡ [] → IsTable xs → Follows done xs
+table_follows {V} done xs none table = subst (λ l. Follows l xs) (sym none) (follows [] 0 xs (λ i d lt. absurd (omega arith)) (rising 0 xs table.separate (λ d some. omega arith)))
+
+-- ---- a piece behind all others
+
+-- it goes to the end of the list
+pub table_past : {V : Type 0} (xs : List (Range × V)) (p : Range × V) → IsTable xs → EndsBefore xs p.0.low → ((i : ℕ) (d : Range × V) → i + 1 ≡ length xs → (get_or xs i d).0.high + 1 ≡ p.0.low → (get_or xs i d).1 ≡ p.1 → ⊥) → IsTable (xs ++ p ∷ [])
+table_past xs p table ends apart = record {
+  separate = separate_push xs p table.separate (λ i d last. ends i d (omega arith));
+  joined = joined_push xs p table.joined apart;
+}
+
+-- the last piece goes on to the end of a range that begins where the piece ends
+joined_range : (p r q : Range) (key : ℕ) → p.high + 1 ≡ r.low → q.low ≡ p.low → q.high ≡ max p.high r.high → in_range q key ≡ (in_range p key || in_range r key)
+joined_range p r q key touch low high =
+    ⊎_elim
+    (λ before. under q key (omega arith) ∙ sym (or_from _ _ (under p key before) (under r key (omega (arith, p.ordered)))))
+    (λ begun. ⊎_elim
+    (λ beyond. same_above q r key (omega (arith, r.ordered)) (omega arith) (omega arith) ∙ ap (λ b. b || in_range r key) (sym (past p key beyond)))
+    (λ inside. within q key (omega arith) (omega arith) ∙ sym (or_left _ _ (within p key begun inside)))
+    (cases_lt p.high key))
+    (cases_lt key p.low)
+
+either : {V : Type 0} (a b c : Bool) (v : V) → c ≡ (a || b) → (if c then Some v else None) ≡ (if a then Some v else (if b then Some v else None))
+either true b c v e = ap (λ t. if t then Some v else None) e
+either false b c v e = ap (λ t. if t then Some v else None) e
+
+look-widened : {V : Type 0} (xs : List (Range × V)) (i : ℕ) (d : Range × V) (q r : Range) (key : ℕ) → i + 1 ≡ length xs → in_range q key ≡ (in_range (get_or xs i d).0 key || in_range r key) → look (set xs i (q, (get_or xs i d).1)) key ≡ look (xs ++ (r, (get_or xs i d).1) ∷ []) key
+look-widened [] i d q r key last e = absurd (omega arith)
+look-widened (x ∷ []) zero d q r key last e = either (in_range x.0 key) (in_range r key) (in_range q key) x.1 e
+look-widened (x ∷ (y ∷ ys)) zero d q r key last e = absurd (omega arith)
+look-widened (x ∷ xs) (suc i) d q r key last e = ap (λ o. if in_range x.0 key then Some x.1 else o) (look-widened xs i d q r key (omega arith) e)
+
+pub joined_last : {V : Type 0} (xs : List (Range × V)) (i : ℕ) (p : Range × V) (r q : Range) (v : V) → i + 1 ≡ length xs → p ≡ get_or xs i p → p.1 ≡ v → p.0.high + 1 ≡ r.low → q.low ≡ p.0.low → q.high ≡ max p.0.high r.high → SameLooks (set xs i (q, p.1)) (xs ++ (r, v) ∷ [])
+joined_last {V} xs i p r q v last is value touch low high key =
+    let range_is : in_range q key ≡ (in_range (get_or xs i p).0 key || in_range r key) = joined_range p.0 r q key touch low high ∙ ap (λ (s : Range × V). in_range s.0 key || in_range r key) is in
+    ap (λ (s : Range × V). look (set xs i (q, s.1)) key) is ∙ look-widened xs i p q r key last range_is ∙ ap (λ (s : Range × V). look (xs ++ (r, s.1) ∷ []) key) (sym is) ∙ ap (λ w. look (xs ++ (r, w) ∷ []) key) value
+
+-- ---- the part of a range before another one
+
+-- the same pair behind, wherever the two ranges have the same numbers
+pub pushed : {V : Type 0} (xs : List (Range × V)) (r s : Range) (v : V) (key : ℕ) → in_range r key ≡ in_range s key → look (xs ++ (r, v) ∷ []) key ≡ look (xs ++ (s, v) ∷ []) key
+pushed xs r s v key same = same_back xs ((r, v) ∷ []) ((s, v) ∷ []) key (ap (λ b. if b then Some v else None) same)
+
+pub unpushed : {V : Type 0} (xs : List (Range × V)) (r : Range) (v : V) (key : ℕ) → in_range r key ≡ false → look (xs ++ (r, v) ∷ []) key ≡ look xs key
+unpushed xs r v key none = same_back xs ((r, v) ∷ []) [] key (miss r v [] key none) ∙ ap (λ l. look l key) (append-nil xs)
+
+pub adds_part : {V : Type 0} (old new : List (Range × V)) (r part other : Range) (v : V) → r.low < other.low → part.low ≡ r.low → part.high + 1 ≡ min (r.high + 1) other.low → SameLooks new (old ++ (part, v) ∷ []) → AddsBelow old r v other.low new
+adds_part {V} old new r part other v begins low high same = record {
+  lesser = λ key lt. same key ∙ pushed old part r v key (⊎_elim
+      (λ beyond. past part key (omega arith) ∙ sym (past r key beyond))
+      (λ inside. same_below part r key low (omega arith) inside)
+      (cases_lt r.high key));
+  others = λ key le. same key ∙ unpushed old part v key (past part key (omega arith));
+}
+
+pub adds_nothing : {V : Type 0} (old : List (Range × V)) (r other : Range) (v : V) → other.low ≤ r.low → AddsBelow old r v other.low old
+adds_nothing old r other v le = record {
+  lesser = λ key lt. sym (unpushed old r v key (under r key (omega arith)));
+  others = λ key _. refl;
+}
+
+-- ---- a range under the first of the upper pieces
+
+-- below that piece
+beneath : {V : Type 0} (old new tail : List (Range × V)) (first : Range × V) (others : List (Range × V)) (r : Range) (v : V) (key : ℕ) → IsRising (first.0.high + 1) others → AddsBelow old r v first.0.low new → key < first.0.low → look tail key ≡ None → look (new ++ tail) key ≡ look (old ++ (first ∷ others ++ (r, v) ∷ [])) key
+beneath {V} old new tail first others r v key rises adds less silent =
+    same_back new tail [] key silent
+    ∙ ap (λ l. look l key) (append-nil new)
+    ∙ adds.lesser key less
+    ∙ same_back old ((r, v) ∷ []) (first ∷ others ++ (r, v) ∷ []) key (sym (skip (first ∷ others) ((r, v) ∷ []) key (none_below first.0.low key (first ∷ others) less (omega arith, rises))))
+
+-- nothing of the range lies past that piece
+pub covered : {V : Type 0} (old new : List (Range × V)) (first : Range × V) (others : List (Range × V)) (r : Range) (v : V) → r.high ≤ first.0.high → IsRising (first.0.high + 1) others → AddsBelow old r v first.0.low new → SameLooks (new ++ first ∷ others) (old ++ (first ∷ others ++ (r, v) ∷ []))
+covered {V} old new first others r v ends rises adds key =
+    ⊎_elim
+    (λ less. beneath old new (first ∷ others) first others r v key rises adds less (none_below first.0.low key (first ∷ others) less (omega arith, rises)))
+    (λ more. front_at new old (first ∷ others) key (adds.others key more) ∙ same_back old (first ∷ others) (first ∷ others ++ (r, v) ∷ []) key (⊎_elim
+    (λ beyond. sym (unpushed (first ∷ others) r v key (past r key (omega arith))))
+    (λ inside. let here = within first.0 key more inside in hit first.0 first.1 others key here ∙ sym (hit first.0 first.1 (others ++ (r, v) ∷ []) key here))
+    (cases_lt first.0.high key)))
+    (cases_lt key first.0.low)
+
+-- the rest of the range lies past that piece, which is appended
+pub passed : {V : Type 0} (old new newer : List (Range × V)) (first : Range × V) (others : List (Range × V)) (r part : Range) (v : V) → part.low ≡ max r.low (first.0.high + 1) → part.high ≡ r.high → IsRising (first.0.high + 1) others → AddsBelow old r v first.0.low new → SameLooks newer (new ++ first ∷ []) → SameLooks (newer ++ (others ++ (part, v) ∷ [])) (old ++ (first ∷ others ++ (r, v) ∷ []))
+passed {V} old new newer first others r part v low high rises adds appended key =
+    same_front newer (new ++ first ∷ []) (others ++ (part, v) ∷ []) appended key
+    ∙ ap (λ l. look l key) (append_assoc new (first ∷ []) (others ++ (part, v) ∷ []))
+    ∙ ⊎_elim
+    (λ less. beneath old new (first ∷ others ++ (part, v) ∷ []) first others r v key rises adds less (skip (first ∷ others) ((part, v) ∷ []) key (none_below first.0.low key (first ∷ others) less (omega arith, rises)) ∙ miss part v [] key (under part key (omega (arith, first.0.ordered)))))
+    (λ more. front_at new old (first ∷ others ++ (part, v) ∷ []) key (adds.others key more) ∙ same_back old (first ∷ others ++ (part, v) ∷ []) (first ∷ others ++ (r, v) ∷ []) key (⊎_elim
+    (λ beyond. pushed (first ∷ others) part r v key (above key beyond))
+    (λ inside. let here = within first.0 key more inside in hit first.0 first.1 (others ++ (part, v) ∷ []) key here ∙ sym (hit first.0 first.1 (others ++ (r, v) ∷ []) key here))
+    (cases_lt first.0.high key)))
+    (cases_lt key first.0.low)
+  where
+    above : (key : ℕ) → first.0.high < key → in_range part key ≡ in_range r key
+    above key beyond =
+        ⊎_elim
+        (λ less. under part key (omega arith) ∙ sym (under r key less))
+        (λ begun. same_above part r key high (omega arith) begun)
+        (cases_lt key r.low)
+
+-- ---- two lists in one
+
+pub table_none : {V : Type 0} (xs : List (Range × V)) → xs ≡ [] → IsTable xs
+table_none {V} xs none = subst IsTable (sym none) (record { separate = λ i j d lt in_list. absurd (omega arith); joined = λ i d lt. absurd (omega arith) })
+
+-- one more of the lower pieces is laid under the upper ones
+pub laid_more : {V : Type 0} (pieces left new left' lower all : List (Range × V)) (i : ℕ) (item : Range × V) → i < length lower → item ≡ get_or lower i item → SameLooks (new ++ left') (pieces ++ (left ++ item ∷ [])) → SameLooks (pieces ++ (left ++ drop i lower)) all → SameLooks (new ++ (left' ++ drop (i + 1) lower)) all
+laid_more {V} pieces left new left' lower all i item lt is one so_far key =
+    let rest = drop (i + 1) lower in
+    ap (λ l. look l key) (sym (append_assoc new left' rest))
+    ∙ same_front (new ++ left') (pieces ++ (left ++ item ∷ [])) rest one key
+    ∙ ap (λ l. look l key) (append_assoc pieces (left ++ item ∷ []) rest ∙ ap (λ l. pieces ++ l) (append_assoc left (item ∷ []) rest))
+    ∙ ap (λ l. look (pieces ++ (left ++ l)) key) (ap (λ p. p ∷ rest) is ∙ sym (drop_more lower i item lt))
+    ∙ so_far key
+
+-- both halves say the same, and so does the whole
+pub same_halves : {V : Type 0} (upper lower pairs : List (Range × V)) (n : ℕ) → SameLooks upper (take n pairs) → SameLooks lower (drop n pairs) → SameLooks (upper ++ lower) pairs
+same_halves upper lower pairs n front back key =
+    same_front upper (take n pairs) lower front key
+    ∙ same_back (take n pairs) lower (drop n pairs) key (back key)
+    ∙ ap (λ l. look l key) (take-append-drop n pairs)

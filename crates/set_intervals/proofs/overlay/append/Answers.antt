@@ -1,0 +1,28 @@
+use Rattle.std.proofs.Common.{◌+◌, ◌-◌, ◌<◌, sym, ap, ◌∙◌, subst, arith}
+use Rattle.std.proofs.lemmas.Bool.{iff_false}
+use Rattle.std.proofs.lemmas.List.Elements.{All-set}
+use Rattle.set_intervals.specs.steps.Pieces.{IsTable}
+use Rattle.set_intervals.proofs.PieceLaws.{last_is}
+use Rattle.set_intervals.proofs.LayerLaws.{joined_last, table_past}
+use Rattle.set_intervals.proofs.overlay.append.Goals as goal
+use Rattle.set_intervals.proofs.overlay.append.Goals.{then-len-gt0+else-continues, else-len-gt0}
+
+pub returns-then-continues-clause-looks : goal.returns-then-continues-clause-looks
+returns-then-continues-clause-looks g c =
+    let joins = c.continues.ensures.0 c.if-continues.true in
+    joined_last c.args.pieces.now.items (c.len-len.result - 1) c.index-last.result.now c.args.range c.joined.result c.args.value (omega arith) c.index-last.ensures joins.1 joins.0 c.joined.ensures.low c.joined.ensures.high
+
+pub returns-clause-table : goal.returns-clause-table
+returns-clause-table g c =
+    let xs = c.args.pieces.now.items in
+    subst IsTable (sym c.in_ok-push.ensures.items) (table_past xs (c.args.range, c.args.value) c.requires.table c.requires.past (λ i d end touch same.
+    elim c.if-len-gt0.branch [
+      | then-len-gt0+else-continues w ↦
+          let is = last_is xs c.len-len.result i d w.index-last.result.now (omega arith) end w.index-last.ensures in
+          iff_false w.continues.ensures w.if-continues.false (ap (λ p. p.0.high + 1) (sym is) ∙ touch, ap (λ p. p.1) (sym is) ∙ same)
+      | else-len-gt0 w ↦ absurd (omega arith)
+    ]))
+
+pub returns-then-continues-clause-ends : goal.returns-then-continues-clause-ends
+returns-then-continues-clause-ends g c =
+    All-set (λ p. p.0.high < c.args.range.high + 1) c.args.pieces.now.items (c.len-len.result - 1) (c.joined.result, c.index-last.result.now.1) (omega (arith, c.joined.ensures.high, (c.continues.ensures.0 c.if-continues.true).0, c.args.range.ordered)) (λ k d lt. omega (arith, c.requires.past k d lt, c.args.range.ordered))

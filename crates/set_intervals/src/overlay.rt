@@ -1,0 +1,156 @@
+//! Pieces laid over others: at a number that both have, the upper ones' value counts.
+ghost use Rattle.std.specs.Prelude.{◌≡◌, ◌≤◌, ◌<◌, ◌+◌, ◌++◌, ◌∷◌, [], ◌↔◌, IsTrue, IfOk, OnOk};
+ghost use Rattle.set_intervals.specs.Pairs.{IsExact};
+ghost use Rattle.set_intervals.specs.steps.Layers.{AddsBelow, EndsBefore, Follows, SameLooks};
+ghost use Rattle.set_intervals.specs.steps.Pieces.{IsTable};
+
+use crate::range::Range;
+use std::alloc::{AllocError, Global};
+
+/// Whether a piece with this range and value goes on where the other one ends.
+fn continues<V: Copy + Eq>(piece: (Range, V), range: Range, value: V) -> bool
+    requires exact { IsExact V.eq }
+    ensures { IsTrue result ↔ ((piece.0.high + 1 ≡ range.low) × (piece.1 ≡ value)) }
+{
+    piece.0.touches(range) && piece.1 == value
+}
+
+/// Appends a piece that lies past the others: where it goes on from the last one, they become one.
+fn append<V: Copy + Eq>(
+    pieces: &mut Vec<(Range, V)>,
+    range: Range,
+    value: V,
+) -> Result<(), AllocError>
+    requires exact { IsExact V.eq }
+    requires table { IsTable pieces.old.items }
+    requires past { EndsBefore pieces.old.items range.low }
+    ensures table { OnOk result (IsTable pieces.new.items) }
+    ensures ends { OnOk result (EndsBefore pieces.new.items (range.high + 1)) }
+    ensures looks { OnOk result (SameLooks pieces.new.items
+        (pieces.old.items ++ (range, value) ∷ [])) }
+{
+    let len = pieces.len();
+    if len > 0 {
+        let last = pieces[len - 1];
+        if continues(last, range, value) {
+            pieces[len - 1] = (last.0.joined(range), last.1);
+            return Ok(());
+        }
+    }
+    pieces.push((range, value))?;
+    Ok(())
+}
+
+/// Appends the part of the range that lies before the other range, if there is one.
+fn append_before<V: Copy + Eq>(
+    pieces: &mut Vec<(Range, V)>,
+    range: Range,
+    value: V,
+    other: Range,
+) -> Result<(), AllocError>
+    requires exact { IsExact V.eq }
+    requires table { IsTable pieces.old.items }
+    requires past { EndsBefore pieces.old.items range.low }
+    requires before { EndsBefore pieces.old.items other.low }
+    ensures table { OnOk result (IsTable pieces.new.items) }
+    ensures before { OnOk result (EndsBefore pieces.new.items other.low) }
+    ensures ends { OnOk result (EndsBefore pieces.new.items (range.high + 1)) }
+    ensures looks { OnOk result
+        (AddsBelow pieces.old.items range value other.low pieces.new.items) }
+{
+    if let Some(part) = range.before(other) {
+        append(pieces, part, value)?;
+    }
+    Ok(())
+}
+
+/// Appends the parts of the range that the upper pieces leave free, and in their places those of
+/// the upper pieces that end before the range does. Gives the upper pieces that are left.
+fn append_under<'a, V: Copy + Eq>(
+    pieces: &mut Vec<(Range, V)>,
+    upper: &'a [(Range, V)],
+    range: Range,
+    value: V,
+) -> Result<&'a [(Range, V)], AllocError>
+    requires exact { IsExact V.eq }
+    requires table { IsTable pieces.old.items }
+    requires past { EndsBefore pieces.old.items range.low }
+    requires follows { Follows pieces.old.items upper.now }
+    ensures table { OnOk result (IsTable pieces.new.items) }
+    ensures ends { OnOk result (EndsBefore pieces.new.items (range.high + 1)) }
+    ensures follows { IfOk result (λ left. Follows pieces.new.items left.now) }
+    ensures looks { IfOk result (λ left. SameLooks (pieces.new.items ++ left.now)
+        (pieces.old.items ++ (upper.now ++ (range, value) ∷ []))) }
+{
+    let mut left = upper;
+    let mut rest = range;
+    while let [first, others @ ..] = left {
+        append_before(pieces, rest, value, first.0)?;
+        let Some(part) = rest.after(first.0) else {
+            return Ok(left);
+        };
+        append(pieces, first.0, first.1)?;
+        rest = part;
+        left = others;
+    }
+    append(pieces, rest, value)?;
+    Ok(left)
+}
+
+/// Appends further pieces, which all lie past the others.
+fn append_all<V: Copy + Eq>(
+    pieces: &mut Vec<(Range, V)>,
+    further: &[(Range, V)],
+) -> Result<(), AllocError>
+    requires exact { IsExact V.eq }
+    requires table { IsTable pieces.old.items }
+    requires follows { Follows pieces.old.items further.now }
+    ensures table { OnOk result (IsTable pieces.new.items) }
+    ensures looks { OnOk result (SameLooks pieces.new.items (pieces.old.items ++ further.now)) }
+{
+    let mut left = further;
+    while let [first, others @ ..] = left {
+        append(pieces, first.0, first.1)?;
+        left = others;
+    }
+    Ok(())
+}
+
+/// The upper pieces, and what they leave free of the lower ones.
+fn overlay<V: Copy + Eq>(
+    alloc: Global,
+    upper: &[(Range, V)],
+    lower: &[(Range, V)],
+) -> Result<Vec<(Range, V)>, AllocError>
+    requires exact { IsExact V.eq }
+    requires upper { IsTable upper.now }
+    requires lower { IsTable lower.now }
+    ensures table { IfOk result (λ pieces. IsTable pieces.items) }
+    ensures looks { IfOk result (λ pieces. SameLooks pieces.items (upper.now ++ lower.now)) }
+{
+    let mut pieces = Vec::new(alloc);
+    let mut left = upper;
+    for &(range, value) in lower {
+        left = append_under(&mut pieces, left, range, value)?;
+    }
+    append_all(&mut pieces, left)?;
+    Ok(pieces)
+}
+
+/// The pieces in which the first of these pairs with a number gives its value.
+pub fn first_wins<V: Copy + Eq>(
+    alloc: Global,
+    pairs: &[(Range, V)],
+) -> Result<Vec<(Range, V)>, AllocError>
+    requires exact { IsExact V.eq }
+    ensures table { IfOk result (λ pieces. IsTable pieces.items) }
+    ensures looks { IfOk result (λ pieces. SameLooks pieces.items pairs.now) }
+{
+    if pairs.len() < 2 {
+        return Vec::from_slice(alloc, pairs);
+    }
+    let (earlier, later) = pairs.split_at(pairs.len() / 2);
+    let upper = first_wins(alloc, earlier)?;
+    let lower = first_wins(alloc, later)?;
+    overlay(alloc, &upper, &lower)
+}
