@@ -96,6 +96,9 @@ costs_of : (t : TableTree) → (HasCycle (CallsOf t) → ⊥) → AreCosts t (co
 unfolding cost_of
 costs_of t acyclic = costs_are (node_of t) (bound t) (bounds t acyclic)
 
+pub some_costs : (tables : List TableTree) (t : TableTree) → (Cycles tables → ⊥) → Contains tables t → (f : Caller → ℕ) × AreCosts t f
+some_costs tables t acyclic at = (cost_of t, costs_of t (acyclic_table tables acyclic t at))
+
 -- a table has one cost
 one_table_cost : (t : TableTree) → (HasCycle (CallsOf t) → ⊥) → (f : Caller → ℕ) → AreCosts t f → table_cost f t ≡ table_cost (cost_of t) t
 one_table_cost t acyclic f are = table_cost_same f (cost_of t) (λ a. one_cost (node_of t) f (cost_of t) are (costs_of t acyclic) (bound t) a (bounds t acyclic a)) t

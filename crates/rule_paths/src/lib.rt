@@ -14,4 +14,4 @@ mod numbers;
 mod table;
 
 pub use judging::{Findings, judge};
-pub use laws::decided_paths;
+pub use laws::{decided_paths, some_costs};

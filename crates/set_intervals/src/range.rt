@@ -1,5 +1,5 @@
 //! Ranges of numbers.
-ghost use Rattle.std.specs.Prelude.{◌≡◌, ◌≤◌, ◌<◌, ◌+◌, ◌↔◌, max, min, IsTrue, MatchOption};
+ghost use Rattle.std.specs.Prelude.{◌≡◌, ◌≤◌, ◌<◌, ◌+◌, ◌^◌, ◌↔◌, max, min, IsTrue, MatchOption};
 
 /// The numbers from `low` to `high`, both included: at least one.
 #[derive(Clone, Copy, Debug)]
@@ -7,6 +7,7 @@ pub struct Range {
     low: u128,
     high: u128,
     pub ghost ordered: { low ≤ high },
+    pub ghost narrow: { high < 2 ^ 128 },
 }
 
 impl Range {

@@ -1,0 +1,4 @@
+pub mod Joining
+pub mod Tables
+pub mod Turns
+pub mod Ticks

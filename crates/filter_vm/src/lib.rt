@@ -1,0 +1,15 @@
+//! Rules as flat code, and the machine that runs it: total on any code, bounded by ticks, and
+//! without memory of its own.
+#![tactic(auto)]
+
+mod actions;
+mod code;
+mod events;
+mod joined;
+mod machine;
+mod reading;
+mod stack;
+
+pub use code::{Action, Code, Instruction, Lookups, Operand, Start, Step, TableCode};
+pub use events::Events;
+pub use machine::run;

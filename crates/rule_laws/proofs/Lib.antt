@@ -1,0 +1,8 @@
+mod Running
+mod Lists
+mod Verdicts
+mod Tables
+mod WellTables
+pub mod Sorting
+mod Outcomes
+mod Ranks

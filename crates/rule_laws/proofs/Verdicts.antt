@@ -1,0 +1,150 @@
+-- The verdicts that a statement can come to.
+use Rattle.std.proofs.Common.{◌≡◌, ℕ, Bool, true, false, cond, List, [], ◌∷◌, map, Contains, Option, Some, None, option_and_then, refl, sym, subst}
+use Rattle.std.specs.Option.{option_or}
+use Rattle.nft_tree.specs.declared.kind.Kind.{Kind}
+use Rattle.nft_tree.specs.declared.selector.Selector.{Selector}
+use Rattle.nft_tree.specs.declared.statement.MarkField.{MarkField}
+use Rattle.nft_tree.specs.declared.statement.MarkField.TheVariants as marks
+use Rattle.nft_tree.specs.Tree as tree
+use Rattle.nft_tree.specs.Tree.{Text, VerdictTree, DataTree, PairTree, MapRefTree, Statement, MapTree, TableTree}
+use Rattle.nft_tree.specs.Kinds.{selector_kind, map_key_kind}
+use Rattle.nft_values.specs.Values.{numbers_of}
+use Rattle.box_file.specs.Box.{PlantTree}
+use Rattle.rule_names.specs.Names.{map_named, some_of}
+use Rattle.rule_names.proofs.Decisions.{Contains-here, Contains-there}
+use Rattle.rule_meaning.specs.declared.facts.Facts.{Facts}
+use Rattle.rule_meaning.specs.declared.facts.Tracking.{Tracking}
+use Rattle.rule_meaning.specs.declared.facts.Tracking.TheVariants as tracking
+use Rattle.rule_meaning.specs.declared.event.Place.{Place}
+use Rattle.rule_meaning.specs.declared.event.Decision.{Decision}
+use Rattle.rule_meaning.specs.declared.event.Decision.TheVariants as decisions
+use Rattle.rule_meaning.specs.declared.event.Translation.{Translation}
+use Rattle.rule_meaning.specs.Selectors.{value}
+use Rattle.rule_meaning.specs.Sets.{Scope, spans, data_verdict, pair_gives, pairs_give, declared_gives, map_gives, looked_up}
+use Rattle.rule_meaning.specs.Matches.{holds}
+use Rattle.rule_meaning.specs.Statements.{Saying, pass, fail, note, give, passes_if, with_value, chain_number, decision_of, operand_number, writes, writes_connection, translation_of, says}
+
+-- an element has the verdict
+abbrev pub Among : List PairTree → VerdictTree → Type 0
+Among ps v = Contains (map (λ p. p.value) ps) (tree.to_verdict v)
+
+module _ (t : TableTree) where
+  -- the verdict of a statement, or one of its map
+  pub data Chooses : Statement → VerdictTree → Type 0 where
+    itself : {v : VerdictTree} → Chooses (tree.verdict v) v
+    of_pairs : {x : Selector} {ps : List PairTree} {v : VerdictTree} → Among ps v → Chooses (tree.verdict_map x (tree.pairs ps)) v
+    of_map : {x : Selector} {name : Text} (m : MapTree) {v : VerdictTree} → map_named t name ≡ Some m → Among (some_of m.elements) v → Chooses (tree.verdict_map x (tree.named_map name)) v
+
+  -- the chain that is jumped or gone to is one that the statement names
+  abbrev pub Decides : Statement → Decision → Type 0
+  Decides s (decisions.Jump i) = (name : Text) × (chain_number t name ≡ i) × Chooses s (tree.jump name)
+  Decides s (decisions.Goto i) = (name : Text) × (chain_number t name ≡ i) × Chooses s (tree.goto name)
+  Decides s decisions.Accept = Unit {0}
+  Decides s decisions.Drop = Unit {0}
+  Decides s decisions.Continue = Unit {0}
+  Decides s decisions.Return = Unit {0}
+  Decides s (decisions.Translate x) = Unit {0}
+
+  abbrev Says : Statement → Saying → Type 0
+  Says s pass = Unit {0}
+  Says s fail = Unit {0}
+  Says s (note e g) = Unit {0}
+  Says s (give d) = Decides s d
+
+  chosen : (s : Statement) (v : VerdictTree) → Chooses s v → Decides s (decision_of t v)
+  chosen s tree.accept h = tt
+  chosen s tree.drop h = tt
+  chosen s tree.continue h = tt
+  chosen s tree.return h = tt
+  chosen s (tree.jump name) h = (name, refl, h)
+  chosen s (tree.goto name) h = (name, refl, h)
+
+  -- ---- maps
+
+  -- what is read of a list is among it
+  abbrev FromList : List PairTree → Option VerdictTree → Type 0
+  FromList ps None = Unit {0}
+  FromList ps (Some v) = Among ps v
+
+  first : (d : DataTree) (ps : List PairTree) (p : PairTree) → p.value ≡ d → FromList (p ∷ ps) (data_verdict d)
+  first (tree.to_verdict v) ps p is = subst (λ x. Contains (x ∷ map (λ y. y.value) ps) (tree.to_verdict v)) (sym is) (Contains-here (tree.to_verdict v) (map (λ y. y.value) ps))
+  first (tree.to_value v) ps p is = tt
+
+  later : (p : PairTree) (ps : List PairTree) (o : Option VerdictTree) → FromList ps o → FromList (p ∷ ps) o
+  later p ps None h = tt
+  later p ps (Some v) h = Contains-there p.value (tree.to_verdict v) (map (λ y. y.value) ps) h
+
+  if_spans : (b : Bool) (p : PairTree) (ps : List PairTree) → FromList (p ∷ ps) (cond b (data_verdict p.value) None)
+  if_spans true p ps = first p.value ps p refl
+  if_spans false p ps = tt
+
+  either : (ps : List PairTree) (a b : Option VerdictTree) → FromList ps a → FromList ps b → FromList ps (option_or a b)
+  either ps None b x y = y
+  either ps (Some v) b x y = x
+
+  from_list : (plant : PlantTree) (kind : Kind) (ps : List PairTree) (n : ℕ) → FromList ps (pairs_give data_verdict plant kind ps n)
+  from_list plant kind [] n = tt
+  from_list plant kind (p ∷ ps) n =
+      either (p ∷ ps) (pair_gives data_verdict plant kind n p) (pairs_give data_verdict plant kind ps n) (if_spans (spans (numbers_of plant kind p.key) n) p ps) (later p ps (pairs_give data_verdict plant kind ps n) (from_list plant kind ps n))
+
+  abbrev Chosen : Statement → Option VerdictTree → Type 0
+  Chosen s None = Unit {0}
+  Chosen s (Some v) = Chooses s v
+
+  of_list : (x : Selector) (ps : List PairTree) (o : Option VerdictTree) → FromList ps o → Chosen (tree.verdict_map x (tree.pairs ps)) o
+  of_list x ps None h = tt
+  of_list x ps (Some v) h = of_pairs h
+
+  of_named : (x : Selector) (name : Text) (m : MapTree) (o : Option VerdictTree) → map_named t name ≡ Some m → FromList (some_of m.elements) o → Chosen (tree.verdict_map x (tree.named_map name)) o
+  of_named x name m None is h = tt
+  of_named x name m (Some v) is h = of_map m is h
+
+  of_declared : (plant : PlantTree) (x : Selector) (name : Text) (n : ℕ) (o : Option MapTree) → map_named t name ≡ o → Chosen (tree.verdict_map x (tree.named_map name)) (declared_gives data_verdict plant o n)
+  of_declared plant x name n None is = tt
+  of_declared plant x name n (Some m) is =
+      of_named x name m (pairs_give data_verdict plant (map_key_kind m.types) (some_of m.elements) n) is (from_list plant (map_key_kind m.types) (some_of m.elements) n)
+
+  -- ---- statements
+
+  verdict_said : (s : Statement) (o : Option VerdictTree) → Chosen s o → Says s (with_value (λ v. give (decision_of t v)) o)
+  verdict_said s None h = tt
+  verdict_said s (Some v) h = chosen s v h
+
+  matched : (s : Statement) (b : Bool) → Says s (passes_if b)
+  matched s true = tt
+  matched s false = tt
+
+  connection_marked : (s : Statement) (f : Facts) (x : Tracking) (n : ℕ) → Says s (writes_connection f x n)
+  connection_marked s f tracking.Unknown n = tt
+  connection_marked s f tracking.Invalid n = tt
+  connection_marked s f (tracking.Known c) n = tt
+
+  marked : (s : Statement) (field : MarkField) (f : Facts) (o : Option ℕ) → Says s (with_value (writes field f) o)
+  marked s field f None = tt
+  marked s marks.Meta f (Some n) = tt
+  marked s marks.Ct f (Some n) = connection_marked s f f.tracking n
+
+  translated : (s : Statement) (o : Option Translation) → Says s (with_value (λ x. give (decisions.Translate x)) o)
+  translated s None = tt
+  translated s (Some x) = tt
+
+  module _ (plant : PlantTree) where
+    abbrev scope : Scope
+    scope = record { plant = plant; table = t }
+
+    by_map : (x : Selector) (m : MapRefTree) (o : Option ℕ) → Chosen (tree.verdict_map x m) (option_and_then (map_gives data_verdict scope x m) o)
+    by_map x m None = tt
+    by_map x (tree.named_map name) (Some n) = of_declared plant x name n (map_named t name) refl
+    by_map x (tree.pairs ps) (Some n) = of_list x ps (pairs_give data_verdict plant (selector_kind x) ps n) (from_list plant (selector_kind x) ps n)
+
+    said : (s : Statement) (at : Place) (f : Facts) → Says s (says scope at s f)
+    said (tree.matching m) at f = matched (tree.matching m) (holds scope m f)
+    said (tree.counter start) at f = tt
+    said (tree.log text) at f = tt
+    said (tree.set_mark field operand) at f = marked (tree.set_mark field operand) field f (operand_number scope operand f)
+    said (tree.verdict_map x m) at f = verdict_said (tree.verdict_map x m) (looked_up data_verdict scope x m f) (by_map x m (value x f))
+    said (tree.verdict v) at f = chosen (tree.verdict v) v itself
+    said (tree.nat n) at f = translated (tree.nat n) (translation_of scope n f)
+
+    pub decides : (s : Statement) (at : Place) (f : Facts) (d : Decision) → says scope at s f ≡ give d → Decides s d
+    decides s at f d is = subst (Says s) is (said s at f)

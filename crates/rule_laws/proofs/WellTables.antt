@@ -1,0 +1,45 @@
+-- What well-formed rulesets say of each of their tables.
+use Rattle.std.proofs.Common.{◌≡◌, ℕ, zero, suc, Bool, true, false, ◌||◌, List, [], ◌∷◌, slice_get, Contains, Some, unwrap_or, refl, ap, ◌∙◌, arith}
+use Rattle.std.specs.List.{list_any}
+use Rattle.nft_tree.specs.Tree.{TableTree}
+use Rattle.box_file.specs.Box.{PlantTree}
+use Rattle.chain_graph.specs.Graph.{HasPathOver}
+use Rattle.rule_names.specs.Names as names
+use Rattle.rule_names.specs.Names.{Repeats, chain_names, targets_of, jumps_nowhere}
+use Rattle.rule_paths.specs.Paths.{CallsOf, MOST_JUMPS}
+use Rattle.rule_check.specs.declared.fault.CheckFault.TheVariants as faults
+use Rattle.rule_check.specs.WellFormed.{WellFormed}
+use Rattle.rule_laws.proofs.Tables.{There, there}
+
+got_contained : {A : Type 0} (xs : List A) (i : ℕ) (x : A) → slice_get xs i ≡ Some x → Contains xs x
+got_contained [] i x e = absurd cc
+got_contained (y ∷ ys) zero x e = (0, omega arith, ap (λ o. unwrap_or o y) e)
+got_contained (y ∷ ys) (suc i) x e = let q = got_contained ys i x e in (suc q.0, omega (arith, q.1), q.2)
+
+got_passes : {A : Type 0} (test : A → Bool) (xs : List A) (i : ℕ) (x : A) → slice_get xs i ≡ Some x → test x ≡ true → list_any test xs ≡ true
+got_passes test [] i x e passed = absurd cc
+got_passes test (y ∷ ys) zero x e passed = let same : test y ≡ true = ap (λ o. test (unwrap_or o y)) e ∙ passed in ap (λ b. b || list_any test ys) same
+got_passes test (y ∷ ys) (suc i) x e passed = either (test y) (got_passes test ys i x e passed)
+  where
+    either : (b : Bool) → list_any test ys ≡ true → b || list_any test ys ≡ true
+    either true h = refl
+    either false h = h
+
+none : (b : Bool) → (b ≡ true → ⊥) → b ≡ false
+none true h = absurd (h refl)
+none false h = refl
+
+module _ (tables : List TableTree) (plant : PlantTree) (well : WellFormed tables plant) (number : ℕ) (t : TableTree) (at : slice_get tables number ≡ Some t) where
+  pub contained : Contains tables t
+  contained = got_contained tables number t at
+
+  -- all chains that it names are there
+  pub whole : There t (targets_of t)
+  whole = there t (targets_of t) (none (jumps_nowhere t) (λ bad. well faults.NoSuchChain (got_passes jumps_nowhere tables number t at bad)))
+
+  -- no two of its chains have one name
+  pub once : Repeats (chain_names t) → ⊥
+  once r = well faults.NameTwice (names.two_chains t contained r)
+
+  pub shallow : HasPathOver MOST_JUMPS (CallsOf t) → ⊥
+  shallow path = well faults.TooDeep (record { table = t; stands = contained; path = path })

@@ -1,0 +1,7 @@
+//! What is known of well-formed rulesets: a packet comes to an end in them, whatever it is, since
+//! costs and depths rank their chains.
+#![tactic(auto)]
+
+mod laws;
+
+pub use laws::{ranked, some_outcome};

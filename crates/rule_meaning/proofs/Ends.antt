@@ -1,0 +1,79 @@
+-- Base chains and hooks lead to one end.
+use Rattle.std.proofs.Common.{◌≡◌, ◌↔◌, ℤ, Bool, List, [], ◌∷◌, filter, Option, Some, unwrap_or, sym, ap, ◌∙◌, subst}
+use Rattle.nft_tree.specs.Tree.{Statement, TableTree}
+use Rattle.box_file.specs.Box.{PlantTree}
+use Rattle.rule_meaning.specs.declared.facts.Facts.{Facts}
+use Rattle.rule_meaning.specs.declared.event.Event.{Event}
+use Rattle.rule_meaning.specs.Runs.{named, at_rule, After, Runs}
+use Rattle.rule_meaning.specs.Hooks as hooks
+use Rattle.rule_meaning.specs.Hooks.{Base, InOrder, priority, runs_before, End, policy_of, closed, Passage, RunsBase, GoesOn, Stops, Nothing, Then, InTurn, Chains, bases_of}
+use Rattle.rule_meaning.specs.Laws.{step_of}
+use Rattle.rule_meaning.proofs.OneRun.{one_after}
+use Rattle.rule_meaning.proofs.Orders.{one_order}
+use Rattle.rule_meaning.proofs.Priorities.{priorities}
+
+pub one_text_order : (text a b : List Base) → InOrder text a → InOrder text b → a ≡ b
+one_text_order text a b first second = one_order runs_before priorities text a b first.rising first.stable second.rising second.stable
+
+-- ---- passages
+
+-- at most one end
+abbrev pub One : Passage → Type 0
+One P = (f : Facts) (es : List Event) (end other : End) → P f es end → P f es other → end ≡ other
+
+same_some : {A : Type 0} (a b : A) → Some a ≡ Some b → a ≡ b
+same_some a b e = ap (λ x. unwrap_or x a) e
+
+pub one_nothing : One Nothing
+one_nothing f es end other a b = a ∙ sym b
+
+pub one_step : (gives : Facts → List Event → Option End) → One (step_of gives)
+one_step gives f es end other a b = same_some end other (sym a ∙ b)
+
+pub one_then : (first second : Passage) → One first → One second → One (Then first second)
+one_then first second one two f es end other (hooks.goes_on m r on s) (hooks.goes_on m' r' on' s') =
+    two m.facts m.events end other s (subst (λ x. second x.facts x.events other) (sym (one f es m m' r r')) s')
+one_then first second one two f es end other (hooks.goes_on m r on s) (hooks.stops r' ends) = absurd (ends (subst (λ x. GoesOn x.ending) (one f es m other r r') on))
+one_then first second one two f es end other (hooks.stops r ends) (hooks.goes_on m r' on s) = absurd (ends (subst (λ x. GoesOn x.ending) (one f es m end r' r) on))
+one_then first second one two f es end other (hooks.stops r ends) (hooks.stops r' ends') = one f es end other r r'
+
+module _ (plant : PlantTree) (tables : List TableTree) where
+  -- what a run in this table says of an end
+  abbrev Same : Base → Facts → List Event → End → End → TableTree → Type 0
+  Same b f es end other t = (rules : List (List Statement)) (after : After) → (named plant b.number.table t).rules_at b.number.chain ≡ Some rules → Runs (named plant b.number.table t) b.number.chain 1 (at_rule rules) f es after → other ≡ closed b.number (policy_of b.head) after → end ≡ other
+
+  pub one_base : (b : Base) → One (RunsBase plant tables b)
+  one_base b f es end other x y =
+      let p = named plant b.number.table x.table in
+      let here : Same b f es end other x.table = λ rules after has r is.
+      let r' : Runs p b.number.chain 1 (at_rule x.rules) f es after = subst (λ l. Runs p b.number.chain 1 (at_rule l) f es after) (same_some rules x.rules (sym has ∙ x.has)) r in
+      x.is ∙ ap (closed b.number (policy_of b.head)) (one_after p x.runs after r') ∙ sym is in
+      subst (Same b f es end other) (same_some x.table y.table (sym x.stands ∙ y.stands)) here y.rules y.after y.has y.runs y.is
+
+  pub one_in_turn : (bs : List Base) → One (InTurn plant tables bs)
+  one_in_turn [] = one_nothing
+  one_in_turn (b ∷ bs) = one_then (RunsBase plant tables b) (InTurn plant tables bs) (one_base b) (one_in_turn bs)
+
+  pub one_chains : (test : Base → Bool) → One (Chains plant tables test)
+  one_chains test f es end other a b =
+      one_in_turn a.order f es end other a.run (subst (λ l. InTurn plant tables l f es other) (one_text_order (filter test (bases_of tables)) b.order a.order b.in_order a.in_order) b.run)
+
+  pub one_around : (test : Base → Bool) (limit : ℤ) (step : Passage) → One step → One (hooks.Around plant tables test limit step)
+  one_around test limit step one = one_then _ _ (one_chains _) (one_then step _ one (one_chains _))
+
+  -- ---- what the first of base chains leaves to the others
+
+  module _ (b : Base) (bs : List Base) (f : Facts) (es : List Event) (m end : End) (r : RunsBase plant tables b f es m) where
+    stopped : Stops m.ending → Then (RunsBase plant tables b) (InTurn plant tables bs) f es end → end ≡ m
+    stopped ends (hooks.goes_on x r' on s) = absurd (ends (subst (λ y. GoesOn y.ending) (one_base b f es x m r' r) on))
+    stopped ends (hooks.stops r' _) = one_base b f es end m r' r
+
+    pub ends_all : Stops m.ending → InTurn plant tables (b ∷ bs) f es end ↔ (end ≡ m)
+    ends_all ends = (stopped ends, λ same. subst (λ y. InTurn plant tables (b ∷ bs) f es y) (sym same) (hooks.stops r ends))
+
+    gone_on : GoesOn m.ending → Then (RunsBase plant tables b) (InTurn plant tables bs) f es end → InTurn plant tables bs m.facts m.events end
+    gone_on on (hooks.goes_on x r' _ s) = subst (λ y. InTurn plant tables bs y.facts y.events end) (one_base b f es x m r' r) s
+    gone_on on (hooks.stops r' ends) = absurd (ends (subst (λ y. GoesOn y.ending) (one_base b f es m end r r') on))
+
+    pub ends_one : GoesOn m.ending → InTurn plant tables (b ∷ bs) f es end ↔ InTurn plant tables bs m.facts m.events end
+    ends_one on = (gone_on on, λ s. hooks.goes_on m r on s)

@@ -1,0 +1,7 @@
+mod Opening
+mod OneRun
+mod Orders
+pub mod Priorities
+mod Ends
+mod Values
+mod Alike

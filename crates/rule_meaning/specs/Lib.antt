@@ -1,0 +1,7 @@
+pub mod Selectors
+pub mod Sets
+pub mod Matches
+pub mod Statements
+pub mod Runs
+pub mod Hooks
+pub mod Laws

@@ -1,0 +1,101 @@
+-- What selectors read of a packet (nft(8), "Payload expressions", "Meta expressions", "Conntrack expressions").
+use Rattle.std.specs.Prelude.{ℕ, ◌+◌, ◌*◌, ◌^◌, List, [], ◌∷◌, map, Option, Some, None, cond}
+use Rattle.std.specs.Option.{option_map, option_and_then}
+use Rattle.nft_tree.specs.declared.selector.Selector.{Selector}
+use Rattle.nft_tree.specs.declared.selector.Selector.TheVariants as selectors
+use Rattle.nft_tree.specs.Words.{selector_width}
+use Rattle.ip_headers.specs.declared.transport.Transport.{Transport}
+use Rattle.ip_headers.specs.declared.transport.Transport.TheVariants as transports
+use Rattle.ip_headers.specs.Transport.{source_port_of, destination_port_of, tcp_flags_of, icmp_type_of}
+use Rattle.rule_meaning.specs.declared.facts.Facts.{Facts}
+use Rattle.rule_meaning.specs.declared.facts.Tracking.{Tracking}
+use Rattle.rule_meaning.specs.declared.facts.Tracking.TheVariants as tracking
+use Rattle.rule_meaning.specs.declared.facts.Connection.{Connection}
+use Rattle.rule_meaning.specs.declared.facts.ConnectionState.{ConnectionState}
+use Rattle.rule_meaning.specs.declared.facts.ConnectionState.TheVariants as states
+use Rattle.rule_meaning.specs.declared.facts.Direction.{Direction}
+use Rattle.rule_meaning.specs.declared.facts.Direction.TheVariants as directions
+
+-- ---- ports: nothing for another protocol
+
+abbrev pub tcp_source : Transport → Option ℕ
+tcp_source (transports.Tcp source destination flags) = Some source
+tcp_source _ = None
+
+abbrev pub tcp_destination : Transport → Option ℕ
+tcp_destination (transports.Tcp source destination flags) = Some destination
+tcp_destination _ = None
+
+abbrev pub udp_source : Transport → Option ℕ
+udp_source (transports.Udp source destination) = Some source
+udp_source _ = None
+
+abbrev pub udp_destination : Transport → Option ℕ
+udp_destination (transports.Udp source destination) = Some destination
+udp_destination _ = None
+
+-- ---- the connection: an invalid packet has a state and nothing else; before it is looked for there is nothing
+
+abbrev pub state_bit : ConnectionState → ℕ
+state_bit states.Established = 2
+state_bit states.Related = 4
+state_bit states.New = 8
+
+abbrev pub ct_state : Tracking → Option ℕ
+ct_state tracking.Unknown = None
+ct_state tracking.Invalid = Some 1
+ct_state (tracking.Known c) = Some (state_bit c.state)
+
+abbrev pub direction_number : Direction → ℕ
+direction_number directions.Original = 0
+direction_number directions.Reply = 1
+
+-- what is read of a connection, where there is one
+abbrev pub of_connection : (Connection → ℕ) → Tracking → Option ℕ
+of_connection field (tracking.Known c) = Some (field c)
+of_connection field _ = None
+
+-- seen-reply 2, snat 16, dnat 32
+abbrev pub status_bits : Connection → ℕ
+status_bits c = cond c.seen_reply 2 0 + cond c.source_translated 16 0 + cond c.destination_translated 32 0
+
+-- ---- all selectors
+
+abbrev pub value : Selector → Facts → Option ℕ
+value selectors.IpSource f = Some f.packet.source
+value selectors.IpDestination f = Some f.packet.destination
+value selectors.IpProtocol f = Some f.packet.protocol
+value selectors.MetaProtocol f = Some f.packet.protocol
+value selectors.IpTtl f = Some f.packet.ttl
+value selectors.IpLength f = Some f.packet.length
+value selectors.MetaLength f = Some f.packet.length
+value selectors.TcpSource f = tcp_source f.packet.transport
+value selectors.TcpDestination f = tcp_destination f.packet.transport
+value selectors.UdpSource f = udp_source f.packet.transport
+value selectors.UdpDestination f = udp_destination f.packet.transport
+-- `th` is TCP and UDP alone
+value selectors.TransportSource f = source_port_of f.packet.transport
+value selectors.TransportDestination f = destination_port_of f.packet.transport
+value selectors.TcpFlags f = tcp_flags_of f.packet.transport
+value selectors.IcmpType f = icmp_type_of f.packet.transport
+value selectors.InputName f = Some f.input.name
+value selectors.OutputName f = option_map (λ i. i.name) f.output
+value selectors.InputIndex f = Some f.input.index
+value selectors.OutputIndex f = option_map (λ i. i.index) f.output
+value selectors.MetaMark f = Some f.mark
+value selectors.CtMark f = of_connection (λ c. c.mark) f.tracking
+-- NFPROTO_IPV4
+value selectors.MetaFamily f = Some 2
+value selectors.CtState f = ct_state f.tracking
+value selectors.CtDirection f = of_connection (λ c. direction_number c.direction) f.tracking
+value selectors.CtStatus f = of_connection status_bits f.tracking
+
+-- ---- joined selectors
+
+-- numbers side by side behind a first one, each of so many bits, the first one highest; nothing where one of them is nothing
+abbrev pub join : ℕ → List (ℕ × Option ℕ) → Option ℕ
+join high [] = Some high
+join high (part ∷ parts) = option_and_then (λ n. join (high * 2 ^ part.0 + n) parts) part.1
+
+abbrev pub joined_value : List Selector → Facts → Option ℕ
+joined_value ss f = join 0 (map (λ s. (selector_width s, value s f)) ss)

@@ -1,0 +1,3 @@
+mod Computing
+mod Ending
+mod Answering
