@@ -1,3 +1,4 @@
 pub mod NameLaws
 pub mod NumberLaws
 pub mod SpanLaws
+mod WordLaws

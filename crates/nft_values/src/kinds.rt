@@ -4,8 +4,8 @@ ghost use Rattle.nft_values.specs.Values.{is_address, kind_width, lists_word, ta
 
 use nft_tree::{Kind, ValueType};
 
-/// The width in bits.
-fn width(kind: Kind) -> u32
+/// The width of the type's values in bits.
+pub fn width(kind: Kind) -> u32
     ensures { result ≡ kind_width kind }
 {
     match kind {

@@ -57,6 +57,14 @@ fn filled(fill: u8, name: &[u8]) -> u128
     number
 }
 
+/// The number that the name of an interface is: its bytes, the first one highest, and zeros behind
+/// them to 16.
+pub fn name_number(name: &[u8]) -> u128
+    ensures { result ≡ filled 0 name.now }
+{
+    filled(0, name)
+}
+
 /// The number of the name, or those of all names that begin so where a `*` is its last byte.
 pub fn name_bounds(name: &[u8]) -> Bounds
     ensures { bounds_span result ≡ name_span name.now (before_star name.now) }

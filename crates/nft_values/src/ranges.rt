@@ -1,9 +1,9 @@
 //! Ranges and prefixes, and the numbers that they stand for.
-ghost use Rattle.std.specs.Prelude.{◌≡◌};
+ghost use Rattle.std.specs.Prelude.{◌≡◌, ◌<◌, ◌^◌, IfSome};
 ghost use Rattle.std.specs.Option.{option_map};
 ghost use Rattle.nft_tree.specs.Tree as tree;
 ghost use Rattle.nft_tree.specs.Tree.{range_tree, value_tree};
-ghost use Rattle.nft_values.specs.Values.{has_numbers, is_range, is_range_on_box, numbers_of, prefix_span, range_span, span_of};
+ghost use Rattle.nft_values.specs.Values.{has_numbers, is_range, is_range_on_box, kind_width, numbers_of, prefix_span, range_span, span_of};
 ghost use Rattle.nft_values.specs.steps.Bounds.{bounds_span};
 
 use crate::bounds::Bounds;
@@ -96,10 +96,12 @@ pub fn numbers_of(plant: &Plant, kind: Kind, range: &Range) -> Option<Interval>
 }
 
 /// The numbers that the value stands for: one, or those of all names that begin so where a `*` ends
-/// it. `None` where it isn't one of the type, or is the name of no interface of the box.
+/// it. `None` where it isn't one of the type, or is the name of no interface of the box. They have no
+/// more bits than the type.
 pub fn value_numbers(plant: &Plant, kind: Kind, value: &Value) -> Option<Interval>
-    ensures { option_map span_of result
+    ensures numbers { option_map span_of result
         ≡ numbers_of plant.now kind (tree.one (value_tree value.now)) }
+    ensures fits { IfSome result (λ numbers. numbers.high < 2 ^ kind_width kind) }
 {
     if !is_value(kind, value) || !has_number(plant, kind, value) {
         return None;

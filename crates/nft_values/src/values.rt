@@ -1,8 +1,8 @@
 //! Whether a value is one of its type, and the numbers that it stands for.
-ghost use Rattle.std.specs.Prelude.{◌≡◌, ◌&&◌, ◌^◌, nat_lt, is_some};
+ghost use Rattle.std.specs.Prelude.{◌≡◌, ◌<◌, ◌&&◌, ◌^◌, nat_lt, true, is_some};
 ghost use Rattle.box_file.specs.Box.{name_of};
 ghost use Rattle.nft_tree.specs.Tree.{value_tree};
-ghost use Rattle.nft_values.specs.Values.{has_number, is_name_of, is_on_box, is_value, text_span, value_span};
+ghost use Rattle.nft_values.specs.Values.{has_number, is_name_of, is_on_box, is_value, kind_width, text_span, value_span};
 ghost use Rattle.nft_values.specs.steps.Bounds.{bounds_span};
 
 use crate::bounds::{Bounds, one_number};
@@ -73,7 +73,8 @@ pub fn has_number(plant: &Plant, kind: Kind, value: &Value) -> bool
 /// The numbers of a word or a string: of an interface by its name or its index, of another type by
 /// the type's list. Of what is no value of the type it is 0.
 fn text_bounds(plant: &Plant, kind: Kind, text: &[u8]) -> Bounds
-    ensures { bounds_span result ≡ text_span plant.now kind text.now }
+    ensures span { bounds_span result ≡ text_span plant.now kind text.now }
+    ensures fits { result.high < 2 ^ kind_width kind }
 {
     let number = match kind {
         Kind::Named(ValueType::InterfaceName) => return name_bounds(text),
@@ -86,7 +87,8 @@ fn text_bounds(plant: &Plant, kind: Kind, text: &[u8]) -> Bounds
 
 /// The numbers of a value; a name that no interface of the box has stands for 0.
 pub fn value_bounds(plant: &Plant, kind: Kind, value: &Value) -> Bounds
-    ensures { bounds_span result ≡ value_span plant.now kind (value_tree value.now) }
+    ensures span { bounds_span result ≡ value_span plant.now kind (value_tree value.now) }
+    ensures fits { is_value kind (value_tree value.now) ≡ true → result.high < 2 ^ kind_width kind }
 {
     match value {
         Value::Number(number) => one_number(u128::from(*number)),

@@ -32,6 +32,9 @@ table_names family tables = map (λ t. t.name) (filter (λ t. same_family t.fami
 abbrev pub chain_names : TableTree → List Text
 chain_names t = map (λ c. c.name) (chains_of t)
 
+abbrev pub set_names : TableTree → List Text
+set_names t = map (λ s. s.name) (sets_of t)
+
 abbrev pub map_names : TableTree → List Text
 map_names t = map (λ m. m.name) (maps_of t)
 

@@ -5,7 +5,7 @@ ghost use Rattle.std.specs.Option.{option_copied, option_map};
 ghost use Rattle.std.specs.Str.{bytes_eq};
 ghost use Rattle.nft_tree.specs.Tree.{chain_tree, item_tree, map_tree, set_tree, table_tree, tables_of};
 ghost use Rattle.nft_tree.specs.Parts.{chains_of, maps_of, sets_of};
-ghost use Rattle.rule_names.specs.Names.{NameTwice, Repeats, chain_named, chain_names, is_base_chain, is_set_or_map, map_named, map_names, place_in, set_and_map_names, set_named, set_or_map_name, table_names};
+ghost use Rattle.rule_names.specs.Names.{NameTwice, Repeats, chain_named, chain_names, is_base_chain, is_set_or_map, map_named, map_names, place_in, set_and_map_names, set_named, set_names, set_or_map_name, table_names};
 ghost use Rattle.rule_names.specs.steps.Index.{texts};
 ghost use Rattle.rule_names.specs.steps.Table.{IsApart, RepeatsIn, SomeRepeats, chain_trees, map_trees, set_trees};
 
@@ -183,6 +183,14 @@ impl<'t> TableNames<'t> {
         &self.chains
     }
 
+    /// The sets of the table, in text order.
+    pub fn sets(&self) -> &[&'t SetDecl]
+        ensures all { map (λ s. set_tree s.now) result.now ≡ sets_of self.now }
+        ensures apart { Repeats (set_names self.now) → ⊥ }
+    {
+        &self.sets
+    }
+
     /// The maps of the table, in text order.
     pub fn maps(&self) -> &[&'t MapDecl]
         ensures all { map (λ m. map_tree m.now) result.now ≡ maps_of self.now }
@@ -196,6 +204,13 @@ impl<'t> TableNames<'t> {
         ensures { result ≡ place_in name.now (chain_names self.now) }
     {
         self.chain_names.place(name)
+    }
+
+    /// The place of the set of that name among the table's sets, from 0.
+    pub fn set_place(&self, name: &[u8]) -> Option<usize>
+        ensures { result ≡ place_in name.now (set_names self.now) }
+    {
+        self.set_names.place(name)
     }
 
     /// The place of the map of that name among the table's maps, from 0.

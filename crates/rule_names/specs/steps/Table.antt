@@ -6,7 +6,7 @@ use Rattle.nft_tree.specs.declared.set.SetDecl.{SetDecl}
 use Rattle.nft_tree.specs.declared.set.MapDecl.{MapDecl}
 use Rattle.nft_tree.specs.Tree.{Text, ChainTree, SetTree, MapTree, TableTree, chain_tree, set_tree, map_tree}
 use Rattle.nft_tree.specs.Parts.{chains_of, sets_of, maps_of}
-use Rattle.rule_names.specs.Names.{Repeats, chain_names, map_names, set_and_map_names}
+use Rattle.rule_names.specs.Names.{Repeats, chain_names, set_names, map_names, set_and_map_names}
 
 abbrev pub chain_trees : List (Bor Chain) → List ChainTree
 chain_trees chains = map (λ c. chain_tree c.now) chains
@@ -16,9 +16,6 @@ set_trees sets = map (λ s. set_tree s.now) sets
 
 abbrev pub map_trees : List (Bor MapDecl) → List MapTree
 map_trees maps = map (λ m. map_tree m.now) maps
-
-abbrev pub set_names : TableTree → List Text
-set_names t = map (λ s. s.name) (sets_of t)
 
 -- no name stands twice in the table
 pub record IsApart (t : TableTree) : Type 0 where

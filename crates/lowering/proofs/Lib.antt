@@ -1,0 +1,7 @@
+mod Rooms
+mod Gathered
+mod Unions
+mod Pairwise
+mod Found
+mod Kept
+mod Chosen

@@ -1,0 +1,3 @@
+-- What private functions give on the way: nothing that a public contract cites.
+pub mod Tables
+pub mod Actions

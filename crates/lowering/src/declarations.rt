@@ -1,0 +1,145 @@
+//! The sets and maps that a table declares.
+ghost use Rattle.std.specs.Prelude.{◌≡◌, false, map, IfOk};
+ghost use Rattle.nft_tree.specs.Tree.{map_tree, pair_tree, set_tree};
+ghost use Rattle.nft_tree.specs.Parts.{maps_of, sets_of};
+ghost use Rattle.rule_types.specs.Types.{is_too_wide, table_misfits};
+ghost use Rattle.rule_names.specs.Names.{some_of};
+ghost use Rattle.nft_tree.specs.Kinds.{key_kinds};
+ghost use Rattle.lowering.specs.Lowered.{HasDeclared};
+ghost use Rattle.lowering.specs.steps.Tables.{AllTwo, IsMapNumbers, IsMapVerdicts, IsDeclaredSet};
+
+use crate::keys::key_kinds;
+use crate::tables::{number_table, set_table, verdict_table};
+use box_file::Plant;
+use filter_vm::Lookups;
+use nft_tree::{Kind, MapDecl, Pair, SetDecl, ValueType};
+use rule_meaning::Decision;
+use rule_names::TableNames;
+use set_intervals::Intervals;
+use std::alloc::{AllocError, Global};
+
+/// The table of a declared set.
+fn declared_set(alloc: Global, plant: &Plant, set: &SetDecl) -> Result<Intervals<()>, AllocError>
+    requires { is_too_wide (key_kinds (set_tree set.now).key) ≡ false }
+    ensures { IfOk result (IsDeclaredSet plant.now (set_tree set.now)) }
+{
+    let kinds = key_kinds(alloc, &set.key)?;
+    match &set.elements {
+        Some(elements) => set_table(alloc, plant, &kinds, elements),
+        None => set_table(alloc, plant, &kinds, &[]),
+    }
+}
+
+/// The tables of the sets that are declared, by their numbers.
+fn declared_sets(
+    alloc: Global,
+    plant: &Plant,
+    names: &TableNames,
+) -> Result<Vec<Intervals<()>>, AllocError>
+    requires types { table_misfits names.now ≡ false }
+    ensures { IfOk result (λ tables. AllTwo (IsDeclaredSet plant.now) (sets_of names.now) tables.items) }
+{
+    let mut tables = Vec::new(alloc);
+    for set in names.sets() {
+        tables.push(declared_set(alloc, plant, set)?)?;
+    }
+    Ok(tables)
+}
+
+/// The elements of a declared map.
+fn pairs_of(declared: &MapDecl) -> &[Pair]
+    ensures { map pair_tree result.now ≡ some_of (map_tree declared.now).elements }
+{
+    match &declared.elements {
+        Some(pairs) => pairs,
+        None => &[],
+    }
+}
+
+/// The table of a declared map's decisions; an empty one where its data aren't verdicts.
+fn declared_verdicts(
+    alloc: Global,
+    plant: &Plant,
+    names: &TableNames,
+    map: &MapDecl,
+) -> Result<Intervals<Decision>, AllocError>
+    ensures { IfOk result (IsMapVerdicts plant.now names.now (map_tree map.now)) }
+{
+    match map.types.data() {
+        None => verdict_table(alloc, plant, names, map.types.key(), pairs_of(map)),
+        Some(_) => verdict_table(alloc, plant, names, map.types.key(), &[]),
+    }
+}
+
+/// The table of a declared map's numbers; an empty one where its data are no marks and no addresses.
+fn declared_numbers(
+    alloc: Global,
+    plant: &Plant,
+    map: &MapDecl,
+) -> Result<Intervals<u32>, AllocError>
+    ensures { IfOk result (IsMapNumbers plant.now (map_tree map.now)) }
+{
+    match map.types.data() {
+        Some(Kind::Named(ValueType::Mark)) => {
+            number_table(
+                alloc,
+                plant,
+                map.types.key(),
+                ValueType::Mark,
+                pairs_of(map),
+            )
+        }
+        Some(Kind::Named(ValueType::Address)) => {
+            number_table(
+                alloc,
+                plant,
+                map.types.key(),
+                ValueType::Address,
+                pairs_of(map),
+            )
+        }
+        _ => number_table(alloc, plant, map.types.key(), ValueType::Mark, &[]),
+    }
+}
+
+/// What the maps that are declared decide, by their numbers.
+fn all_verdicts(
+    alloc: Global,
+    plant: &Plant,
+    names: &TableNames,
+) -> Result<Vec<Intervals<Decision>>, AllocError>
+    ensures { IfOk result (λ tables. AllTwo (IsMapVerdicts plant.now names.now) (maps_of names.now) tables.items) }
+{
+    let mut tables = Vec::new(alloc);
+    for map in names.maps() {
+        tables.push(declared_verdicts(alloc, plant, names, map)?)?;
+    }
+    Ok(tables)
+}
+
+/// What the maps that are declared give, by their numbers.
+fn all_numbers(
+    alloc: Global,
+    plant: &Plant,
+    names: &TableNames,
+) -> Result<Vec<Intervals<u32>>, AllocError>
+    ensures { IfOk result (λ tables. AllTwo (IsMapNumbers plant.now) (maps_of names.now) tables.items) }
+{
+    let mut tables = Vec::new(alloc);
+    for map in names.maps() {
+        tables.push(declared_numbers(alloc, plant, map)?)?;
+    }
+    Ok(tables)
+}
+
+/// Tables for the sets and maps that a table declares, by their numbers in text order, on a box.
+pub fn declared(alloc: Global, plant: &Plant, names: &TableNames) -> Result<Lookups, AllocError>
+    requires types { table_misfits names.now ≡ false }
+    ensures { IfOk result (λ lookups. HasDeclared plant.now names.now lookups) }
+{
+    Ok(Lookups {
+        sets: declared_sets(alloc, plant, names)?,
+        verdicts: all_verdicts(alloc, plant, names)?,
+        numbers: all_numbers(alloc, plant, names)?,
+    })
+}

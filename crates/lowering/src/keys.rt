@@ -1,0 +1,88 @@
+//! The numbers that keys of sets stand for.
+ghost use Rattle.std.specs.Prelude.{◌≡◌, ◌+◌, ◌*◌, ◌^◌, ◌≤◌, false, map, IfOk};
+ghost use Rattle.std.specs.Option.{option_map};
+ghost use Rattle.nft_tree.specs.Tree.{key_tree, set_type_tree, value_tree};
+ghost use Rattle.nft_tree.specs.Kinds.{key_kinds, selector_kind};
+ghost use Rattle.nft_values.specs.Values.{span_of};
+ghost use Rattle.rule_types.specs.Types.{is_too_wide};
+ghost use Rattle.rule_meaning.specs.Sets.{key_numbers, parts};
+ghost use Rattle.rule_meaning.specs.Selectors.{join};
+
+use box_file::Plant;
+use nft_tree::{Key, Kind, Selector, SetType, Value, ValueType};
+use nft_values::{numbers_of, value_numbers, width};
+use set_intervals::Range;
+use std::alloc::{AllocError, Global};
+
+/// The types of what the selectors read.
+pub(crate) fn selector_kinds(alloc: Global, selectors: &[Selector]) -> Result<Vec<Kind>, AllocError>
+    ensures { IfOk result (λ kinds. kinds.items ≡ map selector_kind selectors.now) }
+{
+    selectors
+        .iter()
+        .map(|selector| selector.kind())
+        .collect(alloc)
+}
+
+/// The types that are named.
+fn named_kinds(alloc: Global, types: &[ValueType]) -> Result<Vec<Kind>, AllocError>
+    ensures { IfOk result (λ kinds. kinds.items ≡ map Kind.Named types.now) }
+{
+    types
+        .iter()
+        .map(|value_type| Kind::Named(*value_type))
+        .collect(alloc)
+}
+
+/// The types of a declared set's keys, part by part.
+pub(crate) fn key_kinds(alloc: Global, key: &SetType) -> Result<Vec<Kind>, AllocError>
+    ensures { IfOk result (λ kinds. kinds.items ≡ key_kinds (set_type_tree key.now)) }
+{
+    match key {
+        SetType::Types(types) => named_kinds(alloc, types),
+        SetType::Selectors(selectors) => selector_kinds(alloc, selectors),
+    }
+}
+
+/// The number with so many zero bits behind it.
+fn shifted(number: u128, bits: u32) -> u128
+    requires { (number + 1) * 2 ^ bits ≤ 2 ^ 128 }
+    ensures { result ≡ number * 2 ^ bits }
+{
+    // Of 128 bits or more nothing stands before them: the number is 0.
+    if bits >= 128 { 0 } else { number << bits }
+}
+
+/// The values of these types side by side, the first one highest. `None` where one of them stands for
+/// no number, or there are more of the one than of the other.
+fn joined(plant: &Plant, kinds: &[Kind], values: &[Value]) -> Option<u128>
+    requires { is_too_wide kinds.now ≡ false }
+    ensures { result ≡ join 0 (parts plant.now kinds.now (map value_tree values.now)) }
+{
+    if kinds.len() != values.len() {
+        return None;
+    }
+    let mut number = 0;
+    for (part, kind) in kinds.iter().enumerate() {
+        let next = value_numbers(plant, *kind, &values[part])?.low();
+        number = shifted(number, width(*kind)) + next;
+    }
+    Some(number)
+}
+
+/// The numbers that a key of these types stands for; `None` where it stands for none.
+pub(crate) fn key_numbers(plant: &Plant, kinds: &[Kind], key: &Key) -> Option<Range>
+    requires { is_too_wide kinds.now ≡ false }
+    ensures { option_map span_of result ≡ key_numbers plant.now kinds.now (key_tree key.now) }
+{
+    match key {
+        Key::Single(range) => match kinds {
+            [kind] => numbers_of(plant, *kind, range),
+            _ => None,
+        },
+        Key::Joined(values) => {
+            let number = joined(plant, kinds, values)?;
+            Range::new(number, number)
+        }
+    }
+}

@@ -1,0 +1,149 @@
+//! Tests of packets as actions.
+ghost use Rattle.std.specs.Prelude.{◌≡◌, ◌==◌, false, map, not, bit_and, IfOk, OnOk};
+ghost use Rattle.nft_tree.specs.Tree.{flag_tree, match_tree, range_tree};
+ghost use Rattle.nft_tree.specs.Kinds.{selector_kind};
+ghost use Rattle.nft_values.specs.Values.{numbers_of};
+ghost use Rattle.rule_types.specs.Types.{match_misfits};
+ghost use Rattle.rule_meaning.specs.Selectors.{value};
+ghost use Rattle.rule_meaning.specs.Matches.{bit_selector, bit_type, bits_of, bits_pass, compares_with, flag_number, flags_of, holds, tests, union, word_number};
+ghost use Rattle.rule_meaning.specs.Statements.{passes_if};
+ghost use Rattle.lowering.specs.Lowered.{Extends, HasDeclared};
+ghost use Rattle.lowering.specs.steps.Actions.{AlwaysSays, LowersTo, scope_of};
+
+use crate::lookups::set_number;
+use box_file::Plant;
+use filter_vm::{Action, Lookups};
+use nft_tree::{BitField, BitTest, Flag, Match, Operator, Range, Selector, ValueType};
+use nft_values::numbers_of;
+use rule_names::TableNames;
+use set_intervals::Range as Interval;
+use std::alloc::{AllocError, Global};
+
+/// The action that fails of every packet: no bits are unequal to none.
+fn never(selector: Selector) -> Action
+    ensures { AlwaysSays (λ f. passes_if false) result }
+{
+    Action::BitsUnequal(selector, 0, 0)
+}
+
+/// A selector against a value, a range or a prefix.
+fn compare(plant: &Plant, selector: Selector, operator: Operator, range: &Range) -> Action
+    ensures { AlwaysSays (λ f. passes_if (tests (value selector f) (compares_with operator (numbers_of plant.now (selector_kind selector) (range_tree range.now))))) result }
+{
+    match numbers_of(plant, selector.kind(), range) {
+        Some(numbers) => Action::Compare(selector, operator, numbers),
+        None => never(selector),
+    }
+}
+
+/// What is read is the number.
+fn equals(selector: Selector, number: u128) -> Action
+    ensures { AlwaysSays (λ f. passes_if (tests (value selector f) (λ n. n == number))) result }
+{
+    match Interval::new(number, number) {
+        Some(numbers) => Action::Compare(selector, Operator::Equal, numbers),
+        None => never(selector),
+    }
+}
+
+/// The number that the type's list has for the word, or 0.
+fn word_number(value_type: ValueType, word: &[u8]) -> u128
+    ensures { result ≡ word_number value_type word.now }
+{
+    match value_type.number_of(word) {
+        Some(number) => u128::from(number),
+        None => 0,
+    }
+}
+
+/// The selector and the type of bits.
+fn bit_place(field: BitField) -> (Selector, ValueType)
+    ensures selector { result.0 ≡ bit_selector field }
+    ensures named { result.1 ≡ bit_type field }
+{
+    match field {
+        BitField::State => (Selector::CtState, ValueType::CtState),
+        BitField::Status => (Selector::CtStatus, ValueType::CtStatus),
+    }
+}
+
+/// All bits of the words.
+fn bits_of(value_type: ValueType, words: &[Vec<u8>]) -> u128
+    ensures { result ≡ union (map (word_number value_type) (map (λ w. w.items) words.now)) }
+{
+    let mut bits = 0;
+    for word in words {
+        bits |= word_number(value_type, word);
+    }
+    bits
+}
+
+/// What is read of a connection against bits.
+fn test_bits(field: BitField, test: BitTest, words: &[Vec<u8>]) -> Action
+    ensures { AlwaysSays (λ f. passes_if (tests (value (bit_selector field) f) (bits_pass test (bits_of field (map (λ w. w.items) words.now))))) result }
+{
+    let (selector, value_type) = bit_place(field);
+    let bits = bits_of(value_type, words);
+    match test {
+        BitTest::Any => Action::BitsUnequal(selector, bits, 0),
+        BitTest::Exactly => equals(selector, bits),
+        BitTest::None => Action::BitsEqual(selector, bits, 0),
+    }
+}
+
+/// The number of a flag of TCP.
+fn flag_number(flag: &Flag) -> u128
+    ensures { result ≡ flag_number (flag_tree flag.now) }
+{
+    match flag {
+        Flag::Word(word) => word_number(ValueType::TcpFlag, word),
+        Flag::Number(number) => u128::from(*number),
+    }
+}
+
+/// All bits of the flags.
+fn flags_of(flags: &[Flag]) -> u128
+    ensures { result ≡ flags_of (map flag_tree flags.now) }
+{
+    let mut bits = 0;
+    for flag in flags {
+        bits |= flag_number(flag);
+    }
+    bits
+}
+
+/// The action that passes where the test holds.
+pub(crate) fn test_packet(
+    alloc: Global,
+    plant: &Plant,
+    names: &TableNames,
+    test: &Match,
+    lookups: &mut Lookups,
+) -> Result<Action, AllocError>
+    requires declared { HasDeclared plant.now names.now lookups.old }
+    requires types { match_misfits names.now (match_tree test.now) ≡ false }
+    ensures extends { OnOk result (Extends lookups.old lookups.new) }
+    ensures says { IfOk result (LowersTo lookups.new (λ f. passes_if (holds (scope_of plant.now names.now) (match_tree test.now) f))) }
+{
+    const FLAGS: Selector = Selector::TcpFlags;
+    Ok(match test {
+        Match::Compare(selector, operator, range) => compare(plant, *selector, *operator, range),
+        Match::In(selectors, set) => Action::Within(
+            selectors.clone()?,
+            set_number(alloc, plant, names, selectors, set, lookups)?,
+        ),
+        Match::NotIn(selectors, set) => Action::Without(
+            selectors.clone()?,
+            set_number(alloc, plant, names, selectors, set, lookups)?,
+        ),
+        Match::Bits(field, how, words) => test_bits(*field, *how, words),
+        Match::AnyFlag(flags) => Action::BitsUnequal(FLAGS, flags_of(flags), 0),
+        Match::ExactFlags(flags) => equals(FLAGS, flags_of(flags)),
+        Match::MaskedFlags(masked) => {
+            Action::BitsEqual(FLAGS, flags_of(&masked.mask), flags_of(&masked.wanted))
+        }
+        Match::MaskedFlagsUnequal(masked) => {
+            Action::BitsUnequal(FLAGS, flags_of(&masked.mask), flags_of(&masked.wanted))
+        }
+    })
+}

@@ -1,0 +1,204 @@
+//! Sets and maps as tables of intervals.
+ghost use Rattle.std.specs.Prelude.{◌≡◌, ℕ, false, map, slice_get, is_some, IfOk, OnOk, IfSome};
+ghost use Rattle.std.specs.Option.{option_map};
+ghost use Rattle.nft_tree.specs.Tree.{data_tree, element_tree, pair_tree, verdict_tree};
+ghost use Rattle.nft_tree.specs.declared.kind.Kind.TheVariants.{Named};
+ghost use Rattle.rule_types.specs.Types.{is_too_wide};
+ghost use Rattle.rule_meaning.specs.Sets.{data_number, data_verdict, pair_gives};
+ghost use Rattle.rule_meaning.specs.Statements.{chain_number, decision_of};
+ghost use Rattle.lowering.specs.Lowered.{Keeps};
+ghost use Rattle.lowering.specs.steps.Tables.{IsNumberTable, IsRead, IsSetTable, IsVerdictTable, entry_gives};
+
+use crate::keys::key_numbers;
+use box_file::Plant;
+use nft_tree::{Data, Element, Kind, Pair, ValueType, Verdict};
+use nft_values::{numbers_of, value_numbers};
+use rule_meaning::Decision;
+use rule_names::TableNames;
+use set_intervals::{Intervals, Range};
+use std::alloc::{AllocError, Global};
+
+/// The number of the chain of that name, or, where no chain has it, how many chains there are.
+fn chain_number(names: &TableNames, name: &[u8]) -> Result<u32, AllocError>
+    ensures { IfOk result (λ n. n ≡ chain_number names.now name.now) }
+{
+    let place = match names.chain_place(name) {
+        Some(place) => place,
+        None => names.chains().len(),
+    };
+    // 2^32 chains are more than any memory holds that such a ruleset is read into.
+    match u32::try_from(place) {
+        Ok(number) => Ok(number),
+        Err(_) => Err(AllocError),
+    }
+}
+
+/// What the verdict decides, its chain by its number.
+pub(crate) fn decision(names: &TableNames, verdict: &Verdict) -> Result<Decision, AllocError>
+    ensures { IfOk result (λ d. d ≡ decision_of names.now (verdict_tree verdict.now)) }
+{
+    Ok(match verdict {
+        Verdict::Accept => Decision::Accept,
+        Verdict::Drop => Decision::Drop,
+        Verdict::Continue => Decision::Continue,
+        Verdict::Return => Decision::Return,
+        Verdict::Jump(name) => Decision::Jump(chain_number(names, name)?),
+        Verdict::Goto(name) => Decision::Goto(chain_number(names, name)?),
+    })
+}
+
+/// The numbers that elements of these types stand for. An element that stands for none is left out.
+fn element_pairs(
+    alloc: Global,
+    plant: &Plant,
+    kinds: &[Kind],
+    elements: &[Element],
+) -> Result<Vec<(Range, ())>, AllocError>
+    requires { is_too_wide kinds.now ≡ false }
+    ensures { IfOk result (λ pairs. IsSetTable plant.now kinds.now (map element_tree elements.now) pairs.items) }
+{
+    let mut pairs = Vec::new(alloc);
+    for element in elements {
+        if let Some(range) = key_numbers(plant, kinds, &element.key) {
+            pairs.push((range, ()))?;
+        }
+    }
+    Ok(pairs)
+}
+
+/// The table of a set with these elements, of these types.
+pub(crate) fn set_table(
+    alloc: Global,
+    plant: &Plant,
+    kinds: &[Kind],
+    elements: &[Element],
+) -> Result<Intervals<()>, AllocError>
+    requires { is_too_wide kinds.now ≡ false }
+    ensures { IfOk result (IsSetTable plant.now kinds.now (map element_tree elements.now)) }
+{
+    let pairs = element_pairs(alloc, plant, kinds, elements)?;
+    Intervals::first_wins(alloc, &pairs)
+}
+
+/// What an element decides; `None` where it gives a value.
+fn data_decision(names: &TableNames, datum: &Data) -> Result<Option<Decision>, AllocError>
+    ensures { IfOk result (λ d. d ≡ option_map (decision_of names.now) (data_verdict (data_tree datum.now))) }
+{
+    match datum {
+        Data::Verdict(verdict) => Ok(Some(decision(names, verdict)?)),
+        Data::Value(_) => Ok(None),
+    }
+}
+
+/// The numbers of an element with a key of the type, and what it decides; `None` where its key stands
+/// for no number, or it gives a value.
+fn verdict_entry(
+    plant: &Plant,
+    names: &TableNames,
+    kind: Kind,
+    pair: &Pair,
+) -> Result<Option<(Range, Decision)>, AllocError>
+    ensures { IfOk result (λ entry. (n : ℕ) → entry_gives entry n ≡ option_map (decision_of names.now) (pair_gives data_verdict plant.now kind n (pair_tree pair.now))) }
+{
+    let Some(range) = numbers_of(plant, kind, &pair.key) else {
+        return Ok(None);
+    };
+    let Some(decision) = data_decision(names, &pair.value)? else {
+        return Ok(None);
+    };
+    Ok(Some((range, decision)))
+}
+
+/// What elements with keys of the type decide, by their numbers.
+fn verdict_pairs(
+    alloc: Global,
+    plant: &Plant,
+    names: &TableNames,
+    kind: Kind,
+    pairs: &[Pair],
+) -> Result<Vec<(Range, Decision)>, AllocError>
+    ensures { IfOk result (λ entries. IsVerdictTable plant.now names.now kind (map pair_tree pairs.now) entries.items) }
+{
+    let mut entries = Vec::new(alloc);
+    for pair in pairs {
+        if let Some(entry) = verdict_entry(plant, names, kind, pair)? {
+            entries.push(entry)?;
+        }
+    }
+    Ok(entries)
+}
+
+/// The table of a verdict map with these elements, whose keys are of the type.
+pub(crate) fn verdict_table(
+    alloc: Global,
+    plant: &Plant,
+    names: &TableNames,
+    kind: Kind,
+    pairs: &[Pair],
+) -> Result<Intervals<Decision>, AllocError>
+    ensures { IfOk result (IsVerdictTable plant.now names.now kind (map pair_tree pairs.now)) }
+{
+    let entries = verdict_pairs(alloc, plant, names, kind, pairs)?;
+    Intervals::first_wins(alloc, &entries)
+}
+
+/// The number that an element gives, a mark or an address; `None` where it gives none of the type.
+fn data_number(plant: &Plant, given: ValueType, datum: &Data) -> Option<u32>
+    requires { IsRead given }
+    ensures { result ≡ data_number plant.now (Named given) (data_tree datum.now) }
+{
+    match datum {
+        Data::Verdict(_) => None,
+        Data::Value(value) => {
+            let number = value_numbers(plant, Kind::Named(given), value)?.low();
+            Some(number as u32)
+        }
+    }
+}
+
+/// The numbers of an element with a key of the type, and the number that it gives; `None` where one of
+/// them stands for no number.
+fn number_entry(plant: &Plant, kind: Kind, given: ValueType, pair: &Pair) -> Option<(Range, u32)>
+    requires { IsRead given }
+    ensures { (n : ℕ) → entry_gives result n ≡ pair_gives (data_number plant.now (Named given)) plant.now kind n (pair_tree pair.now) }
+{
+    let range = numbers_of(plant, kind, &pair.key)?;
+    let number = data_number(plant, given, &pair.value)?;
+    Some((range, number))
+}
+
+/// The numbers that elements with keys of the type give, by theirs.
+fn number_pairs(
+    alloc: Global,
+    plant: &Plant,
+    kind: Kind,
+    given: ValueType,
+    pairs: &[Pair],
+) -> Result<Vec<(Range, u32)>, AllocError>
+    requires { IsRead given }
+    ensures { IfOk result (λ entries. IsNumberTable plant.now kind given (map pair_tree pairs.now) entries.items) }
+{
+    let mut entries = Vec::new(alloc);
+    for pair in pairs {
+        if let Some(entry) = number_entry(plant, kind, given, pair) {
+            entries.push(entry)?;
+        }
+    }
+    Ok(entries)
+}
+
+/// The table of a map with these elements, whose keys are of the one type and whose data, marks or
+/// addresses, of the other.
+pub(crate) fn number_table(
+    alloc: Global,
+    plant: &Plant,
+    kind: Kind,
+    given: ValueType,
+    pairs: &[Pair],
+) -> Result<Intervals<u32>, AllocError>
+    requires { IsRead given }
+    ensures { IfOk result (IsNumberTable plant.now kind given (map pair_tree pairs.now)) }
+{
+    let entries = number_pairs(alloc, plant, kind, given, pairs)?;
+    Intervals::first_wins(alloc, &entries)
+}
