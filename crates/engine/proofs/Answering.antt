@@ -1,5 +1,5 @@
 -- Two texts and a capture have a meaning, or a refusal.
-use Rattle.std.proofs.Common.{◌≡◌, ◌⊎◌, ◌<◌, ◌≤◌, ℕ, true, false, Bool, List, [], length, Some, refl, inl, inr, arith}
+use Rattle.std.proofs.Common.{◌≡◌, ◌⊎◌, ℕ, true, false, Bool, List, [], length, Some, refl, inl, inr}
 use Rattle.nft_tree.specs.Tree.{TableTree}
 use Rattle.nft_parser.specs.declared.fault.TextFault.{TextFault}
 use Rattle.nft_parser.specs.declared.fault.TextFault.TheVariants.{LeftOut}
@@ -36,7 +36,7 @@ Answer rules box capture trace =
 
 meant : Answers → (rules box capture : List ℕ) (trace : Bool) (accepted : Accepted rules box) (records : List Captured) (torn : Bool) → Pcap capture records (ending_of torn) → Answer rules box capture trace
 meant answers rules box capture trace accepted records torn read =
-    let s = some_story answers.entry accepted.setup [] (told read.format records) in
+    let s = some_story answers.entry accepted.setup accepted.well_formed [] (told read.format records) in
     inl (
       length records,
       torn,

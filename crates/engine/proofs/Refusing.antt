@@ -1,5 +1,5 @@
 -- Two texts and a capture are refused for one fault at most, and then they mean nothing.
-use Rattle.std.proofs.Common.{◌≡◌, ◌≤◌, ℕ, true, false, Bool, List, Some, refl, sym, ap, subst, ◌∙◌, inl, inr, arith}
+use Rattle.std.proofs.Common.{◌≡◌, ℕ, true, false, Bool, List, Some, sym, ap, subst, ◌∙◌, inl, inr}
 use Rattle.std.specs.Result.{result_err}
 use Rattle.nft_tree.specs.Tree.{TableTree}
 use Rattle.nft_parser.specs.declared.fault.TextFault.{TextFault}

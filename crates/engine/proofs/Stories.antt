@@ -6,15 +6,16 @@ use Rattle.pcap_io.specs.declared.format.Format.{Format}
 use Rattle.pcap_io.specs.Pcap.{Captured, Recorded, own_moment, told_after, told}
 use Rattle.pcap_io.specs.Sll2.{sll2_record}
 use Rattle.story.specs.Story.{Entry, in_order, sends}
+use Rattle.rule_check.specs.WellFormed.{WellFormed}
 use Rattle.stepping.specs.Next.{Setup, Next, Grows}
 use Rattle.engine.specs.steps.Replayed.{sent_records}
 
--- each record has one entry after those of a story
+-- each record has one entry after those of a story, where nothing is wrong with the rules
 abbrev pub OneEntry : Type 0
 OneEntry = (setup : Setup) (story : List Entry) (r : Recorded) (e other : Entry) → Next setup story r e → Next setup story r other → e ≡ other
 
 abbrev pub SomeEntry : Type 0
-SomeEntry = (setup : Setup) (story : List Entry) (r : Recorded) → (e : Entry) × Next setup story r e
+SomeEntry = (setup : Setup) (story : List Entry) (r : Recorded) → WellFormed setup.rules setup.plant → (e : Entry) × Next setup story r e
 
 -- so a story grows to one other by some records
 pub one_story : OneEntry → (setup : Setup) (before : List Entry) (rs : List Recorded) (after other : List Entry) → Grows setup before rs after → Grows setup before rs other → after ≡ other
@@ -23,11 +24,11 @@ one_story one setup before (r ∷ rs) after other (e, n, g) (f, m, h) =
     one_story one setup (e ∷ before) rs after other g (subst (λ (x : Entry). Grows setup (x ∷ before) rs other) (one setup before r f e m n) h)
 
 -- and there is one
-pub some_story : SomeEntry → (setup : Setup) (before : List Entry) (rs : List Recorded) → (after : List Entry) × Grows setup before rs after
-some_story some setup before [] = (before, refl)
-some_story some setup before (r ∷ rs) =
-    let e = some setup before r in
-    let rest = some_story some setup (e.0 ∷ before) rs in
+pub some_story : SomeEntry → (setup : Setup) → WellFormed setup.rules setup.plant → (before : List Entry) (rs : List Recorded) → (after : List Entry) × Grows setup before rs after
+some_story some setup fine before [] = (before, refl)
+some_story some setup fine before (r ∷ rs) =
+    let e = some setup before r fine in
+    let rest = some_story some setup fine (e.0 ∷ before) rs in
     (rest.0, (e.0, e.1, rest.1))
 
 -- one record more

@@ -1,6 +1,5 @@
 -- What judging a ruleset on a box gives, before it is loaded.
 use Rattle.std.specs.Prelude.{◌≡◌, ◌^◌, ◌-◌, ℕ, length, List, min}
-use Rattle.nft_tree.specs.Tree.{TableTree}
 use Rattle.rule_limits.specs.Limits.{chain_count, rule_count}
 use Rattle.rule_check.specs.WellFormed.{WellFormed}
 use Rattle.engine.specs.declared.judging.Counts.{Counts}

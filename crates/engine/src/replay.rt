@@ -75,6 +75,7 @@ fn take<W: Write>(
 {
     // A record that can't be taken has an entry too.
     one_entry();
+    engine.judged();
     let Ok(outcome) = engine.step(record) else {
         return Err(RunFault::Memory);
     };

@@ -86,7 +86,9 @@ pub fn run<R: Read, W: Write, W2: Write>(
     one_box();
     one_reading();
     one_entry();
-    let engine = Engine::new(alloc, checked);
+    let Ok(engine) = Engine::new(alloc, checked) else {
+        return Err(RunFault::Memory);
+    };
     write_texts(alloc, engine, records, capture, sent, report)
 }
 

@@ -20,7 +20,10 @@ use Rattle.rule_types.specs.Types as rule_types
 use Rattle.rule_types.specs.Types.{is_too_wide}
 use Rattle.rule_meaning.specs.Sets.{number_of, parts}
 use Rattle.rule_meaning.specs.Selectors.{join}
-use Rattle.lowering.specs.steps.Tables.{HasRoom}
+
+-- what is joined so far and parts of these types have no more than 128 bits
+abbrev pub HasRoom : ℕ → List Kind → Type 0
+HasRoom high kinds = (high + 1) * 2 ^ sum_by kind_width kinds ≤ 2 ^ 128
 
 more-one : (n q : ℕ) → (n + 1) * q ≡ n * q + q
 more-one n q = grind arith

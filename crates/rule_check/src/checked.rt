@@ -4,7 +4,7 @@ ghost use Rattle.nft_tree.specs.Tree.{ChainTree, HeadTree, TableTree, tables_of}
 ghost use Rattle.nft_tree.specs.Parts.{chains_of};
 ghost use Rattle.rule_paths.specs.Paths.{MOST_COST, MOST_JUMPS};
 ghost use Rattle.rule_paths.specs.Findings.{AreChainCosts, AreChainDepths, numbers_at};
-ghost use Rattle.rule_check.specs.Checked.{AreRulesetCosts, CheckedTree, IsCheckRefusal, ruleset_sum};
+ghost use Rattle.rule_check.specs.Checked.{AreRulesetCosts, AreRulesetDepths, CheckedTree, IsCheckRefusal, ruleset_sum};
 ghost use Rattle.rule_check.specs.WellFormed.{WellFormed};
 
 use crate::fault::CheckError;
@@ -94,11 +94,13 @@ impl Checked {
     }
 
     /// What is known of a ruleset by its being checked: nothing is wrong with it, its chains have
-    /// costs, and all base chains with 1 more each cost at most 65,536 together. It does nothing.
+    /// costs, all base chains with 1 more each cost at most 65,536 together, and no path has more
+    /// than 16 jumps. It does nothing.
     pub fn measured(&self)
         ensures fine { WellFormed self.now.rules self.now.plant }
         ensures some { (costs : List (List ℕ)) × AreRulesetCosts self.now.rules costs }
         ensures total { (costs : List (List ℕ)) → AreRulesetCosts self.now.rules costs → ruleset_sum self.now.rules costs ≤ MOST_COST }
+        ensures deep { (depths : List (List ℕ)) × AreRulesetDepths self.now.rules depths × ((i j : ℕ) → slice_index (get_or depths i []) j ≤ MOST_JUMPS) }
     {
         let _ = &self.costs;
     }

@@ -4,13 +4,16 @@ use Rattle.nft_tree.specs.declared.chain.Hook.{Hook}
 use Rattle.nft_tree.specs.declared.chain.Hook.TheVariants as hooks
 use Rattle.nft_tree.specs.Tree.{TableTree}
 use Rattle.rule_meaning.specs.declared.facts.Facts.{Facts}
-use Rattle.rule_meaning.specs.Hooks.{filters_at, translates_at, is_early, End, Early, Prerouting, Forward, Postrouting, Translating}
+use Rattle.rule_meaning.specs.Hooks.{filters_at, translates_at, is_early, End, Early, Prerouting, Input, Forward, Postrouting, Translating}
 use Rattle.rule_meaning.specs.Laws.{step_of}
 use Rattle.rule_trials.specs.Scene.{box}
 use Rattle.rule_trials.proofs.Ending.{Gives, chains_run, chains_sound, around_run, around_sound}
 
 pub forwards : (tables : List TableTree) (f : Facts) (end : End) → chains_run box tables 4 (filters_at hooks.Forward) f [] ≡ Some end → Forward box tables f [] end
 forwards tables f end is = chains_sound box tables 4 (filters_at hooks.Forward) f [] end is
+
+pub input : (tables : List TableTree) (f : Facts) (end : End) → chains_run box tables 4 (filters_at hooks.Input) f [] ≡ Some end → Input box tables f [] end
+input tables f end is = chains_sound box tables 4 (filters_at hooks.Input) f [] end is
 
 pub early : (tables : List TableTree) (f : Facts) (end : End) → chains_run box tables 4 is_early f [] ≡ Some end → Early box tables f [] end
 early tables f end is = chains_sound box tables 4 is_early f [] end is

@@ -19,7 +19,7 @@ use Rattle.rule_meaning.specs.declared.facts.Facts.{Facts}
 use Rattle.rule_meaning.specs.declared.event.Event.{Event}
 use Rattle.rule_meaning.specs.Hooks.{End}
 use Rattle.rule_trials.specs.Happened.{accepted}
-use Rattle.rule_trials.specs.Scene.{ip, below_zero, translates, port_map, number, numbers, addresses, element, pair, accept, counter, drop, chain, base, forwards, table, one_table}
+use Rattle.rule_trials.specs.Scene.{ip, translates, port_map, number, numbers, addresses, element, pair, accept, counter, drop, chain, base, forwards, table, one_table}
 
 -- ---- verdicts
 
@@ -79,9 +79,9 @@ marked_dropped hook priority = one_table (base (codes "c") kinds.Filter hook pri
 abbrev pub marks_seven : Facts → List Event → Option End
 marks_seven f es = Some (accepted (record f { mark = 7 }) es)
 
--- chain c { type filter hook prerouting priority -PRIORITY; drop }
-abbrev pub dropped_early : ℕ → List TableTree
-dropped_early n = one_table (base (codes "c") kinds.Filter hooks.Prerouting (below_zero n) None ((drop ∷ []) ∷ []) ∷ [])
+-- chain c { type filter hook HOOK priority PRIORITY; drop }
+abbrev pub dropping : Hook → Priority → List TableTree
+dropping hook priority = one_table (base (codes "c") kinds.Filter hook priority None ((drop ∷ []) ∷ []) ∷ [])
 
 -- the same with `udp dport vmap @m`, where map m { type inet_service : verdict; elements = { 50-60 : jump b } }
 abbrev pub chosen_by_name : List TableTree

@@ -21,7 +21,7 @@ ghost use Rattle.rule_meaning.specs.declared.event.Translation.TheVariants as tr
 ghost use Rattle.rule_meaning.specs.declared.facts.ConnectionState.TheVariants as states;
 ghost use Rattle.rule_meaning.specs.declared.facts.Direction.TheVariants as directions;
 ghost use Rattle.rule_meaning.specs.declared.facts.Tracking.TheVariants as tracking;
-ghost use Rattle.rule_meaning.specs.Hooks.{Early, Prerouting, Forward, Postrouting, Translating};
+ghost use Rattle.rule_meaning.specs.Hooks.{Early, Prerouting, Input, Forward, Postrouting, Translating};
 ghost use Rattle.rule_meaning.specs.Laws.{step_of};
 ghost use Rattle.rule_trials.specs.Scene.{accept, address, addresses_set, arriving, at, base, begun, below_zero, box, counter, drop, forwards, from, icmp, in_state, ip, known, marked, number, numbers, one_table, plain, tcp, tracked, word};
 ghost use Rattle.rule_trials.specs.Happened.{accepted, closed, counted, dropped, place, took, translated, Drops, DropsBeside, Spares, SparesBeside};
@@ -132,6 +132,8 @@ pub fn states()
     ensures any { Drops (trials.state bit_tests.Any (codes "established" ∷ codes "related" ∷ [])) (in_state states.Established) × Drops (trials.state bit_tests.Any (codes "established" ∷ codes "related" ∷ [])) (in_state states.Related) × Spares (trials.state bit_tests.Any (codes "established" ∷ codes "related" ∷ [])) (in_state states.New) × Spares (trials.state bit_tests.Any (codes "established" ∷ codes "related" ∷ [])) (tracked tracking.Invalid) }
     ensures invalid { Drops (trials.state bit_tests.Any (codes "invalid" ∷ [])) (tracked tracking.Invalid) × Spares (trials.state bit_tests.Any (codes "invalid" ∷ [])) (in_state states.New) × Spares (trials.state bit_tests.Any (codes "invalid" ∷ [])) (tracked tracking.Unknown) }
     ensures exactly { Drops (trials.state bit_tests.Exactly (codes "established" ∷ [])) (in_state states.Established) × Spares (trials.state bit_tests.Exactly (codes "established" ∷ codes "related" ∷ [])) (in_state states.Established) }
+    ensures related { Drops (trials.state bit_tests.Any (codes "related" ∷ [])) (in_state states.Related) × Spares (trials.state bit_tests.Any (codes "related" ∷ [])) (in_state states.Established) }
+    ensures none_of_two { Drops (trials.state bit_tests.None (codes "established" ∷ codes "new" ∷ [])) (in_state states.Related) × Spares (trials.state bit_tests.None (codes "established" ∷ codes "new" ∷ [])) (in_state states.Established) }
     ensures none { Drops (trials.state bit_tests.None (codes "new" ∷ [])) (in_state states.Established) × Drops (trials.state bit_tests.None (codes "new" ∷ [])) (tracked tracking.Invalid) × Spares (trials.state bit_tests.None (codes "new" ∷ [])) (in_state states.New) × Spares (trials.state bit_tests.None (codes "new" ∷ [])) (tracked tracking.Unknown) }
 {}
 
@@ -194,6 +196,7 @@ pub fn chains_of_type_nat()
     ensures accepted { Translating hooks.Postrouting box (trials.translating_behind hooks.Postrouting accept (tree.masquerade None)) plain [] (translated (translations.Masquerade None) plain (took 1 1 decisions.Accept ∷ took 0 1 (decisions.Translate (translations.Masquerade None)) ∷ [])) }
     ensures dropped { Translating hooks.Postrouting box (trials.translating_behind hooks.Postrouting drop (tree.masquerade None)) plain [] (dropped plain (took 1 1 decisions.Drop ∷ [])) }
     ensures translated { Translating hooks.Postrouting box (trials.translating_behind hooks.Postrouting (tree.nat (tree.masquerade (Some (ports.One 4000)))) (tree.masquerade None)) plain [] (translated (translations.Masquerade (Some (record { low = 4000; high = 4000 }))) plain (took 1 1 (decisions.Translate (translations.Masquerade (Some (record { low = 4000; high = 4000 })))) ∷ [])) }
+    ensures filters_apart { Translating hooks.Postrouting box (trials.dropping hooks.Postrouting (at 100)) plain [] (accepted plain []) × Postrouting box (trials.translating hooks.Postrouting (tree.masquerade None)) (step_of trials.marks_seven) plain [] (accepted (marked 7) []) }
     ensures elsewhere { Translating hooks.Prerouting box (trials.translating hooks.Postrouting (tree.masquerade None)) plain [] (accepted plain []) }
 {}
 
@@ -206,6 +209,12 @@ pub fn around_the_step()
 
 /// Filter chains on prerouting of priority -200 and below run early, and not again.
 pub fn early_chains()
-    ensures at { Early box (trials.dropped_early 200) plain [] (dropped plain (took 0 1 decisions.Drop ∷ [])) × Prerouting box (trials.dropped_early 200) (step_of trials.marks_seven) plain [] (accepted (marked 7) []) }
-    ensures above { Early box (trials.dropped_early 199) plain [] (accepted plain []) × Prerouting box (trials.dropped_early 199) (step_of trials.marks_seven) plain [] (dropped plain (took 0 1 decisions.Drop ∷ [])) }
+    ensures at { Early box (trials.dropping hooks.Prerouting (below_zero 200)) plain [] (dropped plain (took 0 1 decisions.Drop ∷ [])) × Prerouting box (trials.dropping hooks.Prerouting (below_zero 200)) (step_of trials.marks_seven) plain [] (accepted (marked 7) []) }
+    ensures above { Early box (trials.dropping hooks.Prerouting (below_zero 199)) plain [] (accepted plain []) × Prerouting box (trials.dropping hooks.Prerouting (below_zero 199)) (step_of trials.marks_seven) plain [] (dropped plain (took 0 1 decisions.Drop ∷ [])) }
+{}
+
+/// Filter chains on input run for what is for the box, those on forward for what goes on.
+pub fn input_and_forward()
+    ensures input { Input box (trials.dropping hooks.Input (at 0)) plain [] (dropped plain (took 0 1 decisions.Drop ∷ [])) × Forward box (trials.dropping hooks.Input (at 0)) plain [] (accepted plain []) }
+    ensures forward { Forward box (trials.dropping hooks.Forward (at 0)) plain [] (dropped plain (took 0 1 decisions.Drop ∷ [])) × Input box (trials.dropping hooks.Forward (at 0)) plain [] (accepted plain []) }
 {}

@@ -1,2 +1,5 @@
-mod Entries
+mod Costs
+mod Orders
+mod HookRuns
 mod Fates
+mod Entries

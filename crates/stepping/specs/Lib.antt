@@ -1,4 +1,3 @@
-pub mod Rules
 pub mod Taken
 pub mod Next
 pub mod Stands

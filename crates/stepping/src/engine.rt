@@ -1,13 +1,18 @@
 //! One record at a time.
 ghost use Rattle.std.specs.Prelude.{◌≡◌, ◌<◌, ◌+◌, [], ◌∷◌, List, IfOk, IfSome, OnErr, OnOk};
 ghost use Rattle.pcap_io.specs.Sll2.{IsSent, sent};
+ghost use Rattle.rule_check.specs.WellFormed.{WellFormed};
 ghost use Rattle.story.specs.Story.{Entry};
 ghost use Rattle.stepping.specs.Next.{Next};
 ghost use Rattle.stepping.specs.Stands.{Stands, lent, packet_of, setup_of, told_of};
 
+use crate::facts::interface_facts;
 use crate::fate::{fate, way_of};
+use compiler::compile;
+use filter_vm::{Code, Events};
 use pcap_io::{Leaving, Record};
 use rule_check::Checked;
+use rule_meaning::Interface;
 use std::alloc::{AllocError, Global};
 use std::marker::Model;
 use story::Outcome;
@@ -19,6 +24,12 @@ const MOST_PACKET_BYTES: usize = 65_535;
 #[derive(Drop)]
 pub struct Engine {
     checked: Checked,
+    /// What the rules are as code.
+    code: Code,
+    /// The interface that packets enter by.
+    input: Interface,
+    /// What happened while the rules ran on the last record.
+    events: Events,
     records: u64,
     latest: u64,
     /// The interface that the last record's packet left by, if one left.
@@ -28,29 +39,37 @@ pub struct Engine {
 }
 
 impl Model for Engine {
-    ghost use Rattle.std.specs.Prelude.{◌≤◌, ◌<◌, length};
     ghost use Rattle.stepping.specs.Stands.{Shown, sends_in, setup_of};
+    ghost use Rattle.stepping.specs.steps.Fates.{IsReady};
 
     ghost Value = { Shown };
 
     ghost view = { λ e. record { setup = setup_of e.checked; records = e.records; latest = e.latest; sends = sends_in e.way e.latest e.packet.items } };
 
-    ghost invariant = { λ e. (length e.packet.items ≤ 65535) × (e.latest < 4294967296000000000) };
+    ghost invariant = { λ e. IsReady e.checked e.code e.input e.latest e.packet.items };
 }
 
 impl Engine {
-    /// Before the first record. It takes no memory.
-    pub fn new(alloc: Global, checked: Checked) -> Self
-        ensures setup { result.setup ≡ setup_of checked }
-        ensures none { Stands result [] }
+    /// Before the first record: the rules are compiled, and there is room for what may happen while
+    /// they run. On `Err`, which comes only for want of memory, the ruleset is dropped.
+    pub fn new(alloc: Global, checked: Checked) -> Result<Self, AllocError>
+        ensures setup { IfOk result (λ engine. engine.setup ≡ setup_of checked) }
+        ensures none { IfOk result (λ engine. Stands engine []) }
     {
-        Engine {
+        let code = compile(alloc, &checked)?;
+        let events = Events::new(alloc)?;
+        let plant = checked.plant();
+        let input = interface_facts(plant, plant.entering());
+        Ok(Engine {
             checked,
+            code,
+            input,
+            events,
             records: 0,
             latest: 0,
             way: None,
             packet: Vec::new(alloc),
-        }
+        })
     }
 
     /// Takes a record, and tells how it ends. On `Err`, which comes only for want of memory, the
@@ -68,10 +87,13 @@ impl Engine {
         let missing = MOST_PACKET_BYTES - self.packet.len();
         self.packet.reserve(missing)?;
         self.packet.clear();
+        self.events.clear();
         let outcome = fate(
-            self.checked.plant(),
-            self.checked.tree(),
+            &self.checked,
+            &self.code,
+            self.input,
             record.bytes,
+            &mut self.events,
             &mut self.packet,
         );
         self.records += 1;
@@ -102,6 +124,13 @@ impl Engine {
             Some(_) => &self.packet,
             None => &[],
         }
+    }
+
+    /// What is known of its rules: nothing is wrong with them. It does nothing.
+    pub fn judged(&self)
+        ensures { WellFormed self.now.setup.rules self.now.setup.plant }
+    {
+        self.checked.measured();
     }
 
     /// How many records it took.

@@ -2,9 +2,11 @@
 #![tactic(auto)]
 
 mod engine;
+mod facts;
 mod fate;
 mod laws;
-mod rules;
+mod parts;
+mod passing;
 mod taken;
 
 pub use engine::Engine;

@@ -1,18 +1,16 @@
-//! The forms that runs take so far.
+//! The forms that runs don't take yet: all that asks of connections, and translation.
 ghost use Rattle.std.specs.Prelude.{◌≡◌, map};
-ghost use Rattle.std.specs.List.{list_all};
+ghost use Rattle.std.specs.List.{list_all, list_any};
 ghost use Rattle.std.specs.Option.{option_map};
-ghost use Rattle.nft_tree.specs.Tree.{chain_tree, head_tree, item_tree, match_tree, rule_tree, statement, table_tree, tables_of};
-ghost use Rattle.stepping.specs.Taken.{takes, takes_chain, takes_head, takes_item, takes_match, takes_priority, takes_rule, takes_statements, takes_table};
+ghost use Rattle.nft_tree.specs.Tree.{chain_tree, head_tree, item_tree, map_tree, match_tree, operand_tree, rule_tree, set_type_tree, statement, table_tree, tables_of};
+ghost use Rattle.stepping.specs.Taken.{asks_connection, is_filter, is_meta, takes, takes_chain, takes_data, takes_head, takes_item, takes_map_type, takes_match, takes_operand, takes_rule, takes_set_type, takes_statement, takes_table};
 
-use crate::rules::is_forward;
 use nft_tree::{
-    Chain, ChainKind, Family, Head, Item, Match, OffsetSign, Operator, Priority, PriorityName,
-    Range, Rule, Ruleset, Selector, Stmt, Table, Value, Verdict,
+    Chain, ChainKind, Head, Item, MapType, MarkField, Match, Operand, Rule, Ruleset, Selector,
+    SelectorOrVerdict, SetType, Stmt, Table,
 };
 
-/// Whether runs take the ruleset: its tables are of ip, with base chains of the forward hook at
-/// priority 0 alone, whose rules compare addresses and end in accept or drop.
+/// Whether runs take the ruleset: nothing in it asks of connections or translates.
 pub fn takes(tree: &Ruleset) -> bool
     ensures { result ≡ takes (tables_of tree.now) }
 {
@@ -22,7 +20,7 @@ pub fn takes(tree: &Ruleset) -> bool
 fn takes_table(table: &Table) -> bool
     ensures { result ≡ takes_table (table_tree table.now) }
 {
-    matches!(table.family, Family::Ip) && takes_items(&table.items)
+    takes_items(&table.items)
 }
 
 fn takes_items(items: &[Item]) -> bool
@@ -35,41 +33,32 @@ fn takes_item(item: &Item) -> bool
     ensures { result ≡ takes_item (item_tree item.now) }
 {
     match item {
+        Item::Comment(_) => true,
         Item::Chain(chain) => takes_chain(chain),
-        _ => false,
+        Item::Set(set) => takes_set_type(&set.key),
+        Item::Map(map) => takes_map_type(map.types),
     }
 }
 
 fn takes_chain(chain: &Chain) -> bool
     ensures { result ≡ takes_chain (chain_tree chain.now) }
 {
-    chain.notes.is_empty() && takes_head(&chain.head) && takes_rules(&chain.rules)
+    takes_head(&chain.head) && takes_rules(&chain.rules)
 }
 
-/// `type filter hook forward priority filter`, without notes.
 fn takes_head(head: &Option<Head>) -> bool
     ensures { result ≡ takes_head (option_map head_tree head.now) }
 {
     match head {
-        Some(head) => {
-            matches!(head.kind, ChainKind::Filter)
-                && is_forward(head.hook)
-                && takes_priority(head.priority)
-                && head.notes.is_empty()
-        }
-        None => false,
+        Some(head) => is_filter(head.kind),
+        None => true,
     }
 }
 
-/// `filter`, `0`.
-fn takes_priority(priority: Priority) -> bool
-    ensures { result ≡ takes_priority priority }
+fn is_filter(kind: ChainKind) -> bool
+    ensures { result ≡ is_filter kind }
 {
-    match priority {
-        Priority::Named(PriorityName::Filter) => true,
-        Priority::Number(OffsetSign::Plus, number) => number == 0,
-        _ => false,
-    }
+    matches!(kind, ChainKind::Filter)
 }
 
 fn takes_rules(rules: &[Rule]) -> bool
@@ -81,39 +70,96 @@ fn takes_rules(rules: &[Rule]) -> bool
 fn takes_rule(rule: &Rule) -> bool
     ensures { result ≡ takes_rule (rule_tree rule.now) }
 {
-    rule.comment.is_none() && takes_statements(&rule.statements)
+    takes_statements(&rule.statements)
 }
 
-/// Any number of matches, and then `accept` or `drop`.
 fn takes_statements(statements: &[Stmt]) -> bool
-    ensures { result ≡ takes_statements (map statement statements.now) }
+    ensures { result ≡ list_all takes_statement (map statement statements.now) }
 {
-    let mut rest = statements;
-    while let [first, others @ ..] = rest {
-        match first {
-            Stmt::Match(test) => {
-                if !takes_match(test) {
-                    return false;
-                }
-            }
-            Stmt::Verdict(Verdict::Accept | Verdict::Drop) => return others.is_empty(),
-            _ => return false,
-        }
-        rest = others;
-    }
-    false
+    statements.iter().all(takes_statement)
 }
 
-/// `ip saddr ADDRESS`, `ip daddr ADDRESS`.
+fn takes_statement(stmt: &Stmt) -> bool
+    ensures { result ≡ takes_statement (statement stmt.now) }
+{
+    match stmt {
+        Stmt::Match(test) => takes_match(test),
+        Stmt::SetMark(field, operand) => is_meta(*field) && takes_operand(operand),
+        Stmt::VerdictMap(selector, _) => !asks_connection(*selector),
+        Stmt::Nat(_) => false,
+        Stmt::Counter(_) | Stmt::Log(_) | Stmt::Verdict(_) => true,
+    }
+}
+
 fn takes_match(test: &Match) -> bool
     ensures { result ≡ takes_match (match_tree test.now) }
 {
+    match test {
+        Match::Compare(selector, _, _) => !asks_connection(*selector),
+        Match::In(selectors, _) | Match::NotIn(selectors, _) => !one_asks_connection(selectors),
+        Match::Bits(..) => false,
+        Match::AnyFlag(_)
+        | Match::ExactFlags(_)
+        | Match::MaskedFlags(_)
+        | Match::MaskedFlagsUnequal(_) => true,
+    }
+}
+
+fn takes_operand(operand: &Operand) -> bool
+    ensures { result ≡ takes_operand (operand_tree operand.now) }
+{
+    match operand {
+        Operand::Number(_) => true,
+        Operand::Mark(field) => is_meta(*field),
+        Operand::Look(look) => !asks_connection(look.selector),
+    }
+}
+
+fn is_meta(field: MarkField) -> bool
+    ensures { result ≡ is_meta field }
+{
+    matches!(field, MarkField::Meta)
+}
+
+fn takes_set_type(key: &SetType) -> bool
+    ensures { result ≡ takes_set_type (set_type_tree key.now) }
+{
+    match key {
+        SetType::Types(_) => true,
+        SetType::Selectors(selectors) => !one_asks_connection(selectors),
+    }
+}
+
+fn takes_map_type(types: MapType) -> bool
+    ensures { result ≡ takes_map_type types }
+{
+    match types {
+        MapType::Types(..) => true,
+        MapType::Selectors(key, data) => !asks_connection(key) && takes_data(data),
+    }
+}
+
+fn takes_data(given: SelectorOrVerdict) -> bool
+    ensures { result ≡ takes_data given }
+{
+    match given {
+        SelectorOrVerdict::Selector(selector) => !asks_connection(selector),
+        SelectorOrVerdict::Verdict => true,
+    }
+}
+
+fn one_asks_connection(selectors: &[Selector]) -> bool
+    ensures { result ≡ list_any asks_connection selectors.now }
+{
+    selectors.iter().any(|selector| asks_connection(*selector))
+}
+
+/// Whether the selector reads something of a connection.
+fn asks_connection(selector: Selector) -> bool
+    ensures { result ≡ asks_connection selector }
+{
     matches!(
-        test,
-        Match::Compare(
-            Selector::IpSource | Selector::IpDestination,
-            Operator::Equal,
-            Range::One(Value::Address(_))
-        )
+        selector,
+        Selector::CtMark | Selector::CtState | Selector::CtDirection | Selector::CtStatus
     )
 }

@@ -311,7 +311,7 @@ const ROWS: [Row<'static>; 12] = [
 
 /// The text of the rules comes first, then the box, the tree of the rules, and the form that runs
 /// take.
-const REFUSED_TEXTS: [(&[u8], &[u8], &str); 11] = [
+const REFUSED_TEXTS: [(&[u8], &[u8], &str); 7] = [
     (
         b"table ip t { chain a { tcp dport } }",
         NO_BOX,
@@ -325,32 +325,20 @@ const REFUSED_TEXTS: [(&[u8], &[u8], &str); 11] = [
     (
         b"table t { chain c { counter packets 0 bytes 4611686018427387904 } }",
         BOX,
-        "nftrun: rules E06",
+        "nftrun: capture P5",
     ),
-    (b"table inet t { }", NO_BOX, "nftrun: box B3"),
-    (b"table inet t { }", BOX, "nftrun: rules E06"),
     (
-        b"table ip t { chain a { accept } }",
+        b"table ip t { chain a { ct mark 1 } }",
+        NO_BOX,
+        "nftrun: box B3",
+    ),
+    (
+        b"table ip t { chain a { ct mark 1; accept accept } }",
         BOX,
-        "nftrun: rules E06",
+        "nftrun: rules N14",
     ),
     (
-        b"table ip t { set s { type ipv4_addr; elements = { 10.0.0.1 } } }",
-        BOX,
-        "nftrun: rules E06",
-    ),
-    (
-        b"table t { chain c { type filter hook forward priority 0; tcp dport 22 accept } }",
-        BOX,
-        "nftrun: rules E06",
-    ),
-    (
-        b"table t { chain c { type filter hook forward priority 1; accept } }",
-        BOX,
-        "nftrun: rules E06",
-    ),
-    (
-        b"table t { chain c { type filter hook forward priority 0; accept comment \"x\" } }",
+        b"table ip t { chain a { ct mark 1 } }",
         BOX,
         "nftrun: rules E06",
     ),

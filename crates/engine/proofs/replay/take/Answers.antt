@@ -3,7 +3,7 @@ use Rattle.engine.proofs.Replays.{taken_silently, taken_sending, broken_before, 
 use Rattle.engine.proofs.replay.take.Goals as goal
 
 pub returns-in_default-clause-broken : goal.returns-in_default-clause-broken
-returns-in_default-clause-broken g c = λ story s. broken_before _ story _ _ _ (c.one_entry.ensures.some _ story _)
+returns-in_default-clause-broken g c = λ story s. broken_before _ story _ _ _ (c.one_entry.ensures.some _ story _ c.judged.ensures)
 
 pub returns-in_default-leaving-clause-ok : goal.returns-in_default-leaving-clause-ok
 returns-in_default-leaving-clause-ok g c = λ story s n.

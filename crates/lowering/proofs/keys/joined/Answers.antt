@@ -7,8 +7,7 @@ use Rattle.nft_tree.specs.Tree.{value_tree}
 use Rattle.nft_values.specs.Values.{kind_width}
 use Rattle.rule_meaning.specs.Sets.{parts}
 use Rattle.rule_meaning.specs.Selectors.{join}
-use Rattle.lowering.specs.steps.Tables.{HasRoom}
-use Rattle.lowering.proofs.Rooms.{trees, room-start, room-at, room-first, room-number, room-rest, join-at, join-end, number-is, small-next, unlike}
+use Rattle.lowering.proofs.Rooms.{HasRoom, trees, room-start, room-at, room-first, room-number, room-rest, join-at, join-end, number-is, small-next, unlike}
 use Rattle.lowering.proofs.keys.joined.Goals as goal
 
 pub returns-then-kinds-values : goal.returns-then-kinds-values

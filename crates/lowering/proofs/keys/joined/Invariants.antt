@@ -2,7 +2,7 @@ use Rattle.std.proofs.Common.{◌≡◌, drop, map}
 use Rattle.nft_tree.specs.Tree.{value_tree}
 use Rattle.rule_meaning.specs.Sets.{parts}
 use Rattle.rule_meaning.specs.Selectors.{join}
-use Rattle.lowering.specs.steps.Tables.{HasRoom}
+use Rattle.lowering.proofs.Rooms.{HasRoom}
 use Rattle.lowering.proofs.keys.joined.Given as goal
 
 -- the others are still to be joined behind the number, and have room there

@@ -1,5 +1,5 @@
 use Rattle.std.proofs.Common.{refl}
-use Rattle.rule_trials.proofs.Answering.{translating}
+use Rattle.rule_trials.proofs.Answering.{postrouting, translating}
 use Rattle.rule_trials.proofs.trials.chains_of_type_nat.Goals as goal
 
 pub returns-clause-accepted : goal.returns-clause-accepted
@@ -13,3 +13,6 @@ returns-clause-translated c = translating _ _ _ _ refl
 
 pub returns-clause-elsewhere : goal.returns-clause-elsewhere
 returns-clause-elsewhere c = translating _ _ _ _ refl
+
+pub returns-clause-filters_apart : goal.returns-clause-filters_apart
+returns-clause-filters_apart c = (translating _ _ _ _ refl, postrouting _ _ _ _ refl)

@@ -13,3 +13,9 @@ returns-clause-exactly c = (forwards _ _ _ refl, forwards _ _ _ refl)
 
 pub returns-clause-none : goal.returns-clause-none
 returns-clause-none c = (forwards _ _ _ refl, forwards _ _ _ refl, forwards _ _ _ refl, forwards _ _ _ refl)
+
+pub returns-clause-related : goal.returns-clause-related
+returns-clause-related c = (forwards _ _ _ refl, forwards _ _ _ refl)
+
+pub returns-clause-none_of_two : goal.returns-clause-none_of_two
+returns-clause-none_of_two c = (forwards _ _ _ refl, forwards _ _ _ refl)

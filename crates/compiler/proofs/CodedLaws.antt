@@ -1,0 +1,129 @@
+-- The code of each table with what its chains cost and how deep they jump: enough for each of its starts.
+use Rattle.std.proofs.Common.{◌≡◌, ◌⊎◌, ℕ, ◌+◌, ◌<◌, ◌≤◌, List, [], length, get_or, map, Some, None, sym, ap, ◌∙◌, subst, inl, inr, arith}
+use Rattle.std.specs.Prelude.{filter, All, Contains, slice_get, slice_index}
+use Rattle.std.specs.Option.{option_map}
+use Rattle.std.proofs.lemmas.List.{length-map}
+use Rattle.std.proofs.lemmas.List.Elements.{All-filter, Contains-get_or}
+use Rattle.std.proofs.lemmas.List.Sorted.{All-permutation}
+use Rattle.std.proofs.lemmas.List.Sums.{get_or-le-sum_by}
+use Rattle.std.proofs.lemmas.Option.{slice_get-get_or, slice_get-map, slice_get_cases, slice_get_within, get_or_from_slice_get}
+use Rattle.nft_tree.specs.declared.chain.Hook.{Hook}
+use Rattle.nft_tree.specs.declared.chain.Hook.TheVariants as hooks
+use Rattle.nft_tree.specs.Tree.{TableTree}
+use Rattle.nft_tree.specs.Parts.{chains_of}
+use Rattle.chain_graph.proofs.ListLaws.{Contains-map}
+use Rattle.rule_paths.specs.Paths.{Caller, a_chain, AreCosts}
+use Rattle.rule_paths.specs.Findings.{AreChainDepths}
+use Rattle.rule_paths.proofs.ReadLaws.{cost-at}
+use Rattle.rule_check.specs.Checked.{CheckedTree, AreRulesetCosts, AreRulesetDepths, ruleset_sum}
+use Rattle.rule_meaning.specs.Runs.{named}
+use Rattle.rule_meaning.specs.Hooks.{bases_of}
+use Rattle.rule_laws.specs.Ranked.{IsRanked, weight_by, chain_cost_by, cost_of}
+use Rattle.filter_vm.specs.declared.code.Code.{Code}
+use Rattle.filter_vm.specs.declared.code.Start.{Start}
+use Rattle.filter_vm.specs.Machine.{starts_of}
+use Rattle.compiler.specs.declared.base.BaseChain.{BaseChain}
+use Rattle.compiler.specs.Compiled.{told, told_of, cost_at, total_cost}
+use Rattle.compiler.specs.steps.Bases.{base, runs_at, CostsIn}
+use Rattle.compiler.specs.steps.Whole.{IsWhole}
+use Rattle.compiler.proofs.AlikeLaws.{base-stands, CodedTable}
+use Rattle.compiler.proofs.WholeLaws.{costs_little}
+
+-- ---- a start and its base chain
+
+-- the start is that of the base chain, and costs as much
+record StartOf (P : BaseChain → Type 0) (start : Start) : Type 0 where
+  chain : BaseChain
+  tells : told start ≡ told_of (base chain)
+  costs : start.cost ≡ chain.cost
+  has : P chain
+
+same-some : {A : Type 0} (x y : A) → Some x ≡ Some y → x ≡ y
+same-some x y e = cc
+
+shown : {A B : Type 0} (f : A → B) (xs : List A) (k : ℕ) (x : A) → slice_get xs k ≡ Some x → slice_get (map f xs) k ≡ Some (f x)
+shown f xs k x is = slice_get-map f xs k ∙ ap (option_map f) is
+
+start-of : (P : BaseChain → Type 0) (order : List BaseChain) (starts : List Start) (start : Start) → map told starts ≡ map told_of (map base order) → map (λ s. s.cost) starts ≡ map (λ b. b.cost) order → All P order → Contains starts start → StartOf P start
+start-of P order starts start are costs all here = by_place (slice_get_cases order here.0).1
+  where
+    at : slice_get starts here.0 ≡ Some start
+    at = slice_get-get_or starts here.0 start here.1 ∙ ap Some here.2
+
+    long : length starts ≡ length order
+    long = sym (length-map starts (λ (s : Start). s.cost)) ∙ ap length costs ∙ length-map order (λ (b : BaseChain). b.cost)
+
+    by_place : ((x : BaseChain) × (here.0 < length order) × (slice_get order here.0 ≡ Some x) × (get_or order here.0 x ≡ x)) ⊎ ((length order ≤ here.0) × (slice_get order here.0 ≡ None)) → StartOf P start
+    by_place (inl f) = record {
+      chain = f.0;
+      tells = same-some _ _ (sym (shown told starts here.0 start at) ∙ ap (λ xs. slice_get xs here.0) are ∙ shown told_of (map base order) here.0 (base f.0) (shown base order here.0 f.0 f.2));
+      costs = same-some _ _ (sym (shown (λ (s : Start). s.cost) starts here.0 start at) ∙ ap (λ xs. slice_get xs here.0) costs ∙ shown (λ (b : BaseChain). b.cost) order here.0 f.0 f.2);
+      has = subst P f.3 (all here.0 f.0 f.1);
+    }
+    by_place (inr past) = let lt = here.1 in absurd (omega (arith, lt, past.0, long))
+
+-- ---- what a start costs
+
+hook-le : (code : Code) (hook : Hook) → cost_at code hook ≤ total_cost code
+hook-le code hooks.Prerouting = omega arith
+hook-le code hooks.Input = omega arith
+hook-le code hooks.Forward = omega arith
+hook-le code hooks.Output = omega arith
+hook-le code hooks.Postrouting = omega arith
+
+start-le : (code : Code) (hook : Hook) (start : Start) → Contains (starts_of code hook) start → start.cost ≤ total_cost code
+start-le code hook start here =
+    let part = get_or-le-sum_by (λ (s : Start). s.cost) (starts_of code hook) here.0 start here.1 in
+    let is : (get_or (starts_of code hook) here.0 start).cost ≡ start.cost = ap (λ (s : Start). s.cost) here.2 in
+    omega (arith, part, is, hook-le code hook)
+
+-- ---- the code of each table
+
+module _ (checked : CheckedTree) (code : Code) (whole : IsWhole checked code) (costs : List (List ℕ)) (are : AreRulesetCosts checked.rules costs) (small : ruleset_sum checked.rules costs ≤ 65536) where
+  -- the base chain stands in the ruleset, and costs 1 more than its rules
+  abbrev IsCosted : BaseChain → Type 0
+  IsCosted b = Contains (bases_of checked.rules) (base b) × CostsIn costs b.number b.cost
+
+  all-costed : All IsCosted whole.bases
+  all-costed k d lt = (
+    subst (λ bs. Contains bs (base (get_or whole.bases k d))) whole.text (Contains-map base whole.bases (get_or whole.bases k d) (Contains-get_or whole.bases k d lt)),
+    whole.costs costs are k d lt,
+  )
+
+  costed : (hook : Hook) (start : Start) → Contains (starts_of code hook) start → StartOf IsCosted start
+  costed hook start here =
+      let o = whole.ordered hook in
+      start-of IsCosted o.order (starts_of code hook) start o.starts_are o.costs_are (All-permutation IsCosted (filter (runs_at hook) whole.bases) o.order o.moved (All-filter (runs_at hook) IsCosted whole.bases all-costed)) here
+
+  enough : (number : ℕ) (t : TableTree) → slice_get checked.rules number ≡ Some t → (cost : Caller → ℕ) → AreCosts t cost → (hook : Hook) (start : Start) → Contains (starts_of code hook) start → start.chain.table ≡ number → chain_cost_by t cost start.chain.chain + 1 ≤ start.cost
+  enough number t at cost is_cost hook start here is_number =
+      let s = costed hook start here in
+      let n : start.chain ≡ s.chain.number = ap (λ x. x.chain) s.tells in
+      let b = base-stands checked.rules (base s.chain) s.has.0 in
+      let table : s.chain.number.table ≡ number = ap (λ x. x.table) (sym n) ∙ is_number in
+      let same : b.table ≡ t = same-some _ _ (sym b.stands ∙ ap (slice_get checked.rules) table ∙ at) in
+      let stands : slice_get (chains_of t) s.chain.number.chain ≡ Some b.chain = ap (λ x. slice_get (chains_of x) s.chain.number.chain) (sym same) ∙ b.has in
+      let row = are.are number t at in
+      let told = cost-at t (get_or costs number []) row cost is_cost s.chain.number.chain b.chain (slice_get_within (chains_of t) s.chain.number.chain b.chain stands) (sym (get_or_from_slice_get (chains_of t) s.chain.number.chain b.chain b.chain stands)) in
+      let one : start.cost ≡ slice_index (get_or costs number []) s.chain.number.chain + 1 = s.costs ∙ s.has.1 ∙ ap (λ k. slice_index (get_or costs k []) s.chain.number.chain + 1) table in
+      let its : chain_cost_by t cost start.chain.chain ≡ cost (a_chain b.chain.name) = ap (λ x. chain_cost_by t cost x.chain) n ∙ ap (cost_of cost) stands in
+      let little = costs_little checked costs are small code whole in
+      omega (arith, told, one, its, little, start-le code hook start here)
+
+  pub coded : (depths : List (List ℕ)) → AreRulesetDepths checked.rules depths → ((i j : ℕ) → slice_index (get_or depths i []) j ≤ 16)
+      → ((number : ℕ) (t : TableTree) → slice_get checked.rules number ≡ Some t → (cost : Caller → ℕ) → AreCosts t cost → (deep : List ℕ) → AreChainDepths t deep → IsRanked (named checked.plant number t) (weight_by cost) (chain_cost_by t cost) (λ c. slice_index deep c))
+      → (number : ℕ) (t : TableTree) → slice_get checked.rules number ≡ Some t → CodedTable checked code number t
+  coded depths deep shallow ranks number t at =
+      let made = whole.tables.each number t at in
+      let its = (are.are number t at).has_costs in
+      record {
+        table_code = made.0;
+        stands = made.1;
+        is = made.2;
+        weight = weight_by its.0;
+        cost = chain_cost_by t its.0;
+        depth = λ c. slice_index (get_or depths number []) c;
+        ranked = ranks number t at its.0 its.1 (get_or depths number []) (deep.are number t at);
+        enough = enough number t at its.0 its.1;
+        shallow = λ c. shallow number c;
+      }

@@ -1,0 +1,12 @@
+pub mod AddLaws
+pub mod TableLaws
+pub mod StartLaws
+pub mod OrderLaws
+pub mod TotalLaws
+pub mod WholeLaws
+pub mod DoesLaws
+pub mod PlacedLaws
+pub mod Simulation
+pub mod BaseLaws
+pub mod AlikeLaws
+pub mod CodedLaws

@@ -1,0 +1,27 @@
+use Rattle.std.proofs.Common.{◌≤◌}
+use Rattle.nft_tree.specs.declared.chain.Hook.{Hook}
+use Rattle.filter_vm.specs.declared.code.Code.{Code}
+use Rattle.filter_vm.specs.Machine.{starts_of}
+use Rattle.compiler.specs.Compiled.{HasStarts, RunsAlike, total_cost}
+use Rattle.compiler.specs.steps.Whole.{IsWhole}
+use Rattle.compiler.proofs.AlikeLaws.{all_alike}
+use Rattle.compiler.proofs.CodedLaws.{coded}
+use Rattle.compiler.proofs.WholeLaws.{if_ok, hooks_have_starts, costs_little}
+use Rattle.compiler.proofs.compiling.compile.Goals as goal
+
+pub returns-clause-starts : goal.returns-clause-starts
+returns-clause-starts c = if_ok (IsWhole c.args.checked.now) (λ code. (hook : Hook) → HasStarts c.args.checked.now.rules hook (starts_of code hook)) (hooks_have_starts c.args.checked.now) c.whole.result c.whole.ensures
+
+pub returns-clause-cost : goal.returns-clause-cost
+returns-clause-cost c =
+    let some = c.measured.ensures.some in
+    if_ok (IsWhole c.args.checked.now) (λ code. total_cost code ≤ 65536) (costs_little c.args.checked.now some.0 some.1 (c.measured.ensures.total some.0 some.1)) c.whole.result c.whole.ensures
+
+pub returns-clause-runs : goal.returns-clause-runs
+returns-clause-runs c =
+    let checked = c.args.checked.now in
+    let costs = c.measured.ensures.some in
+    let depths = c.measured.ensures.deep in
+    let runs : (code : Code) → IsWhole checked code → RunsAlike checked code = λ code whole.
+    all_alike checked code (coded checked code whole costs.0 costs.1 (c.measured.ensures.total costs.0 costs.1) depths.0 depths.1 depths.2 (c.ranked.ensures checked.rules checked.plant c.measured.ensures.fine)) (c.some_outcome.ensures.base checked.rules checked.plant c.measured.ensures.fine) in
+    if_ok (IsWhole checked) (RunsAlike checked) runs c.whole.result c.whole.ensures

@@ -1,0 +1,4 @@
+pub mod Placed
+pub mod Adding
+pub mod Bases
+pub mod Whole

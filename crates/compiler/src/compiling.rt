@@ -1,0 +1,56 @@
+//! A ruleset as code.
+ghost use Rattle.std.specs.Prelude.{◌≤◌, IfOk};
+ghost use Rattle.nft_tree.specs.declared.chain.Hook.{Hook};
+ghost use Rattle.rule_check.specs.WellFormed.{WellFormed};
+ghost use Rattle.filter_vm.specs.Machine.{starts_of};
+ghost use Rattle.compiler.specs.Compiled.{HasStarts, RunsAlike, total_cost};
+ghost use Rattle.compiler.specs.steps.Whole.{IsWhole};
+
+use crate::starts::{base_chains, starts_at};
+use crate::tables::table_codes;
+use filter_vm::Code;
+use nft_tree::Hook;
+use rule_check::Checked;
+use rule_laws::{ranked, some_outcome};
+use rule_names::names_of;
+use std::alloc::{AllocError, Global};
+
+/// The code of each table, and the starts of each hook.
+fn whole(alloc: Global, checked: &Checked) -> Result<Code, AllocError>
+    requires { WellFormed checked.now.rules checked.now.plant }
+    ensures { IfOk result (λ code. IsWhole checked.now code) }
+{
+    let Some(names) = names_of(alloc, checked.tree())? else {
+        // A checked ruleset has no name twice.
+        unreachable!();
+    };
+    let tables = table_codes(alloc, checked.plant(), &names)?;
+    let bases = base_chains(alloc, checked, &names)?;
+    Ok(Code {
+        tables,
+        prerouting: starts_at(alloc, Hook::Prerouting, &bases)?,
+        input: starts_at(alloc, Hook::Input, &bases)?,
+        forward: starts_at(alloc, Hook::Forward, &bases)?,
+        output: starts_at(alloc, Hook::Output, &bases)?,
+        postrouting: starts_at(alloc, Hook::Postrouting, &bases)?,
+    })
+}
+
+/// The code of a checked ruleset: its starts are the base chains of each hook, in the order in which
+/// they run, and for every base chain, whatever rules may read of a packet, events and outcome are
+/// those of its rules and its policy.
+///
+/// # Errors
+///
+/// For want of memory alone.
+pub fn compile(alloc: Global, checked: &Checked) -> Result<Code, AllocError>
+    ensures starts { IfOk result (λ code. (hook : Hook) → HasStarts checked.now.rules hook (starts_of code hook)) }
+    ensures runs { IfOk result (λ code. RunsAlike checked.now code) }
+    ensures cost { IfOk result (λ code. total_cost code ≤ 65536) }
+{
+    // What is known of checked rulesets; none of the three does anything.
+    checked.measured();
+    ranked();
+    some_outcome();
+    whole(alloc, checked)
+}

@@ -1,0 +1,10 @@
+//! Checked rulesets as code whose events and outcomes are those of the rules.
+#![tactic(auto)]
+
+mod base;
+mod compiling;
+mod rules;
+mod starts;
+mod tables;
+
+pub use compiling::compile;

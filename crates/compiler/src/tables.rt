@@ -1,0 +1,65 @@
+//! The code of tables.
+ghost use Rattle.std.specs.Prelude.{◌≡◌, false, length, IfOk, OnOk};
+ghost use Rattle.std.specs.List.{list_any};
+ghost use Rattle.nft_tree.specs.Tree.{chain_tree};
+ghost use Rattle.rule_types.specs.Types.{table_misfits};
+ghost use Rattle.rule_values.specs.Faults.{has_wrong_value, item_is_wrong};
+ghost use Rattle.compiler.specs.steps.Placed.{IsTableCode};
+ghost use Rattle.compiler.specs.steps.Adding.{AreTableCodes};
+
+use crate::rules::{add_rules, short};
+use box_file::Plant;
+use filter_vm::TableCode;
+use lowering::declared;
+use rule_meaning::ChainNo;
+use rule_names::TableNames;
+use std::alloc::{AllocError, Global};
+
+/// The code of the table of this number.
+fn table_code(
+    alloc: Global,
+    plant: &Plant,
+    names: &TableNames,
+    table: u32,
+) -> Result<TableCode, AllocError>
+    requires types { table_misfits names.now ≡ false }
+    requires bounds { list_any item_is_wrong names.now.items ≡ false }
+    ensures { IfOk result (λ code. IsTableCode plant.now table names.now code) }
+{
+    let mut code = TableCode {
+        steps: Vec::new(alloc),
+        places: Vec::new(alloc),
+        lookups: declared(alloc, plant, names)?,
+    };
+    let mut rest = names.chains();
+    while let [chain, others @ ..] = rest {
+        let number = ChainNo {
+            table,
+            chain: short(code.places.len())?,
+        };
+        code.places.push(code.steps.len())?;
+        add_rules(alloc, plant, names, number, &chain.rules, &mut code)?;
+        rest = others;
+    }
+    Ok(code)
+}
+
+/// The code of each table.
+pub(crate) fn table_codes(
+    alloc: Global,
+    plant: &Plant,
+    names: &[TableNames],
+) -> Result<Vec<TableCode>, AllocError>
+    requires types { list_any table_misfits names.now ≡ false }
+    requires bounds { list_any (has_wrong_value plant.now) names.now ≡ false }
+    ensures { IfOk result (λ codes. AreTableCodes plant.now names.now codes.items) }
+{
+    let mut codes = Vec::new(alloc);
+    let mut rest = names;
+    while let [table, others @ ..] = rest {
+        let number = short(codes.len())?;
+        codes.push(table_code(alloc, plant, table, number)?)?;
+        rest = others;
+    }
+    Ok(codes)
+}

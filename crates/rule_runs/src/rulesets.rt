@@ -1,0 +1,197 @@
+//! Whole rulesets: verdicts, maps, marks, hooks and priorities.
+use crate::samples::{ALL, give, lets_pass};
+use std::test::Fail;
+
+/// Rulesets, each with the packets that it lets pass.
+const VERDICTS: [(&str, &[usize]); 12] = [
+    // A jump comes back; a goto doesn't, and the end of its chain is that of the base chain.
+    (
+        "table ip t { chain a { counter goto b; counter; } chain b { counter; } chain fwd { type filter hook forward priority 0; policy drop; jump a; counter accept; } }",
+        ALL,
+    ),
+    (
+        "table ip t { chain a { counter goto b; counter; } chain b { counter; } chain fwd { type filter hook forward priority 0; policy drop; goto a; counter accept; } }",
+        &[],
+    ),
+    // What a chain decides counts for the one that jumps to it.
+    (
+        "table ip t { chain a { udp dport 53 drop; tcp dport 80 return; accept; } chain fwd { type filter hook forward priority 0; policy accept; jump a; drop; } }",
+        &[2, 3, 4, 5, 6],
+    ),
+    // A counter comes before the match that fails.
+    (
+        "table ip t { chain fwd { type filter hook forward priority 0; policy accept; counter ip saddr 10.0.0.1 drop; } }",
+        ALL,
+    ),
+    (
+        "table ip t { chain fwd { type filter hook forward priority 0; policy accept; tcp dport != 22 drop; } }",
+        &[0, 2, 3, 4, 5],
+    ),
+    // Return in a base chain is its end, continue the next rule.
+    (
+        "table ip t { chain fwd { type filter hook forward priority 0; policy drop; udp dport 53 return; ip ttl 63 continue; ip ttl 63 accept; } }",
+        &[1, 2, 3, 4, 6],
+    ),
+    (
+        "table ip t { chain fwd { type filter hook forward priority 0; policy drop; log prefix \"seen \" accept; } }",
+        ALL,
+    ),
+    // Verdict maps, without a name and with one.
+    (
+        "table ip t { chain fwd { type filter hook forward priority 0; policy drop; udp dport vmap { 53 : accept, 100-200 : drop }; tcp dport vmap { 80 : drop, 0-79 : accept }; } }",
+        &[0, 2],
+    ),
+    (
+        "table ip t { map m { type inet_service : verdict; elements = { 53 : jump a, 80 : goto a, 22 : continue } } chain a { ip protocol udp accept; } chain fwd { type filter hook forward priority 0; policy drop; th dport vmap @m; tcp dport { 22, 80 } accept; } }",
+        &[0, 2],
+    ),
+    // Sets with names.
+    (
+        "table inet t { set s { type ipv4_addr; flags interval; elements = { 192.168.0.0/16, 192.168.1.0/24 } } set p { typeof udp dport; elements = { 53, 123 } } chain fwd { type filter hook forward priority filter; policy drop; ip saddr @s udp dport @p accept; } }",
+        &[0, 5],
+    ),
+    // Marks, from a number and from a map; without an element the statement fails.
+    (
+        "table ip t { chain fwd { type filter hook forward priority 0; policy drop; meta mark set 7; udp dport 53 meta mark set 8; meta mark 8 accept; } }",
+        &[0],
+    ),
+    (
+        "table ip t { chain fwd { type filter hook forward priority 0; policy drop; meta mark set ip saddr map { 192.168.1.11 : 0x2 } accept; } }",
+        &[5],
+    ),
+];
+
+const HOOKS: [(&str, &[usize]); 10] = [
+    // An accept ends one base chain, a drop all.
+    (
+        "table ip t { chain a { type filter hook forward priority 0; accept; } chain b { type filter hook forward priority 10; drop; } }",
+        &[],
+    ),
+    // In order of priority, not of text.
+    (
+        "table ip t { chain a { type filter hook forward priority 10; policy drop; meta mark 1 accept; } chain b { type filter hook forward priority -5; meta mark set 1; } }",
+        ALL,
+    ),
+    // In order of text where priorities are equal, over tables too.
+    (
+        "table ip t { chain a { type filter hook forward priority 0; meta mark set 1; } } table inet u { chain b { type filter hook forward priority filter; policy drop; meta mark 1 accept; } }",
+        ALL,
+    ),
+    (
+        "table ip t { chain b { type filter hook forward priority 0; policy drop; meta mark 1 accept; } chain a { type filter hook forward priority 0; meta mark set 1; } }",
+        &[],
+    ),
+    // A mark lasts from hook to hook, and begins at 0 with the next packet.
+    (
+        "table ip t { chain p { type filter hook prerouting priority raw; meta mark != 0 drop; udp dport 53 meta mark set 1; } chain q { type filter hook postrouting priority srcnat; policy drop; meta mark 1 accept; } }",
+        &[0],
+    ),
+    // The leaving interface isn't known before the routing, and the TTL isn't lowered.
+    (
+        "table ip t { chain p { type filter hook prerouting priority 0; oifname != \"lan\" drop; } }",
+        ALL,
+    ),
+    (
+        "table ip t { chain p { type filter hook prerouting priority mangle; ip ttl 5 drop; } chain q { type filter hook postrouting priority mangle; ip ttl 5 drop; } }",
+        &[0, 1, 2, 3, 4, 6],
+    ),
+    // Each hook on its way: early and late, and on its way out.
+    (
+        "table ip t { chain p { type filter hook prerouting priority -200; udp dport 53 drop; } chain q { type filter hook prerouting priority -199; tcp dport 80 drop; } chain r { type filter hook postrouting priority 101; icmp type 8 drop; } }",
+        &[2, 4, 5, 6],
+    ),
+    // Chains on input see what is for the box alone, and those on output nothing.
+    (
+        "table ip t { chain i { type filter hook input priority 0; policy drop; } chain o { type filter hook output priority 0; policy drop; } }",
+        ALL,
+    ),
+    ("", ALL),
+];
+
+#[test]
+fn verdicts_maps_and_marks_decide(rt: HostRuntime) -> Result<(), Fail> {
+    for (rules, numbers) in &VERDICTS {
+        lets_pass(&rt, rules.as_bytes(), numbers, rules)?;
+    }
+    Ok(())
+}
+
+#[test]
+fn hooks_are_passed_in_order(rt: HostRuntime) -> Result<(), Fail> {
+    for (rules, numbers) in &HOOKS {
+        lets_pass(&rt, rules.as_bytes(), numbers, rules)?;
+    }
+    Ok(())
+}
+
+/// Of the eight packets one is for the box: the report tells what its chains on input decide.
+const INPUTS: [(&str, &str); 3] = [
+    (
+        "table ip t { chain i { type filter hook input priority 0; policy drop; } }",
+        "records 8\npassed 7\nlocal 0\n",
+    ),
+    (
+        "table ip t { chain i { type filter hook input priority 0; policy drop; udp dport 53 iifname lan accept; } }",
+        "records 8\npassed 7\nlocal 1\n",
+    ),
+    (
+        "table ip t { chain f { type filter hook forward priority 0; policy drop; } }",
+        "records 8\npassed 0\nlocal 1\n",
+    ),
+];
+
+#[test]
+fn input_chains_see_what_is_for_the_box(rt: HostRuntime) -> Result<(), Fail> {
+    for (rules, beginning) in &INPUTS {
+        let given = give(rt.alloc(), rules.as_bytes())?;
+        assert!(rt; given.report.starts_with(beginning.as_bytes()), "{rules}");
+    }
+    Ok(())
+}
+
+/// What runs don't take yet is told as E06, behind what is wrong with a ruleset.
+const REFUSED: [(&str, &str); 8] = [
+    (
+        "table ip t { chain f { type filter hook forward priority 0; ct state new accept; } }",
+        "nftrun: rules E06",
+    ),
+    (
+        "table ip t { chain f { ct mark 1 accept; } }",
+        "nftrun: rules E06",
+    ),
+    (
+        "table ip t { chain f { ct mark set 1; } }",
+        "nftrun: rules E06",
+    ),
+    (
+        "table ip t { chain f { meta mark set ct mark; } }",
+        "nftrun: rules E06",
+    ),
+    (
+        "table ip t { set s { typeof ct mark; } }",
+        "nftrun: rules E06",
+    ),
+    (
+        "table ip t { chain p { type nat hook postrouting priority srcnat; } }",
+        "nftrun: rules E06",
+    ),
+    (
+        "table ip t { chain p { masquerade; } }",
+        "nftrun: rules E06",
+    ),
+    (
+        "table ip t { chain f { ct mark 1 accept; jump g; } }",
+        "nftrun: rules N02",
+    ),
+];
+
+#[test]
+fn other_forms_are_refused(rt: HostRuntime) -> Result<(), Fail> {
+    for (rules, line) in &REFUSED {
+        let given = give(rt.alloc(), rules.as_bytes())?;
+        let told = format!(in rt.alloc(); "{}", given.status)?;
+        assert!(rt; told.as_str() == *line, "{rules}");
+        assert!(rt; given.sent.is_empty(), "{rules}");
+    }
+    Ok(())
+}

@@ -1,0 +1,61 @@
+//! What rules may read of a packet.
+ghost use Rattle.std.specs.Prelude.{◌≡◌, ◌-◌, Some, None};
+ghost use Rattle.rule_meaning.specs.declared.facts.Tracking.TheVariants.{Unknown};
+ghost use Rattle.stepping.specs.Next.{interface_facts, packet_facts};
+
+use box_file::Plant;
+use ip_headers::View;
+use nft_values::name_number;
+use rule_meaning::{Facts, Interface, Packet, Tracking};
+
+/// An interface of the box, by its index.
+pub fn interface_facts(plant: &Plant, index: u32) -> Interface
+    ensures { result ≡ interface_facts plant.now index }
+{
+    let name = match plant.name(index) {
+        Some(name) => name_number(name),
+        None => name_number(&[]),
+    };
+    Interface { index, name }
+}
+
+/// On arrival by the interface: nothing is known of its way or its connection, and its mark is 0.
+pub fn arriving(view: &View, input: Interface) -> Facts
+    ensures { result ≡ record { packet = packet_facts view.now.packet.now; input = input; output = None; mark = 0; tracking = Unknown } }
+{
+    Facts {
+        packet: packet_facts(view),
+        input,
+        output: None,
+        mark: 0,
+        tracking: Tracking::Unknown,
+    }
+}
+
+/// When it is sent on: the way is known, and the TTL is one lower (RFC 1812, section 5.3.1).
+pub fn departing(output: Interface, facts: &Facts) -> Facts
+    ensures { result ≡ record facts.now { output = Some output; packet = record facts.now.packet { ttl = facts.now.packet.ttl - 1 } } }
+{
+    Facts {
+        output: Some(output),
+        packet: Packet {
+            ttl: facts.packet.ttl.saturating_sub(1),
+            ..facts.packet
+        },
+        ..*facts
+    }
+}
+
+/// The fields of its headers.
+fn packet_facts(view: &View) -> Packet
+    ensures { result ≡ packet_facts view.now.packet.now }
+{
+    Packet {
+        source: view.source(),
+        destination: view.destination(),
+        protocol: view.protocol(),
+        ttl: view.ttl(),
+        length: view.total_length(),
+        transport: view.transport(),
+    }
+}

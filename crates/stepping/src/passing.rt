@@ -1,0 +1,83 @@
+//! Runs the base chains of hooks.
+ghost use Rattle.std.specs.Prelude.{◌≡◌, ◌≤◌, ◌+◌, length};
+ghost use Rattle.nft_tree.specs.declared.chain.Hook.TheVariants as hooks;
+ghost use Rattle.compiler.specs.Compiled.{cost_at};
+ghost use Rattle.stepping.specs.declared.parts.Part.TheVariants as parts;
+ghost use Rattle.stepping.specs.steps.Parts.{HasRoom, SpendsUpTo, arrival_end, cost_of, departure_end, end_by, goes_on, part_end};
+
+use crate::parts::Part;
+use filter_vm::{Code, Events, run};
+use rule_meaning::{Ending, Facts, Outcome};
+
+/// Runs the packet through the chains on prerouting. Nothing is translated among them.
+pub fn arrive(code: &Code, facts: &Facts, events: &mut Events) -> Outcome
+    requires room { HasRoom events.old (cost_at code.now hooks.Prerouting) }
+    ensures end { end_by result events.new ≡ arrival_end code.now facts.now events.old.events }
+    ensures spent { SpendsUpTo events.old events.new (cost_at code.now hooks.Prerouting) }
+{
+    let early = run_part(code, Part::Early, facts, events);
+    if !goes_on(early.ending) {
+        return early;
+    }
+    let before = run_part(code, Part::BeforeDestination, &early.facts, events);
+    if !goes_on(before.ending) {
+        return before;
+    }
+    run_part(code, Part::AfterDestination, &before.facts, events)
+}
+
+/// Runs the packet through the chains on input.
+pub fn deliver(code: &Code, facts: &Facts, events: &mut Events) -> Outcome
+    requires room { HasRoom events.old (cost_at code.now hooks.Input) }
+    ensures end { end_by result events.new ≡ part_end code.now parts.Input facts.now events.old.events }
+{
+    run_part(code, Part::Input, facts, events)
+}
+
+/// Runs the packet through the chains on forward and then those on postrouting. Nothing is
+/// translated among them.
+pub fn depart(code: &Code, facts: &Facts, events: &mut Events) -> Outcome
+    requires room { HasRoom events.old (cost_at code.now hooks.Forward + cost_at code.now hooks.Postrouting) }
+    ensures end { end_by result events.new ≡ departure_end code.now facts.now events.old.events }
+{
+    let forward = run_part(code, Part::Forward, facts, events);
+    if !goes_on(forward.ending) {
+        return forward;
+    }
+    let before = run_part(code, Part::BeforeSource, &forward.facts, events);
+    if !goes_on(before.ending) {
+        return before;
+    }
+    run_part(code, Part::AfterSource, &before.facts, events)
+}
+
+/// Whether a packet goes on from a base chain that ends so.
+pub fn goes_on(ending: Ending) -> bool
+    ensures { result ≡ goes_on ending }
+{
+    matches!(ending, Ending::Accepted)
+}
+
+/// Runs the packet through the base chains of a part, one after another, until one doesn't accept it.
+fn run_part(code: &Code, part: Part, facts: &Facts, events: &mut Events) -> Outcome
+    requires room { HasRoom events.old (cost_of code.now part) }
+    ensures end { end_by result events.new ≡ part_end code.now part facts.now events.old.events }
+    ensures spent { SpendsUpTo events.old events.new (cost_of code.now part) }
+{
+    let mut known = *facts;
+    let mut rest = code.starts(part.hook());
+    while let [start, others @ ..] = rest {
+        if part.has(start) {
+            let outcome = run(code, *start, &known, events);
+            if !goes_on(outcome.ending) {
+                return outcome;
+            }
+            known = outcome.facts;
+        }
+        rest = others;
+    }
+    Outcome {
+        ending: Ending::Accepted,
+        facts: known,
+    }
+}
