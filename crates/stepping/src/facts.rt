@@ -9,6 +9,7 @@ use nft_values::name_number;
 use rule_meaning::{Facts, Interface, Packet, Tracking};
 
 /// An interface of the box, by its index.
+#[inline(always)]
 pub fn interface_facts(plant: &Plant, index: u32) -> Interface
     ensures { result ≡ interface_facts plant.now index }
 {
@@ -20,6 +21,7 @@ pub fn interface_facts(plant: &Plant, index: u32) -> Interface
 }
 
 /// On arrival by the interface: nothing is known of its way or its connection, and its mark is 0.
+#[inline(always)]
 pub fn arriving(view: &View, input: Interface) -> Facts
     ensures { result ≡ record { packet = packet_facts view.now.packet.now; input = input; output = None; mark = 0; tracking = Unknown } }
 {
@@ -33,6 +35,7 @@ pub fn arriving(view: &View, input: Interface) -> Facts
 }
 
 /// When it is sent on: the way is known, and the TTL is one lower (RFC 1812, section 5.3.1).
+#[inline(always)]
 pub fn departing(output: Interface, facts: &Facts) -> Facts
     ensures { result ≡ record facts.now { output = Some output; packet = record facts.now.packet { ttl = facts.now.packet.ttl - 1 } } }
 {
@@ -47,6 +50,7 @@ pub fn departing(output: Interface, facts: &Facts) -> Facts
 }
 
 /// The fields of its headers.
+#[inline(always)]
 fn packet_facts(view: &View) -> Packet
     ensures { result ≡ packet_facts view.now.packet.now }
 {

@@ -41,6 +41,7 @@ pub fn fate(
 }
 
 /// How a packet ends: the chains on prerouting first.
+#[inline(always)]
 fn fare(
     checked: &Checked,
     code: &Code,
@@ -67,6 +68,7 @@ fn fare(
 /// How a packet ends that has arrived: for the box, without a route, at its last hop, dropped by a
 /// rule, or sent on with its TTL lowered. The packet that leaves, where one does, is left in
 /// `packet`.
+#[inline(always)]
 fn fare_on(
     checked: &Checked,
     code: &Code,

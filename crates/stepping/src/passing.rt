@@ -10,6 +10,7 @@ use filter_vm::{Code, Events, run};
 use rule_meaning::{Ending, Facts, Outcome};
 
 /// Runs the packet through the chains on prerouting. Nothing is translated among them.
+#[inline(always)]
 pub fn arrive(code: &Code, facts: &Facts, events: &mut Events) -> Outcome
     requires room { HasRoom events.old (cost_at code.now hooks.Prerouting) }
     ensures end { end_by result events.new ≡ arrival_end code.now facts.now events.old.events }
@@ -27,6 +28,7 @@ pub fn arrive(code: &Code, facts: &Facts, events: &mut Events) -> Outcome
 }
 
 /// Runs the packet through the chains on input.
+#[inline(always)]
 pub fn deliver(code: &Code, facts: &Facts, events: &mut Events) -> Outcome
     requires room { HasRoom events.old (cost_at code.now hooks.Input) }
     ensures end { end_by result events.new ≡ part_end code.now parts.Input facts.now events.old.events }
@@ -36,6 +38,7 @@ pub fn deliver(code: &Code, facts: &Facts, events: &mut Events) -> Outcome
 
 /// Runs the packet through the chains on forward and then those on postrouting. Nothing is
 /// translated among them.
+#[inline(always)]
 pub fn depart(code: &Code, facts: &Facts, events: &mut Events) -> Outcome
     requires room { HasRoom events.old (cost_at code.now hooks.Forward + cost_at code.now hooks.Postrouting) }
     ensures end { end_by result events.new ≡ departure_end code.now facts.now events.old.events }
@@ -52,6 +55,7 @@ pub fn depart(code: &Code, facts: &Facts, events: &mut Events) -> Outcome
 }
 
 /// Whether a packet goes on from a base chain that ends so.
+#[inline(always)]
 pub fn goes_on(ending: Ending) -> bool
     ensures { result ≡ goes_on ending }
 {
@@ -59,6 +63,7 @@ pub fn goes_on(ending: Ending) -> bool
 }
 
 /// Runs the packet through the base chains of a part, one after another, until one doesn't accept it.
+#[inline(always)]
 fn run_part(code: &Code, part: Part, facts: &Facts, events: &mut Events) -> Outcome
     requires room { HasRoom events.old (cost_of code.now part) }
     ensures end { end_by result events.new ≡ part_end code.now part facts.now events.old.events }
