@@ -20,10 +20,27 @@ def packet(number, length):
     return struct.pack(">BBHHHBBHII", *parts) + ports_and_length + bytes(length - 28)
 
 
+ETHERNET = bytes.fromhex("0200000000020200000000010800")
+
+
+def header(link):
+    return struct.pack("<IHHIIII", 0xA1B2C3D4, 2, 4, 0, 0, 0xFFFF, link)
+
+
+def records(count, length, link=b""):
+    """So many records, each of a packet of that length behind a link header."""
+    whole = length + len(link)
+    return b"".join(struct.pack("<IIII", n // 1000, n % 1000, whole, whole) + link + packet(n, length) for n in range(count))
+
+
 def capture(count, length):
-    header = struct.pack("<IHHIIII", 0xA1B2C3D4, 2, 4, 0, 0, 0xFFFF, 101)
-    records = (struct.pack("<IIII", n // 1000, n % 1000, length, length) + packet(n, length) for n in range(count))
-    return header + b"".join(records)
+    return header(101) + records(count, length)
+
+
+def frames(power):
+    """10^power frames of Ethernet of 74 bytes; from 10^5 on the same 10^5 again and again."""
+    piece = records(10 ** min(power, 5), 60, ETHERNET)
+    return [header(1)] + [piece] * 10 ** max(power - 5, 0)
 
 
 def ruleset():
@@ -103,17 +120,21 @@ def box_of_lines(lines):
 
 
 def write(name, content):
+    """A text, or bytes in one piece or several."""
     with open(f"{sys.argv[1]}/{name}", "w" if isinstance(content, str) else "wb") as file:
-        file.write(content)
+        for piece in content if isinstance(content, list) else [content]:
+            file.write(piece)
 
 
 def main():
-    for power in (3, 4, 5):
-        write(f"{power}.pcap", capture(10**power, 1000))
+    write("3.pcap", capture(10**3, 1000))
+    for power in (3, 5, 6, 7):
+        write(f"frames-{power}.pcap", frames(power))
     write("small.pcap", capture(10**6, 60))
     for power in (0, 4, 5):
         write(f"small-{power}.pcap", capture(10**power if power else 0, 60))
     write("empty.nft", "")
+    write("chain.nft", forward([]))
     write("rules.nft", ruleset())
     for rules in (10, 1000, 16000):
         write(f"line-{rules}.nft", rules_in_line(rules))

@@ -33,17 +33,20 @@ def main():
     program, folder = sys.argv[1], sys.argv[2]
     out = f"{folder}/out.pcap"
 
-    def run(rules, box, capture, status=0):
-        return measured([program, "run", *(f"{folder}/{name}" for name in (rules, box, capture)), out], out, status)
+    def run(rules, box, capture, status=0, flags=()):
+        return measured([program, "run", *flags, *(f"{folder}/{name}" for name in (rules, box, capture)), out], out, status)
 
-    for power in (3, 4, 5):
-        size = os.path.getsize(f"{folder}/{power}.pcap")
-        spent, memory = run("rules.nft", "box.txt", f"{power}.pcap")
-        count = 10**power
-        print(f"{count} records, {size} bytes: {spent * 1e6 / count:.3f} us and {memory / count:.0f} bytes a record; peak {memory / size:.2f} times the capture")
-    spent, _ = run("empty.nft", "box.txt", "small.pcap")
-    other, _ = measured(["tcpdump", "-r", f"{folder}/small.pcap", "-w", out], out)
-    print(f"10^6 packets of 60 bytes, empty ruleset: {spent:.3f} s; tcpdump -r -w: {other:.3f} s; {spent / other:.2f} times")
+    for power in (3, 5, 7):
+        size = os.path.getsize(f"{folder}/frames-{power}.pcap")
+        spent, memory = run("rules.nft", "box.txt", f"frames-{power}.pcap")
+        print(f"10^{power} frames, {size} bytes, 100 rules: {spent * 1e9 / 10**power:.0f} ns a record; peak {memory / 2**20:.2f} MiB")
+    plain, _ = run("rules.nft", "box.txt", "frames-6.pcap")
+    traced, _ = run("rules.nft", "box.txt", "frames-6.pcap", flags=("--trace",))
+    print(f"10^6 frames, 100 rules: {plain:.3f} s; with --trace: {traced:.3f} s; {traced / plain:.2f} times")
+    for name, text in (("frames-6", "frames of 74 bytes"), ("small", "raw packets of 60 bytes")):
+        spent, _ = run("empty.nft", "box.txt", f"{name}.pcap")
+        other, _ = measured(["tcpdump", "-r", f"{folder}/{name}.pcap", "-w", out], out)
+        print(f"10^6 {text}, empty ruleset: {spent:.3f} s; tcpdump -r -w: {other:.3f} s; {spent / other:.2f} times")
     few, _ = run("empty.nft", "two-routes.txt", "small.pcap")
     many, _ = run("empty.nft", "many-routes.txt", "small.pcap")
     print(f"a box of 2 routes: {few:.3f} s; of 1,021: {many:.3f} s; {many / few:.2f} times")
@@ -52,9 +55,10 @@ def main():
         print(f"a box file of 10^{power} lines, status {status}: {spent * 1e9 / 10**power:.0f} ns a line")
     for rules, packets, name in ((10, 10**6, "small"), (1000, 10**5, "small-5"), (1000, 10**4, "small-4"), (16000, 10**4, "small-4")):
         met, _ = run(f"line-{rules}.nft", "box.txt", f"{name}.pcap")
-        empty, _ = run("empty.nft", "box.txt", f"{name}.pcap")
+        # A chain without rules, so that meeting one isn't counted as a statement.
+        empty, _ = run("chain.nft", "box.txt", f"{name}.pcap")
         made, _ = run(f"line-{rules}.nft", "box.txt", "small-0.pcap")
-        none, _ = run("empty.nft", "box.txt", "small-0.pcap")
+        none, _ = run("chain.nft", "box.txt", "small-0.pcap")
         print(f"{packets} packets over {rules} rules: {(met - empty - made + none) * 1e9 / packets / rules:.2f} ns a statement that is met")
     one, _ = run("one.nft", "box.txt", "small.pcap")
     for name, text in (("set", "a set of 50,000 addresses"), ("verdicts", "a verdict map of 1,000 addresses")):

@@ -1,19 +1,20 @@
 -- A well-formed list of words has no fault.
-use Rattle.std.proofs.Common.{◌==◌, ◌≡◌, ◌∙◌, ◌&&◌, ◌||◌, ◌⊎◌, inl, inr, ℕ, Bool, cond, codes, true, false, not, refl, sym, ap, ap₂, subst, List, [], ◌∷◌, Some, None, true≢false}
+use Rattle.std.proofs.Common.{◌++◌, ◌==◌, ◌≡◌, ◌∙◌, ◌&&◌, ◌||◌, ◌⊎◌, inl, inr, ℕ, Bool, cond, codes, true, false, not, refl, sym, ap, ap₂, subst, List, [], ◌∷◌, Some, None, true≢false}
 use Rattle.std.specs.Prelude.{fold, option_and_then}
 use Rattle.std.specs.Option.{option_map_or}
 use Rattle.std.specs.Str.{bytes_eq}
 use Rattle.std.proofs.lemmas.Slice.Eq.{bytes_eq-Decides}
 use Rattle.clap.specs.Lexer.{long_of, long_of_rest, short_of, short_of_rest, strip_byte}
-use Rattle.clap.specs.Walk.{Held, Step, Text, Walk, after_step, arg_by_index, finished, idle, long_or_other, nothing_held, settled, short_or_plain, subcommand_or_other, to_positional, trailing, value, walked}
+use Rattle.clap.specs.Walk.{Held, Row, Step, Text, Walk, after_step, arg_by_index, finished, idle, long_or_other, nothing_held, settled, short_or_plain, subcommand_or_other, to_positional, trailing, value, walked}
 use Rattle.clap.specs.Kinds.{Kinds, or_else}
 use Rattle.clap.specs.Simple.{Shape}
 use Rattle.clap.specs.Faults.{bundle_fault, check_fault, defaults_fault, fault_of, flag_word_fault, level_fault, other_fault, settle_fault, step_fault, walk_fault}
 use Rattle.clap.proofs.OnLiterals.{clap_on_literals}
 use Rattle.clap.proofs.WalkLemmas.{both}
-use Rattle.command_line.specs.CommandLine.{is_check, is_plain_word, is_run, is_well_formed}
+use Rattle.command_line.specs.CommandLine.{are_four_paths, is_check, is_plain_word, is_run, is_well_formed}
 use Rattle.command_line.specs.steps.Program.{program_app}
-use Rattle.command_line.proofs.Reading.{check, run, standing, held1, held2, held3}
+use Rattle.command_line.proofs.Reading.{at, check, held1, run, standing}
+use Rattle.command_line.proofs.Rows.{row, told}
 
 is_false : (b : Bool) → not b ≡ true → b ≡ false
 is_false true e = absurd (true≢false (sym e))
@@ -74,14 +75,36 @@ module _ (s : Shape) where
         ap (λ (m : Held × Step). fold (walked s.rules []) (after m) rest) is,
       )
 
+-- what is held after each path, behind these rows
+abbrev rules_held : List Row → Text → Held
+rules_held before a = at before (Some (codes "rules", a ∷ []))
+
+abbrev plant_held : List Row → Text → Text → Held
+plant_held before a b = at (before ++ row (codes "rules") a ∷ []) (Some (codes "plant", b ∷ []))
+
+abbrev input_held : List Row → Text → Text → Text → Held
+input_held before a b c = at (before ++ row (codes "rules") a ∷ row (codes "plant") b ∷ []) (Some (codes "input", c ∷ []))
+
 four_plain : (a b c d : Text) → is_plain_word a ≡ true → is_plain_word b ≡ true → is_plain_word c ≡ true → is_plain_word d ≡ true
     → level_fault run [] nothing_held (a ∷ b ∷ c ∷ d ∷ []) false [] ≡ []
 unfolding clap_on_literals
 four_plain a b c d pa pb pc pd =
-    let one = plain_turn run 1 a nothing_held (b ∷ c ∷ d ∷ []) pa in
-    let two = plain_turn run 2 b (held1 a) (c ∷ d ∷ []) pb in
-    let three = plain_turn run 3 c (held2 a b) (d ∷ []) pc in
-    let four = plain_turn run 4 d (held3 a b c) [] pd in
+    let one = plain_turn run 1 a (nothing_held) (b ∷ c ∷ d ∷ []) pa in
+    let two = plain_turn run 2 b (rules_held [] a) (c ∷ d ∷ []) pb in
+    let three = plain_turn run 3 c (plant_held [] a b) (d ∷ []) pc in
+    let four = plain_turn run 4 d (input_held [] a b c) [] pd in
+    let ended : Kinds → Walk → Kinds = λ k w. or_else k (or_else (settle_fault run.rules run.args_override_self w.held)
+    (or_else (defaults_fault (settled run.rules w.held).rows run.rules) (check_fault run (finished run.rules w.held) false))) in
+    ap₂ ended (one.0 ∙ two.0 ∙ three.0 ∙ four.0) (one.1 ∙ two.1 ∙ three.1 ∙ four.1)
+
+traced_plain : (a b c d : Text) → is_plain_word a ≡ true → is_plain_word b ≡ true → is_plain_word c ≡ true → is_plain_word d ≡ true
+    → level_fault run [] nothing_held (codes "--trace" ∷ a ∷ b ∷ c ∷ d ∷ []) false [] ≡ []
+unfolding clap_on_literals
+traced_plain a b c d pa pb pc pd =
+    let one = plain_turn run 1 a (at (told ∷ []) None) (b ∷ c ∷ d ∷ []) pa in
+    let two = plain_turn run 2 b (rules_held (told ∷ []) a) (c ∷ d ∷ []) pb in
+    let three = plain_turn run 3 c (plant_held (told ∷ []) a b) (d ∷ []) pc in
+    let four = plain_turn run 4 d (input_held (told ∷ []) a b c) [] pd in
     let ended : Kinds → Walk → Kinds = λ k w. or_else k (or_else (settle_fault run.rules run.args_override_self w.held)
     (or_else (defaults_fault (settled run.rules w.held).rows run.rules) (check_fault run (finished run.rules w.held) false))) in
     ap₂ ended (one.0 ∙ two.0 ∙ three.0 ∙ four.0) (one.1 ∙ two.1 ∙ three.1 ∙ four.1)
@@ -95,18 +118,31 @@ two_plain a b pa pb =
     (or_else (defaults_fault (settled check.rules w.held).rows check.rules) (check_fault check (finished check.rules w.held) false))) in
     ap₂ ended (one.0 ∙ two.0) (one.1 ∙ two.1)
 
-run_passes : (program : Text) (rest : List Text) → is_run rest ≡ true → fault_of program_app (program ∷ codes "run" ∷ rest) ≡ []
+paths_pass : (program : Text) (rest : List Text) → are_four_paths rest ≡ true → fault_of program_app (program ∷ codes "run" ∷ rest) ≡ []
 unfolding clap_on_literals
-run_passes program (a ∷ b ∷ c ∷ d ∷ []) e =
+paths_pass program (a ∷ b ∷ c ∷ d ∷ []) e =
     let p = both (is_plain_word a) _ e in
     let q = both (is_plain_word b) _ p.1 in
     let r = both (is_plain_word c) _ q.1 in
     let s = both (is_plain_word d) _ r.1 in
     ap (λ k. or_else k []) (four_plain a b c d p.0 q.0 r.0 s.0)
-run_passes program (dashes ∷ a ∷ b ∷ c ∷ d ∷ []) e =
+paths_pass program (dashes ∷ a ∷ b ∷ c ∷ d ∷ []) e =
     let plain : fault_of program_app (program ∷ codes "run" ∷ codes "--" ∷ a ∷ b ∷ c ∷ d ∷ []) ≡ [] = refl in
     subst (λ (t : Text). fault_of program_app (program ∷ codes "run" ∷ t ∷ a ∷ b ∷ c ∷ d ∷ []) ≡ []) (sym ((bytes_eq-Decides dashes (codes "--")).0 e)) plain
-run_passes program _ e = absurd (true≢false (sym e))
+paths_pass program _ e = absurd (true≢false (sym e))
+
+traced_passes : (program : Text) (rest : List Text) → are_four_paths rest ≡ true → fault_of program_app (program ∷ codes "run" ∷ codes "--trace" ∷ rest) ≡ []
+unfolding clap_on_literals
+traced_passes program (a ∷ b ∷ c ∷ d ∷ []) e =
+    let p = both (is_plain_word a) _ e in
+    let q = both (is_plain_word b) _ p.1 in
+    let r = both (is_plain_word c) _ q.1 in
+    let s = both (is_plain_word d) _ r.1 in
+    ap (λ k. or_else k []) (traced_plain a b c d p.0 q.0 r.0 s.0)
+traced_passes program (dashes ∷ a ∷ b ∷ c ∷ d ∷ []) e =
+    let plain : fault_of program_app (program ∷ codes "run" ∷ codes "--trace" ∷ codes "--" ∷ a ∷ b ∷ c ∷ d ∷ []) ≡ [] = refl in
+    subst (λ (t : Text). fault_of program_app (program ∷ codes "run" ∷ codes "--trace" ∷ t ∷ a ∷ b ∷ c ∷ d ∷ []) ≡ []) (sym ((bytes_eq-Decides dashes (codes "--")).0 e)) plain
+traced_passes program _ e = absurd (true≢false (sym e))
 
 check_passes : (program : Text) (rest : List Text) → is_check rest ≡ true → fault_of program_app (program ∷ codes "check" ∷ rest) ≡ []
 unfolding clap_on_literals
@@ -121,6 +157,15 @@ check_passes program _ e = absurd (true≢false (sym e))
 either : (a b : Bool) → (a || b) ≡ true → (a ≡ true) ⊎ (b ≡ true)
 either true b e = inl refl
 either false b e = inr e
+
+run_passes : (program : Text) (rest : List Text) → is_run rest ≡ true → fault_of program_app (program ∷ codes "run" ∷ rest) ≡ []
+run_passes program [] e = absurd (true≢false (sym e))
+run_passes program (word ∷ rest) e = elim (either (bytes_eq word (codes "--trace") && are_four_paths rest) (are_four_paths (word ∷ rest)) e) [
+  | inl traced ↦
+      let p = both (bytes_eq word (codes "--trace")) (are_four_paths rest) traced in
+      subst (λ (t : Text). fault_of program_app (program ∷ codes "run" ∷ t ∷ rest) ≡ []) (sym ((bytes_eq-Decides word (codes "--trace")).0 p.0)) (traced_passes program rest p.1)
+  | inr plain ↦ paths_pass program (word ∷ rest) plain
+]
 
 pub words_pass : (words : List Text) → is_well_formed words ≡ true → fault_of program_app words ≡ []
 words_pass [] e = absurd (true≢false (sym e))

@@ -13,13 +13,25 @@ abbrev pub operands : List Text → List Text
 operands [] = []
 operands (word ∷ rest) = if bytes_eq word (codes "--") then rest else word ∷ operands rest
 
+-- the words after `run` have the flag: `--trace` stands before any `--`
+abbrev pub has_trace : List Text → Bool
+has_trace [] = false
+has_trace (word ∷ rest) =
+    if bytes_eq word (codes "--") then false else (bytes_eq word (codes "--trace") || has_trace rest)
+
+-- the words after `run` without the flag: without the first `--trace` before any `--`
+abbrev pub without_trace : List Text → List Text
+without_trace [] = []
+without_trace (word ∷ rest) = if bytes_eq word (codes "--") then word ∷ rest
+    else (if bytes_eq word (codes "--trace") then rest else word ∷ without_trace rest)
+
 abbrev pub texts_of : Paths → List Text
 texts_of p = p.rules.now ∷ p.plant.now ∷ p.input.now ∷ p.output.now ∷ []
 
--- the words ask for this task: they are the program's name, and `run` and the four paths, or `check` and the two
+-- the words ask for this task: they are the program's name, and `run`, the flag where the run is traced, and the four paths, or `check` and the two
 abbrev pub Asks : List Text → Task → Type 0
-Asks (program ∷ name ∷ rest) (Run paths) =
-    (name ≡ codes "run") × (operands rest ≡ texts_of paths)
+Asks (program ∷ name ∷ rest) (Run task) =
+    (name ≡ codes "run") × (task.trace ≡ has_trace rest) × (operands (without_trace rest) ≡ texts_of task.paths)
 Asks (program ∷ name ∷ rest) (Check texts) =
     (name ≡ codes "check") × (operands rest ≡ texts.rules.now ∷ texts.plant.now ∷ [])
 Asks _ _ = ⊥
@@ -29,11 +41,16 @@ abbrev pub is_plain_word : Text → Bool
 is_plain_word (c ∷ x ∷ rest) = not (c == 45)
 is_plain_word _ = true
 
--- `run` and four paths, where each path is plain or they all stand after `--`
+-- four paths, where each is plain or they all stand after `--`
+abbrev pub are_four_paths : List Text → Bool
+are_four_paths (a ∷ b ∷ c ∷ d ∷ []) = list_all is_plain_word (a ∷ b ∷ c ∷ d ∷ [])
+are_four_paths (dashes ∷ a ∷ b ∷ c ∷ d ∷ []) = bytes_eq dashes (codes "--")
+are_four_paths _ = false
+
+-- `run` and four paths, with `--trace` before them or without it
 abbrev pub is_run : List Text → Bool
-is_run (a ∷ b ∷ c ∷ d ∷ []) = list_all is_plain_word (a ∷ b ∷ c ∷ d ∷ [])
-is_run (dashes ∷ a ∷ b ∷ c ∷ d ∷ []) = bytes_eq dashes (codes "--")
-is_run _ = false
+is_run (word ∷ rest) = bytes_eq word (codes "--trace") && are_four_paths rest || are_four_paths (word ∷ rest)
+is_run [] = false
 
 -- `check` and two paths, where each path is plain or both stand after `--`
 abbrev pub is_check : List Text → Bool

@@ -4,19 +4,27 @@ ghost use Rattle.std.specs.Option.{IsSome};
 ghost use Rattle.clap.specs.Words.{app_of, first_value, found_of, kind_of, rule_of, shape_of};
 ghost use Rattle.clap.specs.declared.builder.command.Command.TheViews.{out-Command};
 ghost use Rattle.command_line.specs.CommandLine.{Asks, is_well_formed};
-ghost use Rattle.command_line.specs.steps.Program.{check_shape, path_rule, program_app, run_shape};
+ghost use Rattle.command_line.specs.steps.Program.{check_shape, path_rule, paths_shape, program_app, run_shape, trace_rule};
 
 use clap::error::ErrorKind;
-use clap::{Arg, ArgMatches, Command, Error};
+use clap::{Arg, ArgAction, ArgMatches, Command, Error};
 use std::alloc::{AllocError, Global};
 
 /// What the words ask for.
 #[derive(Clone, Copy)]
 pub enum Task<'a> {
-    /// `run RULES BOX IN OUT`: replay a capture through a ruleset.
-    Run(Paths<'a>),
+    /// `run [--trace] RULES BOX IN OUT`: replay a capture through a ruleset.
+    Run(ReplayTask<'a>),
     /// `check RULES BOX`: judge a ruleset before it is loaded.
     Check(Texts<'a>),
+}
+
+/// A run, as the words ask for it.
+#[derive(Clone, Copy)]
+pub struct ReplayTask<'a> {
+    /// Whether the report tells each decision.
+    pub trace: bool,
+    pub paths: Paths<'a>,
 }
 
 /// The paths of a run, as the words give them.
@@ -45,7 +53,8 @@ pub struct Texts<'a> {
 ///
 /// The other words are `run` and four paths, in the order RULES, BOX, IN, OUT, or `check` and two,
 /// in the order RULES, BOX. A path that begins with a hyphen stands after a word `--`, which is no
-/// path itself; `-` alone is a path.
+/// path itself; `-` alone is a path. The words of a run may have `--trace` once, at any place before
+/// the first `--`; behind it `--trace` is a path.
 ///
 /// # Errors
 /// `clap`'s, whose `exit_code` is 0 where the words ask for help, and 2 where they are no task.
@@ -62,11 +71,14 @@ pub fn read_task<'a>(alloc: Global, words: &'a [&'a str]) -> Result<Task<'a>, Er
             plant: value_of(given, "plant"),
         }));
     }
-    Ok(Task::Run(Paths {
-        rules: value_of(given, "rules"),
-        plant: value_of(given, "plant"),
-        input: value_of(given, "input"),
-        output: value_of(given, "output"),
+    Ok(Task::Run(ReplayTask {
+        trace: given.get_flag("trace"),
+        paths: Paths {
+            rules: value_of(given, "rules"),
+            plant: value_of(given, "plant"),
+            input: value_of(given, "input"),
+            output: value_of(given, "output"),
+        },
     }))
 }
 
@@ -90,6 +102,13 @@ fn program<'a>(alloc: Global) -> Result<Command<'a>, AllocError>
 
 fn run<'a>(alloc: Global) -> Result<Command<'a>, AllocError>
     ensures shape { IfOk result (λ c. shape_of c ≡ run_shape) }
+    ensures local { IfOk result (λ c. (out-Command c).has_globals ≡ false) }
+{
+    run_on_paths(alloc)?.arg(trace(alloc))
+}
+
+fn run_on_paths<'a>(alloc: Global) -> Result<Command<'a>, AllocError>
+    ensures shape { IfOk result (λ c. shape_of c ≡ paths_shape) }
     ensures local { IfOk result (λ c. (out-Command c).has_globals ≡ false) }
 {
     let input = path(alloc, "input", "IN", "The capture to read");
@@ -124,6 +143,16 @@ fn plant<'a>(alloc: Global) -> Arg<'a>
     ensures local { result.global ≡ false }
 {
     path(alloc, "plant", "BOX", "The file of the box")
+}
+
+fn trace<'a>(alloc: Global) -> Arg<'a>
+    ensures rule { rule_of result ≡ trace_rule }
+    ensures local { result.global ≡ false }
+{
+    Arg::new(alloc, "trace")
+        .long("trace")
+        .help("Tells each decision of a rule, each policy and how each record ends")
+        .action(ArgAction::SetTrue)
 }
 
 // A required argument that stands for one path.

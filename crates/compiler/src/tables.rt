@@ -9,7 +9,7 @@ ghost use Rattle.compiler.specs.steps.Adding.{AreTableCodes};
 
 use crate::rules::{add_rules, short};
 use box_file::Plant;
-use filter_vm::TableCode;
+use filter_vm::{Steps, TableCode};
 use lowering::declared;
 use rule_meaning::ChainNo;
 use rule_names::TableNames;
@@ -27,7 +27,7 @@ fn table_code(
     ensures { IfOk result (λ code. IsTableCode plant.now table names.now code) }
 {
     let mut code = TableCode {
-        steps: Vec::new(alloc),
+        steps: Steps::new(alloc),
         places: Vec::new(alloc),
         lookups: declared(alloc, plant, names)?,
     };
@@ -37,7 +37,7 @@ fn table_code(
             table,
             chain: short(code.places.len())?,
         };
-        code.places.push(code.steps.len())?;
+        code.places.push(code.steps.list().len())?;
         add_rules(alloc, plant, names, number, &chain.rules, &mut code)?;
         rest = others;
     }

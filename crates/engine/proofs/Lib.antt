@@ -1,9 +1,9 @@
 mod Writes
 mod Stories
+mod Telling
 mod Replays
-mod Stops
 mod Texts
-mod Meanings
 mod Refusing
 mod Answering
 mod Misjudging
+mod Meanings

@@ -1,14 +1,15 @@
 -- A run, from what its parts did.
-use Rattle.std.proofs.Common.{◌≡◌, ◌≢◌, ◌⊎◌, ℕ, true, false, Bool, List, [], drop, length, Option, Some, None, IfSome, Result, Ok, Err, IfOk, IfErr, refl, sym, ap, subst, ◌∙◌, inl, inr}
-use Rattle.std.specs.Io.KnownBytes.{Keeps}
-use Rattle.std.proofs.KnownBytes.{Appends-kept, Appends-nil}
+use Rattle.std.proofs.Common.{◌≡◌, ◌≢◌, ◌<◌, ◌≤◌, ◌++◌, ◌⊎◌, ℕ, true, false, Bool, List, [], take, drop, length, Option, Some, None, IfSome, Result, Ok, Err, IfOk, IfErr, refl, sym, ap, subst, ◌∙◌, inl, inr, arith, append_assoc, take-append-drop, length-take-le}
+use Rattle.std.specs.List.{flat_map}
+use Rattle.std.specs.Io.KnownBytes.{Consumes}
+use Rattle.std.proofs.Math.Seq.{drop-append_seam}
 use Rattle.nft_tree.specs.Tree.{TableTree}
 use Rattle.nft_parser.specs.Spells.{Spells}
 use Rattle.box_file.specs.Box.{PlantTree, IsBox}
 use Rattle.pcap_io.specs.declared.format.Format.{Format}
 use Rattle.pcap_io.specs.declared.fault.CaptureFault.TheVariants as captures
-use Rattle.pcap_io.specs.Pcap.{Captured, Pcap, Ending, format_of, told, HEADER_BYTES}
-use Rattle.pcap_io.specs.Counting.{AppendsPart}
+use Rattle.pcap_io.specs.Pcap.{Captured, Pcap, Ending, Ends, format_of, frame, told, HEADER_BYTES}
+use Rattle.pcap_io.specs.Counting.{one_more}
 use Rattle.story.specs.Story.{Entry, capture_text}
 use Rattle.report.specs.Report.{report_text}
 use Rattle.rule_check.specs.Checked.{CheckedTree}
@@ -18,9 +19,10 @@ use Rattle.engine.specs.declared.fault.RunFault.{RunFault}
 use Rattle.engine.specs.declared.fault.RunFault.TheVariants.{Rules, Box, Capture, Device, Memory}
 use Rattle.engine.specs.Meaning.{Accepted, ending_of, Meaning, Wrote}
 use Rattle.engine.specs.Refusals.{Refuses, IsEarly, IsOfTexts}
-use Rattle.engine.specs.Left.{Outputs, Began, Left, Untouched}
+use Rattle.engine.specs.Left.{Began, CutOff, Devices, Left, Untouched}
 use Rattle.engine.specs.steps.Inputs.{IsOfInputs, Takes}
-use Rattle.engine.specs.steps.Written.{Told, Held, Halted, Untold, SaysWithin, IsWithin}
+use Rattle.engine.specs.steps.Replayed.{Cut, Follows, Halted, Start}
+use Rattle.engine.specs.steps.Written.{Told, Held, SaysWithin, IsWithin, start_of}
 use Rattle.engine.proofs.Stories.{OneEntry, one_story}
 
 -- ---- what follows under a result
@@ -96,97 +98,166 @@ one_meaning_of one rules box capture trace count others torn sign sent other_sen
 
 -- the bytes after the header of an accepted input are to come
 abbrev pub Opened : Option (List ℕ) → Option (List ℕ) → Format → Type 0
-Opened input ahead format = IfSome input (λ bytes. (format_of bytes ≡ Ok format) × (ahead ≡ Some (drop HEADER_BYTES bytes)))
+Opened input ahead format = IfSome input (λ bytes. (HEADER_BYTES ≤ length bytes) × (format_of bytes ≡ Ok format) × (ahead ≡ Some (drop HEADER_BYTES bytes)))
 
 known : (ahead : Option (List ℕ)) (rest : List ℕ) (P : List ℕ → Type 0) → ahead ≡ Some rest → IfSome ahead P → P rest
 known ahead rest P e h = let Q : Option (List ℕ) → Type 0 = λ o. IfSome o P in subst Q e h
 
-pub wrote : Single → (rules box : List ℕ) (trace : Bool) (accepted : Accepted rules box) (format : Format) (input ahead old new old_report new_report : Option (List ℕ)) (count : ℕ) (torn : Bool)
-    → Opened input ahead format → IfSome ahead (λ bytes. Told accepted.setup format bytes count torn old new old_report new_report)
-    → IfSome input (λ bytes. Wrote rules box bytes trace count torn old new old_report new_report)
-wrote one rules box trace accepted format None ahead old new old_report new_report count torn opened done = tt
-wrote one rules box trace accepted format (Some bytes) ahead old new old_report new_report count torn opened done =
-    let t : Told accepted.setup format (drop HEADER_BYTES bytes) count torn old new old_report new_report =
-    known ahead (drop HEADER_BYTES bytes) (λ bytes. Told accepted.setup format bytes count torn old new old_report new_report) opened.1 done in
-    let read : Pcap bytes t.records (ending_of torn) = record { format = format; accepted = opened.0; rest = t.rest; whole = t.joined; each = t.each; not_over = t.not_over; ends = t.ends } in
-    let meaning : Meaning rules box bytes trace count torn (capture_text t.story) (report_text accepted.setup.rules trace t.story torn) =
-    record { accepted = accepted; records = t.records; read = read; counted = t.counted; story = t.story; grows = t.grows; captured = refl; reported = refl } in
+-- the reading of a capture whose header is accepted
+reading : (setup : Setup) (format : Format) (bytes rest : List ℕ) (story : List Entry) (ending : Ending) (f : Follows setup format (drop HEADER_BYTES bytes) rest story) → format_of bytes ≡ Ok format
+    → Ends format ending (length f.records) rest → Pcap bytes f.records ending
+reading setup format bytes rest story ending f header ends = record { format = format; accepted = header; rest = rest; whole = f.joined; each = f.each; not_over = f.not_over; ends = ends }
+
+pub wrote : Single → (rules box : List ℕ) (accepted : Accepted rules box) (start : Start) (format : Format) (input ahead w r : Option (List ℕ)) (count : ℕ) (torn : Bool) → start.setup ≡ accepted.setup
+    → Opened input ahead format → IfSome ahead (λ bytes. Told start format bytes count torn w r)
+    → IfSome input (λ bytes. Wrote rules box bytes start.trace count torn start.sent w start.report r)
+unfolding reading
+wrote one rules box accepted start format None ahead w r count torn same opened done = tt
+wrote one rules box accepted start format (Some bytes) ahead w r count torn same opened done =
+    let t : Told start format (drop HEADER_BYTES bytes) count torn w r = known ahead (drop HEADER_BYTES bytes) (λ bytes. Told start format bytes count torn w r) opened.2 done in
+    let meaning : Meaning rules box bytes start.trace count torn (capture_text t.story) (report_text start.setup.rules start.trace t.story torn) =
+    record {
+      accepted = accepted;
+      records = t.follows.records;
+      read = reading start.setup format bytes t.rest t.story (ending_of torn) t.follows opened.1 t.ends;
+      counted = t.counted;
+      story = t.story;
+      grows = subst (λ (s : Setup). Grows s [] (told format t.follows.records) t.story) same t.follows.grows;
+      captured = refl;
+      reported = ap (λ (s : Setup). report_text s.rules start.trace t.story torn) same;
+    } in
     record {
       sent = capture_text t.story;
-      report = report_text accepted.setup.rules trace t.story torn;
+      report = report_text start.setup.rules start.trace t.story torn;
       meaning = meaning;
-      only = λ others sign other_sent other_report m. one_meaning_of one rules box bytes trace others count sign torn other_sent _ other_report _ m meaning;
-      appends = t.appends;
-      tells = t.tells;
+      only = λ others sign other_sent other_report m. one_meaning_of one rules box bytes start.trace others count sign torn other_sent _ other_report _ m meaning;
+      appends = t.finished.all_sent;
+      tells = t.finished.all_lines;
     }
 
 -- a fault within the records is a refusal of the capture, or none
-pub refuses_within : (rules box : List ℕ) (accepted : Accepted rules box) (format : Format) (input ahead : Option (List ℕ)) (old new : Outputs) (fault : RunFault) → Opened input ahead format → IsWithin fault
-    → IfSome ahead (λ bytes. SaysWithin accepted.setup format bytes old new fault) → Refuses rules box input fault
-refuses_within rules box accepted format None ahead old new (Capture fault) opened within says = (accepted, tt)
-refuses_within rules box accepted format (Some bytes) ahead old new (Capture fault) opened within says =
-    let h : Held accepted.setup format (drop HEADER_BYTES bytes) fault old new = known ahead (drop HEADER_BYTES bytes) (λ bytes. Held accepted.setup format bytes fault old new) opened.1 says in
-    (accepted, inr (h.records, h.ending, record { format = format; accepted = opened.0; rest = h.rest; whole = h.joined; each = h.each; not_over = h.not_over; ends = h.ends }, h.refused))
-refuses_within rules box accepted format input ahead old new (Rules fault) opened within says = absurd within
-refuses_within rules box accepted format input ahead old new (Box fault) opened within says = absurd within
-refuses_within rules box accepted format input ahead old new Device opened within says = tt
-refuses_within rules box accepted format input ahead old new Memory opened within says = tt
+pub refuses_within : (rules box : List ℕ) (accepted : Accepted rules box) (setup : Setup) (trace : Bool) (format : Format) (input ahead : Option (List ℕ)) (old new : Devices) (fault : RunFault) → Opened input ahead format → IsWithin fault
+    → IfSome ahead (λ bytes. SaysWithin setup trace format bytes old new fault) → Refuses rules box input fault
+refuses_within rules box accepted setup trace format None ahead old new (Capture fault) opened within says = (accepted, tt)
+refuses_within rules box accepted setup trace format (Some bytes) ahead old new (Capture fault) opened within says =
+    let h : Held (start_of setup trace old) format (drop HEADER_BYTES bytes) fault new.sent new.report =
+    known ahead (drop HEADER_BYTES bytes) (λ bytes. Held (start_of setup trace old) format bytes fault new.sent new.report) opened.2 says in
+    (accepted, inr (h.follows.records, h.ending, reading setup format bytes h.rest h.story h.ending h.follows opened.1 h.ends, h.refused))
+refuses_within rules box accepted setup trace format input ahead old new (Rules fault) opened within says = absurd within
+refuses_within rules box accepted setup trace format input ahead old new (Box fault) opened within says = absurd within
+refuses_within rules box accepted setup trace format input ahead old new Device opened within says = tt
+refuses_within rules box accepted setup trace format input ahead old new Memory opened within says = tt
 
--- a report that was kept got a beginning of its lines
-kept_part : (a b : Option (List ℕ)) → Keeps a b → AppendsPart a b []
-kept_part a b kept = ([], [], refl, Appends-kept a a b [] (Appends-nil a) kept)
+-- ---- what is left
 
-began : (rules box bytes : List ℕ) (trace : Bool) (accepted : Accepted rules box) (format : Format) (old new : Outputs) → format_of bytes ≡ Ok format
-    → Halted accepted.setup format (drop HEADER_BYTES bytes) old new → Began rules box bytes trace old new
-began rules box bytes trace accepted format old new header h =
+began : (rules box bytes : List ℕ) (trace : Bool) (accepted : Accepted rules box) (format : Format) (old new : Devices) → format_of bytes ≡ Ok format
+    → Halted (start_of accepted.setup trace old) format (drop HEADER_BYTES bytes) new.sent new.report → new.reads_failed ≡ old.reads_failed → Began rules box bytes trace old new
+began rules box bytes trace accepted format old new header h calm =
     record {
       accepted = accepted;
-      records = h.records;
-      begins = record { format = format; accepted = header; more = h.more; joined = h.joined; each = h.each; not_over = h.not_over };
+      records = h.follows.records;
+      begins = record { format = format; accepted = header; more = h.rest; joined = h.follows.joined; each = h.follows.each; not_over = h.follows.not_over };
       story = h.story;
-      grows = h.grows;
-      sent = h.sent;
-      report = kept_part old.report new.report h.report;
+      grows = h.follows.grows;
+      sent = h.part.part_sent;
+      report = h.part.part_lines;
+      all_read = calm;
     }
 
--- and the writers hold what it leaves
-pub left_within : (rules box : List ℕ) (trace : Bool) (accepted : Accepted rules box) (format : Format) (input ahead : Option (List ℕ)) (old new : Outputs) (fault : RunFault) → Opened input ahead format → IsWithin fault
-    → IfSome ahead (λ bytes. SaysWithin accepted.setup format bytes old new fault) → IfSome input (λ bytes. Left rules box bytes trace old new fault)
-left_within rules box trace accepted format None ahead old new fault opened within says = tt
-left_within rules box trace accepted format (Some bytes) ahead old new (Rules fault) opened within says = absurd within
-left_within rules box trace accepted format (Some bytes) ahead old new (Box fault) opened within says = absurd within
-left_within rules box trace accepted format (Some bytes) ahead old new (Capture fault) opened within says =
-    let h : Held accepted.setup format (drop HEADER_BYTES bytes) fault old new = known ahead (drop HEADER_BYTES bytes) (λ bytes. Held accepted.setup format bytes fault old new) opened.1 says in
+-- the header of a file alone tells its format
+abbrev pub HeaderAlone : Type 0
+HeaderAlone = (bytes more : List ℕ) → HEADER_BYTES ≤ length bytes → format_of (bytes ++ more) ≡ format_of bytes
+
+drop_front : (front rest : List ℕ) (n : ℕ) → length front ≡ n → drop n (front ++ rest) ≡ rest
+drop_front front rest n e = subst (λ (k : ℕ). drop k (front ++ rest) ≡ rest) e (drop-append_seam front rest)
+
+-- what was read before a read that failed
+cut_off : HeaderAlone → (rules box bytes : List ℕ) (trace : Bool) (accepted : Accepted rules box) (format : Format) (old new : Devices) → HEADER_BYTES ≤ length bytes → format_of bytes ≡ Ok format
+    → Cut (start_of accepted.setup trace old) format (drop HEADER_BYTES bytes) new.unread new.sent new.report → new.reads_failed ≡ one_more old.reads_failed → CutOff rules box bytes trace old new
+cut_off alone rules box bytes trace accepted format old new long header c failed =
+    let front : List ℕ = take HEADER_BYTES bytes in
+    let records : List ℕ = flat_map frame c.follows.records in
+    let whole : bytes ≡ front ++ drop HEADER_BYTES bytes = sym (take-append-drop HEADER_BYTES bytes) in
+    let long_front : length front ≡ HEADER_BYTES = length-take-le HEADER_BYTES bytes long in
+    let enough : HEADER_BYTES ≤ length front = omega (arith, long_front) in
+    let same : format_of (front ++ (records ++ c.held)) ≡ format_of bytes =
+    alone front (records ++ c.held) enough ∙ sym (alone front (drop HEADER_BYTES bytes) enough) ∙ ap format_of (sym whole) in
+    record {
+      accepted = accepted;
+      part = front ++ (records ++ c.held);
+      left = c.left;
+      unread = c.is_left;
+      joined = whole ∙ ap (λ xs. front ++ xs) (c.follows.joined ∙ sym (append_assoc records c.held c.left)) ∙ sym (append_assoc front (records ++ c.held) c.left);
+      records = c.follows.records;
+      torn = c.torn;
+      read = record {
+        format = format;
+        accepted = same ∙ header;
+        rest = c.held;
+        whole = drop_front front (records ++ c.held) HEADER_BYTES long_front;
+        each = c.follows.each;
+        not_over = c.follows.not_over;
+        ends = c.ends;
+      };
+      story = c.story;
+      grows = c.follows.grows;
+      sent = c.all.all_sent;
+      report = c.all.all_lines;
+      failed = failed;
+    }
+
+pub left_within : HeaderAlone → (rules box : List ℕ) (trace : Bool) (accepted : Accepted rules box) (format : Format) (input ahead : Option (List ℕ)) (old new : Devices) (fault : RunFault) → Opened input ahead format → IsWithin fault
+    → IfSome ahead (λ bytes. SaysWithin accepted.setup trace format bytes old new fault) → IfSome input (λ bytes. Left rules box bytes trace old new fault)
+unfolding reading
+left_within alone rules box trace accepted format None ahead old new fault opened within says = tt
+left_within alone rules box trace accepted format (Some bytes) ahead old new (Rules fault) opened within says = absurd within
+left_within alone rules box trace accepted format (Some bytes) ahead old new (Box fault) opened within says = absurd within
+left_within alone rules box trace accepted format (Some bytes) ahead old new (Capture fault) opened within says =
+    let h : Held (start_of accepted.setup trace old) format (drop HEADER_BYTES bytes) fault new.sent new.report =
+    known ahead (drop HEADER_BYTES bytes) (λ bytes. Held (start_of accepted.setup trace old) format bytes fault new.sent new.report) opened.2 says in
     inr (record {
       accepted = accepted;
-      records = h.records;
+      records = h.follows.records;
       ending = h.ending;
-      read = record { format = format; accepted = opened.0; rest = h.rest; whole = h.joined; each = h.each; not_over = h.not_over; ends = h.ends };
+      read = reading accepted.setup format bytes h.rest h.story h.ending h.follows opened.1 h.ends;
       refused = h.refused;
       story = h.story;
-      grows = h.grows;
-      sent = h.sent;
-      report = kept_part old.report new.report h.report;
+      grows = h.follows.grows;
+      sent = h.all.all_sent;
+      report = h.all.all_lines;
     })
-left_within rules box trace accepted format (Some bytes) ahead old new Device opened within says =
-    by_device (known ahead (drop HEADER_BYTES bytes) (λ bytes. Halted accepted.setup format bytes old new ⊎ Untold accepted.setup format bytes old new) opened.1 says)
+left_within alone rules box trace accepted format (Some bytes) ahead old new Device opened within says =
+    by_device (known ahead (drop HEADER_BYTES bytes) (λ bytes. SaysWithin accepted.setup trace format bytes old new Device) opened.2 says)
   where
-    by_device : Halted accepted.setup format (drop HEADER_BYTES bytes) old new ⊎ Untold accepted.setup format (drop HEADER_BYTES bytes) old new → Left rules box bytes trace old new Device
-    by_device (inl h) = inr (inl (began rules box bytes trace accepted format old new opened.0 h))
-    by_device (inr u) =
-        inr (inr (record {
+    by_device : SaysWithin accepted.setup trace format (drop HEADER_BYTES bytes) old new Device → Left rules box bytes trace old new Device
+    by_device (inl (inl (c, failed))) = inr (inl (cut_off alone rules box bytes trace accepted format old new opened.0 opened.1 c failed))
+    by_device (inl (inr (h, calm))) = inr (inr (inl (began rules box bytes trace accepted format old new opened.1 h calm)))
+    by_device (inr (u, failed)) =
+        inr (inr (inr (record {
           accepted = accepted;
-          records = u.records;
+          records = u.follows.records;
           torn = u.torn;
-          read = record { format = format; accepted = opened.0; rest = u.rest; whole = u.joined; each = u.each; not_over = u.not_over; ends = u.ends };
+          read = reading accepted.setup format bytes u.rest u.story (ending_of u.torn) u.follows opened.1 u.ends;
           story = u.story;
-          grows = u.grows;
-          sent = u.sent;
-          report = u.report;
-          failed = u.failed;
-        }))
-left_within rules box trace accepted format (Some bytes) ahead old new Memory opened within says =
-    inr (began rules box bytes trace accepted format old new opened.0 (known ahead (drop HEADER_BYTES bytes) (λ bytes. Halted accepted.setup format bytes old new) opened.1 says))
+          grows = u.follows.grows;
+          sent = u.unfinished.all_sent;
+          report = u.unfinished.part_lines;
+          failed = failed;
+        })))
+left_within alone rules box trace accepted format (Some bytes) ahead old new Memory opened within says =
+    let h : Halted (start_of accepted.setup trace old) format (drop HEADER_BYTES bytes) new.sent new.report × (new.reads_failed ≡ old.reads_failed) =
+    known ahead (drop HEADER_BYTES bytes) (λ bytes. SaysWithin accepted.setup trace format bytes old new Memory) opened.2 says in
+    inr (began rules box bytes trace accepted format old new opened.1 h.0 h.1)
+
+-- a read failed before the header was there
+pub left_unopened : (rules box : List ℕ) (trace : Bool) (input : Option (List ℕ)) (old new : Devices) (part : List ℕ) → Consumes input new.unread part → length part < HEADER_BYTES → Untouched old new
+    → new.reads_failed ≡ one_more old.reads_failed → IfSome input (λ bytes. Left rules box bytes trace old new Device)
+left_unopened rules box trace None old new part consumes short kept failed = tt
+left_unopened rules box trace (Some bytes) old new part consumes short kept failed = by_rest new.unread refl consumes
+  where
+    by_rest : (rest : Option (List ℕ)) → new.unread ≡ rest → Consumes (Some bytes) rest part → Left rules box bytes trace old new Device
+    by_rest None e h = absurd h
+    by_rest (Some left) e h = inl (record { part = part; left = left; unread = e; joined = h; short = short; untouched = kept; failed = failed })
 
 -- and it wasn't told early
 pub not_early : (fault : RunFault) (P : Type 0) → IsWithin fault → IsEarly fault → P
@@ -215,7 +286,7 @@ nothing None P h = tt
 nothing (Some bytes) P h = h bytes
 
 -- nothing was written yet
-pub left_of_texts : (rules box bytes : List ℕ) (trace : Bool) (old new : Outputs) (fault : RunFault) → Untouched old new → IsOfInputs fault → Left rules box bytes trace old new fault
+pub left_of_texts : (rules box bytes : List ℕ) (trace : Bool) (old new : Devices) (fault : RunFault) → Untouched old new → IsOfInputs fault → Left rules box bytes trace old new fault
 left_of_texts rules box bytes trace old new (Rules fault) kept of = kept
 left_of_texts rules box bytes trace old new (Box fault) kept of = kept
 left_of_texts rules box bytes trace old new Memory kept of = inl kept
@@ -236,24 +307,44 @@ of_inputs Device of e = absurd of
 same_as : (rules box : List ℕ) (checked : CheckedTree) (setup : Setup) (t : Takes rules box checked) → setup ≡ setup_of checked → setup ≡ t.accepted.setup
 same_as rules box checked setup t e = e ∙ sym t.same
 
-pub wrote_all : Single → (rules box : List ℕ) (trace : Bool) (checked : CheckedTree) (setup : Setup) (format : Format) (input ahead old new old_report new_report : Option (List ℕ)) (count : ℕ) (torn : Bool)
-    → Takes rules box checked → setup ≡ setup_of checked → Opened input ahead format
-    → IfSome ahead (λ bytes. Told setup format bytes count torn old new old_report new_report)
-    → IfSome input (λ bytes. Wrote rules box bytes trace count torn old new old_report new_report)
-wrote_all one rules box trace checked setup format input ahead old new old_report new_report count torn t e opened done =
-    wrote one rules box trace t.accepted format input ahead old new old_report new_report count torn opened
-    (subst (λ (s : Setup). IfSome ahead (λ bytes. Told s format bytes count torn old new old_report new_report)) (same_as rules box checked setup t e) done)
+pub wrote_all : Single → (rules box : List ℕ) (checked : CheckedTree) (start : Start) (format : Format) (input ahead w r : Option (List ℕ)) (count : ℕ) (torn : Bool)
+    → Takes rules box checked → start.setup ≡ setup_of checked → Opened input ahead format → IfSome ahead (λ bytes. Told start format bytes count torn w r)
+    → IfSome input (λ bytes. Wrote rules box bytes start.trace count torn start.sent w start.report r)
+wrote_all one rules box checked start format input ahead w r count torn t e opened done =
+    wrote one rules box t.accepted start format input ahead w r count torn (same_as rules box checked start.setup t e) opened done
 
-pub refuses_all : (rules box : List ℕ) (checked : CheckedTree) (setup : Setup) (format : Format) (input ahead : Option (List ℕ)) (old new : Outputs) (fault : RunFault)
-    → Takes rules box checked → setup ≡ setup_of checked → Opened input ahead format → IsWithin fault
-    → IfSome ahead (λ bytes. SaysWithin setup format bytes old new fault) → Refuses rules box input fault
-refuses_all rules box checked setup format input ahead old new fault t e opened within says =
-    refuses_within rules box t.accepted format input ahead old new fault opened within
-    (subst (λ (s : Setup). IfSome ahead (λ bytes. SaysWithin s format bytes old new fault)) (same_as rules box checked setup t e) says)
+pub refuses_all : (rules box : List ℕ) (checked : CheckedTree) (setup : Setup) (trace : Bool) (format : Format) (input ahead : Option (List ℕ)) (old new : Devices) (fault : RunFault)
+    → Takes rules box checked → Opened input ahead format → IsWithin fault → IfSome ahead (λ bytes. SaysWithin setup trace format bytes old new fault) → Refuses rules box input fault
+refuses_all rules box checked setup trace format input ahead old new fault t opened within says = refuses_within rules box t.accepted setup trace format input ahead old new fault opened within says
 
-pub left_all : (rules box : List ℕ) (trace : Bool) (checked : CheckedTree) (setup : Setup) (format : Format) (input ahead : Option (List ℕ)) (old new : Outputs) (fault : RunFault)
-    → Takes rules box checked → setup ≡ setup_of checked → Opened input ahead format → IsWithin fault
-    → IfSome ahead (λ bytes. SaysWithin setup format bytes old new fault) → IfSome input (λ bytes. Left rules box bytes trace old new fault)
-left_all rules box trace checked setup format input ahead old new fault t e opened within says =
-    left_within rules box trace t.accepted format input ahead old new fault opened within
-    (subst (λ (s : Setup). IfSome ahead (λ bytes. SaysWithin s format bytes old new fault)) (same_as rules box checked setup t e) says)
+-- once the capture is opened, before which no read failed
+abbrev opened_of : Devices → Option (List ℕ) → ℕ → Devices
+opened_of old unread failed = record { unread = unread; sent = old.sent; report = old.report; reads_failed = failed; sends_failed = old.sends_failed; reports_failed = old.reports_failed }
+
+since_opened : (setup : Setup) (trace : Bool) (format : Format) (bytes : List ℕ) (old new : Devices) (unread : Option (List ℕ)) (failed : ℕ) (fault : RunFault) → failed ≡ old.reads_failed
+    → SaysWithin setup trace format bytes (opened_of old unread failed) new fault → SaysWithin setup trace format bytes old new fault
+since_opened setup trace format bytes old new unread failed (Capture fault) e says = says
+since_opened setup trace format bytes old new unread failed Device e (inl (inl (c, f))) = inl (inl (c, f ∙ ap one_more e))
+since_opened setup trace format bytes old new unread failed Device e (inl (inr (h, k))) = inl (inr (h, k ∙ e))
+since_opened setup trace format bytes old new unread failed Device e (inr u) = inr u
+since_opened setup trace format bytes old new unread failed Memory e (h, k) = (h, k ∙ e)
+since_opened setup trace format bytes old new unread failed (Rules fault) e says = absurd says
+since_opened setup trace format bytes old new unread failed (Box fault) e says = absurd says
+
+each_known : (a : Option (List ℕ)) (P Q : List ℕ → Type 0) → ((bytes : List ℕ) → P bytes → Q bytes) → IfSome a P → IfSome a Q
+each_known None P Q f h = tt
+each_known (Some bytes) P Q f h = f bytes h
+
+pub left_all : HeaderAlone → (rules box : List ℕ) (trace : Bool) (checked : CheckedTree) (setup : Setup) (format : Format) (input ahead : Option (List ℕ)) (old new : Devices) (unread : Option (List ℕ)) (failed : ℕ) (fault : RunFault)
+    → failed ≡ old.reads_failed → Takes rules box checked → setup ≡ setup_of checked → Opened input ahead format → IsWithin fault
+    → IfSome ahead (λ bytes. SaysWithin setup trace format bytes (opened_of old unread failed) new fault) → IfSome input (λ bytes. Left rules box bytes trace old new fault)
+left_all alone rules box trace checked setup format input ahead old new unread failed fault calm t e opened within says =
+    left_within alone rules box trace t.accepted format input ahead old new fault opened within
+    (subst (λ (s : Setup). IfSome ahead (λ bytes. SaysWithin s trace format bytes old new fault)) (same_as rules box checked setup t e)
+    (each_known ahead (λ bytes. SaysWithin setup trace format bytes (opened_of old unread failed) new fault) (λ bytes. SaysWithin setup trace format bytes old new fault)
+    (λ bytes. since_opened setup trace format bytes old new unread failed fault calm) says))
+
+-- there was no room before anything was written
+pub left_untouched : (rules box : List ℕ) (trace : Bool) (input : Option (List ℕ)) (old new : Devices) → Untouched old new → IfSome input (λ bytes. Left rules box bytes trace old new Memory)
+left_untouched rules box trace None old new kept = tt
+left_untouched rules box trace (Some bytes) old new kept = inl kept

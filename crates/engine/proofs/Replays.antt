@@ -1,63 +1,56 @@
 -- The records of a capture, one after another.
-use Rattle.std.proofs.Common.{◌≡◌, ◌≤◌, ◌<◌, ℕ, zero, suc, max, true, List, [], ◌∷◌, ◌++◌, length, All, Option, Some, None, IfSome, Ok, refl, sym, ap, subst, ◌∙◌, arith, append_assoc, append-nil, length-append}
-use Rattle.std.specs.Prelude.{slice_index_or}
+use Rattle.std.proofs.Common.{◌≡◌, ◌≤◌, ◌<◌, ◌⊎◌, ℕ, zero, suc, max, Bool, true, false, List, [], ◌∷◌, ◌++◌, length, All, Option, Some, None, IfSome, Result, Ok, Err, refl, sym, ap, subst, ◌∙◌, arith, append_assoc, append-nil, length-append, inl, inr}
+use Rattle.std.specs.Prelude.{slice_index_or, IsErrOf}
 use Rattle.std.specs.List.{flat_map}
+use Rattle.std.specs.Io.KnownBytes.{prepend_known}
 use Rattle.std.proofs.lemmas.Grind.{flat_map-append}
 use Rattle.std.proofs.lemmas.List.Elements.{All-append}
 use Rattle.std.proofs.lemmas.Option.{same_Some}
 use Rattle.pcap_io.specs.declared.format.Format.{Format}
-use Rattle.pcap_io.specs.declared.capture.Record.{Record}
-use Rattle.pcap_io.specs.Pcap.{Captured, Recorded, IsRecord, Ending, Ends, frame, stream_of, told, own_moment, MOST_RECORDS}
-use Rattle.pcap_io.specs.Seen.{Seen, Reads, Says, recorded}
-use Rattle.pcap_io.specs.Sll2.{Sent, sll2_record}
-use Rattle.pcap_io.specs.Counting.{AppendsPart}
-use Rattle.pcap_io.specs.Waiting.{Gets}
-use Rattle.story.specs.declared.outcome.Outcome.{Outcome}
-use Rattle.story.specs.Story.{Entry, sends}
-use Rattle.report.specs.Report.{Numbers, Counts}
+use Rattle.pcap_io.specs.declared.fault.CaptureFault.{CaptureFault}
+use Rattle.pcap_io.specs.declared.fault.CaptureFault.TheVariants as captures
+use Rattle.pcap_io.specs.declared.fault.CaptureError.TheVariants.{Refused, Device}
+use Rattle.pcap_io.specs.Pcap.{Captured, Recorded, IsRecord, Ending, Whole, Torn, Malformed, Over, Ends, frame, stream_of, told, own_moment, MOST_RECORDS}
+use Rattle.pcap_io.specs.Seen.{Seen, Breaks, IsOfRecords, IsPart, Reads, Says, ahead}
+use Rattle.pcap_io.specs.Counting.{one_more}
+use Rattle.story.specs.Story.{Entry}
 use Rattle.stepping.specs.Next.{Setup, Next, Grows}
-use Rattle.stepping.specs.Stands.{Shown, Stands, told_of}
-use Rattle.engine.specs.steps.Replayed.{Broken, Interrupted, Replayed, Taken, sent_records}
-use Rattle.engine.proofs.Stories.{grows_more, latest_after, latest_more, sent_more, told_more}
-use Rattle.engine.proofs.Writes.{gets_none, gets_more, gets_part, gets_so_far, part_none, part_same}
+use Rattle.engine.specs.declared.fault.RunFault.{RunFault}
+use Rattle.engine.specs.declared.fault.RunFault.TheVariants as faults
+use Rattle.engine.specs.declared.replay.Replay.{Replay}
+use Rattle.engine.specs.Meaning.{ending_of}
+use Rattle.engine.specs.steps.Replayed.{AllTold, Broke, Cut, Follows, Halted, Interrupts, IsStop, PartTold, Plays, Replayed, Start, Took, ending_at}
+use Rattle.engine.proofs.Stories.{grows_more, latest_after, latest_more, told_more}
 
--- these records were taken and counted, their packets written or waiting, and these bytes are to come
-pub record Carried (setup : Setup) (format : Format) (bytes : List ℕ) (ahead : Option (List ℕ)) (count latest : ℕ) (engine : Shown) (numbers : Numbers) (waited : List ℕ) (old new : Option (List ℕ)) (waits : List ℕ) : Type 0 where
-  pub records : List Captured
+-- these records were taken, and these bytes are to come
+pub record Carried (replay : Replay) (start : Start) (format : Format) (bytes : List ℕ) (unread w r : Option (List ℕ)) : Type 0 where
   pub rest : List ℕ
-  pub left : ahead ≡ Some rest
-  pub joined : bytes ≡ stream_of records rest
-  pub each : All (IsRecord format) records
-  pub counted : count ≡ length records
-  pub not_over : length records ≤ MOST_RECORDS
-  pub latest_is : latest ≡ latest_after format 0 records
+  pub left : ahead replay.records unread ≡ Some rest
   pub story : List Entry
-  pub grows : Grows setup [] (told format records) story
-  pub stands : Stands engine story
-  pub counts : Counts numbers story
-  pub gets : Gets waited old new waits (sent_records story)
+  pub follows : Follows start.setup format bytes rest story
+  pub counted : replay.records.count ≡ length follows.records
+  pub latest_is : replay.records.latest ≡ latest_after format 0 follows.records
+  pub plays : Plays replay start story w r
 
-pub start : (setup : Setup) (format : Format) (a w : Option (List ℕ)) (count latest : ℕ) (engine : Shown) (numbers : Numbers) (waits : List ℕ) → count ≡ 0 → latest ≡ 0 → Stands engine [] → Counts numbers []
-    → IfSome a (λ bytes. Carried setup format bytes a count latest engine numbers waits w w waits)
-start setup format None w count latest engine numbers waits c l s n = tt
-start setup format (Some bytes) w count latest engine numbers waits c l s n =
-    record {
-      records = [];
-      rest = bytes;
-      left = refl;
-      joined = refl;
-      each = λ k d lt. absurd (omega (arith, lt));
-      counted = c;
-      not_over = omega arith;
-      latest_is = l;
-      story = [];
-      grows = refl;
-      stands = s;
-      counts = n;
-      gets = gets_none waits w;
-    }
+-- before the first record
+pub begun : (replay : Replay) (start : Start) (unread w r : Option (List ℕ)) → replay.records.count ≡ 0 → replay.records.latest ≡ 0 → Plays replay start [] w r
+    → IfSome (ahead replay.records unread) (λ bytes. Carried replay start replay.records.format bytes unread w r)
+begun replay start unread w r none early p = known_or (ahead replay.records unread) refl
+  where
+    known_or : (a : Option (List ℕ)) → ahead replay.records unread ≡ a → IfSome a (λ bytes. Carried replay start replay.records.format bytes unread w r)
+    known_or None e = tt
+    known_or (Some bytes) e =
+        record {
+          rest = bytes;
+          left = e;
+          story = [];
+          follows = record { records = []; joined = refl; each = λ k d lt. absurd (omega (arith, lt)); not_over = omega arith; grows = refl };
+          counted = none;
+          latest_is = early;
+          plays = p;
+        }
 
-pub stream_more : (records : List Captured) (last : Captured) (rest : List ℕ) → stream_of (records ++ last ∷ []) rest ≡ stream_of records (frame last ++ rest)
+stream_more : (records : List Captured) (last : Captured) (rest : List ℕ) → stream_of (records ++ last ∷ []) rest ≡ stream_of records (frame last ++ rest)
 stream_more records last rest =
     ap (λ ys. ys ++ rest) (flat_map-append frame records (last ∷ [])) ∙ append_assoc (flat_map frame records) (frame last ++ []) rest
     ∙ ap (λ ys. flat_map frame records ++ (ys ++ rest)) (append-nil (frame last))
@@ -69,161 +62,232 @@ each_more format records last each is = All-append (IsRecord format) records (la
     one zero d lt = is
     one (suc k) d lt = absurd (omega (arith, lt))
 
-pub known : (ahead : Option (List ℕ)) (rest : List ℕ) (P : List ℕ → Type 0) → ahead ≡ Some rest → IfSome ahead P → P rest
-known ahead rest P e h = let Q : Option (List ℕ) → Type 0 = λ o. IfSome o P in subst Q e h
+pub known : {A : Type 0} (o : Option A) (x : A) (P : A → Type 0) → o ≡ Some x → IfSome o P → P x
+known {A} o x P e h = let Q : Option A → Type 0 = λ o. IfSome o P in subst Q e h
+
+-- ---- more records
+
+-- it told what it had to tell
+pub kept_up : (replay replay' : Replay) (start : Start) (format : Format) (a unread w w' r r' : Option (List ℕ)) → replay'.records ≡ replay.records → ((story : List Entry) → Plays replay start story w r → Plays replay' start story w' r')
+    → IfSome a (λ bytes. Carried replay start format bytes unread w r) → IfSome a (λ bytes. Carried replay' start format bytes unread w' r')
+kept_up replay replay' start format None unread w w' r r' same plays c = tt
+kept_up replay replay' start format (Some bytes) unread w w' r r' same plays c =
+    record {
+      rest = c.rest;
+      left = ap (λ (s : Seen). ahead s unread) same ∙ c.left;
+      story = c.story;
+      follows = c.follows;
+      counted = ap (λ (s : Seen). s.count) same ∙ c.counted;
+      latest_is = ap (λ (s : Seen). s.latest) same ∙ c.latest_is;
+      plays = plays c.story c.plays;
+    }
 
 -- what is known of one more record
-record Further (setup : Setup) (format : Format) (bytes : List ℕ) (after : Option (List ℕ)) (old new : Seen) (r : Recorded) (records : List Captured) : Type 0 where
-  captured : Captured
+record Further (start : Start) (format : Format) (bytes : List ℕ) (after : Option (List ℕ)) (new : Seen) (taken : Recorded) (story : List Entry) : Type 0 where
   rest : List ℕ
   left : after ≡ Some rest
-  joined : bytes ≡ stream_of (records ++ captured ∷ []) rest
-  each : All (IsRecord format) (records ++ captured ∷ [])
-  counted : new.count ≡ length (records ++ captured ∷ [])
-  not_over : length (records ++ captured ∷ []) ≤ MOST_RECORDS
-  latest_is : new.latest ≡ latest_after format 0 (records ++ captured ∷ [])
-  tells : told format (records ++ captured ∷ []) ≡ told format records ++ r ∷ []
+  last_is : new.last ≡ Some taken
+  follows : (e : Entry) → Next start.setup story taken e → Follows start.setup format bytes rest (e ∷ story)
+  counted : (e : Entry) (n : Next start.setup story taken e) → new.count ≡ length (follows e n).records
+  latest_is : (e : Entry) (n : Next start.setup story taken e) → new.latest ≡ latest_after format 0 (follows e n).records
 
-further : (setup : Setup) (format : Format) (bytes : List ℕ) (ahead after w v : Option (List ℕ)) (old new : Seen) (engine : Shown) (numbers : Numbers) (waited waits : List ℕ) (r : Record)
-    → (c : Carried setup format bytes ahead old.count old.latest engine numbers waited w v waits) → old.format ≡ format → IfSome ahead (λ rest. Says rest after old new (Ok true)) → recorded (Some r) ≡ new.last
-    → Further setup format bytes after old new (told_of r) c.records
-further setup format bytes ahead after w v old new engine numbers waited waits r c same says last =
-    let reads : Reads c.rest after old new = known ahead c.rest (λ rest. Says rest after old new (Ok true)) c.left says in
+further : (replay : Replay) (new : Seen) (start : Start) (format : Format) (bytes : List ℕ) (unread after w r : Option (List ℕ)) (c : Carried replay start format bytes unread w r) → replay.records.format ≡ format
+    → IfSome (ahead replay.records unread) (λ bytes. Says bytes (ahead new after) replay.records new (Ok true)) → (taken : Recorded) × Further start format bytes (ahead new after) new taken c.story
+further replay new start format bytes unread after w r c same says =
+    let reads : Reads c.rest (ahead new after) replay.records new = known (ahead replay.records unread) c.rest (λ rest. Says rest (ahead new after) replay.records new (Ok true)) c.left says in
     let is : IsRecord format reads.captured = subst (λ (f : Format). IsRecord f reads.captured) same reads.is_record in
-    let latest_now : new.latest ≡ max old.latest (own_moment format reads.captured) = reads.latest_is ∙ ap (λ f. max old.latest (own_moment f reads.captured)) same in
-    let told_is : told_of r ≡ record { moment = new.latest; bytes = reads.captured.bytes } = same_Some _ _ (last ∙ reads.last_is) in
-    record {
-      captured = reads.captured;
-      rest = reads.rest;
-      left = reads.left;
-      joined = c.joined ∙ ap (stream_of c.records) reads.joined ∙ sym (stream_more c.records reads.captured reads.rest);
-      each = each_more format c.records reads.captured c.each is;
-      counted = let e = c.counted in let f = reads.counted in omega (arith, e, f, length-append c.records (reads.captured ∷ []));
-      not_over = let e = c.counted in let f = reads.fewer in omega (arith, e, f, length-append c.records (reads.captured ∷ []));
-      latest_is = latest_now ∙ ap (λ n. max n (own_moment format reads.captured)) c.latest_is ∙ sym (latest_more format 0 c.records reads.captured);
-      tells = told_more format c.records reads.captured (told_of r) old.latest c.latest_is (told_is ∙ ap (λ m. record { moment = m; bytes = reads.captured.bytes }) latest_now);
-    }
+    let latest_now : new.latest ≡ max replay.records.latest (own_moment format reads.captured) = reads.latest_is ∙ ap (λ f. max replay.records.latest (own_moment f reads.captured)) same in
+    let taken : Recorded = record { moment = new.latest; link = replay.records.format.link; bytes = reads.captured.bytes } in
+    let taken_is : taken ≡ record { moment = max replay.records.latest (own_moment format reads.captured); link = format.link; bytes = reads.captured.bytes } =
+    ap (λ m. record { moment = m; link = replay.records.format.link; bytes = reads.captured.bytes }) latest_now
+    ∙ ap (λ (f : Format). record { moment = max replay.records.latest (own_moment format reads.captured); link = f.link; bytes = reads.captured.bytes }) same in
+    let tells : told format (c.follows.records ++ reads.captured ∷ []) ≡ told format c.follows.records ++ taken ∷ [] = told_more format c.follows.records reads.captured taken replay.records.latest c.latest_is taken_is in
+    let count_now : new.count ≡ length (c.follows.records ++ reads.captured ∷ []) = let e = c.counted in let f = reads.counted in omega (arith, e, f, length-append c.follows.records (reads.captured ∷ [])) in (
+      taken,
+      record {
+        rest = reads.rest;
+        left = reads.left;
+        last_is = reads.last_is;
+        follows = λ e n. record {
+          records = c.follows.records ++ reads.captured ∷ [];
+          joined = c.follows.joined ∙ ap (stream_of c.follows.records) reads.joined ∙ sym (stream_more c.follows.records reads.captured reads.rest);
+          each = each_more format c.follows.records reads.captured c.follows.each is;
+          not_over = let e = c.counted in let f = reads.fewer in omega (arith, e, f, length-append c.follows.records (reads.captured ∷ []));
+          grows = subst (λ (rs : List Recorded). Grows start.setup [] rs (e ∷ c.story)) (sym tells) (grows_more start.setup [] (told format c.follows.records) taken c.story e c.follows.grows n);
+        };
+        counted = λ e n. count_now;
+        latest_is = λ e n. latest_now ∙ ap (λ n. max n (own_moment format reads.captured)) c.latest_is ∙ sym (latest_more format 0 c.follows.records reads.captured);
+      },
+    )
+
+-- a record was read, and not yet taken
+abbrev pub read_on : Replay → Seen → Replay
+read_on replay new = record { engine = replay.engine; numbers = replay.numbers; records = new; sink = replay.sink }
+
+still_plays : (replay : Replay) (new : Seen) (start : Start) (story : List Entry) (w r : Option (List ℕ)) → Plays replay start story w r → Plays (read_on replay new) start story w r
+still_plays replay new start story w r p = record { same = p.same; stands = p.stands; gets = p.gets; lines = p.lines; reports = p.reports; tells = p.tells }
 
 -- one more record was taken
-pub more : (setup : Setup) (format : Format) (a ahead after w v u : Option (List ℕ)) (old new : Seen) (engine engine' : Shown) (numbers numbers' : Numbers) (waited waits waits' : List ℕ) (r : Record)
-    → IfSome a (λ bytes. Carried setup format bytes ahead old.count old.latest engine numbers waited w v waits) → old.format ≡ format → IfSome ahead (λ rest. Says rest after old new (Ok true)) → recorded (Some r) ≡ new.last
-    → engine.setup ≡ setup
-    → ((story : List Entry) → Stands engine story → Counts numbers story → Taken engine.setup story (told_of r) engine' numbers' waits v u waits')
-    → IfSome a (λ bytes. Carried setup format bytes after new.count new.latest engine' numbers' waited w u waits')
-more setup format None ahead after w v u old new engine engine' numbers numbers' waited waits waits' r c same says last same_setup takes = tt
-more setup format (Some bytes) ahead after w v u old new engine engine' numbers numbers' waited waits waits' r c same says last same_setup takes =
-    let f : Further setup format bytes after old new (told_of r) c.records = further setup format bytes ahead after w v old new engine numbers waited waits r c same says last in
-    let t : Taken setup c.story (told_of r) engine' numbers' waits v u waits' =
-    subst (λ (s : Setup). Taken s c.story (told_of r) engine' numbers' waits v u waits') same_setup (takes c.story c.stands c.counts) in
+pub more : (replay replay' : Replay) (new : Seen) (start : Start) (format : Format) (a unread after w w' r : Option (List ℕ)) → IfSome a (λ bytes. Carried replay start format bytes unread w r) → replay.records.format ≡ format
+    → IfSome (ahead replay.records unread) (λ bytes. Says bytes (ahead new after) replay.records new (Ok true))
+    → ((story : List Entry) → Plays (read_on replay new) start story w r → IfSome new.last (λ taken. Took replay' start story taken w' r)) → replay'.records ≡ new
+    → IfSome a (λ bytes. Carried replay' start format bytes after w' r)
+more replay replay' new start format None unread after w w' r c same says takes is = tt
+more replay replay' new start format (Some bytes) unread after w w' r c same says takes is =
+    let f = further replay new start format bytes unread after w r c same says in
+    let t : Took replay' start c.story f.0 w' r =
+    known new.last f.0 (λ taken. Took replay' start c.story taken w' r) f.1.last_is (takes c.story (still_plays replay new start c.story w r c.plays)) in
     record {
-      records = c.records ++ f.captured ∷ [];
-      rest = f.rest;
-      left = f.left;
-      joined = f.joined;
-      each = f.each;
-      counted = f.counted;
-      not_over = f.not_over;
-      latest_is = f.latest_is;
+      rest = f.1.rest;
+      left = ap (λ (s : Seen). ahead s after) is ∙ f.1.left;
       story = t.entry ∷ c.story;
-      grows = subst (λ (rs : List Recorded). Grows setup [] rs (t.entry ∷ c.story)) (sym f.tells) (grows_more setup [] (told format c.records) (told_of r) c.story t.entry c.grows t.next);
-      stands = t.stands;
-      counts = t.counts;
-      gets = subst (λ (xs : List ℕ). Gets waited w u waits' xs) (sym (sent_more c.story t.entry))
-          (gets_more waited waits waits' w v u (sent_records c.story) (flat_map sll2_record (sends t.entry)) c.gets t.gets);
+      follows = f.1.follows t.entry t.next;
+      counted = ap (λ (s : Seen). s.count) is ∙ f.1.counted t.entry t.next;
+      latest_is = ap (λ (s : Seen). s.latest) is ∙ f.1.latest_is t.entry t.next;
+      plays = t.plays;
     }
 
--- it stops at a record
-pub interrupted_at : (setup : Setup) (format : Format) (a ahead after w v u : Option (List ℕ)) (old new : Seen) (engine : Shown) (numbers : Numbers) (waited waits : List ℕ) (r : Record)
-    → IfSome a (λ bytes. Carried setup format bytes ahead old.count old.latest engine numbers waited w v waits) → old.format ≡ format → IfSome ahead (λ rest. Says rest after old new (Ok true)) → recorded (Some r) ≡ new.last
-    → engine.setup ≡ setup
-    → ((story : List Entry) → Stands engine story → Broken engine.setup story (told_of r) waits v u)
-    → IfSome a (λ bytes. Interrupted setup format bytes waited w u)
-interrupted_at setup format None ahead after w v u old new engine numbers waited waits r c same says last same_setup breaks = tt
-interrupted_at setup format (Some bytes) ahead after w v u old new engine numbers waited waits r c same says last same_setup breaks =
-    let f : Further setup format bytes after old new (told_of r) c.records = further setup format bytes ahead after w v old new engine numbers waited waits r c same says last in
-    let b : Broken setup c.story (told_of r) waits v u = subst (λ (s : Setup). Broken s c.story (told_of r) waits v u) same_setup (breaks c.story c.stands) in
-    record {
-      records = c.records ++ f.captured ∷ [];
-      more = f.rest;
-      joined = f.joined;
-      each = f.each;
-      not_over = f.not_over;
-      story = b.entry ∷ c.story;
-      grows = subst (λ (rs : List Recorded). Grows setup [] rs (b.entry ∷ c.story)) (sym f.tells) (grows_more setup [] (told format c.records) (told_of r) c.story b.entry c.grows b.next);
-      sent = part_same w u _ _ (gets_part waited waits w v u (sent_records c.story) (flat_map sll2_record (sends b.entry)) c.gets b.sent)
-          (ap (λ xs. waited ++ xs) (sym (sent_more c.story b.entry)));
-    }
+-- ---- it stops
 
--- it stops between records
-pub interrupted : (setup : Setup) (format : Format) (a ahead w v : Option (List ℕ)) (count latest : ℕ) (engine : Shown) (numbers : Numbers) (waited waits : List ℕ)
-    → IfSome a (λ bytes. Carried setup format bytes ahead count latest engine numbers waited w v waits) → IfSome a (λ bytes. Interrupted setup format bytes waited w v)
-interrupted setup format None ahead w v count latest engine numbers waited waits c = tt
-interrupted setup format (Some bytes) ahead w v count latest engine numbers waited waits c =
-    record { records = c.records; more = c.rest; joined = c.joined; each = c.each; not_over = c.not_over; story = c.story; grows = c.grows; sent = gets_so_far waited waits w v (sent_records c.story) c.gets }
+-- where what was read of the records was told in part
+pub halted : (replay : Replay) (start : Start) (format : Format) (a unread w w' r r' : Option (List ℕ)) → IfSome a (λ bytes. Carried replay start format bytes unread w r)
+    → ((story : List Entry) → Plays replay start story w r → PartTold start story w' r') → IfSome a (λ bytes. Halted start format bytes w' r')
+halted replay start format None unread w w' r r' c part = tt
+halted replay start format (Some bytes) unread w w' r r' c part = record { rest = c.rest; story = c.story; follows = c.follows; part = part c.story c.plays }
 
--- the bytes to come are no further record
-pub replayed : (setup : Setup) (format : Format) (ending : Ending) (a ahead w v : Option (List ℕ)) (count latest : ℕ) (engine : Shown) (numbers : Numbers) (waited waits : List ℕ)
-    → IfSome a (λ bytes. Carried setup format bytes ahead count latest engine numbers waited w v waits) → IfSome ahead (λ rest. Ends format ending count rest)
-    → IfSome a (λ bytes. Replayed setup format bytes ending numbers waited w v waits)
-replayed setup format ending None ahead w v count latest engine numbers waited waits c ends = tt
-replayed setup format ending (Some bytes) ahead w v count latest engine numbers waited waits c ends =
+-- at a record
+pub halted_at : (replay : Replay) (new : Seen) (start : Start) (format : Format) (a unread after w w' r : Option (List ℕ)) → IfSome a (λ bytes. Carried replay start format bytes unread w r) → replay.records.format ≡ format
+    → IfSome (ahead replay.records unread) (λ bytes. Says bytes (ahead new after) replay.records new (Ok true))
+    → ((story : List Entry) → Plays (read_on replay new) start story w r → IfSome new.last (λ taken. Broke start story taken w' r))
+    → IfSome a (λ bytes. Halted start format bytes w' r)
+halted_at replay new start format None unread after w w' r c same says breaks = tt
+halted_at replay new start format (Some bytes) unread after w w' r c same says breaks =
+    let f = further replay new start format bytes unread after w r c same says in
+    let b : Broke start c.story f.0 w' r =
+    known new.last f.0 (λ taken. Broke start c.story taken w' r) f.1.last_is (breaks c.story (still_plays replay new start c.story w r c.plays)) in
+    record { rest = f.1.rest; story = b.entry ∷ c.story; follows = f.1.follows b.entry b.next; part = b.part }
+
+-- at a read that fails, before which all was told
+left_of : (held bytes : List ℕ) (unread : Option (List ℕ)) → prepend_known held unread ≡ Some bytes → (left : List ℕ) × (unread ≡ Some left) × (bytes ≡ held ++ left)
+left_of held bytes None e = cc
+left_of held bytes (Some left) e = (left, refl, sym (same_Some _ _ e))
+
+part_ends : (format : Format) (count : ℕ) (held : List ℕ) → IsPart format count held → (torn : Bool) × Ends format (ending_of torn) count held
+part_ends format count held (inl whole) = (false, whole)
+part_ends format count held (inr torn) = (true, torn)
+
+open_ahead : (s : Seen) (unread : Option (List ℕ)) → s.ended ≡ false → ahead s unread ≡ prepend_known s.held unread
+open_ahead s unread e = rw e refl
+
+pub cut : (replay replay' : Replay) (new : Seen) (start : Start) (format : Format) (a unread after w w' r r' : Option (List ℕ)) → IfSome a (λ bytes. Carried replay start format bytes unread w r) → replay'.records ≡ replay.records
+    → replay'.records.format ≡ format → IfSome (ahead replay'.records unread) (λ bytes. Says bytes (ahead new after) replay'.records new (Err Device)) → new.format ≡ replay'.records.format → new.count ≡ replay'.records.count
+    → ((story : List Entry) → Plays replay start story w r → AllTold start story w' r')
+    → IfSome a (λ bytes. Cut start format bytes after w' r')
+cut replay replay' new start format None unread after w w' r r' c is same says kept count all = tt
+cut replay replay' new start format (Some bytes) unread after w w' r r' c is same says kept count all =
+    let b : Breaks c.rest (ahead new after) new =
+    known (ahead replay'.records unread) c.rest (λ rest. Says rest (ahead new after) replay'.records new (Err Device)) (ap (λ (s : Seen). ahead s unread) is ∙ c.left) says in
+    let l = left_of new.held c.rest after (sym (open_ahead new after b.open_end) ∙ b.lost_none) in
+    let part : IsPart format (length c.follows.records) new.held =
+    subst (λ (n : ℕ). IsPart format n new.held) (count ∙ ap (λ (s : Seen). s.count) is ∙ c.counted) (subst (λ (f : Format). IsPart f new.count new.held) (kept ∙ same) b.part) in
+    let ends = part_ends format (length c.follows.records) new.held part in
     record {
-      records = c.records;
-      rest = c.rest;
-      joined = c.joined;
-      each = c.each;
-      not_over = c.not_over;
-      ends = subst (λ (n : ℕ). Ends format ending n c.rest) c.counted (known ahead c.rest (λ rest. Ends format ending count rest) c.left ends);
+      held = new.held;
+      left = l.0;
+      is_left = l.1;
       story = c.story;
-      grows = c.grows;
-      counts = c.counts;
-      gets = c.gets;
+      follows = record {
+        records = c.follows.records;
+        joined = c.follows.joined ∙ ap (stream_of c.follows.records) l.2;
+        each = c.follows.each;
+        not_over = c.follows.not_over;
+        grows = c.follows.grows;
+      };
+      torn = ends.0;
+      ends = ends.1;
+      all = all c.story c.plays;
     }
 
--- ---- one record
-
--- what an engine's step promises
-abbrev pub Stepped : Setup → List Entry → Recorded → Shown → Outcome → Type 0
-Stepped setup story r engine outcome = (e : Entry) × Next setup story r e × Stands engine (e ∷ story) × (outcome ≡ e.outcome)
-
--- its packet, if it sends none
-pub taken_silently : (setup : Setup) (story : List Entry) (r : Recorded) (engine : Shown) (numbers : Numbers) (outcome : Outcome) (waits : List ℕ) (w : Option (List ℕ))
-    → Stepped setup story r engine outcome → ((e : Entry) → outcome ≡ e.outcome → Counts numbers (e ∷ story)) → [] ≡ engine.sends → Taken setup story r engine numbers waits w w waits
-taken_silently setup story r engine numbers outcome waits w t counts none =
+-- where the bytes to come are no further record
+replayed : (replay : Replay) (new : Seen) (start : Start) (format : Format) (ending : Ending) (a unread w r : Option (List ℕ)) → IfSome a (λ bytes. Carried replay start format bytes unread w r)
+    → IfSome (ahead replay.records unread) (λ rest. Ends format ending replay.records.count rest) → IfSome a (λ bytes. Replayed (read_on replay new) start format bytes ending w r)
+replayed replay new start format ending None unread w r c ends = tt
+replayed replay new start format ending (Some bytes) unread w r c ends =
     record {
-      entry = t.0;
-      next = t.1;
-      stands = t.2;
-      counts = counts t.0 t.3;
-      gets = subst (λ (xs : List Sent). Gets waits w w waits (flat_map sll2_record xs)) (none ∙ t.2.sends) (gets_none waits w);
+      rest = c.rest;
+      story = c.story;
+      follows = c.follows;
+      ends = subst (λ (n : ℕ). Ends format ending n c.rest) c.counted (known (ahead replay.records unread) c.rest (λ rest. Ends format ending replay.records.count rest) c.left ends);
+      plays = still_plays replay new start c.story w r c.plays;
     }
 
-sends_one : (s : Sent) (xs : List Sent) → s ∷ [] ≡ xs → sll2_record s ≡ flat_map sll2_record xs
-sends_one s xs e = sym (append-nil (sll2_record s)) ∙ ap (flat_map sll2_record) e
+same_ends : (ahead : Option (List ℕ)) (f g : Format) (ending : Ending) (count : ℕ) → f ≡ g → IfSome ahead (λ bytes. Ends f ending count bytes) → IfSome ahead (λ bytes. Ends g ending count bytes)
+same_ends ahead f g ending count e h = subst (λ (x : Format). IfSome ahead (λ bytes. Ends x ending count bytes)) e h
 
--- and if it sends one
-pub taken_sending : (setup : Setup) (story : List Entry) (r : Recorded) (engine : Shown) (numbers : Numbers) (outcome : Outcome) (waits waits' : List ℕ) (w v : Option (List ℕ)) (s : Sent)
-    → Stepped setup story r engine outcome → ((e : Entry) → outcome ≡ e.outcome → Counts numbers (e ∷ story)) → s ∷ [] ≡ engine.sends → Gets waits w v waits' (sll2_record s)
-    → Taken setup story r engine numbers waits w v waits'
-taken_sending setup story r engine numbers outcome waits waits' w v s t counts sent gets =
-    record {
-      entry = t.0;
-      next = t.1;
-      stands = t.2;
-      counts = counts t.0 t.3;
-      gets = subst (λ (xs : List ℕ). Gets waits w v waits' xs) (sends_one s (sends t.0) (sent ∙ t.2.sends)) gets;
-    }
+-- what is said first
+front : (a : Option (List ℕ)) (P Q : List ℕ → Type 0) → IfSome a (λ bytes. P bytes × Q bytes) → IfSome a P
+front None P Q h = tt
+front (Some bytes) P Q h = h.0
 
--- it wasn't taken
-pub broken_before : (setup : Setup) (story : List Entry) (r : Recorded) (waits : List ℕ) (w : Option (List ℕ)) → ((e : Entry) × Next setup story r e) → Broken setup story r waits w w
-broken_before setup story r waits w t = record { entry = t.0; next = t.1; sent = part_none w _ }
+-- at the end of the bytes
+pub ended : (replay : Replay) (new : Seen) (start : Start) (format : Format) (a unread after w r : Option (List ℕ)) → IfSome a (λ bytes. Carried replay start format bytes unread w r) → replay.records.format ≡ format
+    → IfSome (ahead replay.records unread) (λ bytes. Says bytes after replay.records new (Ok false)) → IfSome a (λ bytes. Replayed (read_on replay new) start format bytes (ending_at None) w r)
+ended replay new start format a unread after w r c same says =
+    replayed replay new start format Whole a unread w r c
+    (same_ends (ahead replay.records unread) replay.records.format format Whole replay.records.count same (front (ahead replay.records unread) (Ends replay.records.format Whole replay.records.count) (λ bytes. after ≡ Some []) says))
 
--- its packet wasn't all written
-pub broken_sending : (setup : Setup) (story : List Entry) (r : Recorded) (engine : Shown) (outcome : Outcome) (waits : List ℕ) (w v : Option (List ℕ)) (s : Sent)
-    → Stepped setup story r engine outcome → s ∷ [] ≡ engine.sends → AppendsPart w v (waits ++ sll2_record s) → Broken setup story r waits w v
-broken_sending setup story r engine outcome waits w v s t sent part =
-    record {
-      entry = t.0;
-      next = t.1;
-      sent = part_same w v _ _ part (ap (λ xs. waits ++ xs) (sends_one s (sends t.0) (sent ∙ t.2.sends)));
-    }
+pub stops : (fault : CaptureFault) → IsOfRecords (Refused fault) → IsStop (Some fault)
+stops captures.TornEnd is = tt
+stops captures.Malformed is = tt
+stops captures.TooMany is = tt
+stops captures.Magic is = absurd is
+stops captures.Version is = absurd is
+stops captures.LinkType is = absurd is
+
+-- at a fault of the records
+pub refused : (replay : Replay) (new : Seen) (start : Start) (format : Format) (fault : CaptureFault) (a unread after w r : Option (List ℕ)) → IsOfRecords (Refused fault)
+    → IfSome a (λ bytes. Carried replay start format bytes unread w r) → replay.records.format ≡ format
+    → IfSome (ahead replay.records unread) (λ bytes. Says bytes after replay.records new (Err (Refused fault))) → IfSome a (λ bytes. Replayed (read_on replay new) start format bytes (ending_at (Some fault)) w r)
+refused replay new start format captures.TornEnd a unread after w r is c same says =
+    replayed replay new start format Torn a unread w r c
+    (same_ends (ahead replay.records unread) replay.records.format format Torn replay.records.count same (front (ahead replay.records unread) (Ends replay.records.format Torn replay.records.count) (λ bytes. after ≡ Some bytes) says))
+refused replay new start format captures.Malformed a unread after w r is c same says =
+    replayed replay new start format Malformed a unread w r c
+    (same_ends (ahead replay.records unread) replay.records.format format Malformed replay.records.count same (front (ahead replay.records unread) (Ends replay.records.format Malformed replay.records.count) (λ bytes. after ≡ Some bytes) says))
+refused replay new start format captures.TooMany a unread after w r is c same says =
+    replayed replay new start format Over a unread w r c
+    (same_ends (ahead replay.records unread) replay.records.format format Over replay.records.count same (front (ahead replay.records unread) (Ends replay.records.format Over replay.records.count) (λ bytes. after ≡ Some bytes) says))
+refused replay new start format captures.Magic a unread after w r is c same says = absurd is
+refused replay new start format captures.Version a unread after w r is c same says = absurd is
+refused replay new start format captures.LinkType a unread after w r is c same says = absurd is
+
+-- ---- by the fault
+
+pub not_ready : (b : Bool) → (b ≡ true → ⊥) → b ≡ false
+not_ready true h = absurd (h refl)
+not_ready false h = refl
+
+-- a read failed
+pub interrupts_cut : (start : Start) (format : Format) (a unread w r : Option (List ℕ)) (before after : ℕ) → after ≡ one_more before → IfSome a (λ bytes. Cut start format bytes unread w r)
+    → IfSome a (λ bytes. Interrupts start format bytes unread w r before after faults.Device)
+interrupts_cut start format None unread w r before after failed h = tt
+interrupts_cut start format (Some bytes) unread w r before after failed h = inl (h, failed)
+
+-- a writer failed
+pub interrupts_halted : (start : Start) (format : Format) (a unread w r : Option (List ℕ)) (before after : ℕ) → after ≡ before → IfSome a (λ bytes. Halted start format bytes w r)
+    → IfSome a (λ bytes. Interrupts start format bytes unread w r before after faults.Device)
+interrupts_halted start format None unread w r before after calm h = tt
+interrupts_halted start format (Some bytes) unread w r before after calm h = inr (h, calm)
+
+-- one did, or there was no room
+pub interrupts : {T : Type 0} (start : Start) (format : Format) (a unread w r : Option (List ℕ)) (before after : ℕ) (fault : RunFault) → IsErrOf {T = T} (Err fault) faults.Device ⊎ IsErrOf {T = T} (Err fault) faults.Memory → after ≡ before
+    → IfSome a (λ bytes. Halted start format bytes w r) → IfSome a (λ bytes. Interrupts start format bytes unread w r before after fault)
+interrupts start format None unread w r before after fault is calm h = tt
+interrupts start format (Some bytes) unread w r before after faults.Device is calm h = inr (h, calm)
+interrupts start format (Some bytes) unread w r before after faults.Memory is calm h = (h, calm)
+interrupts start format (Some bytes) unread w r before after (faults.Rules fault) (inl e) calm h = cc
+interrupts start format (Some bytes) unread w r before after (faults.Rules fault) (inr e) calm h = cc
+interrupts start format (Some bytes) unread w r before after (faults.Box fault) (inl e) calm h = cc
+interrupts start format (Some bytes) unread w r before after (faults.Box fault) (inr e) calm h = cc
+interrupts start format (Some bytes) unread w r before after (faults.Capture fault) (inl e) calm h = cc
+interrupts start format (Some bytes) unread w r before after (faults.Capture fault) (inr e) calm h = cc

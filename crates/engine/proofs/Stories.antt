@@ -1,11 +1,11 @@
 -- Stories that grow record by record.
-use Rattle.std.proofs.Common.{◌≡◌, ◌+◌, ℕ, suc, max, List, [], ◌∷◌, ◌++◌, length, refl, sym, ap, subst, ◌∙◌, arith, append-nil, zero-add}
+use Rattle.std.proofs.Common.{◌≡◌, ◌+◌, ℕ, suc, max, List, [], ◌∷◌, ◌++◌, length, refl, sym, ap, subst, ◌∙◌, arith, append_assoc, append-nil, zero-add}
 use Rattle.std.specs.List.{flat_map}
 use Rattle.std.proofs.lemmas.Grind.{flat_map-append}
 use Rattle.pcap_io.specs.declared.format.Format.{Format}
 use Rattle.pcap_io.specs.Pcap.{Captured, Recorded, own_moment, told_after, told}
-use Rattle.pcap_io.specs.Sll2.{sll2_record}
-use Rattle.story.specs.Story.{Entry, in_order, sends}
+use Rattle.pcap_io.specs.Sll2.{sll2_header, sll2_record}
+use Rattle.story.specs.Story.{Entry, capture_text, in_order, sends}
 use Rattle.rule_check.specs.WellFormed.{WellFormed}
 use Rattle.stepping.specs.Next.{Setup, Next, Grows}
 use Rattle.engine.specs.steps.Replayed.{sent_records}
@@ -45,6 +45,9 @@ sent_more story e =
     ap (flat_map sll2_record) (flat_map-append sends (in_order story) (e ∷ []) ∙ ap (λ xs. flat_map sends (in_order story) ++ xs) (append-nil (sends e)))
     ∙ flat_map-append sll2_record (flat_map sends (in_order story)) (sends e)
 
+pub captured_more : (story : List Entry) (e : Entry) → capture_text (e ∷ story) ≡ capture_text story ++ flat_map sll2_record (sends e)
+captured_more story e = ap (λ xs. sll2_header ++ xs) (sent_more story e) ∙ sym (append_assoc sll2_header (sent_records story) (flat_map sll2_record (sends e)))
+
 -- ---- what its records tell
 
 -- the greatest moment of these records and an earlier one
@@ -59,16 +62,16 @@ latest_more format latest (x ∷ xs) r = latest_more format (max latest (own_mom
 
 told_after_more : (format : Format) (latest : ℕ) (records : List Captured) (r : Captured)
     → told_after format latest (records ++ r ∷ [])
-    ≡ told_after format latest records ++ record { moment = max (latest_after format latest records) (own_moment format r); bytes = r.bytes } ∷ []
+    ≡ told_after format latest records ++ record { moment = max (latest_after format latest records) (own_moment format r); link = format.link; bytes = r.bytes } ∷ []
 told_after_more format latest [] r = refl
 told_after_more format latest (x ∷ xs) r =
-    ap (λ ys. record { moment = max latest (own_moment format x); bytes = x.bytes } ∷ ys) (told_after_more format (max latest (own_moment format x)) xs r)
+    ap (λ ys. record { moment = max latest (own_moment format x); link = format.link; bytes = x.bytes } ∷ ys) (told_after_more format (max latest (own_moment format x)) xs r)
 
 -- with one record more, as it is told
 pub told_more : (format : Format) (records : List Captured) (x : Captured) (r : Recorded) (latest : ℕ) → latest ≡ latest_after format 0 records
-    → r ≡ record { moment = max latest (own_moment format x); bytes = x.bytes } → told format (records ++ x ∷ []) ≡ told format records ++ r ∷ []
+    → r ≡ record { moment = max latest (own_moment format x); link = format.link; bytes = x.bytes } → told format (records ++ x ∷ []) ≡ told format records ++ r ∷ []
 told_more format records x r latest is told_is =
-    told_after_more format 0 records x ∙ ap (λ m. told format records ++ record { moment = max m (own_moment format x); bytes = x.bytes } ∷ []) (sym is)
+    told_after_more format 0 records x ∙ ap (λ m. told format records ++ record { moment = max m (own_moment format x); link = format.link; bytes = x.bytes } ∷ []) (sym is)
     ∙ ap (λ s. told format records ++ s ∷ []) (sym told_is)
 
 -- ---- how many entries it has

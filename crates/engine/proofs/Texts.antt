@@ -1,135 +1,57 @@
--- The two texts of a capture whose header is accepted, from what was written one after another.
-use Rattle.std.proofs.Common.{◌≡◌, ◌⊎◌, ℕ, Bool, true, false, List, [], ◌++◌, Option, Some, None, IfSome, Result, Ok, Err, IfErr, refl, sym, subst, ◌∙◌, arith, append-nil, inl, inr}
+-- The two texts of a capture whose header is accepted, by how its records stop.
+use Rattle.std.proofs.Common.{◌≡◌, ◌⊎◌, ℕ, Bool, true, false, List, [], ◌∷◌, ◌++◌, length, Option, Some, None, IfSome, Result, Ok, Err, IfErr, refl, sym, ap, subst, ◌∙◌, arith, append-nil, inl, inr}
 use Rattle.std.specs.Prelude.{IsErrOf}
-use Rattle.std.specs.Io.KnownBytes.{Appends, Keeps}
 use Rattle.pcap_io.specs.declared.format.Format.{Format}
 use Rattle.pcap_io.specs.declared.fault.CaptureFault.{CaptureFault}
 use Rattle.pcap_io.specs.declared.fault.CaptureFault.TheVariants as captures
-use Rattle.pcap_io.specs.Pcap.{Ending, Malformed, Over}
+use Rattle.pcap_io.specs.Pcap.{Ending, Ends}
+use Rattle.pcap_io.specs.Seen.{Seen, ahead}
 use Rattle.pcap_io.specs.Sll2.{sll2_header}
 use Rattle.pcap_io.specs.Counting.{AppendsPart, one_more}
-use Rattle.pcap_io.specs.Waiting.{Gets}
-use Rattle.nft_tree.specs.Tree.{TableTree}
 use Rattle.story.specs.Story.{Entry, capture_text}
-use Rattle.report.specs.Report.{Numbers, Counts, closing_lines}
 use Rattle.stepping.specs.Next.{Setup}
 use Rattle.engine.specs.declared.fault.RunFault.{RunFault}
 use Rattle.engine.specs.declared.fault.RunFault.TheVariants.{Rules, Box, Capture, Device, Memory}
+use Rattle.engine.specs.declared.replay.Replay.{Replay}
 use Rattle.engine.specs.Meaning.{ending_of}
 use Rattle.engine.specs.Refusals.{fault_at}
-use Rattle.engine.specs.Left.{Outputs}
-use Rattle.engine.specs.steps.Replayed.{Interrupted, IsStop, Replayed, ending_at, sent_records}
-use Rattle.engine.specs.steps.Written.{Halted, Held, IsWithin, SaysWithin, Told, Untold, torn_at}
+use Rattle.engine.specs.Left.{Devices}
+use Rattle.engine.specs.steps.Replayed.{AllTold, Follows, Halted, Interrupts, IsStop, PartTold, Plays, Replayed, Start, ending_at}
+use Rattle.engine.specs.steps.Written.{Ended, Finished, Held, IsWithin, SaysWithin, Told, Unfinished, Untold, start_of, torn_at}
 use Rattle.engine.proofs.Stories.{story_length}
-use Rattle.engine.proofs.Writes.{part_same, part_whole, gets_all, gets_more, gets_part, gets_some}
+use Rattle.engine.proofs.Writes.{part_none, part_same}
 
-abbrev outputs : Option (List ℕ) → Option (List ℕ) → ℕ → Outputs
-outputs sent report failures = record { sent = sent; report = report; failures = failures }
+-- ---- how the records stop
 
--- ---- the header
+abbrev IsCapture : RunFault → Type 0
+IsCapture (Rules fault) = ⊥
+IsCapture (Box fault) = ⊥
+IsCapture (Capture fault) = Unit {0}
+IsCapture Device = ⊥
+IsCapture Memory = ⊥
 
--- nothing but a beginning of the header was written
-pub halted_open : (setup : Setup) (format : Format) (a w0 w1 r0 r1 : Option (List ℕ)) (n m : ℕ) → AppendsPart w0 w1 sll2_header → Keeps r0 r1
-    → IfSome a (λ bytes. Halted setup format bytes (outputs w0 r0 n) (outputs w1 r1 m))
-halted_open setup format None w0 w1 r0 r1 n m part kept = tt
-halted_open setup format (Some bytes) w0 w1 r0 r1 n m part kept =
-    record {
-      records = [];
-      more = bytes;
-      joined = refl;
-      each = λ k d lt. absurd (omega (arith, lt));
-      not_over = omega arith;
-      story = [];
-      grows = refl;
-      sent = part_same w0 w1 sll2_header (sll2_header ++ []) part (sym (append-nil sll2_header));
-      report = kept;
-    }
+torn_capture : (stop : Option CaptureFault) → IfErr (torn_at stop) IsCapture
+torn_capture None = tt
+torn_capture (Some captures.TornEnd) = tt
+torn_capture (Some captures.Malformed) = tt
+torn_capture (Some captures.TooMany) = tt
+torn_capture (Some captures.Magic) = tt
+torn_capture (Some captures.Version) = tt
+torn_capture (Some captures.LinkType) = tt
 
--- ---- the records
+-- the fault at which the records stop
+from_stop : (stop : Option CaptureFault) (fault : RunFault) (P : RunFault → Type 0) → torn_at stop ≡ Err fault → IfErr (torn_at stop) P → P fault
+from_stop stop fault P e h = let Q : Result Bool RunFault → Type 0 = λ r. IfErr r P in subst Q e h
 
--- it stopped at or between records
-pub halted_replay : (setup : Setup) (format : Format) (a w0 w1 w2 r0 r1 : Option (List ℕ)) (waits : List ℕ) (n m : ℕ) → Gets [] w0 w1 waits sll2_header
-    → IfSome a (λ bytes. Interrupted setup format bytes waits w1 w2) → Keeps r0 r1 → IfSome a (λ bytes. Halted setup format bytes (outputs w0 r0 n) (outputs w2 r1 m))
-halted_replay setup format None w0 w1 w2 r0 r1 waits n m head i kept = tt
-halted_replay setup format (Some bytes) w0 w1 w2 r0 r1 waits n m head i kept =
-    record {
-      records = i.records;
-      more = i.more;
-      joined = i.joined;
-      each = i.each;
-      not_over = i.not_over;
-      story = i.story;
-      grows = i.grows;
-      sent = gets_part [] waits w0 w1 w2 sll2_header (sent_records i.story) head i.sent;
-      report = kept;
-    }
+pub ended_stop : (start : Start) (story : List Entry) (stop : Option CaptureFault) (w r : Option (List ℕ)) (before after : ℕ) (fault : RunFault) → torn_at stop ≡ Err fault → AllTold start story w r
+    → Ended start story stop w r before after fault
+ended_stop start story stop w r before after (Capture fault) e all = (e, all)
+ended_stop start story stop w r before after (Rules fault) e all = absurd (from_stop stop (Rules fault) IsCapture e (torn_capture stop))
+ended_stop start story stop w r before after (Box fault) e all = absurd (from_stop stop (Box fault) IsCapture e (torn_capture stop))
+ended_stop start story stop w r before after Device e all = absurd (from_stop stop Device IsCapture e (torn_capture stop))
+ended_stop start story stop w r before after Memory e all = absurd (from_stop stop Memory IsCapture e (torn_capture stop))
 
--- the last bytes weren't all written
-pub halted_finish : (setup : Setup) (format : Format) (ending : Ending) (a w0 w1 w2 w3 r0 r1 : Option (List ℕ)) (numbers : Numbers) (waits waits' : List ℕ) (n m : ℕ) → Gets [] w0 w1 waits sll2_header
-    → IfSome a (λ bytes. Replayed setup format bytes ending numbers waits w1 w2 waits') → AppendsPart w2 w3 waits' → Keeps r0 r1
-    → IfSome a (λ bytes. Halted setup format bytes (outputs w0 r0 n) (outputs w3 r1 m))
-halted_finish setup format ending None w0 w1 w2 w3 r0 r1 numbers waits waits' n m head i part kept = tt
-halted_finish setup format ending (Some bytes) w0 w1 w2 w3 r0 r1 numbers waits waits' n m head i part kept =
-    record {
-      records = i.records;
-      more = i.rest;
-      joined = i.joined;
-      each = i.each;
-      not_over = i.not_over;
-      story = i.story;
-      grows = i.grows;
-      sent = gets_some [] waits' w0 w2 w3 (sll2_header ++ sent_records i.story) (gets_more [] waits waits' w0 w1 w2 sll2_header (sent_records i.story) head i.gets) part;
-      report = kept;
-    }
-
--- all of it is written
-all_sent : (w0 w1 w2 w3 : Option (List ℕ)) (waits waits' : List ℕ) (story : List Entry) → Gets [] w0 w1 waits sll2_header → Gets waits w1 w2 waits' (sent_records story) → Appends w2 w3 waits'
-    → Appends w0 w3 (capture_text story)
-all_sent w0 w1 w2 w3 waits waits' story head gets rest = gets_all [] waits' w0 w2 w3 (sll2_header ++ sent_records story) (gets_more [] waits waits' w0 w1 w2 sll2_header (sent_records story) head gets) rest
-
--- ---- after them
-
--- no room for the report
-pub halted_tell : (setup : Setup) (format : Format) (ending : Ending) (a w0 w1 w2 w3 r0 r1 : Option (List ℕ)) (numbers : Numbers) (waits waits' : List ℕ) (n m : ℕ) → Gets [] w0 w1 waits sll2_header
-    → IfSome a (λ bytes. Replayed setup format bytes ending numbers waits w1 w2 waits') → Appends w2 w3 waits' → Keeps r0 r1
-    → IfSome a (λ bytes. Halted setup format bytes (outputs w0 r0 n) (outputs w3 r1 m))
-halted_tell setup format ending a w0 w1 w2 w3 r0 r1 numbers waits waits' n m head i rest kept = halted_finish setup format ending a w0 w1 w2 w3 r0 r1 numbers waits waits' n m head i (part_whole w2 w3 waits' rest) kept
-
--- a refused record
-held : (setup : Setup) (format : Format) (ending : Ending) (fault : CaptureFault) (a w0 w1 w2 w3 r0 r1 : Option (List ℕ)) (numbers : Numbers) (waits waits' : List ℕ) (n m : ℕ) → (fault_at ending ≡ Some fault)
-    → Gets [] w0 w1 waits sll2_header → IfSome a (λ bytes. Replayed setup format bytes ending numbers waits w1 w2 waits') → Appends w2 w3 waits' → Keeps r0 r1
-    → IfSome a (λ bytes. Held setup format bytes fault (outputs w0 r0 n) (outputs w3 r1 m))
-held setup format ending fault None w0 w1 w2 w3 r0 r1 numbers waits waits' n m is head i rest kept = tt
-held setup format ending fault (Some bytes) w0 w1 w2 w3 r0 r1 numbers waits waits' n m is head i rest kept =
-    record {
-      records = i.records;
-      rest = i.rest;
-      joined = i.joined;
-      each = i.each;
-      not_over = i.not_over;
-      ending = ending;
-      refused = is;
-      ends = i.ends;
-      story = i.story;
-      grows = i.grows;
-      sent = all_sent w0 w1 w2 w3 waits waits' i.story head i.gets rest;
-      report = kept;
-    }
-
-pub held_stop : (setup : Setup) (format : Format) (stop : Option CaptureFault) (a w0 w1 w2 w3 r0 r1 : Option (List ℕ)) (numbers : Numbers) (waits waits' : List ℕ) (n m : ℕ) → IsStop stop
-    → Gets [] w0 w1 waits sll2_header → IfSome a (λ bytes. Replayed setup format bytes (ending_at stop) numbers waits w1 w2 waits') → Appends w2 w3 waits' → Keeps r0 r1
-    → IfErr (torn_at stop) (λ fault. IfSome a (λ bytes. SaysWithin setup format bytes (outputs w0 r0 n) (outputs w3 r1 m) fault))
-held_stop setup format None a w0 w1 w2 w3 r0 r1 numbers waits waits' n m is head i rest kept = tt
-held_stop setup format (Some captures.TornEnd) a w0 w1 w2 w3 r0 r1 numbers waits waits' n m is head i rest kept = tt
-held_stop setup format (Some captures.Malformed) a w0 w1 w2 w3 r0 r1 numbers waits waits' n m is head i rest kept =
-    held setup format Malformed captures.Malformed a w0 w1 w2 w3 r0 r1 numbers waits waits' n m refl head i rest kept
-held_stop setup format (Some captures.TooMany) a w0 w1 w2 w3 r0 r1 numbers waits waits' n m is head i rest kept =
-    held setup format Over captures.TooMany a w0 w1 w2 w3 r0 r1 numbers waits waits' n m refl head i rest kept
-held_stop setup format (Some captures.Magic) a w0 w1 w2 w3 r0 r1 numbers waits waits' n m is head i rest kept = absurd is
-held_stop setup format (Some captures.Version) a w0 w1 w2 w3 r0 r1 numbers waits waits' n m is head i rest kept = absurd is
-held_stop setup format (Some captures.LinkType) a w0 w1 w2 w3 r0 r1 numbers waits waits' n m is head i rest kept = absurd is
-
-pub within_stop : (stop : Option CaptureFault) → IsStop stop → IfErr (torn_at stop) IsWithin
+within_stop : (stop : Option CaptureFault) → IsStop stop → IfErr (torn_at stop) IsWithin
 within_stop None is = tt
 within_stop (Some captures.TornEnd) is = tt
 within_stop (Some captures.Malformed) is = tt
@@ -138,17 +60,29 @@ within_stop (Some captures.Magic) is = absurd is
 within_stop (Some captures.Version) is = absurd is
 within_stop (Some captures.LinkType) is = absurd is
 
-pub not_device : (stop : Option CaptureFault) (P : Type 0) → torn_at stop ≡ Err Device → P
-not_device None P e = cc
-not_device (Some captures.TornEnd) P e = cc
-not_device (Some captures.Malformed) P e = cc
-not_device (Some captures.TooMany) P e = cc
-not_device (Some captures.Magic) P e = cc
-not_device (Some captures.Version) P e = cc
-not_device (Some captures.LinkType) P e = cc
+-- a fault after the last record comes within the records
+pub within_end : (stop : Option CaptureFault) (fault : RunFault) → IsStop stop → (fault ≡ Device) ⊎ (torn_at stop ≡ Err fault) → IsWithin fault
+within_end stop fault is (inl e) = subst IsWithin (sym e) tt
+within_end stop fault is (inr e) = from_stop stop fault IsWithin e (within_stop stop is)
+
+abbrev Stops : Option CaptureFault → RunFault → Type 0
+Stops stop (Capture fault) = fault_at (ending_at stop) ≡ Some fault
+Stops stop (Rules fault) = Unit {0}
+Stops stop (Box fault) = Unit {0}
+Stops stop Device = Unit {0}
+Stops stop Memory = Unit {0}
+
+refused_stop : (stop : Option CaptureFault) → IsStop stop → IfErr (torn_at stop) (Stops stop)
+refused_stop None is = tt
+refused_stop (Some captures.TornEnd) is = tt
+refused_stop (Some captures.Malformed) is = refl
+refused_stop (Some captures.TooMany) is = refl
+refused_stop (Some captures.Magic) is = absurd is
+refused_stop (Some captures.Version) is = absurd is
+refused_stop (Some captures.LinkType) is = absurd is
 
 -- the end is torn or not as the records stop
-pub ending_torn : (stop : Option CaptureFault) (torn : Bool) → torn_at stop ≡ Ok torn → ending_at stop ≡ ending_of torn
+ending_torn : (stop : Option CaptureFault) (torn : Bool) → torn_at stop ≡ Ok torn → ending_at stop ≡ ending_of torn
 ending_torn None true e = cc
 ending_torn None false e = refl
 ending_torn (Some captures.TornEnd) true e = refl
@@ -159,84 +93,89 @@ ending_torn (Some captures.Magic) torn e = cc
 ending_torn (Some captures.Version) torn e = cc
 ending_torn (Some captures.LinkType) torn e = cc
 
--- a call of the report's writer failed
-pub untold : (setup : Setup) (format : Format) (stop : Option CaptureFault) (torn : Bool) (a w0 w1 w2 w3 r0 r1 : Option (List ℕ)) (numbers : Numbers) (waits waits' : List ℕ) (n m : ℕ) → torn_at stop ≡ Ok torn
-    → Gets [] w0 w1 waits sll2_header → IfSome a (λ bytes. Replayed setup format bytes (ending_at stop) numbers waits w1 w2 waits') → Appends w2 w3 waits'
-    → ((rules : List TableTree) (story : List Entry) → Counts numbers story → AppendsPart r0 r1 (closing_lines rules story torn)) → m ≡ one_more n
-    → IfSome a (λ bytes. Untold setup format bytes (outputs w0 r0 n) (outputs w3 r1 m))
-untold setup format stop torn None w0 w1 w2 w3 r0 r1 numbers waits waits' n m is head i rest part failed = tt
-untold setup format stop torn (Some bytes) w0 w1 w2 w3 r0 r1 numbers waits waits' n m is head i rest part failed =
-    let j : Replayed setup format bytes (ending_of torn) numbers waits w1 w2 waits' = subst (λ (x : Ending). Replayed setup format bytes x numbers waits w1 w2 waits') (ending_torn stop torn is) i in
+-- ---- before the first record
+
+-- nothing but a beginning of the header was written
+pub halted_open : (start : Start) (format : Format) (a w r : Option (List ℕ)) → start.report ≡ r → AppendsPart start.sent w sll2_header → IfSome a (λ bytes. Halted start format bytes w r)
+halted_open start format None w r same part = tt
+halted_open start format (Some bytes) w r same part =
     record {
-      records = j.records;
-      rest = j.rest;
-      joined = j.joined;
-      each = j.each;
-      not_over = j.not_over;
-      torn = torn;
-      ends = j.ends;
-      story = j.story;
-      grows = j.grows;
-      sent = all_sent w0 w1 w2 w3 waits waits' j.story head j.gets rest;
-      report = part setup.rules j.story j.counts;
-      failed = failed;
+      rest = bytes;
+      story = [];
+      follows = record { records = []; joined = refl; each = λ k d lt. absurd (omega (arith, lt)); not_over = omega arith; grows = refl };
+      part = record {
+        part_sent = part_same start.sent w sll2_header (capture_text []) part (sym (append-nil sll2_header));
+        part_lines = subst (λ (x : Option (List ℕ)). AppendsPart start.report x []) same (part_none start.report []);
+      };
     }
 
--- all is done
-pub told_all : (setup : Setup) (format : Format) (stop : Option CaptureFault) (torn : Bool) (count : ℕ) (a w0 w1 w2 w3 r0 r1 : Option (List ℕ)) (numbers : Numbers) (waits waits' : List ℕ) → torn_at stop ≡ Ok torn
-    → Gets [] w0 w1 waits sll2_header → IfSome a (λ bytes. Replayed setup format bytes (ending_at stop) numbers waits w1 w2 waits') → Appends w2 w3 waits'
-    → ((rules : List TableTree) (story : List Entry) → Counts numbers story → Appends r0 r1 (closing_lines rules story torn)) → count ≡ numbers.records
-    → IfSome a (λ bytes. Told setup format bytes count torn w0 w3 r0 r1)
-told_all setup format stop torn count None w0 w1 w2 w3 r0 r1 numbers waits waits' is head i rest tells counted = tt
-told_all setup format stop torn count (Some bytes) w0 w1 w2 w3 r0 r1 numbers waits waits' is head i rest tells counted =
-    let j : Replayed setup format bytes (ending_of torn) numbers waits w1 w2 waits' = subst (λ (x : Ending). Replayed setup format bytes x numbers waits w1 w2 waits') (ending_torn stop torn is) i in
-    record {
-      records = j.records;
-      rest = j.rest;
-      joined = j.joined;
-      each = j.each;
-      not_over = j.not_over;
-      ends = j.ends;
-      counted = counted ∙ j.counts.records ∙ story_length setup format j.records j.story j.grows;
-      story = j.story;
-      grows = j.grows;
-      appends = all_sent w0 w1 w2 w3 waits waits' j.story head j.gets rest;
-      tells = tells setup.rules j.story j.counts;
-    }
+-- what is said of the bytes to come is said of the capture that was opened
+pub as_opened : (now opened : Seen) (unread : Option (List ℕ)) (P : Format → List ℕ → Type 0) → now ≡ opened → IfSome (ahead now unread) (P now.format) → IfSome (ahead opened unread) (P opened.format)
+as_opened now opened unread P e h = subst (λ (s : Seen). IfSome (ahead s unread) (P s.format)) e h
 
 -- ---- by the fault
 
--- want of memory and device faults leave a beginning
-pub says_halted : {T : Type 0} (setup : Setup) (format : Format) (a : Option (List ℕ)) (old new : Outputs) (fault : RunFault) → IsErrOf {T = T} (Err fault) Device ⊎ IsErrOf {T = T} (Err fault) Memory
-    → IfSome a (λ bytes. Halted setup format bytes old new) → IfSome a (λ bytes. SaysWithin setup format bytes old new fault)
-says_halted setup format None old new fault is h = tt
-says_halted setup format (Some bytes) old new Device is h = inl h
-says_halted setup format (Some bytes) old new Memory is h = h
-says_halted setup format (Some bytes) old new (Rules fault) (inl e) h = cc
-says_halted setup format (Some bytes) old new (Rules fault) (inr e) h = cc
-says_halted setup format (Some bytes) old new (Box fault) (inl e) h = cc
-says_halted setup format (Some bytes) old new (Box fault) (inr e) h = cc
-says_halted setup format (Some bytes) old new (Capture fault) (inl e) h = cc
-says_halted setup format (Some bytes) old new (Capture fault) (inr e) h = cc
+-- one fault, whatever is told where there is none
+pub fault_as : {T U : Type 0} (fault other : RunFault) → IsErrOf {T = T} (Err fault) other → IsErrOf {T = U} (Err fault) other
+fault_as fault other e = let same : fault ≡ other = cc in ap Err same
 
-pub device_halted : (setup : Setup) (format : Format) (a : Option (List ℕ)) (old new : Outputs) → IfSome a (λ bytes. Halted setup format bytes old new) → IfSome a (λ bytes. SaysWithin setup format bytes old new Device)
-device_halted setup format None old new h = tt
-device_halted setup format (Some bytes) old new h = inl h
+pub says_interrupted : (setup : Setup) (trace : Bool) (format : Format) (a : Option (List ℕ)) (old new : Devices) (fault : RunFault)
+    → IfSome a (λ bytes. Interrupts (start_of setup trace old) format bytes new.unread new.sent new.report old.reads_failed new.reads_failed fault) → IfSome a (λ bytes. SaysWithin setup trace format bytes old new fault)
+says_interrupted setup trace format None old new fault h = tt
+says_interrupted setup trace format (Some bytes) old new Device h = inl h
+says_interrupted setup trace format (Some bytes) old new Memory h = h
+says_interrupted setup trace format (Some bytes) old new (Rules fault) h = absurd h
+says_interrupted setup trace format (Some bytes) old new (Box fault) h = absurd h
+says_interrupted setup trace format (Some bytes) old new (Capture fault) h = absurd h
 
--- the report's writer failed, or there was no room for its lines
-pub says_told : {T : Type 0} (setup : Setup) (format : Format) (a : Option (List ℕ)) (old new : Outputs) (fault : RunFault) → IsErrOf {T = T} (Err fault) Device ⊎ IsErrOf {T = T} (Err fault) Memory
-    → (fault ≡ Device → IfSome a (λ bytes. Untold setup format bytes old new)) → (fault ≡ Memory → IfSome a (λ bytes. Halted setup format bytes old new))
-    → IfSome a (λ bytes. SaysWithin setup format bytes old new fault)
-says_told setup format None old new fault is u h = tt
-says_told setup format (Some bytes) old new Device is u h = inr (u refl)
-says_told setup format (Some bytes) old new Memory is u h = h refl
-says_told setup format (Some bytes) old new (Rules fault) (inl e) u h = cc
-says_told setup format (Some bytes) old new (Rules fault) (inr e) u h = cc
-says_told setup format (Some bytes) old new (Box fault) (inl e) u h = cc
-says_told setup format (Some bytes) old new (Box fault) (inr e) u h = cc
-says_told setup format (Some bytes) old new (Capture fault) (inl e) u h = cc
-says_told setup format (Some bytes) old new (Capture fault) (inr e) u h = cc
+-- a fault after the last record
+pub says_ended : (replay : Replay) (setup : Setup) (trace : Bool) (format : Format) (a w r : Option (List ℕ)) (stop : Option CaptureFault) (old new : Devices) (before : ℕ) (fault : RunFault) → IsStop stop
+    → (fault ≡ Device) ⊎ (torn_at stop ≡ Err fault) → new.reads_failed ≡ old.reads_failed → before ≡ old.reports_failed
+    → ((story : List Entry) → Plays replay (start_of setup trace old) story w r → Ended (start_of setup trace old) story stop new.sent new.report before new.reports_failed fault)
+    → IfSome a (λ bytes. Replayed replay (start_of setup trace old) format bytes (ending_at stop) w r) → IfSome a (λ bytes. SaysWithin setup trace format bytes old new fault)
+says_ended replay setup trace format None w r stop old new before fault is why calm same ends i = tt
+says_ended replay setup trace format (Some bytes) w r stop old new before (Rules fault) is why calm same ends i = absurd (ends i.story i.plays)
+says_ended replay setup trace format (Some bytes) w r stop old new before (Box fault) is why calm same ends i = absurd (ends i.story i.plays)
+says_ended replay setup trace format (Some bytes) w r stop old new before Memory is why calm same ends i = absurd (ends i.story i.plays)
+says_ended replay setup trace format (Some bytes) w r stop old new before (Capture fault) is why calm same ends i =
+    let e = ends i.story i.plays in
+    record {
+      rest = i.rest;
+      story = i.story;
+      follows = i.follows;
+      ending = ending_at stop;
+      refused = from_stop stop (Capture fault) (Stops stop) e.0 (refused_stop stop is);
+      ends = i.ends;
+      all = e.1;
+    }
+says_ended replay setup trace format (Some bytes) w r stop old new before Device is why calm same ends i = by_call (ends i.story i.plays)
+  where
+    by_call : Ended (start_of setup trace old) i.story stop new.sent new.report before new.reports_failed Device → SaysWithin setup trace format bytes old new Device
+    by_call (inl part) = inl (inr (record { rest = i.rest; story = i.story; follows = i.follows; part = part }, calm))
+    by_call (inr u) =
+        inr (
+          record {
+            rest = i.rest;
+            story = i.story;
+            follows = i.follows;
+            torn = u.0;
+            ends = subst (λ (x : Ending). Ends format x (length i.follows.records) i.rest) (ending_torn stop u.0 u.1) i.ends;
+            unfinished = u.2;
+          },
+          u.3 ∙ ap one_more same,
+        )
 
--- the fault at which the records stop
-pub from_stop : (stop : Option CaptureFault) (fault : RunFault) (P : RunFault → Type 0) → torn_at stop ≡ Err fault → IfErr (torn_at stop) P → P fault
-from_stop stop fault P e h = let Q : Result Bool RunFault → Type 0 = λ r. IfErr r P in subst Q e h
+-- all is done
+pub told_all : (replay : Replay) (start : Start) (format : Format) (a w w' r r' : Option (List ℕ)) (stop : Option CaptureFault) (torn : Bool) (count : ℕ) → torn_at stop ≡ Ok torn → count ≡ replay.numbers.records
+    → ((story : List Entry) → Plays replay start story w r → Finished start story torn w' r')
+    → IfSome a (λ bytes. Replayed replay start format bytes (ending_at stop) w r) → IfSome a (λ bytes. Told start format bytes count torn w' r')
+told_all replay start format None w w' r r' stop torn count is counted finishes i = tt
+told_all replay start format (Some bytes) w w' r r' stop torn count is counted finishes i =
+    record {
+      rest = i.rest;
+      story = i.story;
+      follows = i.follows;
+      ends = subst (λ (x : Ending). Ends format x (length i.follows.records) i.rest) (ending_torn stop torn is) i.ends;
+      counted = counted ∙ i.plays.reports.records ∙ story_length start.setup format i.follows.records i.story i.follows.grows;
+      finished = finishes i.story i.plays;
+    }

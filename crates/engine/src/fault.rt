@@ -1,8 +1,9 @@
 //! Why a run has no result.
 use box_file::BoxFault;
 use nft_parser::TextFault;
-use pcap_io::CaptureFault;
+use pcap_io::{CaptureFault, DeviceFailed};
 use rule_check::CheckFault;
+use std::alloc::AllocError;
 use thiserror::Error;
 
 /// What a ruleset is refused for.
@@ -35,4 +36,26 @@ pub enum RunFault {
     /// There was no room to grow.
     #[error("memory")]
     Memory,
+}
+
+impl From<DeviceFailed> for RunFault {
+    ghost use Rattle.std.specs.Prelude.{◌≡◌};
+    ghost use Rattle.engine.specs.declared.fault.RunFault.{RunFault};
+
+    ghost from_gives = { λ _ fault. fault ≡ RunFault.Device };
+
+    fn from(_error: DeviceFailed) -> RunFault {
+        RunFault::Device
+    }
+}
+
+impl From<AllocError> for RunFault {
+    ghost use Rattle.std.specs.Prelude.{◌≡◌};
+    ghost use Rattle.engine.specs.declared.fault.RunFault.{RunFault};
+
+    ghost from_gives = { λ _ fault. fault ≡ RunFault.Memory };
+
+    fn from(_error: AllocError) -> RunFault {
+        RunFault::Memory
+    }
 }

@@ -1,90 +1,222 @@
 //! The records of a capture, one after another.
-ghost use Rattle.std.specs.Prelude.{◌≡◌, ◌≢◌, ◌<◌, ◌≤◌, ◌+◌, ◌⊎◌, [], List, Err, None, IfOk, IfErr, IfSome, IsErrOf, OnOk, OnErr};
-ghost use Rattle.pcap_io.specs.Counting.{one_more};
-ghost use Rattle.pcap_io.specs.Seen.{ahead};
-ghost use Rattle.report.specs.Report.{Counts};
-ghost use Rattle.stepping.specs.Stands.{Stands, told_of};
+ghost use Rattle.std.specs.Prelude.{◌≡◌, ◌≢◌, ◌<◌, ◌+◌, ◌⊎◌, [], Bool, List, ℕ, Option, true, false, Ok, Err, None, IfOk, IfErr, IfSome, IsErrOf, OnOk, OnErr, length};
+ghost use Rattle.pcap_io.specs.Counting.{AppendsPart, one_more};
+ghost use Rattle.pcap_io.specs.Seen.{ahead, is_ready};
+ghost use Rattle.pcap_io.specs.Sll2.{sll2_header};
+ghost use Rattle.stepping.specs.Stands.{Stands};
 ghost use Rattle.story.specs.Story.{Entry};
 ghost use Rattle.engine.specs.declared.fault.RunFault.{RunFault};
-ghost use Rattle.engine.specs.steps.Replayed.{Broken, Interrupted, IsStop, Replayed, Taken, ending_at};
+ghost use Rattle.engine.specs.Left.{OneFailed};
+ghost use Rattle.engine.specs.steps.Replayed.{AllTold, Broke, Interrupts, IsStop, OneOfTwo, PartTold, Plays, Replayed, Start, Took, ending_at};
+ghost use Rattle.engine.specs.steps.Written.{Ended, Finished, torn_at};
 
 use crate::fault::RunFault;
-use pcap_io::{Capture, CaptureError, CaptureFault, Counted, Record, Sink};
+use pcap_io::{Capture, CaptureError, CaptureFault, Counted, DeviceFailed, Sink, SinkError};
 use report::Report;
+use std::alloc::Global;
 use std::io::{Read, Write};
 use stepping::{Engine, one_entry};
 
-/// Takes the records until none is left to read, counts them, and writes the packets that leave.
-/// Tells the fault of the capture that the records stop at, none at their end. `Err` is `Device`
-/// or `Memory`.
-pub fn replay<R: Read, W: Write>(
-    engine: &mut Engine,
-    numbers: &mut Report,
-    records: &mut Capture,
-    capture: &mut Counted<R>,
-    sink: &mut Sink,
-    sent: &mut Counted<W>,
-) -> Result<Option<CaptureFault>, RunFault>
-    requires fresh { (records.old.fault ≡ None) × (records.old.count ≡ 0) × (records.old.latest ≡ 0) }
-    requires none { (engine.old.records ≡ 0) × (numbers.old.records ≡ 0) }
-    requires stands { Stands engine.old [] × Counts numbers.old [] }
-    ensures ok { IfOk result (λ stop. IfSome (ahead records.old (R.remaining capture.old.inner)) (λ bytes.
-        Replayed engine.old.setup records.old.format bytes (ending_at stop) numbers.new sink.old.waiting (W.contents sent.old.inner) (W.contents sent.new.inner) sink.new.waiting)) }
-    ensures stop { IfOk result IsStop }
-    ensures interrupted { OnErr result (IfSome (ahead records.old (R.remaining capture.old.inner)) (λ bytes.
-        Interrupted engine.old.setup records.old.format bytes sink.old.waiting (W.contents sent.old.inner) (W.contents sent.new.inner))) }
-    ensures kinds { OnErr result (IsErrOf result RunFault.Device ⊎ IsErrOf result RunFault.Memory) }
-    ensures read_calm { capture.new.failures ≡ capture.old.failures }
-    ensures calm { result ≢ Err RunFault.Device → sent.new.failures ≡ sent.old.failures }
-    ensures device { IsErrOf result RunFault.Device → sent.new.failures ≡ one_more sent.old.failures }
-{
-    'each: loop {
-        match records.next(capture) {
-            Ok(true) => {}
-            Ok(false) => return Ok(None),
-            Err(CaptureError::Refused(fault)) => return Ok(Some(fault)),
-            Err(CaptureError::Device) => return Err(RunFault::Device),
-            Err(CaptureError::Memory) => return Err(RunFault::Memory),
+/// How many notes may wait until they are written.
+const MOST_WAITING: usize = 4096;
+
+/// A run among the records of its capture.
+#[derive(Drop)]
+pub(crate) struct Replay {
+    engine: Engine,
+    numbers: Report,
+    records: Capture,
+    sink: Sink,
+}
+
+impl Replay {
+    /// Before the first record: the header of the capture to write waits or is written.
+    pub(crate) fn new<W: Write>(
+        alloc: Global,
+        engine: Engine,
+        records: Capture,
+        trace: bool,
+        sent: &mut Counted<W>,
+    ) -> Result<Self, RunFault>
+        requires stands { Stands engine [] }
+        ensures same { IfOk result (λ replay. (replay.engine ≡ engine) × (replay.records ≡ records) × (replay.numbers.records ≡ 0)) }
+        ensures plays { (report : Option (List ℕ)) → IfOk result (λ replay. Plays replay (record { setup = engine.setup; trace = trace; sent = W.contents sent.old.inner; report = report }) [] (W.contents sent.new.inner) report) }
+        ensures part { OnErr result (AppendsPart (W.contents sent.old.inner) (W.contents sent.new.inner) sll2_header) }
+        ensures kinds { OnErr result (IsErrOf result RunFault.Device ⊎ IsErrOf result RunFault.Memory) }
+        ensures calm { result ≢ Err RunFault.Device → sent.new.failures ≡ sent.old.failures }
+        ensures device { IsErrOf result RunFault.Device → sent.new.failures ≡ one_more sent.old.failures }
+    {
+        let numbers = Report::new(alloc, engine.rules(), trace)?;
+        let sink = match Sink::open(alloc, sent) {
+            Ok(sink) => sink,
+            Err(SinkError::Device) => return Err(RunFault::Device),
+            Err(SinkError::Memory) => return Err(RunFault::Memory),
+        };
+        Ok(Replay {
+            engine,
+            numbers,
+            records,
+            sink,
+        })
+    }
+
+    /// Takes the records until none is left to read, writes the packets that leave, and tells what
+    /// is done before each read. Answers the fault of the capture that the records stop at, none at
+    /// their end. `Err` is `Device` or `Memory`.
+    pub(crate) fn play<R: Read, W: Write, W2: Write>(
+        &mut self,
+        capture: &mut Counted<R>,
+        sent: &mut Counted<W>,
+        report: &mut Counted<W2>,
+    ) -> Result<Option<CaptureFault>, RunFault>
+        requires fresh { (self.old.records.fault ≡ None) × (self.old.records.count ≡ 0) × (self.old.records.latest ≡ 0) }
+        requires none { self.old.numbers.records ≡ 0 }
+        requires stands { Stands self.old.engine [] }
+        ensures ok { (start : Start) → Plays self.old start [] (W.contents sent.old.inner) (W2.contents report.old.inner)
+            → IfOk result (λ stop. IfSome (ahead self.old.records (R.remaining capture.old.inner)) (λ bytes.
+            Replayed self.new start self.old.records.format bytes (ending_at stop) (W.contents sent.new.inner) (W2.contents report.new.inner))) }
+        ensures stop { IfOk result IsStop }
+        ensures interrupted { (start : Start) → Plays self.old start [] (W.contents sent.old.inner) (W2.contents report.old.inner)
+            → IfErr result (λ fault. IfSome (ahead self.old.records (R.remaining capture.old.inner)) (λ bytes.
+            Interrupts start self.old.records.format bytes (R.remaining capture.new.inner) (W.contents sent.new.inner) (W2.contents report.new.inner) capture.old.failures capture.new.failures fault)) }
+        ensures kinds { OnErr result (IsErrOf result RunFault.Device ⊎ IsErrOf result RunFault.Memory) }
+        ensures calm { result ≢ Err RunFault.Device → (capture.new.failures ≡ capture.old.failures) × (sent.new.failures ≡ sent.old.failures) × (report.new.failures ≡ report.old.failures) }
+        ensures device { IsErrOf result RunFault.Device → OneFailed capture.old.failures capture.new.failures sent.old.failures sent.new.failures report.old.failures report.new.failures }
+    {
+        'each: loop {
+            self.keep_up(sent, report)?;
+            match self.records.next(capture) {
+                Ok(true) => {}
+                Ok(false) => return Ok(None),
+                Err(CaptureError::Refused(fault)) => return Ok(Some(fault)),
+                Err(CaptureError::Device) => return Err(RunFault::Device),
+                Err(CaptureError::Memory) => return Err(RunFault::Memory),
+            }
+            self.take(sent)?;
         }
-        let Some(record) = records.record() else {
+    }
+
+    /// Tells what is done where the next record has to be read first, so that whoever waits for it
+    /// sees all, and where much waits to be told.
+    fn keep_up<W: Write, W2: Write>(
+        &mut self,
+        sent: &mut Counted<W>,
+        report: &mut Counted<W2>,
+    ) -> Result<(), DeviceFailed>
+        ensures ok { (start : Start) (story : List Entry) → Plays self.old start story (W.contents sent.old.inner) (W2.contents report.old.inner)
+            → OnOk result (Plays self.new start story (W.contents sent.new.inner) (W2.contents report.new.inner)) }
+        // No read comes before all is told.
+        ensures told { (start : Start) (story : List Entry) → Plays self.old start story (W.contents sent.old.inner) (W2.contents report.old.inner)
+            → is_ready self.old.records ≡ false → OnOk result (AllTold start story (W.contents sent.new.inner) (W2.contents report.new.inner)) }
+        ensures part { (start : Start) (story : List Entry) → Plays self.old start story (W.contents sent.old.inner) (W2.contents report.old.inner)
+            → OnErr result (PartTold start story (W.contents sent.new.inner) (W2.contents report.new.inner)) }
+        ensures same { (self.new.engine ≡ self.old.engine) × (self.new.records ≡ self.old.records) × (self.new.numbers.records ≡ self.old.numbers.records) }
+        ensures calm { OnOk result ((sent.new.failures ≡ sent.old.failures) × (report.new.failures ≡ report.old.failures)) }
+        ensures device { OnErr result (OneOfTwo sent.old.failures sent.new.failures report.old.failures report.new.failures) }
+    {
+        if self.records.is_ready() && self.numbers.waits() <= MOST_WAITING {
+            return Ok(());
+        }
+        self.tell(sent, report)
+    }
+
+    /// Writes what waits of the packets, and the lines of what is noted.
+    fn tell<W: Write, W2: Write>(
+        &mut self,
+        sent: &mut Counted<W>,
+        report: &mut Counted<W2>,
+    ) -> Result<(), DeviceFailed>
+        ensures ok { (start : Start) (story : List Entry) → Plays self.old start story (W.contents sent.old.inner) (W2.contents report.old.inner)
+            → OnOk result (Plays self.new start story (W.contents sent.new.inner) (W2.contents report.new.inner) × AllTold start story (W.contents sent.new.inner) (W2.contents report.new.inner)) }
+        ensures part { (start : Start) (story : List Entry) → Plays self.old start story (W.contents sent.old.inner) (W2.contents report.old.inner)
+            → OnErr result (PartTold start story (W.contents sent.new.inner) (W2.contents report.new.inner)) }
+        ensures same { (self.new.engine ≡ self.old.engine) × (self.new.records ≡ self.old.records) × (self.new.numbers.records ≡ self.old.numbers.records) }
+        ensures calm { OnOk result ((sent.new.failures ≡ sent.old.failures) × (report.new.failures ≡ report.old.failures)) }
+        ensures device { OnErr result (OneOfTwo sent.old.failures sent.new.failures report.old.failures report.new.failures) }
+    {
+        self.sink.send(sent)?;
+        self.numbers.drain(self.engine.rules(), report)?;
+        Ok(())
+    }
+
+    /// Takes the record that was read last, notes it, and puts the packet that it sends on, if it
+    /// does.
+    fn take<W: Write>(&mut self, sent: &mut Counted<W>) -> Result<(), RunFault>
+        requires read { self.old.records.last ≢ None }
+        requires early { IfSome self.old.records.last (λ taken. taken.moment < 4294967296000000000) }
+        requires few { (self.old.engine.records < 4294967296) × (self.old.numbers.records < 4294967296) }
+        requires stands { (story : List Entry) × Stands self.old.engine story }
+        ensures ok { (start : Start) (story : List Entry) (report : Option (List ℕ)) → Plays self.old start story (W.contents sent.old.inner) report
+            → OnOk result (IfSome self.old.records.last (λ taken. Took self.new start story taken (W.contents sent.new.inner) report)) }
+        ensures broken { (start : Start) (story : List Entry) (report : Option (List ℕ)) → Plays self.old start story (W.contents sent.old.inner) report
+            → OnErr result (IfSome self.old.records.last (λ taken. Broke start story taken (W.contents sent.new.inner) report)) }
+        ensures stands { OnOk result ((story : List Entry) × Stands self.new.engine story) }
+        ensures counted { OnOk result ((self.new.engine.records ≡ self.old.engine.records + 1) × (self.new.numbers.records ≡ self.old.numbers.records + 1)) }
+        ensures same { self.new.records ≡ self.old.records }
+        ensures kinds { OnErr result (IsErrOf result RunFault.Device ⊎ IsErrOf result RunFault.Memory) }
+        ensures calm { result ≢ Err RunFault.Device → sent.new.failures ≡ sent.old.failures }
+        ensures device { IsErrOf result RunFault.Device → sent.new.failures ≡ one_more sent.old.failures }
+    {
+        // A record that can't be taken has an entry too.
+        one_entry();
+        self.engine.judged();
+        let Some(record) = self.records.record() else {
             unreachable!()
         };
-        take(engine, numbers, &record, sink, sent)?;
+        self.engine.step(&record)?;
+        let Some(entry) = self.engine.entry() else {
+            unreachable!()
+        };
+        self.numbers.note(&entry)?;
+        if let Some(leaving) = self.engine.leaving() {
+            self.sink.put(sent, &leaving)?;
+        }
+        Ok(())
+    }
+
+    /// Writes what is left of both texts and flushes both writers: tells whether the end of the
+    /// records is torn. Where they stop at another fault, that fault, and no line of what comes
+    /// after the last record.
+    pub(crate) fn finish<W: Write, W2: Write>(
+        &mut self,
+        stop: Option<CaptureFault>,
+        sent: &mut Counted<W>,
+        report: &mut Counted<W2>,
+    ) -> Result<bool, RunFault>
+        ensures torn { IfOk result (λ torn. torn_at stop ≡ Ok torn) }
+        ensures ok { (start : Start) (story : List Entry) → Plays self.old start story (W.contents sent.old.inner) (W2.contents report.old.inner)
+            → IfOk result (λ torn. Finished start story torn (W.contents sent.new.inner) (W2.contents report.new.inner)) }
+        ensures flushed { OnOk result ((sent.new.is_flushed ≡ true) × (report.new.is_flushed ≡ true)) }
+        ensures ended { (start : Start) (story : List Entry) → Plays self.old start story (W.contents sent.old.inner) (W2.contents report.old.inner)
+            → IfErr result (Ended start story stop (W.contents sent.new.inner) (W2.contents report.new.inner) report.old.failures report.new.failures) }
+        ensures kinds { IfErr result (λ fault. (fault ≡ RunFault.Device) ⊎ (torn_at stop ≡ Err fault)) }
+        ensures records { self.new.numbers.records ≡ self.old.numbers.records }
+        ensures calm { result ≢ Err RunFault.Device → (sent.new.failures ≡ sent.old.failures) × (report.new.failures ≡ report.old.failures) }
+        ensures device { IsErrOf result RunFault.Device → OneOfTwo sent.old.failures sent.new.failures report.old.failures report.new.failures }
+    {
+        self.sink.finish(sent)?;
+        self.numbers.drain(self.engine.rules(), report)?;
+        let torn = torn_at(stop)?;
+        // No connection is kept, so none lives.
+        self.numbers.lines(self.engine.rules(), 0, torn, report)?;
+        Ok(torn)
+    }
+
+    /// How many records were taken.
+    pub(crate) fn records(&self) -> u64
+        ensures { result ≡ self.now.numbers.records }
+    {
+        self.numbers.records()
     }
 }
 
-/// Takes one record, counts it, and writes the packet that it sends on, if it does.
-fn take<W: Write>(
-    engine: &mut Engine,
-    numbers: &mut Report,
-    record: &Record,
-    sink: &mut Sink,
-    sent: &mut Counted<W>,
-) -> Result<(), RunFault>
-    requires few { (engine.old.records < 4294967296) × (numbers.old.records < 4294967296) }
-    requires early { record.now.moment < 4294967296000000000 }
-    ensures ok { (story : List Entry) → Stands engine.old story → Counts numbers.old story
-        → OnOk result (Taken engine.old.setup story (told_of record.now) engine.new numbers.new sink.old.waiting (W.contents sent.old.inner) (W.contents sent.new.inner) sink.new.waiting) }
-    ensures broken { (story : List Entry) → Stands engine.old story
-        → OnErr result (Broken engine.old.setup story (told_of record.now) sink.old.waiting (W.contents sent.old.inner) (W.contents sent.new.inner)) }
-    ensures setup { engine.new.setup ≡ engine.old.setup }
-    ensures records { OnOk result ((engine.new.records ≡ engine.old.records + 1) × (numbers.new.records ≡ numbers.old.records + 1)) }
-    ensures kinds { OnErr result (IsErrOf result RunFault.Device ⊎ IsErrOf result RunFault.Memory) }
-    ensures calm { result ≢ Err RunFault.Device → sent.new.failures ≡ sent.old.failures }
-    ensures device { IsErrOf result RunFault.Device → sent.new.failures ≡ one_more sent.old.failures }
+/// Whether the end of the records is torn, which is no fault of a run; or the fault that they stop at.
+fn torn_at(stop: Option<CaptureFault>) -> Result<bool, RunFault>
+    ensures { result ≡ torn_at stop }
 {
-    // A record that can't be taken has an entry too.
-    one_entry();
-    engine.judged();
-    let Ok(outcome) = engine.step(record) else {
-        return Err(RunFault::Memory);
-    };
-    numbers.note(outcome);
-    let Some(leaving) = engine.leaving() else {
-        return Ok(());
-    };
-    match sink.put(sent, &leaving) {
-        Ok(()) => Ok(()),
-        Err(_) => Err(RunFault::Device),
+    match stop {
+        None => Ok(false),
+        Some(CaptureFault::TornEnd) => Ok(true),
+        Some(fault) => Err(RunFault::Capture(fault)),
     }
 }

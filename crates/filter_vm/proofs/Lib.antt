@@ -1,4 +1,5 @@
 pub mod Joining
 pub mod Tables
+pub mod Guarded
 pub mod Turns
 pub mod Ticks

@@ -2,3 +2,4 @@
 pub mod Joins
 pub mod Sayings
 pub mod Moves
+pub mod Guarding

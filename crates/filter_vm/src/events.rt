@@ -64,11 +64,11 @@ impl Events {
         self.list.push_reserved(event);
     }
 
-    /// One more statement.
-    pub(crate) fn tick(&mut self)
-        requires { self.old.ticks + 1 < 2 ^ 32 }
-        ensures { self.new ≡ record { events = self.old.events; ticks = self.old.ticks + 1 } }
+    /// So many more statements.
+    pub(crate) fn tick(&mut self, count: u32)
+        requires { self.old.ticks + count < 2 ^ 32 }
+        ensures { self.new ≡ record { events = self.old.events; ticks = self.old.ticks + count } }
     {
-        self.ticks += 1;
+        self.ticks += count;
     }
 }

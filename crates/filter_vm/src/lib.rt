@@ -5,6 +5,7 @@
 mod actions;
 mod code;
 mod events;
+mod guards;
 mod joined;
 mod machine;
 mod reading;
@@ -12,4 +13,5 @@ mod stack;
 
 pub use code::{Action, Code, Instruction, Lookups, Operand, Start, Step, TableCode};
 pub use events::Events;
-pub use machine::run;
+pub use guards::Steps;
+pub use machine::{run, run_in_place};

@@ -1,4 +1,4 @@
-//! `nftrun run RULES BOX IN OUT`: shows what each packet of a capture would meet.
+//! `nftrun run [--trace] RULES BOX IN OUT`: shows what each packet of a capture would meet.
 //! `nftrun check RULES BOX`: judges a ruleset before it is loaded.
 #![tactic(auto)]
 

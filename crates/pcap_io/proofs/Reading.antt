@@ -7,7 +7,7 @@ use Rattle.std.specs.Result.{result_err}
 use Rattle.pcap_io.specs.declared.fault.CaptureFault.{CaptureFault}
 use Rattle.pcap_io.specs.declared.format.Format.{Format}
 use Rattle.pcap_io.specs.Pcap.{Captured, frame, IsRecord, IsGood, format_of, header_fault, in_second, captured_length_in, fraction_in, stream_of, Ending, Whole, Torn, Malformed, Over, Ends, Pcap, HEADER_BYTES, MOST_CAPTURED, MOST_RECORDS}
-use Rattle.pcap_io.proofs.Steps.{captured_length_kept, fraction_kept, captured_at, joined_at, is_record_at}
+use Rattle.pcap_io.proofs.Steps.{captured_length_kept, fraction_kept, captured_of, joined_of, is_record_of}
 
 all_head : (format : Format) (x : Captured) (xs : List Captured) → All (IsRecord format) (x ∷ xs) → IsRecord format x
 all_head format x xs h = h 0 x (omega arith)
@@ -165,7 +165,7 @@ from_record : (format : Format) (count : ℕ) (bytes : List ℕ) → 16 ≤ leng
     → From format (count + 1) (drop (16 + captured_length_in format bytes) bytes) → From format count bytes
 from_record format count bytes long good there after =
     let n : ℕ = captured_length_in format bytes in
-    from_cons format count bytes (captured_at bytes 0 n (16 + n)) (drop (16 + n) bytes) (joined_at bytes 0 n (16 + n) (omega arith) there) (is_record_at format bytes 0 n (16 + n) (omega arith) there refl good) after
+    from_cons format count bytes (captured_of n bytes) (drop (16 + n) bytes) (joined_of n bytes) (is_record_of format n bytes there refl good) after
 
 -- with room for so many records more
 reading_from : (format : Format) (room count : ℕ) (bytes : List ℕ) → count + room ≡ MOST_RECORDS → From format count bytes

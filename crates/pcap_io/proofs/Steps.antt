@@ -1,33 +1,29 @@
 -- One record of what is held.
-use Rattle.std.proofs.Common.{◌≡◌, ◌≢◌, ℕ, ◌+◌, ◌-◌, ◌*◌, ◌<◌, ◌≤◌, max, List, [], ◌++◌, length, take, drop, Option, Some, refl, sym, ap, ◌∙◌, arith, length-drop, append_assoc}
-use Rattle.std.specs.Prelude.{slice_range}
-use Rattle.std.proofs.Math.Seq.{take-length}
-use Rattle.std.proofs.lemmas.List.Folds.{drop_split}
-use Rattle.std.proofs.lemmas.List.{length-take, take-append-drop, drop-drop}
-use Rattle.byteorder.specs.Numbers.{little_from-take}
+use Rattle.std.proofs.Common.{◌≡◌, ◌≢◌, ℕ, ◌+◌, ◌-◌, ◌*◌, ◌<◌, ◌≤◌, max, Bool, true, false, List, [], ◌++◌, length, take, drop, ◌⊎◌, inl, inr, Option, Some, None, Result, Ok, Err, refl, sym, ap, subst, ◌∙◌, arith, length-drop, length-append, append_assoc}
+use Rattle.std.specs.Prelude.{◌==◌, ◌&&◌, ◌||◌, nat_lt, not, cond}
+use Rattle.std.proofs.lemmas.Bool.{ltb-true, ltb-false, lt-ltb, le-ltb, eqb-true, eqb-false, eq-eqb, ne_eqb, cases_lt, cases_eq}
+use Rattle.std.proofs.Math.Seq.{drop-append_seam}
+use Rattle.std.proofs.lemmas.List.{length-take, length-take-le, take-append-drop, take-append-le, drop-append-le, drop-take, drop-drop}
+use Rattle.byteorder.specs.Numbers.{little_from-take, big_from-take}
 use Rattle.pcap_io.specs.declared.fault.CaptureError.{CaptureError}
 use Rattle.pcap_io.specs.declared.format.Order.{Order}
-use Rattle.pcap_io.specs.declared.format.Order.TheVariants.{LowestFirst}
+use Rattle.pcap_io.specs.declared.format.Order.TheVariants.{LowestFirst, HighestFirst}
 use Rattle.pcap_io.specs.declared.format.Format.{Format}
-use Rattle.pcap_io.specs.Pcap.{Captured, IsRecord, IsGood, frame, own_moment, number_in, nanoseconds, captured_length_in, seconds_in, fraction_in, MOST_RECORDS}
+use Rattle.pcap_io.specs.Pcap.{Captured, IsRecord, IsGood, frame, own_moment, number_in, nanoseconds, captured_length_in, seconds_in, fraction_in, in_second, MOST_RECORDS}
 use Rattle.pcap_io.specs.Seen.{Reads}
-use Rattle.pcap_io.specs.steps.Placed.{seen_in}
-
--- what stands between two places has their distance as its length
-range_length : (bytes : List ℕ) (from to : ℕ) → from ≤ to → to ≤ length bytes → length (slice_range bytes from to) ≡ to - from
-range_length bytes from to h k = grind (arith, length-take, length-drop)
-
--- a range to the end
-pub range_to_end : (xs ys : List ℕ) (place : ℕ) → xs ≡ ys → slice_range xs place (length xs) ≡ drop place ys
-range_to_end xs ys place e = ap (λ k. take k (drop place xs)) (sym (length-drop place xs)) ∙ take-length (drop place xs) ∙ ap (drop place) e
-
--- before the end some bytes are left
-pub some_left : (bytes : List ℕ) (place : ℕ) → place ≤ length bytes → (place ≡ length bytes → ⊥) → drop place bytes ≢ []
-some_left bytes place within before e = let none : length (drop place bytes) ≡ 0 = ap length e in before (omega (arith, within, none, length-drop place bytes))
+use Rattle.pcap_io.specs.steps.Ahead.{Ahead, last_of}
+use Rattle.pcap_io.specs.declared.format.LinkType.{LinkType}
+use Rattle.pcap_io.specs.steps.Placed.{seen_in, last_in}
 
 -- a number reads no byte past its end
-number_in-take : (order : Order) (i n m : ℕ) (xs : List ℕ) → i + n ≤ m → number_in order i n (take m xs) ≡ number_in order i n xs
+pub number_in-take : (order : Order) (i n m : ℕ) (xs : List ℕ) → i + n ≤ m → number_in order i n (take m xs) ≡ number_in order i n xs
 number_in-take LowestFirst i n m xs h = little_from-take i n m xs h
+number_in-take HighestFirst i n m xs h = big_from-take i n m xs h
+
+-- nor do the bytes behind change it
+pub number_in-append : (order : Order) (i n m : ℕ) (xs ys : List ℕ) → i + n ≤ m → m ≤ length xs → number_in order i n (xs ++ ys) ≡ number_in order i n xs
+number_in-append order i n m xs ys h long =
+    sym (number_in-take order i n m (xs ++ ys) h) ∙ ap (number_in order i n) (take-append-le m xs ys long) ∙ number_in-take order i n m xs h
 
 -- the numbers of a header are those of its 16 bytes
 pub captured_length_kept : (format : Format) (xs : List ℕ) → captured_length_in format (take 16 xs) ≡ captured_length_in format xs
@@ -39,54 +35,70 @@ fraction_kept format xs = number_in-take format.order 4 4 16 xs (omega arith)
 pub seconds_kept : (format : Format) (xs : List ℕ) → seconds_in format (take 16 xs) ≡ seconds_in format xs
 seconds_kept format xs = number_in-take format.order 0 4 16 xs (omega arith)
 
--- the record at a place
-abbrev pub captured_at : List ℕ → ℕ → ℕ → ℕ → Captured
-captured_at bytes place n after = record { head = take 16 (drop place bytes); bytes = slice_range bytes (after - n) after }
+-- and stay where more bytes follow
+pub captured_length_before : (format : Format) (xs ys : List ℕ) → 16 ≤ length xs → captured_length_in format (xs ++ ys) ≡ captured_length_in format xs
+captured_length_before format xs ys long = number_in-append format.order 8 4 16 xs ys (omega arith) long
 
--- its bytes are held
-pub joined_at : (bytes : List ℕ) (place n after : ℕ) → after ≡ place + (16 + n) → after ≤ length bytes → drop place bytes ≡ frame (captured_at bytes place n after) ++ drop after bytes
-joined_at bytes place n after e fits =
-    let rest : List ℕ = drop place bytes in
-    let range : List ℕ = slice_range bytes (after - n) after in
-    let from : place + 16 ≡ after - n = omega arith in
-    let split : drop (after - n) bytes ≡ range ++ drop after bytes = drop_split bytes (after - n) after (omega arith) in
-    let back : drop 16 rest ≡ drop (after - n) bytes = drop-drop 16 place bytes ∙ ap (λ k. drop k bytes) from in
-    sym (take-append-drop 16 rest) ∙ ap (λ ys. take 16 rest ++ ys) (back ∙ split) ∙ sym (append_assoc (take 16 rest) range (drop after bytes))
+pub fraction_before : (format : Format) (xs ys : List ℕ) → 16 ≤ length xs → fraction_in format (xs ++ ys) ≡ fraction_in format xs
+fraction_before format xs ys long = number_in-append format.order 4 4 16 xs ys (omega arith) long
+
+-- the record that some bytes begin with
+abbrev pub captured_of : ℕ → List ℕ → Captured
+captured_of n bytes = record { head = take 16 bytes; bytes = take n (drop 16 bytes) }
+
+-- its bytes, and then the others
+pub joined_of : (n : ℕ) (bytes : List ℕ) → bytes ≡ frame (captured_of n bytes) ++ drop (16 + n) bytes
+joined_of n bytes =
+    let rest : List ℕ = drop 16 bytes in
+    let split : rest ≡ take n rest ++ drop (16 + n) bytes = sym (take-append-drop n rest) ∙ ap (λ ys. take n rest ++ ys) (drop-drop n 16 bytes) in
+    sym (take-append-drop 16 bytes) ∙ ap (λ ys. take 16 bytes ++ ys) split ∙ sym (append_assoc (take 16 bytes) (take n rest) (drop (16 + n) bytes))
 
 -- it is a record
-pub is_record_at : (format : Format) (bytes : List ℕ) (place n after : ℕ) → after ≡ place + (16 + n) → after ≤ length bytes
-    → n ≡ captured_length_in format (drop place bytes) → IsGood format (drop place bytes) → IsRecord format (captured_at bytes place n after)
-is_record_at format bytes place n after e fits is good =
-    let rest : List ℕ = drop place bytes in
-    let lengths : captured_length_in format (take 16 rest) ≡ captured_length_in format rest = captured_length_kept format rest in
-    let fractions : fraction_in format (take 16 rest) ≡ fraction_in format rest = fraction_kept format rest in
-    let long : length (slice_range bytes (after - n) after) ≡ after - (after - n) = range_length bytes (after - n) after (omega arith) fits in
+pub is_record_of : (format : Format) (n : ℕ) (bytes : List ℕ) → 16 + n ≤ length bytes → n ≡ captured_length_in format bytes → IsGood format bytes → IsRecord format (captured_of n bytes)
+is_record_of format n bytes fits is good =
+    let lengths : captured_length_in format (take 16 bytes) ≡ captured_length_in format bytes = captured_length_kept format bytes in
+    let fractions : fraction_in format (take 16 bytes) ≡ fraction_in format bytes = fraction_kept format bytes in
+    let long : length (take n (drop 16 bytes)) ≡ n = length-take-le n (drop 16 bytes) (omega (arith, length-drop 16 bytes)) in
     record {
-      head_length = grind (arith, length-take, length-drop);
+      head_length = length-take-le 16 bytes (omega arith);
       good = (rw lengths good.0, rw fractions good.1);
-      captured = lengths ∙ sym is ∙ sym (long ∙ omega arith);
+      captured = lengths ∙ sym is ∙ sym long;
     }
 
+-- its bytes are those that were taken last
+pub last_taken : (n : ℕ) (taken bytes : List ℕ) → 16 + n ≤ length bytes → last_of n (taken ++ take (16 + n) bytes) ≡ take n (drop 16 bytes)
+last_taken n taken bytes fits =
+    let front : List ℕ = take (16 + n) bytes in
+    let long : length front ≡ 16 + n = length-take-le (16 + n) bytes fits in
+    let from : length (taken ++ front) - n ≡ length taken + 16 = omega (arith, long, length-append taken front) in
+    ap (λ k. drop k (taken ++ front)) from ∙ sym (drop-drop 16 (length taken) (taken ++ front)) ∙ ap (drop 16) (drop-append_seam taken front) ∙ drop-take 16 n bytes
+
 -- one more record is read
-pub reads_at : (format : Format) (bytes : List ℕ) (place n after seconds fraction count more latest moment : ℕ) (fault fault' : Option CaptureError) (last : Option ℕ)
-    → after ≡ place + (16 + n) → after ≤ length bytes
-    → n ≡ captured_length_in format (drop place bytes) → seconds ≡ seconds_in format (drop place bytes) → fraction ≡ fraction_in format (drop place bytes) → IsGood format (drop place bytes)
-    → count < MOST_RECORDS → more ≡ count + 1 → moment ≡ max latest (seconds * 1000000000 + fraction * nanoseconds format.fractions)
-    → Reads (drop place bytes) (Some (drop after bytes)) (seen_in format bytes place count latest fault last) (seen_in format bytes after more moment fault' (Some n))
-reads_at format bytes place n after seconds fraction count more latest moment fault fault' last e fits is_n is_seconds is_fraction good few one_more is_moment =
-    let rest : List ℕ = drop place bytes in
-    let s : seconds ≡ seconds_in format (take 16 rest) = is_seconds ∙ sym (seconds_kept format rest) in
-    let f : fraction ≡ fraction_in format (take 16 rest) = is_fraction ∙ sym (fraction_kept format rest) in
-    let own : seconds * 1000000000 + fraction * nanoseconds format.fractions ≡ own_moment format (captured_at bytes place n after) =
-    ap (λ k. k * 1000000000 + fraction * nanoseconds format.fractions) s ∙ ap (λ k. seconds_in format (take 16 rest) * 1000000000 + k * nanoseconds format.fractions) f in
+pub reads_one : (format : Format) (a : Ahead) (more : List ℕ) (n seconds fraction count next_count latest moment : ℕ) (fault fault' : Option CaptureError) (last : Option ℕ)
+    → 16 + n ≤ length a.held
+    → n ≡ captured_length_in format a.held → seconds ≡ seconds_in format a.held → fraction ≡ fraction_in format a.held → IsGood format a.held
+    → count < MOST_RECORDS → next_count ≡ count + 1 → moment ≡ max latest (seconds * 1000000000 + fraction * nanoseconds format.fractions)
+    → Reads (a.held ++ more) (Some (drop (16 + n) a.held ++ more)) (seen_in format a count latest fault last)
+    (seen_in format (record { taken = a.taken ++ take (16 + n) a.held; held = drop (16 + n) a.held; ended = a.ended }) next_count moment fault' (Some n))
+reads_one format a more n seconds fraction count next_count latest moment fault fault' last fits is_n is_seconds is_fraction good few one_more is_moment =
+    let held : List ℕ = a.held in
+    let s : seconds ≡ seconds_in format (take 16 held) = is_seconds ∙ sym (seconds_kept format held) in
+    let f : fraction ≡ fraction_in format (take 16 held) = is_fraction ∙ sym (fraction_kept format held) in
+    let own : seconds * 1000000000 + fraction * nanoseconds format.fractions ≡ own_moment format (captured_of n held) =
+    ap (λ k. k * 1000000000 + fraction * nanoseconds format.fractions) s ∙ ap (λ k. seconds_in format (take 16 held) * 1000000000 + k * nanoseconds format.fractions) f in
     record {
-      captured = captured_at bytes place n after;
-      rest = drop after bytes;
+      captured = captured_of n held;
+      rest = drop (16 + n) held ++ more;
       left = refl;
-      joined = joined_at bytes place n after e fits;
-      is_record = is_record_at format bytes place n after e fits is_n good;
+      joined = ap (λ ys. ys ++ more) (joined_of n held) ∙ append_assoc (frame (captured_of n held)) (drop (16 + n) held) more;
+      is_record = is_record_of format n held fits is_n good;
       fewer = few;
       counted = one_more;
       latest_is = is_moment ∙ ap (λ k. max latest k) own;
-      last_is = refl;
+      last_is = ap (λ bytes. Some (record { moment = moment; link = format.link; bytes = bytes })) (last_taken n a.taken held fits);
     }
+
+-- where no record is shown none was read last
+pub no_last : (link : LinkType) (taken : List ℕ) (latest : ℕ) (last : Option ℕ) → last_in link taken latest last ≡ None → last ≡ None
+no_last link taken latest None is = refl
+no_last link taken latest (Some n) is = cc

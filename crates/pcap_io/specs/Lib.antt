@@ -1,4 +1,5 @@
 pub mod Counting
+pub mod Links
 pub mod Pcap
 pub mod Seen
 pub mod Sll2

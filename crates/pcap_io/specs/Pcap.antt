@@ -2,15 +2,15 @@
 use Rattle.std.specs.Prelude.{◌≡◌, ◌≢◌, ◌<◌, ◌≤◌, ◌+◌, ◌*◌, ◌%◌, ◌==◌, nat_lt, not, max, ℕ, List, [], ◌∷◌, ◌++◌, length, drop, All, ◌⊎◌, Option, Some, None, Result, Ok, Err, if◌then◌else◌}
 use Rattle.std.specs.List.{flat_map}
 use Rattle.std.specs.Result.{result_err}
-use Rattle.byteorder.specs.Endian.{little_from}
+use Rattle.byteorder.specs.Endian.{little_from, big_from}
 use Rattle.pcap_io.specs.declared.fault.CaptureFault.{CaptureFault}
-use Rattle.pcap_io.specs.declared.fault.CaptureFault.TheVariants.{TornEnd, Magic, Version, LinkType}
+use Rattle.pcap_io.specs.declared.fault.CaptureFault.TheVariants as faults
 use Rattle.pcap_io.specs.declared.format.Order.{Order}
-use Rattle.pcap_io.specs.declared.format.Order.TheVariants.{LowestFirst}
+use Rattle.pcap_io.specs.declared.format.Order.TheVariants.{LowestFirst, HighestFirst}
 use Rattle.pcap_io.specs.declared.format.Fractions.{Fractions}
-use Rattle.pcap_io.specs.declared.format.Fractions.TheVariants.{Microseconds}
-use Rattle.pcap_io.specs.declared.format.Link.{Link}
-use Rattle.pcap_io.specs.declared.format.Link.TheVariants.{Raw}
+use Rattle.pcap_io.specs.declared.format.Fractions.TheVariants.{Microseconds, Nanoseconds}
+use Rattle.pcap_io.specs.declared.format.LinkType.{LinkType}
+use Rattle.pcap_io.specs.declared.format.LinkType.TheVariants.{Ethernet, Raw, Sll2}
 use Rattle.pcap_io.specs.declared.format.Format.{Format}
 
 -- ---- the header of a file, which tells its format
@@ -18,14 +18,17 @@ use Rattle.pcap_io.specs.declared.format.Format.{Format}
 -- the number in so many bytes from a place on
 abbrev pub number_in : Order → ℕ → ℕ → List ℕ → ℕ
 number_in LowestFirst place count bytes = little_from place count bytes
+number_in HighestFirst place count bytes = big_from place count bytes
 
 -- how many of these fractions a second has
 abbrev pub in_second : Fractions → ℕ
 in_second Microseconds = 1000000
+in_second Nanoseconds = 1000000000
 
 -- how many nanoseconds such a fraction is
 abbrev pub nanoseconds : Fractions → ℕ
 nanoseconds Microseconds = 1000
+nanoseconds Nanoseconds = 1
 
 abbrev pub HEADER_BYTES : ℕ
 HEADER_BYTES = 24
@@ -34,37 +37,47 @@ HEADER_BYTES = 24
 abbrev pub MICROSECOND_MAGIC : ℕ
 MICROSECOND_MAGIC = 2712847316
 
--- the order of the file's numbers and its fractions, which the magic number tells
+-- a1b23c4d
+abbrev pub NANOSECOND_MAGIC : ℕ
+NANOSECOND_MAGIC = 2712812621
+
+-- the fractions that a magic number tells
+abbrev pub fractions_of : ℕ → Option Fractions
+fractions_of number = if number == MICROSECOND_MAGIC then Some Microseconds else (if number == NANOSECOND_MAGIC then Some Nanoseconds else None)
+
+-- the order of the file's numbers, by which the magic number is one, and its fractions
+abbrev pub units_by : Option Fractions → Option Fractions → Option (Order × Fractions)
+units_by (Some fractions) highest = Some (LowestFirst, fractions)
+units_by None (Some fractions) = Some (HighestFirst, fractions)
+units_by None None = None
+
 abbrev pub units_of : List ℕ → Option (Order × Fractions)
-units_of bytes = if little_from 0 4 bytes == MICROSECOND_MAGIC then Some (LowestFirst, Microseconds) else None
+units_of bytes = units_by (fractions_of (number_in LowestFirst 0 4 bytes)) (fractions_of (number_in HighestFirst 0 4 bytes))
 
--- LINKTYPE_RAW
-abbrev pub RAW : ℕ
-RAW = 101
-
-abbrev pub link_of : ℕ → Option Link
-link_of number = if number == RAW then Some Raw else None
+-- LINKTYPE_ETHERNET, LINKTYPE_RAW, LINKTYPE_LINUX_SLL2
+abbrev pub link_type_of : ℕ → Option LinkType
+link_type_of number = if number == 1 then Some Ethernet else (if number == 101 then Some Raw else (if number == 276 then Some Sll2 else None))
 
 -- the link type's field has 32 bits, of which the low 16 decide
-abbrev pub link_in : Order → List ℕ → Option Link
-link_in order bytes = link_of (number_in order 20 4 bytes % 65536)
+abbrev pub link_type_in : Order → List ℕ → Option LinkType
+link_type_in order bytes = link_type_of (number_in order 20 4 bytes % 65536)
 
-abbrev pub linked : Order → Fractions → Option Link → Result Format CaptureFault
-linked order fractions None = Err LinkType
+abbrev pub linked : Order → Fractions → Option LinkType → Result Format CaptureFault
+linked order fractions None = Err faults.LinkType
 linked order fractions (Some link) = Ok (record { order = order; fractions = fractions; link = link })
 
 -- the version is 2.4
 abbrev pub versioned : List ℕ → Option (Order × Fractions) → Result Format CaptureFault
-versioned bytes None = Err Magic
+versioned bytes None = Err faults.Magic
 versioned bytes (Some units) =
-    if not (number_in units.0 4 2 bytes == 2) then Err Version
-    else (if not (number_in units.0 6 2 bytes == 4) then Err Version
-    else linked units.0 units.1 (link_in units.0 bytes))
+    if not (number_in units.0 4 2 bytes == 2) then Err faults.Version
+    else (if not (number_in units.0 6 2 bytes == 4) then Err faults.Version
+    else linked units.0 units.1 (link_type_in units.0 bytes))
 
 -- Magic, version, zone, sigfigs, snaplen, link type; zone, sigfigs and snaplen aren't used.
 -- The tests in their order: length, magic, version, link type. The first that fails is the fault.
 abbrev pub format_of : List ℕ → Result Format CaptureFault
-format_of bytes = if nat_lt (length bytes) HEADER_BYTES then Err TornEnd else versioned bytes (units_of bytes)
+format_of bytes = if nat_lt (length bytes) HEADER_BYTES then Err faults.TornEnd else versioned bytes (units_of bytes)
 
 abbrev pub header_fault : List ℕ → Option CaptureFault
 header_fault bytes = result_err (format_of bytes)
@@ -144,9 +157,10 @@ pub record Pcap (bytes : List ℕ) (records : List Captured) (ending : Ending) :
 
 -- ---- what the records tell
 
--- a record as it is told: when, in nanoseconds, and the bytes captured
+-- a record as it is told: when, in nanoseconds, what its bytes begin with, and the bytes captured
 pub record Recorded : Type 0 where
   pub moment : ℕ
+  pub link : LinkType
   pub bytes : List ℕ
 
 -- the moment that a record's own header tells
@@ -157,7 +171,7 @@ own_moment format r = seconds_in format r.head * 1000000000 + fraction_in format
 abbrev pub told_after : Format → ℕ → List Captured → List Recorded
 told_after format latest [] = []
 told_after format latest (r ∷ rs) =
-    let moment = max latest (own_moment format r) in record { moment = moment; bytes = r.bytes } ∷ told_after format moment rs
+    let moment = max latest (own_moment format r) in record { moment = moment; link = format.link; bytes = r.bytes } ∷ told_after format moment rs
 
 abbrev pub told : Format → List Captured → List Recorded
 told format records = told_after format 0 records

@@ -1,12 +1,12 @@
 -- What a capture shows while it is read.
-use Rattle.std.specs.Prelude.{◌≡◌, ◌+◌, ◌<◌, max, ℕ, Bool, true, false, cond, List, [], ◌++◌, Option, Some, None, Result, Ok, Err, IfSome}
+use Rattle.std.specs.Prelude.{◌≡◌, ◌+◌, ◌<◌, ◌==◌, ◌&&◌, ◌||◌, nat_lt, not, max, ℕ, Bool, true, false, cond, List, [], ◌++◌, length, ◌⊎◌, Option, Some, None, is_some, Result, Ok, Err, IfSome, if◌then◌else◌}
 use Rattle.std.specs.Io.KnownBytes.{prepend_known}
 use Rattle.pcap_io.specs.declared.fault.CaptureFault.TheVariants.{TornEnd, Magic, Version, LinkType, Malformed, TooMany}
 use Rattle.pcap_io.specs.declared.fault.CaptureError.{CaptureError}
 use Rattle.pcap_io.specs.declared.fault.CaptureError.TheVariants.{Refused, Device, Memory}
 use Rattle.pcap_io.specs.declared.format.Format.{Format}
 use Rattle.pcap_io.specs.declared.capture.Record.{Record}
-use Rattle.pcap_io.specs.Pcap.{Captured, Recorded, IsRecord, frame, own_moment, Ends, header_fault, MOST_RECORDS}
+use Rattle.pcap_io.specs.Pcap.{Captured, Recorded, IsRecord, captured_length_in, fraction_in, in_second, frame, own_moment, Ends, header_fault, MOST_CAPTURED, MOST_RECORDS, RECORD_HEADER_BYTES}
 use Rattle.pcap_io.specs.Pcap as pcap
 
 -- the format, the bytes that it holds, whether the reader came to its end, how many records were read and the greatest moment of them, its fault, and the record that was read last
@@ -22,6 +22,28 @@ pub record Seen : Type 0 where
 -- the bytes to come, where they are known: those that the capture holds, and those that the reader has left if it isn't done with it
 abbrev pub ahead : Seen → Option (List ℕ) → Option (List ℕ)
 ahead s left = cond s.ended (Some s.held) (prepend_known s.held left)
+
+-- after so many records these bytes settle what comes next, whatever follows them: a whole record, a header that no record may have, or a byte too many
+abbrev pub settles : Format → ℕ → List ℕ → Bool
+settles format count bytes =
+    if count == MOST_RECORDS then nat_lt 0 (length bytes)
+    else (if nat_lt (length bytes) RECORD_HEADER_BYTES then false
+    else (nat_lt MOST_CAPTURED (captured_length_in format bytes) || not (nat_lt (fraction_in format bytes) (in_second format.fractions)))
+    || not (nat_lt (length bytes) (RECORD_HEADER_BYTES + captured_length_in format bytes)))
+
+-- what comes next is told without a read: a fault that was told, what is held, or the end
+abbrev pub is_ready : Seen → Bool
+is_ready s = is_some s.fault || (s.ended || settles s.format s.count s.held)
+
+-- these bytes are no further record, though one may begin with them
+abbrev pub IsPart : Format → ℕ → List ℕ → Type 0
+IsPart format count bytes = Ends format pcap.Whole count bytes ⊎ Ends format pcap.Torn count bytes
+
+-- a call failed before the next record was there: nothing is lost, and all that was read of it is held
+pub record Breaks (bytes : List ℕ) (after : Option (List ℕ)) (new : Seen) : Type 0 where
+  pub lost_none : after ≡ Some bytes
+  pub open_end : new.ended ≡ false
+  pub part : IsPart new.format new.count new.held
 
 -- ---- opening
 
@@ -54,20 +76,20 @@ pub record Reads (bytes : List ℕ) (after : Option (List ℕ)) (old new : Seen)
   pub fewer : old.count < MOST_RECORDS
   pub counted : new.count ≡ old.count + 1
   pub latest_is : new.latest ≡ max old.latest (own_moment old.format captured)
-  pub last_is : new.last ≡ Some (record { moment = new.latest; bytes = captured.bytes })
+  pub last_is : new.last ≡ Some (record { moment = new.latest; link = old.format.link; bytes = captured.bytes })
 
--- what `next` says of the bytes to come
+-- what `next` says of the bytes to come; a fault takes none of them
 abbrev pub Says : List ℕ → Option (List ℕ) → Seen → Seen → Result Bool CaptureError → Type 0
 Says bytes after old new (Ok true) = Reads bytes after old new
 Says bytes after old new (Ok false) = Ends old.format pcap.Whole old.count bytes × (after ≡ Some [])
-Says bytes after old new (Err (Refused TornEnd)) = Ends old.format pcap.Torn old.count bytes
-Says bytes after old new (Err (Refused Malformed)) = Ends old.format pcap.Malformed old.count bytes
-Says bytes after old new (Err (Refused TooMany)) = Ends old.format pcap.Over old.count bytes
+Says bytes after old new (Err (Refused TornEnd)) = Ends old.format pcap.Torn old.count bytes × (after ≡ Some bytes)
+Says bytes after old new (Err (Refused Malformed)) = Ends old.format pcap.Malformed old.count bytes × (after ≡ Some bytes)
+Says bytes after old new (Err (Refused TooMany)) = Ends old.format pcap.Over old.count bytes × (after ≡ Some bytes)
 Says bytes after old new (Err (Refused Magic)) = ⊥
 Says bytes after old new (Err (Refused Version)) = ⊥
 Says bytes after old new (Err (Refused LinkType)) = ⊥
-Says bytes after old new (Err Device) = Unit {0}
-Says bytes after old new (Err Memory) = Unit {0}
+Says bytes after old new (Err Device) = Breaks bytes after new
+Says bytes after old new (Err Memory) = ⊥
 
 -- a fault that comes within the records
 abbrev pub IsOfRecords : CaptureError → Type 0
@@ -77,10 +99,10 @@ IsOfRecords (Refused TooMany) = Unit {0}
 IsOfRecords (Refused Magic) = ⊥
 IsOfRecords (Refused Version) = ⊥
 IsOfRecords (Refused LinkType) = ⊥
-IsOfRecords Device = ⊥
+IsOfRecords Device = Unit {0}
 IsOfRecords Memory = ⊥
 
 -- a record that the code lends
 abbrev pub recorded : Option Record → Option Recorded
 recorded None = None
-recorded (Some r) = Some (record { moment = r.moment; bytes = r.bytes.now })
+recorded (Some r) = Some (record { moment = r.moment; link = r.link_type; bytes = r.bytes.now })

@@ -1,21 +1,20 @@
 //! Records read one after another.
-ghost use Rattle.std.specs.Prelude.{◌≡◌, ◌≢◌, ◌<◌, ◌≤◌, ◌+◌, ◌⊎◌, ℕ, List, length, drop, true, Some, None, Ok, Err, IfOk, IfErr, IfSome, IsNone, IsErrOf, OnOk, OnErr};
-ghost use Rattle.std.specs.Result.{result_err};
-ghost use Rattle.std.specs.Io.KnownBytes.{Consumes, IsAtEnd};
+ghost use Rattle.std.specs.Prelude.{◌≡◌, ◌≢◌, ◌<◌, ◌≤◌, ◌+◌, ◌++◌, ◌⊎◌, ℕ, List, [], length, drop, true, false, Some, None, Ok, Err, IfOk, IfErr, IfSome, IsNone, IsErrOf, OnOk, OnErr};
+ghost use Rattle.std.specs.Io.KnownBytes.{Consumes};
 ghost use Rattle.pcap_io.specs.Counting.{one_more};
+ghost use Rattle.pcap_io.specs.Links as links;
 ghost use Rattle.pcap_io.specs.Pcap.{format_of, seconds_in, fraction_in, captured_length_in, IsGood};
 ghost use Rattle.pcap_io.specs.Pcap as pcap;
-ghost use Rattle.pcap_io.specs.Seen.{Seen, ahead, Says, RefusedBy, IsOfHeader, IsOfRecords, recorded};
+ghost use Rattle.pcap_io.specs.Seen.{Seen, ahead, is_ready, settles, IsPart, Says, RefusedBy, IsOfHeader, IsOfRecords, recorded};
 
 use crate::counted::Counted;
 use crate::fault::{CaptureError, CaptureFault};
-use crate::format::{Format, HEADER_BYTES};
+use crate::format::{Format, HEADER_BYTES, LinkType};
+use crate::link::{Link, LinkCause};
+use crate::read_buffer::ReadBuffer;
 use std::alloc::Global;
 use std::io::Read;
 use std::marker::Model;
-
-/// How many bytes are read by one call.
-const PIECE_BYTES: usize = 65_536;
 
 /// The length of a record's header.
 const RECORD_HEADER_BYTES: usize = 16;
@@ -31,29 +30,20 @@ const MOST_RECORDS: u64 = 4_294_967_296;
 pub struct Record<'a> {
     /// In nanoseconds since 1970: the greatest of its own and all earlier records' moments.
     pub moment: u64,
-    /// The packet from its IP header on, as far as it was captured.
+    /// What the bytes begin with.
+    pub link_type: LinkType,
+    /// The bytes captured, from the link header on.
     pub bytes: &'a [u8],
 }
 
-/// Reads all that the reader has, or stops at the first call that fails, an interrupted one too.
-fn read_whole<R: Read>(alloc: Global, reader: &mut Counted<R>) -> Result<Vec<u8>, CaptureError>
-    ensures ok { IfOk result (λ all. Consumes (R.remaining reader.old.inner) (R.remaining reader.new.inner) all.items) }
-    ensures end { OnOk result (IsAtEnd (R.remaining reader.new.inner)) }
-    ensures calm { result ≢ Err CaptureError.Device → reader.new.failures ≡ reader.old.failures }
-    ensures device { IsErrOf result CaptureError.Device → reader.new.failures ≡ one_more reader.old.failures }
-    ensures errors { OnErr result (IsErrOf result CaptureError.Device ⊎ IsErrOf result CaptureError.Memory) }
-{
-    let mut all = Vec::new(alloc);
-    let mut piece = [0u8; PIECE_BYTES];
-    loop {
-        match reader.read(&mut piece) {
-            Ok(0) => return Ok(all),
-            Ok(count) => match all.extend_from_slice(&piece[..count]) {
-                Ok(()) => {}
-                Err(_) => return Err(CaptureError::Memory),
-            },
-            Err(_) => return Err(CaptureError::Device),
-        }
+impl<'a> Record<'a> {
+    /// Where the packet begins, and the interface that it entered by where the link header tells
+    /// one; or the first that applies of `Short`, `NotIp` and `Link`.
+    pub fn link(&self) -> Result<Link, LinkCause>
+        ensures link { result ≡ links.link_of self.now.link_type self.now.bytes.now }
+        ensures within { IfOk result (λ l. l.packet ≤ length self.now.bytes.now) }
+    {
+        self.link_type.link(self.bytes)
     }
 }
 
@@ -67,6 +57,7 @@ struct RecordHeader {
 
 impl RecordHeader {
     /// The header of the record that these bytes begin with, all of which is there.
+    #[inline(always)]
     fn read(format: Format, bytes: &[u8]) -> Result<RecordHeader, CaptureFault>
         ensures fields { IfOk result (λ h. (h.seconds ≡ seconds_in format bytes.now) × (h.fraction ≡ fraction_in format bytes.now) × (h.captured ≡ captured_length_in format bytes.now)) }
         ensures good { OnOk result (IsGood format bytes.now) }
@@ -93,19 +84,16 @@ impl RecordHeader {
     }
 }
 
-/// The records of an input, one after another.
+/// The records of an input, one after another, read through one buffer.
 #[derive(Drop)]
 pub struct Capture {
-    /// All that the reader had.
-    bytes: Vec<u8>,
-    /// Where the next record begins.
-    place: usize,
+    buffer: ReadBuffer,
     format: Format,
     count: u64,
     /// The greatest moment so far.
     latest: u64,
     fault: Option<CaptureError>,
-    /// How many bytes the record that was read last captured; they end at `place`.
+    /// How many bytes the record that was read last captured; they were taken last.
     last: Option<usize>,
 }
 
@@ -115,30 +103,40 @@ impl Model for Capture {
 
     ghost Value = { Seen };
 
-    ghost view = { λ c. seen_in c.format c.bytes.items c.place c.count c.latest c.fault c.last };
+    ghost view = { λ c. seen_in c.format c.buffer c.count c.latest c.fault c.last };
 
-    ghost invariant = { λ c. IsPlaced c.bytes.items c.place c.count c.latest c.last };
+    ghost invariant = { λ c. IsPlaced c.buffer c.count c.latest c.last };
 }
 
 impl Capture {
-    /// Reads the header. Nothing of the reader is left where it answers Ok.
+    /// Reserves the buffer and reads the header.
     ///
     /// The faults of a header are `TornEnd`, `Magic`, `Version` and `LinkType`, the first that
-    /// applies in this order; `Device` comes only where a read failed.
+    /// applies in this order; `Device` comes only where a read failed, which isn't tried again, and
+    /// `Memory` before anything is read.
     pub fn open<R: Read>(alloc: Global, reader: &mut Counted<R>) -> Result<Self, CaptureError>
-        ensures fresh { IfOk result (λ c. (c.fault ≡ None) × (c.last ≡ None) × (c.count ≡ 0) × (c.latest ≡ 0) × (c.ended ≡ true)) }
-        ensures bytes { IfOk result (λ c. IfSome (R.remaining reader.old.inner) (λ input. (format_of input ≡ Ok c.format) × (ahead c (R.remaining reader.new.inner) ≡ Some (drop pcap.HEADER_BYTES input)))) }
-        ensures end { OnOk result (IsAtEnd (R.remaining reader.new.inner)) }
+        ensures fresh { IfOk result (λ c. (c.fault ≡ None) × (c.last ≡ None) × (c.count ≡ 0) × (c.latest ≡ 0)) }
+        ensures bytes { IfOk result (λ c. IfSome (R.remaining reader.old.inner) (λ input. (pcap.HEADER_BYTES ≤ length input) × (format_of input ≡ Ok c.format) × (ahead c (R.remaining reader.new.inner) ≡ Some (drop pcap.HEADER_BYTES input)))) }
         ensures refused { IfErr result (RefusedBy (R.remaining reader.old.inner)) }
         ensures kinds { IfErr result IsOfHeader }
+        // Before the header is there fewer bytes than it has were read.
+        ensures broken { IsErrOf result CaptureError.Device → (part : List ℕ) × Consumes (R.remaining reader.old.inner) (R.remaining reader.new.inner) part × (length part < pcap.HEADER_BYTES) }
+        ensures memory { IsErrOf result CaptureError.Memory → reader.new ≡ reader.old }
         ensures calm { result ≢ Err CaptureError.Device → reader.new.failures ≡ reader.old.failures }
         ensures device { IsErrOf result CaptureError.Device → reader.new.failures ≡ one_more reader.old.failures }
     {
-        let bytes = read_whole(alloc, reader)?;
-        let format = Format::read(&bytes)?;
+        let Ok(mut buffer) = ReadBuffer::new(alloc) else {
+            return Err(CaptureError::Memory);
+        };
+        while buffer.held().len() < HEADER_BYTES && !buffer.is_ended() {
+            let Ok(()) = buffer.fill(reader) else {
+                return Err(CaptureError::Device);
+            };
+        }
+        let format = Format::read(buffer.held())?;
+        buffer.take(HEADER_BYTES);
         Ok(Capture {
-            bytes,
-            place: HEADER_BYTES,
+            buffer,
             format,
             count: 0,
             latest: 0,
@@ -147,58 +145,93 @@ impl Capture {
         })
     }
 
-    /// Reads the next record: false at the end. After a fault the same fault is answered again.
+    /// Whether the next call of `next` reads nothing: what it answers is held already, or the
+    /// reader has come to its end.
+    pub fn is_ready(&self) -> bool
+        ensures { result ≡ is_ready self.now }
+    {
+        self.fault.is_some() || self.buffer.is_ended() || self.settles()
+    }
+
+    /// Whether what is held settles the next answer, whatever follows it.
+    #[inline(always)]
+    fn settles(&self) -> bool
+        ensures { result ≡ settles self.now.format self.now.count self.now.held }
+    {
+        let held = self.buffer.held();
+        if self.count == MOST_RECORDS {
+            return !held.is_empty();
+        }
+        match RecordHeader::read(self.format, held) {
+            Ok(_) | Err(CaptureFault::Malformed) => true,
+            Err(_) => false,
+        }
+    }
+
+    /// Reads the next record: false at the end. After a fault the same fault is answered again, and
+    /// nothing is read. A read that fails isn't tried again.
     pub fn next<R: Read>(&mut self, reader: &mut Counted<R>) -> Result<bool, CaptureError>
         ensures again { IfSome self.old.fault (λ fault. IsErrOf result fault × (self.new ≡ self.old)) }
+        // No call is made while what is held settles the answer, after the end, or after a fault.
+        ensures unread { is_ready self.old ≡ true → reader.new ≡ reader.old }
         ensures says { IsNone self.old.fault → IfSome (ahead self.old (R.remaining reader.old.inner)) (λ bytes. Says bytes (ahead self.new (R.remaining reader.new.inner)) self.old self.new result) }
         ensures fault { IfErr result (λ fault. self.new.fault ≡ Some fault) }
         ensures going { OnOk result (self.new.fault ≡ None) }
-        // The end and a fault leave all else as it was, so that the bytes to come stay.
-        ensures stopped { IsNone self.old.fault → result ≢ Ok true → self.new ≡ record self.old { fault = result_err result; last = None } }
+        // The end and a fault leave the records and their moments as they were.
+        ensures stopped { IsNone self.old.fault → result ≢ Ok true → (self.new.count ≡ self.old.count) × (self.new.latest ≡ self.old.latest) × (self.new.last ≡ None) }
         ensures format { self.new.format ≡ self.old.format }
-        // This holds whatever the reader tells of its bytes.
+        // These hold whatever the reader tells of its bytes.
         ensures counted { result ≡ Ok true → (self.old.count < 4294967296) × (self.new.count ≡ self.old.count + 1) }
+        ensures broken { IsNone self.old.fault → IsErrOf result CaptureError.Device → (self.new.ended ≡ false) × IsPart self.new.format self.new.count self.new.held }
+        ensures held { IsNone self.old.fault → is_ready self.old ≡ true → result ≢ Err CaptureError.Device }
         ensures ended { self.old.ended ≡ true → self.new.ended ≡ true }
-        // No call is made, as all that the reader had is held already; so none fails.
-        ensures reader { reader.new ≡ reader.old }
-        ensures device { IsErrOf result CaptureError.Device → self.old.fault ≡ Some CaptureError.Device }
-        // A record's moment has seconds of 32 bits, and its bytes are at most 262,144; this holds whatever the reader tells of its bytes.
+        ensures calm { IsNone self.old.fault → result ≢ Err CaptureError.Device → reader.new.failures ≡ reader.old.failures }
+        ensures device { IsNone self.old.fault → IsErrOf result CaptureError.Device → reader.new.failures ≡ one_more reader.old.failures }
+        // A record's moment has seconds of 32 bits, and its bytes are at most 262,144.
         ensures record { IfOk result (λ more. more ≡ true → IfSome self.new.last (λ r. (r.moment < 4294967296000000000) × (length r.bytes < 262145))) }
         ensures some { result ≡ Ok true → self.new.last ≢ None }
-        ensures none { IsNone self.old.fault → result ≢ Ok true → self.new.last ≡ None }
-        ensures fewer { result ≡ Ok true → length self.new.held < length self.old.held }
         ensures kinds { IsNone self.old.fault → IfErr result IsOfRecords }
     {
         if let Some(fault) = self.fault {
             return Err(fault);
         }
-        let _ = &*reader;
+        self.last = None;
+        while !self.is_ready() {
+            let Ok(()) = self.buffer.fill(reader) else {
+                self.fault = Some(CaptureError::Device);
+                return Err(CaptureError::Device);
+            };
+        }
         self.step()
     }
 
     /// The next record of what is held.
+    #[inline(always)]
     fn step(&mut self) -> Result<bool, CaptureError>
-        requires { self.old.fault ≡ None }
-        ensures says { Says self.old.held (Some self.new.held) self.old self.new result }
-        ensures stopped { result ≢ Ok true → self.new ≡ record self.old { fault = result_err result; last = None } }
+        requires going { self.old.fault ≡ None }
+        requires ready { is_ready self.old ≡ true }
+        requires none { self.old.last ≡ None }
+        // Where the reader isn't at its end, more bytes may come behind those that are held.
+        ensures says { (more : List ℕ) → (self.old.ended ≡ true → more ≡ []) → Says (self.old.held ++ more) (Some (self.new.held ++ more)) self.old self.new result }
+        ensures stopped { result ≢ Ok true → (self.new.count ≡ self.old.count) × (self.new.latest ≡ self.old.latest) × (self.new.last ≡ None) }
         ensures format { self.new.format ≡ self.old.format }
         ensures counted { result ≡ Ok true → (self.old.count < 4294967296) × (self.new.count ≡ self.old.count + 1) }
-        ensures ended { (self.old.ended ≡ true) × (self.new.ended ≡ true) }
+        ensures ended { self.new.ended ≡ self.old.ended }
         ensures fault { IfErr result (λ fault. self.new.fault ≡ Some fault) }
         ensures kinds { IfErr result IsOfRecords }
+        ensures held { result ≢ Err CaptureError.Device }
         ensures going { OnOk result (self.new.fault ≡ None) }
         ensures record { IfOk result (λ more. more ≡ true → IfSome self.new.last (λ r. (r.moment < 4294967296000000000) × (length r.bytes < 262145))) }
         ensures some { result ≡ Ok true → self.new.last ≢ None }
-        ensures fewer { result ≡ Ok true → length self.new.held < length self.old.held }
     {
-        self.last = None;
-        if self.place == self.bytes.len() {
+        let held = self.buffer.held();
+        if held.is_empty() {
             return Ok(false);
         }
         if self.count == MOST_RECORDS {
             return self.fail(CaptureFault::TooMany);
         }
-        let header = match RecordHeader::read(self.format, &self.bytes[self.place..]) {
+        let header = match RecordHeader::read(self.format, held) {
             Ok(header) => header,
             Err(fault) => return self.fail(fault),
         };
@@ -208,7 +241,8 @@ impl Capture {
             .fractions
             .moment(header.seconds, header.fraction);
         self.latest = self.latest.max(moment);
-        self.place += RECORD_HEADER_BYTES + header.captured as usize;
+        self.buffer
+            .take(RECORD_HEADER_BYTES + header.captured as usize);
         self.last = Some(header.captured as usize);
         Ok(true)
     }
@@ -216,10 +250,9 @@ impl Capture {
     /// From here on this fault.
     fn fail(&mut self, fault: CaptureFault) -> Result<bool, CaptureError>
         ensures result { result ≡ Err (CaptureError.Refused fault) }
-        ensures after { self.new ≡ record self.old { fault = Some (CaptureError.Refused fault); last = None } }
+        ensures after { self.new ≡ record self.old { fault = Some (CaptureError.Refused fault) } }
     {
         let error = CaptureError::Refused(fault);
-        self.last = None;
         self.fault = Some(error);
         Err(error)
     }
@@ -231,7 +264,8 @@ impl Capture {
         let length = self.last?;
         Some(Record {
             moment: self.latest,
-            bytes: &self.bytes[self.place - length..self.place],
+            link_type: self.format.link,
+            bytes: self.buffer.taken(length),
         })
     }
 }

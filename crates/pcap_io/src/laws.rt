@@ -1,7 +1,7 @@
 //! Laws of the format, each as the contract of a function that does nothing.
-ghost use Rattle.std.specs.Prelude.{◌≡◌, ◌⊎◌, List, ℕ, Some};
+ghost use Rattle.std.specs.Prelude.{◌≡◌, ◌≤◌, ◌++◌, ◌⊎◌, length, List, ℕ, Some};
 ghost use Rattle.pcap_io.specs.declared.fault.CaptureFault.{CaptureFault};
-ghost use Rattle.pcap_io.specs.Pcap.{Pcap, Captured, Ending, header_fault};
+ghost use Rattle.pcap_io.specs.Pcap.{Pcap, Captured, Ending, format_of, header_fault, HEADER_BYTES};
 
 /// A file has at most one reading as records and an ending.
 pub fn one_reading()
@@ -11,4 +11,9 @@ pub fn one_reading()
 /// Every file has a fault in its header, or a reading.
 pub fn some_reading()
     ensures { (bytes : List ℕ) → ((fault : CaptureFault) × (header_fault bytes ≡ Some fault)) ⊎ ((records : List Captured) × (ending : Ending) × Pcap bytes records ending) }
+{}
+
+/// The header of a file alone tells its format.
+pub fn header_alone()
+    ensures { (bytes more : List ℕ) → HEADER_BYTES ≤ length bytes → format_of (bytes ++ more) ≡ format_of bytes }
 {}

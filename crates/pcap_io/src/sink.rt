@@ -135,6 +135,25 @@ impl Sink {
         Ok(())
     }
 
+    /// Writes what waits; no call is made where nothing does. After an `Err` the writer holds a
+    /// beginning of it, and the sink is unchanged.
+    pub fn send<W: Write>(&mut self, writer: &mut Counted<W>) -> Result<(), DeviceFailed>
+        ensures ok { OnOk result (Appends (W.contents writer.old.inner) (W.contents writer.new.inner) self.old.waiting) }
+        ensures empty { OnOk result (self.new.waiting ≡ []) }
+        ensures none { self.old.waiting ≡ [] → writer.new ≡ writer.old }
+        ensures part { OnErr result (AppendsPart (W.contents writer.old.inner) (W.contents writer.new.inner) self.old.waiting) }
+        ensures err { OnErr result (self.new ≡ self.old) }
+        ensures calm { OnOk result (writer.new.failures ≡ writer.old.failures) }
+        ensures device { OnErr result (writer.new.failures ≡ one_more writer.old.failures) }
+    {
+        if self.waiting.is_empty() {
+            return Ok(());
+        }
+        write_whole(writer, &self.waiting)?;
+        self.waiting.clear();
+        Ok(())
+    }
+
     /// Writes what waits, and flushes the writer once. After an `Err` the writer holds a beginning of
     /// what waited, and the sink is unchanged.
     pub fn finish<W: Write>(&mut self, writer: &mut Counted<W>) -> Result<(), DeviceFailed>

@@ -22,8 +22,8 @@ pub data Call (Input Output : Type 0) : Type 0 where
   compare : Text → Text → Result Bool Error → Call Input Output
   -- a file created, or emptied, and opened for writing
   create : Text → Result Output Error → Call Input Output
-  -- a ruleset's text, a box file's text, a capture and the capture that leaves, before and after: whether the end is torn
-  run : Text → Text → Input → Input → Output → Output → Result Bool RunFault → Call Input Output
+  -- a ruleset's text, a box file's text, a capture and the capture that leaves, before and after, and whether each decision is told: whether the end is torn
+  run : Text → Text → Input → Input → Output → Output → Bool → Result Bool RunFault → Call Input Output
   -- a ruleset's text and a box file's text: how many tables, chains and rules it has
   judge : Text → Text → Result Counts RunFault → Call Input Output
   -- the line of a ruleset that is accepted

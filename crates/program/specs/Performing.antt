@@ -3,7 +3,7 @@ use Rattle.std.specs.Prelude.{◌≡◌, ◌⊎◌, ◌++◌, ℕ, true, List, [
 use Rattle.clap.specs.declared.error.kind.ErrorKind.{ErrorKind}
 use Rattle.clap.specs.declared.error.kind.ErrorKind.TheVariants.{DisplayHelp, DisplayVersion, OutOfMemory}
 use Rattle.command_line.specs.CommandLine.{Asks, is_well_formed}
-use Rattle.command_line.specs.declared.task.Paths.{Paths}
+use Rattle.command_line.specs.declared.task.ReplayTask.{ReplayTask}
 use Rattle.command_line.specs.declared.task.Task.TheVariants.{Run, Check}
 use Rattle.command_line.specs.declared.task.Texts.{Texts}
 use Rattle.program.specs.Calls.{Call, Text, words, explain, tell}
@@ -29,7 +29,7 @@ Explains _ _ _ = ⊥
 -- the words ask for a run or for a check, or they are no task; words of the right form are none only where there was no room to grow
 abbrev pub Acts : {I O : Type 0} → List Text → List (Call I O) → Status → Type 0
 Acts given calls status =
-    ((paths : Paths) × Asks given (Run paths) × Replays paths calls status)
+    ((task : ReplayTask) × Asks given (Run task) × Replays task calls status)
     ⊎ (((texts : Texts) × Asks given (Check texts) × Examines texts calls status)
     ⊎ ((kind : ErrorKind) × (is_well_formed given ≡ true → kind ≡ OutOfMemory) × Explains kind calls status))
 

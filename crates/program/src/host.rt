@@ -46,16 +46,17 @@ pub trait Host {
     fn create(&mut self, path: &str) -> io::Result<Self::Output>
         ensures { happens self.old (create path.now result) self.new };
 
-    /// Takes the capture through the ruleset on a box, writes what leaves and prints the report.
-    /// Tells whether the capture's end is torn.
+    /// Takes the capture through the ruleset on a box, writes what leaves and prints the report,
+    /// with each decision where `trace` says so. Tells whether the capture's end is torn.
     fn run(
         &mut self,
         rules: &[u8],
         plant: &[u8],
         input: &mut Self::Input,
         output: &mut Self::Output,
+        trace: bool,
     ) -> Result<bool, RunFault>
-        ensures { happens self.old (run rules.now plant.now input.old input.new output.old output.new result) self.new };
+        ensures { happens self.old (run rules.now plant.now input.old input.new output.old output.new trace result) self.new };
 
     /// Judges a ruleset on a box, and counts what it has.
     fn judge(&mut self, rules: &[u8], plant: &[u8]) -> Result<Counts, RunFault>

@@ -53,7 +53,7 @@ fn act_on<H: Host>(alloc: Global, host: &mut H, words: &[&str]) -> Status
     ensures { (calls : List (Call H.Input H.Output)) × Leads H.happens host.old calls host.new × Acts (map (λ w. w.now) words.entry.now) calls result }
 {
     match read_task(alloc, words) {
-        Ok(Task::Run(paths)) => replay(host, &paths),
+        Ok(Task::Run(task)) => replay(host, &task),
         Ok(Task::Check(texts)) => examine(host, &texts),
         Err(error) => explain(host, &error),
     }

@@ -60,6 +60,7 @@ impl<R: Env + Files + Print + Eprint + AllocGlobal> Host for System<'_, R> {
         plant: &[u8],
         input: &mut Self::Input,
         output: &mut Self::Output,
+        trace: bool,
     ) -> Result<bool, RunFault> {
         let mut report = Counted::new(io::writer(self.rt));
         let summary = engine::run(
@@ -69,7 +70,7 @@ impl<R: Env + Files + Print + Eprint + AllocGlobal> Host for System<'_, R> {
             input,
             output,
             &mut report,
-            false,
+            trace,
         )?;
         Ok(summary.torn)
     }

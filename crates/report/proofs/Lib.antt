@@ -1,2 +1,11 @@
-mod Counted
+mod Counting
+mod Putting
 mod Texts
+mod Listing
+mod Summing
+mod CounterTexts
+mod Tallied
+mod NotedLines
+mod Ended
+mod OneMore
+mod Fresh

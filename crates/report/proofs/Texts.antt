@@ -1,41 +1,47 @@
--- The text of a report's numbers is the text of every story that they count.
-use Rattle.std.proofs.Common.{◌≡◌, ℕ, Bool, List, [], length, ap, sym, subst, append-nil, ◌∙◌}
-use Rattle.std.specs.Prelude.{Option}
-use Rattle.std.specs.Io.KnownBytes.{Appends, Keeps}
-use Rattle.std.proofs.KnownBytes.{Appends-kept}
-use Rattle.nft_tree.specs.Tree.{TableTree}
-use Rattle.pcap_io.specs.Counting.{AppendsPart}
-use Rattle.story.specs.Story.{Entry}
-use Rattle.report.specs.Report.{Numbers, Counts, passed, local, dropped, drops_of, number_lines, closing_lines}
+-- The texts of lines, by their parts.
+use Rattle.std.proofs.Common.{◌≡◌, ℕ, true, List, [], ◌∷◌, ◌++◌, append_assoc, append-nil, ap, sym, subst, ◌∙◌, Result}
+use Rattle.std.specs.Prelude.{codes, Some, unwrap_or}
+use Rattle.std.specs.declared.option.Option.{Option}
+use Rattle.std.specs.Option.{option_map}
+use Rattle.std.specs.Fmt.{decimal}
+use Rattle.nft_tree.specs.declared.chain.Policy.{Policy}
+use Rattle.nft_tree.specs.Tree.{Text, TableTree, ChainTree}
+use Rattle.rule_meaning.specs.declared.event.Decision.{Decision}
+use Rattle.rule_meaning.specs.declared.event.Place.{Place}
+use Rattle.report.specs.Report.{and_word, named, chain_at, on_chain, family_word, log_line, decision_line, policy_line, prefix_in, statement_at, decision_words, policy_word}
+use Rattle.report.specs.steps.Telling.{Puts}
 
--- the text of a report's numbers
-abbrev pub text_of : Numbers → Bool → List ℕ
-text_of numbers torn = number_lines numbers.records numbers.passed numbers.local (drops_of numbers) torn
+-- the same text is put
+pub puts_as : {T E : Type 0} (r : Result T E) (u v : List ℕ) (a b : Option (List ℕ)) (xs ys : List ℕ) → Puts r u a v b xs → xs ≡ ys → Puts r u a v b ys
+puts_as r u v a b xs ys p e = subst (λ zs. Puts r u a v b zs) e p
 
-same_text : (numbers : Numbers) (rules : List TableTree) (story : List Entry) (torn : Bool) → Counts numbers story → text_of numbers torn ≡ closing_lines rules story torn
-same_text numbers rules story torn counts =
-    let same_drops : drops_of numbers ≡ (λ cause. dropped cause story) = λ i. λ cause. counts.dropped cause i in
-    ap (λ n. number_lines n numbers.passed numbers.local (drops_of numbers) torn) counts.records
-    ∙ ap (λ n. number_lines (length story) n numbers.local (drops_of numbers) torn) counts.passed
-    ∙ ap (λ n. number_lines (length story) (passed story) n (drops_of numbers) torn) counts.local
-    ∙ ap (λ lost. number_lines (length story) (passed story) (local story) lost torn) same_drops
+-- what is said on a chain that is there
+pub on_found : (rules : List TableTree) (table chain : ℕ) (says : TableTree → ChainTree → Text) (t : TableTree) (c : ChainTree) → Some (t, c) ≡ chain_at rules table chain → says t c ≡ on_chain rules table chain says
+on_found rules table chain says t c is = ap (λ (o : Option (TableTree × ChainTree)). unwrap_or (option_map (λ at. says at.0 at.1) o) []) is
 
--- ---- what the writer holds then
+-- a line's head, its number, its chain, and more
+pub line_front : (head n f tn cn rest : List ℕ) → head ++ ((32 ∷ n) ++ ((32 ∷ f) ++ ((32 ∷ tn) ++ ((32 ∷ cn) ++ rest)))) ≡ ((head ++ (32 ∷ n)) ++ (32 ∷ ((f ++ (32 ∷ tn)) ++ (32 ∷ cn)))) ++ rest
+line_front head n f tn cn rest = simp append_assoc
 
-pub whole_text : (a b : Option (List ℕ)) (text : List ℕ) (numbers : Numbers) (rules : List TableTree) (story : List Entry) (torn : Bool)
-    → text ≡ text_of numbers torn → Counts numbers story → Appends a b text → Appends a b (closing_lines rules story torn)
-whole_text a b text numbers rules story torn is counts w = subst (Appends a b) (is ∙ same_text numbers rules story torn counts) w
+pub log_text : (head n f tn cn rule before : List ℕ)
+    → head ++ ((32 ∷ n) ++ ((32 ∷ f) ++ ((32 ∷ tn) ++ ((32 ∷ cn) ++ ((32 ∷ rule) ++ (before ++ ((10 ∷ []) ++ []))))))) ≡ ((((head ++ (32 ∷ n)) ++ (32 ∷ ((f ++ (32 ∷ tn)) ++ (32 ∷ cn)))) ++ (32 ∷ rule)) ++ before) ++ (10 ∷ [])
+log_text head n f tn cn rule before =
+    let front : List ℕ = (head ++ (32 ∷ n)) ++ (32 ∷ ((f ++ (32 ∷ tn)) ++ (32 ∷ cn))) in
+    line_front head n f tn cn ((32 ∷ rule) ++ (before ++ (10 ∷ []))) ∙ sym (append_assoc (front ++ (32 ∷ rule)) before (10 ∷ []) ∙ append_assoc front (32 ∷ rule) (before ++ (10 ∷ [])))
 
--- a flush changes nothing
-pub kept_text : (a b c : Option (List ℕ)) (text : List ℕ) (numbers : Numbers) (rules : List TableTree) (story : List Entry) (torn : Bool)
-    → text ≡ text_of numbers torn → Counts numbers story → Appends a b text → Keeps b c → Appends a c (closing_lines rules story torn)
-kept_text a b c text numbers rules story torn is counts w kept = Appends-kept a b c _ (whole_text a b text numbers rules story torn is counts w) kept
+pub decision_text : (head n f tn cn rule w x word : List ℕ) → w ++ x ≡ word
+    → head ++ ((32 ∷ n) ++ ((32 ∷ f) ++ ((32 ∷ tn) ++ ((32 ∷ cn) ++ ((32 ∷ rule) ++ (w ++ (x ++ ((10 ∷ []) ++ [])))))))) ≡ ((((head ++ (32 ∷ n)) ++ (32 ∷ ((f ++ (32 ∷ tn)) ++ (32 ∷ cn)))) ++ (32 ∷ rule)) ++ word) ++ (10 ∷ [])
+decision_text head n f tn cn rule w x word is =
+    let e : w ++ (x ++ (10 ∷ [])) ≡ word ++ (10 ∷ []) = sym (append_assoc w x (10 ∷ [])) ∙ ap (λ ys. ys ++ (10 ∷ [])) is in
+    ap (λ ys. head ++ ((32 ∷ n) ++ ((32 ∷ f) ++ ((32 ∷ tn) ++ ((32 ∷ cn) ++ ((32 ∷ rule) ++ ys)))))) e ∙ log_text head n f tn cn rule word
 
-pub part_text : (a b : Option (List ℕ)) (text : List ℕ) (numbers : Numbers) (rules : List TableTree) (story : List Entry) (torn : Bool)
-    → text ≡ text_of numbers torn → Counts numbers story → AppendsPart a b text → AppendsPart a b (closing_lines rules story torn)
-part_text a b text numbers rules story torn is counts (part, rest, whole, w) = (part, rest, sym (is ∙ same_text numbers rules story torn counts) ∙ whole, w)
+-- ---- lines of entries, by what their parts are
 
--- after a flush that failed it is all there
-pub unflushed_text : (a b c : Option (List ℕ)) (text : List ℕ) (numbers : Numbers) (rules : List TableTree) (story : List Entry) (torn : Bool)
-    → text ≡ text_of numbers torn → Counts numbers story → Appends a b text → Keeps b c → AppendsPart a c (closing_lines rules story torn)
-unflushed_text a b c text numbers rules story torn is counts w kept = (closing_lines rules story torn, [], sym (append-nil _), kept_text a b c text numbers rules story torn is counts w kept)
+pub log_told : (n n' rule' : ℕ) (at : Place) (t : TableTree) (c : ChainTree) (f tn cn before : List ℕ) → n' ≡ n → f ≡ family_word t.family → tn ≡ t.name → cn ≡ c.name → rule' ≡ at.rule.rule → before ≡ prefix_in (statement_at c at)
+    → codes "log" ++ ((32 ∷ decimal n') ++ ((32 ∷ f) ++ ((32 ∷ tn) ++ ((32 ∷ cn) ++ ((32 ∷ decimal rule') ++ (before ++ ((10 ∷ []) ++ []))))))) ≡ log_line n at t c
+log_told n n' rule' at t c f tn cn before hn hf ht hc hr hb = log_text (codes "log") (decimal n') f tn cn (decimal rule') before ∙ rw (hn, hf, ht, hc, hr, hb)
+
+pub decision_told : (n n' rule rule' : ℕ) (decision : Decision) (t : TableTree) (c : ChainTree) (f tn cn w x : List ℕ) → n' ≡ n → f ≡ family_word t.family → tn ≡ t.name → cn ≡ c.name → rule' ≡ rule → w ++ x ≡ and_word (decision_words t decision)
+    → codes "trace" ++ ((32 ∷ decimal n') ++ ((32 ∷ f) ++ ((32 ∷ tn) ++ ((32 ∷ cn) ++ ((32 ∷ decimal rule') ++ (w ++ (x ++ ((10 ∷ []) ++ [])))))))) ≡ decision_line n rule decision t c
+decision_told n n' rule rule' decision t c f tn cn w x hn hf ht hc hr hw =
+    decision_text (codes "trace") (decimal n') f tn cn (decimal rule') w x (and_word (decision_words t decision)) hw ∙ rw (hn, hf, ht, hc, hr)

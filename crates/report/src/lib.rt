@@ -1,6 +1,14 @@
-//! The report of a run: what became of its records, in numbers.
+//! The report of a run: what its rules logged, decided and counted, and what became of its records.
 #![tactic(auto)]
 
+mod counter_lines;
+mod named;
+mod note_lines;
+mod notes;
+mod page;
+mod piece;
 mod report;
+mod tallies;
+mod total_lines;
 
-pub use report::{Report, ReportError};
+pub use report::Report;

@@ -1,32 +1,33 @@
-//! The numbers of a report and its text.
-ghost use Rattle.std.specs.Prelude.{◌≡◌, ◌<◌, ◌+◌, ◌++◌, [], ◌∷◌, List, true, IfOk, IsErrOf, OnErr, OnOk, string_bytes};
+//! The report of a run.
+ghost use Rattle.std.specs.Prelude.{◌≡◌, ◌<◌, ◌+◌, ◌++◌, [], ◌∷◌, Bool, List, length, true, IfOk, OnErr, OnOk};
+ghost use Rattle.pcap_io.specs.Counting.{one_more};
+ghost use Rattle.nft_tree.specs.Tree.{Text, TableTree, tables_of};
+ghost use Rattle.story.specs.Story.{Entry, IsEntry};
+ghost use Rattle.report.specs.Report.{closing_lines, entry_lines};
 ghost use Rattle.std.specs.List.{flat_map};
-ghost use Rattle.std.specs.Io.KnownBytes.{Appends};
-ghost use Rattle.pcap_io.specs.Counting.{AppendsPart, one_more};
-ghost use Rattle.nft_tree.specs.Tree.{TableTree};
-ghost use Rattle.story.specs.Story.{Entry};
-ghost use Rattle.report.specs.Report.{Counts, closing_lines, drop_line, drops_of, line, number_lines};
-ghost use Rattle.report.specs.declared.report.ReportError.{ReportError};
+ghost use Rattle.report.specs.Standing.{Reports, Tells, TellsPart, note_line};
+ghost use Rattle.report.specs.steps.Telling.{CountsFailure, Wrote};
+ghost use Rattle.report.specs.steps.Totals.{rest_text};
 
-use pcap_io::{Counted, write_whole};
+use crate::counter_lines::put_counters;
+use crate::note_lines::put_notes;
+use crate::notes::{Note, note_entry};
+use crate::page::Page;
+use crate::tallies::RulesetTallies;
+use crate::total_lines::{Totals, put_totals};
+use nft_tree::Ruleset;
+use pcap_io::{Counted, DeviceFailed};
 use std::alloc::{AllocError, Global};
 use std::io::Write;
 use std::marker::Model;
-use story::{Cause, Outcome};
-use thiserror::Error;
+use story::Outcome;
 
-/// Why a report wasn't written.
-#[derive(Clone, Copy, Debug, Drop, Error)]
-pub enum ReportError {
-    /// A write or the flush failed.
-    #[error("device")]
-    Device,
-    /// There was no room to grow.
-    #[error("memory")]
-    Memory,
-}
+/// How many notes have room from the start: more than a caller that drains now and then lets wait,
+/// together with those of one entry of 65,536 events.
+const ROOM_FOR_NOTES: usize = 70_000;
 
-/// What became of the records so far, in numbers: it doesn't grow with them.
+/// What became of the records so far: numbers, and what isn't written yet of what was noted. It
+/// doesn't grow with the records that were written.
 #[derive(Drop)]
 pub struct Report {
     records: u64,
@@ -34,123 +35,168 @@ pub struct Report {
     local: u64,
     /// In the order of `Cause::ALL`.
     dropped: [u64; 17],
+    tallies: RulesetTallies,
+    traces: bool,
+    notes: Vec<Note>,
 }
 
 impl Model for Report {
-    ghost use Rattle.std.specs.Prelude.{◌≤◌, ℕ, slice_index};
-    ghost use Rattle.report.specs.Report.{Numbers};
+    ghost use Rattle.report.specs.Standing.{Known};
+    ghost use Rattle.report.specs.steps.Bounds.{IsBounded};
 
-    ghost Value = { Numbers };
+    ghost Value = { Known };
 
-    ghost view = { λ r. record { records = r.records; passed = r.passed; local = r.local; dropped = r.dropped } };
+    ghost view = { λ r. record { records = r.records; passed = r.passed; local = r.local; dropped = r.dropped; tallies = r.tallies; traces = r.traces; notes = r.notes.items } };
 
-    ghost invariant = { λ r. (r.passed ≤ r.records) × (r.local ≤ r.records) × ((i : ℕ) → slice_index r.dropped i ≤ r.records) };
+    ghost invariant = { λ r. IsBounded r.records r.passed r.local r.dropped r.tallies };
 }
 
 impl Report {
-    /// Before the first record.
-    pub fn new() -> Self
-        ensures none { Counts result [] }
-        ensures records { result.records ≡ 0 }
+    /// Before the first record, over these rules: each counter stands where it starts. With `trace`
+    /// each decision and how each record ends is told too.
+    pub fn new(alloc: Global, rules: &Ruleset, trace: bool) -> Result<Self, AllocError>
+        ensures { IfOk result (λ report. Reports report (tables_of rules.now) trace [] []) }
     {
-        Report {
+        let tallies = RulesetTallies::new(alloc, rules)?;
+        let notes = Vec::with_capacity(alloc, ROOM_FOR_NOTES)?;
+        Ok(Report {
             records: 0,
             passed: 0,
             local: 0,
             dropped: [0; 17],
-        }
+            tallies,
+            traces: trace,
+            notes,
+        })
     }
 
-    /// Counts one more record, which ended so.
-    pub fn note(&mut self, outcome: Outcome)
+    /// Notes how one more record ended, and what happened on the way; the rules are those of `new`.
+    /// On `Err`, which comes only for want of memory, the report is as it was.
+    pub fn note(&mut self, entry: &story::Entry) -> Result<(), AllocError>
         requires few { self.old.records < 4294967296 }
-        // Whatever story its numbers are of, they then are of that story and one entry more.
-        ensures counts { (story : List Entry) (e : Entry) → Counts self.old story → e.outcome ≡ outcome → Counts self.new (e ∷ story) }
-        ensures records { self.new.records ≡ self.old.records + 1 }
+        // Whatever story it stands for, it then stands for that story with the entry.
+        ensures noted { (rules : List TableTree) (trace : Bool) (story : List Entry) (told : Text) (e : Entry) → Reports self.old rules trace story told → IsEntry e story entry.now → OnOk result (Reports self.new rules trace (e ∷ story) told) }
+        ensures records { OnOk result (self.new.records ≡ self.old.records + 1) }
+        ensures err { OnErr result (self.new ≡ self.old) }
     {
+        self.notes.reserve(entry.events.len() + 1)?;
+        note_entry(&mut self.notes, entry, self.traces);
+        self.tallies.count_events(entry.events, entry.length);
         self.records += 1;
-        match outcome {
+        match entry.outcome {
             Outcome::Passed(_) => self.passed += 1,
             Outcome::Local => self.local += 1,
             Outcome::Dropped(cause) => self.dropped[cause.place()] += 1,
         }
+        Ok(())
     }
 
-    /// How many records were counted.
+    /// How many records were noted.
     pub fn records(&self) -> u64
         ensures { result ≡ self.now.records }
     {
         self.records
     }
 
-    /// Writes the lines that come after the last record, and flushes the writer. `torn` tells
-    /// whether the capture ends inside a record.
-    ///
-    /// `Memory` comes before anything is written. After `Device` the writer holds a beginning of
-    /// the lines; the call that failed isn't tried again.
-    pub fn lines<W: Write>(
-        &self,
-        alloc: Global,
-        torn: bool,
-        writer: &mut Counted<W>,
-    ) -> Result<(), ReportError>
-        ensures ok { (rules : List TableTree) (story : List Entry) → Counts self.now story → OnOk result (Appends (W.contents writer.old.inner) (W.contents writer.new.inner) (closing_lines rules story torn)) }
-        ensures flushed { OnOk result (writer.new.is_flushed ≡ true) }
-        ensures part { (rules : List TableTree) (story : List Entry) → Counts self.now story → OnErr result (AppendsPart (W.contents writer.old.inner) (W.contents writer.new.inner) (closing_lines rules story torn)) }
-        ensures memory { IsErrOf result ReportError.Memory → writer.new ≡ writer.old }
-        ensures device { IsErrOf result ReportError.Device → writer.new.failures ≡ one_more writer.old.failures }
-        ensures calm { OnOk result (writer.new.failures ≡ writer.old.failures) }
+    /// How many notes aren't written yet.
+    pub fn waits(&self) -> usize
+        ensures { result ≡ length self.now.notes }
     {
-        let Ok(text) = self.text(alloc, torn) else {
-            return Err(ReportError::Memory);
-        };
-        let Ok(()) = write_whole(writer, text.as_bytes()) else {
-            return Err(ReportError::Device);
-        };
-        let Ok(()) = writer.flush() else {
-            return Err(ReportError::Device);
-        };
+        self.notes.len()
+    }
+
+    /// Writes the lines of what was noted since the last call, and forgets it; no call is made where
+    /// there is none. After an `Err` the writer holds a beginning of the lines, and the report is
+    /// as it was; the call that failed isn't tried again.
+    pub fn drain<W: Write>(
+        &mut self,
+        rules: &Ruleset,
+        writer: &mut Counted<W>,
+    ) -> Result<(), DeviceFailed>
+        ensures ok { (trace : Bool) (story : List Entry) (told : Text) → Reports self.old (tables_of rules.now) trace story told
+            → OnOk result (Tells (W.contents writer.old.inner) (W.contents writer.new.inner) told (entry_lines (tables_of rules.now) trace story) × Reports self.new (tables_of rules.now) trace story (entry_lines (tables_of rules.now) trace story)) }
+        ensures part { (trace : Bool) (story : List Entry) (told : Text) → Reports self.old (tables_of rules.now) trace story told
+            → OnErr result (TellsPart (W.contents writer.old.inner) (W.contents writer.new.inner) told (entry_lines (tables_of rules.now) trace story)) }
+        ensures none { self.old.notes ≡ [] → writer.new ≡ writer.old }
+        ensures empty { OnOk result (self.new.notes ≡ []) }
+        ensures records { self.new.records ≡ self.old.records }
+        ensures err { OnErr result (self.new ≡ self.old) }
+        ensures calm { OnOk result (writer.new.failures ≡ writer.old.failures) }
+        ensures device { OnErr result (writer.new.failures ≡ one_more writer.old.failures) }
+    {
+        if self.notes.is_empty() {
+            return Ok(());
+        }
+        write_notes(rules, &self.notes, writer)?;
+        self.notes.clear();
         Ok(())
     }
 
-    /// The lines that come after the last record.
-    fn text(&self, alloc: Global, torn: bool) -> Result<String, AllocError>
-        ensures { IfOk result (λ text. string_bytes text ≡ number_lines self.now.records self.now.passed self.now.local (drops_of self.now) torn) }
+    /// Writes the rest of the report: the lines that weren't drained, and those that come after the
+    /// last record; and flushes the writer. So many connections live, and `torn` tells whether the
+    /// capture ends inside a record.
+    ///
+    /// After an `Err` the writer holds a beginning of the lines; the call that failed isn't tried
+    /// again.
+    pub fn lines<W: Write>(
+        &self,
+        rules: &Ruleset,
+        live: u64,
+        torn: bool,
+        writer: &mut Counted<W>,
+    ) -> Result<(), DeviceFailed>
+        ensures ok { (trace : Bool) (story : List Entry) (told : Text) → Reports self.now (tables_of rules.now) trace story told
+            → OnOk result (Tells (W.contents writer.old.inner) (W.contents writer.new.inner) told (entry_lines (tables_of rules.now) trace story ++ closing_lines (tables_of rules.now) story live torn)) }
+        ensures flushed { OnOk result (writer.new.is_flushed ≡ true) }
+        ensures part { (trace : Bool) (story : List Entry) (told : Text) → Reports self.now (tables_of rules.now) trace story told
+            → OnErr result (TellsPart (W.contents writer.old.inner) (W.contents writer.new.inner) told (entry_lines (tables_of rules.now) trace story ++ closing_lines (tables_of rules.now) story live torn)) }
+        ensures calm { OnOk result (writer.new.failures ≡ writer.old.failures) }
+        ensures device { OnErr result (writer.new.failures ≡ one_more writer.old.failures) }
     {
-        let mut text = String::new(alloc);
-        line(&mut text, "records", self.records)?;
-        line(&mut text, "passed", self.passed)?;
-        line(&mut text, "local", self.local)?;
-        self.drop_lines(&mut text, &Cause::ALL)?;
-        // No connection is kept.
-        line(&mut text, "begun", 0)?;
-        line(&mut text, "live", 0)?;
-        line(&mut text, "torn", u64::from(torn))?;
-        Ok(text)
-    }
-
-    /// Adds a line for each of these causes of a drop.
-    fn drop_lines(&self, text: &mut String, causes: &[Cause]) -> Result<(), AllocError>
-        ensures { OnOk result (string_bytes text.new ≡ string_bytes text.old ++ flat_map (drop_line (drops_of self.now)) causes.now) }
-    {
-        for cause in causes {
-            self.drop_line(text, *cause)?;
+        let totals = Totals {
+            records: self.records,
+            passed: self.passed,
+            local: self.local,
+            dropped: &self.dropped,
+            live,
+            torn,
+        };
+        write_rest(rules, &self.notes, &self.tallies, &totals, writer)?;
+        if writer.flush().is_err() {
+            return Err(DeviceFailed);
         }
         Ok(())
     }
-
-    /// Adds the line of one cause of a drop.
-    fn drop_line(&self, text: &mut String, cause: Cause) -> Result<(), AllocError>
-        ensures { OnOk result (string_bytes text.new ≡ string_bytes text.old ++ drop_line (drops_of self.now) cause) }
-    {
-        text.push_str("drop ")?;
-        line(text, cause.word(), self.dropped[cause.place()])
-    }
 }
 
-/// Adds a line of a name and a number.
-fn line(text: &mut String, name: &str, number: u64) -> Result<(), AllocError>
-    ensures { OnOk result (string_bytes text.new ≡ string_bytes text.old ++ line name.now number) }
+/// Writes the lines of these notes.
+fn write_notes<W: Write>(
+    rules: &Ruleset,
+    notes: &[Note],
+    writer: &mut Counted<W>,
+) -> Result<(), DeviceFailed>
+    ensures wrote { Wrote result (W.contents writer.old.inner) (W.contents writer.new.inner) (flat_map (note_line (tables_of rules.now)) notes.now) }
+    ensures counts { CountsFailure result writer.old.failures writer.new.failures }
 {
-    writeln!(text, "{name} {number}")
+    let mut page = Page::new();
+    put_notes(&mut page, writer, rules, notes)?;
+    page.send(writer)
+}
+
+/// Writes the lines of these notes, those of the counters, and the totals.
+fn write_rest<W: Write>(
+    rules: &Ruleset,
+    notes: &[Note],
+    tallies: &RulesetTallies,
+    totals: &Totals,
+    writer: &mut Counted<W>,
+) -> Result<(), DeviceFailed>
+    ensures wrote { Wrote result (W.contents writer.old.inner) (W.contents writer.new.inner) (rest_text (tables_of rules.now) notes.now tallies.now totals.now.records totals.now.passed totals.now.local totals.now.dropped.now totals.now.live totals.now.torn) }
+    ensures counts { CountsFailure result writer.old.failures writer.new.failures }
+{
+    let mut page = Page::new();
+    put_notes(&mut page, writer, rules, notes)?;
+    put_counters(&mut page, writer, rules, tallies)?;
+    put_totals(&mut page, writer, totals)?;
+    page.send(writer)
 }

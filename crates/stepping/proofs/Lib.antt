@@ -1,5 +1,6 @@
 mod Costs
 mod Orders
 mod HookRuns
+mod Arrivals
 mod Fates
 mod Entries

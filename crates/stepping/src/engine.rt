@@ -2,14 +2,16 @@
 ghost use Rattle.std.specs.Prelude.{◌≡◌, ◌<◌, ◌+◌, [], ◌∷◌, List, IfOk, IfSome, OnErr, OnOk};
 ghost use Rattle.pcap_io.specs.Sll2.{IsSent, sent};
 ghost use Rattle.rule_check.specs.WellFormed.{WellFormed};
-ghost use Rattle.story.specs.Story.{Entry};
+ghost use Rattle.story.specs.Story.{Entry, IsNewest};
+ghost use Rattle.nft_tree.specs.Tree.{tables_of};
 ghost use Rattle.stepping.specs.Next.{Next};
-ghost use Rattle.stepping.specs.Stands.{Stands, lent, packet_of, setup_of, told_of};
+ghost use Rattle.stepping.specs.Stands.{Stands, lent, packet_of, sends_of, setup_of, told_of};
 
 use crate::facts::interface_facts;
 use crate::fate::{fate, way_of};
 use compiler::compile;
 use filter_vm::{Code, Events};
+use nft_tree::Ruleset;
 use pcap_io::{Leaving, Record};
 use rule_check::Checked;
 use rule_meaning::Interface;
@@ -26,27 +28,30 @@ pub struct Engine {
     checked: Checked,
     /// What the rules are as code.
     code: Code,
-    /// The interface that packets enter by.
-    input: Interface,
+    /// The interface that packets enter by where no link header tells one.
+    entering: Interface,
+    records: u64,
+    /// The moment of the last record, 0 before one.
+    latest: u64,
+    /// The total length of the last record's packet as received; 0 where it carried none.
+    length: u16,
     /// What happened while the rules ran on the last record.
     events: Events,
-    records: u64,
-    latest: u64,
-    /// The interface that the last record's packet left by, if one left.
-    way: Option<u32>,
-    /// The packet that left.
+    /// How the last record ended; none before one.
+    outcome: Option<Outcome>,
+    /// The packet that the last record sent on; empty where it sent none, or before a record.
     packet: Vec<u8>,
 }
 
 impl Model for Engine {
-    ghost use Rattle.stepping.specs.Stands.{Shown, sends_in, setup_of};
-    ghost use Rattle.stepping.specs.steps.Fates.{IsReady};
+    ghost use Rattle.stepping.specs.Stands.{Shown, setup_of};
+    ghost use Rattle.stepping.specs.steps.Fates.{IsReady, newest_in};
 
     ghost Value = { Shown };
 
-    ghost view = { λ e. record { setup = setup_of e.checked; records = e.records; latest = e.latest; sends = sends_in e.way e.latest e.packet.items } };
+    ghost view = { λ e. record { setup = setup_of e.checked; records = e.records; newest = newest_in e.outcome e.latest e.length e.events e.packet } };
 
-    ghost invariant = { λ e. IsReady e.checked e.code e.input e.latest e.packet.items };
+    ghost invariant = { λ e. IsReady e.checked e.code e.entering e.outcome e.latest e.packet };
 }
 
 impl Engine {
@@ -59,16 +64,18 @@ impl Engine {
         let code = compile(alloc, &checked)?;
         let events = Events::new(alloc)?;
         let plant = checked.plant();
-        let input = interface_facts(plant, plant.entering());
+        let entering = interface_facts(plant, plant.entering());
+        let packet = Vec::with_capacity(alloc, MOST_PACKET_BYTES)?;
         Ok(Engine {
             checked,
             code,
-            input,
-            events,
+            entering,
             records: 0,
             latest: 0,
-            way: None,
-            packet: Vec::new(alloc),
+            length: 0,
+            events,
+            outcome: None,
+            packet,
         })
     }
 
@@ -88,27 +95,28 @@ impl Engine {
         self.packet.reserve(missing)?;
         self.packet.clear();
         self.events.clear();
-        let outcome = fate(
+        let ended = fate(
             &self.checked,
             &self.code,
-            self.input,
-            record.bytes,
+            self.entering,
+            record,
             &mut self.events,
             &mut self.packet,
         );
         self.records += 1;
         self.latest = self.latest.max(record.moment);
-        self.way = way_of(outcome);
-        Ok(outcome)
+        self.length = ended.length;
+        self.outcome = Some(ended.outcome);
+        Ok(ended.outcome)
     }
 
     /// The packet that the last record sent on, with the moment and the interface; none where it
     /// sent none, or before a record.
     pub fn leaving(&self) -> Option<Leaving<'_>>
-        ensures sends { lent result ≡ self.now.sends }
+        ensures sends { lent result ≡ sends_of self.now.newest }
         ensures fits { IfSome result (λ leaving. IsSent (sent leaving)) }
     {
-        let interface = self.way?;
+        let interface = way_of(self.outcome?)?;
         Some(Leaving {
             moment: self.latest,
             interface,
@@ -118,12 +126,30 @@ impl Engine {
 
     /// The packet that the last record sent on; empty where it sent none, or before a record.
     pub fn packet(&self) -> &[u8]
-        ensures { result.now ≡ packet_of self.now.sends }
+        ensures { result.now ≡ packet_of self.now.newest }
     {
-        match self.way {
-            Some(_) => &self.packet,
-            None => &[],
-        }
+        &self.packet
+    }
+
+    /// What is told of the last record; none before one.
+    pub fn entry(&self) -> Option<story::Entry<'_>>
+        // Whatever story the engine stands for, it is the newest entry of that story.
+        ensures newest { (story : List Entry) → Stands self.now story → IsNewest result story }
+    {
+        let outcome = self.outcome?;
+        Some(story::Entry {
+            number: self.records,
+            length: self.length,
+            events: self.events.list(),
+            outcome,
+        })
+    }
+
+    /// Its rules.
+    pub fn rules(&self) -> &Ruleset
+        ensures { tables_of result.now ≡ self.now.setup.rules }
+    {
+        self.checked.tree()
     }
 
     /// What is known of its rules: nothing is wrong with them. It does nothing.

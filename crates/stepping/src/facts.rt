@@ -1,5 +1,7 @@
 //! What rules may read of a packet.
 ghost use Rattle.std.specs.Prelude.{◌≡◌, ◌-◌, Some, None};
+ghost use Rattle.std.specs.Option.{option_map};
+ghost use Rattle.box_file.specs.Box.{name_of};
 ghost use Rattle.rule_meaning.specs.declared.facts.Tracking.TheVariants.{Unknown};
 ghost use Rattle.stepping.specs.Next.{interface_facts, packet_facts};
 
@@ -7,6 +9,18 @@ use box_file::Plant;
 use ip_headers::View;
 use nft_values::name_number;
 use rule_meaning::{Facts, Interface, Packet, Tracking};
+
+/// The interface of the index, if the box has it.
+#[inline(always)]
+pub fn interface_of(plant: &Plant, index: u32) -> Option<Interface>
+    ensures { result ≡ option_map (λ name. interface_facts plant.now index) (name_of plant.now index) }
+{
+    let name = plant.name(index)?;
+    Some(Interface {
+        index,
+        name: name_number(name),
+    })
+}
 
 /// An interface of the box, by its index.
 #[inline(always)]

@@ -1,42 +1,59 @@
-//! What becomes of a record, by its bytes alone.
+//! What becomes of a record, by itself alone.
 ghost use Rattle.std.specs.Prelude.{◌≡◌, ◌≤◌, ◌+◌, [], length, vec_capacity};
 ghost use Rattle.nft_tree.specs.declared.chain.Hook.TheVariants as hooks;
 ghost use Rattle.rule_meaning.specs.declared.event.Ending.{Ending};
-ghost use Rattle.compiler.specs.Compiled.{cost_at, total_cost};
-ghost use Rattle.stepping.specs.Next.{Fares, FaresOn, cause_of, interface_facts};
-ghost use Rattle.stepping.specs.Stands.{setup_of};
+ghost use Rattle.compiler.specs.Compiled.{cost_at};
+ghost use Rattle.stepping.specs.Next.{Fares, FaresOn, interface_facts};
+ghost use Rattle.stepping.specs.Stands.{setup_of, told_of};
 ghost use Rattle.stepping.specs.steps.Parts.{HasRoom};
-ghost use Rattle.stepping.specs.steps.Fates.{HasFate, IsCodeOf, way_of};
+ghost use Rattle.stepping.specs.steps.Fates.{HasFate, IsCodeOf, arrived_of, fate_in, way_of};
 
+use crate::arrival::{Incoming, carried};
 use crate::facts::{arriving, departing, interface_facts};
 use crate::passing::{arrive, deliver, depart, goes_on};
 use filter_vm::{Code, Events};
-use ip_headers::{Change, HeaderFault, View, emit};
+use ip_headers::{Change, View, emit};
+use pcap_io::Record;
 use rule_check::Checked;
 use rule_meaning::{Facts, Interface};
 use story::{Cause, Outcome};
 
-/// How a record ends that enters by the interface: as its packet does, or dropped for the first test
-/// of the header that fails. The packet that leaves, where one does, is left in `packet`.
+/// How a record ended.
+#[derive(Clone, Copy)]
+pub struct Ended {
+    pub outcome: Outcome,
+    /// The total length of its packet as received, in bytes; 0 where it carries none.
+    pub length: u16,
+}
+
+/// How a record ends: as its packet does, or dropped for the first test that fails of those that
+/// tell whether it carries one. The packet that leaves, where one does, is left in `packet`, and what
+/// happened while the rules ran in `events`.
 pub fn fate(
     checked: &Checked,
     code: &Code,
-    input: Interface,
-    bytes: &[u8],
+    entering: Interface,
+    record: &Record,
     events: &mut Events,
     packet: &mut Vec<u8>,
-) -> Outcome
+) -> Ended
     requires means { IsCodeOf checked.now code.now }
-    requires enters { input ≡ interface_facts checked.now.plant checked.now.plant.entering }
+    requires enters { entering ≡ interface_facts checked.now.plant checked.now.plant.entering }
     requires none { events.old ≡ record { events = []; ticks = 0 } }
     requires empty { packet.old.items ≡ [] }
     requires room { 65535 ≤ vec_capacity packet.old }
-    ensures fate { HasFate (setup_of checked.now) bytes.now (result, packet.new.items) }
+    ensures fate { HasFate (setup_of checked.now) (told_of record.now) result.length (fate_in result.outcome events.new packet.new) }
     ensures small { length packet.new.items ≤ 65535 }
 {
-    match View::read(bytes) {
-        Ok(view) => fare(checked, code, input, &view, events, packet),
-        Err(fault) => Outcome::Dropped(cause_of(fault)),
+    match carried(checked, entering, record) {
+        Ok(incoming) => Ended {
+            outcome: fare(checked, code, &incoming, events, packet),
+            length: incoming.view.total_length(),
+        },
+        Err(cause) => Ended {
+            outcome: Outcome::Dropped(cause),
+            length: 0,
+        },
     }
 }
 
@@ -45,20 +62,20 @@ pub fn fate(
 fn fare(
     checked: &Checked,
     code: &Code,
-    input: Interface,
-    view: &View,
+    incoming: &Incoming,
     events: &mut Events,
     packet: &mut Vec<u8>,
 ) -> Outcome
     requires means { IsCodeOf checked.now code.now }
-    requires enters { input ≡ interface_facts checked.now.plant checked.now.plant.entering }
+    requires known { incoming.now.input ≡ interface_facts checked.now.plant incoming.now.input.index }
     requires none { events.old ≡ record { events = []; ticks = 0 } }
     requires empty { packet.old.items ≡ [] }
     requires room { 65535 ≤ vec_capacity packet.old }
-    ensures fares { Fares (setup_of checked.now) view.now.packet.now (result, packet.new.items) }
+    ensures fares { Fares (setup_of checked.now) (arrived_of incoming.now) (fate_in result events.new packet.new) }
     ensures small { length packet.new.items ≤ 65535 }
 {
-    let arrival = arrive(code, &arriving(view, input), events);
+    let view = &incoming.view;
+    let arrival = arrive(code, &arriving(view, incoming.input), events);
     if !goes_on(arrival.ending) {
         return Outcome::Dropped(Cause::Rule);
     }
@@ -81,7 +98,7 @@ fn fare_on(
     requires fits { HasRoom events.old (cost_at code.now hooks.Input + cost_at code.now hooks.Forward + cost_at code.now hooks.Postrouting) }
     requires empty { packet.old.items ≡ [] }
     requires room { 65535 ≤ vec_capacity packet.old }
-    ensures fares { (ending : Ending) → FaresOn (setup_of checked.now) view.now.packet.now (record { ending = ending; facts = facts.now; events = events.old.events }) (result, packet.new.items) }
+    ensures fares { (ending : Ending) → FaresOn (setup_of checked.now) view.now.packet.now (record { ending = ending; facts = facts.now; events = events.old.events }) (fate_in result events.new packet.new) }
     ensures small { length packet.new.items ≤ 65535 }
 {
     let plant = checked.plant();
@@ -120,21 +137,5 @@ pub fn way_of(outcome: Outcome) -> Option<u32>
     match outcome {
         Outcome::Passed(interface) => Some(interface),
         Outcome::Local | Outcome::Dropped(_) => None,
-    }
-}
-
-/// The cause that a test of the header stands for.
-fn cause_of(fault: HeaderFault) -> Cause
-    ensures { result ≡ cause_of fault }
-{
-    match fault {
-        HeaderFault::Short => Cause::Short,
-        HeaderFault::Version => Cause::Version,
-        HeaderFault::HeaderLength => Cause::HeaderLength,
-        HeaderFault::Length => Cause::Length,
-        HeaderFault::Truncated => Cause::Truncated,
-        HeaderFault::Checksum => Cause::Checksum,
-        HeaderFault::Fragment => Cause::Fragment,
-        HeaderFault::Transport => Cause::Transport,
     }
 }

@@ -1,6 +1,7 @@
 //! One record at a time: what a forwarding box with its rules makes of it.
 #![tactic(auto)]
 
+mod arrival;
 mod engine;
 mod facts;
 mod fate;

@@ -1,13 +1,17 @@
 -- A story: the list of entries of all earlier records, the newest first. Nothing is ever removed.
-use Rattle.std.specs.Prelude.{ℕ, List, [], ◌∷◌, ◌++◌}
+use Rattle.std.specs.Prelude.{◌≡◌, ℕ, List, [], ◌∷◌, ◌++◌, length, Option, Some, None}
 use Rattle.std.specs.List.{flat_map}
 use Rattle.pcap_io.specs.Sll2.{Sent, sll2}
+use Rattle.rule_meaning.specs.declared.event.Event.{Event}
+use Rattle.story.specs.declared.entry.Entry as lent
 use Rattle.story.specs.declared.outcome.Outcome.{Outcome}
 use Rattle.story.specs.declared.outcome.Outcome.TheVariants.{Passed, Local, Dropped}
 
--- what became of a record: when it was seen, how it ended, and the bytes of the packet that left, none where none did
+-- what became of a record: when it was seen, the total length of its packet as received, 0 where it carries none, what happened while the rules ran on it, how it ended, and the bytes of the packet that left, none where none did
 pub record Entry : Type 0 where
   pub moment : ℕ
+  pub length : ℕ
+  pub events : List Event
   pub outcome : Outcome
   pub packet : List ℕ
 
@@ -33,3 +37,19 @@ sends e = sent_by e.outcome e.moment e.packet
 -- the capture that a story makes
 abbrev pub capture_text : List Entry → List ℕ
 capture_text story = sll2 (flat_map sends (in_order story))
+
+-- ---- what is lent of the newest entry
+
+-- its number, from 1, is that of all entries
+pub record IsEntry (e : Entry) (story : List Entry) (told : lent.Entry) : Type 0 where
+  pub number : told.number ≡ length (e ∷ story)
+  pub bytes : told.length ≡ e.length
+  pub events : told.events.now ≡ e.events
+  pub outcome : told.outcome ≡ e.outcome
+
+-- the newest entry of a story is lent, none of a story without one
+abbrev pub IsNewest : Option lent.Entry → List Entry → Type 0
+IsNewest None [] = Unit {0}
+IsNewest (Some told) (e ∷ story) = IsEntry e story told
+IsNewest None (e ∷ story) = ⊥
+IsNewest (Some told) [] = ⊥

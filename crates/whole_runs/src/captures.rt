@@ -37,11 +37,13 @@ const TORN_END: Result<u64, CaptureError> = Err(CaptureError::Refused(CaptureFau
 
 /// A place of a capture of two records, the byte that is put there, how long the capture is then,
 /// and how many records it has or why it is refused.
-const ROWS: [(usize, u8, usize, Result<u64, CaptureError>); 17] = [
+const ROWS: [(usize, u8, usize, Result<u64, CaptureError>); 18] = [
     (0, 0x4d, 85, MAGIC),
     (4, 3, 85, VERSION),
     (6, 3, 85, VERSION),
-    (20, 1, 85, LINK_TYPE),
+    (20, 0x71, 85, LINK_TYPE),
+    // LINKTYPE_ETHERNET.
+    (20, 1, 85, Ok(2)),
     // The high bits of the link type's field don't count.
     (23, 0x14, 85, Ok(2)),
     // A fraction of 1,024,288.

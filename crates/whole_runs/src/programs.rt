@@ -140,8 +140,10 @@ impl Host for Recorder {
         plant: &[u8],
         _input: &mut (),
         _output: &mut (),
+        trace: bool,
     ) -> Result<bool, RunFault> {
-        match self.note(&[b"run ", rules, b" ", plant]) {
+        let end: &[u8] = if trace { b" traced" } else { b"" };
+        match self.note(&[b"run ", rules, b" ", plant, end]) {
             Ok(()) => self.row.outcome,
             Err(error) if error.kind() == io::ErrorKind::OutOfMemory => Err(RunFault::Memory),
             Err(_) => Err(RunFault::Device),
@@ -196,11 +198,17 @@ fn ends<R: Abort + AllocGlobal>(rt: &R, row: Row) -> Result<(), Fail> {
     Ok(())
 }
 
-/// A run; one with a torn end; one that would write over a file that it reads; a fault of a run; a
+/// A run; one that tells each decision; one with a torn end; one that would write over a file that it reads; a fault of a run; a
 /// line that can't be told, which changes nothing; words that are no task, and help. A check; one
 /// that refuses; a box that can't be read; a line that can't be printed.
-const ROWS: [Row; 14] = [
+const ROWS: [Row; 15] = [
     DONE,
+    Row {
+        words: &["nftrun", "run", "--trace", "rules", "box", "in", "out"],
+        count: 8,
+        last: "run rules box traced\n",
+        ..DONE
+    },
     CHECKED,
     Row {
         judged: Err(RunFault::Rules(RulesFault::Check(CheckFault::TooCostly))),
@@ -312,7 +320,7 @@ fn no_call_follows_one_that_failed(rt: HostRuntime) -> Result<(), Fail> {
 }
 
 /// Words, and the paths of the task that they ask for, or the kind and the exit status of the error.
-const WORDS: [(&[&str], Result<&str, (ErrorKind, i32)>); 10] = [
+const WORDS: [(&[&str], Result<&str, (ErrorKind, i32)>); 17] = [
     (&["nftrun", "check", "r", "b"], Ok("r b")),
     (&["nftrun", "check", "--", "-r", "b"], Ok("-r b")),
     (
@@ -324,6 +332,34 @@ const WORDS: [(&[&str], Result<&str, (ErrorKind, i32)>); 10] = [
     (
         &["nftrun", "run", "--", "r", "b", "-i", "--help"],
         Ok("r b -i --help"),
+    ),
+    (
+        &["nftrun", "run", "--trace", "r", "b", "i", "o"],
+        Ok("r b i o traced"),
+    ),
+    (
+        &["nftrun", "run", "r", "b", "--trace", "i", "o"],
+        Ok("r b i o traced"),
+    ),
+    (
+        &["nftrun", "run", "r", "b", "i", "o", "--trace"],
+        Ok("r b i o traced"),
+    ),
+    (
+        &["nftrun", "run", "--trace", "--", "-r", "b", "i", "o"],
+        Ok("-r b i o traced"),
+    ),
+    (
+        &["nftrun", "run", "--", "--trace", "b", "i", "o"],
+        Ok("--trace b i o"),
+    ),
+    (
+        &["nftrun", "run", "--trace", "r", "b", "i", "o", "--trace"],
+        Err((ErrorKind::ArgumentConflict, 2)),
+    ),
+    (
+        &["nftrun", "check", "--trace", "r", "b"],
+        Err((ErrorKind::UnknownArgument, 2)),
     ),
     (&["nftrun"], Err((ErrorKind::MissingSubcommand, 2))),
     (
@@ -341,9 +377,11 @@ const WORDS: [(&[&str], Result<&str, (ErrorKind, i32)>); 10] = [
 fn words_ask_for_a_task_or_are_refused(rt: HostRuntime) -> Result<(), Fail> {
     for (words, wanted) in &WORDS {
         match read_task(rt.alloc(), words) {
-            Ok(Task::Run(paths)) => {
+            Ok(Task::Run(task)) => {
+                let paths = task.paths;
+                let end = if task.trace { " traced" } else { "" };
                 let text = format!(in rt.alloc();
-                    "{} {} {} {}",
+                    "{} {} {} {}{end}",
                     paths.rules, paths.plant, paths.input, paths.output
                 )?;
                 assert!(&rt; *wanted == Ok(text.as_str()), "{text}");

@@ -345,34 +345,35 @@ const REFUSED_TEXTS: [(&[u8], &[u8], &str); 7] = [
     (b"table ip t { } table u { }", BOX, "nftrun: capture P5"),
 ];
 
-/// Its length comes first, then its magic number, its version and its link type.
+/// Its length comes first, then its magic number (that of pcapng, and one with its bytes in no
+/// order), its version and its link type (113 tells no interface).
 const REFUSED_CAPTURES: [(&str, &str); 6] = [
     ("d4c3b2a1020004000000", "nftrun: capture P5"),
     (
-        "a1b2c3d4000200040000000000000000000000ff00000065",
+        "0a0d0d0a1c0000004d3c2b1a01000000ffffffffffffffff",
         "nftrun: capture P1",
     ),
     (
-        "a1b2c3d4000200050000000000000000000000ff00000001",
+        "b2a1d4c3020005000000000000000000ffff000001000000",
         "nftrun: capture P1",
     ),
     (
-        "d4c3b2a1020005000000000000000000ffff000001000000",
+        "d4c3b2a1020005000000000000000000ffff000071000000",
         "nftrun: capture P2",
     ),
     (
-        "d4c3b2a1020005000000000000000000ffff000065000000",
+        "a1b2c3d40002000500000000000000000000ffff00000065",
         "nftrun: capture P2",
     ),
     (
-        "d4c3b2a1020004000000000000000000ffff000001000000",
+        "d4c3b2a1020004000000000000000000ffff000071000000",
         "nftrun: capture P3",
     ),
 ];
 
 #[test]
 fn runs_write_these_bytes(rt: HostRuntime) -> Result<(), Fail> {
-    for most in [1usize, 2, 3, 7, 4096] {
+    for most in [1usize, 2, 3, 5, 7, 4096] {
         give(&rt, &ROWS, most)?;
     }
     Ok(())

@@ -1,17 +1,24 @@
 -- The command of clap that reads the words.
-use Rattle.std.specs.Prelude.{codes, true}
+use Rattle.std.specs.Prelude.{Some, codes, true}
+use Rattle.clap.specs.declared.builder.action.ArgAction.TheVariants.{SetTrue}
 use Rattle.clap.specs.Words.{App, Rule, Shape, Text, new_app, new_rule, with_rule, with_subcommand}
 
 abbrev pub path_rule : Text → Rule
 path_rule id = record (new_rule id) { value_names = 1; required = true }
 
-abbrev pub run_app : App
-run_app =
+abbrev pub trace_rule : Rule
+trace_rule = record (new_rule (codes "trace")) { long = Some (codes "trace"); action = Some SetTrue }
+
+abbrev pub paths_app : App
+paths_app =
     with_rule (with_rule (with_rule (with_rule (new_app (codes "run")) (path_rule (codes "rules")))
     (path_rule (codes "plant"))) (path_rule (codes "input"))) (path_rule (codes "output"))
 
+abbrev pub paths_shape : Shape
+paths_shape = paths_app.top
+
 abbrev pub run_shape : Shape
-run_shape = run_app.top
+run_shape = (with_rule paths_app trace_rule).top
 
 abbrev pub check_app : App
 check_app = with_rule (with_rule (new_app (codes "check")) (path_rule (codes "rules"))) (path_rule (codes "plant"))

@@ -1,17 +1,23 @@
 -- What taking the records of a capture gives.
-use Rattle.std.specs.Prelude.{◌≡◌, ◌≤◌, ℕ, List, [], ◌∷◌, ◌++◌, length, All, Option, Some, None}
+use Rattle.std.specs.Prelude.{◌≡◌, ◌≤◌, ℕ, Bool, List, [], ◌∷◌, ◌++◌, length, All, ◌⊎◌, Option, Some, None}
 use Rattle.std.specs.List.{flat_map}
+use Rattle.std.specs.Io.KnownBytes.{Appends}
 use Rattle.pcap_io.specs.declared.format.Format.{Format}
 use Rattle.pcap_io.specs.declared.fault.CaptureFault.{CaptureFault}
 use Rattle.pcap_io.specs.declared.fault.CaptureFault.TheVariants as captures
 use Rattle.pcap_io.specs.Pcap.{Captured, Recorded, IsRecord, Ending, Whole, Torn, Malformed, Over, Ends, stream_of, told, MOST_RECORDS}
 use Rattle.pcap_io.specs.Sll2.{sll2_record}
-use Rattle.pcap_io.specs.Counting.{AppendsPart}
+use Rattle.pcap_io.specs.Counting.{AppendsPart, one_more}
 use Rattle.pcap_io.specs.Waiting.{Gets}
-use Rattle.story.specs.Story.{Entry, in_order, sends}
-use Rattle.report.specs.Report.{Numbers, Counts}
+use Rattle.story.specs.Story.{Entry, capture_text, in_order, sends}
+use Rattle.report.specs.Report.{entry_lines}
+use Rattle.report.specs.Standing.{Reports}
 use Rattle.stepping.specs.Next.{Setup, Next, Grows}
-use Rattle.stepping.specs.Stands.{Shown, Stands}
+use Rattle.stepping.specs.Stands.{Stands}
+use Rattle.engine.specs.declared.fault.RunFault.{RunFault}
+use Rattle.engine.specs.declared.fault.RunFault.TheVariants.{Rules, Box, Capture, Device, Memory}
+use Rattle.engine.specs.declared.replay.Replay.{Replay}
+use Rattle.engine.specs.Meaning.{ending_of}
 
 -- the records of the packets that a story sends
 abbrev pub sent_records : List Entry → List ℕ
@@ -37,40 +43,94 @@ ending_at (Some captures.Magic) = Whole
 ending_at (Some captures.Version) = Whole
 ending_at (Some captures.LinkType) = Whole
 
--- these bytes are records of the format that were taken and counted, their packets written or waiting, and stop so
-pub record Replayed (setup : Setup) (format : Format) (bytes : List ℕ) (ending : Ending) (numbers : Numbers) (waited : List ℕ) (old new : Option (List ℕ)) (waits : List ℕ) : Type 0 where
+-- ---- the writers
+
+-- what a replay starts from: the rules and the box, whether it traces, and what the writers of the capture and of the report hold, where it is known
+pub record Start : Type 0 where
+  pub setup : Setup
+  pub trace : Bool
+  pub sent : Option (List ℕ)
+  pub report : Option (List ℕ)
+
+-- both writers got all that a story gives, but for what comes after the last record
+pub record AllTold (start : Start) (story : List Entry) (w r : Option (List ℕ)) : Type 0 where
+  pub all_sent : Appends start.sent w (capture_text story)
+  pub all_lines : Appends start.report r (entry_lines start.setup.rules start.trace story)
+
+-- both got a beginning of it
+pub record PartTold (start : Start) (story : List Entry) (w r : Option (List ℕ)) : Type 0 where
+  pub part_sent : AppendsPart start.sent w (capture_text story)
+  pub part_lines : AppendsPart start.report r (entry_lines start.setup.rules start.trace story)
+
+-- ---- one record after another
+
+-- a replay stands for a story: its engine and its report do, and the writers got all that the story gives, but for what waits in the sink and what is noted in the report
+pub record Plays (replay : Replay) (start : Start) (story : List Entry) (w r : Option (List ℕ)) : Type 0 where
+  pub same : replay.engine.setup ≡ start.setup
+  pub stands : Stands replay.engine story
+  pub gets : Gets [] start.sent w replay.sink.waiting (capture_text story)
+  pub lines : List ℕ
+  pub reports : Reports replay.numbers start.setup.rules start.trace story lines
+  pub tells : Appends start.report r lines
+
+-- one more record was taken
+pub record Took (replay : Replay) (start : Start) (story : List Entry) (taken : Recorded) (w r : Option (List ℕ)) : Type 0 where
+  pub entry : Entry
+  pub next : Next start.setup story taken entry
+  pub plays : Plays replay start (entry ∷ story) w r
+
+-- the record's entry was reached, and the writers got a beginning of what the story gives with it
+pub record Broke (start : Start) (story : List Entry) (taken : Recorded) (w r : Option (List ℕ)) : Type 0 where
+  pub entry : Entry
+  pub next : Next start.setup story taken entry
+  pub part : PartTold start (entry ∷ story) w r
+
+-- ---- all records
+
+-- these bytes begin with records by which this story grew, and then these follow
+pub record Follows (setup : Setup) (format : Format) (bytes after : List ℕ) (story : List Entry) : Type 0 where
   pub records : List Captured
+  pub joined : bytes ≡ stream_of records after
+  pub each : All (IsRecord format) records
+  pub not_over : length records ≤ MOST_RECORDS
+  pub grows : Grows setup [] (told format records) story
+
+-- these bytes are records that were taken, and stop so
+pub record Replayed (replay : Replay) (start : Start) (format : Format) (bytes : List ℕ) (ending : Ending) (w r : Option (List ℕ)) : Type 0 where
   pub rest : List ℕ
-  pub joined : bytes ≡ stream_of records rest
-  pub each : All (IsRecord format) records
-  pub not_over : length records ≤ MOST_RECORDS
-  pub ends : Ends format ending (length records) rest
   pub story : List Entry
-  pub grows : Grows setup [] (told format records) story
-  pub counts : Counts numbers story
-  pub gets : Gets waited old new waits (sent_records story)
+  pub follows : Follows start.setup format bytes rest story
+  pub ends : Ends format ending (length follows.records) rest
+  pub plays : Plays replay start story w r
 
--- these bytes begin with records that were taken, and the writer got a beginning of what waited and what they send
-pub record Interrupted (setup : Setup) (format : Format) (bytes : List ℕ) (waited : List ℕ) (old new : Option (List ℕ)) : Type 0 where
-  pub records : List Captured
-  pub more : List ℕ
-  pub joined : bytes ≡ stream_of records more
-  pub each : All (IsRecord format) records
-  pub not_over : length records ≤ MOST_RECORDS
+-- these bytes begin with records that were taken, and the writers got a beginning of what they give
+pub record Halted (start : Start) (format : Format) (bytes : List ℕ) (w r : Option (List ℕ)) : Type 0 where
+  pub rest : List ℕ
   pub story : List Entry
-  pub grows : Grows setup [] (told format records) story
-  pub sent : AppendsPart old new (waited ++ sent_records story)
+  pub follows : Follows start.setup format bytes rest story
+  pub part : PartTold start story w r
 
--- whatever story they stand for, after one record they stand for that story with the record's entry, whose packet is written or waits
-pub record Taken (setup : Setup) (story : List Entry) (r : Recorded) (engine : Shown) (numbers : Numbers) (waited : List ℕ) (old new : Option (List ℕ)) (waits : List ℕ) : Type 0 where
-  pub entry : Entry
-  pub next : Next setup story r entry
-  pub stands : Stands engine (entry ∷ story)
-  pub counts : Counts numbers (entry ∷ story)
-  pub gets : Gets waited old new waits (flat_map sll2_record (sends entry))
+-- these bytes are records that were taken, some that were read after them and are no further record, and those that the reader has left; and the writers got all that the records give
+pub record Cut (start : Start) (format : Format) (bytes : List ℕ) (unread w r : Option (List ℕ)) : Type 0 where
+  pub held : List ℕ
+  pub left : List ℕ
+  pub is_left : unread ≡ Some left
+  pub story : List Entry
+  pub follows : Follows start.setup format bytes (held ++ left) story
+  pub torn : Bool
+  pub ends : Ends format (ending_of torn) (length follows.records) held
+  pub all : AllTold start story w r
 
--- the record's entry was reached, and the writer got a beginning of what waited and what it sends
-pub record Broken (setup : Setup) (story : List Entry) (r : Recorded) (waited : List ℕ) (old new : Option (List ℕ)) : Type 0 where
-  pub entry : Entry
-  pub next : Next setup story r entry
-  pub sent : AppendsPart old new (waited ++ flat_map sll2_record (sends entry))
+-- what a fault among the records says of the bytes, of the writers, and of the reads that failed
+abbrev pub Interrupts : Start → Format → List ℕ → Option (List ℕ) → Option (List ℕ) → Option (List ℕ) → ℕ → ℕ → RunFault → Type 0
+Interrupts start format bytes unread w r before after (Rules fault) = ⊥
+Interrupts start format bytes unread w r before after (Box fault) = ⊥
+Interrupts start format bytes unread w r before after (Capture fault) = ⊥
+Interrupts start format bytes unread w r before after Device = (Cut start format bytes unread w r × (after ≡ one_more before)) ⊎ (Halted start format bytes w r × (after ≡ before))
+Interrupts start format bytes unread w r before after Memory = Halted start format bytes w r × (after ≡ before)
+
+-- ---- calls that failed
+
+-- of two counts just one rose, by one
+abbrev pub OneOfTwo : (a a' b b' : ℕ) → Type 0
+OneOfTwo a a' b b' = ((a' ≡ one_more a) × (b' ≡ b)) ⊎ ((a' ≡ a) × (b' ≡ one_more b))

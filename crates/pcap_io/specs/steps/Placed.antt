@@ -1,28 +1,29 @@
--- A capture that holds all the bytes of its input.
-use Rattle.std.specs.Prelude.{◌-◌, ◌<◌, ◌≤◌, ℕ, true, List, length, drop, slice_range, Option, Some, None, IfSome}
+-- A capture that holds the bytes read ahead.
+use Rattle.std.specs.Prelude.{◌<◌, ◌≤◌, ℕ, List, length, Option, Some, None, IfSome}
 use Rattle.pcap_io.specs.declared.fault.CaptureError.{CaptureError}
+use Rattle.pcap_io.specs.declared.format.LinkType.{LinkType}
 use Rattle.pcap_io.specs.declared.format.Format.{Format}
 use Rattle.pcap_io.specs.Pcap.{Recorded, MOST_RECORDS, MOST_CAPTURED}
 use Rattle.pcap_io.specs.Seen.{Seen}
+use Rattle.pcap_io.specs.steps.Ahead.{Ahead, last_of}
 
--- the record that was read last: so many bytes before this place, at the greatest moment
-abbrev pub last_in : List ℕ → ℕ → ℕ → Option ℕ → Option Recorded
-last_in bytes place latest None = None
-last_in bytes place latest (Some n) = Some (record { moment = latest; bytes = slice_range bytes (place - n) place })
+-- the record that was read last: the last bytes that were taken, at the greatest moment
+abbrev pub last_in : LinkType → List ℕ → ℕ → Option ℕ → Option Recorded
+last_in link taken latest None = None
+last_in link taken latest (Some n) = Some (record { moment = latest; link = link; bytes = last_of n taken })
 
--- what it shows at a place
-abbrev pub seen_in : Format → List ℕ → ℕ → ℕ → ℕ → Option CaptureError → Option ℕ → Seen
-seen_in format bytes place count latest fault last =
-    record { format = format; held = drop place bytes; ended = true; count = count; latest = latest; fault = fault; last = last_in bytes place latest last }
+-- what it shows
+abbrev pub seen_in : Format → Ahead → ℕ → ℕ → Option CaptureError → Option ℕ → Seen
+seen_in format ahead count latest fault last =
+    record { format = format; held = ahead.held; ended = ahead.ended; count = count; latest = latest; fault = fault; last = last_in format.link ahead.taken latest last }
 
 -- no moment that a record may tell comes as late
 abbrev pub MOMENTS_END : ℕ
 MOMENTS_END = 4294967296000000000
 
--- what holds of it at every place
-pub record IsPlaced (bytes : List ℕ) (place count latest : ℕ) (last : Option ℕ) : Type 0 where
-  pub within : place ≤ length bytes
+-- what holds of it after every call
+pub record IsPlaced (ahead : Ahead) (count latest : ℕ) (last : Option ℕ) : Type 0 where
   pub few : count ≤ MOST_RECORDS
   pub early : latest < MOMENTS_END
-  pub behind : IfSome last (λ n. n ≤ place)
+  pub behind : IfSome last (λ n. n ≤ length ahead.taken)
   pub short : IfSome last (λ n. n ≤ MOST_CAPTURED)

@@ -1,5 +1,5 @@
 use Rattle.std.proofs.Common.{◌≡◌, ◌∙◌, true, map, refl, sym, codes}
-use Rattle.command_line.proofs.Reading.{asks_check, asks_run, given_as, handed_on, has_read, has_value, is_check_task, is_run_task, refused, same_value, value_is}
+use Rattle.command_line.proofs.Reading.{asks_check, asks_run, given_as, handed_on, has_read, flag_is, has_value, is_check_task, is_run_task, path_is, refused, same_value, value_is}
 use Rattle.clap.specs.Words.{found_of, kind_of}
 use Rattle.clap.specs.declared.error.kind.ErrorKind.TheVariants.{OutOfMemory}
 use Rattle.command_line.specs.CommandLine.{is_well_formed}
@@ -35,28 +35,28 @@ value_of-requires-2 c =
     let is = is_run_task _ _ _ (has_read _ _ c.in_ok-matches.matches c.unwrap.result.0.now _ c.in_ok-program.ensures c.in_ok-matches.ensures.kinds c.in_ok-matches.ensures.matches
     (given_as c.subcommand.result c.unwrap.result _ _ c.unwrap.ensures c.subcommand.ensures.name c.subcommand.ensures.rows)) (sym c.eq.ensures ∙ c.if-eq.false) in
     let rows = is.1 in
-    has_value _ rows.0 (value_is (found_of c.unwrap.result.1.now) (codes "rules") rows.0 _ rows.5 refl)
+    has_value _ rows.0 (path_is (found_of c.unwrap.result.1.now) (codes "rules") rows.0 _ refl rows.5.of_rules)
 
 pub value_of-requires-3 : goal.value_of-requires-3
 value_of-requires-3 c =
     let is = is_run_task _ _ _ (has_read _ _ c.in_ok-matches.matches c.unwrap.result.0.now _ c.in_ok-program.ensures c.in_ok-matches.ensures.kinds c.in_ok-matches.ensures.matches
     (given_as c.subcommand.result c.unwrap.result _ _ c.unwrap.ensures c.subcommand.ensures.name c.subcommand.ensures.rows)) (sym c.eq.ensures ∙ c.if-eq.false) in
     let rows = is.1 in
-    has_value _ rows.1 (value_is (found_of c.unwrap.result.1.now) (codes "plant") rows.1 _ rows.5 refl)
+    has_value _ rows.1 (path_is (found_of c.unwrap.result.1.now) (codes "plant") rows.1 _ refl rows.5.of_plant)
 
 pub value_of-requires-4 : goal.value_of-requires-4
 value_of-requires-4 c =
     let is = is_run_task _ _ _ (has_read _ _ c.in_ok-matches.matches c.unwrap.result.0.now _ c.in_ok-program.ensures c.in_ok-matches.ensures.kinds c.in_ok-matches.ensures.matches
     (given_as c.subcommand.result c.unwrap.result _ _ c.unwrap.ensures c.subcommand.ensures.name c.subcommand.ensures.rows)) (sym c.eq.ensures ∙ c.if-eq.false) in
     let rows = is.1 in
-    has_value _ rows.2 (value_is (found_of c.unwrap.result.1.now) (codes "input") rows.2 _ rows.5 refl)
+    has_value _ rows.2 (path_is (found_of c.unwrap.result.1.now) (codes "input") rows.2 _ refl rows.5.of_input)
 
 pub value_of-requires-5 : goal.value_of-requires-5
 value_of-requires-5 c =
     let is = is_run_task _ _ _ (has_read _ _ c.in_ok-matches.matches c.unwrap.result.0.now _ c.in_ok-program.ensures c.in_ok-matches.ensures.kinds c.in_ok-matches.ensures.matches
     (given_as c.subcommand.result c.unwrap.result _ _ c.unwrap.ensures c.subcommand.ensures.name c.subcommand.ensures.rows)) (sym c.eq.ensures ∙ c.if-eq.false) in
     let rows = is.1 in
-    has_value _ rows.3 (value_is (found_of c.unwrap.result.1.now) (codes "output") rows.3 _ rows.5 refl)
+    has_value _ rows.3 (path_is (found_of c.unwrap.result.1.now) (codes "output") rows.3 _ refl rows.5.of_output)
 
 pub returns-clause-asked : goal.returns-clause-asked
 returns-clause-asked c =
@@ -64,11 +64,12 @@ returns-clause-asked c =
     (given_as c.subcommand.result c.unwrap.result _ _ c.unwrap.ensures c.subcommand.ensures.name c.subcommand.ensures.rows)) (sym c.eq.ensures ∙ c.if-eq.false) in
     let rows = is.1 in
     let found = found_of c.unwrap.result.1.now in
-    asks_run _ _ _ _ _ _ _ _ _ _ _ is.0 rows.4
-    (same_value _ c.value_of-2.result.now rows.0 c.value_of-2.ensures (value_is found (codes "rules") rows.0 _ rows.5 refl))
-    (same_value _ c.value_of-3.result.now rows.1 c.value_of-3.ensures (value_is found (codes "plant") rows.1 _ rows.5 refl))
-    (same_value _ c.value_of-4.result.now rows.2 c.value_of-4.ensures (value_is found (codes "input") rows.2 _ rows.5 refl))
-    (same_value _ c.value_of-5.result.now rows.3 c.value_of-5.ensures (value_is found (codes "output") rows.3 _ rows.5 refl))
+    asks_run _ _ _ _ _ _ _ _ _ _ _ _ is.0 rows.4
+    (flag_is found _ c.get_flag.result _ refl rows.5.of_trace c.get_flag.ensures.value c.get_flag.ensures.other)
+    (same_value _ c.value_of-2.result.now rows.0 c.value_of-2.ensures (path_is found (codes "rules") rows.0 _ refl rows.5.of_rules))
+    (same_value _ c.value_of-3.result.now rows.1 c.value_of-3.ensures (path_is found (codes "plant") rows.1 _ refl rows.5.of_plant))
+    (same_value _ c.value_of-4.result.now rows.2 c.value_of-4.ensures (path_is found (codes "input") rows.2 _ refl rows.5.of_input))
+    (same_value _ c.value_of-5.result.now rows.3 c.value_of-5.ensures (path_is found (codes "output") rows.3 _ refl rows.5.of_output))
 
 pub returns-in_err-matches-clause-refused : goal.returns-in_err-matches-clause-refused
 returns-in_err-matches-clause-refused c =

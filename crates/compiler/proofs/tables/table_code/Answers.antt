@@ -30,7 +30,7 @@ loop-rest-preserved c =
     let with_place : TableCode = record { steps = c.loop-rest.code.steps; places = c.push.new.self; lookups = c.loop-rest.code.lookups } in
     let p = named c.args.plant.now c.args.table c.args.names.now in
     let number : c.in_ok-short.field-0 ≡ length c.loop-rest.code.places.items = c.in_ok-short.ensures ∙ c.len.ensures ∙ c.loop-rest.code.places.ok.0 in
-    let here : c.len-in-len1-up.result ≡ length c.loop-rest.code.steps.items = c.len-in-len1-up.ensures ∙ c.loop-rest.code.steps.ok.0 in
+    let here : length c.list.result.now ≡ length c.loop-rest.code.steps.items = ap length c.list.ensures.items in
     let adds = subst (λ n. Adds (λ later at_step. RulesAt p later at_step n 1 (map (λ (r : RuleTree). r.statements) (map rule_tree c.chain-item.result.now.rules.items))) with_place c.add_rules.new.code) number
     (subst (λ rs. Adds (λ later at_step. RulesAt p later at_step c.in_ok-short.field-0 1 (map (λ (r : RuleTree). r.statements) (map rule_tree rs))) with_place c.add_rules.new.code) c.deref.ensures.value c.in_ok-add_rules.ensures) in
     record {

@@ -1,36 +1,70 @@
-use Rattle.std.proofs.Common.{ap, sym, ◌∙◌, Err}
-use Rattle.std.proofs.KnownBytes.{Keeps-refl}
+use Rattle.std.proofs.Common.{◌∙◌, Err, ap, refl}
 use Rattle.std.proofs.lemmas.Result.{err_from_is_err_and}
-use Rattle.engine.specs.steps.Replayed.{ending_at}
-use Rattle.engine.proofs.Texts.{device_halted, from_stop, halted_finish, halted_replay, halted_tell, held_stop, says_halted, says_told, told_all, untold}
+use Rattle.engine.specs.Left.{Devices}
+use Rattle.engine.specs.steps.Replayed.{Interrupts, Replayed, Start, ending_at}
+use Rattle.engine.specs.steps.Written.{start_of}
+use Rattle.engine.proofs.Replays.{interrupts}
+use Rattle.engine.proofs.Texts.{as_opened, fault_as, halted_open, says_ended, says_interrupted, told_all, within_end}
 use Rattle.engine.proofs.runs.write_texts.Goals as goal
+
+pub returns-in_err-replay-clause-left : goal.returns-in_err-replay-clause-left
+returns-in_err-replay-clause-left g c =
+    let old : Devices = record { unread = g.R.Read.remaining c.args.capture.now.inner; sent = g.W.Write.contents c.args.sent.now.inner; report = g.W2.Write.contents c.args.report.now.inner; reads_failed = c.args.capture.now.failures; sends_failed = c.args.sent.now.failures; reports_failed = c.args.report.now.failures } in
+    let new : Devices = record { unread = g.R.Read.remaining c.args.capture.now.inner; sent = g.W.Write.contents c.new.new.sent.inner; report = g.W2.Write.contents c.args.report.now.inner; reads_failed = c.args.capture.now.failures; sends_failed = c.new.new.sent.failures; reports_failed = c.args.report.now.failures } in
+    let start : Start = start_of c.args.engine.setup c.args.trace old in
+    let q = err_from_is_err_and c.from_residual.result c.from_residual.ensures.1 in
+    rw q.1 (rw q.2 (says_interrupted _ _ _ _ old new c.in_err-replay.field-0.0 (interrupts start _ _ _ _ _ c.args.capture.now.failures _ c.in_err-replay.field-0.0 c.in_err-replay.ensures.kinds refl
+    (halted_open start _ _ _ _ refl c.in_err-replay.ensures.part))))
 
 pub returns-in_err-stop-clause-left : goal.returns-in_err-stop-clause-left
 returns-in_err-stop-clause-left g c =
-    let p = err_from_is_err_and c.from_residual.result c.from_residual.ensures.1 in
-    rw p.1 (rw p.2 (says_halted _ _ _ _ _ c.in_err-stop.field-0.0 c.in_err-stop.ensures.kinds
-    (halted_replay _ _ _ _ _ _ _ _ _ _ _ c.in-Ok.ensures.ok c.in_err-stop.ensures.interrupted (Keeps-refl _))))
-
-pub returns-in-Err-clause-left : goal.returns-in-Err-clause-left
-returns-in-Err-clause-left g c =
-    device_halted _ _ _ _ _ (halted_finish _ _ (ending_at c.in_ok-stop.stop) _ _ _ _ _ _ _ _ _ _ _ _ c.in-Ok.ensures.ok c.in_ok-stop.ensures.ok c.in-Err.ensures.part (Keeps-refl _))
+    let old : Devices = record { unread = g.R.Read.remaining c.args.capture.now.inner; sent = g.W.Write.contents c.args.sent.now.inner; report = g.W2.Write.contents c.args.report.now.inner; reads_failed = c.args.capture.now.failures; sends_failed = c.args.sent.now.failures; reports_failed = c.args.report.now.failures } in
+    let new : Devices = record { unread = g.R.Read.remaining c.play.new.capture.inner; sent = g.W.Write.contents c.play.new.sent.inner; report = g.W2.Write.contents c.play.new.report.inner; reads_failed = c.play.new.capture.failures; sends_failed = c.play.new.sent.failures; reports_failed = c.play.new.report.failures } in
+    let start : Start = start_of c.args.engine.setup c.args.trace old in
+    let q = err_from_is_err_and c.from_residual-in_err-stop.result c.from_residual-in_err-stop.ensures.1 in
+    rw q.1 (rw q.2 (says_interrupted _ _ _ _ old new c.in_err-stop.field-0.0
+    (as_opened c.in_ok-replay.replay.records c.args.records _
+    (λ format bytes. Interrupts start format bytes (g.R.Read.remaining c.play.new.capture.inner) (g.W.Write.contents c.play.new.sent.inner) (g.W2.Write.contents c.play.new.report.inner) c.args.capture.now.failures c.play.new.capture.failures c.in_err-stop.field-0.0)
+    c.in_ok-replay.ensures.same.1 (c.in_err-stop.ensures.interrupted start (c.in_ok-replay.ensures.plays start.report)))))
 
 pub returns-in_err-torn-clause-left : goal.returns-in_err-torn-clause-left
 returns-in_err-torn-clause-left g c =
-    let p = err_from_is_err_and c.from_residual-in_err-torn.result c.from_residual-in_err-torn.ensures.1 in
-    rw p.1 (rw p.2 (from_stop c.in_ok-stop.stop c.in_err-torn.field-0.0 _ (sym c.torn_at.ensures ∙ c.in_err-torn.was)
-    (held_stop _ _ _ _ _ _ _ _ _ _ _ _ _ _ _ c.in_ok-stop.ensures.stop c.in-Ok.ensures.ok c.in_ok-stop.ensures.ok c.in-Ok-finish.ensures.ok (Keeps-refl _))))
+    let old : Devices = record { unread = g.R.Read.remaining c.args.capture.now.inner; sent = g.W.Write.contents c.args.sent.now.inner; report = g.W2.Write.contents c.args.report.now.inner; reads_failed = c.args.capture.now.failures; sends_failed = c.args.sent.now.failures; reports_failed = c.args.report.now.failures } in
+    let new : Devices = record { unread = g.R.Read.remaining c.play.new.capture.inner; sent = g.W.Write.contents c.finish.new.sent.inner; report = g.W2.Write.contents c.finish.new.report.inner; reads_failed = c.play.new.capture.failures; sends_failed = c.finish.new.sent.failures; reports_failed = c.finish.new.report.failures } in
+    let start : Start = start_of c.args.engine.setup c.args.trace old in
+    let q = err_from_is_err_and c.from_residual-in_err-torn.result c.from_residual-in_err-torn.ensures.1 in
+    let calm = c.in_ok-stop.ensures.calm (λ e. cc) in
+    rw q.1 (rw q.2 (says_ended c.play.new.self _ _ _ _ (g.W.Write.contents c.play.new.sent.inner) (g.W2.Write.contents c.play.new.report.inner) c.in_ok-stop.stop old new c.play.new.report.failures c.in_err-torn.field-0.0
+    c.in_ok-stop.ensures.stop c.in_err-torn.ensures.kinds calm.0 calm.2 (λ story s. c.in_err-torn.ensures.ended start story s)
+    (as_opened c.in_ok-replay.replay.records c.args.records _
+    (λ format bytes. Replayed c.play.new.self start format bytes (ending_at c.in_ok-stop.stop) (g.W.Write.contents c.play.new.sent.inner) (g.W2.Write.contents c.play.new.report.inner))
+    c.in_ok-replay.ensures.same.1 (c.in_ok-stop.ensures.ok start (c.in_ok-replay.ensures.plays start.report)))))
 
-pub returns-in_err-tell-clause-left : goal.returns-in_err-tell-clause-left
-returns-in_err-tell-clause-left g c =
-    let p = err_from_is_err_and c.from_residual-in_err-tell.result c.from_residual-in_err-tell.ensures.1 in
-    rw p.1 (rw p.2 (says_told _ _ _ _ _ c.in_err-tell.field-0.0 c.in_err-tell.ensures.kinds
-    (λ e. untold _ _ c.in_ok-stop.stop c.in_ok-torn.torn _ _ _ _ _ _ _ _ _ _ _ _ (sym c.torn_at.ensures ∙ c.in_ok-torn.was) c.in-Ok.ensures.ok c.in_ok-stop.ensures.ok c.in-Ok-finish.ensures.ok
-    c.in_err-tell.ensures.part (c.in_err-tell.ensures.device (ap Err e)))
-    (λ e. halted_tell _ _ (ending_at c.in_ok-stop.stop) _ _ _ _ _ _ _ _ _ _ _ _ c.in-Ok.ensures.ok c.in_ok-stop.ensures.ok c.in-Ok-finish.ensures.ok
-    (let kept = c.in_err-tell.ensures.memory (ap Err e) in rw kept (Keeps-refl _)))))
+pub returns-in_err-torn-clause-calm : goal.returns-in_err-torn-clause-calm
+returns-in_err-torn-clause-calm g c = λ other.
+    let q = err_from_is_err_and c.from_residual-in_err-torn.result c.from_residual-in_err-torn.ensures.1 in
+    let calm = c.in_ok-stop.ensures.calm (λ e. cc) in
+    let calm_after = c.in_err-torn.ensures.calm (λ e. other (q.1 ∙ ap Err q.2 ∙ fault_as c.in_err-torn.field-0.0 _ e)) in
+    let calm_before = c.in_ok-replay.ensures.calm (λ e. cc) in
+    (calm.0, calm_after.0 ∙ calm.1 ∙ calm_before, calm_after.1 ∙ calm.2)
 
 pub returns-clause-ok : goal.returns-clause-ok
 returns-clause-ok g c =
-    told_all _ _ c.in_ok-stop.stop c.in_ok-torn.torn _ _ _ _ _ _ _ _ _ _ _ (sym c.torn_at.ensures ∙ c.in_ok-torn.was) c.in-Ok.ensures.ok c.in_ok-stop.ensures.ok c.in-Ok-finish.ensures.ok
-    c.in_ok-tell.ensures.ok c.records-3.ensures
+    let start : Start = record { setup = c.args.engine.setup; trace = c.args.trace; sent = g.W.Write.contents c.args.sent.now.inner; report = g.W2.Write.contents c.args.report.now.inner } in
+    told_all c.play.new.self start _ _ (g.W.Write.contents c.play.new.sent.inner) _ (g.W2.Write.contents c.play.new.report.inner) _ c.in_ok-stop.stop c.in_ok-torn.torn _ c.in_ok-torn.ensures.torn (c.records.ensures ∙ c.finish.ensures.records)
+    (λ story s. c.in_ok-torn.ensures.ok start story s)
+    (as_opened c.in_ok-replay.replay.records c.args.records _
+    (λ format bytes. Replayed c.play.new.self start format bytes (ending_at c.in_ok-stop.stop) (g.W.Write.contents c.play.new.sent.inner) (g.W2.Write.contents c.play.new.report.inner))
+    c.in_ok-replay.ensures.same.1 (c.in_ok-stop.ensures.ok start (c.in_ok-replay.ensures.plays start.report)))
+
+pub returns-in_err-stop-clause-calm : goal.returns-in_err-stop-clause-calm
+returns-in_err-stop-clause-calm g c = λ other.
+    let q = err_from_is_err_and c.from_residual-in_err-stop.result c.from_residual-in_err-stop.ensures.1 in
+    let calm = c.in_err-stop.ensures.calm (λ e. other (q.1 ∙ ap Err q.2 ∙ fault_as c.in_err-stop.field-0.0 _ e)) in
+    let calm_before = c.in_ok-replay.ensures.calm (λ e. cc) in
+    (calm.0, calm.1 ∙ calm_before, calm.2)
+
+pub returns-in_err-torn-clause-within : goal.returns-in_err-torn-clause-within
+returns-in_err-torn-clause-within g c =
+    let q = err_from_is_err_and c.from_residual-in_err-torn.result c.from_residual-in_err-torn.ensures.1 in
+    rw q.1 (rw q.2 (within_end c.in_ok-stop.stop c.in_err-torn.field-0.0 c.in_ok-stop.ensures.stop c.in_err-torn.ensures.kinds))

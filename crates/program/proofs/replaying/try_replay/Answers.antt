@@ -122,7 +122,7 @@ returns-in_err-torn g c =
     let second = rw c.if-branch-2.false at c.in_ok-is_same_file-2.ensures in
     let third = rw c.if-branch-3.false at c.in_ok-is_same_file-3.ensures in
     rw p.1 (
-      read _ _ ∷ read _ _ ∷ open_input _ _ ∷ compare _ _ _ ∷ compare _ _ _ ∷ compare _ _ _ ∷ create _ _ ∷ run _ _ _ _ _ _ _ ∷ [],
+      read _ _ ∷ read _ _ ∷ open_input _ _ ∷ compare _ _ _ ∷ compare _ _ _ ∷ compare _ _ _ ∷ create _ _ ∷ run _ _ _ _ _ _ _ _ ∷ [],
       (
         _,
         c.in_ok-rules.ensures,
@@ -165,7 +165,7 @@ returns-in_err-torn g c =
                   refl,
                   (
                     refl,
-                    (c.deref.ensures.value, c.deref-2.ensures.value, refl, refl, p.2),
+                    (c.deref.ensures.value, c.deref-2.ensures.value, refl, refl, refl, p.2),
                   ),
                 ),
               ),
@@ -180,7 +180,7 @@ returns g c =
     let first = rw c.if-branch.false at c.in_ok-is_same_file.ensures in
     let second = rw c.if-branch-2.false at c.in_ok-is_same_file-2.ensures in
     let third = rw c.if-branch-3.false at c.in_ok-is_same_file-3.ensures in (
-      read _ _ ∷ read _ _ ∷ open_input _ _ ∷ compare _ _ _ ∷ compare _ _ _ ∷ compare _ _ _ ∷ create _ _ ∷ run _ _ _ _ _ _ _ ∷ [],
+      read _ _ ∷ read _ _ ∷ open_input _ _ ∷ compare _ _ _ ∷ compare _ _ _ ∷ compare _ _ _ ∷ create _ _ ∷ run _ _ _ _ _ _ _ _ ∷ [],
       (
         _,
         c.in_ok-rules.ensures,
@@ -223,7 +223,7 @@ returns g c =
                   refl,
                   (
                     refl,
-                    (c.deref.ensures.value, c.deref-2.ensures.value, refl, refl, refl),
+                    (c.deref.ensures.value, c.deref-2.ensures.value, refl, refl, refl, refl),
                   ),
                 ),
               ),

@@ -1,15 +1,16 @@
-use Rattle.std.proofs.Common.{◌∙◌}
-use Rattle.report.proofs.Texts.{kept_text, part_text, unflushed_text}
+use Rattle.std.proofs.lemmas.Result.{err_from_is_err_and}
+use Rattle.report.proofs.CounterTexts.{rest_seen, kept_told, part_told, unflushed_told}
 use Rattle.report.proofs.report.Report.lines.Goals as goal
 
-pub returns-in_default-write_whole-clause-part : goal.returns-in_default-write_whole-clause-part
-returns-in_default-write_whole-clause-part g c = λ rules story counts.
-    part_text _ _ _ c.args.self.now rules story c.args.torn (c.as_bytes.ensures.value ∙ c.in-Ok.ensures) counts c.in_default-write_whole.ensures.part
+pub returns-in_err-write_rest-clause-part : goal.returns-in_err-write_rest-clause-part
+returns-in_err-write_rest-clause-part g c = λ trace story told reports.
+    let p = err_from_is_err_and c.from_residual.result c.from_residual.ensures.1 in
+    rw p.1 (part_told _ _ _ told _ (rest_seen _ _ _ _ trace story told _ _ c.self.view_is c.deref.ensures.value reports) c.in_err-write_rest.ensures.wrote)
 
-pub returns-in_default-flush-clause-part : goal.returns-in_default-flush-clause-part
-returns-in_default-flush-clause-part g c = λ rules story counts.
-    unflushed_text _ _ _ _ c.args.self.now rules story c.args.torn (c.as_bytes.ensures.value ∙ c.in-Ok.ensures) counts c.in-Ok-write_whole.ensures.ok c.flush.ensures.bytes
+pub returns-then-is_err-clause-part : goal.returns-then-is_err-clause-part
+returns-then-is_err-clause-part g c = λ trace story told reports.
+    unflushed_told _ _ _ _ told _ (rest_seen _ _ _ _ trace story told _ _ c.self.view_is c.deref.ensures.value reports) c.in_ok-write_rest.ensures.wrote c.flush.ensures.bytes
 
 pub returns-clause-ok : goal.returns-clause-ok
-returns-clause-ok g c = λ rules story counts.
-    kept_text _ _ _ _ c.args.self.now rules story c.args.torn (c.as_bytes.ensures.value ∙ c.in-Ok.ensures) counts c.in-Ok-write_whole.ensures.ok c.flush.ensures.bytes
+returns-clause-ok g c = λ trace story told reports.
+    kept_told _ _ _ _ told _ (rest_seen _ _ _ _ trace story told _ _ c.self.view_is c.deref.ensures.value reports) c.in_ok-write_rest.ensures.wrote c.flush.ensures.bytes

@@ -1,11 +1,44 @@
-use Rattle.std.proofs.Common.{rules, ◌∙◌}
-use Rattle.report.proofs.Counted.{drops_more}
+use Rattle.std.proofs.Common.{arith}
+use Rattle.report.proofs.Ended.{drop_more}
+use Rattle.report.proofs.OneMore.{raised_fits, fits_more, tallies_fit_more, reports_more}
+use Rattle.report.specs.contracts.report.Report.{the_view}
 use Rattle.report.proofs.report.Report.note.Goals as goal
 
-pub returns-in-Dropped-clause-counts : goal.returns-in-Dropped-clause-counts
-returns-in-Dropped-clause-counts c = λ story e counts ends. record {
-  records = search rules;
-  passed = search rules;
-  local = search rules;
-  dropped = drops_more _ story e c.in-Dropped.cause _ c.place.ensures.place (search rules) (rw (← c.self.view_is) at counts.dropped) (ends ∙ c.in-Dropped.is);
+pub invariant_of-self-in-Passed : goal.invariant_of-self-in-Passed
+invariant_of-self-in-Passed c = record {
+  passed_fits = omega arith;
+  local_fits = omega arith;
+  dropped_fit = fits_more _ _ c.self.invariant.dropped_fit;
+  tallies_fit = tallies_fit_more c.self.inside.records c.args.entry.now.length c.args.entry.now.events.now _ _ c.self.invariant.tallies_fit (omega arith) (omega arith) c.count_events.ensures;
 }
+
+pub invariant_of-self-in-Local : goal.invariant_of-self-in-Local
+invariant_of-self-in-Local c = record {
+  passed_fits = omega arith;
+  local_fits = omega arith;
+  dropped_fit = fits_more _ _ c.self.invariant.dropped_fit;
+  tallies_fit = tallies_fit_more c.self.inside.records c.args.entry.now.length c.args.entry.now.events.now _ _ c.self.invariant.tallies_fit (omega arith) (omega arith) c.count_events.ensures;
+}
+
+pub invariant_of-self-in-Dropped : goal.invariant_of-self-in-Dropped
+invariant_of-self-in-Dropped c = record {
+  passed_fits = omega arith;
+  local_fits = omega arith;
+  dropped_fit = raised_fits _ _ _ c.self.invariant.dropped_fit;
+  tallies_fit = tallies_fit_more c.self.inside.records c.args.entry.now.length c.args.entry.now.events.now _ _ c.self.invariant.tallies_fit (omega arith) (omega arith) c.count_events.ensures;
+}
+
+pub returns-in-Passed-clause-noted : goal.returns-in-Passed-clause-noted
+returns-in-Passed-clause-noted c = λ rules trace story told e r is.
+    reports_more (the_view c.self.inside) _ rules trace story told e c.args.entry.now _ _ _ _ _ c.self.view_is r is c.self.invariant.tallies_fit c.requires.few (omega arith) (omega arith)
+    (rw c.in-Passed.is (omega arith)) (rw c.in-Passed.is (omega arith)) (λ cause. rw c.in-Passed.is (omega arith)) c.count_events.ensures (cc)
+
+pub returns-in-Local-clause-noted : goal.returns-in-Local-clause-noted
+returns-in-Local-clause-noted c = λ rules trace story told e r is.
+    reports_more (the_view c.self.inside) _ rules trace story told e c.args.entry.now _ _ _ _ _ c.self.view_is r is c.self.invariant.tallies_fit c.requires.few (omega arith) (omega arith)
+    (rw c.in-Local.is (omega arith)) (rw c.in-Local.is (omega arith)) (λ cause. rw c.in-Local.is (omega arith)) c.count_events.ensures (cc)
+
+pub returns-in-Dropped-clause-noted : goal.returns-in-Dropped-clause-noted
+returns-in-Dropped-clause-noted c = λ rules trace story told e r is.
+    reports_more (the_view c.self.inside) _ rules trace story told e c.args.entry.now _ _ _ _ _ c.self.view_is r is c.self.invariant.tallies_fit c.requires.few (omega arith) (omega arith)
+    (rw c.in-Dropped.is (omega arith)) (rw c.in-Dropped.is (omega arith)) (λ cause. rw c.in-Dropped.is (drop_more _ _ _ c.place.ensures.place (omega (arith, c.place.ensures.within, c.self.told)) cause)) c.count_events.ensures (cc)

@@ -1,0 +1,49 @@
+-- Equal tuples.
+use Rattle.std.proofs.Common.{◌≡◌, true, refl, ◌∙◌, ap, arith}
+use Rattle.std.proofs.lemmas.Bool.{eqb-true, and_parts}
+use Rattle.std.proofs.lemmas.Bool.Decides.{nat_tests}
+use Rattle.ip_headers.specs.declared.tuple.Kind.{Kind}
+use Rattle.ip_headers.specs.declared.tuple.Kind.TheVariants.{Tcp, Udp, Ask, Answer, Other}
+use Rattle.ip_headers.specs.declared.tuple.Endpoint.{Endpoint}
+use Rattle.ip_headers.specs.declared.tuple.Tuple.{Tuple}
+use Rattle.conntrack.specs.Tuples.{same_kind, same_endpoint, same_tuple}
+
+same_kind-sym : (a b : Kind) → same_kind a b ≡ same_kind b a
+same_kind-sym Tcp Tcp = refl
+same_kind-sym Udp Udp = refl
+same_kind-sym Ask Ask = refl
+same_kind-sym Answer Answer = refl
+same_kind-sym (Other a) (Other b) = grind (arith, nat_tests)
+same_kind-sym a b = refl
+
+same_endpoint-sym : (a b : Endpoint) → same_endpoint a b ≡ same_endpoint b a
+same_endpoint-sym a b = grind (arith, nat_tests)
+
+pub same_tuple-sym : (a b : Tuple) → same_tuple a b ≡ same_tuple b a
+same_tuple-sym a b = rw (same_kind-sym a.kind b.kind, same_endpoint-sym a.source b.source, same_endpoint-sym a.destination b.destination) refl
+
+same_kind-true : (a b : Kind) → same_kind a b ≡ true → a ≡ b
+same_kind-true Tcp Tcp h = refl
+same_kind-true Udp Udp h = refl
+same_kind-true Ask Ask h = refl
+same_kind-true Answer Answer h = refl
+same_kind-true (Other a) (Other b) h = ap Other (eqb-true a b h)
+same_kind-true a b h = cc
+
+same_endpoint-true : (a b : Endpoint) → same_endpoint a b ≡ true → a ≡ b
+same_endpoint-true a b h =
+    let parts = and_parts _ _ h in
+    let address : a.address ≡ b.address = eqb-true _ _ parts.0 in
+    let port : a.port ≡ b.port = eqb-true _ _ parts.1 in
+    ap (λ x. record { address = x; port = a.port }) address ∙ ap (λ x. record { address = b.address; port = x }) port
+
+pub same_tuple-true : (a b : Tuple) → same_tuple a b ≡ true → a ≡ b
+same_tuple-true a b h =
+    let kinds = and_parts _ _ h in
+    let ends = and_parts _ _ kinds.1 in
+    let kind : a.kind ≡ b.kind = same_kind-true _ _ kinds.0 in
+    let from : a.source ≡ b.source = same_endpoint-true _ _ ends.0 in
+    let to : a.destination ≡ b.destination = same_endpoint-true _ _ ends.1 in
+    ap (λ x. record { kind = x; source = a.source; destination = a.destination }) kind
+    ∙ ap (λ x. record { kind = b.kind; source = x; destination = a.destination }) from
+    ∙ ap (λ x. record { kind = b.kind; source = b.source; destination = x }) to

@@ -1,0 +1,8 @@
+pub mod Lists
+pub mod Equal
+pub mod Names
+pub mod Same
+pub mod Searches
+pub mod Changes
+pub mod Places
+pub mod Packets

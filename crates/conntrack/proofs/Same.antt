@@ -1,0 +1,54 @@
+-- Lists that are one but for the names answer alike.
+use Rattle.std.proofs.Common.{◌≡◌, ℕ, List, [], ◌∷◌, map, Option, None, Some, Bool, true, false, ◌&&◌, cond, refl, sym, ◌∙◌, ap}
+use Rattle.std.specs.List.{find, list_any}
+use Rattle.std.specs.Option.{option_map}
+use Rattle.conntrack.specs.declared.connection.Held.{Held}
+use Rattle.conntrack.specs.declared.connection.ConnId.{ConnId}
+use Rattle.ip_headers.specs.declared.tuple.Tuple.{Tuple}
+use Rattle.conntrack.specs.declared.connection.Flags.{Flags}
+use Rattle.conntrack.specs.Held.{nameless, nameless_belonging, nameless_place, belonging_by, belongs_in, of_original, of_reply, is_taken, is_incoming, place_of, live_at}
+use Rattle.conntrack.specs.Tuples.{same_tuple}
+use Rattle.conntrack.specs.Phases.{is_lone_syn, is_closing}
+use Rattle.conntrack.specs.declared.belonging.Belonging.TheVariants.{Ends, Found}
+use Rattle.conntrack.specs.declared.connection.Direction.TheVariants.{Original}
+use Rattle.conntrack.specs.Stories.{Entry, Stands, belongs, live_list}
+
+pub option_map-find : {A B : Type 0} (f : A → B) (p : B → Bool) (xs : List A) → option_map f (find (λ x. p (f x)) xs) ≡ find p (map f xs)
+option_map-find f p [] = refl
+option_map-find f p (x ∷ xs) = found (p (f x)) x (option_map-find f p xs)
+  where
+    found : (b : Bool) (y : _) → option_map f (find (λ x. p (f x)) xs) ≡ find p (map f xs) → option_map f (cond b (Some y) (find (λ x. p (f x)) xs)) ≡ cond b (Some (f y)) (find p (map f xs))
+    found true y e = refl
+    found false y e = e
+
+pub list_any-map : {A B : Type 0} (f : A → B) (p : B → Bool) (xs : List A) → list_any (λ x. p (f x)) xs ≡ list_any p (map f xs)
+list_any-map f p [] = refl
+list_any-map f p (x ∷ xs) = rw (list_any-map f p xs)
+
+ends_or_found : (b : Bool) (id : ConnId) (place : _) → nameless_belonging (cond b (Ends id) (Found place)) ≡ nameless_belonging (cond b (Ends (record { 0 = 0 })) (Found (nameless_place place)))
+ends_or_found true id place = refl
+ends_or_found false id place = refl
+
+nameless_by : (flags : Flags) (o r : Option Held) → nameless_belonging (belonging_by flags o r) ≡ nameless_belonging (belonging_by flags (option_map nameless o) (option_map nameless r))
+nameless_by flags (Some h) r = ends_or_found (is_lone_syn flags && is_closing h) h.id (place_of h Original)
+nameless_by flags None (Some h) = refl
+nameless_by flags None None = refl
+
+-- what a tuple belongs to is told alike
+pub same_belonging : (held others : List Held) (tuple : Tuple) (flags : Flags) → map nameless held ≡ map nameless others → nameless_belonging (belongs_in held tuple flags) ≡ nameless_belonging (belongs_in others tuple flags)
+same_belonging held others tuple flags e =
+    let by : (hs : List Held) → nameless_belonging (belongs_in hs tuple flags) ≡ nameless_belonging (belonging_by flags (of_original (map nameless hs) tuple) (of_reply (map nameless hs) tuple)) =
+    λ hs. nameless_by flags (of_original hs tuple) (of_reply hs tuple)
+    ∙ ap (λ o. nameless_belonging (belonging_by flags o (option_map nameless (of_reply hs tuple)))) (option_map-find nameless (λ h. same_tuple h.original tuple) hs)
+    ∙ ap (λ r. nameless_belonging (belonging_by flags (of_original (map nameless hs) tuple) r)) (option_map-find nameless (λ h. same_tuple h.reply tuple) hs) in
+    by held ∙ ap (λ ns. nameless_belonging (belonging_by flags (of_original ns tuple) (of_reply ns tuple))) e ∙ sym (by others)
+
+-- whether a tuple is taken is told alike
+pub same_taken : (held others : List Held) (tuple : Tuple) → map nameless held ≡ map nameless others → is_taken tuple held ≡ is_taken tuple others
+same_taken held others tuple e =
+    let by = list_any-map nameless (is_incoming tuple) in
+    by held ∙ ap (λ ns. is_taken tuple ns) e ∙ sym (by others)
+
+-- what is looked up in what is held is what the story tells
+pub belongs_by_story : (held : List Held) (now : ℕ) (tuple : Tuple) (flags : Flags) (story : List Entry) → Stands held story now → nameless_belonging (belongs_in (live_at now held) tuple flags) ≡ nameless_belonging (belongs story now tuple flags)
+belongs_by_story held now tuple flags story s = same_belonging (live_at now held) (live_list story now) tuple flags s.live

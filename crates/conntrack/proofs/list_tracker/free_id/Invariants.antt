@@ -1,0 +1,7 @@
+use Rattle.std.proofs.Common.{◌≡◌, ℕ, ◌<◌, true}
+use Rattle.conntrack.specs.Held.{has_id}
+use Rattle.conntrack.proofs.list_tracker.free_id.Given as goal
+
+-- each smaller name is taken
+abbrev pub invariant-loop-number : goal.invariant-loop-number
+invariant-loop-number l = (k : ℕ) → k < l.number → has_id (record { 0 = k }) l.conns ≡ true

@@ -1,0 +1,7 @@
+use Rattle.std.proofs.Common.{◌≡◌, ◌++◌, take, drop}
+use Rattle.conntrack.specs.Held.{touched_at}
+use Rattle.conntrack.proofs.list_tracker.touch_in.Given as goal
+
+-- those passed are touched, and the rest are as they were
+abbrev pub invariant-loop-held : goal.invariant-loop-held
+invariant-loop-held l = l.held-items ≡ touched_at l.id l.direction l.flags l.mark l.now (take l.held-index l.fn.conns.items) ++ drop l.held-index l.fn.conns.items

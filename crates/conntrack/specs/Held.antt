@@ -1,0 +1,188 @@
+-- The connections that are held, as a list in order of beginning, and what is asked of it.
+use Rattle.std.specs.Prelude.{◌≤◌, ◌+◌, ◌-◌, ℕ, Bool, true, false, not, ◌&&◌, ◌||◌, ◌==◌, nat_lt, if◌then◌else◌, List, [], ◌∷◌, map, filter, Option, Some, None}
+use Rattle.std.specs.List.{find, list_any}
+use Rattle.std.specs.Option.{option_map}
+use Rattle.ip_headers.specs.declared.tuple.Kind.{Kind}
+use Rattle.ip_headers.specs.declared.tuple.Kind.TheVariants.{Answer}
+use Rattle.ip_headers.specs.declared.tuple.Tuple.{Tuple}
+use Rattle.conntrack.specs.declared.connection.Aged.{Aged}
+use Rattle.conntrack.specs.declared.connection.ConnId.{ConnId}
+use Rattle.conntrack.specs.declared.connection.Connection.{Connection}
+use Rattle.conntrack.specs.declared.connection.Direction.{Direction}
+use Rattle.conntrack.specs.declared.connection.Direction.TheVariants.{Original, Reply}
+use Rattle.conntrack.specs.declared.connection.Flags.{Flags}
+use Rattle.conntrack.specs.declared.connection.Held.{Held}
+use Rattle.conntrack.specs.declared.belonging.Belonging.{Belonging}
+use Rattle.conntrack.specs.declared.belonging.Belonging.TheVariants.{Nowhere, Ends, Found}
+use Rattle.conntrack.specs.declared.belonging.Place.{Place}
+use Rattle.conntrack.specs.declared.belonging.State.{State}
+use Rattle.conntrack.specs.declared.belonging.State.TheVariants.{Established, New, Invalid}
+use Rattle.conntrack.specs.Tuples.{same_tuple}
+use Rattle.conntrack.specs.Phases.{no_flags, seen_more, is_lone_syn, is_closing, phase_of, limit_by}
+
+-- ---- directions
+
+abbrev pub is_original : Direction → Bool
+is_original Original = true
+is_original Reply = false
+
+abbrev pub is_reply : Direction → Bool
+is_reply Original = false
+is_reply Reply = true
+
+-- ---- a connection
+
+abbrev pub limit_of : Held → ℕ
+limit_of h = limit_by h.original.kind (phase_of h)
+
+-- live while less than its limit has passed since its last packet
+abbrev pub is_live : ℕ → Held → Bool
+is_live now h = nat_lt (now - h.last) (limit_of h)
+
+-- with its first packet alone
+abbrev pub begun_with : ConnId → Connection → Flags → Held
+begun_with id connection flags = record {
+  id = id;
+  original = connection.original;
+  reply = connection.reply;
+  mark = connection.mark;
+  last = connection.last;
+  from_original = flags;
+  from_reply = no_flags;
+  replied = false;
+  source = connection.source;
+  dest = connection.dest;
+}
+
+-- after one more packet, which leaves this mark
+abbrev pub touched : Direction → Flags → ℕ → ℕ → Held → Held
+touched direction flags mark now h = record {
+  id = h.id;
+  original = h.original;
+  reply = h.reply;
+  mark = mark;
+  last = now;
+  from_original = seen_more (is_original direction) flags h.from_original;
+  from_reply = seen_more (is_reply direction) flags h.from_reply;
+  replied = is_reply direction || h.replied;
+  source = h.source;
+  dest = h.dest;
+}
+
+-- as it is listed
+abbrev pub connection_of : Held → Connection
+connection_of h = record { original = h.original; reply = h.reply; mark = h.mark; last = h.last; source = h.source; dest = h.dest }
+
+-- what is left of it once it is held no longer
+abbrev pub aged_of : Held → Aged
+aged_of h = record { id = h.id; source = h.source; dest = h.dest }
+
+-- but for the name by which it is called
+abbrev pub nameless : Held → Held
+nameless h = record {
+  id = record { 0 = 0 };
+  original = h.original;
+  reply = h.reply;
+  mark = h.mark;
+  last = h.last;
+  from_original = h.from_original;
+  from_reply = h.from_reply;
+  replied = h.replied;
+  source = h.source;
+  dest = h.dest;
+}
+
+-- ---- those that are held
+
+abbrev pub live_at : ℕ → List Held → List Held
+live_at now held = filter (is_live now) held
+
+-- none had a packet after this moment
+abbrev pub IsNoneLater : ℕ → List Held → Type 0
+IsNoneLater now [] = Unit {0}
+IsNoneLater now (h ∷ held) = (h.last ≤ now) × IsNoneLater now held
+
+abbrev pub same_id : ConnId → Held → Bool
+same_id id h = h.id.0 == id.0
+
+abbrev pub has_id : ConnId → List Held → Bool
+has_id id held = list_any (same_id id) held
+
+-- no two have one name
+abbrev pub has_distinct_ids : List Held → Bool
+has_distinct_ids [] = true
+has_distinct_ids (h ∷ held) = not (has_id h.id held) && has_distinct_ids held
+
+abbrev pub is_incoming : Tuple → Held → Bool
+is_incoming tuple h = same_tuple h.original tuple || same_tuple h.reply tuple
+
+-- whether a tuple is an incoming tuple of one of them
+abbrev pub is_taken : Tuple → List Held → Bool
+is_taken tuple held = list_any (is_incoming tuple) held
+
+-- no two have an incoming tuple in common; the two tuples of one may be equal
+abbrev pub are_apart : List Held → Bool
+are_apart [] = true
+are_apart (h ∷ held) = not (is_taken h.original held || is_taken h.reply held) && are_apart held
+
+abbrev pub touched_at : ConnId → Direction → Flags → ℕ → ℕ → List Held → List Held
+touched_at id direction flags mark now held = map (λ h. if same_id id h then touched direction flags mark now h else h) held
+
+abbrev pub without : ConnId → List Held → List Held
+without id held = filter (λ h. not (same_id id h)) held
+
+-- what is handed over of the connection of that name
+abbrev pub taken_out : ConnId → List Held → Option Aged
+taken_out id held = option_map aged_of (find (same_id id) held)
+
+-- so many are held at most (own)
+abbrev pub most_held : ℕ
+most_held = 65536
+
+-- ---- what a packet belongs to
+
+abbrev pub place_of : Held → Direction → Place
+place_of h direction = record { id = h.id; direction = direction; original = h.original; reply = h.reply; mark = h.mark; replied = h.replied }
+
+abbrev pub of_original : List Held → Tuple → Option Held
+of_original held tuple = find (λ h. same_tuple h.original tuple) held
+
+abbrev pub of_reply : List Held → Tuple → Option Held
+of_reply held tuple = find (λ h. same_tuple h.reply tuple) held
+
+-- to the one whose original tuple it has, else to the one whose reply tuple it has. A lone SYN in direction original on
+-- a closing connection ends that one, to begin it anew, and belongs to none
+abbrev pub belonging_by : Flags → Option Held → Option Held → Belonging
+belonging_by flags (Some h) other = if is_lone_syn flags && is_closing h then Ends h.id else Found (place_of h Original)
+belonging_by flags None (Some h) = Found (place_of h Reply)
+belonging_by flags None None = Nowhere
+
+-- what a packet with this tuple and these flags belongs to, among the connections given
+abbrev pub belongs_in : List Held → Tuple → Flags → Belonging
+belongs_in held tuple flags = belonging_by flags (of_original held tuple) (of_reply held tuple)
+
+abbrev pub nameless_place : Place → Place
+nameless_place p = record { id = record { 0 = 0 }; direction = p.direction; original = p.original; reply = p.reply; mark = p.mark; replied = p.replied }
+
+abbrev pub nameless_belonging : Belonging → Belonging
+nameless_belonging Nowhere = Nowhere
+nameless_belonging (Ends id) = Ends (record { 0 = 0 })
+nameless_belonging (Found place) = Found (nameless_place place)
+
+-- established is what belongs to a connection and is a reply or comes after one; what belongs to none is to begin one,
+-- but an answer to no ask begins none
+abbrev pub first_state : Kind → State
+first_state Answer = Invalid
+first_state other = New
+
+abbrev pub state_of : Kind → Belonging → State
+state_of kind Nowhere = first_state kind
+state_of kind (Ends id) = first_state kind
+state_of kind (Found place) = if is_reply place.direction || place.replied then Established else New
+
+-- ---- slots visited
+
+-- at most so many more, where there is a bound
+abbrev pub IsWithin : Option ℕ → ℕ → ℕ → Type 0
+IsWithin None old new = Unit {0}
+IsWithin (Some n) old new = new ≤ old + n

@@ -1,0 +1,7 @@
+pub mod Tuples
+pub mod Phases
+pub mod Held
+pub mod Stories
+pub mod Recorded
+pub mod Trials
+pub mod steps

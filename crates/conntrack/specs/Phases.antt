@@ -1,0 +1,68 @@
+-- How far a connection is, and for how long it may be idle.
+use Rattle.std.specs.Prelude.{ℕ, ◌*◌, ◌/◌, ◌%◌, ◌==◌, Bool, true, false, not, ◌&&◌, ◌||◌, if◌then◌else◌}
+use Rattle.ip_headers.specs.declared.tuple.Kind.{Kind}
+use Rattle.ip_headers.specs.declared.tuple.Kind.TheVariants.{Tcp, Udp, Ask, Answer, Other}
+use Rattle.conntrack.specs.declared.connection.Flags.{Flags}
+use Rattle.conntrack.specs.declared.connection.Phase.{Phase}
+use Rattle.conntrack.specs.declared.connection.Phase.TheVariants.{Opening, Established, Closing}
+use Rattle.conntrack.specs.declared.connection.Held.{Held}
+
+-- ---- flags
+
+abbrev pub no_flags : Flags
+no_flags = record { syn = false; ack = false; fin = false; rst = false }
+
+-- FIN is the lowest bit, then come SYN, RST, PSH and ACK (RFC 9293, section 3.1)
+abbrev pub flags_of : ℕ → Flags
+flags_of bits = record { syn = bits / 2 % 2 == 1; ack = bits / 16 % 2 == 1; fin = bits % 2 == 1; rst = bits / 4 % 2 == 1 }
+
+-- those seen before, and a packet's where it counts
+abbrev pub seen_more : Bool → Flags → Flags → Flags
+seen_more counts flags seen = record {
+  syn = (counts && flags.syn) || seen.syn;
+  ack = (counts && flags.ack) || seen.ack;
+  fin = (counts && flags.fin) || seen.fin;
+  rst = (counts && flags.rst) || seen.rst;
+}
+
+-- a packet that asks for a connection and does nothing else
+abbrev pub is_lone_syn : Flags → Bool
+is_lone_syn flags = flags.syn && not flags.ack && not flags.fin && not flags.rst
+
+-- ---- phases of TCP (RFC 9293, sections 3.5 and 3.6)
+
+-- by the flags seen in each direction: closing once both ends sent FIN or one sent RST; else established once each
+-- end sent SYN and ACK, be it in one packet or in two; else opening
+abbrev pub phase_by : Flags → Flags → Phase
+phase_by original reply =
+    if (original.fin && reply.fin) || (original.rst || reply.rst) then Closing
+    else (if (original.syn && original.ack) && (reply.syn && reply.ack) then Established
+    else Opening)
+
+abbrev pub phase_of : Held → Phase
+phase_of h = phase_by h.from_original h.from_reply
+
+abbrev pub is_closing_phase : Phase → Bool
+is_closing_phase Opening = false
+is_closing_phase Established = false
+is_closing_phase Closing = true
+
+abbrev pub is_closing : Held → Bool
+is_closing h = is_closing_phase (phase_of h)
+
+-- ---- limits
+
+abbrev pub seconds : ℕ → ℕ
+seconds n = n * 1000000000
+
+-- for how long after its last packet a connection is live: five minutes for UDP (RFC 4787, REQ-5); two hours and four
+-- minutes for TCP, and four minutes while it opens or closes (RFC 5382, REQ-5); one minute for an echo (RFC 5508,
+-- REQ-2); ten minutes for other protocols (own). No connection is begun by an answer
+abbrev pub limit_by : Kind → Phase → ℕ
+limit_by Udp phase = seconds 300
+limit_by Tcp Opening = seconds 240
+limit_by Tcp Established = seconds 7440
+limit_by Tcp Closing = seconds 240
+limit_by Ask phase = seconds 60
+limit_by Answer phase = seconds 60
+limit_by (Other number) phase = seconds 600

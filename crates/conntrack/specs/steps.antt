@@ -1,0 +1,2 @@
+-- What is said on the way to a proof: nothing that a public contract cites.
+pub mod Changes

@@ -1,0 +1,256 @@
+//! A plain list of connections.
+ghost use Rattle.std.specs.Prelude.{◌≡◌, ◌+◌, ◌<◌, ◌≤◌, ◌^◌, ◌&&◌, ◌||◌, not, false, ℕ, [], Option, None, Some, IsTrue, IfOk, OnOk, OnErr, IfSome, IfNone, ◌-◌, nat_lt, vec_len, vec_capacity, filter, if◌then◌else◌, length};
+ghost use Rattle.std.specs.List.{find, list_any};
+ghost use Rattle.conntrack.specs.Tuples.{same_tuple};
+ghost use Rattle.conntrack.specs.Held.{are_apart, belongs_in, has_distinct_ids, has_id, is_incoming, is_live, is_taken, live_at, of_original, of_reply, same_id, touched, touched_at, without};
+
+use crate::belonging::{Belonging, Place};
+use crate::connection::{Aged, ConnId, Connection, Direction, Flags, Held, Moment};
+use crate::step_count::Steps;
+use crate::tracker::{BeginError, LIMIT, Memory, Tracker};
+use ip_headers::Tuple;
+use std::alloc::Global;
+
+/// Keeps connections in a list, in order of beginning. Each call goes through the whole list.
+#[derive(Drop)]
+pub struct ListTracker {
+    conns: Vec<Held>,
+    ghost distinct: { IsTrue (has_distinct_ids conns.items) },
+    ghost apart: { IsTrue (are_apart conns.items) },
+}
+
+/// Whether two tuples are one.
+fn is_same(one: Tuple, other: Tuple) -> bool
+    ensures { result ≡ same_tuple one other }
+{
+    one == other
+}
+
+/// The first that is live and has this original tuple.
+fn find_original(conns: &[Held], tuple: Tuple, now: Moment) -> Option<Held>
+    ensures { result ≡ find (λ h. is_live now h && same_tuple h.original tuple) conns.now }
+{
+    conns
+        .iter()
+        .find(|held| held.is_live(now) && is_same(held.original, tuple))
+        .copied()
+}
+
+/// The first that is live and has this reply tuple.
+fn find_reply(conns: &[Held], tuple: Tuple, now: Moment) -> Option<Held>
+    ensures { result ≡ find (λ h. is_live now h && same_tuple h.reply tuple) conns.now }
+{
+    conns
+        .iter()
+        .find(|held| held.is_live(now) && is_same(held.reply, tuple))
+        .copied()
+}
+
+/// What a packet belongs to among those that are live.
+#[tactic(auto, using(crate::proofs::Lists::find_filter_rules))]
+fn look_in(conns: &[Held], tuple: Tuple, flags: Flags, now: Moment) -> Belonging
+    ensures { result ≡ belongs_in (live_at now conns.now) tuple flags }
+{
+    match find_original(conns, tuple, now) {
+        Some(held) => {
+            if flags.is_lone_syn() && held.is_closing() {
+                Belonging::Ends(held.id)
+            } else {
+                Belonging::Found(Place::of(&held, Direction::Original))
+            }
+        }
+        None => match find_reply(conns, tuple, now) {
+            Some(held) => Belonging::Found(Place::of(&held, Direction::Reply)),
+            None => Belonging::Nowhere,
+        },
+    }
+}
+
+/// Whether a tuple is an incoming tuple of one of them.
+fn is_taken(conns: &[Held], tuple: Tuple) -> bool
+    ensures { result ≡ is_taken tuple conns.now }
+{
+    conns.iter().any(|held| is_same(held.original, tuple) || is_same(held.reply, tuple))
+}
+
+/// Counts one more packet, where it is of this connection.
+fn touch_if(held: &mut Held, id: ConnId, direction: Direction, flags: Flags, mark: u32, now: Moment)
+    ensures { held.new ≡ (if same_id id held.old then touched direction flags mark now held.old else held.old) }
+{
+    if held.id == id {
+        held.touch(direction, flags, mark, now);
+    }
+}
+
+/// Counts one more packet of the connection of that name.
+fn touch_in(
+    conns: &mut Vec<Held>,
+    id: ConnId,
+    direction: Direction,
+    flags: Flags,
+    mark: u32,
+    now: Moment,
+)
+    ensures items { conns.new.items ≡ touched_at id direction flags mark now conns.old.items }
+    ensures len { vec_len conns.new ≡ vec_len conns.old }
+    ensures capacity { vec_capacity conns.new ≡ vec_capacity conns.old }
+{
+    for held in conns.iter_mut() {
+        touch_if(held, id, direction, flags, mark, now);
+    }
+}
+
+/// Takes out the connection of that name.
+fn take_out(conns: &mut Vec<Held>, id: ConnId)
+    ensures items { conns.new.items ≡ without id conns.old.items }
+    ensures capacity { vec_capacity conns.new ≡ vec_capacity conns.old }
+    ensures len { vec_len conns.new ≤ vec_len conns.old }
+{
+    conns.retain(|held| held.id != id);
+}
+
+/// The first that is dead.
+fn find_dead(conns: &[Held], now: Moment) -> Option<Held>
+    ensures { result ≡ find (λ h. not (is_live now h)) conns.now }
+{
+    conns.iter().find(|held| !held.is_live(now)).copied()
+}
+
+/// The connection of that name.
+fn find_named(conns: &[Held], id: ConnId) -> Option<Held>
+    ensures { result ≡ find (same_id id) conns.now }
+{
+    conns.iter().find(|held| held.id == id).copied()
+}
+
+/// Whether a connection of that name is held.
+fn has(conns: &[Held], id: ConnId) -> bool
+    ensures { result ≡ has_id id conns.now }
+{
+    conns.iter().any(|held| held.id == id)
+}
+
+/// The least name that no connection has.
+fn free_id(conns: &[Held]) -> ConnId
+    ensures { has_id result conns.now ≡ false }
+{
+    for number in 0..conns.len() {
+        let id = ConnId(number);
+        if !has(conns, id) {
+            return id;
+        }
+    }
+    ConnId(conns.len())
+}
+
+impl Tracker for ListTracker {
+    ghost held = { λ t. t.conns.items };
+
+    ghost has_room = { λ t. nat_lt (vec_len t.conns) (vec_capacity t.conns) };
+
+    ghost most_slots = { None };
+
+    fn new(alloc: Global) -> Self {
+        ListTracker {
+            conns: Vec::new(alloc),
+        }
+    }
+
+    fn look(&self, tuple: Tuple, flags: Flags, now: Moment, steps: &mut Steps) -> Belonging {
+        steps.add(self.conns.len());
+        look_in(&self.conns, tuple, flags, now)
+    }
+
+    #[tactic(auto, using(crate::proofs::Names::name_rules))]
+    fn touch(
+        &mut self,
+        id: ConnId,
+        direction: Direction,
+        flags: Flags,
+        mark: u32,
+        now: Moment,
+        steps: &mut Steps,
+    ) {
+        steps.add(self.conns.len());
+        touch_in(&mut self.conns, id, direction, flags, mark, now);
+    }
+
+    fn reserve_one(&mut self) -> Result<(), Memory> {
+        match self.conns.reserve(1) {
+            Ok(()) => Ok(()),
+            Err(_) => Err(Memory),
+        }
+    }
+
+    #[tactic(auto, using(crate::proofs::Names::name_rules))]
+    fn begin(
+        &mut self,
+        connection: Connection,
+        flags: Flags,
+        steps: &mut Steps,
+    ) -> Result<ConnId, BeginError> {
+        steps.add(self.conns.len());
+        if self.conns.len() >= LIMIT {
+            return Err(BeginError::Full);
+        }
+        if is_taken(&self.conns, connection.reply) {
+            return Err(BeginError::Clash);
+        }
+        let id = free_id(&self.conns);
+        match self.conns.push(Held {
+            id,
+            original: connection.original,
+            reply: connection.reply,
+            mark: connection.mark,
+            last: connection.last,
+            from_original: flags,
+            from_reply: Flags::none(),
+            replied: false,
+            source: connection.source,
+            dest: connection.dest,
+        }) {
+            Ok(()) => Ok(id),
+            Err(_) => unreachable!(),
+        }
+    }
+
+    #[tactic(auto, using(crate::proofs::Names::name_rules))]
+    fn end(&mut self, id: ConnId, steps: &mut Steps) -> Aged {
+        steps.add(self.conns.len());
+        match find_named(&self.conns, id) {
+            Some(held) => {
+                take_out(&mut self.conns, id);
+                held.aged()
+            }
+            None => unreachable!(),
+        }
+    }
+
+    #[tactic(auto, using(crate::proofs::Names::name_rules))]
+    fn age(&mut self, now: Moment, steps: &mut Steps) -> Option<Aged> {
+        steps.add(self.conns.len());
+        match find_dead(&self.conns, now) {
+            Some(dead) => {
+                take_out(&mut self.conns, dead.id);
+                Some(dead.aged())
+            }
+            None => None,
+        }
+    }
+
+    fn live(&self) -> usize {
+        self.conns.len()
+    }
+
+    fn list(&self, alloc: Global) -> Result<Vec<Connection>, Memory> {
+        match self
+            .conns
+            .iter()
+            .map(|held| held.connection())
+            .collect(alloc)
+        {
+            Ok(all) => Ok(all),
+            Err(_) => Err(Memory),
+        }
+    }
+}

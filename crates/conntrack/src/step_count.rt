@@ -1,0 +1,48 @@
+//! A count of the slots that a tracker visits.
+ghost use Rattle.std.specs.Prelude.{◌≡◌, ◌+◌, ◌-◌, ◌^◌, min};
+
+use std::marker::Model;
+
+/// How many slots were visited; it stays at its greatest.
+#[derive(Debug, Drop)]
+pub struct Steps {
+    count: u64,
+}
+
+impl Model for Steps {
+    ghost use Rattle.std.specs.Prelude.{ℕ};
+
+    ghost Value = { ℕ };
+
+    ghost view = { λ s. s.count };
+}
+
+impl Steps {
+    /// None yet.
+    pub fn new() -> Self
+        ensures { result ≡ 0 }
+    {
+        Steps { count: 0 }
+    }
+
+    /// How many there were.
+    pub fn count(&self) -> u64
+        ensures { result ≡ self.now }
+    {
+        self.count
+    }
+
+    /// One slot more.
+    pub fn tick(&mut self)
+        ensures { self.new ≡ min (self.old + 1) (2 ^ 64 - 1) }
+    {
+        self.count = self.count.saturating_add(1);
+    }
+
+    /// Some slots more.
+    pub fn add(&mut self, slots: usize)
+        ensures { self.new ≡ min (self.old + slots) (2 ^ 64 - 1) }
+    {
+        self.count = self.count.saturating_add(slots as u64);
+    }
+}

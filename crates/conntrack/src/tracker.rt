@@ -1,0 +1,125 @@
+//! What a table of connections does.
+ghost use Rattle.std.specs.Prelude.{◌≡◌, ◌+◌, ◌<◌, ◌≤◌, ◌↔◌, ℕ, Bool, IsTrue, List, [], ◌++◌, ◌∷◌, Option, length, map, false, Some, IfOk, OnOk, OnErr, IfSome, IfNone};
+ghost use Rattle.conntrack.specs.Held.{IsNoneLater, IsWithin, are_apart, begun_with, belongs_in, connection_of, has_distinct_ids, has_id, is_taken, live_at, most_held, nameless_belonging, taken_out, touched_at, without};
+ghost use Rattle.conntrack.specs.Stories.{Entry, Stands, belongs};
+
+use crate::belonging::Belonging;
+use crate::connection::{Aged, ConnId, Connection, Direction, Flags, Moment};
+use crate::step_count::Steps;
+use ip_headers::Tuple;
+use std::alloc::Global;
+use thiserror::Error;
+
+/// How many connections are held at most.
+pub const LIMIT: usize = 65_536;
+
+/// There was no room to grow.
+#[derive(Clone, Copy, Debug, PartialEq, Eq, Error)]
+#[error("memory")]
+pub struct Memory;
+
+/// Why a connection isn't begun.
+#[derive(Clone, Copy, Debug, PartialEq, Eq, Error)]
+pub enum BeginError {
+    /// As many are held as can be.
+    #[error("full")]
+    Full,
+    /// Packets of another connection come with its reply tuple.
+    #[error("clash")]
+    Clash,
+}
+
+/// A table of connections. Moments don't fall from call to call. `steps` counts the slots that a
+/// call visits.
+pub trait Tracker: Drop {
+    ghost use Rattle.conntrack.specs.declared.connection.Held.{Held};
+
+    /// What it holds, in order of beginning, the dead that weren't taken out included.
+    ghost held: { Self → List Held };
+
+    /// Whether the next `begin` needs no memory.
+    ghost has_room: { Self → Bool };
+
+    /// How many slots a call may visit, if that is bounded.
+    ghost most_slots: { Option ℕ };
+
+    /// An empty table.
+    fn new(alloc: Global) -> Self
+    where
+        Self: Sized,
+        ensures { held result ≡ [] };
+
+    /// What a packet with this tuple and these flags belongs to at a moment.
+    fn look(&self, tuple: Tuple, flags: Flags, now: Moment, steps: &mut Steps) -> Belonging
+        ensures belonging { result ≡ belongs_in (live_at now (held self.now)) tuple flags }
+        ensures story { (story : List Entry) → Stands (held self.now) story now → nameless_belonging result ≡ nameless_belonging (belongs story now tuple flags) }
+        ensures distinct { IsTrue (has_distinct_ids (held self.now)) }
+        ensures apart { IsTrue (are_apart (held self.now)) }
+        ensures steps { IsWithin most_slots steps.old steps.new };
+
+    /// Counts one more packet of the connection of that name, which leaves this mark.
+    fn touch(
+        &mut self,
+        id: ConnId,
+        direction: Direction,
+        flags: Flags,
+        mark: u32,
+        now: Moment,
+        steps: &mut Steps,
+    )
+        requires is_held { IsTrue (has_id id (held self.old)) }
+        requires later { IsNoneLater now (held self.old) }
+        ensures held { held self.new ≡ touched_at id direction flags mark now (held self.old) }
+        ensures room { IsTrue (has_room self.old) → IsTrue (has_room self.new) }
+        ensures steps { IsWithin most_slots steps.old steps.new };
+
+    /// Makes room for the next `begin` that answers `Ok`; `Memory` where there was none to be had.
+    fn reserve_one(&mut self) -> Result<(), Memory>
+        ensures held { held self.new ≡ held self.old }
+        ensures room { OnOk result (IsTrue (has_room self.new)) }
+        ensures kept { IsTrue (has_room self.old) → IsTrue (has_room self.new) };
+
+    /// Begins a connection with its first packet, which had these flags: `Full` where as many are
+    /// held as can be, else `Clash` where its reply tuple is an incoming tuple of another; then
+    /// nothing changes.
+    fn begin(
+        &mut self,
+        connection: Connection,
+        flags: Flags,
+        steps: &mut Steps,
+    ) -> Result<ConnId, BeginError>
+        requires room { IsTrue (has_room self.old) }
+        requires free { is_taken connection.original (held self.old) ≡ false }
+        requires later { IsNoneLater connection.last (held self.old) }
+        ensures ok { IfOk result (λ id. held self.new ≡ held self.old ++ begun_with id connection flags ∷ []) }
+        ensures fresh { IfOk result (λ id. has_id id (held self.old) ≡ false) }
+        ensures full { (result ≡ Err BeginError.Full) ↔ (most_held ≤ length (held self.old)) }
+        ensures clash { (result ≡ Err BeginError.Clash) ↔ ((length (held self.old) < most_held) × IsTrue (is_taken connection.reply (held self.old))) }
+        ensures err { OnErr result ((held self.new ≡ held self.old) × IsTrue (has_room self.new)) }
+        ensures steps { IsWithin most_slots steps.old steps.new };
+
+    /// Takes out the connection of that name.
+    fn end(&mut self, id: ConnId, steps: &mut Steps) -> Aged
+        requires { IsTrue (has_id id (held self.old)) }
+        ensures aged { taken_out id (held self.old) ≡ Some result }
+        ensures held { held self.new ≡ without id (held self.old) }
+        ensures room { IsTrue (has_room self.old) → IsTrue (has_room self.new) }
+        ensures steps { IsWithin most_slots steps.old steps.new };
+
+    /// Takes out one that is dead at a moment; `None` where all are live.
+    fn age(&mut self, now: Moment, steps: &mut Steps) -> Option<Aged>
+        requires { IsNoneLater now (held self.old) }
+        ensures some { IfSome result (λ aged. (taken_out aged.id (held self.old) ≡ Some aged) × (held self.new ≡ without aged.id (held self.old)) × (live_at now (held self.new) ≡ live_at now (held self.old))) }
+        ensures fewer { IfSome result (λ aged. length (held self.new) < length (held self.old)) }
+        ensures none { IfNone result ((held self.new ≡ held self.old) × (live_at now (held self.old) ≡ held self.old)) }
+        ensures room { IsTrue (has_room self.old) → IsTrue (has_room self.new) }
+        ensures steps { IsWithin most_slots steps.old steps.new };
+
+    /// How many are held.
+    fn live(&self) -> usize
+        ensures { result ≡ length (held self.now) };
+
+    /// All that are held, in order of beginning.
+    fn list(&self, alloc: Global) -> Result<Vec<Connection>, Memory>
+        ensures { IfOk result (λ all. all.items ≡ map connection_of (held self.now)) };
+}

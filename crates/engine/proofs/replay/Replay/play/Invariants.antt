@@ -1,0 +1,26 @@
+-- the records so far were taken, what they give is written or waits, and no call failed
+use Rattle.std.proofs.Common.{◌≡◌, ◌-◌, None, IfSome, List, []}
+use Rattle.pcap_io.specs.Seen.{ahead}
+use Rattle.story.specs.Story.{Entry}
+use Rattle.stepping.specs.Stands.{Stands}
+use Rattle.engine.specs.steps.Replayed.{Plays, Start}
+use Rattle.engine.proofs.Replays.{Carried}
+use Rattle.engine.proofs.replay.Replay.play.Given as goal
+
+abbrev pub invariant-each : goal.invariant-each
+invariant-each g l = record {
+  going : l.self.records.fault ≡ None;
+  format : l.self.records.format ≡ l.fn.self.records.format;
+  taken : l.self.engine.records ≡ l.self.records.count;
+  noted : l.self.numbers.records ≡ l.self.records.count;
+  read_calm : l.capture.failures ≡ l.fn.capture.failures;
+  write_calm : l.sent.failures ≡ l.fn.sent.failures;
+  tell_calm : l.report.failures ≡ l.fn.report.failures;
+  stands : (story : List Entry) × Stands l.self.engine story;
+  carried : (start : Start) → Plays l.fn.self start [] (g.W.Write.contents l.fn.sent.inner) (g.W2.Write.contents l.fn.report.inner)
+      → IfSome (ahead l.fn.self.records (g.R.Read.remaining l.fn.capture.inner)) (λ bytes.
+      Carried l.self start l.fn.self.records.format bytes (g.R.Read.remaining l.capture.inner) (g.W.Write.contents l.sent.inner) (g.W2.Write.contents l.report.inner));
+}
+
+abbrev pub decreases-each : goal.decreases-each
+decreases-each g l = 4294967296 - l.self.records.count

@@ -1,0 +1,98 @@
+//! Where the packet of a record begins.
+ghost use Rattle.std.specs.Prelude.{◌≡◌, ◌≤◌, length, IfOk};
+ghost use Rattle.pcap_io.specs.Links as links;
+
+use crate::format::LinkType;
+use byteorder::{BigEndian, ByteOrder};
+
+/// The number of IPv4 as an EtherType.
+const IPV4: u16 = 0x0800;
+
+/// What the link header of a record tells.
+#[derive(Clone, Copy, Debug, PartialEq, Eq)]
+pub struct Link {
+    /// Where the packet begins among the record's bytes.
+    pub packet: usize,
+    /// The index of the interface that it entered by, where the header tells one.
+    pub interface: Option<u32>,
+}
+
+/// Why a record carries no packet for the box.
+#[derive(Clone, Copy, Debug, PartialEq, Eq)]
+pub enum LinkCause {
+    /// Fewer bytes than the link header has.
+    Short,
+    /// The link header tells of another protocol than IPv4.
+    NotIp,
+    /// It goes to a group, or to another station.
+    Link,
+}
+
+impl LinkType {
+    /// How many bytes its header has.
+    fn header_bytes(self) -> usize
+        ensures { result ≡ links.link_bytes self }
+    {
+        match self {
+            Self::Ethernet => 14,
+            Self::Raw => 0,
+            Self::Sll2 => 20,
+        }
+    }
+
+    /// Whether the header tells that an IPv4 packet follows.
+    fn is_ipv4(self, bytes: &[u8]) -> bool
+        requires { links.link_bytes self ≤ length bytes.now }
+        ensures { result ≡ links.is_ipv4 self bytes.now }
+    {
+        match self {
+            Self::Ethernet => BigEndian::read_u16(&bytes[12..]) == IPV4,
+            Self::Raw => true,
+            Self::Sll2 => BigEndian::read_u16(bytes) == IPV4,
+        }
+    }
+
+    /// Whether the frame goes to one station: its address is no group's, or it was sent to this host.
+    fn is_to_station(self, bytes: &[u8]) -> bool
+        requires { links.link_bytes self ≤ length bytes.now }
+        ensures { result ≡ links.is_to_station self bytes.now }
+    {
+        match self {
+            Self::Ethernet => bytes[0] % 2 == 0,
+            Self::Raw => true,
+            Self::Sll2 => bytes[10] == 0,
+        }
+    }
+
+    /// The index of the interface that the header tells.
+    fn interface(self, bytes: &[u8]) -> Option<u32>
+        requires { links.link_bytes self ≤ length bytes.now }
+        ensures { result ≡ links.interface_in self bytes.now }
+    {
+        match self {
+            Self::Ethernet | Self::Raw => None,
+            Self::Sll2 => Some(BigEndian::read_u32(&bytes[4..])),
+        }
+    }
+
+    /// Where the packet begins, and the interface where the header tells one; or the first test of
+    /// the header that fails.
+    pub(crate) fn link(self, bytes: &[u8]) -> Result<Link, LinkCause>
+        ensures link { result ≡ links.link_of self bytes.now }
+        ensures within { IfOk result (λ l. l.packet ≤ length bytes.now) }
+    {
+        if bytes.len() < self.header_bytes() {
+            return Err(LinkCause::Short);
+        }
+        if !self.is_ipv4(bytes) {
+            return Err(LinkCause::NotIp);
+        }
+        if !self.is_to_station(bytes) {
+            return Err(LinkCause::Link);
+        }
+        Ok(Link {
+            packet: self.header_bytes(),
+            interface: self.interface(bytes),
+        })
+    }
+}

@@ -1,0 +1,117 @@
+//! Bytes read ahead, in one buffer.
+ghost use Rattle.std.specs.Prelude.{◌≡◌, ◌<◌, ◌≤◌, ◌+◌, ◌++◌, [], length, take, drop, true, false, IfOk, OnOk, OnErr};
+ghost use Rattle.std.specs.Io.KnownBytes.{Keeps};
+ghost use Rattle.pcap_io.specs.Counting.{one_more};
+ghost use Rattle.pcap_io.specs.steps.Ahead as ahead;
+ghost use Rattle.pcap_io.specs.steps.Ahead.{Ahead, Fills};
+
+use crate::counted::Counted;
+use crate::whole::DeviceFailed;
+use std::alloc::{AllocError, Global};
+use std::io::Read;
+use std::marker::Model;
+
+/// As many bytes as the greatest record has, with its header.
+pub const BUFFER_BYTES: usize = 262_160;
+
+/// Bytes that were read and not yet taken, behind those that were taken last.
+#[derive(Drop)]
+pub struct ReadBuffer {
+    /// Its length stays.
+    bytes: Vec<u8>,
+    /// Where the bytes begin that weren't taken yet.
+    start: usize,
+    /// Where they end.
+    end: usize,
+    /// The reader has no more.
+    is_ended: bool,
+}
+
+impl Model for ReadBuffer {
+    ghost use Rattle.std.specs.Prelude.{◌≡◌, ◌≤◌, take, slice_range, length};
+    ghost use Rattle.pcap_io.specs.steps.Ahead.{Ahead, BUFFER_BYTES};
+
+    ghost Value = { Ahead };
+
+    ghost view = { λ b. record { taken = take b.start b.bytes.items; held = slice_range b.bytes.items b.start b.end; ended = b.is_ended } };
+
+    ghost invariant = { λ b. (b.start ≤ b.end) × (b.end ≤ length b.bytes.items) × (length b.bytes.items ≡ BUFFER_BYTES) };
+}
+
+impl ReadBuffer {
+    /// Nothing was read yet.
+    pub fn new(alloc: Global) -> Result<Self, AllocError>
+        ensures { IfOk result (λ buffer. buffer ≡ record { taken = []; held = []; ended = false }) }
+    {
+        Ok(ReadBuffer {
+            bytes: vec![in alloc; 0u8; BUFFER_BYTES]?,
+            start: 0,
+            end: 0,
+            is_ended: false,
+        })
+    }
+
+    /// The bytes that weren't taken yet.
+    #[inline(always)]
+    pub fn held(&self) -> &[u8]
+        ensures { result.now ≡ self.now.held }
+    {
+        &self.bytes[self.start..self.end]
+    }
+
+    /// Whether the reader has no more.
+    #[inline(always)]
+    pub fn is_ended(&self) -> bool
+        ensures { result ≡ self.now.ended }
+    {
+        self.is_ended
+    }
+
+    /// Reads once, behind what is held. What was taken is gone then.
+    pub fn fill<R: Read>(&mut self, reader: &mut Counted<R>) -> Result<(), DeviceFailed>
+        requires room { length self.old.held < ahead.BUFFER_BYTES }
+        requires going { self.old.ended ≡ false }
+        ensures ok { OnOk result (Fills self.old self.new (R.remaining reader.old.inner) (R.remaining reader.new.inner)) }
+        ensures calm { OnOk result (reader.new.failures ≡ reader.old.failures) }
+        ensures err { OnErr result ((self.new.held ≡ self.old.held) × (self.new.ended ≡ false) × Keeps (R.remaining reader.old.inner) (R.remaining reader.new.inner)) }
+        ensures device { OnErr result (reader.new.failures ≡ one_more reader.old.failures) }
+    {
+        self.compact();
+        match reader.read(&mut self.bytes[self.end..]) {
+            Ok(0) => self.is_ended = true,
+            Ok(count) => self.end += count,
+            Err(_) => return Err(DeviceFailed),
+        }
+        Ok(())
+    }
+
+    /// Moves what is held to the front of the buffer, where it isn't. What was taken is gone then.
+    fn compact(&mut self)
+        ensures { self.new ≡ record { taken = []; held = self.old.held; ended = self.old.ended } }
+    {
+        if self.start == 0 {
+            return;
+        }
+        self.bytes.copy_within(self.start..self.end, 0);
+        self.end -= self.start;
+        self.start = 0;
+    }
+
+    /// Takes that many of the bytes that are held.
+    #[inline(always)]
+    pub fn take(&mut self, count: usize)
+        requires { count ≤ length self.old.held }
+        ensures { self.new ≡ record { taken = self.old.taken ++ take count self.old.held; held = drop count self.old.held; ended = self.old.ended } }
+    {
+        self.start += count;
+    }
+
+    /// The last of the bytes that were taken.
+    #[inline(always)]
+    pub fn taken(&self, count: usize) -> &[u8]
+        requires { count ≤ length self.now.taken }
+        ensures { result.now ≡ ahead.last_of count self.now.taken }
+    {
+        &self.bytes[self.start - count..self.start]
+    }
+}

@@ -1,0 +1,40 @@
+-- How one record more ended, in the numbers of a report.
+use Rattle.std.proofs.Common.{◌≡◌, ◌≢◌, ◌<◌, ◌+◌, ◌==◌, ℕ, Bool, true, false, cond, List, ◌∷◌, length, slice_index, set, refl, sym, ap, ◌∙◌, arith, get_or-set_same, get_or-set_other}
+use Rattle.std.proofs.lemmas.Bool.Decides.{Decides-eqb}
+use Rattle.std.proofs.lemmas.List.Sums.{sum_by-cons}
+use Rattle.story.specs.declared.outcome.Cause.{Cause}
+use Rattle.story.specs.declared.outcome.Outcome.{Outcome}
+use Rattle.story.specs.declared.outcome.Outcome.TheVariants.{Dropped}
+use Rattle.story.specs.Outcomes.{place, is_passed, is_local, is_dropped_for}
+use Rattle.story.specs.Story.{Entry}
+use Rattle.report.specs.Report.{passed, local, dropped}
+
+-- one more where a record ended so
+abbrev pub more_if : Bool → ℕ → ℕ
+more_if so n = cond so 1 0 + n
+
+pub passed_more : (story : List Entry) (e : Entry) (o : Outcome) (n : ℕ) → o ≡ e.outcome → n ≡ passed story → more_if (is_passed o) n ≡ passed (e ∷ story)
+passed_more story e o n is were = ap (λ (p : Outcome). more_if (is_passed p) n) is ∙ ap (more_if (is_passed e.outcome)) were ∙ sym (sum_by-cons (λ (x : Entry). cond (is_passed x.outcome) 1 0) e story)
+
+pub local_more : (story : List Entry) (e : Entry) (o : Outcome) (n : ℕ) → o ≡ e.outcome → n ≡ local story → more_if (is_local o) n ≡ local (e ∷ story)
+local_more story e o n is were = ap (λ (p : Outcome). more_if (is_local p) n) is ∙ ap (more_if (is_local e.outcome)) were ∙ sym (sum_by-cons (λ (x : Entry). cond (is_local x.outcome) 1 0) e story)
+
+pub dropped_more : (k : Cause) (story : List Entry) (e : Entry) (o : Outcome) (n : ℕ) → o ≡ e.outcome → n ≡ dropped k story → more_if (is_dropped_for k o) n ≡ dropped k (e ∷ story)
+dropped_more k story e o n is were =
+    ap (λ (p : Outcome). more_if (is_dropped_for k p) n) is ∙ ap (more_if (is_dropped_for k e.outcome)) were ∙ sym (sum_by-cons (λ (x : Entry). cond (is_dropped_for k x.outcome) 1 0) e story)
+
+raised : (ns : List ℕ) (i j : ℕ) (same : Bool) → (i == j) ≡ same → i < length ns → slice_index (set ns i (slice_index ns i + 1)) j ≡ more_if same (slice_index ns j)
+raised ns i j true e lt =
+    let here : i ≡ j = (Decides-eqb i j).0 e in
+    let raised_here : slice_index (set ns i (slice_index ns i + 1)) i ≡ slice_index ns i + 1 = get_or-set_same ns i (slice_index ns i + 1) 0 lt in
+    ap (λ k. slice_index (set ns i (slice_index ns i + 1)) k) (sym here) ∙ raised_here ∙ ap (λ k. slice_index ns k + 1) here ∙ omega arith
+raised ns i j false e lt =
+    let other : j ≢ i = λ same. absurd (not_same same) in
+    get_or-set_other ns i j (slice_index ns i + 1) 0 other ∙ omega arith
+  where
+    not_same : j ≡ i → ⊥
+    not_same same = let yes : (i == j) ≡ true = (Decides-eqb i j).1 (sym same) in cc
+
+-- the number at the cause's place is raised by one
+pub drop_more : (ns : List ℕ) (cause : Cause) (at : ℕ) → at ≡ place cause → at < length ns → (k : Cause) → slice_index (set ns at (slice_index ns at + 1)) (place k) ≡ more_if (is_dropped_for k (Dropped cause)) (slice_index ns (place k))
+drop_more ns cause at is lt k = raised ns at (place k) (at == place k) refl lt ∙ ap (λ i. more_if (i == place k) (slice_index ns (place k))) is

@@ -1,0 +1,16 @@
+use Rattle.std.proofs.Common.{◌≡◌, ap, ◌∙◌, None}
+use Rattle.std.specs.declared.option.Option.{Option}
+use Rattle.report.specs.declared.tallies.Tally.{Tally}
+use Rattle.std.specs.Prelude.{unwrap_or}
+use Rattle.nft_tree.specs.Tree.{table_tree, chain_tree}
+use Rattle.report.specs.steps.Tallying.{started}
+use Rattle.report.specs.steps.Standings.{standing, place_of}
+use Rattle.report.proofs.Texts.{puts_as}
+use Rattle.report.proofs.Listing.{tally_told}
+use Rattle.report.proofs.counter_lines.put_counter.Goals as goal
+
+pub returns-clause-puts : goal.returns-clause-puts
+returns-clause-puts g c =
+    puts_as c.put_all.result _ _ _ _ _ _ c.put_all.ensures.puts
+    (tally_told (table_tree c.args.named.table.now) (chain_tree c.args.named.chain.now) c.args.place.rule c.args.number (standing c.args.tallies.now (place_of c.args.place)) c.unwrap_or-tally.result _ _ _
+    c.family_word-family.ensures c.deref.ensures.value c.deref-2.ensures.value (c.unwrap_or-tally.ensures ∙ ap (λ (o : Option Tally). unwrap_or o (started None)) c.at.ensures))

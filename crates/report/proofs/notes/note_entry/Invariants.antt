@@ -1,0 +1,10 @@
+-- the notes so far, and those of the events that are left
+use Rattle.std.proofs.Common.{◌≡◌, ◌≤◌, ◌+◌, ◌-◌, ◌++◌, length, drop, vec_len, vec_capacity}
+use Rattle.report.specs.steps.Noting.{noted_events}
+use Rattle.report.proofs.notes.note_entry.Given as goal
+
+abbrev pub invariant-loop-event : goal.invariant-loop-event
+invariant-loop-event l = record {
+  left : l.notes.items ++ noted_events l.trace l.entry.number (drop l.event-index l.entry.events.now) ≡ l.initial.notes.items ++ noted_events l.trace l.entry.number l.entry.events.now;
+  room : vec_len l.notes + ((length l.entry.events.now - l.event-index) + 1) ≤ vec_capacity l.notes;
+}

@@ -1,0 +1,13 @@
+-- the tallies so far
+use Rattle.std.proofs.Common.{◌≡◌, map, take}
+use Rattle.std.specs.Prelude.{All}
+use Rattle.nft_tree.specs.Tree.{rule_tree}
+use Rattle.report.specs.steps.Tallying.{fresh_rule}
+use Rattle.report.proofs.Fresh.{FitsStart}
+use Rattle.report.proofs.tallies.ChainTallies.new.Given as goal
+
+abbrev pub invariant-loop-rule : goal.invariant-loop-rule
+invariant-loop-rule l = record {
+  are : l.rules.items ≡ map fresh_rule (map rule_tree (take l.rule-index l.chain.rules.items));
+  fit : All (All FitsStart) l.rules.items;
+}

@@ -1,0 +1,13 @@
+-- the tallies so far
+use Rattle.std.proofs.Common.{◌≡◌, map, take}
+use Rattle.std.specs.Prelude.{All}
+use Rattle.nft_tree.specs.Tree.{statement}
+use Rattle.report.specs.steps.Tallying.{fresh_statement}
+use Rattle.report.proofs.Fresh.{FitsStart}
+use Rattle.report.proofs.tallies.RuleTallies.new.Given as goal
+
+abbrev pub invariant-loop-statement : goal.invariant-loop-statement
+invariant-loop-statement l = record {
+  are : l.statements.items ≡ map fresh_statement (map statement (take l.statement-index l.rule.statements.items));
+  fit : All FitsStart l.statements.items;
+}

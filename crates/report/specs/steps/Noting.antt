@@ -1,0 +1,27 @@
+-- What is noted of entries.
+use Rattle.std.specs.Prelude.{ℕ, Bool, true, false, cond, List, [], ◌∷◌, ◌++◌, Option, Some, None}
+use Rattle.std.specs.Option.{option_to_list}
+use Rattle.std.specs.List.{flat_map}
+use Rattle.rule_meaning.specs.declared.event.Event.{Event}
+use Rattle.rule_meaning.specs.declared.event.Event.TheVariants as events
+use Rattle.story.specs.declared.outcome.Outcome.{Outcome}
+use Rattle.report.specs.declared.notes.Note.{Note}
+use Rattle.report.specs.declared.notes.Note.TheVariants as notes
+
+-- what is noted of an event of entry n: what is logged; and what was decided, where it is traced
+abbrev pub noted_event : Bool → ℕ → Event → Option Note
+noted_event trace n (events.Logged at) = Some (notes.Logged n at)
+noted_event trace n (events.Took rule decision) = cond trace (Some (notes.Took n rule decision)) None
+noted_event trace n (events.Closed chain policy) = cond trace (Some (notes.Closed n chain policy)) None
+noted_event trace n (events.Counted at) = None
+noted_event trace n (events.Marked field value) = None
+
+abbrev pub noted_end : Bool → ℕ → Outcome → List Note
+noted_end trace n outcome = cond trace (notes.Ended n outcome ∷ []) []
+
+abbrev pub noted_events : Bool → ℕ → List Event → List Note
+noted_events trace n happened = flat_map (λ e. option_to_list (noted_event trace n e)) happened
+
+-- what is noted of an entry
+abbrev pub noted : Bool → ℕ → List Event → Outcome → List Note
+noted trace n happened outcome = noted_events trace n happened ++ noted_end trace n outcome

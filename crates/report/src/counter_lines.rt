@@ -1,0 +1,138 @@
+//! The lines of counters.
+ghost use Rattle.std.specs.Prelude.{◌≡◌};
+ghost use Rattle.nft_tree.specs.Tree.{chain_tree, rule_tree, table_tree, tables_of};
+ghost use Rattle.nft_tree.specs.Parts.{chains_of};
+ghost use Rattle.report.specs.steps.Telling.{CountsFailure, Puts};
+ghost use Rattle.report.specs.steps.Standings.{place_of, standing, tally_line, told_chains, told_rules, told_statements, told_tables};
+
+use crate::named::{Named, family_word};
+use crate::page::Page;
+use crate::piece::Piece;
+use crate::tallies::{Location, RulesetTallies, Tally};
+use nft_tree::{Rule, Ruleset, Table};
+use pcap_io::{Counted, DeviceFailed};
+use std::io::Write;
+
+/// Puts the lines of all counters, in text order.
+pub fn put_counters<W: Write>(
+    page: &mut Page,
+    writer: &mut Counted<W>,
+    rules: &Ruleset,
+    tallies: &RulesetTallies,
+) -> Result<(), DeviceFailed>
+    ensures puts { Puts result page.old.text.items (W.contents writer.old.inner) page.new.text.items (W.contents writer.new.inner) (told_tables tallies.now 0 (tables_of rules.now)) }
+    ensures counts { CountsFailure result writer.old.failures writer.new.failures }
+{
+    for (number, table) in rules.tables.iter().enumerate() {
+        put_table(page, writer, tallies, number, table)?;
+    }
+    Ok(())
+}
+
+/// Puts those of the table of that number, from 0.
+fn put_table<W: Write>(
+    page: &mut Page,
+    writer: &mut Counted<W>,
+    tallies: &RulesetTallies,
+    number: usize,
+    table: &Table,
+) -> Result<(), DeviceFailed>
+    ensures puts { Puts result page.old.text.items (W.contents writer.old.inner) page.new.text.items (W.contents writer.new.inner) (told_chains tallies.now (table_tree table.now) number 0 (chains_of (table_tree table.now))) }
+    ensures counts { CountsFailure result writer.old.failures writer.new.failures }
+{
+    let mut chain_number = 0;
+    for item in &table.items {
+        if let Some(chain) = item.chain() {
+            let named = Named { table, chain };
+            put_chain(page, writer, tallies, named, number, chain_number)?;
+            chain_number += 1;
+        }
+    }
+    Ok(())
+}
+
+/// Puts those of the chain of these numbers, both from 0.
+fn put_chain<W: Write>(
+    page: &mut Page,
+    writer: &mut Counted<W>,
+    tallies: &RulesetTallies,
+    named: Named,
+    table: usize,
+    chain: usize,
+) -> Result<(), DeviceFailed>
+    ensures puts { Puts result page.old.text.items (W.contents writer.old.inner) page.new.text.items (W.contents writer.new.inner) (told_rules tallies.now (table_tree named.entry.table.now) (chain_tree named.entry.chain.now) table chain 1 (chain_tree named.entry.chain.now).rules) }
+    ensures counts { CountsFailure result writer.old.failures writer.new.failures }
+{
+    for (before, rule) in named.chain.rules.iter().enumerate() {
+        let first = Location {
+            table,
+            chain,
+            rule: before + 1,
+            statement: 1,
+        };
+        put_rule(page, writer, tallies, named, first, rule)?;
+    }
+    Ok(())
+}
+
+/// Puts those of the rule whose first statement has this place.
+fn put_rule<W: Write>(
+    page: &mut Page,
+    writer: &mut Counted<W>,
+    tallies: &RulesetTallies,
+    named: Named,
+    first: Location,
+    rule: &Rule,
+) -> Result<(), DeviceFailed>
+    requires { first.statement ≡ 1 }
+    ensures puts { Puts result page.old.text.items (W.contents writer.old.inner) page.new.text.items (W.contents writer.new.inner) (told_statements tallies.now (table_tree named.entry.table.now) (chain_tree named.entry.chain.now) (place_of first) 1 (rule_tree rule.now).statements) }
+    ensures counts { CountsFailure result writer.old.failures writer.new.failures }
+{
+    let mut number = 1;
+    for (before, statement) in rule.statements.iter().enumerate() {
+        if statement.counter().is_some() {
+            let place = Location {
+                statement: before + 1,
+                ..first
+            };
+            put_counter(page, writer, tallies, named, place, number)?;
+            number += 1;
+        }
+    }
+    Ok(())
+}
+
+/// Puts the line of the counter of that place, which has this number among those of its rule.
+fn put_counter<W: Write>(
+    page: &mut Page,
+    writer: &mut Counted<W>,
+    tallies: &RulesetTallies,
+    named: Named,
+    place: Location,
+    number: u128,
+) -> Result<(), DeviceFailed>
+    ensures puts { Puts result page.old.text.items (W.contents writer.old.inner) page.new.text.items (W.contents writer.new.inner) (tally_line (table_tree named.entry.table.now) (chain_tree named.entry.chain.now) place.rule number (standing tallies.now (place_of place))) }
+    ensures counts { CountsFailure result writer.old.failures writer.new.failures }
+{
+    let tally = tallies.at(place).unwrap_or(Tally {
+        packets: 0,
+        bytes: 0,
+    });
+    let family = family_word(named.table.family);
+    page.put_all(
+        writer,
+        &[
+            Piece::Text(b"counter"),
+            Piece::Word(family),
+            Piece::Word(&named.table.name),
+            Piece::Word(&named.chain.name),
+            Piece::Number(place.rule as u128),
+            Piece::Number(number),
+            Piece::Text(b" packets"),
+            Piece::Number(tally.packets),
+            Piece::Text(b" bytes"),
+            Piece::Number(tally.bytes),
+            Piece::Text(b"\n"),
+        ],
+    )
+}

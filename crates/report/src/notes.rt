@@ -1,0 +1,58 @@
+//! What is noted of entries until it is written.
+ghost use Rattle.std.specs.Prelude.{◌≡◌, ◌<◌, ◌≤◌, ◌+◌, ◌++◌, ◌∷◌, [], length, vec_len, vec_capacity};
+ghost use Rattle.report.specs.steps.Noting.{noted, noted_event};
+
+use nft_tree::{Policy, RuleNo};
+use rule_meaning::{ChainNo, Decision, Event, Place};
+use story::{Entry, Outcome};
+
+/// What one line tells of the record of a number.
+#[derive(Clone, Copy)]
+pub enum Note {
+    /// A `log` statement told of it.
+    Logged(u64, Place),
+    /// A rule decided.
+    Took(u64, RuleNo, Decision),
+    /// A base chain came to its end, and its policy was taken.
+    Closed(u64, ChainNo, Policy),
+    /// It ended so.
+    Ended(u64, Outcome),
+}
+
+impl Note {
+    /// What is noted of an event: what was logged always, what was decided only where it is traced.
+    fn of(number: u64, event: Event, trace: bool) -> Option<Self>
+        ensures { result ≡ noted_event trace number event }
+    {
+        match event {
+            Event::Logged(place) => Some(Note::Logged(number, place)),
+            Event::Took(rule, decision) if trace => Some(Note::Took(number, rule, decision)),
+            Event::Closed(chain, policy) if trace => Some(Note::Closed(number, chain, policy)),
+            _ => None,
+        }
+    }
+}
+
+/// Notes what is told of an entry; there is room for a note of each event and of how it ended.
+pub fn note_entry(notes: &mut Vec<Note>, entry: &Entry, trace: bool)
+    requires { vec_len notes.old + (length entry.now.events.now + 1) ≤ vec_capacity notes.old }
+    ensures { notes.new.items ≡ notes.old.items ++ noted trace entry.now.number entry.now.events.now entry.now.outcome }
+{
+    for event in entry.events {
+        if let Some(note) = Note::of(entry.number, *event, trace) {
+            append(notes, note);
+        }
+    }
+    if trace {
+        append(notes, Note::Ended(entry.number, entry.outcome));
+    }
+}
+
+/// Appends where there is room, so that nothing is allocated.
+fn append(notes: &mut Vec<Note>, note: Note)
+    requires { vec_len notes.old < vec_capacity notes.old }
+    ensures items { notes.new.items ≡ notes.old.items ++ note ∷ [] }
+    ensures capacity { vec_capacity notes.old ≤ vec_capacity notes.new }
+{
+    notes.push(note).unwrap();
+}

@@ -1,0 +1,276 @@
+//! Where the counters of a ruleset stand, nested as its tree is.
+//!
+//! Each statement has a tally, whether it counts or not, so that the place of a counter leads to its
+//! tally without a search.
+use nft_tree::{Chain, CounterStart, Rule, Ruleset, Table};
+use rule_meaning::{Event, Place};
+use std::alloc::{AllocError, Global};
+use std::marker::Model;
+
+/// Where a counter stands.
+#[derive(Clone, Copy)]
+pub struct Tally {
+    pub packets: u128,
+    pub bytes: u128,
+}
+
+impl Tally {
+    ghost use Rattle.std.specs.Prelude.{◌≡◌, ◌<◌, ◌^◌};
+    ghost use Rattle.report.specs.steps.Tallying.{raised, started};
+
+    /// Where a statement starts: at nothing if it is no counter.
+    fn starting(counter: Option<CounterStart>) -> Self
+        ensures starts { result ≡ started counter }
+        ensures fits { (result.packets < 2 ^ 64) × (result.bytes < 2 ^ 64) }
+    {
+        match counter {
+            Some(start) => Tally {
+                packets: u128::from(start.packets),
+                bytes: u128::from(start.bytes),
+            },
+            None => Tally {
+                packets: 0,
+                bytes: 0,
+            },
+        }
+    }
+
+    /// Counts one more packet of this length. No run is long enough to come to the greatest number.
+    fn count(&mut self, length: u16)
+        ensures { self.new ≡ raised length self.old }
+    {
+        self.packets = self.packets.saturating_add(1);
+        self.bytes = self.bytes.saturating_add(u128::from(length));
+    }
+}
+
+/// The numbers by which a statement is found: tables and chains from 0, rules and statements from 1.
+#[derive(Clone, Copy)]
+pub struct Location {
+    pub table: usize,
+    pub chain: usize,
+    pub rule: usize,
+    pub statement: usize,
+}
+
+/// The tallies of a rule's statements.
+#[derive(Drop)]
+struct RuleTallies {
+    statements: Vec<Tally>,
+}
+
+impl Model for RuleTallies {
+    ghost use Rattle.std.specs.Prelude.{List};
+    ghost use Rattle.report.specs.declared.tallies.Tally.{Tally};
+
+    ghost Value = { List Tally };
+
+    ghost view = { λ r. r.statements.items };
+}
+
+impl RuleTallies {
+    ghost use Rattle.std.specs.Prelude.{◌≡◌, ◌<◌, ◌^◌, All, IfOk};
+    ghost use Rattle.nft_tree.specs.Tree.{rule_tree};
+    ghost use Rattle.nft_tree.specs.Parts.{numbered_from_one};
+    ghost use Rattle.report.specs.steps.Tallying.{fresh_rule, rule_counted};
+
+    fn new(alloc: Global, rule: &Rule) -> Result<Self, AllocError>
+        ensures starts { IfOk result (λ r. r ≡ fresh_rule (rule_tree rule.now)) }
+        ensures fits { IfOk result (λ r. All (λ n. (n.packets < 2 ^ 64) × (n.bytes < 2 ^ 64)) r) }
+    {
+        let mut statements = Vec::with_capacity(alloc, rule.statements.len())?;
+        for statement in &rule.statements {
+            statements.push(Tally::starting(statement.counter()))?;
+        }
+        Ok(RuleTallies { statements })
+    }
+
+    fn count(&mut self, statement: u32, length: u16)
+        ensures { self.new ≡ rule_counted length statement self.old }
+    {
+        let number = statement as usize;
+        if 0 < number && number <= self.statements.len() {
+            let tally = &mut self.statements[number - 1];
+            tally.count(length);
+        }
+    }
+
+    fn at(&self, statement: usize) -> Option<Tally>
+        ensures { result ≡ numbered_from_one self.now statement }
+    {
+        if statement == 0 {
+            return None;
+        }
+        self.statements.get(statement - 1).copied()
+    }
+}
+
+/// The tallies of a chain's rules.
+#[derive(Drop)]
+struct ChainTallies {
+    rules: Vec<RuleTallies>,
+}
+
+impl Model for ChainTallies {
+    ghost use Rattle.std.specs.Prelude.{List};
+    ghost use Rattle.report.specs.declared.tallies.Tally.{Tally};
+
+    ghost Value = { List (List Tally) };
+
+    ghost view = { λ c. c.rules.items };
+}
+
+impl ChainTallies {
+    ghost use Rattle.std.specs.Prelude.{◌≡◌, ◌<◌, ◌^◌, All, IfOk};
+    ghost use Rattle.std.specs.Option.{option_and_then};
+    ghost use Rattle.nft_tree.specs.Tree.{chain_tree};
+    ghost use Rattle.nft_tree.specs.Parts.{numbered_from_one};
+    ghost use Rattle.report.specs.steps.Tallying.{fresh_chain, chain_counted};
+
+    fn new(alloc: Global, chain: &Chain) -> Result<Self, AllocError>
+        ensures starts { IfOk result (λ c. c ≡ fresh_chain (chain_tree chain.now)) }
+        ensures fits { IfOk result (λ c. All (All (λ n. (n.packets < 2 ^ 64) × (n.bytes < 2 ^ 64))) c) }
+    {
+        let mut rules = Vec::with_capacity(alloc, chain.rules.len())?;
+        for rule in &chain.rules {
+            rules.push(RuleTallies::new(alloc, rule)?)?;
+        }
+        Ok(ChainTallies { rules })
+    }
+
+    fn count(&mut self, rule: u32, statement: u32, length: u16)
+        ensures { self.new ≡ chain_counted length statement rule self.old }
+    {
+        let number = rule as usize;
+        if 0 < number && number <= self.rules.len() {
+            let tallies = &mut self.rules[number - 1];
+            tallies.count(statement, length);
+        }
+    }
+
+    fn at(&self, rule: usize, statement: usize) -> Option<Tally>
+        ensures { result ≡ option_and_then (λ r. numbered_from_one r statement) (numbered_from_one self.now rule) }
+    {
+        if rule == 0 {
+            return None;
+        }
+        self.rules.get(rule - 1)?.at(statement)
+    }
+}
+
+/// The tallies of a table's chains.
+#[derive(Drop)]
+struct TableTallies {
+    chains: Vec<ChainTallies>,
+}
+
+impl Model for TableTallies {
+    ghost use Rattle.std.specs.Prelude.{List};
+    ghost use Rattle.report.specs.declared.tallies.Tally.{Tally};
+
+    ghost Value = { List (List (List Tally)) };
+
+    ghost view = { λ t. t.chains.items };
+}
+
+impl TableTallies {
+    ghost use Rattle.std.specs.Prelude.{◌≡◌, ◌<◌, ◌^◌, All, IfOk, slice_get};
+    ghost use Rattle.std.specs.Option.{option_and_then};
+    ghost use Rattle.nft_tree.specs.Tree.{table_tree};
+    ghost use Rattle.nft_tree.specs.Parts.{numbered_from_one};
+    ghost use Rattle.report.specs.steps.Tallying.{fresh_table, table_counted};
+
+    fn new(alloc: Global, table: &Table) -> Result<Self, AllocError>
+        ensures starts { IfOk result (λ t. t ≡ fresh_table (table_tree table.now)) }
+        ensures fits { IfOk result (λ t. All (All (All (λ n. (n.packets < 2 ^ 64) × (n.bytes < 2 ^ 64)))) t) }
+    {
+        let mut chains = Vec::new(alloc);
+        for item in &table.items {
+            if let Some(chain) = item.chain() {
+                chains.push(ChainTallies::new(alloc, chain)?)?;
+            }
+        }
+        Ok(TableTallies { chains })
+    }
+
+    fn count(&mut self, chain: u32, rule: u32, statement: u32, length: u16)
+        ensures { self.new ≡ table_counted length statement rule chain self.old }
+    {
+        let number = chain as usize;
+        if number < self.chains.len() {
+            let tallies = &mut self.chains[number];
+            tallies.count(rule, statement, length);
+        }
+    }
+
+    fn at(&self, chain: usize, rule: usize, statement: usize) -> Option<Tally>
+        ensures { result ≡ option_and_then (λ r. numbered_from_one r statement) (option_and_then (λ c. numbered_from_one c rule) (slice_get self.now chain)) }
+    {
+        self.chains.get(chain)?.at(rule, statement)
+    }
+}
+
+/// The tallies of a ruleset's tables.
+#[derive(Drop)]
+pub struct RulesetTallies {
+    tables: Vec<TableTallies>,
+}
+
+impl Model for RulesetTallies {
+    ghost use Rattle.report.specs.Standing.{Tallies};
+
+    ghost Value = { Tallies };
+
+    ghost view = { λ t. t.tables.items };
+}
+
+impl RulesetTallies {
+    ghost use Rattle.std.specs.Prelude.{◌≡◌, ◌<◌, ◌^◌, All, IfOk};
+    ghost use Rattle.nft_tree.specs.Tree.{tables_of};
+    ghost use Rattle.report.specs.Standing.{tally_at};
+    ghost use Rattle.report.specs.steps.Standings.{place_of};
+    ghost use Rattle.report.specs.steps.Tallying.{fresh, counted, counted_all};
+
+    /// Each counter stands where it starts.
+    pub fn new(alloc: Global, rules: &Ruleset) -> Result<Self, AllocError>
+        ensures starts { IfOk result (λ tallies. tallies ≡ fresh (tables_of rules.now)) }
+        ensures fits { IfOk result (λ tallies. All (All (All (All (λ n. (n.packets < 2 ^ 64) × (n.bytes < 2 ^ 64))))) tallies) }
+    {
+        let mut tables = Vec::with_capacity(alloc, rules.tables.len())?;
+        for table in &rules.tables {
+            tables.push(TableTallies::new(alloc, table)?)?;
+        }
+        Ok(RulesetTallies { tables })
+    }
+
+    /// Counts one more packet of this length at a place, if it is one of the rules'.
+    pub fn count(&mut self, place: Place, length: u16)
+        ensures { self.new ≡ counted length place self.old }
+    {
+        let number = place.rule.table as usize;
+        if number < self.tables.len() {
+            let tallies = &mut self.tables[number];
+            tallies.count(place.rule.chain, place.rule.rule, place.statement, length);
+        }
+    }
+
+    /// Counts one more packet of this length as often as these events say.
+    pub fn count_events(&mut self, events: &[Event], length: u16)
+        ensures { self.new ≡ counted_all length events.now self.old }
+    {
+        for event in events {
+            if let Event::Counted(place) = event {
+                self.count(*place, length);
+            }
+        }
+    }
+
+    /// Where the statement of that place stands, if the rules have one there.
+    pub fn at(&self, place: Location) -> Option<Tally>
+        ensures { result ≡ tally_at self.now (place_of place) }
+    {
+        self.tables
+            .get(place.table)?
+            .at(place.chain, place.rule, place.statement)
+    }
+}
