@@ -198,9 +198,9 @@ fn ends<R: Abort + AllocGlobal>(rt: &R, row: Row) -> Result<(), Fail> {
     Ok(())
 }
 
-/// A run; one that tells each decision; one with a torn end; one that would write over a file that it reads; a fault of a run; a
-/// line that can't be told, which changes nothing; words that are no task, and help. A check; one
-/// that refuses; a box that can't be read; a line that can't be printed.
+/// A run; one that tells each decision; one with a torn end; one that would write over a file that
+/// it reads; a fault of a run; a line that can't be told, which changes nothing; words that are no
+/// task, and help. A check; one that refuses; a box that can't be read; a line that can't be printed.
 const ROWS: [Row; 15] = [
     DONE,
     Row {
