@@ -19,7 +19,8 @@ use Rattle.conntrack.specs.Phases.{limit_by, phase_of}
 use Rattle.conntrack.specs.Stories.{Entry, What, Nothing, Begins, Touches, is_that, live_list}
 use Rattle.conntrack.specs.steps.Changes.{unended, changed_by, ended_by, touched_if, begun_by}
 use Rattle.conntrack.proofs.Searches.{unended-cons, live_list-unended}
-use Rattle.conntrack.proofs.Names.{has_ids_below, has_id-filter, distinct-filter, below-filter, distinct-touched_at, below-touched_at, distinct-push, below-push, has_id-below}
+use Rattle.conntrack.specs.steps.Names.{has_ids_below}
+use Rattle.conntrack.proofs.Names.{has_id-filter, distinct-filter, below-filter, distinct-touched_at, below-touched_at, distinct-push, below-push, has_id-below}
 
 pub filter-true : {X : Type 0} (xs : List X) → filter (λ x. true) xs ≡ xs
 filter-true [] = refl

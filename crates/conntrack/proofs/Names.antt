@@ -1,9 +1,10 @@
 -- Names of connections held, and lists that are one but for the names.
-use Rattle.std.proofs.Common.{◌≡◌, ℕ, zero, suc, ◌+◌, ◌<◌, ◌≤◌, List, [], ◌∷◌, ◌++◌, length, Option, Some, Bool, true, false, not, ◌&&◌, ◌||◌, cond, refl, ◌∙◌, ap, arith, inl, inr}
-use Rattle.std.specs.Prelude.{filter, nat_lt}
-use Rattle.std.specs.List.{find, list_all}
+use Rattle.std.proofs.Common.{◌≡◌, ℕ, zero, suc, ◌+◌, ◌-◌, ◌^◌, take, get_or, ◌<◌, ◌≤◌, List, [], ◌∷◌, ◌++◌, length, Option, Some, Bool, true, false, not, ◌&&◌, ◌||◌, cond, refl, ◌∙◌, ap, arith, inl, inr}
+use Rattle.std.specs.Prelude.{filter, max, min, nat_lt}
+use Rattle.std.specs.List.{find}
 use Rattle.std.proofs.lemmas.Bool.{eq-eqb, and_parts, and_from, not-true, not_from_false, or_left, or_right, or_parts, or_from, false_from_ne_true, cases_eq}
 use Rattle.std.proofs.lemmas.Bool.Decides.{nat_tests}
+use Rattle.std.proofs.lemmas.List.{take_more}
 use Rattle.std.proofs.lemmas.List.Folds.{list_any-append}
 use Rattle.conntrack.proofs.Lists.{filter_where_none, list_any-filter}
 use Rattle.conntrack.specs.declared.connection.Held.{Held}
@@ -12,6 +13,7 @@ use Rattle.ip_headers.specs.declared.tuple.Tuple.{Tuple}
 use Rattle.conntrack.specs.declared.connection.Flags.{Flags}
 use Rattle.conntrack.specs.declared.connection.Direction.{Direction}
 use Rattle.conntrack.specs.Held.{has_id, same_id, has_distinct_ids, touched, touched_at, without, is_live, live_at, is_taken, is_incoming, are_apart}
+use Rattle.conntrack.specs.steps.Names.{has_ids_below}
 use Rattle.conntrack.specs.Tuples.{same_tuple}
 use Rattle.conntrack.proofs.Equal.{same_tuple-sym}
 
@@ -23,10 +25,6 @@ has_id-filter p id (x ∷ held) h = grind (arith, nat_tests, has_id-filter p id 
 pub distinct-filter : (p : Held → Bool) (held : List Held) → has_distinct_ids held ≡ true → has_distinct_ids (filter p held) ≡ true
 distinct-filter p [] h = refl
 distinct-filter p (x ∷ held) h = grind (arith, nat_tests, has_id-filter p x.id held, distinct-filter p held)
-
--- all names are below a number
-abbrev pub has_ids_below : ℕ → List Held → Bool
-has_ids_below n held = list_all (λ h. nat_lt h.id.0 n) held
 
 pub below-filter : (p : Held → Bool) (n : ℕ) (held : List Held) → has_ids_below n held ≡ true → has_ids_below n (filter p held) ≡ true
 below-filter p n [] h = refl
@@ -66,6 +64,21 @@ distinct-push (x ∷ held) new h k = grind (arith, nat_tests, has_id-push x.id h
 pub below-push : (n : ℕ) (held : List Held) (new : Held) → has_ids_below n held ≡ true → new.id.0 ≡ n → has_ids_below (n + 1) (held ++ new ∷ []) ≡ true
 below-push n [] new h k = grind (arith, nat_tests)
 below-push n (x ∷ held) new h k = grind (arith, nat_tests, below-push n held new)
+
+-- a number past the names of some, and past one more
+below_wider : (m n : ℕ) (held : List Held) → m ≤ n → has_ids_below m held ≡ true → has_ids_below n held ≡ true
+below_wider m n [] le h = refl
+below_wider m n (x ∷ held) le h = grind (arith, nat_tests, below_wider m n held)
+
+below_one_more : (n : ℕ) (held : List Held) (new : Held) → has_ids_below n held ≡ true → new.id.0 < n → has_ids_below n (held ++ new ∷ []) ≡ true
+below_one_more n [] new h lt = grind (arith, nat_tests)
+below_one_more n (x ∷ held) new h lt = grind (arith, nat_tests, below_one_more n held new)
+
+pub past_more : (held : List Held) (i next past : ℕ) (d : Held) → i < length held → past ≡ max next (min ((get_or held i d).id.0 + 1) (2 ^ 64 - 1)) → (next < 2 ^ 64 - 1 → has_ids_below next (take i held) ≡ true) → past < 2 ^ 64 - 1
+    → has_ids_below past (take (i + 1) held) ≡ true
+past_more held i next past d lt is were small =
+    ap (has_ids_below past) (take_more held i d lt)
+    ∙ below_one_more past (take i held) (get_or held i d) (below_wider next past (take i held) (omega (arith, is)) (were (omega (arith, is, small)))) (omega (arith, is, small))
 
 -- the first dead one that is found
 found_named : (b : Bool) (x h : Held) (o : Option Held) (held : List Held) → cond b (Some x) o ≡ Some h → (o ≡ Some h → has_id h.id held ≡ true) → (same_id h.id x || has_id h.id held) ≡ true

@@ -229,6 +229,17 @@ listed_alike held others e = listed_nameless held ∙ ap (map connection_of) e �
 pub length_alike : (held others : List Held) → map nameless held ≡ map nameless others → length held ≡ length others
 length_alike held others e = sym (length-map held nameless) ∙ ap length e ∙ length-map others nameless
 
+live_nameless : (now : ℕ) (held : List Held) → map nameless (live_at now held) ≡ live_at now (map nameless held)
+live_nameless now [] = refl
+live_nameless now (x ∷ held) = one_live (is_live now x) (live_nameless now held)
+  where
+    one_live : (b : Bool) → map nameless (live_at now held) ≡ live_at now (map nameless held) → map nameless (cond b (x ∷ live_at now held) (live_at now held)) ≡ cond b (nameless x ∷ live_at now (map nameless held)) (live_at now (map nameless held))
+    one_live true e = ap (λ hs. nameless x ∷ hs) e
+    one_live false e = e
+
+pub live_alike : (held others : List Held) (now : ℕ) → map nameless held ≡ map nameless others → map nameless (live_at now held) ≡ map nameless (live_at now others)
+live_alike held others now e = live_nameless now held ∙ ap (live_at now) e ∙ sym (live_nameless now others)
+
 state_nameless : (kind : Kind) (b : Belonging) → state_of kind b ≡ state_of kind (nameless_belonging b)
 state_nameless kind Nowhere = refl
 state_nameless kind (Ends id) = refl

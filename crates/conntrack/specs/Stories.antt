@@ -1,5 +1,5 @@
 -- The list of everything that happened, newest first, and what is found by searching it. Nothing is ever removed.
-use Rattle.std.specs.Prelude.{◌≡◌, ◌≤◌, ℕ, Bool, false, not, ◌&&◌, ◌||◌, ◌==◌, if◌then◌else◌, List, [], ◌∷◌, ◌++◌, map, filter, length, Option, Some, None}
+use Rattle.std.specs.Prelude.{◌≡◌, ◌≤◌, ℕ, Bool, true, false, not, ◌&&◌, ◌||◌, ◌==◌, if◌then◌else◌, List, [], ◌∷◌, ◌++◌, map, filter, length, Option, Some, None}
 use Rattle.std.specs.List.{list_any}
 use Rattle.ip_headers.specs.declared.tuple.Kind.TheVariants.{Udp}
 use Rattle.ip_headers.specs.declared.tuple.Mapping.{Mapping}
@@ -32,6 +32,11 @@ pub record Entry : Type 0 where
   pub ended : Option ℕ
 
 -- ---- one connection: its entries are the one that began it and those that touched it
+
+abbrev pub does_begin : What → Bool
+does_begin Nothing = false
+does_begin (Begins original reply source dest) = true
+does_begin (Touches k direction) = false
 
 abbrev pub does_touch : ℕ → What → Bool
 does_touch c Nothing = false

@@ -51,6 +51,7 @@ pub fn names_aside()
     ensures state { (one other : Belonging) (kind : Kind) → nameless_belonging one ≡ nameless_belonging other → state_of kind one ≡ state_of kind other }
     ensures taken { (held others : List Held) (tuple : Tuple) → map nameless held ≡ map nameless others → is_taken tuple held ≡ is_taken tuple others }
     ensures number { (held others : List Held) → map nameless held ≡ map nameless others → length held ≡ length others }
+    ensures live { (held others : List Held) (now : ℕ) → map nameless held ≡ map nameless others → map nameless (live_at now held) ≡ map nameless (live_at now others) }
     ensures listed { (held others : List Held) → map nameless held ≡ map nameless others → map connection_of held ≡ map connection_of others }
 {}
 

@@ -1,7 +1,8 @@
 //! A plain list of connections.
-ghost use Rattle.std.specs.Prelude.{◌≡◌, ◌+◌, ◌<◌, ◌≤◌, ◌^◌, ◌&&◌, ◌||◌, not, false, ℕ, [], Option, None, Some, IsTrue, IfOk, OnOk, OnErr, IfSome, IfNone, ◌-◌, nat_lt, vec_len, vec_capacity, filter, if◌then◌else◌, length};
+ghost use Rattle.std.specs.Prelude.{◌≡◌, ◌+◌, ◌<◌, ◌≤◌, ◌^◌, ◌&&◌, ◌||◌, not, true, false, ℕ, [], Option, None, Some, IsTrue, IfOk, OnOk, OnErr, IfSome, IfNone, ◌-◌, nat_lt, vec_len, vec_capacity, filter, if◌then◌else◌, length};
 ghost use Rattle.std.specs.List.{find, list_any};
 ghost use Rattle.conntrack.specs.Tuples.{same_tuple};
+ghost use Rattle.conntrack.specs.steps.Names.{has_ids_below};
 ghost use Rattle.conntrack.specs.Held.{are_apart, belongs_in, has_distinct_ids, has_id, is_incoming, is_live, is_taken, live_at, of_original, of_reply, same_id, touched, touched_at, without};
 
 use crate::belonging::{Belonging, Place};
@@ -130,8 +131,31 @@ fn has(conns: &[Held], id: ConnId) -> bool
     conns.iter().any(|held| held.id == id)
 }
 
-/// The least name that no connection has.
+/// A name that no connection has.
 fn free_id(conns: &[Held]) -> ConnId
+    ensures { has_id result conns.now ≡ false }
+{
+    let next = next_number(conns);
+    if next < usize::MAX {
+        ConnId(next)
+    } else {
+        least_free(conns)
+    }
+}
+
+/// A number past those of all names; the greatest there is, where one of them comes near it.
+fn next_number(conns: &[Held]) -> usize
+    ensures { result < 2 ^ 64 - 1 → has_ids_below result conns.now ≡ true }
+{
+    let mut next: usize = 0;
+    for held in conns {
+        next = next.max(held.id.0.saturating_add(1));
+    }
+    next
+}
+
+/// The least name that no connection has.
+fn least_free(conns: &[Held]) -> ConnId
     ensures { has_id result conns.now ≡ false }
 {
     for number in 0..conns.len() {

@@ -110,6 +110,7 @@ pub trait Tracker: Drop {
     fn age(&mut self, now: Moment, steps: &mut Steps) -> Option<Aged>
         requires { IsNoneLater now (held self.old) }
         ensures some { IfSome result (λ aged. (taken_out aged.id (held self.old) ≡ Some aged) × (held self.new ≡ without aged.id (held self.old)) × (live_at now (held self.new) ≡ live_at now (held self.old))) }
+        ensures distinct { IsTrue (has_distinct_ids (held self.old)) }
         ensures fewer { IfSome result (λ aged. length (held self.new) < length (held self.old)) }
         ensures none { IfNone result ((held self.new ≡ held self.old) × (live_at now (held self.old) ≡ held self.old)) }
         ensures room { IsTrue (has_room self.old) → IsTrue (has_room self.new) }

@@ -11,6 +11,7 @@ ghost use Rattle.engine.specs.steps.Replayed.{AllTold, Broke, Interrupts, IsStop
 ghost use Rattle.engine.specs.steps.Written.{Ended, Finished, torn_at};
 
 use crate::fault::RunFault;
+use conntrack::ListTracker;
 use pcap_io::{Capture, CaptureError, CaptureFault, Counted, DeviceFailed, Sink, SinkError};
 use report::Report;
 use std::alloc::Global;
@@ -23,7 +24,7 @@ const MOST_WAITING: usize = 4096;
 /// A run among the records of its capture.
 #[derive(Drop)]
 pub(crate) struct Replay {
-    engine: Engine,
+    engine: Engine<ListTracker>,
     numbers: Report,
     records: Capture,
     sink: Sink,
@@ -33,7 +34,7 @@ impl Replay {
     /// Before the first record: the header of the capture to write waits or is written.
     pub(crate) fn new<W: Write>(
         alloc: Global,
-        engine: Engine,
+        engine: Engine<ListTracker>,
         records: Capture,
         trace: bool,
         sent: &mut Counted<W>,
@@ -197,8 +198,8 @@ impl Replay {
         self.sink.finish(sent)?;
         self.numbers.drain(self.engine.rules(), report)?;
         let torn = torn_at(stop)?;
-        // No connection is kept, so none lives.
-        self.numbers.lines(self.engine.rules(), 0, torn, report)?;
+        let live = self.engine.live() as u64;
+        self.numbers.lines(self.engine.rules(), live, torn, report)?;
         Ok(torn)
     }
 

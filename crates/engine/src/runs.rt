@@ -89,7 +89,7 @@ pub fn run<R: Read, W: Write, W2: Write>(
 /// Writes the capture and the report of an accepted capture, and flushes both writers.
 fn write_texts<R: Read, W: Write, W2: Write>(
     alloc: Global,
-    engine: Engine,
+    engine: Engine<ListTracker>,
     records: Capture,
     trace: bool,
     capture: &mut Counted<R>,

@@ -24,7 +24,8 @@ use Rattle.story.specs.declared.outcome.Cause.{Cause}
 use Rattle.story.specs.declared.outcome.Outcome.{Outcome}
 use Rattle.story.specs.declared.outcome.Outcome.TheVariants.{Passed, Local, Dropped}
 use Rattle.story.specs.Outcomes.{causes, word, is_passed, is_local, is_dropped_for}
-use Rattle.story.specs.Story.{Entry}
+use Rattle.conntrack.specs.Stories.{does_begin}
+use Rattle.story.specs.Story.{Entry, live_in}
 
 -- ---- words
 
@@ -207,22 +208,26 @@ local story = count_by (λ e. is_local e.outcome) story
 abbrev pub dropped : Cause → List Entry → ℕ
 dropped cause story = count_by (λ e. is_dropped_for cause e.outcome) story
 
+-- how many of them began a connection
+abbrev pub begun : List Entry → ℕ
+begun story = count_by (λ e. does_begin e.tracked.what) story
+
 abbrev pub drop_line : (Cause → ℕ) → Cause → Text
 drop_line lost cause = line (codes "drop" ++ and_word (word cause)) (lost cause)
 
--- the totals of so many records, of which these were sent on, kept by the box, and lost by each cause; no connection is kept so far, so none is begun
-abbrev pub number_lines : ℕ → ℕ → ℕ → (Cause → ℕ) → ℕ → Bool → Text
-number_lines records sent kept lost live torn =
+-- the totals of so many records, of which these were sent on, kept by the box, and lost by each cause; and of so many connections that were begun, of which these live
+abbrev pub number_lines : ℕ → ℕ → ℕ → (Cause → ℕ) → ℕ → ℕ → Bool → Text
+number_lines records sent kept lost beginnings live torn =
     line (codes "records") records
     ++ line (codes "passed") sent
     ++ line (codes "local") kept
     ++ flat_map (drop_line lost) causes
-    ++ line (codes "begun") 0
+    ++ line (codes "begun") beginnings
     ++ line (codes "live") live
     ++ line (codes "torn") (bit torn)
 
 abbrev pub totals : List Entry → ℕ → Bool → Text
-totals story live torn = number_lines (length story) (passed story) (local story) (λ cause. dropped cause story) live torn
+totals story live torn = number_lines (length story) (passed story) (local story) (λ cause. dropped cause story) (begun story) live torn
 
 -- ---- the whole
 
@@ -230,6 +235,6 @@ totals story live torn = number_lines (length story) (passed story) (local story
 abbrev pub closing_lines : List TableTree → List Entry → ℕ → Bool → Text
 closing_lines rules story live torn = counter_lines rules story ++ totals story live torn
 
--- no connection is kept so far, so none lives
+-- the connections that live at the moment of the last record are counted
 abbrev pub report_text : List TableTree → Bool → List Entry → Bool → Text
-report_text rules trace story torn = entry_lines rules trace story ++ closing_lines rules story 0 torn
+report_text rules trace story torn = entry_lines rules trace story ++ closing_lines rules story (length (live_in story)) torn

@@ -14,7 +14,7 @@ use Rattle.story.specs.Story.{Entry}
 use Rattle.report.specs.declared.tallies.Tally.{Tally}
 use Rattle.report.specs.declared.notes.Note.{Note}
 use Rattle.report.specs.declared.notes.Note.TheVariants as notes
-use Rattle.report.specs.Report.{passed, local, dropped, packets, bytes, entry_lines, on_chain, log_line, decision_line, policy_line, outcome_line}
+use Rattle.report.specs.Report.{passed, local, dropped, begun, packets, bytes, entry_lines, on_chain, log_line, decision_line, policy_line, outcome_line}
 
 -- a writer's known bytes grow so that what was told so far becomes this text
 abbrev pub Tells : Option Text → Option Text → Text → Text → Type 0
@@ -36,12 +36,13 @@ tally_at tallies at =
     (option_and_then (λ c. numbered_from_one c at.rule.rule)
     (option_and_then (λ t. slice_get t at.rule.chain) (slice_get tallies at.rule.table)))
 
--- its numbers: of all records, of those that passed and that were for the box, and of those dropped, by the cause's place; what each statement stands at; whether it traces; and what was noted and not yet written
+-- its numbers: of all records, of those that passed and that were for the box, of those dropped, by the cause's place, and of those that began a connection; what each statement stands at; whether it traces; and what was noted and not yet written
 pub record Known : Type 0 where
   pub records : ℕ
   pub passed : ℕ
   pub local : ℕ
   pub dropped : List ℕ
+  pub begun : ℕ
   pub tallies : Tallies
   pub traces : Bool
   pub notes : List Note
@@ -70,6 +71,7 @@ pub record Reports (report : Known) (rules : List TableTree) (trace : Bool) (sto
   pub passed_are : report.passed ≡ passed story
   pub local_are : report.local ≡ local story
   pub dropped_are : (cause : Cause) → drops_of report cause ≡ dropped cause story
+  pub begun_are : report.begun ≡ begun story
   pub tallies_are : (at : Place) (start : CounterStart) → counter_at rules at ≡ Some start → tally_at report.tallies at ≡ Some (tally_of start at story)
   pub traces_so : report.traces ≡ trace
   pub rest : told ++ flat_map (note_line rules) report.notes ≡ entry_lines rules trace story

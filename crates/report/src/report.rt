@@ -35,6 +35,7 @@ pub struct Report {
     local: u64,
     /// In the order of `Cause::ALL`.
     dropped: [u64; 17],
+    begun: u64,
     tallies: RulesetTallies,
     traces: bool,
     notes: Vec<Note>,
@@ -46,9 +47,9 @@ impl Model for Report {
 
     ghost Value = { Known };
 
-    ghost view = { λ r. record { records = r.records; passed = r.passed; local = r.local; dropped = r.dropped; tallies = r.tallies; traces = r.traces; notes = r.notes.items } };
+    ghost view = { λ r. record { records = r.records; passed = r.passed; local = r.local; dropped = r.dropped; begun = r.begun; tallies = r.tallies; traces = r.traces; notes = r.notes.items } };
 
-    ghost invariant = { λ r. IsBounded r.records r.passed r.local r.dropped r.tallies };
+    ghost invariant = { λ r. IsBounded r.records r.passed r.local r.dropped r.begun r.tallies };
 }
 
 impl Report {
@@ -64,6 +65,7 @@ impl Report {
             passed: 0,
             local: 0,
             dropped: [0; 17],
+            begun: 0,
             tallies,
             traces: trace,
             notes,
@@ -83,6 +85,7 @@ impl Report {
         note_entry(&mut self.notes, entry, self.traces);
         self.tallies.count_events(entry.events, entry.length);
         self.records += 1;
+        self.begun += u64::from(entry.begun);
         match entry.outcome {
             Outcome::Passed(_) => self.passed += 1,
             Outcome::Local => self.local += 1,
@@ -158,6 +161,7 @@ impl Report {
             passed: self.passed,
             local: self.local,
             dropped: &self.dropped,
+            begun: self.begun,
             live,
             torn,
         };
@@ -191,7 +195,7 @@ fn write_rest<W: Write>(
     totals: &Totals,
     writer: &mut Counted<W>,
 ) -> Result<(), DeviceFailed>
-    ensures wrote { Wrote result (W.contents writer.old.inner) (W.contents writer.new.inner) (rest_text (tables_of rules.now) notes.now tallies.now totals.now.records totals.now.passed totals.now.local totals.now.dropped.now totals.now.live totals.now.torn) }
+    ensures wrote { Wrote result (W.contents writer.old.inner) (W.contents writer.new.inner) (rest_text (tables_of rules.now) notes.now tallies.now totals.now.records totals.now.passed totals.now.local totals.now.dropped.now totals.now.begun totals.now.live totals.now.torn) }
     ensures counts { CountsFailure result writer.old.failures writer.new.failures }
 {
     let mut page = Page::new();

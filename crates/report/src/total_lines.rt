@@ -19,6 +19,8 @@ pub struct Totals<'a> {
     pub local: u64,
     /// In the order of `Cause::ALL`.
     pub dropped: &'a [u64; 17],
+    /// How many connections were begun.
+    pub begun: u64,
     /// How many connections live.
     pub live: u64,
     /// Whether the capture ends inside a record.
@@ -31,7 +33,7 @@ pub fn put_totals<W: Write>(
     writer: &mut Counted<W>,
     totals: &Totals,
 ) -> Result<(), DeviceFailed>
-    ensures puts { Puts result page.old.text.items (W.contents writer.old.inner) page.new.text.items (W.contents writer.new.inner) (number_lines totals.now.records totals.now.passed totals.now.local (drops_in totals.now.dropped.now) totals.now.live totals.now.torn) }
+    ensures puts { Puts result page.old.text.items (W.contents writer.old.inner) page.new.text.items (W.contents writer.new.inner) (number_lines totals.now.records totals.now.passed totals.now.local (drops_in totals.now.dropped.now) totals.now.begun totals.now.live totals.now.torn) }
     ensures counts { CountsFailure result writer.old.failures writer.new.failures }
 {
     page.put_all(
@@ -47,12 +49,11 @@ pub fn put_totals<W: Write>(
         ],
     )?;
     put_drops(page, writer, totals.dropped, &Cause::ALL)?;
-    // No connection is begun.
     page.put_all(
         writer,
         &[
             Piece::Text(b"begun"),
-            Piece::Number(0),
+            Piece::Number(u128::from(totals.begun)),
             Piece::Text(b"\nlive"),
             Piece::Number(u128::from(totals.live)),
             Piece::Text(b"\ntorn"),

@@ -1,31 +1,50 @@
 -- When an engine stands for a story.
-use Rattle.std.specs.Prelude.{◌≡◌, ℕ, List, [], ◌∷◌, length, Option, Some, None}
+use Rattle.std.specs.Prelude.{◌≡◌, ℕ, Bool, List, [], ◌∷◌, length, map, Option, Some, None}
+use Rattle.conntrack.specs.declared.connection.Held.{Held}
+use Rattle.conntrack.specs.Held.{nameless}
+use Rattle.conntrack.specs.Stories.{does_begin}
 use Rattle.pcap_io.specs.declared.capture.Record.{Record}
 use Rattle.pcap_io.specs.declared.sink.Leaving.{Leaving}
 use Rattle.pcap_io.specs.Pcap.{Recorded}
 use Rattle.pcap_io.specs.Sll2.{Sent, sent}
-use Rattle.story.specs.Story.{Entry, sends}
+use Rattle.rule_meaning.specs.declared.event.Event.{Event}
+use Rattle.story.specs.declared.outcome.Outcome.{Outcome}
+use Rattle.story.specs.Story.{Entry, live_in, sends, sent_by}
 use Rattle.rule_check.specs.Checked.{CheckedTree}
 use Rattle.stepping.specs.Next.{Setup}
 
--- what an engine shows: what it was set up with, how many records it took, and the entry of the last one, if it took one
+-- what is shown of an entry: all of it but which connection it touched or ended
+pub record Told : Type 0 where
+  pub moment : ℕ
+  pub length : ℕ
+  pub events : List Event
+  pub outcome : Outcome
+  pub packet : List ℕ
+  pub begun : Bool
+
+abbrev pub told : Entry → Told
+told e = record { moment = e.tracked.moment; length = e.length; events = e.events; outcome = e.outcome; packet = e.packet; begun = does_begin e.tracked.what }
+
+-- what an engine shows: what it was set up with, how many records it took, the connections that it holds, and what it tells of the last record, if it took one
 pub record Shown : Type 0 where
   pub setup : Setup
   pub records : ℕ
-  pub newest : Option Entry
+  pub held : List Held
+  pub newest : Option Told
 
 -- what a checked ruleset is set up with
 abbrev pub setup_of : CheckedTree → Setup
 setup_of checked = record { rules = checked.rules; plant = checked.plant }
 
-abbrev pub newest_of : List Entry → Option Entry
+abbrev pub newest_of : List Entry → Option Told
 newest_of [] = None
-newest_of (e ∷ story) = Some e
+newest_of (e ∷ story) = Some (told e)
 
--- its number of records is the story's, and it holds the newest entry
+-- its number of records is the story's, it tells of the newest entry, and it holds exactly the connections that are alive at the story's last moment, in the order in which they were begun, whatever it calls them
 pub record Stands (engine : Shown) (story : List Entry) : Type 0 where
   pub records : engine.records ≡ length story
   pub newest : engine.newest ≡ newest_of story
+  pub held : map nameless engine.held ≡ map nameless (live_in story)
 
 -- a record as it is told
 abbrev pub told_of : Record → Recorded
@@ -36,12 +55,12 @@ abbrev pub lent : Option Leaving → List Sent
 lent None = []
 lent (Some leaving) = sent leaving ∷ []
 
--- what the newest entry sends
-abbrev pub sends_of : Option Entry → List Sent
+-- what is sent by the newest entry
+abbrev pub sends_of : Option Told → List Sent
 sends_of None = []
-sends_of (Some e) = sends e
+sends_of (Some newest) = sent_by newest.outcome newest.moment newest.packet
 
 -- the bytes of the packet that leaves; none where none does
-abbrev pub packet_of : Option Entry → List ℕ
+abbrev pub packet_of : Option Told → List ℕ
 packet_of None = []
-packet_of (Some e) = e.packet
+packet_of (Some newest) = newest.packet

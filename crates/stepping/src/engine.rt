@@ -1,15 +1,19 @@
 //! One record at a time.
-ghost use Rattle.std.specs.Prelude.{◌≡◌, ◌<◌, ◌+◌, [], ◌∷◌, List, IfOk, IfSome, OnErr, OnOk};
+ghost use Rattle.std.specs.Prelude.{◌≡◌, ◌<◌, ◌+◌, [], ◌∷◌, List, length, map, IsTrue, IfOk, IfSome, OnErr, OnOk};
+ghost use Rattle.conntrack.specs.Held.{connection_of};
 ghost use Rattle.pcap_io.specs.Sll2.{IsSent, sent};
 ghost use Rattle.rule_check.specs.WellFormed.{WellFormed};
-ghost use Rattle.story.specs.Story.{Entry, IsNewest};
+ghost use Rattle.story.specs.Story.{Entry, IsNewest, live_in};
 ghost use Rattle.nft_tree.specs.Tree.{tables_of};
 ghost use Rattle.stepping.specs.Next.{Next};
 ghost use Rattle.stepping.specs.Stands.{Stands, lent, packet_of, sends_of, setup_of, told_of};
 
 use crate::facts::interface_facts;
-use crate::fate::{fate, way_of};
+use crate::fate::{Ended, fate, way_of};
+use crate::settling::age_all;
 use compiler::compile;
+use conntrack::laws::{names_aside, none_later, one_entry_more};
+use conntrack::{Connection, Memory, Tracker};
 use filter_vm::{Code, Events};
 use nft_tree::Ruleset;
 use pcap_io::{Leaving, Record};
@@ -22,39 +26,38 @@ use story::Outcome;
 /// The greatest length of a packet.
 const MOST_PACKET_BYTES: usize = 65_535;
 
-/// A box with its rules, and what it has to know of the records so far.
+/// A box with its rules, and what it has to know of the records so far. Connections are kept by `T`.
 #[derive(Drop)]
-pub struct Engine {
+pub struct Engine<T: Tracker> {
     checked: Checked,
     /// What the rules are as code.
     code: Code,
     /// The interface that packets enter by where no link header tells one.
     entering: Interface,
+    tracker: T,
     records: u64,
     /// The moment of the last record, 0 before one.
     latest: u64,
-    /// The total length of the last record's packet as received; 0 where it carried none.
-    length: u16,
     /// What happened while the rules ran on the last record.
     events: Events,
     /// How the last record ended; none before one.
-    outcome: Option<Outcome>,
+    ended: Option<Ended>,
     /// The packet that the last record sent on; empty where it sent none, or before a record.
     packet: Vec<u8>,
 }
 
-impl Model for Engine {
+impl<T: Tracker> Model for Engine<T> {
     ghost use Rattle.stepping.specs.Stands.{Shown, setup_of};
     ghost use Rattle.stepping.specs.steps.Fates.{IsReady, newest_in};
 
     ghost Value = { Shown };
 
-    ghost view = { λ e. record { setup = setup_of e.checked; records = e.records; newest = newest_in e.outcome e.latest e.length e.events e.packet } };
+    ghost view = { λ e. record { setup = setup_of e.checked; records = e.records; held = T.held e.tracker; newest = newest_in e.ended e.latest e.events e.packet } };
 
-    ghost invariant = { λ e. IsReady e.checked e.code e.entering e.outcome e.latest e.packet };
+    ghost invariant = { λ e. IsReady e.checked e.code e.entering e.ended e.latest e.packet (T.held e.tracker) };
 }
 
-impl Engine {
+impl<T: Tracker> Engine<T> {
     /// Before the first record: the rules are compiled, and there is room for what may happen while
     /// they run. On `Err`, which comes only for want of memory, the ruleset is dropped.
     pub fn new(alloc: Global, checked: Checked) -> Result<Self, AllocError>
@@ -70,11 +73,11 @@ impl Engine {
             checked,
             code,
             entering,
+            tracker: T::new(alloc),
             records: 0,
             latest: 0,
-            length: 0,
             events,
-            outcome: None,
+            ended: None,
             packet,
         })
     }
@@ -90,23 +93,31 @@ impl Engine {
         ensures records { OnOk result (self.new.records ≡ self.old.records + 1) }
         ensures err { OnErr result (self.new ≡ self.old) }
     {
+        // What is held is known but for the names that the tracker gives.
+        names_aside();
+        one_entry_more();
+        none_later();
         // All growth first: after it nothing can fail.
         let missing = MOST_PACKET_BYTES - self.packet.len();
         self.packet.reserve(missing)?;
+        make_room(&mut self.tracker)?;
         self.packet.clear();
         self.events.clear();
+        let now = self.latest.max(record.moment);
+        age_all(&mut self.tracker, now);
         let ended = fate(
             &self.checked,
             &self.code,
             self.entering,
             record,
+            now,
+            &mut self.tracker,
             &mut self.events,
             &mut self.packet,
         );
         self.records += 1;
-        self.latest = self.latest.max(record.moment);
-        self.length = ended.length;
-        self.outcome = Some(ended.outcome);
+        self.latest = now;
+        self.ended = Some(ended);
         Ok(ended.outcome)
     }
 
@@ -116,7 +127,7 @@ impl Engine {
         ensures sends { lent result ≡ sends_of self.now.newest }
         ensures fits { IfSome result (λ leaving. IsSent (sent leaving)) }
     {
-        let interface = way_of(self.outcome?)?;
+        let interface = way_of(self.ended?.outcome)?;
         Some(Leaving {
             moment: self.latest,
             interface,
@@ -136,13 +147,34 @@ impl Engine {
         // Whatever story the engine stands for, it is the newest entry of that story.
         ensures newest { (story : List Entry) → Stands self.now story → IsNewest result story }
     {
-        let outcome = self.outcome?;
+        let ended = self.ended?;
         Some(story::Entry {
             number: self.records,
-            length: self.length,
+            length: ended.length,
             events: self.events.list(),
-            outcome,
+            outcome: ended.outcome,
+            begun: ended.begun,
         })
+    }
+
+    /// How many connections are alive at the moment of the last record.
+    pub fn live(&self) -> usize
+        ensures { (story : List Entry) → Stands self.now story → result ≡ length (live_in story) }
+    {
+        names_aside();
+        self.tracker.live()
+    }
+
+    /// The connections that are alive at the moment of the last record, in the order in which they
+    /// were begun.
+    pub fn connections(&self, alloc: Global) -> Result<Vec<Connection>, AllocError>
+        ensures { (story : List Entry) → Stands self.now story → IfOk result (λ all. all.items ≡ map connection_of (live_in story)) }
+    {
+        names_aside();
+        match self.tracker.list(alloc) {
+            Ok(all) => Ok(all),
+            Err(Memory) => Err(AllocError),
+        }
     }
 
     /// Its rules.
@@ -164,5 +196,16 @@ impl Engine {
         ensures { result ≡ self.now.records }
     {
         self.records
+    }
+}
+
+/// Makes room for the connection that a record may begin.
+fn make_room<T: Tracker>(tracker: &mut T) -> Result<(), AllocError>
+    ensures held { T.held tracker.new ≡ T.held tracker.old }
+    ensures room { OnOk result (IsTrue (T.has_room tracker.new)) }
+{
+    match tracker.reserve_one() {
+        Ok(()) => Ok(()),
+        Err(Memory) => Err(AllocError),
     }
 }

@@ -3,7 +3,7 @@ ghost use Rattle.std.specs.Prelude.{◌≡◌, ◌-◌, Some, None};
 ghost use Rattle.std.specs.Option.{option_map};
 ghost use Rattle.box_file.specs.Box.{name_of};
 ghost use Rattle.rule_meaning.specs.declared.facts.Tracking.TheVariants.{Unknown};
-ghost use Rattle.stepping.specs.Next.{interface_facts, packet_facts};
+ghost use Rattle.stepping.specs.Next.{interface_facts, packet_facts, with_tracking};
 
 use box_file::Plant;
 use ip_headers::View;
@@ -46,6 +46,14 @@ pub fn arriving(view: &View, input: Interface) -> Facts
         mark: 0,
         tracking: Tracking::Unknown,
     }
+}
+
+/// Once its connection was looked for.
+#[inline(always)]
+pub fn with_tracking(tracking: Tracking, facts: &Facts) -> Facts
+    ensures { result ≡ with_tracking tracking facts.now }
+{
+    Facts { tracking, ..*facts }
 }
 
 /// When it is sent on: the way is known, and the TTL is one lower (RFC 1812, section 5.3.1).

@@ -6,8 +6,11 @@ mod engine;
 mod facts;
 mod fate;
 mod laws;
+mod leading;
 mod parts;
 mod passing;
+mod settling;
+mod sought;
 mod taken;
 
 pub use engine::Engine;

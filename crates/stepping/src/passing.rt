@@ -3,24 +3,30 @@ ghost use Rattle.std.specs.Prelude.{◌≡◌, ◌≤◌, ◌+◌, length};
 ghost use Rattle.nft_tree.specs.declared.chain.Hook.TheVariants as hooks;
 ghost use Rattle.compiler.specs.Compiled.{cost_at};
 ghost use Rattle.stepping.specs.declared.parts.Part.TheVariants as parts;
-ghost use Rattle.stepping.specs.steps.Parts.{HasRoom, SpendsUpTo, arrival_end, cost_of, departure_end, end_by, goes_on, part_end};
+ghost use Rattle.stepping.specs.steps.Parts.{HasRoom, SpendsUpTo, arrival_cost, arrival_end, cost_of, departure_end, end_by, goes_on, part_end};
 
 use crate::parts::Part;
 use filter_vm::{Code, Events, run};
 use rule_meaning::{Ending, Facts, Outcome};
 
-/// Runs the packet through the chains on prerouting. Nothing is translated among them.
+/// Runs the packet through the chains on prerouting that come before its connection is looked for.
+#[inline(always)]
+pub fn enter(code: &Code, facts: &Facts, events: &mut Events) -> Outcome
+    requires room { HasRoom events.old (cost_of code.now parts.Early) }
+    ensures end { end_by result events.new ≡ part_end code.now parts.Early facts.now events.old.events }
+    ensures spent { SpendsUpTo events.old events.new (cost_of code.now parts.Early) }
+{
+    run_part(code, Part::Early, facts, events)
+}
+
+/// Runs the packet through the other chains on prerouting. Nothing is translated among them.
 #[inline(always)]
 pub fn arrive(code: &Code, facts: &Facts, events: &mut Events) -> Outcome
-    requires room { HasRoom events.old (cost_at code.now hooks.Prerouting) }
+    requires room { HasRoom events.old (arrival_cost code.now) }
     ensures end { end_by result events.new ≡ arrival_end code.now facts.now events.old.events }
-    ensures spent { SpendsUpTo events.old events.new (cost_at code.now hooks.Prerouting) }
+    ensures spent { SpendsUpTo events.old events.new (arrival_cost code.now) }
 {
-    let early = run_part(code, Part::Early, facts, events);
-    if !goes_on(early.ending) {
-        return early;
-    }
-    let before = run_part(code, Part::BeforeDestination, &early.facts, events);
+    let before = run_part(code, Part::BeforeDestination, facts, events);
     if !goes_on(before.ending) {
         return before;
     }

@@ -1,16 +1,13 @@
-//! The forms that runs don't take yet: all that asks of connections, and translation.
+//! The forms that runs don't take yet: translation.
 ghost use Rattle.std.specs.Prelude.{◌≡◌, map};
-ghost use Rattle.std.specs.List.{list_all, list_any};
+ghost use Rattle.std.specs.List.{list_all};
 ghost use Rattle.std.specs.Option.{option_map};
-ghost use Rattle.nft_tree.specs.Tree.{chain_tree, head_tree, item_tree, map_tree, match_tree, operand_tree, rule_tree, set_type_tree, statement, table_tree, tables_of};
-ghost use Rattle.stepping.specs.Taken.{asks_connection, is_filter, is_meta, takes, takes_chain, takes_data, takes_head, takes_item, takes_map_type, takes_match, takes_operand, takes_rule, takes_set_type, takes_statement, takes_table};
+ghost use Rattle.nft_tree.specs.Tree.{chain_tree, head_tree, item_tree, rule_tree, statement, table_tree, tables_of};
+ghost use Rattle.stepping.specs.Taken.{is_filter, takes, takes_chain, takes_head, takes_item, takes_rule, takes_statement, takes_table};
 
-use nft_tree::{
-    Chain, ChainKind, Head, Item, MapType, MarkField, Match, Operand, Rule, Ruleset, Selector,
-    SelectorOrVerdict, SetType, Stmt, Table,
-};
+use nft_tree::{Chain, ChainKind, Head, Item, Rule, Ruleset, Stmt, Table};
 
-/// Whether runs take the ruleset: nothing in it asks of connections or translates.
+/// Whether runs take the ruleset: nothing in it translates.
 pub fn takes(tree: &Ruleset) -> bool
     ensures { result ≡ takes (tables_of tree.now) }
 {
@@ -33,10 +30,8 @@ fn takes_item(item: &Item) -> bool
     ensures { result ≡ takes_item (item_tree item.now) }
 {
     match item {
-        Item::Comment(_) => true,
         Item::Chain(chain) => takes_chain(chain),
-        Item::Set(set) => takes_set_type(&set.key),
-        Item::Map(map) => takes_map_type(map.types),
+        Item::Comment(_) | Item::Set(_) | Item::Map(_) => true,
     }
 }
 
@@ -82,84 +77,5 @@ fn takes_statements(statements: &[Stmt]) -> bool
 fn takes_statement(stmt: &Stmt) -> bool
     ensures { result ≡ takes_statement (statement stmt.now) }
 {
-    match stmt {
-        Stmt::Match(test) => takes_match(test),
-        Stmt::SetMark(field, operand) => is_meta(*field) && takes_operand(operand),
-        Stmt::VerdictMap(selector, _) => !asks_connection(*selector),
-        Stmt::Nat(_) => false,
-        Stmt::Counter(_) | Stmt::Log(_) | Stmt::Verdict(_) => true,
-    }
-}
-
-fn takes_match(test: &Match) -> bool
-    ensures { result ≡ takes_match (match_tree test.now) }
-{
-    match test {
-        Match::Compare(selector, _, _) => !asks_connection(*selector),
-        Match::In(selectors, _) | Match::NotIn(selectors, _) => !one_asks_connection(selectors),
-        Match::Bits(..) => false,
-        Match::AnyFlag(_)
-        | Match::ExactFlags(_)
-        | Match::MaskedFlags(_)
-        | Match::MaskedFlagsUnequal(_) => true,
-    }
-}
-
-fn takes_operand(operand: &Operand) -> bool
-    ensures { result ≡ takes_operand (operand_tree operand.now) }
-{
-    match operand {
-        Operand::Number(_) => true,
-        Operand::Mark(field) => is_meta(*field),
-        Operand::Look(look) => !asks_connection(look.selector),
-    }
-}
-
-fn is_meta(field: MarkField) -> bool
-    ensures { result ≡ is_meta field }
-{
-    matches!(field, MarkField::Meta)
-}
-
-fn takes_set_type(key: &SetType) -> bool
-    ensures { result ≡ takes_set_type (set_type_tree key.now) }
-{
-    match key {
-        SetType::Types(_) => true,
-        SetType::Selectors(selectors) => !one_asks_connection(selectors),
-    }
-}
-
-fn takes_map_type(types: MapType) -> bool
-    ensures { result ≡ takes_map_type types }
-{
-    match types {
-        MapType::Types(..) => true,
-        MapType::Selectors(key, data) => !asks_connection(key) && takes_data(data),
-    }
-}
-
-fn takes_data(given: SelectorOrVerdict) -> bool
-    ensures { result ≡ takes_data given }
-{
-    match given {
-        SelectorOrVerdict::Selector(selector) => !asks_connection(selector),
-        SelectorOrVerdict::Verdict => true,
-    }
-}
-
-fn one_asks_connection(selectors: &[Selector]) -> bool
-    ensures { result ≡ list_any asks_connection selectors.now }
-{
-    selectors.iter().any(|selector| asks_connection(*selector))
-}
-
-/// Whether the selector reads something of a connection.
-fn asks_connection(selector: Selector) -> bool
-    ensures { result ≡ asks_connection selector }
-{
-    matches!(
-        selector,
-        Selector::CtMark | Selector::CtState | Selector::CtDirection | Selector::CtStatus
-    )
+    !matches!(stmt, Stmt::Nat(_))
 }

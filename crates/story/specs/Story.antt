@@ -1,24 +1,34 @@
 -- A story: the list of entries of all earlier records, the newest first. Nothing is ever removed.
-use Rattle.std.specs.Prelude.{◌≡◌, ℕ, List, [], ◌∷◌, ◌++◌, length, Option, Some, None}
+use Rattle.std.specs.Prelude.{◌≡◌, ℕ, List, [], ◌∷◌, ◌++◌, length, map, Option, Some, None}
 use Rattle.std.specs.List.{flat_map}
+use Rattle.conntrack.specs.declared.connection.Held.{Held}
+use Rattle.conntrack.specs.Stories as connections
+use Rattle.conntrack.specs.Stories.{does_begin, live_list}
 use Rattle.pcap_io.specs.Sll2.{Sent, sll2}
 use Rattle.rule_meaning.specs.declared.event.Event.{Event}
 use Rattle.story.specs.declared.entry.Entry as lent
 use Rattle.story.specs.declared.outcome.Outcome.{Outcome}
 use Rattle.story.specs.declared.outcome.Outcome.TheVariants.{Passed, Local, Dropped}
 
--- what became of a record: when it was seen, the total length of its packet as received, 0 where it carries none, what happened while the rules ran on it, how it ended, and the bytes of the packet that left, none where none did
+-- what became of a record: what is recorded of it as far as connections go, its moment among that, the total length of its packet as received, 0 where it carries none, what happened while the rules ran on it, how it ended, and the bytes of the packet that left, none where none did
 pub record Entry : Type 0 where
-  pub moment : ℕ
+  pub tracked : connections.Entry
   pub length : ℕ
   pub events : List Event
   pub outcome : Outcome
   pub packet : List ℕ
 
+-- as far as connections go
+abbrev pub tracked_of : List Entry → List connections.Entry
+tracked_of story = map (λ e. e.tracked) story
+
 -- the moment of the newest entry, 0 before any
 abbrev pub moment_of : List Entry → ℕ
-moment_of [] = 0
-moment_of (e ∷ story) = e.moment
+moment_of story = connections.moment_of (tracked_of story)
+
+-- the connections that are alive at that moment, in the order in which they were begun
+abbrev pub live_in : List Entry → List Held
+live_in story = live_list (tracked_of story) (moment_of story)
 
 -- the entries in the order of their records
 abbrev pub in_order : List Entry → List Entry
@@ -32,7 +42,7 @@ sent_by (Dropped cause) moment packet = []
 
 -- what an entry sends: the packet that left, at the entry's moment
 abbrev pub sends : Entry → List Sent
-sends e = sent_by e.outcome e.moment e.packet
+sends e = sent_by e.outcome e.tracked.moment e.packet
 
 -- the capture that a story makes
 abbrev pub capture_text : List Entry → List ℕ
@@ -46,6 +56,7 @@ pub record IsEntry (e : Entry) (story : List Entry) (told : lent.Entry) : Type 0
   pub bytes : told.length ≡ e.length
   pub events : told.events.now ≡ e.events
   pub outcome : told.outcome ≡ e.outcome
+  pub begun : told.begun ≡ does_begin e.tracked.what
 
 -- the newest entry of a story is lent, none of a story without one
 abbrev pub IsNewest : Option lent.Entry → List Entry → Type 0

@@ -13,4 +13,6 @@ pub struct Entry<'a> {
     pub events: &'a [Event],
     /// How it ended.
     pub outcome: Outcome,
+    /// Whether its packet began a connection.
+    pub begun: bool,
 }

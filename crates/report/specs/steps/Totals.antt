@@ -14,6 +14,6 @@ abbrev pub drops_in : List ℕ → Cause → ℕ
 drops_in dropped cause = slice_index dropped (place cause)
 
 -- the lines of the notes that wait, of the counters, and the totals
-abbrev pub rest_text : List TableTree → List Note → Tallies → ℕ → ℕ → ℕ → List ℕ → ℕ → Bool → Text
-rest_text rules notes tallies records sent kept dropped live torn =
-    flat_map (note_line rules) notes ++ told_tables tallies 0 rules ++ number_lines records sent kept (drops_in dropped) live torn
+abbrev pub rest_text : List TableTree → List Note → Tallies → ℕ → ℕ → ℕ → List ℕ → ℕ → ℕ → Bool → Text
+rest_text rules notes tallies records sent kept dropped begun live torn =
+    flat_map (note_line rules) notes ++ told_tables tallies 0 rules ++ number_lines records sent kept (drops_in dropped) begun live torn

@@ -11,6 +11,7 @@ use Rattle.rule_meaning.specs.Hooks.{Base, End, filters_at, is_below, is_early}
 use Rattle.filter_vm.specs.declared.code.Code.{Code}
 use Rattle.filter_vm.specs.declared.code.Start.{Start}
 use Rattle.filter_vm.specs.Machine.{Told, starts_of, end_of}
+use Rattle.compiler.specs.Compiled.{cost_at}
 use Rattle.stepping.specs.declared.parts.Part.{Part}
 use Rattle.stepping.specs.declared.parts.Part.TheVariants as parts
 
@@ -70,7 +71,7 @@ unfoldable pub part_end : Code → Part → Facts → List Event → End
 part_end code part f es = in_turn (end_of code) part (starts_of code (hook_of part)) f es
 
 abbrev pub arrival_end : Code → Facts → List Event → End
-arrival_end code f es = then_on (part_end code parts.Early f es) (λ g later. then_on (part_end code parts.BeforeDestination g later) (part_end code parts.AfterDestination))
+arrival_end code f es = then_on (part_end code parts.BeforeDestination f es) (part_end code parts.AfterDestination)
 
 abbrev pub departure_end : Code → Facts → List Event → End
 departure_end code f es = then_on (part_end code parts.Forward f es) (λ g later. then_on (part_end code parts.BeforeSource g later) (part_end code parts.AfterSource))
@@ -86,6 +87,13 @@ cost_among part ss = sum_by (λ s. cond (starts_in part s) s.cost 0) ss
 
 unfoldable pub cost_of : Code → Part → ℕ
 cost_of code part = cost_among part (starts_of code (hook_of part))
+
+abbrev pub arrival_cost : Code → ℕ
+arrival_cost code = cost_of code parts.BeforeDestination + cost_of code parts.AfterDestination
+
+-- what it costs to lead a packet whose connection was looked for
+abbrev pub led_cost : Code → ℕ
+led_cost code = arrival_cost code + cost_at code hooks.Input + cost_at code hooks.Forward + cost_at code hooks.Postrouting
 
 -- there is room for so many events and ticks more
 pub record HasRoom (told : Told) (cost : ℕ) : Type 0 where

@@ -1,5 +1,5 @@
 use Rattle.conntrack.proofs.Same.{same_belonging, same_taken}
-use Rattle.conntrack.proofs.Packets.{ended_alike, length_alike, listed_alike, packet_alike, state_alike}
+use Rattle.conntrack.proofs.Packets.{ended_alike, length_alike, listed_alike, live_alike, packet_alike, state_alike}
 use Rattle.conntrack.proofs.laws.names_aside.Goals as goal
 
 pub returns-clause-packet : goal.returns-clause-packet
@@ -19,6 +19,9 @@ returns-clause-taken c = λ held others tuple e. same_taken held others tuple e
 
 pub returns-clause-number : goal.returns-clause-number
 returns-clause-number c = λ held others e. length_alike held others e
+
+pub returns-clause-live : goal.returns-clause-live
+returns-clause-live c = λ held others now e. live_alike held others now e
 
 pub returns-clause-listed : goal.returns-clause-listed
 returns-clause-listed c = λ held others e. listed_alike held others e

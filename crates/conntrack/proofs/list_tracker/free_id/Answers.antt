@@ -1,6 +1,5 @@
-use Rattle.std.proofs.Common.{arith}
-use Rattle.conntrack.proofs.Names.{name_free}
+use Rattle.conntrack.proofs.Names.{has_id-below}
 use Rattle.conntrack.proofs.list_tracker.free_id.Goals as goal
 
-pub returns : goal.returns
-returns c = name_free c.args.conns.now (λ k lt. c.loop-number.invariant k (omega arith))
+pub returns-then-next-lt18446744073709551615 : goal.returns-then-next-lt18446744073709551615
+returns-then-next-lt18446744073709551615 c = has_id-below c.next_number-next.result c.args.conns.now (c.next_number-next.ensures c.if-next-lt18446744073709551615.true)

@@ -1,6 +1,6 @@
 use Rattle.std.proofs.Common.{◌≡◌, ℕ, ◌<◌, true}
 use Rattle.conntrack.specs.Held.{has_id}
-use Rattle.conntrack.proofs.list_tracker.free_id.Given as goal
+use Rattle.conntrack.proofs.list_tracker.least_free.Given as goal
 
 -- each smaller name is taken
 abbrev pub invariant-loop-number : goal.invariant-loop-number
