@@ -11,12 +11,14 @@ def checksum(header):
     return 0xFFFF - total
 
 
-def packet(number, length):
-    source = 0xC0A80100 + number % 200 + 10
-    destination = 0xC6336400 + number % 250
+def packet(number, length, conversations=10):
+    """A UDP packet of that length, of one of so many conversations in turn."""
+    turn = number % conversations
+    source = 0xC0A80100 + turn % 200 + 10
+    destination = 0xC6336407
     parts = [0x45, 0, length, number % 65536, 0, 64, 17, 0, source, destination]
     parts[7] = checksum(struct.pack(">BBHHHBBHII", *parts))
-    ports_and_length = struct.pack(">HHHH", 5000, 53, length - 20, 0)
+    ports_and_length = struct.pack(">HHHH", 5000 + turn // 200, 53, length - 20, 0)
     return struct.pack(">BBHHHBBHII", *parts) + ports_and_length + bytes(length - 28)
 
 
@@ -27,14 +29,14 @@ def header(link):
     return struct.pack("<IHHIIII", 0xA1B2C3D4, 2, 4, 0, 0, 0xFFFF, link)
 
 
-def records(count, length, link=b""):
+def records(count, length, link=b"", conversations=10):
     """So many records, each of a packet of that length behind a link header."""
     whole = length + len(link)
-    return b"".join(struct.pack("<IIII", n // 1000, n % 1000, whole, whole) + link + packet(n, length) for n in range(count))
+    return b"".join(struct.pack("<IIII", n // 1000, n % 1000, whole, whole) + link + packet(n, length, conversations) for n in range(count))
 
 
-def capture(count, length):
-    return header(101) + records(count, length)
+def capture(count, length, conversations=10):
+    return header(101) + records(count, length, conversations=conversations)
 
 
 def frames(power):
@@ -133,11 +135,14 @@ def main():
     write("small.pcap", capture(10**6, 60))
     for power in (0, 4, 5):
         write(f"small-{power}.pcap", capture(10**power if power else 0, 60))
+    for conversations, count in ((10, 10**5), (1000, 10**5), (10_000, 3 * 10**4)):
+        write(f"conversations-{conversations}.pcap", capture(count, 60, conversations))
     write("empty.nft", "")
     write("chain.nft", forward([]))
     write("rules.nft", ruleset())
     for rules in (10, 1000, 16000):
         write(f"line-{rules}.nft", rules_in_line(rules))
+    write("stateful.nft", forward(["ct state established,related accept", 'iifname "lan" accept', "drop"]))
     write("one.nft", forward(["ip saddr 10.0.0.1 drop"]))
     write("set.nft", set_of(50_000))
     write("verdicts.nft", verdicts_of(1_000))

@@ -47,6 +47,9 @@ def main():
         spent, _ = run("empty.nft", "box.txt", f"{name}.pcap")
         other, _ = measured(["tcpdump", "-r", f"{folder}/{name}.pcap", "-w", out], out)
         print(f"10^6 {text}, empty ruleset: {spent:.3f} s; tcpdump -r -w: {other:.3f} s; {spent / other:.2f} times")
+    for conversations, packets in ((10, 10**5), (1000, 10**5), (10_000, 3 * 10**4)):
+        spent, _ = run("stateful.nft", "box.txt", f"conversations-{conversations}.pcap")
+        print(f"{packets} packets of {conversations} conversations: {spent * 1e9 / packets:.0f} ns a packet")
     few, _ = run("empty.nft", "two-routes.txt", "small.pcap")
     many, _ = run("empty.nft", "many-routes.txt", "small.pcap")
     print(f"a box of 2 routes: {few:.3f} s; of 1,021: {many:.3f} s; {many / few:.2f} times")
