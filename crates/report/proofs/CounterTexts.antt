@@ -13,7 +13,7 @@ use Rattle.pcap_io.specs.Counting.{AppendsPart}
 use Rattle.rule_meaning.specs.declared.event.Place.{Place}
 use Rattle.story.specs.Story.{Entry}
 use Rattle.report.specs.declared.notes.Note.{Note}
-use Rattle.report.specs.Report.{passed, local, dropped, begun, entry_lines, next_place, next_number, line_if_counter, statement_lines, rule_lines, chain_lines, table_lines, counter_lines, number_lines, totals, closing_lines}
+use Rattle.report.specs.Report.{passed, local, dropped, entry_lines, next_place, next_number, line_if_counter, statement_lines, rule_lines, chain_lines, table_lines, counter_lines, number_lines, totals, closing_lines}
 use Rattle.report.specs.Standing.{Known, Reports, Tallies, Tells, TellsPart, counter_at, drops_of, note_line, tally_at, tally_of}
 use Rattle.report.specs.steps.Tallying.{started}
 use Rattle.report.specs.steps.Standings.{standing, tally_line, told_counter, told_statements, told_rules, told_chains, told_tables, first_of}
