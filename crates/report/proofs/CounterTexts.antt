@@ -97,19 +97,20 @@ counters_told tallies rules story tallied =
 -- ---- the totals
 
 totals_told : (report : Known) (rules : List TableTree) (trace : Bool) (story : List Entry) (told : List ℕ) (live : ℕ) (torn : Bool) → Reports report rules trace story told
-    → number_lines report.records report.passed report.local (drops_in report.dropped) live torn ≡ totals story live torn
+    → number_lines report.records report.passed report.local (drops_in report.dropped) report.begun live torn ≡ totals story live torn
 totals_told report rules trace story told live torn reports =
     let same_drops : drops_of report ≡ (λ cause. dropped cause story) = λ i. λ cause. reports.dropped_are cause i in
-    ap (λ n. number_lines n report.passed report.local (drops_of report) live torn) reports.records
-    ∙ ap (λ n. number_lines (length story) n report.local (drops_of report) live torn) reports.passed_are
-    ∙ ap (λ n. number_lines (length story) (passed story) n (drops_of report) live torn) reports.local_are
-    ∙ ap (λ lost. number_lines (length story) (passed story) (local story) lost live torn) same_drops
+    ap (λ n. number_lines n report.passed report.local (drops_of report) report.begun live torn) reports.records
+    ∙ ap (λ n. number_lines (length story) n report.local (drops_of report) report.begun live torn) reports.passed_are
+    ∙ ap (λ n. number_lines (length story) (passed story) n (drops_of report) report.begun live torn) reports.local_are
+    ∙ ap (λ lost. number_lines (length story) (passed story) (local story) lost report.begun live torn) same_drops
+    ∙ ap (λ n. number_lines (length story) (passed story) (local story) (λ cause. dropped cause story) n live torn) reports.begun_are
 
 -- ---- the rest of the whole
 
 -- what is written last of what a report knows
 abbrev rest_of : Known → List TableTree → ℕ → Bool → List ℕ
-rest_of report rules live torn = rest_text rules report.notes report.tallies report.records report.passed report.local report.dropped live torn
+rest_of report rules live torn = rest_text rules report.notes report.tallies report.records report.passed report.local report.dropped report.begun live torn
 
 regrouped : (told notes counters numbers : List ℕ) → told ++ ((notes ++ counters) ++ numbers) ≡ (told ++ notes) ++ (counters ++ numbers)
 regrouped told notes counters numbers = simp append_assoc
@@ -119,7 +120,7 @@ rest_told : (report : Known) (rules : List TableTree) (trace : Bool) (story : Li
 rest_told report rules trace story told live torn reports =
     let notes : List ℕ = flat_map (note_line rules) report.notes in
     let counters : List ℕ = told_tables report.tallies 0 rules in
-    let numbers : List ℕ = number_lines report.records report.passed report.local (drops_in report.dropped) live torn in
+    let numbers : List ℕ = number_lines report.records report.passed report.local (drops_in report.dropped) report.begun live torn in
     regrouped told notes counters numbers
     ∙ ap (λ text. text ++ (counters ++ numbers)) reports.rest
     ∙ ap (λ text. entry_lines rules trace story ++ (text ++ numbers)) (counters_told report.tallies rules story reports.tallies_are)
@@ -127,9 +128,9 @@ rest_told report rules trace story told live torn reports =
 
 -- the same, by what is seen of the report and by the notes as they lie
 pub rest_seen : (seen report : Known) (notes : List Note) (rules : List TableTree) (trace : Bool) (story : List Entry) (told : List ℕ) (live : ℕ) (torn : Bool) → seen ≡ report → notes ≡ seen.notes → Reports report rules trace story told
-    → told ++ rest_text rules notes seen.tallies seen.records seen.passed seen.local seen.dropped live torn ≡ entry_lines rules trace story ++ closing_lines rules story live torn
+    → told ++ rest_text rules notes seen.tallies seen.records seen.passed seen.local seen.dropped seen.begun live torn ≡ entry_lines rules trace story ++ closing_lines rules story live torn
 rest_seen seen report notes rules trace story told live torn is same reports =
-    ap (λ ns. told ++ rest_text rules ns seen.tallies seen.records seen.passed seen.local seen.dropped live torn) same
+    ap (λ ns. told ++ rest_text rules ns seen.tallies seen.records seen.passed seen.local seen.dropped seen.begun live torn) same
     ∙ ap (λ (r : Known). told ++ rest_of r rules live torn) is
     ∙ rest_told report rules trace story told live torn reports
 

@@ -1,13 +1,15 @@
 -- How one record more ended, in the numbers of a report.
-use Rattle.std.proofs.Common.{◌≡◌, ◌≢◌, ◌<◌, ◌+◌, ◌==◌, ℕ, Bool, true, false, cond, List, ◌∷◌, length, slice_index, set, refl, sym, ap, ◌∙◌, arith, get_or-set_same, get_or-set_other}
+use Rattle.std.proofs.Common.{◌≡◌, ◌≢◌, ◌<◌, ◌≤◌, ◌+◌, ◌==◌, ℕ, Bool, true, false, cond, List, ◌∷◌, length, slice_index, set, refl, sym, ap, ◌∙◌, arith, get_or-set_same, get_or-set_other}
+use mir.Val.{bool_byte}
 use Rattle.std.proofs.lemmas.Bool.Decides.{Decides-eqb}
 use Rattle.std.proofs.lemmas.List.Sums.{sum_by-cons}
+use Rattle.conntrack.specs.Stories.{does_begin}
 use Rattle.story.specs.declared.outcome.Cause.{Cause}
 use Rattle.story.specs.declared.outcome.Outcome.{Outcome}
 use Rattle.story.specs.declared.outcome.Outcome.TheVariants.{Dropped}
 use Rattle.story.specs.Outcomes.{place, is_passed, is_local, is_dropped_for}
 use Rattle.story.specs.Story.{Entry}
-use Rattle.report.specs.Report.{passed, local, dropped}
+use Rattle.report.specs.Report.{passed, local, dropped, begun}
 
 -- one more where a record ended so
 abbrev pub more_if : Bool → ℕ → ℕ
@@ -22,6 +24,20 @@ local_more story e o n is were = ap (λ (p : Outcome). more_if (is_local p) n) i
 pub dropped_more : (k : Cause) (story : List Entry) (e : Entry) (o : Outcome) (n : ℕ) → o ≡ e.outcome → n ≡ dropped k story → more_if (is_dropped_for k o) n ≡ dropped k (e ∷ story)
 dropped_more k story e o n is were =
     ap (λ (p : Outcome). more_if (is_dropped_for k p) n) is ∙ ap (more_if (is_dropped_for k e.outcome)) were ∙ sym (sum_by-cons (λ (x : Entry). cond (is_dropped_for k x.outcome) 1 0) e story)
+
+-- one more where a record began a connection
+pub begun_more : (story : List Entry) (e : Entry) (begins : Bool) (n : ℕ) → begins ≡ does_begin e.tracked.what → n ≡ begun story → more_if begins n ≡ begun (e ∷ story)
+begun_more story e begins n is were = ap (λ (b : Bool). more_if b n) is ∙ ap (more_if (does_begin e.tracked.what)) were ∙ sym (sum_by-cons (λ (x : Entry). cond (does_begin x.tracked.what) 1 0) e story)
+
+-- what is added for a test is one where it holds
+pub more_by_test : (b : Bool) (n : ℕ) → n + bool_byte b ≡ more_if b n
+more_by_test true n = omega arith
+more_by_test false n = omega arith
+
+-- it is at most one
+pub test_most : (b : Bool) → bool_byte b ≤ 1
+test_most true = omega arith
+test_most false = omega arith
 
 raised : (ns : List ℕ) (i j : ℕ) (same : Bool) → (i == j) ≡ same → i < length ns → slice_index (set ns i (slice_index ns i + 1)) j ≡ more_if same (slice_index ns j)
 raised ns i j true e lt =

@@ -17,7 +17,7 @@ use Rattle.report.specs.steps.Bounds.{AllWithin}
 use Rattle.report.specs.steps.Noting.{noted}
 use Rattle.report.specs.steps.Tallying.{counted_all}
 use Rattle.report.proofs.Tallied.{wider, within_all, tallies_more}
-use Rattle.report.proofs.Ended.{more_if, passed_more, local_more, dropped_more}
+use Rattle.report.proofs.Ended.{more_if, passed_more, local_more, dropped_more, begun_more}
 use Rattle.report.proofs.NotedLines.{rest_more}
 
 -- ---- the bounds
@@ -53,13 +53,13 @@ same_counts : (size size' : ℕ) (es es' : List Event) (ts : Tallies) → size �
 same_counts size size' es es' ts hs he = rw (hs, he)
 
 -- a report that knows this of a story, and of one entry more as much as is told of it
-pub reports_more : (old known : Known) (rules : List TableTree) (trace : Bool) (story : List Entry) (told : Text) (e : Entry) (entry : lent.Entry) (sent kept : ℕ) (lost : List ℕ) (ts : Tallies) (notes : List Note)
+pub reports_more : (old known : Known) (rules : List TableTree) (trace : Bool) (story : List Entry) (told : Text) (e : Entry) (entry : lent.Entry) (sent kept : ℕ) (lost : List ℕ) (begins : ℕ) (ts : Tallies) (notes : List Note)
     → old ≡ known → Reports known rules trace story told → IsEntry e story entry
     → AllWithin ((old.records + 1) * 2 ^ 64) ((old.records + 1) * 2 ^ 80) old.tallies → known.records < 2 ^ 32 → length entry.events.now < 2 ^ 64 → entry.length < 2 ^ 16
     → sent ≡ more_if (is_passed entry.outcome) old.passed → kept ≡ more_if (is_local entry.outcome) old.local → ((cause : Cause) → slice_index lost (place cause) ≡ more_if (is_dropped_for cause entry.outcome) (drops_of old cause))
-    → ts ≡ counted_all entry.length entry.events.now old.tallies → notes ≡ old.notes ++ noted old.traces entry.number entry.events.now entry.outcome
-    → Reports (record { records = old.records + 1; passed = sent; local = kept; dropped = lost; tallies = ts; traces = old.traces; notes = notes }) rules trace (e ∷ story) told
-reports_more old known rules trace story told e entry sent kept lost ts notes same stood is within known_few events_few small sent_is kept_is lost_is ts_is notes_is =
+    → begins ≡ more_if entry.begun old.begun → ts ≡ counted_all entry.length entry.events.now old.tallies → notes ≡ old.notes ++ noted old.traces entry.number entry.events.now entry.outcome
+    → Reports (record { records = old.records + 1; passed = sent; local = kept; dropped = lost; begun = begins; tallies = ts; traces = old.traces; notes = notes }) rules trace (e ∷ story) told
+reports_more old known rules trace story told e entry sent kept lost begins ts notes same stood is within known_few events_few small sent_is kept_is lost_is begins_is ts_is notes_is =
     let r : Reports old rules trace story told = subst (λ k. Reports k rules trace story told) (sym same) stood in
     let few : old.records < 2 ^ 32 = omega (arith, known_few, ap (λ (k : Known). k.records) same) in
     let several : length e.events < 2 ^ 64 = rw (← is.events) events_few in
@@ -73,6 +73,7 @@ reports_more old known rules trace story told e entry sent kept lost ts notes sa
       passed_are = sent_is ∙ passed_more story e entry.outcome old.passed is.outcome r.passed_are;
       local_are = kept_is ∙ local_more story e entry.outcome old.local is.outcome r.local_are;
       dropped_are = λ cause. lost_is cause ∙ dropped_more cause story e entry.outcome (drops_of old cause) is.outcome (r.dropped_are cause);
+      begun_are = begins_is ∙ begun_more story e entry.begun old.begun is.begun r.begun_are;
       tallies_are = λ at start h. ap (λ xs. tally_at xs at) counts
           ∙ tallies_more rules story e old.tallies ((old.records + 1) * 2 ^ 64) ((old.records + 1) * 2 ^ 80) within (omega (arith, few, several)) (omega (arith, few, bytes)) r.tallies_are at start h;
       traces_so = r.traces_so;

@@ -15,7 +15,7 @@ returns-in_err-put_notes-clause-wrote g c =
     let t = c.args.totals.now in
     let first = flat_map (note_line (tables_of c.args.rules.now)) c.args.notes.now in
     let second = told_tables c.args.tallies.now 0 (tables_of c.args.rules.now) in
-    let third = number_lines t.records t.passed t.local (drops_in t.dropped.now) t.live t.torn in
+    let third = number_lines t.records t.passed t.local (drops_in t.dropped.now) t.begun t.live t.torn in
     rw p.1 (part_empty _ _ _ _ c.new-page.ensures (left_part _ _ _ _ _ _ first (second ++ third) _ (left_start _ _ _) (append_assoc first second third) c.in_err-put_notes.ensures.puts))
 
 pub returns-in_err-put_counters-clause-wrote : goal.returns-in_err-put_counters-clause-wrote
@@ -24,7 +24,7 @@ returns-in_err-put_counters-clause-wrote g c =
     let t = c.args.totals.now in
     let first = flat_map (note_line (tables_of c.args.rules.now)) c.args.notes.now in
     let second = told_tables c.args.tallies.now 0 (tables_of c.args.rules.now) in
-    let third = number_lines t.records t.passed t.local (drops_in t.dropped.now) t.live t.torn in
+    let third = number_lines t.records t.passed t.local (drops_in t.dropped.now) t.begun t.live t.torn in
     rw p.1 (part_empty _ _ _ _ c.new-page.ensures (left_part _ _ _ _ _ _ second third _
     (left_more _ _ _ _ _ _ _ first (second ++ third) _ (left_start _ _ _) (append_assoc first second third) c.in_ok-put_notes.ensures.puts) refl c.in_err-put_counters.ensures.puts))
 

@@ -8,6 +8,7 @@ invariant_of-result c = record {
   passed_fits = omega arith;
   local_fits = omega arith;
   dropped_fit = λ i. omega (arith, none_at 17 i);
+  begun_fits = omega arith;
   tallies_fit = fresh_fits _ c.in_ok-tallies.ensures.fits;
 }
 
@@ -17,6 +18,7 @@ returns c = record {
   passed_are = refl;
   local_are = refl;
   dropped_are = λ cause. none_at 17 (place cause);
+  begun_are = refl;
   tallies_are = λ at start is. rw c.in_ok-tallies.ensures.starts (fresh_starts _ at start is);
   traces_so = refl;
   rest = rw c.in_ok-notes.ensures.items refl;

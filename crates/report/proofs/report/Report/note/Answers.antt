@@ -1,5 +1,5 @@
-use Rattle.std.proofs.Common.{arith}
-use Rattle.report.proofs.Ended.{drop_more}
+use Rattle.std.proofs.Common.{◌+◌, ap, ◌∙◌, arith}
+use Rattle.report.proofs.Ended.{drop_more, more_by_test, test_most}
 use Rattle.report.proofs.OneMore.{raised_fits, fits_more, tallies_fit_more, reports_more}
 use Rattle.report.specs.contracts.report.Report.{the_view}
 use Rattle.report.proofs.report.Report.note.Goals as goal
@@ -9,6 +9,7 @@ invariant_of-self-in-Passed c = record {
   passed_fits = omega arith;
   local_fits = omega arith;
   dropped_fit = fits_more _ _ c.self.invariant.dropped_fit;
+  begun_fits = omega (arith, test_most c.args.entry.now.begun, c.from.ensures);
   tallies_fit = tallies_fit_more c.self.inside.records c.args.entry.now.length c.args.entry.now.events.now _ _ c.self.invariant.tallies_fit (omega arith) (omega arith) c.count_events.ensures;
 }
 
@@ -17,6 +18,7 @@ invariant_of-self-in-Local c = record {
   passed_fits = omega arith;
   local_fits = omega arith;
   dropped_fit = fits_more _ _ c.self.invariant.dropped_fit;
+  begun_fits = omega (arith, test_most c.args.entry.now.begun, c.from.ensures);
   tallies_fit = tallies_fit_more c.self.inside.records c.args.entry.now.length c.args.entry.now.events.now _ _ c.self.invariant.tallies_fit (omega arith) (omega arith) c.count_events.ensures;
 }
 
@@ -25,20 +27,21 @@ invariant_of-self-in-Dropped c = record {
   passed_fits = omega arith;
   local_fits = omega arith;
   dropped_fit = raised_fits _ _ _ c.self.invariant.dropped_fit;
+  begun_fits = omega (arith, test_most c.args.entry.now.begun, c.from.ensures);
   tallies_fit = tallies_fit_more c.self.inside.records c.args.entry.now.length c.args.entry.now.events.now _ _ c.self.invariant.tallies_fit (omega arith) (omega arith) c.count_events.ensures;
 }
 
 pub returns-in-Passed-clause-noted : goal.returns-in-Passed-clause-noted
 returns-in-Passed-clause-noted c = λ rules trace story told e r is.
-    reports_more (the_view c.self.inside) _ rules trace story told e c.args.entry.now _ _ _ _ _ c.self.view_is r is c.self.invariant.tallies_fit c.requires.few (omega arith) (omega arith)
-    (rw c.in-Passed.is (omega arith)) (rw c.in-Passed.is (omega arith)) (λ cause. rw c.in-Passed.is (omega arith)) c.count_events.ensures (cc)
+    reports_more (the_view c.self.inside) _ rules trace story told e c.args.entry.now _ _ _ _ _ _ c.self.view_is r is c.self.invariant.tallies_fit c.requires.few (omega arith) (omega arith)
+    (rw c.in-Passed.is (omega arith)) (rw c.in-Passed.is (omega arith)) (λ cause. rw c.in-Passed.is (omega arith)) (ap (λ n. c.self.inside.begun + n) c.from.ensures ∙ more_by_test c.args.entry.now.begun c.self.inside.begun) c.count_events.ensures (cc)
 
 pub returns-in-Local-clause-noted : goal.returns-in-Local-clause-noted
 returns-in-Local-clause-noted c = λ rules trace story told e r is.
-    reports_more (the_view c.self.inside) _ rules trace story told e c.args.entry.now _ _ _ _ _ c.self.view_is r is c.self.invariant.tallies_fit c.requires.few (omega arith) (omega arith)
-    (rw c.in-Local.is (omega arith)) (rw c.in-Local.is (omega arith)) (λ cause. rw c.in-Local.is (omega arith)) c.count_events.ensures (cc)
+    reports_more (the_view c.self.inside) _ rules trace story told e c.args.entry.now _ _ _ _ _ _ c.self.view_is r is c.self.invariant.tallies_fit c.requires.few (omega arith) (omega arith)
+    (rw c.in-Local.is (omega arith)) (rw c.in-Local.is (omega arith)) (λ cause. rw c.in-Local.is (omega arith)) (ap (λ n. c.self.inside.begun + n) c.from.ensures ∙ more_by_test c.args.entry.now.begun c.self.inside.begun) c.count_events.ensures (cc)
 
 pub returns-in-Dropped-clause-noted : goal.returns-in-Dropped-clause-noted
 returns-in-Dropped-clause-noted c = λ rules trace story told e r is.
-    reports_more (the_view c.self.inside) _ rules trace story told e c.args.entry.now _ _ _ _ _ c.self.view_is r is c.self.invariant.tallies_fit c.requires.few (omega arith) (omega arith)
-    (rw c.in-Dropped.is (omega arith)) (rw c.in-Dropped.is (omega arith)) (λ cause. rw c.in-Dropped.is (drop_more _ _ _ c.place.ensures.place (omega (arith, c.place.ensures.within, c.self.told)) cause)) c.count_events.ensures (cc)
+    reports_more (the_view c.self.inside) _ rules trace story told e c.args.entry.now _ _ _ _ _ _ c.self.view_is r is c.self.invariant.tallies_fit c.requires.few (omega arith) (omega arith)
+    (rw c.in-Dropped.is (omega arith)) (rw c.in-Dropped.is (omega arith)) (λ cause. rw c.in-Dropped.is (drop_more _ _ _ c.place.ensures.place (omega (arith, c.place.ensures.within, c.self.told)) cause)) (ap (λ n. c.self.inside.begun + n) c.from.ensures ∙ more_by_test c.args.entry.now.begun c.self.inside.begun) c.count_events.ensures (cc)
