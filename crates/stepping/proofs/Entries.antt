@@ -1,26 +1,27 @@
--- After the entries of any story each record has one entry.
-use Rattle.std.proofs.Common.{◌≡◌, ℕ, ◌≤◌, ◌<◌, ◌-◌, Bool, true, false, cond, nat_lt, List, [], drop, Option, Some, None, Result, Ok, Err, refl, sym, ap, subst, ◌∙◌, arith}
+-- After the entries of any story each record has one entry at most, and one where the chains that it meets end.
+use Rattle.std.proofs.Common.{◌≡◌, ℕ, ◌≤◌, ◌<◌, Bool, true, false, cond, nat_lt, List, [], drop, Option, Some, None, Result, Ok, Err, refl, sym, ap, subst, ◌∙◌, arith}
 use borrow.Author.Tests.{ltb-false, ltb-true}
 use Rattle.box_file.specs.Box.{is_own, route}
 use Rattle.ip_headers.specs.declared.view.HeaderFault.{HeaderFault}
 use Rattle.ip_headers.specs.Header.{fault_of, packet_of, destination, ttl}
-use Rattle.ip_headers.specs.Rewritten.{with_ttl}
+use Rattle.conntrack.specs.declared.connection.Held.{Held}
 use Rattle.pcap_io.specs.declared.link.Link.{Link}
 use Rattle.pcap_io.specs.declared.link.LinkCause.{LinkCause}
 use Rattle.pcap_io.specs.Links.{link_of}
 use Rattle.pcap_io.specs.Pcap.{Recorded}
 use Rattle.story.specs.declared.outcome.Cause.{Cause}
 use Rattle.story.specs.declared.outcome.Cause.TheVariants as causes
+use Rattle.story.specs.declared.outcome.Outcome.TheVariants.{Passed, Local}
 use Rattle.story.specs.Story.{Entry}
 use Rattle.rule_meaning.specs.declared.facts.Facts.{Facts}
 use Rattle.rule_meaning.specs.declared.event.Event.{Event}
 use Rattle.rule_meaning.specs.declared.event.Ending.{Ending}
 use Rattle.rule_meaning.specs.Hooks as meaning
-use Rattle.rule_meaning.specs.Hooks.{End, Passage, GoesOn, Stops, Then}
+use Rattle.rule_meaning.specs.Hooks.{End, Passage, GoesOn, Stops, Then, Early}
 use Rattle.rule_meaning.specs.Laws.{AtMostOneEnd}
 use Rattle.rule_laws.specs.Ends.{Ends}
 use Rattle.stepping.specs.Next as next
-use Rattle.stepping.specs.Next.{Setup, Arrived, Carries, Fate, Arrives, Delivers, Departs, FaresOn, FaresBy, Fares, FaresAs, Next, arriving, departing, dropped, kept, sent_on, entered, link_cause, cause_of, entry_of}
+use Rattle.stepping.specs.Next.{Setup, Arrived, Carries, Course, Fate, Arrives, Delivers, Departs, LeadsOn, LeadsBy, Leads, FaresIn, Fares, FaresAs, Next, arriving, departing, dropped, through, with_tracking, tracking_among, sought_of, unseen, settled, entered, link_cause, cause_of, live_at_record, entry_of}
 use Rattle.stepping.specs.steps.Parts.{goes_on}
 use Rattle.stepping.proofs.HookRuns.{on_of, off_of}
 
@@ -102,188 +103,234 @@ end_by_test first second two f es m r false is = (m, meaning.stops r (off_of m.e
 pub ends_then : (first second : Passage) → Ends first → Ends second → Ends (Then first second)
 ends_then first second one two f es = let q = one f es in end_by_test first second two f es q.0 q.1 (goes_on q.0.ending) refl
 
--- ---- how a packet fares
+-- ---- how a packet is led
 
-module _ (setup : Setup) (a : Arrived) where
-  abbrev p : List ℕ
-  p = a.packet
+going : (ending : Ending) → GoesOn ending → goes_on ending ≡ true
+going ending on = by_test (goes_on ending) refl
+  where
+    by_test : (b : Bool) → goes_on ending ≡ b → goes_on ending ≡ true
+    by_test true is = is
+    by_test false is = absurd (off_of ending is on)
 
+stopping : (ending : Ending) → Stops ending → goes_on ending ≡ false
+stopping ending off = by_test (goes_on ending) refl
+  where
+    by_test : (b : Bool) → goes_on ending ≡ b → goes_on ending ≡ false
+    by_test true is = absurd (off (on_of ending is))
+    by_test false is = is
+
+module _ (setup : Setup) (p : List ℕ) where
   abbrev own : Bool
   own = is_own setup.plant (destination p)
 
   abbrev way : Option ℕ
   way = route setup.plant (destination p)
 
-  -- ---- one fate
+  -- ---- one course
 
   -- what the chains on input make of it
-  abbrev by_local : End → Fate
-  by_local local = cond (goes_on local.ending) (kept local.events) (dropped causes.Rule local.events)
+  abbrev by_local : End → Course
+  by_local local = cond (goes_on local.ending) (through Local local) (dropped causes.Rule local.events)
 
-  abbrev by_departure : ℕ → End → Fate
-  by_departure interface departure = cond (goes_on departure.ending) (sent_on interface departure.events (with_ttl p (ttl p - 1))) (dropped causes.Rule departure.events)
+  -- what the chains on its way out make of it
+  abbrev by_departure : ℕ → End → Course
+  by_departure interface departure = cond (goes_on departure.ending) (through (Passed interface) departure) (dropped causes.Rule departure.events)
 
-  going : (ending : Ending) → GoesOn ending → goes_on ending ≡ true
-  going ending on = by_test (goes_on ending) refl
-    where
-      by_test : (b : Bool) → goes_on ending ≡ b → goes_on ending ≡ true
-      by_test true is = is
-      by_test false is = absurd (off_of ending is on)
-
-  stopping : (ending : Ending) → Stops ending → goes_on ending ≡ false
-  stopping ending off = by_test (goes_on ending) refl
-    where
-      by_test : (b : Bool) → goes_on ending ≡ b → goes_on ending ≡ false
-      by_test true is = absurd (off (on_of ending is))
-      by_test false is = is
-
-  local_on : (local : End) → GoesOn local.ending → kept local.events ≡ by_local local
-  local_on local on = sym (ap (λ b. let f : Fate = cond b (kept local.events) (dropped causes.Rule local.events) in f) (going local.ending on))
+  local_on : (local : End) → GoesOn local.ending → through Local local ≡ by_local local
+  local_on local on = sym (ap (λ b. let course : Course = cond b (through Local local) (dropped causes.Rule local.events) in course) (going local.ending on))
 
   local_off : (local : End) → Stops local.ending → dropped causes.Rule local.events ≡ by_local local
-  local_off local off = sym (ap (λ b. let f : Fate = cond b (kept local.events) (dropped causes.Rule local.events) in f) (stopping local.ending off))
+  local_off local off = sym (ap (λ b. let course : Course = cond b (through Local local) (dropped causes.Rule local.events) in course) (stopping local.ending off))
 
-  departure_on : (interface : ℕ) (departure : End) → GoesOn departure.ending → sent_on interface departure.events (with_ttl p (ttl p - 1)) ≡ by_departure interface departure
-  departure_on interface departure on = sym (ap (λ b. let f : Fate = cond b (sent_on interface departure.events (with_ttl p (ttl p - 1))) (dropped causes.Rule departure.events) in f) (going departure.ending on))
+  departure_on : (interface : ℕ) (departure : End) → GoesOn departure.ending → through (Passed interface) departure ≡ by_departure interface departure
+  departure_on interface departure on = sym (ap (λ b. let course : Course = cond b (through (Passed interface) departure) (dropped causes.Rule departure.events) in course) (going departure.ending on))
 
   departure_off : (interface : ℕ) (departure : End) → Stops departure.ending → dropped causes.Rule departure.events ≡ by_departure interface departure
-  departure_off interface departure off = sym (ap (λ b. let f : Fate = cond b (sent_on interface departure.events (with_ttl p (ttl p - 1))) (dropped causes.Rule departure.events) in f) (stopping departure.ending off))
+  departure_off interface departure off = sym (ap (λ b. let course : Course = cond b (through (Passed interface) departure) (dropped causes.Rule departure.events) in course) (stopping departure.ending off))
 
   module _ (arrival : End) where
-    abbrev IsLocal : Fate → Type 0
-    IsLocal fate = (local : End) × Delivers setup arrival.facts arrival.events local × (fate ≡ by_local local)
+    abbrev IsLocal : Course → Type 0
+    IsLocal course = (local : End) × Delivers setup arrival.facts arrival.events local × (course ≡ by_local local)
 
-    abbrev Leaves : ℕ → Fate → Type 0
-    Leaves interface fate = (departure : End) × Departs setup (departing setup interface arrival.facts) arrival.events departure × (fate ≡ by_departure interface departure)
+    abbrev Leaves : ℕ → Course → Type 0
+    Leaves interface course = (departure : End) × Departs setup (departing setup interface arrival.facts) arrival.events departure × (course ≡ by_departure interface departure)
 
-    of_own : own ≡ true → (fate : Fate) → FaresOn setup p arrival fate → IsLocal fate
-    of_own is fate (next.delivered local o d on) = (local, d, local_on local on)
-    of_own is fate (next.not_delivered local o d off) = (local, d, local_off local off)
-    of_own is fate (next.without_route o w) = absurd (both own is o)
-    of_own is fate (next.at_last_hop i o w t) = absurd (both own is o)
-    of_own is fate (next.leaves i departure o w t d on) = absurd (both own is o)
-    of_own is fate (next.stays i departure o w t d off) = absurd (both own is o)
+    of_own : own ≡ true → (course : Course) → LeadsOn setup p arrival course → IsLocal course
+    of_own is course (next.delivered local o d on) = (local, d, local_on local on)
+    of_own is course (next.not_delivered local o d off) = (local, d, local_off local off)
+    of_own is course (next.without_route o w) = absurd (both own is o)
+    of_own is course (next.at_last_hop i o w t) = absurd (both own is o)
+    of_own is course (next.leaves i departure o w t d on) = absurd (both own is o)
+    of_own is course (next.stays i departure o w t d off) = absurd (both own is o)
 
-    of_none : own ≡ false → way ≡ None → (fate : Fate) → FaresOn setup p arrival fate → fate ≡ dropped causes.Route arrival.events
-    of_none is none fate (next.delivered local o d on) = absurd (both own o is)
-    of_none is none fate (next.not_delivered local o d off) = absurd (both own o is)
-    of_none is none fate (next.without_route o w) = refl
-    of_none is none fate (next.at_last_hop i o w t) = absurd (none_or_some way i none w)
-    of_none is none fate (next.leaves i departure o w t d on) = absurd (none_or_some way i none w)
-    of_none is none fate (next.stays i departure o w t d off) = absurd (none_or_some way i none w)
+    of_none : own ≡ false → way ≡ None → (course : Course) → LeadsOn setup p arrival course → course ≡ dropped causes.Route arrival.events
+    of_none is none course (next.delivered local o d on) = absurd (both own o is)
+    of_none is none course (next.not_delivered local o d off) = absurd (both own o is)
+    of_none is none course (next.without_route o w) = refl
+    of_none is none course (next.at_last_hop i o w t) = absurd (none_or_some way i none w)
+    of_none is none course (next.leaves i departure o w t d on) = absurd (none_or_some way i none w)
+    of_none is none course (next.stays i departure o w t d off) = absurd (none_or_some way i none w)
 
-    of_last : (interface : ℕ) → own ≡ false → way ≡ Some interface → ttl p < 2 → (fate : Fate) → FaresOn setup p arrival fate → fate ≡ dropped causes.Ttl arrival.events
-    of_last interface is by low fate (next.delivered local o d on) = absurd (both own o is)
-    of_last interface is by low fate (next.not_delivered local o d off) = absurd (both own o is)
-    of_last interface is by low fate (next.without_route o w) = absurd (none_or_some way interface w by)
-    of_last interface is by low fate (next.at_last_hop i o w t) = refl
-    of_last interface is by low fate (next.leaves i departure o w t d on) = absurd (omega (arith, low, t))
-    of_last interface is by low fate (next.stays i departure o w t d off) = absurd (omega (arith, low, t))
+    of_last : (interface : ℕ) → own ≡ false → way ≡ Some interface → ttl p < 2 → (course : Course) → LeadsOn setup p arrival course → course ≡ dropped causes.Ttl arrival.events
+    of_last interface is by low course (next.delivered local o d on) = absurd (both own o is)
+    of_last interface is by low course (next.not_delivered local o d off) = absurd (both own o is)
+    of_last interface is by low course (next.without_route o w) = absurd (none_or_some way interface w by)
+    of_last interface is by low course (next.at_last_hop i o w t) = refl
+    of_last interface is by low course (next.leaves i departure o w t d on) = absurd (omega (arith, low, t))
+    of_last interface is by low course (next.stays i departure o w t d off) = absurd (omega (arith, low, t))
 
-    of_way : (interface : ℕ) → own ≡ false → way ≡ Some interface → 2 ≤ ttl p → (fate : Fate) → FaresOn setup p arrival fate → Leaves interface fate
-    of_way interface is by more fate (next.delivered local o d on) = absurd (both own o is)
-    of_way interface is by more fate (next.not_delivered local o d off) = absurd (both own o is)
-    of_way interface is by more fate (next.without_route o w) = absurd (none_or_some way interface w by)
-    of_way interface is by more fate (next.at_last_hop i o w t) = absurd (omega (arith, more, t))
-    of_way interface is by more fate (next.leaves i departure o w t d on) = subst (λ (j : ℕ). Leaves j fate) (same_some way i interface w by) (departure, d, departure_on i departure on)
-    of_way interface is by more fate (next.stays i departure o w t d off) = subst (λ (j : ℕ). Leaves j fate) (same_some way i interface w by) (departure, d, departure_off i departure off)
+    of_way : (interface : ℕ) → own ≡ false → way ≡ Some interface → 2 ≤ ttl p → (course : Course) → LeadsOn setup p arrival course → Leaves interface course
+    of_way interface is by more course (next.delivered local o d on) = absurd (both own o is)
+    of_way interface is by more course (next.not_delivered local o d off) = absurd (both own o is)
+    of_way interface is by more course (next.without_route o w) = absurd (none_or_some way interface w by)
+    of_way interface is by more course (next.at_last_hop i o w t) = absurd (omega (arith, more, t))
+    of_way interface is by more course (next.leaves i departure o w t d on) = subst (λ (j : ℕ). Leaves j course) (same_some way i interface w by) (departure, d, departure_on i departure on)
+    of_way interface is by more course (next.stays i departure o w t d off) = subst (λ (j : ℕ). Leaves j course) (same_some way i interface w by) (departure, d, departure_off i departure off)
 
-    module _ (one_local : AtMostOneEnd (Delivers setup)) (one_departure : AtMostOneEnd (Departs setup)) (fate other : Fate) (x : FaresOn setup p arrival fate) (y : FaresOn setup p arrival other) where
-      same_local : IsLocal fate → IsLocal other → fate ≡ other
+    module _ (one_local : AtMostOneEnd (Delivers setup)) (one_departure : AtMostOneEnd (Departs setup)) (course other : Course) (x : LeadsOn setup p arrival course) (y : LeadsOn setup p arrival other) where
+      same_local : IsLocal course → IsLocal other → course ≡ other
       same_local m n = m.2 ∙ ap by_local (one_local arrival.facts arrival.events m.0 n.0 m.1 n.1) ∙ sym n.2
 
-      same_departure : (interface : ℕ) → Leaves interface fate → Leaves interface other → fate ≡ other
+      same_departure : (interface : ℕ) → Leaves interface course → Leaves interface other → course ≡ other
       same_departure i m n = m.2 ∙ ap (by_departure i) (one_departure (departing setup i arrival.facts) arrival.events m.0 n.0 m.1 n.1) ∙ sym n.2
 
-      one_by_ttl : (interface : ℕ) → own ≡ false → way ≡ Some interface → (t : Bool) → nat_lt (ttl p) 2 ≡ t → fate ≡ other
-      one_by_ttl i o w true is = let low : ttl p < 2 = ltb-true (ttl p) 2 is in of_last i o w low fate x ∙ sym (of_last i o w low other y)
-      one_by_ttl i o w false is = let more : 2 ≤ ttl p = ltb-false (ttl p) 2 is in same_departure i (of_way i o w more fate x) (of_way i o w more other y)
+      one_by_ttl : (interface : ℕ) → own ≡ false → way ≡ Some interface → (t : Bool) → nat_lt (ttl p) 2 ≡ t → course ≡ other
+      one_by_ttl i o w true is = let low : ttl p < 2 = ltb-true (ttl p) 2 is in of_last i o w low course x ∙ sym (of_last i o w low other y)
+      one_by_ttl i o w false is = let more : 2 ≤ ttl p = ltb-false (ttl p) 2 is in same_departure i (of_way i o w more course x) (of_way i o w more other y)
 
-      one_by_way : own ≡ false → (found : Option ℕ) → way ≡ found → fate ≡ other
-      one_by_way o None w = of_none o w fate x ∙ sym (of_none o w other y)
+      one_by_way : own ≡ false → (found : Option ℕ) → way ≡ found → course ≡ other
+      one_by_way o None w = of_none o w course x ∙ sym (of_none o w other y)
       one_by_way o (Some i) w = one_by_ttl i o w (nat_lt (ttl p) 2) refl
 
-      one_by_own : (o : Bool) → own ≡ o → fate ≡ other
-      one_by_own true is = same_local (of_own is fate x) (of_own is other y)
+      one_by_own : (o : Bool) → own ≡ o → course ≡ other
+      one_by_own true is = same_local (of_own is course x) (of_own is other y)
       one_by_own false is = one_by_way is way refl
 
-      one_fares_on : fate ≡ other
-      one_fares_on = one_by_own own refl
+      one_leads_on : course ≡ other
+      one_leads_on = one_by_own own refl
 
-    -- ---- some fate
+    -- ---- some course
 
-    abbrev SomeFate : Type 0
-    SomeFate = (fate : Fate) × FaresOn setup p arrival fate
+    abbrev SomeCourse : Type 0
+    SomeCourse = (course : Course) × LeadsOn setup p arrival course
 
     module _ (local_ends : Ends (Delivers setup)) (departure_ends : Ends (Departs setup)) where
-      some_local : own ≡ true → (local : End) → Delivers setup arrival.facts arrival.events local → (b : Bool) → goes_on local.ending ≡ b → SomeFate
-      some_local o local d true is = (kept local.events, next.delivered local o d (on_of local.ending is))
+      some_local : own ≡ true → (local : End) → Delivers setup arrival.facts arrival.events local → (b : Bool) → goes_on local.ending ≡ b → SomeCourse
+      some_local o local d true is = (through Local local, next.delivered local o d (on_of local.ending is))
       some_local o local d false is = (dropped causes.Rule local.events, next.not_delivered local o d (off_of local.ending is))
 
-      some_departure : (i : ℕ) → own ≡ false → way ≡ Some i → 2 ≤ ttl p → (departure : End) → Departs setup (departing setup i arrival.facts) arrival.events departure → (b : Bool) → goes_on departure.ending ≡ b → SomeFate
-      some_departure i o w t departure d true is = (sent_on i departure.events (with_ttl p (ttl p - 1)), next.leaves i departure o w t d (on_of departure.ending is))
+      some_departure : (i : ℕ) → own ≡ false → way ≡ Some i → 2 ≤ ttl p → (departure : End) → Departs setup (departing setup i arrival.facts) arrival.events departure → (b : Bool) → goes_on departure.ending ≡ b → SomeCourse
+      some_departure i o w t departure d true is = (through (Passed i) departure, next.leaves i departure o w t d (on_of departure.ending is))
       some_departure i o w t departure d false is = (dropped causes.Rule departure.events, next.stays i departure o w t d (off_of departure.ending is))
 
-      some_by_ttl : (i : ℕ) → own ≡ false → way ≡ Some i → (t : Bool) → nat_lt (ttl p) 2 ≡ t → SomeFate
+      some_by_ttl : (i : ℕ) → own ≡ false → way ≡ Some i → (t : Bool) → nat_lt (ttl p) 2 ≡ t → SomeCourse
       some_by_ttl i o w true is = (dropped causes.Ttl arrival.events, next.at_last_hop i o w (ltb-true (ttl p) 2 is))
       some_by_ttl i o w false is =
           let q = departure_ends (departing setup i arrival.facts) arrival.events in
           some_departure i o w (ltb-false (ttl p) 2 is) q.0 q.1 (goes_on q.0.ending) refl
 
-      some_by_way : own ≡ false → (found : Option ℕ) → way ≡ found → SomeFate
+      some_by_way : own ≡ false → (found : Option ℕ) → way ≡ found → SomeCourse
       some_by_way o None w = (dropped causes.Route arrival.events, next.without_route o w)
       some_by_way o (Some i) w = some_by_ttl i o w (nat_lt (ttl p) 2) refl
 
-      some_by_own : (o : Bool) → own ≡ o → SomeFate
+      some_by_own : (o : Bool) → own ≡ o → SomeCourse
       some_by_own true is = let q = local_ends arrival.facts arrival.events in some_local is q.0 q.1 (goes_on q.0.ending) refl
       some_by_own false is = some_by_way is way refl
 
-      some_fares_on : SomeFate
-      some_fares_on = some_by_own own refl
+      some_leads_on : SomeCourse
+      some_leads_on = some_by_own own refl
 
   -- ---- by its arrival
 
-  abbrev Ways : Fate → End → Type 0
-  Ways fate arrival = FaresBy setup p arrival fate
+  abbrev Ways : Course → End → Type 0
+  Ways course arrival = LeadsBy setup p arrival course
 
-  one_by : AtMostOneEnd (Delivers setup) → AtMostOneEnd (Departs setup) → (arrival : End) (fate other : Fate) → FaresBy setup p arrival fate → FaresBy setup p arrival other → (b : Bool) → goes_on arrival.ending ≡ b → fate ≡ other
-  one_by one_local one_departure arrival fate other x y true is = one_fares_on arrival one_local one_departure fate other (x.1 (on_of arrival.ending is)) (y.1 (on_of arrival.ending is))
-  one_by one_local one_departure arrival fate other x y false is = x.0 (off_of arrival.ending is) ∙ sym (y.0 (off_of arrival.ending is))
+  one_by : AtMostOneEnd (Delivers setup) → AtMostOneEnd (Departs setup) → (arrival : End) (course other : Course) → LeadsBy setup p arrival course → LeadsBy setup p arrival other → (b : Bool) → goes_on arrival.ending ≡ b → course ≡ other
+  one_by one_local one_departure arrival course other x y true is = one_leads_on arrival one_local one_departure course other (x.1 (on_of arrival.ending is)) (y.1 (on_of arrival.ending is))
+  one_by one_local one_departure arrival course other x y false is = x.0 (off_of arrival.ending is) ∙ sym (y.0 (off_of arrival.ending is))
 
-  one_fares : AtMostOneEnd (Arrives setup) → AtMostOneEnd (Delivers setup) → AtMostOneEnd (Departs setup) → (fate other : Fate) → Fares setup a fate → Fares setup a other → fate ≡ other
-  one_fares one_arrival one_local one_departure fate other x y =
-      let same : y.arrival ≡ x.arrival = one_arrival (arriving setup a) [] y.arrival x.arrival y.arrived x.arrived in
-      one_by one_local one_departure x.arrival fate other x.by (subst (Ways other) same y.by) (goes_on x.arrival.ending) refl
+  -- rules lead it in one way at most
+  one_leads : AtMostOneEnd (Arrives setup) → AtMostOneEnd (Delivers setup) → AtMostOneEnd (Departs setup) → (f : Facts) (es : List Event) (course other : Course) → Leads setup p f es course → Leads setup p f es other → course ≡ other
+  one_leads one_arrival one_local one_departure f es course other x y =
+      let same : y.arrival ≡ x.arrival = one_arrival f es y.arrival x.arrival y.arrived x.arrived in
+      one_by one_local one_departure x.arrival course other x.by (subst (Ways other) same y.by) (goes_on x.arrival.ending) refl
 
-  some_by : Ends (Delivers setup) → Ends (Departs setup) → (arrival : End) → (b : Bool) → goes_on arrival.ending ≡ b → (fate : Fate) × FaresBy setup p arrival fate
-  some_by local_ends departure_ends arrival true is = let q = some_fares_on arrival local_ends departure_ends in (q.0, (λ stops. absurd (stops (on_of arrival.ending is)), λ _. q.1))
+  some_by : Ends (Delivers setup) → Ends (Departs setup) → (arrival : End) → (b : Bool) → goes_on arrival.ending ≡ b → (course : Course) × LeadsBy setup p arrival course
+  some_by local_ends departure_ends arrival true is = let q = some_leads_on arrival local_ends departure_ends in (q.0, (λ stops. absurd (stops (on_of arrival.ending is)), λ _. q.1))
   some_by local_ends departure_ends arrival false is = (dropped causes.Rule arrival.events, (λ _. refl, λ on. absurd (off_of arrival.ending is on)))
 
-  some_fares : Ends (Arrives setup) → Ends (Delivers setup) → Ends (Departs setup) → (fate : Fate) × Fares setup a fate
-  some_fares arrival_ends local_ends departure_ends =
-      let q = arrival_ends (arriving setup a) [] in
+  -- and in one, where each of their passages ends
+  some_leads : Ends (Arrives setup) → Ends (Delivers setup) → Ends (Departs setup) → (f : Facts) (es : List Event) → (course : Course) × Leads setup p f es course
+  some_leads arrival_ends local_ends departure_ends f es =
+      let q = arrival_ends f es in
       let r = some_by local_ends departure_ends q.0 (goes_on q.0.ending) refl in
       (r.0, record { arrival = q.0; arrived = q.1; by = r.1 })
+
+-- ---- how it fares
+
+module _ (setup : Setup) (live : List Held) (a : Arrived) where
+  abbrev sought_facts : End → Facts
+  sought_facts early = with_tracking (tracking_among live (sought_of a.packet)) early.facts
+
+  -- what the early chains make of it
+  abbrev FaresBy : Fate → End → Type 0
+  FaresBy fate early = (Stops early.ending → fate ≡ unseen (dropped causes.Rule early.events)) × (GoesOn early.ending → FaresIn setup live a early fate)
+
+  module _ (one_arrival : AtMostOneEnd (Arrives setup)) (one_local : AtMostOneEnd (Delivers setup)) (one_departure : AtMostOneEnd (Departs setup)) where
+    -- its course is one, and the last step follows from it
+    one_in : (early : End) (fate other : Fate) → FaresIn setup live a early fate → FaresIn setup live a early other → fate ≡ other
+    one_in early fate other x y =
+        let same : x.course ≡ y.course = one_leads setup a.packet one_arrival one_local one_departure (sought_facts early) early.events x.course y.course x.leads y.leads in
+        x.is ∙ ap (settled live (sought_of a.packet)) same ∙ sym y.is
+
+    one_from : (early : End) (fate other : Fate) → FaresBy fate early → FaresBy other early → (b : Bool) → goes_on early.ending ≡ b → fate ≡ other
+    one_from early fate other x y true is = one_in early fate other (x.1 (on_of early.ending is)) (y.1 (on_of early.ending is))
+    one_from early fate other x y false is = x.0 (off_of early.ending is) ∙ sym (y.0 (off_of early.ending is))
+
+    one_fares : AtMostOneEnd (Early setup.plant setup.rules) → (fate other : Fate) → Fares setup live a fate → Fares setup live a other → fate ≡ other
+    one_fares one_early fate other x y =
+        let same : y.early ≡ x.early = one_early (arriving setup a) [] y.early x.early y.first x.first in
+        one_from x.early fate other (x.stopped, x.goes_on) (subst (FaresBy other) same (y.stopped, y.goes_on)) (goes_on x.early.ending) refl
+
+  module _ (arrival_ends : Ends (Arrives setup)) (local_ends : Ends (Delivers setup)) (departure_ends : Ends (Departs setup)) where
+    some_in : (early : End) → (fate : Fate) × FaresIn setup live a early fate
+    some_in early =
+        let q = some_leads setup a.packet arrival_ends local_ends departure_ends (sought_facts early) early.events in
+        (settled live (sought_of a.packet) q.0, record { course = q.0; leads = q.1; is = refl })
+
+    some_from : (early : End) → (b : Bool) → goes_on early.ending ≡ b → (fate : Fate) × FaresBy fate early
+    some_from early true is = let q = some_in early in (q.0, (λ stops. absurd (stops (on_of early.ending is)), λ _. q.1))
+    some_from early false is = (unseen (dropped causes.Rule early.events), (λ _. refl, λ on. absurd (off_of early.ending is on)))
+
+    some_fares : Ends (Early setup.plant setup.rules) → (fate : Fate) × Fares setup live a fate
+    some_fares early_ends =
+        let q = early_ends (arriving setup a) [] in
+        let r = some_from q.0 (goes_on q.0.ending) refl in
+        (r.0, record { early = q.0; first = q.1; stopped = r.1.0; goes_on = r.1.1 })
 
 -- ---- the entry
 
 module _ (setup : Setup) where
-  one_fate : AtMostOneEnd (Arrives setup) → AtMostOneEnd (Delivers setup) → AtMostOneEnd (Departs setup) → (arrived : Result Arrived Cause) (fate other : Fate) → FaresAs setup arrived fate → FaresAs setup arrived other → fate ≡ other
-  one_fate arrival local departure (Ok a) fate other x y = one_fares setup a arrival local departure fate other x y
-  one_fate arrival local departure (Err cause) fate other x y = x ∙ sym y
+  module _ (early : AtMostOneEnd (Early setup.plant setup.rules)) (arrival : AtMostOneEnd (Arrives setup)) (local : AtMostOneEnd (Delivers setup)) (departure : AtMostOneEnd (Departs setup)) where
+    one_fate : (live : List Held) (arrived : Result Arrived Cause) (fate other : Fate) → FaresAs setup live arrived fate → FaresAs setup live arrived other → fate ≡ other
+    one_fate live (Ok a) fate other x y = one_fares setup live a arrival local departure early fate other x y
+    one_fate live (Err cause) fate other x y = x ∙ sym y
 
-  some_fate : Ends (Arrives setup) → Ends (Delivers setup) → Ends (Departs setup) → (arrived : Result Arrived Cause) → (fate : Fate) × FaresAs setup arrived fate
-  some_fate arrival local departure (Ok a) = some_fares setup a arrival local departure
-  some_fate arrival local departure (Err cause) = (dropped cause [], refl)
+    -- a record has one entry at most, where each passage ends in one way at most
+    pub one_next : (story : List Entry) (r : Recorded) (e other : Entry) → Next setup story r e → Next setup story r other → e ≡ other
+    one_next story r e other n m =
+        let same : m.arrived ≡ n.arrived = one_carried setup r m.arrived n.arrived m.carried n.carried in
+        let fates = one_fate (live_at_record story r) n.arrived n.fate m.fate n.fares (subst (λ (k : Result Arrived Cause). FaresAs setup (live_at_record story r) k m.fate) same m.fares) in
+        n.is ∙ ap (entry_of story r n.arrived) fates ∙ ap (λ (k : Result Arrived Cause). entry_of story r k m.fate) (sym same) ∙ sym m.is
 
-  pub one_next : AtMostOneEnd (Arrives setup) → AtMostOneEnd (Delivers setup) → AtMostOneEnd (Departs setup) → (story : List Entry) (r : Recorded) (e other : Entry) → Next setup story r e → Next setup story r other → e ≡ other
-  one_next arrival local departure story r e other n m =
-      let same : m.arrived ≡ n.arrived = one_carried setup r m.arrived n.arrived m.carried n.carried in
-      let fates = one_fate arrival local departure n.arrived n.fate m.fate n.fares (subst (λ (k : Result Arrived Cause). FaresAs setup k m.fate) same m.fares) in
-      n.is ∙ ap (entry_of story r n.arrived) fates ∙ ap (λ (k : Result Arrived Cause). entry_of story r k m.fate) (sym same) ∙ sym m.is
+  module _ (early : Ends (Early setup.plant setup.rules)) (arrival : Ends (Arrives setup)) (local : Ends (Delivers setup)) (departure : Ends (Departs setup)) where
+    some_fate : (live : List Held) (arrived : Result Arrived Cause) → (fate : Fate) × FaresAs setup live arrived fate
+    some_fate live (Ok a) = some_fares setup live a arrival local departure early
+    some_fate live (Err cause) = (unseen (dropped cause []), refl)
 
-  pub some_next : Ends (Arrives setup) → Ends (Delivers setup) → Ends (Departs setup) → (story : List Entry) (r : Recorded) → (e : Entry) × Next setup story r e
-  some_next arrival local departure story r =
-      let c = some_carried setup r in
-      let q = some_fate arrival local departure c.0 in
-      (entry_of story r c.0 q.0, record { arrived = c.0; carried = c.1; fate = q.0; fares = q.1; is = refl })
+    -- and it has one, where each passage ends
+    pub some_next : (story : List Entry) (r : Recorded) → (e : Entry) × Next setup story r e
+    some_next story r =
+        let c = some_carried setup r in
+        let q = some_fate (live_at_record story r) c.0 in
+        (entry_of story r c.0 q.0, record { arrived = c.0; carried = c.1; fate = q.0; fares = q.1; is = refl })
