@@ -1,5 +1,5 @@
 -- What the last step of a packet comes to, by how the rules led it and what it belongs to.
-use Rattle.std.proofs.Common.{◌≡◌, ℕ, ◌≤◌, ◌<◌, ⊥, Bool, true, false, cond, List, [], ◌∷◌, ◌++◌, length, Option, Some, None, refl, sym, ap, subst, ◌∙◌}
+use Rattle.std.proofs.Common.{◌≡◌, ℕ, ◌≤◌, ◌<◌, Bool, true, false, cond, List, [], ◌∷◌, ◌++◌, length, Option, Some, None, refl, sym, ap, subst, ◌∙◌}
 use Rattle.std.specs.Prelude.{nat_le, ◌||◌}
 use Rattle.std.proofs.lemmas.Bool.{le-leb, lt-leb, leb-true, leb-false}
 use Rattle.ip_headers.specs.declared.tuple.Kind.{Kind}
@@ -24,7 +24,7 @@ use Rattle.stepping.specs.declared.settling.Led.{Led}
 use Rattle.stepping.specs.declared.settling.Settled.{Settled}
 use Rattle.stepping.specs.declared.sought.Sought.{Sought}
 use Rattle.stepping.specs.Next.{Course, Fate, begun_unless, counted, counted_by, refusal, settled_as, uncounted}
-use Rattle.stepping.specs.steps.Settling.{Settles, after_sighting, begins_so, course_of, goes_through}
+use Rattle.stepping.specs.steps.Settling.{Settles, after_sighting, begins_so, course_of, goes_through, is_answer}
 
 -- ---- which fate it is
 
@@ -34,17 +34,29 @@ dropped_is_uncounted (Passed interface) old s b course h = cc
 dropped_is_uncounted Local old s b course h = cc
 dropped_is_uncounted (Dropped cause) old s b course h = refl
 
--- nor does an answer to no ask
-answer_is_uncounted : (o : Outcome) (old : List Held) (s : Sought) (course : Course) → s.tuple.kind ≡ Answer → settled_as o old s Nowhere course ≡ uncounted s course
-answer_is_uncounted (Passed interface) old s course e = ap (λ k. counted_by (first_state k) Nowhere (refusal (inverse s.tuple) old) s course) e
-answer_is_uncounted Local old s course e = ap (λ k. counted_by (first_state k) Nowhere (refusal (inverse s.tuple) old) s course) e
-answer_is_uncounted (Dropped cause) old s course e = refl
+-- an answer begins none
+answer_is_invalid : (kind : Kind) → is_answer kind ≡ true → first_state kind ≡ states.Invalid
+answer_is_invalid Answer h = refl
+answer_is_invalid _ h = cc
+
+pub other_is_new : (kind : Kind) → is_answer kind ≡ false → first_state kind ≡ states.New
+other_is_new Answer h = cc
+other_is_new _ h = refl
 
 -- one that goes through is as its state has it
 by_state : (o : Outcome) (old : List Held) (s : Sought) (course : Course) (state : State) → goes_through o ≡ true → first_state s.tuple.kind ≡ state → settled_as o old s Nowhere course ≡ counted_by state Nowhere (refusal (inverse s.tuple) old) s course
 by_state (Passed interface) old s course state h e = ap (λ st. counted_by st Nowhere (refusal (inverse s.tuple) old) s course) e
 by_state Local old s course state h e = ap (λ st. counted_by st Nowhere (refusal (inverse s.tuple) old) s course) e
 by_state (Dropped cause) old s course state h e = cc
+
+-- an answer to no ask doesn't count
+answer_is_uncounted : (o : Outcome) (old : List Held) (s : Sought) (course : Course) → is_answer s.tuple.kind ≡ true → settled_as o old s Nowhere course ≡ uncounted s course
+answer_is_uncounted o old s course h = by_outcome o (answer_is_invalid s.tuple.kind h)
+  where
+    by_outcome : (o : Outcome) → first_state s.tuple.kind ≡ states.Invalid → settled_as o old s Nowhere course ≡ uncounted s course
+    by_outcome (Passed interface) e = ap (λ st. counted_by st Nowhere (refusal (inverse s.tuple) old) s course) e
+    by_outcome Local e = ap (λ st. counted_by st Nowhere (refusal (inverse s.tuple) old) s course) e
+    by_outcome (Dropped cause) e = refl
 
 -- one of a connection counts if it goes through
 found_counts : (o : Outcome) (old : List Held) (s : Sought) (place : Place) (course : Course) → goes_through o ≡ true → settled_as o old s (Found place) course ≡ counted s course
@@ -61,13 +73,13 @@ found_counts o old s place course h = by_outcome o h
 
 -- ---- why none is begun
 
-refused_full : (reply : Tuple) (old : List Held) → most_held ≤ length old → refusal reply old ≡ Some causes.Full
+pub refused_full : (reply : Tuple) (old : List Held) → most_held ≤ length old → refusal reply old ≡ Some causes.Full
 refused_full reply old many = rw (le-leb most_held (length old) many) refl
 
-refused_clash : (reply : Tuple) (old : List Held) → length old < most_held → is_taken reply old ≡ true → refusal reply old ≡ Some causes.Clash
+pub refused_clash : (reply : Tuple) (old : List Held) → length old < most_held → is_taken reply old ≡ true → refusal reply old ≡ Some causes.Clash
 refused_clash reply old few taken = rw (lt-leb most_held (length old) few, taken) refl
 
-refused_not : (reply : Tuple) (old : List Held) → (most_held ≤ length old → ⊥) → ((length old < most_held) × (is_taken reply old ≡ true) → ⊥) → refusal reply old ≡ None
+pub refused_not : (reply : Tuple) (old : List Held) → (most_held ≤ length old → ⊥) → ((length old < most_held) × (is_taken reply old ≡ true) → ⊥) → refusal reply old ≡ None
 refused_not reply old few free = by_tests (nat_le most_held (length old)) (is_taken reply old) refl refl
   where
     by_tests : (b t : Bool) → nat_le most_held (length old) ≡ b → is_taken reply old ≡ t → cond b (Some causes.Full) (cond t (Some causes.Clash) None) ≡ None
@@ -114,7 +126,7 @@ module _ (now : ℕ) (s : Sought) (led : Led) (old : List Held) where
   begins_none h =
       settles_by no_id Nowhere (uncounted s) old _ (λ events. dropped_is_uncounted led.outcome old s Nowhere (course_of led events) h) (record { outcome = λ events. refl; held = λ events. refl; begun = λ events. refl })
 
-  pub begins_no_answer : s.tuple.kind ≡ Answer → Settles now s led Nowhere old old (record { outcome = led.outcome; begun = false })
+  pub begins_no_answer : is_answer s.tuple.kind ≡ true → Settles now s led Nowhere old old (record { outcome = led.outcome; begun = false })
   begins_no_answer e =
       settles_by no_id Nowhere (uncounted s) old _ (λ events. answer_is_uncounted led.outcome old s (course_of led events) e) (record { outcome = λ events. refl; held = λ events. refl; begun = λ events. refl })
 
@@ -160,9 +172,3 @@ settles_ended now s led id old new ends k = record {
   held = λ events. k.held events ∙ (alike now k.id id old s led.outcome (course_of led events)).held;
   begun = λ events. k.begun events ∙ (alike now k.id id old s led.outcome (course_of led events)).begun;
 }
-
--- ---- the kind of a packet that begins one
-
-pub is_first : (kind : Kind) → (kind ≡ Answer → ⊥) → first_state kind ≡ states.New
-is_first Answer h = absurd (h refl)
-is_first other h = refl
