@@ -1,7 +1,7 @@
 -- What the last step of a packet comes to, by how the rules led it and what it belongs to.
-use Rattle.std.proofs.Common.{◌≡◌, ℕ, ◌≤◌, ◌<◌, Bool, true, false, cond, List, [], ◌∷◌, ◌++◌, length, Option, Some, None, refl, sym, ap, subst, ◌∙◌}
-use Rattle.std.specs.Prelude.{nat_le, ◌||◌}
-use Rattle.std.proofs.lemmas.Bool.{le-leb, lt-leb, leb-true, leb-false}
+use Rattle.std.proofs.Common.{◌≡◌, ℕ, ◌≤◌, ◌<◌, Bool, true, false, cond, List, length, Option, Some, None, refl, sym, ap, ◌∙◌}
+use Rattle.std.specs.Prelude.{◌||◌}
+use Rattle.std.proofs.lemmas.Bool.{le-leb, lt-leb}
 use Rattle.ip_headers.specs.declared.tuple.Kind.{Kind}
 use Rattle.ip_headers.specs.declared.tuple.Kind.TheVariants.{Answer}
 use Rattle.ip_headers.specs.declared.tuple.Tuple.{Tuple}
@@ -12,9 +12,8 @@ use Rattle.conntrack.specs.declared.belonging.Place.{Place}
 use Rattle.conntrack.specs.declared.belonging.State.{State}
 use Rattle.conntrack.specs.declared.belonging.State.TheVariants as states
 use Rattle.conntrack.specs.declared.connection.ConnId.{ConnId}
-use Rattle.conntrack.specs.declared.connection.Connection.{Connection}
 use Rattle.conntrack.specs.declared.connection.Held.{Held}
-use Rattle.conntrack.specs.Held.{begun_with, first_state, is_reply, is_taken, most_held, state_of, touched_at, without}
+use Rattle.conntrack.specs.Held.{first_state, is_reply, is_taken, most_held, touched_at, without}
 use Rattle.story.specs.declared.outcome.Cause.{Cause}
 use Rattle.story.specs.declared.outcome.Cause.TheVariants as causes
 use Rattle.story.specs.declared.outcome.Outcome.{Outcome}
@@ -34,7 +33,7 @@ dropped_is_uncounted (Passed interface) old s b course h = cc
 dropped_is_uncounted Local old s b course h = cc
 dropped_is_uncounted (Dropped cause) old s b course h = refl
 
--- an answer begins none
+-- an answer to no ask begins none, and the first packet of another kind may
 answer_is_invalid : (kind : Kind) → is_answer kind ≡ true → first_state kind ≡ states.Invalid
 answer_is_invalid Answer h = refl
 answer_is_invalid _ h = cc
@@ -48,15 +47,6 @@ by_state : (o : Outcome) (old : List Held) (s : Sought) (course : Course) (state
 by_state (Passed interface) old s course state h e = ap (λ st. counted_by st Nowhere (refusal (inverse s.tuple) old) s course) e
 by_state Local old s course state h e = ap (λ st. counted_by st Nowhere (refusal (inverse s.tuple) old) s course) e
 by_state (Dropped cause) old s course state h e = cc
-
--- an answer to no ask doesn't count
-answer_is_uncounted : (o : Outcome) (old : List Held) (s : Sought) (course : Course) → is_answer s.tuple.kind ≡ true → settled_as o old s Nowhere course ≡ uncounted s course
-answer_is_uncounted o old s course h = by_outcome o (answer_is_invalid s.tuple.kind h)
-  where
-    by_outcome : (o : Outcome) → first_state s.tuple.kind ≡ states.Invalid → settled_as o old s Nowhere course ≡ uncounted s course
-    by_outcome (Passed interface) e = ap (λ st. counted_by st Nowhere (refusal (inverse s.tuple) old) s course) e
-    by_outcome Local e = ap (λ st. counted_by st Nowhere (refusal (inverse s.tuple) old) s course) e
-    by_outcome (Dropped cause) e = refl
 
 -- one of a connection counts if it goes through
 found_counts : (o : Outcome) (old : List Held) (s : Sought) (place : Place) (course : Course) → goes_through o ≡ true → settled_as o old s (Found place) course ≡ counted s course
@@ -79,15 +69,7 @@ refused_full reply old many = rw (le-leb most_held (length old) many) refl
 pub refused_clash : (reply : Tuple) (old : List Held) → length old < most_held → is_taken reply old ≡ true → refusal reply old ≡ Some causes.Clash
 refused_clash reply old few taken = rw (lt-leb most_held (length old) few, taken) refl
 
-pub refused_not : (reply : Tuple) (old : List Held) → (most_held ≤ length old → ⊥) → ((length old < most_held) × (is_taken reply old ≡ true) → ⊥) → refusal reply old ≡ None
-refused_not reply old few free = by_tests (nat_le most_held (length old)) (is_taken reply old) refl refl
-  where
-    by_tests : (b t : Bool) → nat_le most_held (length old) ≡ b → is_taken reply old ≡ t → cond b (Some causes.Full) (cond t (Some causes.Clash) None) ≡ None
-    by_tests true t e f = absurd (few (leb-true _ _ e))
-    by_tests false true e f = absurd (free (leb-false _ _ e, f))
-    by_tests false false e f = refl
-
--- ---- the fates, settled
+-- ---- a last step that comes to a fate
 
 module _ (now : ℕ) (s : Sought) (led : Led) (old : List Held) where
   -- whatever happened, this is the fate
@@ -121,14 +103,15 @@ module _ (now : ℕ) (s : Sought) (led : Led) (old : List Held) where
   settles_touched place h =
       settles_by no_id (Found place) (counted s) _ _ (λ events. found_counts led.outcome old s place (course_of led events) h) (record { outcome = λ events. refl; held = λ events. refl; begun = λ events. refl })
 
-  -- a packet that belongs to none
+  -- a packet that belongs to none, and is dropped
   pub begins_none : goes_through led.outcome ≡ false → Settles now s led Nowhere old old (record { outcome = led.outcome; begun = false })
   begins_none h =
       settles_by no_id Nowhere (uncounted s) old _ (λ events. dropped_is_uncounted led.outcome old s Nowhere (course_of led events) h) (record { outcome = λ events. refl; held = λ events. refl; begun = λ events. refl })
 
-  pub begins_no_answer : is_answer s.tuple.kind ≡ true → Settles now s led Nowhere old old (record { outcome = led.outcome; begun = false })
-  begins_no_answer e =
-      settles_by no_id Nowhere (uncounted s) old _ (λ events. answer_is_uncounted led.outcome old s (course_of led events) e) (record { outcome = λ events. refl; held = λ events. refl; begun = λ events. refl })
+  -- an answer to no ask
+  pub begins_no_answer : goes_through led.outcome ≡ true → is_answer s.tuple.kind ≡ true → Settles now s led Nowhere old old (record { outcome = led.outcome; begun = false })
+  begins_no_answer h e =
+      settles_by no_id Nowhere (uncounted s) old _ (λ events. by_state led.outcome old s (course_of led events) states.Invalid h (answer_is_invalid s.tuple.kind e)) (record { outcome = λ events. refl; held = λ events. refl; begun = λ events. refl })
 
   -- it is begun unless it is refused
   unless_refused : (refused : Option Cause) → goes_through led.outcome ≡ true → first_state s.tuple.kind ≡ states.New → refusal (inverse s.tuple) old ≡ refused → IsFate Nowhere (begun_unless refused s)
@@ -138,14 +121,6 @@ module _ (now : ℕ) (s : Sought) (led : Led) (old : List Held) where
       → Settles now s led Nowhere old old (record { outcome = Dropped cause; begun = false })
   begins_refused cause h e r =
       settles_by no_id Nowhere (begun_unless (Some cause) s) old _ (unless_refused (Some cause) h e r) (record { outcome = λ events. refl; held = λ events. refl; begun = λ events. refl })
-
-  abbrev pub first_of : Connection
-  first_of = record { original = s.tuple; reply = inverse s.tuple; mark = led.mark; last = now; source = None; dest = None }
-
-  pub begins_one : (id : ConnId) → goes_through led.outcome ≡ true → first_state s.tuple.kind ≡ states.New → refusal (inverse s.tuple) old ≡ None
-      → Settles now s led Nowhere old (old ++ begun_with id first_of s.flags ∷ []) (record { outcome = led.outcome; begun = true })
-  begins_one id h e r =
-      settles_by id Nowhere (begun_unless None s) _ _ (unless_refused None h e r) (record { outcome = λ events. refl; held = λ events. refl; begun = λ events. refl })
 
 -- ---- a packet that ends a closing connection fares as one that belongs to none of the others
 

@@ -86,7 +86,14 @@ fn count<T: Tracker>(
     if !goes_through(led.outcome) {
         return ended(led.outcome);
     }
-    tracker.touch(place.id, place.direction, sought.flags, led.mark, now, steps);
+    tracker.touch(
+        place.id,
+        place.direction,
+        sought.flags,
+        led.mark,
+        now,
+        steps,
+    );
     ended(led.outcome)
 }
 
