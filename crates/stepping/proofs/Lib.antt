@@ -4,3 +4,4 @@ mod HookRuns
 mod Arrivals
 mod Fates
 mod Entries
+mod LastStep

@@ -2,10 +2,10 @@
 ghost use Rattle.std.specs.Prelude.{◌≡◌, IsTrue, false};
 ghost use Rattle.conntrack.specs.declared.belonging.Belonging.TheVariants.{Found};
 ghost use Rattle.conntrack.specs.Held.{IsNoneLater, are_apart, belongs_in, has_distinct_ids, has_id, is_taken, live_at};
-ghost use Rattle.stepping.specs.steps.Settling.{Begins, Settles, goes_through};
+ghost use Rattle.stepping.specs.steps.Settling.{Begins, Settles, goes_through, is_answer};
 
 use crate::sought::Sought;
-use conntrack::laws::looked_up;
+use conntrack::laws::{looked_up, none_later};
 use conntrack::{BeginError, Belonging, Connection, Moment, Place, Steps, Tracker};
 use ip_headers::Kind;
 use story::{Cause, Outcome};
@@ -30,8 +30,11 @@ pub struct Settled {
 pub fn age_all<T: Tracker>(tracker: &mut T, now: Moment)
     requires later { IsNoneLater now (T.held tracker.old) }
     ensures held { T.held tracker.new ≡ live_at now (T.held tracker.old) }
+    ensures distinct { IsTrue (has_distinct_ids (T.held tracker.new)) }
     ensures room { IsTrue (T.has_room tracker.old) → IsTrue (T.has_room tracker.new) }
 {
+    // What stays had no packet later either.
+    none_later();
     let mut steps = Steps::new();
     while let Some(_) = tracker.age(now, &mut steps) {}
 }
@@ -53,8 +56,9 @@ pub fn settle<T: Tracker>(
     requires room { IsTrue (T.has_room tracker.old) }
     ensures settles { Settles now sought.now led.now belonging (T.held tracker.old) (T.held tracker.new) result }
 {
-    // What it belongs to is held, and else its tuple is free.
+    // What it belongs to is held, and else its tuple is free; what stays had no packet later.
     looked_up();
+    none_later();
     let mut steps = Steps::new();
     match belonging {
         Belonging::Found(place) => count(tracker, sought, now, &place, led, &mut steps),
@@ -82,7 +86,14 @@ fn count<T: Tracker>(
     if !goes_through(led.outcome) {
         return ended(led.outcome);
     }
-    tracker.touch(place.id, place.direction, sought.flags, led.mark, now, steps);
+    tracker.touch(
+        place.id,
+        place.direction,
+        sought.flags,
+        led.mark,
+        now,
+        steps,
+    );
     ended(led.outcome)
 }
 
@@ -100,7 +111,7 @@ fn begin<T: Tracker>(
     requires room { IsTrue (T.has_room tracker.old) }
     ensures begins { Begins now sought.now led.now (T.held tracker.old) (T.held tracker.new) result }
 {
-    if !goes_through(led.outcome) || sought.tuple.kind == Kind::Answer {
+    if !goes_through(led.outcome) || is_answer(sought.tuple.kind) {
         return ended(led.outcome);
     }
     let connection = Connection {
@@ -139,4 +150,11 @@ fn goes_through(outcome: Outcome) -> bool
         Outcome::Passed(_) | Outcome::Local => true,
         Outcome::Dropped(_) => false,
     }
+}
+
+/// Whether it is the kind of an answer.
+fn is_answer(kind: Kind) -> bool
+    ensures { result ≡ is_answer kind }
+{
+    matches!(kind, Kind::Answer)
 }

@@ -1,5 +1,7 @@
 -- What the last step of a packet makes of the connections held.
 use Rattle.std.specs.Prelude.{◌≡◌, ℕ, Bool, true, false, List, ◌∷◌, Option}
+use Rattle.ip_headers.specs.declared.tuple.Kind.{Kind}
+use Rattle.ip_headers.specs.declared.tuple.Kind.TheVariants.{Answer}
 use Rattle.conntrack.specs.declared.belonging.Belonging.{Belonging}
 use Rattle.conntrack.specs.declared.belonging.Belonging.TheVariants.{Nowhere}
 use Rattle.conntrack.specs.declared.connection.ConnId.{ConnId}
@@ -20,6 +22,10 @@ abbrev pub goes_through : Outcome → Bool
 goes_through (Passed interface) = true
 goes_through Local = true
 goes_through (Dropped cause) = false
+
+abbrev pub is_answer : Kind → Bool
+is_answer Answer = true
+is_answer _ = false
 
 -- a course with these events
 abbrev pub course_of : Led → List Event → Course
