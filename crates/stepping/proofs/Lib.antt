@@ -3,4 +3,5 @@ mod Orders
 mod HookRuns
 mod Arrivals
 mod Fates
+mod Standing
 mod Entries
