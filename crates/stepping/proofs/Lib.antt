@@ -3,5 +3,6 @@ mod Orders
 mod HookRuns
 mod Arrivals
 mod Fates
+mod Standing
 mod Entries
 mod LastStep
