@@ -2,5 +2,5 @@ mod Costs
 mod Orders
 mod HookRuns
 mod Arrivals
+mod Leads
 mod Fates
-mod Entries

@@ -11,7 +11,7 @@ use crate::facts::{arriving, with_tracking};
 use crate::leading::lead;
 use crate::passing::{enter, goes_on};
 use crate::settling::{Settled, ended, settle};
-use crate::sought::{Sought, sought, tracking_of};
+use crate::sought::{Sought, sought_of, tracking_of};
 use conntrack::{Moment, Steps, Tracker};
 use filter_vm::{Code, Events};
 use ip_headers::{Change, View, emit};
@@ -116,7 +116,7 @@ fn fare_in<T: Tracker>(
     requires fits { HasRoom events.old (led_cost code.now) }
     ensures fared { FaredIn (setup_of checked.now) view.now.packet.now now facts.now events.old.events (T.held tracker.old) (T.held tracker.new) result events.new.events }
 {
-    match sought(view) {
+    match sought_of(view) {
         Some(sought) => fare_sought(checked, code, view, facts, &sought, now, tracker, events),
         None => {
             let facts = with_tracking(Tracking::Invalid, facts);

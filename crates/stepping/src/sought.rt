@@ -17,7 +17,7 @@ pub struct Sought {
 
 /// What the packet's connection is looked for by; `None` where it has no tuple.
 #[inline(always)]
-pub fn sought(view: &View) -> Option<Sought>
+pub fn sought_of(view: &View) -> Option<Sought>
     ensures { result ≡ sought_of view.now.packet.now }
 {
     let tuple = view.tuple()?;
@@ -32,8 +32,8 @@ fn flags_in(transport: Transport) -> Flags
     ensures { result ≡ flags_in transport }
 {
     match transport {
-        Transport::Tcp(_, _, bits) => Flags::of_byte(bits),
-        Transport::Udp(..) | Transport::Icmp(_) | Transport::Other => Flags::none(),
+        Transport::Tcp { flags, .. } => Flags::of_byte(flags),
+        Transport::Udp { .. } | Transport::Icmp { .. } | Transport::Other => Flags::none(),
     }
 }
 
