@@ -4,3 +4,4 @@ mod HookRuns
 mod Arrivals
 mod Leads
 mod Fates
+mod Entries
