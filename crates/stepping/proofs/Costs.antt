@@ -1,14 +1,15 @@
 -- What the parts of a hook cost, and what code of a part comes to, start by start.
-use Rattle.std.proofs.Common.{◌≡◌, ℕ, ◌+◌, ◌≤◌, ◌&&◌, not, Bool, true, false, cond, List, [], ◌∷◌, arith, int_lt, negsuc, pos}
+use Rattle.std.proofs.Common.{◌≡◌, ℕ, ◌+◌, ◌≤◌, ◌&&◌, not, Bool, true, false, cond, List, [], ◌∷◌, length, ap, arith, int_lt, negsuc, pos}
 use Rattle.std.specs.Prelude.{sum_by}
 use Rattle.std.proofs.lemmas.List.Sums.{sum_by-cons}
 use Rattle.nft_tree.specs.declared.chain.Hook.TheVariants as hooks
-use Rattle.compiler.specs.Compiled.{cost_at}
+use Rattle.compiler.specs.Compiled.{cost_at, total_cost}
 use Rattle.filter_vm.specs.declared.code.Code.{Code}
 use Rattle.filter_vm.specs.declared.code.Start.{Start}
 use Rattle.stepping.specs.declared.parts.Part.{Part}
 use Rattle.stepping.specs.declared.parts.Part.TheVariants as parts
-use Rattle.stepping.specs.steps.Parts.{starts_in, cost_among, cost_of}
+use Rattle.filter_vm.specs.Machine.{Told}
+use Rattle.stepping.specs.steps.Parts.{HasRoom, SpendsUpTo, starts_in, cost_among, cost_of, led_cost}
 
 -- ---- costs
 
@@ -91,3 +92,19 @@ input_cost code = input_among code.input.items
 pub forward_cost : (code : Code) → cost_of code parts.Forward ≤ cost_at code hooks.Forward
 unfolding cost_of
 forward_cost code = forward_among code.forward.items
+
+-- ---- room
+
+-- before anything happened there is room for the early chains, and after those for all others
+module _ (code : Code) (told : Told) (none : told ≡ record { events = []; ticks = 0 }) (few : total_cost code ≤ 65536) where
+  no_events : length told.events ≡ 0
+  no_events = ap (λ (t : Told). length t.events) none
+
+  no_ticks : told.ticks ≡ 0
+  no_ticks = ap (λ (t : Told). t.ticks) none
+
+  pub room_to_enter : HasRoom told (cost_of code parts.Early)
+  room_to_enter = let k = prerouting_cost code in record { events = omega (arith, k, no_events, few); ticks = omega (arith, k, no_ticks, few) }
+
+  pub room_to_lead : (after : Told) → SpendsUpTo told after (cost_of code parts.Early) → HasRoom after (led_cost code)
+  room_to_lead after spent = let k = prerouting_cost code in record { events = omega (arith, k, no_events, few, spent.events); ticks = omega (arith, k, no_ticks, few, spent.ticks) }

@@ -1,43 +1,102 @@
--- What becomes of a record, and what an engine stands for after it.
-use Rattle.std.proofs.Common.{◌≡◌, ℕ, ◌+◌, ◌-◌, ◌≤◌, ◌<◌, ◌++◌, true, false, List, [], ◌∷◌, Option, Some, None, refl, sym, ap, subst, ◌∙◌, arith}
-use Rattle.std.specs.Prelude.{max, Vec}
-use Rattle.std.specs.declared.alloc.Global.{Global}
-use Rattle.box_file.specs.Box.{PlantTree, is_own, route}
-use Rattle.ip_headers.specs.Header.{destination, ttl}
-use Rattle.ip_headers.specs.Rewritten.{with_ttl}
+-- What becomes of a record.
+use Rattle.std.proofs.Common.{◌≡◌, ℕ, true, false, List, [], Option, Some, None, Ok, Err, refl, sym, ap, subst, ◌∙◌}
+use Rattle.ip_headers.specs.Header.{total_len}
+use Rattle.conntrack.specs.declared.belonging.Belonging.{Belonging}
+use Rattle.conntrack.specs.declared.belonging.Belonging.TheVariants.{Nowhere, Ends, Found}
+use Rattle.conntrack.specs.declared.belonging.State.{State}
+use Rattle.conntrack.specs.declared.belonging.State.TheVariants as states
+use Rattle.conntrack.specs.declared.connection.Held.{Held}
+use Rattle.conntrack.specs.Held.{belongs_in, live_at, state_of}
+use Rattle.conntrack.specs.Recorded.{Count, Uncounted, after_end}
+use Rattle.ip_headers.specs.Tuple.{inverse}
 use Rattle.pcap_io.specs.Pcap.{Recorded}
 use Rattle.story.specs.declared.outcome.Cause.{Cause}
 use Rattle.story.specs.declared.outcome.Cause.TheVariants as causes
 use Rattle.story.specs.declared.outcome.Outcome.{Outcome}
 use Rattle.story.specs.declared.outcome.Outcome.TheVariants.{Passed, Local, Dropped}
-use Rattle.story.specs.Story.{Entry, moment_of}
 use Rattle.rule_check.specs.Checked.{CheckedTree}
 use Rattle.rule_meaning.specs.declared.facts.Facts.{Facts}
 use Rattle.rule_meaning.specs.declared.facts.Interface.{Interface}
-use Rattle.rule_meaning.specs.declared.facts.Tracking.TheVariants.{Unknown}
+use Rattle.rule_meaning.specs.declared.facts.Tracking.{Tracking}
+use Rattle.rule_meaning.specs.declared.facts.Tracking.TheVariants.{Unknown, Invalid}
 use Rattle.rule_meaning.specs.declared.event.Event.{Event}
-use Rattle.rule_meaning.specs.Hooks.{End}
+use Rattle.rule_meaning.specs.Hooks.{End, Early}
 use Rattle.filter_vm.specs.declared.code.Code.{Code}
-use Rattle.stepping.specs.Next as next
-use Rattle.stepping.specs.Next.{Setup, Arrived, Fate, Next, Arrives, Delivers, Departs, FaresOn, Fares, arriving, departing, dropped, sent_on, packet_facts, interface_facts, entry_of}
-use Rattle.stepping.specs.Stands.{Shown, Stands, setup_of, newest_of}
+use Rattle.stepping.specs.Next.{Setup, Arrived, Carries, Course, Fate, Sighting, Seen, Leads, arriving, counted_by, dropped, interface_facts, packet_facts, refusal, sent_on, settled, settled_as, sought_of, tracking_among, tracking_by, unseen, with_tracking}
+use Rattle.stepping.specs.Stands.{setup_of}
+use Rattle.stepping.specs.declared.fate.Ended.{Ended}
 use Rattle.stepping.specs.declared.parts.Part.TheVariants as parts
-use Rattle.stepping.specs.steps.Parts.{goes_on, part_end, arrival_end, departure_end}
-use Rattle.stepping.specs.steps.Fates.{HasFate, IsCodeOf, IsFresh, fate_in, newest_in}
-use Rattle.filter_vm.specs.Machine.{Told}
-use Rattle.stepping.proofs.HookRuns.{on_of, off_of, arrives, delivers, departs}
+use Rattle.stepping.specs.declared.settling.Led.{Led}
+use Rattle.stepping.specs.declared.settling.Settled.{Settled}
+use Rattle.stepping.specs.declared.sought.Sought.{Sought}
+use Rattle.stepping.specs.steps.Parts.{goes_on, part_end}
+use Rattle.stepping.specs.steps.Settling.{Settles, after_sighting, begins_so, course_of}
+use Rattle.stepping.specs.steps.Fates.{Fared, FaredIn, Follows, HasFate, IsCodeOf, began, held_after, settled_in}
+use Rattle.stepping.proofs.HookRuns.{on_of, off_of, enters}
 
--- ---- answers that are passed on
+-- ---- what is held
 
--- what a plant answered for an address, by the plant and the address that they are
-pub asked : {A : Type 0} (look : PlantTree → ℕ → A) (plant plant' : PlantTree) (d d' : ℕ) (r b : A) → plant ≡ plant' → d ≡ d' → r ≡ look plant d → r ≡ b → look plant' d' ≡ b
-asked look plant plant' d d' r b e f g h = cc
+-- a packet whose connection isn't looked for changes nothing of what is held
+pub unseen_follows : (now : ℕ) (old new : List Held) (answer : Settled) (events : List Event) (course : Course) → answer ≡ record { outcome = course.outcome; begun = false } → events ≡ course.events → new ≡ old
+    → Follows now old new answer events (unseen course)
+unseen_follows now old new answer events course is happened same =
+    record { outcome = ap (λ (s : Settled). s.outcome) is; happened = happened; begun = ap (λ (s : Settled). s.begun) is; id = record { 0 = 0 }; held = same }
 
--- what is known on departure
-pub departs_with : (checked : CheckedTree) (plant : PlantTree) (interface : ℕ) (i : Interface) (f g : Facts) → plant ≡ checked.plant → i ≡ interface_facts plant interface
-    → g ≡ record f { output = Some i; packet = record f.packet { ttl = f.packet.ttl - 1 } } → g ≡ departing (setup_of checked) interface f
-departs_with checked plant interface i f g same is known =
-    known ∙ ap (λ (j : Interface). let h : Facts = record f { output = Some j; packet = record f.packet { ttl = f.packet.ttl - 1 } } in h) (is ∙ ap (λ (q : PlantTree). interface_facts q interface) same)
+-- a packet was looked for by this, and these events happened
+record Sees (s : Sought) (happened : List Event) (fate : Fate) : Type 0 where
+  count : Count
+  sighting : fate.sighting ≡ Seen s count
+  told : fate.events ≡ happened
+
+counted_sees : (state : State) (belonging : Belonging) (refused : Option Cause) (s : Sought) (course : Course) → Sees s course.events (counted_by state belonging refused s course)
+counted_sees states.Invalid belonging refused s course = record { count = _; sighting = refl; told = refl }
+counted_sees states.Established belonging refused s course = record { count = _; sighting = refl; told = refl }
+counted_sees states.New (Found place) refused s course = record { count = _; sighting = refl; told = refl }
+counted_sees states.New (Ends id) None s course = record { count = _; sighting = refl; told = refl }
+counted_sees states.New (Ends id) (Some cause) s course = record { count = _; sighting = refl; told = refl }
+counted_sees states.New Nowhere None s course = record { count = _; sighting = refl; told = refl }
+counted_sees states.New Nowhere (Some cause) s course = record { count = _; sighting = refl; told = refl }
+
+-- whatever the last step makes of it
+settled_sees : (outcome : Outcome) (live : List Held) (s : Sought) (belonging : Belonging) (course : Course) → Sees s course.events (settled_as outcome live s belonging course)
+settled_sees (Dropped cause) live s belonging course = record { count = Uncounted; sighting = refl; told = refl }
+settled_sees Local live s belonging course = counted_sees (state_of s.tuple.kind belonging) belonging (refusal (inverse s.tuple) (after_end belonging live)) s course
+settled_sees (Passed interface) live s belonging course = counted_sees (state_of s.tuple.kind belonging) belonging (refusal (inverse s.tuple) (after_end belonging live)) s course
+
+module _ (now : ℕ) (old new : List Held) (answer : Settled) (events : List Event) where
+  -- what was settled among those held follows its fate
+  settled_so : (s : Sought) (led : Led) → Settles now s led (belongs_in old s.tuple s.flags) old new answer → Follows now old new answer events (settled old (Some s) (course_of led events))
+  settled_so s led settles =
+      let belonging = belongs_in old s.tuple s.flags in
+      let sees = settled_sees led.outcome old s belonging (course_of led events) in
+      record {
+        outcome = settles.outcome events;
+        happened = sym sees.told;
+        begun = settles.begun events ∙ ap (begins_so now belonging) sees.sighting ∙ sym (ap (began old now) sees.sighting);
+        id = settles.id;
+        held = settles.held events ∙ ap (λ (g : Sighting). after_sighting now settles.id belonging g old) sees.sighting ∙ sym (ap (λ (g : Sighting). held_after now settles.id g old) sees.sighting);
+      }
+
+  module _ (setup : Setup) (p : List ℕ) (f : Facts) (es : List Event) (led : Led) (known : Facts) (leads : Leads setup p known es (course_of led events)) where
+    -- what is looked for is this
+    fares_by : (o : Option Sought) → sought_of p ≡ o → known ≡ with_tracking (tracking_among old o) f → Follows now old new answer events (settled old o (course_of led events)) → FaredIn setup p now f es old new answer events
+    fares_by o is tracked follows = record {
+      course = course_of led events;
+      leads = subst (λ (o : Option Sought). Leads setup p (with_tracking (tracking_among old o) f) es (course_of led events)) (sym is) (subst (λ (g : Facts). Leads setup p g es (course_of led events)) tracked leads);
+      follows = subst (λ (o : Option Sought). Follows now old new answer events (settled old o (course_of led events))) (sym is) follows;
+    }
+
+    -- a packet without a tuple is invalid
+    pub fares_unseen : sought_of p ≡ None → known ≡ with_tracking Invalid f → answer ≡ record { outcome = led.outcome; begun = false } → new ≡ old → FaredIn setup p now f es old new answer events
+    fares_unseen is tracked ends same = fares_by None is tracked (unseen_follows now old new answer events (course_of led events) ends refl same)
+
+    -- of any other it is known what it belongs to, and what the last step makes of that is its fate
+    pub fares_seen : (s : Sought) (belonging : Belonging) (tracking : Tracking) → sought_of p ≡ Some s → live_at now old ≡ old → belonging ≡ belongs_in (live_at now old) s.tuple s.flags
+        → tracking ≡ tracking_by (state_of s.tuple.kind belonging) belonging → known ≡ with_tracking tracking f → Settles now s led belonging old new answer → FaredIn setup p now f es old new answer events
+    fares_seen s belonging tracking is live belongs tracked with settles =
+        let among : belonging ≡ belongs_in old s.tuple s.flags = belongs ∙ ap (λ (held : List Held). belongs_in held s.tuple s.flags) live in
+        let tracked_so : known ≡ with_tracking (tracking_among old (Some s)) f = with ∙ ap (λ (t : Tracking). with_tracking t f) (tracked ∙ ap (λ (b : Belonging). tracking_by (state_of s.tuple.kind b) b) among) in
+        fares_by (Some s) is tracked_so (settled_so s led (subst (λ (b : Belonging). Settles now s led b old new answer) among settles))
 
 -- ---- a packet
 
@@ -45,98 +104,46 @@ module _ (checked : CheckedTree) (code : Code) (means : IsCodeOf checked code) w
   abbrev setup : Setup
   setup = setup_of checked
 
-  module _ (p : List ℕ) (arrival : End) (packet : List ℕ) (none : packet ≡ []) where
-    -- nothing leaves
-    with_none : (outcome : Outcome) (events : List Event) → FaresOn setup p arrival (record { outcome = outcome; events = events; packet = [] }) → FaresOn setup p arrival (record { outcome = outcome; events = events; packet = packet })
-    with_none outcome events fares = subst (λ (l : List ℕ). FaresOn setup p arrival (record { outcome = outcome; events = events; packet = l })) (sym none) fares
+  module _ (a : Arrived) (input : Interface) (f : Facts) (es : List Event) (early : End) (enters_by : input ≡ interface_facts checked.plant a.interface)
+      (known : f ≡ record { packet = packet_facts a.packet; input = input; output = None; mark = 0; tracking = Unknown }) (first : es ≡ []) (is : early ≡ part_end code parts.Early f es) where
+    has_entered : Early checked.plant checked.rules (arriving setup a) [] early
+    has_entered =
+        let same : arriving setup a ≡ f = sym (known ∙ ap (λ (i : Interface). let g : Facts = record { packet = packet_facts a.packet; input = i; output = None; mark = 0; tracking = Unknown } in g) enters_by) in
+        let to : part_end code parts.Early (arriving setup a) [] ≡ early = ap (λ (g : Facts). part_end code parts.Early g []) same ∙ ap (part_end code parts.Early f) (sym first) ∙ sym is in
+        subst (λ (e : End). Early checked.plant checked.rules (arriving setup a) [] e) to (enters checked code means (arriving setup a) [])
 
-    pub is_delivered : (local : End) → is_own checked.plant (destination p) ≡ true → local ≡ part_end code parts.Input arrival.facts arrival.events → goes_on local.ending ≡ true → FaresOn setup p arrival (record { outcome = Local; events = local.events; packet = packet })
-    is_delivered local own is on =
-        with_none Local local.events (next.delivered local own (subst (λ (e : End). Delivers setup arrival.facts arrival.events e) (sym is) (delivers checked code means arrival.facts arrival.events)) (on_of local.ending on))
+    module _ (now : ℕ) (old new : List Held) (answer : Settled) where
+      -- what the early chains drop isn't looked for
+      pub is_stopped : answer ≡ record { outcome = Dropped causes.Rule; begun = false } → new ≡ old → goes_on early.ending ≡ false → Fared setup a now old new answer early.events
+      is_stopped ends same off = record {
+        fate = unseen (dropped causes.Rule early.events);
+        fares = record { early = early; first = has_entered; stopped = λ stops. refl; goes_on = λ on. absurd (off_of early.ending off on) };
+        follows = unseen_follows now old new answer early.events (dropped causes.Rule early.events) ends refl same;
+      }
 
-    pub is_not_delivered : (local : End) → is_own checked.plant (destination p) ≡ true → local ≡ part_end code parts.Input arrival.facts arrival.events → goes_on local.ending ≡ false → FaresOn setup p arrival (record { outcome = Dropped causes.Rule; events = local.events; packet = packet })
-    is_not_delivered local own is off =
-        with_none (Dropped causes.Rule) local.events (next.not_delivered local own (subst (λ (e : End). Delivers setup arrival.facts arrival.events e) (sym is) (delivers checked code means arrival.facts arrival.events)) (off_of local.ending off))
-
-    pub is_without_route : is_own checked.plant (destination p) ≡ false → route checked.plant (destination p) ≡ None → FaresOn setup p arrival (record { outcome = Dropped causes.Route; events = arrival.events; packet = packet })
-    is_without_route own way = with_none (Dropped causes.Route) arrival.events (next.without_route own way)
-
-    pub is_at_last_hop : (interface : ℕ) → is_own checked.plant (destination p) ≡ false → route checked.plant (destination p) ≡ Some interface → ttl p < 2 → FaresOn setup p arrival (record { outcome = Dropped causes.Ttl; events = arrival.events; packet = packet })
-    is_at_last_hop interface own way last = with_none (Dropped causes.Ttl) arrival.events (next.at_last_hop interface own way last)
-
-    departs_so : (interface : ℕ) (f : Facts) (departure : End) → f ≡ departing setup interface arrival.facts → departure ≡ departure_end code f arrival.events → Departs setup (departing setup interface arrival.facts) arrival.events departure
-    departs_so interface f departure known is =
-        subst (λ (e : End). Departs setup (departing setup interface arrival.facts) arrival.events e) (sym (is ∙ ap (λ (g : Facts). departure_end code g arrival.events) known)) (departs checked code means (departing setup interface arrival.facts) arrival.events)
-
-    pub is_kept : (interface : ℕ) (f : Facts) (departure : End) → is_own checked.plant (destination p) ≡ false → route checked.plant (destination p) ≡ Some interface → 2 ≤ ttl p
-        → f ≡ departing setup interface arrival.facts → departure ≡ departure_end code f arrival.events → goes_on departure.ending ≡ false → FaresOn setup p arrival (record { outcome = Dropped causes.Rule; events = departure.events; packet = packet })
-    is_kept interface f departure own way more known is off =
-        with_none (Dropped causes.Rule) departure.events (next.stays interface departure own way more (departs_so interface f departure known is) (off_of departure.ending off))
-
-    pub is_sent : (interface : ℕ) (f : Facts) (departure : End) (lowered : ℕ) (leaving : List ℕ) → is_own checked.plant (destination p) ≡ false → route checked.plant (destination p) ≡ Some interface → 2 ≤ ttl p
-        → f ≡ departing setup interface arrival.facts → departure ≡ departure_end code f arrival.events → goes_on departure.ending ≡ true
-        → lowered ≡ ttl p - 1 → leaving ≡ packet ++ with_ttl p lowered → FaresOn setup p arrival (record { outcome = Passed interface; events = departure.events; packet = leaving })
-    is_sent interface f departure lowered leaving own way more known is on low made =
-        let fares : FaresOn setup p arrival (sent_on interface departure.events (with_ttl p (ttl p - 1))) = next.leaves interface departure own way more (departs_so interface f departure known is) (on_of departure.ending on) in
-        let same : leaving ≡ with_ttl p (ttl p - 1) = made ∙ ap (λ (l : List ℕ). l ++ with_ttl p lowered) none ∙ ap (with_ttl p) low in
-        subst (λ (l : List ℕ). FaresOn setup p arrival (sent_on interface departure.events l)) (sym same) fares
-
-  -- ---- arrival
-
-  module _ (a : Arrived) (input : Interface) (f : Facts) (es : List Event) (arrival : End) (enters : input ≡ interface_facts checked.plant a.interface)
-      (known : f ≡ record { packet = packet_facts a.packet; input = input; output = None; mark = 0; tracking = Unknown }) (first : es ≡ []) (is : arrival ≡ arrival_end code f es) where
-    has_arrived : Arrives setup (arriving setup a) [] arrival
-    has_arrived =
-        let same : arriving setup a ≡ f = sym (known ∙ ap (λ (i : Interface). let g : Facts = record { packet = packet_facts a.packet; input = i; output = None; mark = 0; tracking = Unknown } in g) enters) in
-        let to : arrival_end code (arriving setup a) [] ≡ arrival = ap (λ (g : Facts). arrival_end code g []) same ∙ ap (arrival_end code f) (sym first) ∙ sym is in
-        subst (λ (e : End). Arrives setup (arriving setup a) [] e) to (arrives checked code means (arriving setup a) [])
-
-    pub is_stopped : (packet : List ℕ) → packet ≡ [] → goes_on arrival.ending ≡ false → Fares setup a (record { outcome = Dropped causes.Rule; events = arrival.events; packet = packet })
-    is_stopped packet none off =
-        record { arrival = arrival; arrived = has_arrived; by = (λ stops. ap (λ (l : List ℕ). let fate : Fate = record { outcome = Dropped causes.Rule; events = arrival.events; packet = l } in fate) none, λ on. absurd (off_of arrival.ending off on)) }
-
-    pub is_let_in : (fate : Fate) → goes_on arrival.ending ≡ true → FaresOn setup a.packet arrival fate → Fares setup a fate
-    is_let_in fate on fares =
-        record { arrival = arrival; arrived = has_arrived; by = (λ stops. absurd (stops (on_of arrival.ending on)), λ _. fares) }
+      pub is_let_in : (events : List Event) → goes_on early.ending ≡ true → FaredIn setup a.packet now early.facts early.events old new answer events → Fared setup a now old new answer events
+      is_let_in events on fared = record {
+        fate = settled old (sought_of a.packet) fared.course;
+        fares = record { early = early; first = has_entered; stopped = λ stops. absurd (stops (on_of early.ending on)); goes_on = λ _. record { course = fared.course; leads = fared.leads; is = refl } };
+        follows = fared.follows;
+      }
 
 -- ---- a record
 
--- of a record that carries no packet nothing is told, and nothing leaves
-pub nothing_happens : (cause : Cause) (told : Told) (packet : Vec ℕ Global) → told ≡ record { events = []; ticks = 0 } → packet.items ≡ [] → fate_in (Dropped cause) told packet ≡ dropped cause []
-nothing_happens cause told packet quiet none =
-    ap (λ (t : Told). fate_in (Dropped cause) t packet) quiet ∙ ap (λ (l : List ℕ). let fate : Fate = record { outcome = Dropped cause; events = []; packet = l } in fate) none
+module _ (setup : Setup) (r : Recorded) (now : ℕ) (old new : List Held) (events : List Event) (packet : List ℕ) where
+  -- of a record that carries no packet nothing is told, and nothing leaves
+  pub without_packet : (cause : Cause) → Carries setup r (Err cause) → new ≡ old → events ≡ [] → packet ≡ [] → HasFate setup r now old new (record { outcome = Dropped cause; length = 0; begun = false }) events packet
+  without_packet cause carried same quiet none = record {
+    arrived = Err cause;
+    carried = carried;
+    fate = unseen (dropped cause []);
+    fares = refl;
+    follows = unseen_follows now old new (record { outcome = Dropped cause; begun = false }) events (dropped cause []) refl quiet same;
+    long = refl;
+    leaves = none;
+  }
 
--- ---- an engine
-
--- the last moment of an engine is the moment of the story
-pub latest_is : (outcome : Option Outcome) (latest bytes : ℕ) (told : Told) (packet : Vec ℕ Global) (story : List Entry) → IsFresh outcome latest packet.items → newest_in outcome latest bytes told packet ≡ newest_of story → latest ≡ moment_of story
-latest_is None latest bytes told packet [] fresh is = fresh.0
-latest_is None latest bytes told packet (e ∷ story) fresh is = absurd (none_is_some e is)
-  where
-    none_is_some : (e : Entry) → None ≡ Some e → ⊥
-    none_is_some e is = cc
-latest_is (Some outcome) latest bytes told packet [] fresh is = absurd (some_is_none _ is)
-  where
-    some_is_none : (e : Entry) → Some e ≡ None → ⊥
-    some_is_none e is = cc
-latest_is (Some outcome) latest bytes told packet (e ∷ story) fresh is = ap (λ (found : Entry). found.moment) (same_entry _ e is)
-  where
-    same_entry : (e other : Entry) → Some e ≡ Some other → e ≡ other
-    same_entry e other is = cc
-
--- an engine that stands for a story stands, after a record, for that story and the record's entry
-pub next_stands : (before after : Shown) (story : List Entry) (r : Recorded) (bytes : ℕ) (fate : Fate)
-    → HasFate before.setup r bytes fate
-    → after.records ≡ before.records + 1
-    → after.newest ≡ Some (record { moment = max (moment_of story) r.moment; length = bytes; events = fate.events; outcome = fate.outcome; packet = fate.packet })
-    → Stands before story
-    → (e : Entry) × Next before.setup story r e × Stands after (e ∷ story) × (fate.outcome ≡ e.outcome)
-next_stands before after story r bytes fate has more newest stands =
-    let was = stands.records in
-    let long : Some (let e : Entry = record { moment = max (moment_of story) r.moment; length = bytes; events = fate.events; outcome = fate.outcome; packet = fate.packet } in e) ≡ Some (entry_of story r has.arrived fate) =
-    ap (λ n. Some (let e : Entry = record { moment = max (moment_of story) r.moment; length = n; events = fate.events; outcome = fate.outcome; packet = fate.packet } in e)) has.long in (
-      entry_of story r has.arrived fate,
-      record { arrived = has.arrived; carried = has.carried; fate = fate; fares = has.fares; is = refl },
-      record { records = omega arith; newest = newest ∙ long },
-      refl,
-    )
+  -- of one that carries a packet, what becomes of that
+  pub with_packet : (a : Arrived) (ended : Ended) → Carries setup r (Ok a) → Fared setup a now old new (settled_in ended) events → ended.length ≡ total_len a.packet → packet ≡ sent_on a.packet ended.outcome → HasFate setup r now old new ended events packet
+  with_packet a ended carried fared long leaves =
+      record { arrived = Ok a; carried = carried; fate = fared.fate; fares = fared.fares; follows = fared.follows; long = long; leaves = leaves }

@@ -201,11 +201,14 @@ module _ (checked : CheckedTree) (code : Code) (c : IsCodeOf checked code) where
 
   -- ---- hooks
 
+  -- the chains that come before a connection is looked for
+  pub enters : (f : Facts) (es : List Event) → meaning.Early checked.plant checked.rules f es (part_end code parts.Early f es)
+  enters f es = part_runs parts.Early f es
+
   pub arrives : (f : Facts) (es : List Event) → Arrives (setup_of checked) f es (arrival_end code f es)
   arrives f es =
-      thens _ _ f es (part_end code parts.Early f es) _ (part_runs parts.Early f es) (λ g later.
-      thens _ _ g later (part_end code parts.BeforeDestination g later) _ (part_runs parts.BeforeDestination g later) (λ h last.
-      nothing_then _ h last (part_end code parts.AfterDestination h last) (part_runs parts.AfterDestination h last)))
+      thens _ _ f es (part_end code parts.BeforeDestination f es) _ (part_runs parts.BeforeDestination f es) (λ g later.
+      nothing_then _ g later (part_end code parts.AfterDestination g later) (part_runs parts.AfterDestination g later))
 
   pub delivers : (f : Facts) (es : List Event) → Delivers (setup_of checked) f es (part_end code parts.Input f es)
   delivers f es = part_runs parts.Input f es

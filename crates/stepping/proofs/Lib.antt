@@ -2,6 +2,7 @@ mod Costs
 mod Orders
 mod HookRuns
 mod Arrivals
+mod Leads
 mod Fates
 mod Standing
 mod Entries

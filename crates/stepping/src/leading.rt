@@ -23,13 +23,7 @@ use story::{Cause, Outcome};
 /// Leads a packet through the rules: the chains on prerouting first that come after its connection is
 /// looked for.
 #[inline(always)]
-pub fn lead(
-    checked: &Checked,
-    code: &Code,
-    view: &View,
-    facts: &Facts,
-    events: &mut Events,
-) -> Led
+pub fn lead(checked: &Checked, code: &Code, view: &View, facts: &Facts, events: &mut Events) -> Led
     requires means { IsCodeOf checked.now code.now }
     requires fits { HasRoom events.old (led_cost code.now) }
     ensures leads { Leads (setup_of checked.now) view.now.packet.now facts.now events.old.events (course_of result events.new.events) }
@@ -44,13 +38,7 @@ pub fn lead(
 /// Leads on a packet that has arrived: it is for the box, without a route, at its last hop, dropped by
 /// a rule, or sent on.
 #[inline(always)]
-fn lead_on(
-    checked: &Checked,
-    code: &Code,
-    view: &View,
-    facts: &Facts,
-    events: &mut Events,
-) -> Led
+fn lead_on(checked: &Checked, code: &Code, view: &View, facts: &Facts, events: &mut Events) -> Led
     requires means { IsCodeOf checked.now code.now }
     requires fits { HasRoom events.old (cost_at code.now hooks.Input + cost_at code.now hooks.Forward + cost_at code.now hooks.Postrouting) }
     ensures leads { (ending : Ending) → LeadsOn (setup_of checked.now) view.now.packet.now (record { ending = ending; facts = facts.now; events = events.old.events }) (course_of result events.new.events) }
