@@ -116,7 +116,7 @@ departing setup interface f = record f { output = Some (interface_facts setup.pl
 -- only TCP has flags
 abbrev pub flags_in : Transport → Flags
 flags_in (transports.Tcp source destination bits) = flags_of bits
-flags_in other = no_flags
+flags_in _ = no_flags
 
 -- what a packet's connection is looked for by, if it has a tuple
 abbrev pub sought_of : List ℕ → Option Sought

@@ -30,6 +30,7 @@ pub struct Settled {
 pub fn age_all<T: Tracker>(tracker: &mut T, now: Moment)
     requires later { IsNoneLater now (T.held tracker.old) }
     ensures held { T.held tracker.new ≡ live_at now (T.held tracker.old) }
+    ensures alive { live_at now (T.held tracker.new) ≡ T.held tracker.new }
     ensures distinct { IsTrue (has_distinct_ids (T.held tracker.new)) }
     ensures room { IsTrue (T.has_room tracker.old) → IsTrue (T.has_room tracker.new) }
 {

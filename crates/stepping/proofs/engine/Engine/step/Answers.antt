@@ -1,15 +1,9 @@
 use Rattle.std.proofs.Common.{◌≤◌, refl, ap, ◌∙◌, arith}
 use Rattle.std.specs.Prelude.{max}
 use Rattle.conntrack.specs.Held.{live_at}
-use Rattle.conntrack.proofs.Changes.{live_at-later}
 use Rattle.stepping.specs.Stands.{Shown, told_of}
 use Rattle.stepping.proofs.Standing.{AreAlike, IsTold, latest_is, next_stands, none_later-after, none_later-aged}
 use Rattle.stepping.proofs.engine.Engine.step.Goals as goal
-
-pub fate-ended-requires-clause-live : goal.fate-ended-requires-clause-live
-fate-ended-requires-clause-live g c =
-    let now = c.max-now.result in
-    rw c.age_all.ensures.held (live_at-later now now (g.T.Tracker.held c.make_room.new.tracker) (omega arith))
 
 pub fate-ended-requires-clause-later : goal.fate-ended-requires-clause-later
 fate-ended-requires-clause-later g c =
