@@ -10,7 +10,7 @@ use Rattle.pcap_io.specs.Waiting.{Gets, Waiting}
 use Rattle.nft_tree.specs.Tree.{TableTree}
 use Rattle.story.specs.declared.entry.Entry as lent
 use Rattle.story.specs.declared.outcome.Outcome.{Outcome}
-use Rattle.story.specs.Story.{Entry, IsEntry, IsNewest, capture_text, sends}
+use Rattle.story.specs.Story.{Entry, IsEntry, IsNewest, capture_text, live_in, sends}
 use Rattle.report.specs.Report.{closing_lines, entry_lines, lines_of}
 use Rattle.report.specs.Standing.{Known, Reports, Tells, TellsPart, note_line}
 use Rattle.stepping.specs.Next.{Setup, Next}
@@ -87,24 +87,29 @@ all_drained replay start story rules numbers sink w w' r r' p e sent empty drain
 
 -- ---- after the last record
 
-pub finished : (replay : Replay) (start : Start) (story : List Entry) (rules : List TableTree) (torn : Bool) (w r r' : Option (List ℕ)) → Plays replay start story w r → AllTold start story w r → rules ≡ replay.engine.setup.rules
-    → ((trace : Bool) (story : List Entry) (lines : List ℕ) → Reports replay.numbers rules trace story lines → Tells r r' lines (entry_lines rules trace story ++ closing_lines rules story 0 torn))
+-- so many connections live as the engine tells
+pub finished : (replay : Replay) (start : Start) (story : List Entry) (rules : List TableTree) (live : ℕ) (torn : Bool) (w r r' : Option (List ℕ)) → Plays replay start story w r → AllTold start story w r → rules ≡ replay.engine.setup.rules
+    → live ≡ length (live_in story)
+    → ((trace : Bool) (story : List Entry) (lines : List ℕ) → Reports replay.numbers rules trace story lines → Tells r r' lines (entry_lines rules trace story ++ closing_lines rules story live torn))
     → Finished start story torn w r'
-finished replay start story rules torn w r r' p all e says =
+finished replay start story rules live torn w r r' p all e lives says =
     record {
       all_sent = all.all_sent;
-      all_lines = lines_all start.report r r' p.lines (entry_lines start.setup.rules start.trace story ++ closing_lines start.setup.rules story 0 torn) p.tells
-          (drained (λ rules trace story lines. Tells r r' lines (entry_lines rules trace story ++ closing_lines rules story 0 torn)) replay start story rules w r p e says);
+      all_lines = subst (λ (n : ℕ). Appends start.report r' (entry_lines start.setup.rules start.trace story ++ closing_lines start.setup.rules story n torn)) lives
+          (lines_all start.report r r' p.lines (entry_lines start.setup.rules start.trace story ++ closing_lines start.setup.rules story live torn) p.tells
+          (drained (λ rules trace story lines. Tells r r' lines (entry_lines rules trace story ++ closing_lines rules story live torn)) replay start story rules w r p e says));
     }
 
-pub unfinished : (replay : Replay) (start : Start) (story : List Entry) (rules : List TableTree) (torn : Bool) (w r r' : Option (List ℕ)) → Plays replay start story w r → AllTold start story w r → rules ≡ replay.engine.setup.rules
-    → ((trace : Bool) (story : List Entry) (lines : List ℕ) → Reports replay.numbers rules trace story lines → TellsPart r r' lines (entry_lines rules trace story ++ closing_lines rules story 0 torn))
+pub unfinished : (replay : Replay) (start : Start) (story : List Entry) (rules : List TableTree) (live : ℕ) (torn : Bool) (w r r' : Option (List ℕ)) → Plays replay start story w r → AllTold start story w r → rules ≡ replay.engine.setup.rules
+    → live ≡ length (live_in story)
+    → ((trace : Bool) (story : List Entry) (lines : List ℕ) → Reports replay.numbers rules trace story lines → TellsPart r r' lines (entry_lines rules trace story ++ closing_lines rules story live torn))
     → Unfinished start story torn w r'
-unfinished replay start story rules torn w r r' p all e says =
+unfinished replay start story rules live torn w r r' p all e lives says =
     record {
       all_sent = all.all_sent;
-      part_lines = lines_part start.report r r' p.lines (entry_lines start.setup.rules start.trace story ++ closing_lines start.setup.rules story 0 torn) p.tells
-          (drained (λ rules trace story lines. TellsPart r r' lines (entry_lines rules trace story ++ closing_lines rules story 0 torn)) replay start story rules w r p e says);
+      part_lines = subst (λ (n : ℕ). AppendsPart start.report r' (entry_lines start.setup.rules start.trace story ++ closing_lines start.setup.rules story n torn)) lives
+          (lines_part start.report r r' p.lines (entry_lines start.setup.rules start.trace story ++ closing_lines start.setup.rules story live torn) p.tells
+          (drained (λ rules trace story lines. TellsPart r r' lines (entry_lines rules trace story ++ closing_lines rules story live torn)) replay start story rules w r p e says));
     }
 
 -- ---- one record

@@ -12,6 +12,7 @@ use crate::fault::RunFault;
 use crate::inputs::accepted;
 use crate::replay::Replay;
 use box_file::one_box;
+use conntrack::ListTracker;
 use nft_parser::one_tree;
 use pcap_io::{Capture, CaptureError, Counted, header_alone, one_reading};
 use std::alloc::Global;

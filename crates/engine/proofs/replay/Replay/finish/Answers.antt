@@ -28,11 +28,11 @@ returns-in_err-lines-clause-ended g c = λ start story p.
     rw q.1 (rw q.2 (inr (
       c.in_ok-torn.torn,
       sym c.torn_at.ensures ∙ c.in_ok-torn.was,
-      unfinished (replay_of c.args.self.now.engine c.drain.new.self c.args.self.now c.finish.new.self) start story _ _ _ _ _ done.0 done.1 c.rules-2.ensures c.in_err-lines.ensures.part,
+      unfinished (replay_of c.args.self.now.engine c.drain.new.self c.args.self.now c.finish.new.self) start story _ _ _ _ _ _ done.0 done.1 c.rules-2.ensures (c.live-live.ensures story p.stands) c.in_err-lines.ensures.part,
       c.in_err-lines.ensures.device ∙ ap one_more c.in_ok-drain.ensures.calm,
     )))
 
 pub returns-clause-ok : goal.returns-clause-ok
 returns-clause-ok g c = λ start story p.
     let done = all_drained c.args.self.now start story _ c.drain.new.self c.finish.new.self _ _ _ _ p c.rules.ensures c.in_ok-finish.ensures.ok c.in_ok-finish.ensures.empty c.in_ok-drain.ensures.ok in
-    finished (replay_of c.args.self.now.engine c.drain.new.self c.args.self.now c.finish.new.self) start story _ _ _ _ _ done.0 done.1 c.rules-2.ensures c.in_ok-lines.ensures.ok
+    finished (replay_of c.args.self.now.engine c.drain.new.self c.args.self.now c.finish.new.self) start story _ _ _ _ _ _ done.0 done.1 c.rules-2.ensures (c.live-live.ensures story p.stands) c.in_ok-lines.ensures.ok

@@ -1,7 +1,12 @@
 use Rattle.std.proofs.Common.{sym}
 use Rattle.std.proofs.lemmas.Result.{err_from_is_err_and}
-use Rattle.engine.proofs.Telling.{all_drained, part_undrained}
+use Rattle.engine.proofs.Telling.{all_drained, part_undrained, part_unsent}
 use Rattle.engine.proofs.replay.Replay.tell.Goals as goal
+
+pub returns-in_err-send-clause-part : goal.returns-in_err-send-clause-part
+returns-in_err-send-clause-part g c = λ start story p.
+    let q = err_from_is_err_and c.from_residual.result c.from_residual.ensures.1 in
+    rw q.1 (part_unsent c.args.self.now start story _ _ _ p c.in_err-send.ensures.part)
 
 pub returns-in_err-drain-clause-part : goal.returns-in_err-drain-clause-part
 returns-in_err-drain-clause-part g c = λ start story p.
