@@ -69,7 +69,7 @@ pub const PASSED: Row<'static> = Row {
     line: "nftrun: done",
     sent: &[OUT, PLAIN_OUT],
     told: "",
-    totals: Some(&[("records", 1), ("passed", 1)]),
+    totals: Some(&[("records", 1), ("passed", 1), ("begun", 1), ("live", 1)]),
 };
 
 /// What a run gives.

@@ -223,13 +223,19 @@ const PACKETS: [Row<'static>; 3] = [
             OUT,
             "0a00000000000000300000003000000008000000000000030001040000000000000000004500001c000100003f118fe3c0a8010ac63364071388003500080000",
         ],
-        totals: Some(&[("records", 2), ("passed", 1), ("drop short", 1)]),
+        totals: Some(&[
+            ("records", 2),
+            ("passed", 1),
+            ("drop short", 1),
+            ("begun", 1),
+            ("live", 1),
+        ]),
         ..PASSED
     },
     Row {
         capture: &[RAW, AT_1_5, PLAIN, AT_1_5, PLAIN],
         sent: &[OUT, PLAIN_OUT, PLAIN_OUT],
-        totals: Some(&[("records", 2), ("passed", 2)]),
+        totals: Some(&[("records", 2), ("passed", 2), ("begun", 1), ("live", 1)]),
         ..PASSED
     },
 ];

@@ -112,6 +112,8 @@ counter ip two post 1 1 packets 1 bytes 28
             ("passed", 1),
             ("local", 1),
             ("drop rule", 1),
+            ("begun", 2),
+            ("live", 2),
         ]),
         ..PASSED
     },
@@ -157,6 +159,8 @@ counter ip two post 1 1 packets 1 bytes 28
             ("passed", 1),
             ("local", 1),
             ("drop rule", 1),
+            ("begun", 2),
+            ("live", 2),
         ]),
         ..PASSED
     },

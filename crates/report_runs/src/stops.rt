@@ -59,6 +59,8 @@ fn ends_so<R: Abort + AllocGlobal>(rt: &R, capture: &[u8], given: &Given) -> Res
         let numbers = [
             ("records", count),
             ("passed", count),
+            ("begun", u32::from(count > 0)),
+            ("live", u32::from(count > 0)),
             ("torn", u32::from(torn)),
         ];
         let told = told_of(rt.alloc(), records)?;

@@ -150,25 +150,13 @@ fn input_chains_see_what_is_for_the_box(rt: HostRuntime) -> Result<(), Fail> {
 }
 
 /// What runs don't take yet is told as E06, behind what is wrong with a ruleset.
-const REFUSED: [(&str, &str); 8] = [
+const REFUSED: [(&str, &str); 5] = [
     (
-        "table ip t { chain f { type filter hook forward priority 0; ct state new accept; } }",
+        "table ip t { chain f { snat to 203.0.113.1; } }",
         "nftrun: rules E06",
     ),
     (
-        "table ip t { chain f { ct mark 1 accept; } }",
-        "nftrun: rules E06",
-    ),
-    (
-        "table ip t { chain f { ct mark set 1; } }",
-        "nftrun: rules E06",
-    ),
-    (
-        "table ip t { chain f { meta mark set ct mark; } }",
-        "nftrun: rules E06",
-    ),
-    (
-        "table ip t { set s { typeof ct mark; } }",
+        "table ip t { chain f { ct state new dnat to 192.168.1.10; } }",
         "nftrun: rules E06",
     ),
     (
@@ -180,7 +168,7 @@ const REFUSED: [(&str, &str); 8] = [
         "nftrun: rules E06",
     ),
     (
-        "table ip t { chain f { ct mark 1 accept; jump g; } }",
+        "table ip t { chain f { masquerade; jump g; } }",
         "nftrun: rules N02",
     ),
 ];

@@ -129,14 +129,14 @@ fn run_over(alloc: Global, rules: &[u8], plant: &[u8], capture: &[u8], working: 
 }
 
 /// The report with these numbers of records, of those passed, for the box, dropped for their
-/// transport header, by a rule, for want of a route and for their TTL, and whether the end is torn
-/// (1); all other numbers are 0. Without numbers it is empty.
-fn report(alloc: Global, numbers: Option<[u32; 8]>) -> Result<String, Fail> {
+/// transport header, by a rule, for want of a route and for their TTL, of connections that were begun
+/// and live, and whether the end is torn (1); all other numbers are 0. Without numbers it is empty.
+fn report(alloc: Global, numbers: Option<[u32; 9]>) -> Result<String, Fail> {
     let mut text = String::new(alloc);
     let Some(numbers) = numbers else {
         return Ok(text);
     };
-    let [records, passed, local, transport, rule, route, ttl, torn] = numbers;
+    let [records, passed, local, transport, rule, route, ttl, connections, torn] = numbers;
     let lines = [
         ("records", records),
         ("passed", passed),
@@ -158,8 +158,8 @@ fn report(alloc: Global, numbers: Option<[u32; 8]>) -> Result<String, Fail> {
         ("drop noport", 0),
         ("drop full", 0),
         ("drop clash", 0),
-        ("begun", 0),
-        ("live", 0),
+        ("begun", connections),
+        ("live", connections),
         ("torn", torn),
     ];
     for (name, number) in lines {
@@ -177,7 +177,7 @@ struct Row<'a> {
     line: &'a str,
     sent: &'a [&'a str],
     /// The numbers of the report; a run that is refused has none, and tells no records.
-    numbers: Option<[u32; 8]>,
+    numbers: Option<[u32; 9]>,
     /// The calls of both writers, where they are told.
     calls: Option<[u64; 2]>,
 }
@@ -189,7 +189,7 @@ const DONE: Row<'static> = Row {
     capture: &[HEADER, AT_1_5, PLAIN],
     line: "nftrun: done",
     sent: &[OUT_HEADER, OUT_AT_1_5, PLAIN_OUT],
-    numbers: Some([1, 1, 0, 0, 0, 0, 0, 0]),
+    numbers: Some([1, 1, 0, 0, 0, 0, 0, 1, 0]),
     calls: None,
 };
 
@@ -244,19 +244,19 @@ const ROWS: [Row<'static>; 12] = [
     Row {
         capture: &[HEADER],
         sent: &[OUT_HEADER],
-        numbers: Some([0, 0, 0, 0, 0, 0, 0, 0]),
+        numbers: Some([0, 0, 0, 0, 0, 0, 0, 0, 0]),
         ..DONE
     },
     DONE,
     Row {
         capture: &[HEADER, AT_1_5, TOO_SMALL, AT_1_5, PLAIN, AT_1_5, BEYOND],
-        numbers: Some([3, 1, 0, 2, 0, 0, 0, 0]),
+        numbers: Some([3, 1, 0, 2, 0, 0, 0, 1, 0]),
         ..DONE
     },
     Row {
         rules: ONE_DROPPED,
         sent: &[OUT_HEADER],
-        numbers: Some([1, 0, 0, 0, 1, 0, 0, 0]),
+        numbers: Some([1, 0, 0, 0, 1, 0, 0, 0, 0]),
         ..DONE
     },
     Row {
@@ -269,13 +269,13 @@ const ROWS: [Row<'static>; 12] = [
         rules: ONE_DROPPED,
         capture: &[HEADER, AT_1_5, LAST_HOP],
         sent: &[OUT_HEADER],
-        numbers: Some([1, 0, 0, 0, 0, 0, 1, 0]),
+        numbers: Some([1, 0, 0, 0, 0, 0, 1, 0, 0]),
         ..DONE
     },
     Row {
         capture: &[HEADER, AT_10, PLAIN, AT_9, PLAIN],
         sent: &[OUT_HEADER, OUT_AT_10, PLAIN_OUT, OUT_AT_10, PLAIN_OUT],
-        numbers: Some([2, 2, 0, 0, 0, 0, 0, 0]),
+        numbers: Some([2, 2, 0, 0, 0, 0, 0, 1, 0]),
         ..DONE
     },
     Row {
@@ -286,19 +286,19 @@ const ROWS: [Row<'static>; 12] = [
     Row {
         plant: OWN,
         sent: &[OUT_HEADER],
-        numbers: Some([1, 0, 1, 0, 0, 0, 0, 0]),
+        numbers: Some([1, 0, 1, 0, 0, 0, 0, 1, 0]),
         ..DONE
     },
     Row {
         plant: NOWHERE,
         sent: &[OUT_HEADER],
-        numbers: Some([1, 0, 0, 0, 0, 1, 0, 0]),
+        numbers: Some([1, 0, 0, 0, 0, 1, 0, 0, 0]),
         ..DONE
     },
     Row {
         capture: &[HEADER, AT_1_5, PLAIN, CUT],
         line: "nftrun: capture torn",
-        numbers: Some([1, 1, 0, 0, 0, 0, 0, 1]),
+        numbers: Some([1, 1, 0, 0, 0, 0, 0, 1, 1]),
         ..DONE
     },
     Row {
@@ -338,7 +338,7 @@ const REFUSED_TEXTS: [(&[u8], &[u8], &str); 7] = [
         "nftrun: rules N14",
     ),
     (
-        b"table ip t { chain a { ct mark 1 } }",
+        b"table ip t { chain a { masquerade } }",
         BOX,
         "nftrun: rules E06",
     ),
@@ -464,7 +464,7 @@ fn thousands_of_records_take_few_calls(rt: HostRuntime) -> Result<(), Fail> {
             capture: &capture,
             line: "nftrun: done",
             sent: &all,
-            numbers: Some([5_000, 5_000, 0, 0, 0, 0, 0, 0]),
+            numbers: Some([5_000, 5_000, 0, 0, 0, 0, 0, 2, 0]),
             calls: Some([5, 2]),
         },
         Row {
@@ -473,7 +473,7 @@ fn thousands_of_records_take_few_calls(rt: HostRuntime) -> Result<(), Fail> {
             capture: &capture,
             line: "nftrun: done",
             sent: &half,
-            numbers: Some([5_000, 2_500, 0, 0, 2_500, 0, 0, 0]),
+            numbers: Some([5_000, 2_500, 0, 0, 2_500, 0, 0, 1, 0]),
             calls: Some([4, 2]),
         },
     ];
