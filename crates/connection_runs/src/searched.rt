@@ -5,6 +5,8 @@ use crate::packets::{ACK, Came, End, FIN, Load, RST, SYN};
 #[derive(Clone, Copy)]
 pub struct Past {
     pub came: Came,
+    /// Its two ends as far as they are told apart.
+    ends: (End, End),
     /// Nanoseconds; no moment is before an earlier one.
     pub moment: u64,
     pub outcome: Outcome,
@@ -49,7 +51,7 @@ pub const MARKING: u8 = 21;
 pub const DROPPED: u8 = 11;
 
 /// The two ends as far as they are told apart.
-fn ends(came: &Came) -> (End, End) {
+fn ends_of(came: &Came) -> (End, End) {
     let (from, to) = (came.from, came.to);
     match came.load {
         Load::Udp | Load::Tcp(_) => (from, to),
@@ -61,25 +63,22 @@ fn ends(came: &Came) -> (End, End) {
     }
 }
 
-/// Whether it goes the way of the packet that began a connection.
-fn goes_with(came: &Came, first: &Came) -> bool {
-    let is_of_kind = match (came.load, first.load) {
+/// Whether a load goes the way of the one that began a connection.
+fn goes_with(load: Load, first: Load) -> bool {
+    match (load, first) {
         (Load::Udp, Load::Udp) | (Load::Tcp(_), Load::Tcp(_)) | (Load::Ask, Load::Ask) => true,
         (Load::Other(one), Load::Other(other)) => one == other,
         _ => false,
-    };
-    is_of_kind && ends(came) == ends(first)
+    }
 }
 
 /// Whether it goes the other way.
-fn goes_back(came: &Came, first: &Came) -> bool {
-    let is_of_kind = match (came.load, first.load) {
+fn goes_back(load: Load, first: Load) -> bool {
+    match (load, first) {
         (Load::Udp, Load::Udp) | (Load::Tcp(_), Load::Tcp(_)) | (Load::Answer, Load::Ask) => true,
         (Load::Other(one), Load::Other(other)) => one == other,
         _ => false,
-    };
-    let (from, to) = ends(came);
-    is_of_kind && (to, from) == ends(first)
+    }
 }
 
 /// Its control bits of TCP.
@@ -151,13 +150,17 @@ fn last_moment(past: &[Past], connection: usize) -> u64 {
 
 /// Whether the record at this place began a connection that is live.
 fn is_live(past: &[Past], place: usize, now: u64) -> bool {
-    let Some(first) = past.get(place) else {
+    let Some(since) = past.get(place..) else {
         return false;
     };
-    let idle = now.saturating_sub(last_moment(past, place));
-    first.connection == Some(place)
-        && !past.iter().any(|one| one.ended == Some(place))
-        && idle < limit(past, place, first.came.load)
+    let Some(first) = since.first() else {
+        return false;
+    };
+    if first.connection != Some(place) || since.iter().any(|one| one.ended == Some(place)) {
+        return false;
+    }
+    let idle = now.saturating_sub(last_moment(since, place));
+    idle < limit(since, place, first.came.load)
 }
 
 /// How many connections are live.
@@ -174,8 +177,12 @@ pub fn live(past: &[Past], now: u64) -> usize {
 /// What a packet belongs to: the live connection whose first packet went its way, else the one whose
 /// first packet went the other way.
 fn look_up(past: &[Past], came: &Came, now: u64) -> Belonging {
+    let (from, to) = ends_of(came);
     for (place, one) in past.iter().enumerate() {
-        if goes_with(came, &one.came) && is_live(past, place, now) {
+        if one.ends == (from, to)
+            && goes_with(came.load, one.came.load)
+            && is_live(past, place, now)
+        {
             return if is_lone_syn(came) && is_closing(past, place) {
                 Belonging::Ends(place)
             } else {
@@ -184,7 +191,10 @@ fn look_up(past: &[Past], came: &Came, now: u64) -> Belonging {
         }
     }
     for (place, one) in past.iter().enumerate() {
-        if goes_back(came, &one.came) && is_live(past, place, now) {
+        if one.ends == (to, from)
+            && goes_back(came.load, one.came.load)
+            && is_live(past, place, now)
+        {
             return Belonging::To(place, true);
         }
     }
@@ -229,6 +239,7 @@ pub fn next(past: &[Past], came: Came) -> Past {
     let moment = own_moment(&came).max(latest(past));
     let unknown = Past {
         came,
+        ends: ends_of(&came),
         moment,
         outcome: end_of(&came),
         state: State::Invalid,

@@ -8,7 +8,7 @@ use std::process::Abort;
 use std::test::Fail;
 
 /// How many records a story has.
-const RECORDS: usize = 200;
+const RECORDS: usize = 2000;
 
 /// Counts packets by what is known of their connection. Those that come with TTL 21 mark it, and
 /// those with TTL 11 are dropped, whose mark isn't kept.
@@ -54,15 +54,15 @@ fn outside(number: u16) -> End {
 
 /// What a packet carries: mostly TCP.
 fn load(dice: &mut Dice) -> Load {
-    match dice.roll() % 12 {
+    match dice.roll() % 14 {
         0..3 => Load::Udp,
         3 => Load::Ask,
         4 => Load::Answer,
         5 => Load::Other(47),
-        6 => Load::Tcp(ACK),
-        7 => Load::Tcp(SYN | ACK),
-        8 => Load::Tcp(FIN | ACK),
-        9 => Load::Tcp(RST),
+        6..8 => Load::Tcp(ACK),
+        8 => Load::Tcp(SYN | ACK),
+        9 => Load::Tcp(FIN | ACK),
+        10 => Load::Tcp(RST),
         _ => Load::Tcp(SYN),
     }
 }
@@ -89,8 +89,9 @@ fn wait(dice: &mut Dice) -> u32 {
 
 /// A record of this moment, one way or the other between two ends.
 fn record(dice: &mut Dice, at: (u32, u32)) -> Came {
-    let host = dice.roll() % 30;
-    let (one, other) = (inside(host), outside(host + dice.roll() % 2));
+    // The less its number the more it says.
+    let host = dice.roll() % (1 + dice.roll() % 30);
+    let (one, other) = (inside(host), outside(host + dice.roll() % 4 / 3));
     let (by, from, to) = if dice.roll() % 2 == 0 {
         (LAN, one, other)
     } else {
@@ -180,9 +181,20 @@ fn begun(past: &[Past]) -> usize {
     count
 }
 
+/// Whether some packet is counted by each rule but the last, and some connection ended.
+fn is_eventful(past: &[Past]) -> bool {
+    for rule in 1..6usize {
+        if !past.iter().any(|one| counts(rule, one)) {
+            return false;
+        }
+    }
+    past.iter().any(|one| one.ended.is_some())
+}
+
 /// A run has to tell what the search tells.
 fn is_told<R: Abort + AllocGlobal>(rt: &R, seed: u32) -> Result<(), Fail> {
     let past = story(rt.alloc(), seed)?;
+    assert!(rt; is_eventful(&past));
     let mut came = Vec::new(rt.alloc());
     for one in &past {
         came.push(one.came)?;
