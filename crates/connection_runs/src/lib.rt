@@ -1,0 +1,19 @@
+//! Connections in whole runs: which packets begin and touch one, and what rules read of it.
+#![tactic(auto)]
+
+#[cfg(test)]
+mod answers;
+#[cfg(test)]
+mod dropped;
+#[cfg(test)]
+mod given;
+#[cfg(test)]
+mod limits;
+#[cfg(test)]
+mod packets;
+#[cfg(test)]
+mod searched;
+#[cfg(test)]
+mod selectors;
+#[cfg(test)]
+mod stories;
