@@ -5,6 +5,7 @@ use pcap_io::Counted;
 use program::Status;
 use std::alloc::Global;
 use std::process::Abort;
+use std::str;
 use std::test::Fail;
 
 const BOX: &[u8] = b"interface 2 lan 192.168.1.1/24
@@ -131,12 +132,9 @@ pub fn gives<R: Abort + AllocGlobal>(rt: &R, row: &Row<'_>, number: usize) -> Re
     let report = report(rt.alloc(), row)?;
     let sent = left(rt.alloc(), row.came, row.leave)?;
     let rules = row.rules;
+    let told = str::from_utf8(&given.report).unwrap_or("no text");
     assert!(rt; status.as_str() == "nftrun: done", "{status} for {rules}");
-    assert!(rt;
-        given.report.as_slice() == report.as_bytes(),
-        "report of row {number}, {rules}: {:?}",
-        given.report
-    );
+    assert!(rt; told == report.as_str(), "row {number}, {rules}: {told}");
     assert!(rt; given.sent == sent, "packets of row {number}, {rules}");
     Ok(())
 }

@@ -2,7 +2,7 @@
 //! nanosecond.
 use crate::given::{Row, gives};
 use crate::packets::{
-    ACK, BACK, Came, End, FIN, Load, NO_PACKET, OUT, OUTSIDE, RST, SYN_ACK_BACK, SYN_OUT,
+    ACK, BACK, Came, End, FIN, Load, NO_PACKET, OUT, OUTSIDE, RST, SYN, SYN_ACK_BACK, SYN_OUT,
 };
 use std::alloc::Global;
 use std::process::Abort;
@@ -42,6 +42,11 @@ const ACK_BACK: Came = Came {
     ..SYN_ACK_BACK
 };
 
+const SYN_BACK: Came = Came {
+    load: Load::Tcp(SYN),
+    ..SYN_ACK_BACK
+};
+
 const FIN_OUT: Came = Came {
     load: Load::Tcp(FIN | ACK),
     ..SYN_OUT
@@ -66,7 +71,7 @@ const RST_BACK: Came = Came {
 /// is established while it does, and begins another once it doesn't.
 type Limit = (&'static [Came], u32, Came);
 
-const LIMITS: [Limit; 19] = [
+const LIMITS: [Limit; 23] = [
     (&[OUT], 300, BACK),
     (&[OUT, BACK], 300, OUT),
     (&[OUT, BACK], 300, BACK),
@@ -75,15 +80,19 @@ const LIMITS: [Limit; 19] = [
     (&[ASK, ANSWER, ASK], 60, ASK),
     (&[GRE], 600, GRE_BACK),
     (&[GRE_BACK, GRE], 600, GRE_BACK),
-    // Opening: one end has greeted, or both have and one is answered; only one has greeted, though
-    // both are answered; both were caught in their midst.
+    // Opening: one end has greeted; the other has too, and one of them isn't answered; only one has
+    // greeted, though both are answered; neither was heard to.
     (&[SYN_OUT], 240, SYN_ACK_BACK),
     (&[SYN_OUT, SYN_ACK_BACK], 240, ACK_OUT),
     (&[SYN_OUT, ACK_BACK, ACK_OUT], 240, ACK_BACK),
+    (&[SYN_OUT, SYN_BACK, ACK_OUT], 240, ACK_BACK),
+    (&[ACK_OUT, SYN_ACK_BACK, ACK_OUT], 240, ACK_BACK),
     (&[ACK_OUT, ACK_BACK, ACK_OUT, FIN_BACK], 240, ACK_BACK),
     // Established, also where one end has taken leave.
     (&[SYN_OUT, SYN_ACK_BACK, ACK_OUT], 7440, ACK_BACK),
     (&[SYN_OUT, SYN_ACK_BACK, ACK_OUT, FIN_OUT], 7440, ACK_BACK),
+    (&[SYN_OUT, SYN_ACK_BACK, ACK_OUT, FIN_BACK], 7440, ACK_OUT),
+    (&[SYN_OUT, SYN_BACK, ACK_OUT, ACK_BACK], 7440, ACK_OUT),
     // Closing: both have taken leave, or one has reset it, however far it was and whatever follows.
     (
         &[SYN_OUT, SYN_ACK_BACK, ACK_OUT, FIN_OUT, FIN_BACK],
