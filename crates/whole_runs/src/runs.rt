@@ -136,7 +136,17 @@ fn report(alloc: Global, numbers: Option<[u32; 9]>) -> Result<String, Fail> {
     let Some(numbers) = numbers else {
         return Ok(text);
     };
-    let [records, passed, local, transport, rule, route, ttl, connections, torn] = numbers;
+    let [
+        records,
+        passed,
+        local,
+        transport,
+        rule,
+        route,
+        ttl,
+        connections,
+        torn,
+    ] = numbers;
     let lines = [
         ("records", records),
         ("passed", passed),
