@@ -11,7 +11,7 @@ def checksum(header):
     return 0xFFFF - total
 
 
-def packet(number, length, conversations=10):
+def packet(number, length, conversations=1):
     """A UDP packet of that length, of one of so many conversations in turn."""
     turn = number % conversations
     source = 0xC0A80100 + turn % 200 + 10
@@ -29,13 +29,13 @@ def header(link):
     return struct.pack("<IHHIIII", 0xA1B2C3D4, 2, 4, 0, 0, 0xFFFF, link)
 
 
-def records(count, length, link=b"", conversations=10):
+def records(count, length, link=b"", conversations=1):
     """So many records, each of a packet of that length behind a link header."""
     whole = length + len(link)
     return b"".join(struct.pack("<IIII", n // 1000, n % 1000, whole, whole) + link + packet(n, length, conversations) for n in range(count))
 
 
-def capture(count, length, conversations=10):
+def capture(count, length, conversations=1):
     return header(101) + records(count, length, conversations=conversations)
 
 
@@ -135,7 +135,7 @@ def main():
     write("small.pcap", capture(10**6, 60))
     for power in (0, 4, 5):
         write(f"small-{power}.pcap", capture(10**power if power else 0, 60))
-    for conversations, count in ((10, 10**5), (1000, 10**5), (10_000, 3 * 10**4)):
+    for conversations, count in ((1, 10**5), (10, 10**5), (1000, 10**5), (10_000, 3 * 10**4)):
         write(f"conversations-{conversations}.pcap", capture(count, 60, conversations))
     write("empty.nft", "")
     write("chain.nft", forward([]))

@@ -47,7 +47,7 @@ def main():
         spent, _ = run("empty.nft", "box.txt", f"{name}.pcap")
         other, _ = measured(["tcpdump", "-r", f"{folder}/{name}.pcap", "-w", out], out)
         print(f"10^6 {text}, empty ruleset: {spent:.3f} s; tcpdump -r -w: {other:.3f} s; {spent / other:.2f} times")
-    for conversations, packets in ((10, 10**5), (1000, 10**5), (10_000, 3 * 10**4)):
+    for conversations, packets in ((1, 10**5), (10, 10**5), (1000, 10**5), (10_000, 3 * 10**4)):
         spent, _ = run("stateful.nft", "box.txt", f"conversations-{conversations}.pcap")
         print(f"{packets} packets of {conversations} conversations: {spent * 1e9 / packets:.0f} ns a packet")
     few, _ = run("empty.nft", "two-routes.txt", "small.pcap")
