@@ -8,7 +8,7 @@ use std::process::Abort;
 use std::str;
 use std::test::Fail;
 
-const BOX: &[u8] = b"interface 2 lan 192.168.1.1/24
+pub const BOX: &[u8] = b"interface 2 lan 192.168.1.1/24
 interface 3 wan 203.0.113.1/24
 route 0.0.0.0/0 wan
 default lan

@@ -10,6 +10,8 @@ mod given;
 #[cfg(test)]
 mod limits;
 #[cfg(test)]
+mod listed;
+#[cfg(test)]
 mod packets;
 #[cfg(test)]
 mod searched;

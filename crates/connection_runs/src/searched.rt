@@ -6,7 +6,7 @@ use crate::packets::{ACK, Came, End, FIN, Load, RST, SYN};
 pub struct Past {
     pub came: Came,
     /// Its two ends as far as they are told apart.
-    ends: (End, End),
+    pub ends: (End, End),
     /// Nanoseconds; no moment is before an earlier one.
     pub moment: u64,
     pub outcome: Outcome,
@@ -138,7 +138,7 @@ fn limit(past: &[Past], connection: usize, load: Load) -> u64 {
 }
 
 /// The moment of the last packet of the connection.
-fn last_moment(past: &[Past], connection: usize) -> u64 {
+pub fn last_moment(past: &[Past], connection: usize) -> u64 {
     let mut moment = 0;
     for one in past {
         if one.connection == Some(connection) {
@@ -149,7 +149,7 @@ fn last_moment(past: &[Past], connection: usize) -> u64 {
 }
 
 /// Whether the record at this place began a connection that is live.
-fn is_live(past: &[Past], place: usize, now: u64) -> bool {
+pub fn is_live(past: &[Past], place: usize, now: u64) -> bool {
     let Some(since) = past.get(place..) else {
         return false;
     };
@@ -208,7 +208,7 @@ fn has_reply(past: &[Past], connection: usize) -> bool {
 }
 
 /// Whether a packet of the connection marked it.
-fn has_mark(past: &[Past], connection: usize) -> bool {
+pub fn has_mark(past: &[Past], connection: usize) -> bool {
     past.iter().any(|one| one.connection == Some(connection) && one.came.ttl == MARKING)
 }
 

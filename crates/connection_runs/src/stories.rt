@@ -12,7 +12,7 @@ const RECORDS: usize = 2000;
 
 /// Counts packets by what is known of their connection. Those that come with TTL 21 mark it, and
 /// those with TTL 11 are dropped, whose mark isn't kept.
-const RULES: &str = "table ip t { chain fwd { type filter hook forward priority 0;
+pub const RULES: &str = "table ip t { chain fwd { type filter hook forward priority 0;
  ct state new counter
  ct state established counter
  ct state invalid counter
@@ -108,7 +108,7 @@ fn record(dice: &mut Dice, at: (u32, u32)) -> Came {
 }
 
 /// A story, and what becomes of each of its records.
-fn story(alloc: Global, seed: u32) -> Result<Vec<Past>, Fail> {
+pub fn story(alloc: Global, seed: u32) -> Result<Vec<Past>, Fail> {
     let mut dice = Dice(seed);
     let mut second: u32 = 0;
     let mut past = Vec::new(alloc);
