@@ -31,12 +31,13 @@ pub record Entry : Type 0 where
   -- the closing connection that it ended, which it does even if it is dropped
   pub ended : Option ℕ
 
--- ---- one connection: its entries are the one that began it and those that touched it
-
+-- whether a connection is begun
 abbrev pub does_begin : What → Bool
 does_begin Nothing = false
 does_begin (Begins original reply source dest) = true
 does_begin (Touches k direction) = false
+
+-- ---- one connection: its entries are the one that began it and those that touched it
 
 abbrev pub does_touch : ℕ → What → Bool
 does_touch c Nothing = false

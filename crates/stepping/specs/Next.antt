@@ -1,5 +1,5 @@
 -- What a forwarding box makes of each record: the one entry that follows the entries of all earlier ones.
-use Rattle.std.specs.Prelude.{◌≡◌, ℕ, ◌-◌, ◌<◌, ◌≤◌, max, nat_le, Bool, true, false, not, ◌||◌, if◌then◌else◌, List, [], ◌∷◌, drop, length, Option, Some, None, Result, Ok, Err, unwrap_or}
+use Rattle.std.specs.Prelude.{◌≡◌, ℕ, ◌-◌, ◌<◌, ◌≤◌, max, nat_le, true, false, not, ◌||◌, if◌then◌else◌, List, [], ◌∷◌, drop, length, Option, Some, None, Result, Ok, Err, unwrap_or}
 use Rattle.std.specs.Option.{option_map}
 use Rattle.nft_tree.specs.Tree.{TableTree}
 use Rattle.box_file.specs.Box.{PlantTree, is_own, route, name_of}
@@ -126,7 +126,7 @@ abbrev pub direction_of : Direction → facts_direction.Direction
 direction_of ways.Original = directions.Original
 direction_of ways.Reply = directions.Reply
 
--- what is known of the connection that it belongs to: in direction original its packets leave with the inverse of the reply tuple, so an end is translated where that differs from the one received
+-- what is known of the connection that it belongs to (nft(8), "Conntrack expressions"): in direction original its packets leave with the inverse of the reply tuple, so an end is translated where that differs from the one received
 abbrev pub known_of : ConnectionState → Place → Tracking
 known_of state place = Known (record {
   state = state;
@@ -230,7 +230,7 @@ uncounted s course = record { outcome = course.outcome; events = course.events; 
 abbrev pub counted : Sought → Course → Fate
 counted s course = record { outcome = course.outcome; events = course.events; sighting = Seen s (Counted course.mark (inverse s.tuple) None None) }
 
--- why a connection that is answered so can't be begun beside others
+-- why a connection that is answered so can't be begun beside others (own)
 abbrev pub refusal : Tuple → List Held → Option Cause
 refusal reply others = if nat_le most_held (length others) then Some causes.Full else (if is_taken reply others then Some causes.Clash else None)
 
@@ -238,7 +238,7 @@ abbrev pub begun_unless : Option Cause → Sought → Course → Fate
 begun_unless None s course = counted s course
 begun_unless (Some cause) s course = uncounted s (dropped cause course.events)
 
--- a packet that goes through counts, where it belongs to a connection or begins one; one that doesn't changes nothing of its connection
+-- a packet that goes through counts, where it belongs to a connection or begins one; one that doesn't changes nothing of its connection (own)
 abbrev pub counted_by : State → Belonging → Option Cause → Sought → Course → Fate
 counted_by connection_states.Invalid belonging refused s course = uncounted s course
 counted_by connection_states.Established belonging refused s course = counted s course

@@ -9,7 +9,7 @@ use Rattle.pcap_io.specs.Pcap.{Recorded}
 use Rattle.pcap_io.specs.Sll2.{Sent, sent}
 use Rattle.rule_meaning.specs.declared.event.Event.{Event}
 use Rattle.story.specs.declared.outcome.Outcome.{Outcome}
-use Rattle.story.specs.Story.{Entry, live_in, sends, sent_by}
+use Rattle.story.specs.Story.{Entry, live_in, sent_by}
 use Rattle.rule_check.specs.Checked.{CheckedTree}
 use Rattle.stepping.specs.Next.{Setup}
 

@@ -13,7 +13,6 @@ use Rattle.story.specs.declared.outcome.Outcome.{Outcome}
 use Rattle.story.specs.declared.outcome.Outcome.TheVariants.{Passed, Local, Dropped}
 use Rattle.rule_meaning.specs.declared.facts.Facts.{Facts}
 use Rattle.rule_meaning.specs.declared.facts.Interface.{Interface}
-use Rattle.rule_meaning.specs.declared.event.Ending.{Ending}
 use Rattle.rule_meaning.specs.declared.event.Event.{Event}
 use Rattle.rule_check.specs.Checked.{CheckedTree}
 use Rattle.filter_vm.specs.declared.code.Code.{Code}

@@ -1,5 +1,5 @@
 -- What the last step of a packet makes of the connections held.
-use Rattle.std.specs.Prelude.{◌≡◌, ℕ, Bool, true, false, List, ◌∷◌, Option}
+use Rattle.std.specs.Prelude.{◌≡◌, ℕ, Bool, true, false, List}
 use Rattle.ip_headers.specs.declared.tuple.Kind.{Kind}
 use Rattle.ip_headers.specs.declared.tuple.Kind.TheVariants.{Answer}
 use Rattle.conntrack.specs.declared.belonging.Belonging.{Belonging}
