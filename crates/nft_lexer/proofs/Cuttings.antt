@@ -1,57 +1,34 @@
 -- A text has one cutting or one first fault.
-use Rattle.std.proofs.Common.{◌≡◌, ℕ, zero, suc, ◌-◌, ◌<◌, ◌≤◌, Bool, true, false, ◌==◌, None, List, [], ◌∷◌, ◌++◌, length, take, ◌⊎◌, inl, inr, refl, sym, ap, subst, ◌∙◌, append_assoc, arith}
+use Rattle.std.proofs.Common.{◌≡◌, ℕ, zero, suc, ◌-◌, ◌<◌, ◌≤◌, List, [], ◌∷◌, ◌++◌, length, take, ◌⊎◌, inl, inr, refl, sym, ap, subst, ◌∙◌, append_assoc, arith}
 use Rattle.std.specs.Prelude.{Result, Ok, Err, IfOk, IfErr, MatchResult}
-use Rattle.std.proofs.lemmas.Bool.{cases_lt, eqb-true, eqb-false}
+use Rattle.std.proofs.lemmas.Bool.{cases_lt}
 use Rattle.std.proofs.lemmas.List.{length-append, append-nil, nil_from_length}
 use Rattle.nft_lexer.specs.declared.fault.LexFault.{LexFault}
-use Rattle.nft_lexer.specs.declared.fault.LexFault.TheVariants.{Byte, OpenString, Number, TooLong}
+use Rattle.nft_lexer.specs.declared.fault.LexFault.TheVariants.{TooLong}
 use Rattle.nft_lexer.specs.declared.fault.LexError.{LexError}
 use Rattle.nft_lexer.specs.declared.fault.LexError.TheVariants.{Refused, Memory}
 use Rattle.nft_lexer.specs.declared.token.Mark.{Mark}
-use Rattle.nft_lexer.specs.declared.token.Mark.TheVariants.{OpenBrace, CloseBrace, OpenParenthesis, CloseParenthesis, Comma, Semicolon, Colon, Dot, Slash, Minus, Plus, Equals, At, Ampersand, Bar, EqualTo, NotEqualTo, AtMost, AtLeast, Below, Above}
+use Rattle.nft_lexer.specs.declared.token.Mark.TheVariants.{OpenBrace}
 use Rattle.nft_lexer.specs.Sign.{Spelled}
-use Rattle.nft_lexer.specs.Cut.{Part, blank, joined_line, comment, line_end, name, digits, hexadecimal, dotted, quoted, sole, SpellsPart, IsPartAt, Means, CutsInto, IsCut, BeginsNone, IsFaultAt, FirstFault, HasLexFault, MOST_BYTES, line_after, mark_text}
-use Rattle.nft_lexer.specs.steps.Reading.{Passes, Tells, piece_at, meaning}
-use Rattle.nft_lexer.proofs.Runs.{IsDigits_some, option_cases}
-use Rattle.nft_lexer.proofs.Longest.{stands_one, means_one, same_before, before, byte_fault, string_fault, meant_fault, piece_stands, meant_passes}
+use Rattle.nft_lexer.specs.Cut.{Part, blank, joined_line, line_end, name, digits, dotted, sole, SpellsPart, IsPartAt, Means, CutsInto, IsCut, BeginsNone, IsFaultAt, FirstFault, HasLexFault, MOST_BYTES, line_after, mark_text}
+use Rattle.nft_lexer.specs.steps.Reading.{Passes, Tells, next_at, on_line}
+use Rattle.nft_lexer.proofs.Pieces.{stands_one, means_one, before, next_stands}
 
 -- ---- where a cutting ends
 
 mark_some : (m : Mark) → 0 < length (mark_text m)
 mark_some OpenBrace = omega arith
-mark_some CloseBrace = omega arith
-mark_some OpenParenthesis = omega arith
-mark_some CloseParenthesis = omega arith
-mark_some Comma = omega arith
-mark_some Semicolon = omega arith
-mark_some Colon = omega arith
-mark_some Dot = omega arith
-mark_some Slash = omega arith
-mark_some Minus = omega arith
-mark_some Plus = omega arith
-mark_some Equals = omega arith
-mark_some At = omega arith
-mark_some Ampersand = omega arith
-mark_some Bar = omega arith
-mark_some EqualTo = omega arith
-mark_some NotEqualTo = omega arith
-mark_some AtMost = omega arith
-mark_some AtLeast = omega arith
-mark_some Below = omega arith
-mark_some Above = omega arith
+mark_some m = omega arith
 
 spelled_some : (p : Part) (bytes : List ℕ) → SpellsPart p bytes → 0 < length bytes
 spelled_some blank bytes s = omega (arith, ap length s.1)
-spelled_some joined_line bytes s = omega (arith, ap length s)
-spelled_some (comment c) bytes s = omega (arith, ap length s.0)
-spelled_some line_end bytes s = omega (arith, ap length s)
 spelled_some (name []) bytes s = absurd s.1
-spelled_some (name (b ∷ bs)) bytes s = omega (arith, ap length s.0)
-spelled_some (digits n) bytes s = omega (arith, ap length s.0, IsDigits_some n s.1)
-spelled_some (hexadecimal n) bytes s = omega (arith, ap length s.0)
+spelled_some (digits []) bytes s = absurd (s.1.0 refl)
 spelled_some (dotted a b c d) bytes s = omega (arith, ap length s.0, length-append (a ++ 46 ∷ b ++ 46 ∷ c) (46 ∷ d))
-spelled_some (quoted t) bytes s = omega (arith, ap length s.0)
 spelled_some (sole m) bytes s = omega (arith, ap length s, mark_some m)
+spelled_some joined_line bytes s = omega (arith, ap length s)
+spelled_some line_end bytes s = omega (arith, ap length s)
+spelled_some p bytes s = omega (arith, ap length s.0)
 
 stands_takes : (p : Part) (bytes from to : List ℕ) → IsPartAt p bytes from to → length to < length from
 stands_takes p bytes from to s = omega (arith, spelled_some p bytes s.spelled, ap length s.joined, length-append bytes to)
@@ -118,8 +95,7 @@ one_fault_at (b ∷ bs) line first second (inr (inr f)) (inr (inr g)) = f.5 ∙ 
 one_first : (text : List ℕ) (first second : LexFault) → FirstFault text first → FirstFault text second → first ≡ second
 one_first text first second f g =
     let same = one_cut f.parts g.parts text f.rest g.rest f.tokens g.tokens f.cut g.cut (fault_stops f.rest (line_after f.done) first f.faulty) (fault_stops g.rest (line_after g.done) second g.faulty) in
-    let all : f.done ++ f.rest ≡ g.done ++ f.rest = sym f.joined ∙ g.joined ∙ ap (λ (t : List ℕ). g.done ++ t) (sym same.1) in
-    let done : f.done ≡ g.done = same_before f.done g.done f.rest all in
+    let done : f.done ≡ g.done = sym (before text f.done f.rest f.joined) ∙ ap (λ (t : List ℕ). take (length text - length t) text) same.1 ∙ before text g.done g.rest g.joined in
     let there : IsFaultAt f.rest (line_after f.done) second = subst (λ (t : List ℕ). IsFaultAt f.rest (line_after t) second) (sym done) (subst (λ (t : List ℕ). IsFaultAt t (line_after g.done) second) (sym same.1) g.faulty) in
     one_fault_at f.rest (line_after f.done) first second f.faulty there
 
@@ -147,12 +123,9 @@ cut_push (q ∷ qs) from mid to xs new p bytes c s m =
     (c.0, c.1, c.2, c.3 ++ new, c.4, c.5, ap (λ (t : List Spelled). t ++ new) c.6 ∙ append_assoc c.2 c.3 new, cut_push qs c.1 mid to c.3 new p bytes c.7 s m)
 
 pub reached_push : (text rest after : List ℕ) (tokens new : List Spelled) → Reached text rest tokens → Passes rest new after → Reached text after (tokens ++ new)
-reached_push text rest after tokens new r x = record {
-  parts = r.parts ++ x.0 ∷ [];
-  done = r.done ++ x.1;
-  joined = r.joined ∙ ap (λ (t : List ℕ). r.done ++ t) x.2.joined ∙ sym (append_assoc r.done x.1 after);
-  cut = cut_push r.parts text rest after tokens new x.0 x.1 r.cut x.2 x.3;
-}
+reached_push text rest after tokens new r x =
+    let joined = r.joined ∙ ap (λ (t : List ℕ). r.done ++ t) x.2.joined ∙ sym (append_assoc r.done x.1 after) in
+    record { parts = r.parts ++ x.0 ∷ []; done = r.done ++ x.1; joined = joined; cut = cut_push r.parts text rest after tokens new x.0 x.1 r.cut x.2 x.3 }
 
 pub passes_less : (from to : List ℕ) (tokens : List Spelled) → Passes from tokens to → length to < length from
 passes_less from to tokens x = stands_takes x.0 x.1 from to x.2
@@ -161,23 +134,10 @@ pub reached_within : (text rest : List ℕ) (tokens : List Spelled) → Reached 
 reached_within text rest tokens r = omega (arith, ap length r.joined, length-append r.done rest)
 
 pub reached_all : (text rest : List ℕ) (tokens : List Spelled) → length text ≤ MOST_BYTES → length rest ≡ 0 → Reached text rest tokens → IsCut text tokens
-reached_all text rest tokens fits nothing r = record {
-  fits = fits;
-  parts = r.parts;
-  cut = subst (λ (t : List ℕ). CutsInto r.parts text t tokens) (nil_from_length rest nothing) r.cut;
-}
+reached_all text rest tokens fits nothing r = record { fits = fits; parts = r.parts; cut = subst (λ (t : List ℕ). CutsInto r.parts text t tokens) (nil_from_length rest nothing) r.cut }
 
 fault_there : (text rest : List ℕ) (tokens : List Spelled) (fault : LexFault) → length text ≤ MOST_BYTES → (r : Reached text rest tokens) → IsFaultAt rest (line_after r.done) fault → FirstFault text fault
-fault_there text rest tokens fault fits r f = record {
-  fits = fits;
-  parts = r.parts;
-  done = r.done;
-  rest = rest;
-  tokens = tokens;
-  joined = r.joined;
-  cut = r.cut;
-  faulty = f;
-}
+fault_there text rest tokens fault fits r f = record { fits = fits; parts = r.parts; done = r.done; rest = rest; tokens = tokens; joined = r.joined; cut = r.cut; faulty = f }
 
 pub reached_fault : (text rest : List ℕ) (tokens : List Spelled) (fault : LexFault) → length text ≤ MOST_BYTES → Reached text rest tokens → IsFaultAt rest (line_after (take (length text - length rest) text)) fault → FirstFault text fault
 reached_fault text rest tokens fault fits r f =
@@ -188,25 +148,19 @@ reached_fault text rest tokens fault fits r f =
 abbrev pub HasAnswer : List ℕ → Type 0
 HasAnswer text = ((tokens : List Spelled) × IsCut text tokens) ⊎ ((fault : LexFault) × HasLexFault text fault)
 
--- no piece begins where the cutting has come to
-ends_so : (text : List ℕ) (b : ℕ) (bs : List ℕ) (tokens : List Spelled) → length text ≤ MOST_BYTES → Reached text (b ∷ bs) tokens → piece_at (b ∷ bs) ≡ None → (c : Bool) → (b == 34) ≡ c → HasAnswer text
-ends_so text b bs tokens fits r none true quote = inr (OpenString (line_after r.done), inr (fault_there text (b ∷ bs) tokens (OpenString (line_after r.done)) fits r (string_fault (b ∷ bs) (line_after r.done) (omega arith) none (eqb-true b 34 quote))))
-ends_so text b bs tokens fits r none false other = inr (Byte (line_after r.done), inr (fault_there text (b ∷ bs) tokens (Byte (line_after r.done)) fits r (byte_fault (b ∷ bs) (line_after r.done) (omega arith) none (eqb-false b 34 other))))
+outcome : {A E : Type 0} (P : A → Type 0) (Q : E → Type 0) (r : Result A E) → MatchResult r P Q → ((x : A) × P x) ⊎ ((e : E) × Q e)
+outcome P Q (Ok x) m = inl (x, m)
+outcome P Q (Err e) m = inr (e, m)
 
 some_from : (n : ℕ) (text rest : List ℕ) (tokens : List Spelled) → length text ≤ MOST_BYTES → length rest ≤ n → Reached text rest tokens → HasAnswer text
 some_from n text [] tokens fits le r = inl (tokens, reached_all text [] tokens fits refl r)
 some_from zero text (b ∷ bs) tokens fits le r = absurd (omega arith)
 some_from (suc n) text (b ∷ bs) tokens fits le r =
-    elim (option_cases (piece_at (b ∷ bs))) [
-      | inl none ↦ ends_so text b bs tokens fits r none (b == 34) refl
-      | inr w ↦
-          let there = piece_stands (b ∷ bs) w.0 w.1 in
-          elim (option_cases (meaning w.0.0 there.0)) [
-            | inl none ↦ inr (Number (line_after r.done), inr (fault_there text (b ∷ bs) tokens (Number (line_after r.done)) fits r (meant_fault (b ∷ bs) (line_after r.done) w.0.0 there.0 w.0.1 (omega arith) there.1 none)))
-            | inr m ↦
-                let less : length w.0.1 < length (b ∷ bs) = stands_takes w.0.0 there.0 (b ∷ bs) w.0.1 there.1 in
-                some_from n text w.0.1 (tokens ++ m.0) fits (omega arith) (reached_push text (b ∷ bs) w.0.1 tokens m.0 r (meant_passes (b ∷ bs) w.0.1 w.0.0 there.0 m.0 there.1 m.1))
-          ]
+    elim (outcome _ _ (next_at (b ∷ bs)) (next_stands (b ∷ bs) (omega arith))) [
+      | inl x ↦
+          let less : length x.0.1 < length (b ∷ bs) = passes_less (b ∷ bs) x.0.1 x.0.0 x.1 in
+          some_from n text x.0.1 (tokens ++ x.0.0) fits (omega arith) (reached_push text (b ∷ bs) x.0.1 tokens x.0.0 r x.1)
+      | inr f ↦ inr (on_line f.0 (line_after r.done), inr (fault_there text (b ∷ bs) tokens _ fits r (f.1 (line_after r.done))))
     ]
 
 pub some_answer : (text : List ℕ) → HasAnswer text
@@ -225,9 +179,7 @@ answer_only view text (Err Memory) found told tokens c = refl
 answer_only view text (Err (Refused fault)) found told tokens c = absurd (faultless text tokens fault c (inr told))
 
 pub fault_answer : {V : Type 0} (text : List ℕ) (r : Result V LexError) → IfErr r (Tells (FirstFault text)) → (fault : LexFault) → r ≡ Err (Refused fault) → HasLexFault text fault
-fault_answer text (Ok v) told fault e = absurd cc
-fault_answer text (Err Memory) told fault e = absurd cc
-fault_answer text (Err (Refused first)) told fault e = let same : first ≡ fault = cc in inr (subst (FirstFault text) same told)
+fault_answer text r told fault e = inr (rw e at told)
 
 pub fault_only : {V : Type 0} (view : V → List Spelled) (text : List ℕ) (r : Result V LexError) → IfOk r (λ v. IsCut text (view v)) → IfErr r (Tells (FirstFault text))
     → (fault : LexFault) → HasLexFault text fault → MatchResult r (λ _. ⊥) (λ e. (e ≡ Refused fault) ⊎ (e ≡ Memory))
@@ -235,13 +187,11 @@ fault_only view text (Ok v) found told fault h = faultless text (view v) fault f
 fault_only view text (Err Memory) found told fault h = inr refl
 fault_only view text (Err (Refused first)) found told fault h = inl (ap Refused (one_fault text first fault (inr told) h))
 
-not_long_at : (rest : List ℕ) (line : ℕ) (fault : LexFault) → fault ≡ TooLong → IsFaultAt rest line fault → ⊥
-not_long_at [] line fault e f = f
-not_long_at (b ∷ bs) line fault e (inl f) = let same : TooLong ≡ Byte line = sym e ∙ f.2 in absurd cc
-not_long_at (b ∷ bs) line fault e (inr (inl f)) = let same : TooLong ≡ OpenString line = sym e ∙ f.2 in absurd cc
-not_long_at (b ∷ bs) line fault e (inr (inr f)) = let same : TooLong ≡ Number line = sym e ∙ f.5 in absurd cc
+not_long_at : (rest : List ℕ) (line : ℕ) → IsFaultAt rest line TooLong → ⊥
+not_long_at [] line f = f
+not_long_at (b ∷ bs) line (inl f) = absurd (cc f.2)
+not_long_at (b ∷ bs) line (inr (inl f)) = absurd (cc f.2)
+not_long_at (b ∷ bs) line (inr (inr f)) = absurd (cc f.5)
 
 pub not_long : {V : Type 0} (text : List ℕ) (r : Result V LexError) → IfErr r (Tells (FirstFault text)) → r ≡ Err (Refused TooLong) → ⊥
-not_long text (Ok v) told e = absurd cc
-not_long text (Err Memory) told e = absurd cc
-not_long text (Err (Refused fault)) told e = let long : fault ≡ TooLong = cc in not_long_at told.rest (line_after told.done) fault long told.faulty
+not_long text r told e = let f = rw e at told in not_long_at f.rest (line_after f.done) f.faulty

@@ -1,408 +1,363 @@
--- What is read is spelled, and each spelling is read.
-use Rattle.std.proofs.Common.{◌≡◌, ℕ, ◌+◌, ◌≤◌, Bool, true, false, cond, ◌==◌, List, [], ◌∷◌, ◌++◌, length, take, drop, Option, Some, None, inl, inr, refl, sym, ap, ◌∙◌, append_assoc, arith}
-use Rattle.std.specs.Prelude.{IfSome, IsSomeAnd, IsTrue}
+-- What is read is the longest piece, and there is one.
+use Rattle.std.proofs.Common.{◌≡◌, ◌≢◌, ℕ, suc, ◌+◌, ◌-◌, ◌<◌, ◌≤◌, Bool, true, false, ◌==◌, List, [], ◌∷◌, ◌++◌, length, take, drop, Option, Some, None, ◌⊎◌, inl, inr, refl, sym, ap, subst, ◌∙◌, append_assoc, arith, rules}
+use Rattle.std.specs.Prelude.{IfSome, IsSomeAnd, IsTrue, MatchResult, Result, Err, slice_index}
 use Rattle.std.specs.Char.{is_ascii_digit, is_ascii_hexdigit}
-use Rattle.std.specs.List.{prefix_len, list_all}
-use Rattle.std.proofs.lemmas.Bool.{and_parts, eqb-true}
+use Rattle.std.specs.List.{AllByRecursion, prefix_len, list_all}
+use Rattle.std.specs.Option.{option_or}
+use Rattle.std.proofs.lemmas.Bool.{and_parts, eqb-true, eqb-false}
 use Rattle.std.proofs.lemmas.Bool.Decides.{nat_tests}
-use Rattle.std.proofs.lemmas.List.{take_at, drop_at, take-append-drop, length-drop, length-append, append-nil}
+use Rattle.std.proofs.lemmas.List.{take_at, drop_at, take-append-drop, length-append, length-drop, append-nil}
 use Rattle.std.proofs.Math.Seq.{take-append-add, drop-append-add}
 use Rattle.nft_lexer.specs.declared.token.Mark.{Mark}
-use Rattle.nft_lexer.specs.declared.token.Mark.TheVariants.{OpenBrace, CloseBrace, OpenParenthesis, CloseParenthesis, Comma, Semicolon, Colon, Dot, Slash, Minus, Plus, Equals, At, Ampersand, Bar, EqualTo, NotEqualTo, AtMost, AtLeast, Below, Above}
+use Rattle.nft_lexer.specs.declared.token.Mark.TheVariants.{Equals, EqualTo, AtMost, AtLeast, Below, Above}
 use Rattle.nft_lexer.specs.declared.piece.Class.{Class}
 use Rattle.nft_lexer.specs.declared.piece.Class.TheVariants as classes
-use Rattle.nft_lexer.specs.Cut.{Part, blank, joined_line, comment, line_end, name, digits, hexadecimal, dotted, quoted, sole, is_blank, begins_word, continues_word, is_no_line_end, stands_in_string, mark_text, IsDigits, IsHexadecimal, SpellsPart}
-use Rattle.nft_lexer.specs.steps.Reading.{option_else, class_of, mark_of, long_mark_of, after_byte, digits_at, hexadecimal_at, Groups, AreDigits, dotted_at, number_at, quoted_at, mark_at, class_at, piece_at}
-use Rattle.nft_lexer.proofs.Runs.{some_is, option_cases, IfSome_at, else_found, view_found, front_all, front_append, digits_found, digits_more, digits_exact, byte_found, hexadecimal_found, hexadecimal_more, hexadecimal_none, hexadecimal_none-one, bytes_of, bytes_regroup, dotted_found, dotted_more, dotted_none-end}
+use Rattle.nft_lexer.specs.declared.cutting.Fault.{Fault}
+use Rattle.nft_lexer.specs.declared.cutting.Fault.TheVariants as faults
+use Rattle.nft_lexer.specs.Sign.{Spelled}
+use Rattle.nft_lexer.specs.Cut.{Part, blank, joined_line, comment, line_end, name, digits, hexadecimal, dotted, quoted, sole, is_blank, begins_word, continues_word, is_no_line_end, stands_in_string, mark_text, IsDigits, SpellsPart, IsPartAt, Means, BeginsNone, IsFaultAt}
+use Rattle.nft_lexer.specs.steps.Reading.{◌>>=◌, class_of, mark_from, short_marks, long_marks, after_byte, front, behind, run_at, is_zero, hexadecimal_at, next_group_at, dotted_at, number_at, quoted_at, long_mark_at, mark_at, class_at, piece_at, meaning, next_at, on_line, Passes}
+use Rattle.nft_lexer.proofs.Numbers.{IfSome_weaker, bind_found, view_found, by_test, meaning_found, meaning_only}
 
--- ---- classes
+-- ---- options
 
--- what a byte of the class is
-abbrev Meets : Class → (ts te tb th tq td tl : Bool) → Type 0
-Meets classes.Blank ts te tb th tq td tl = IsTrue ts
-Meets classes.LineEnd ts te tb th tq td tl = IsTrue te
-Meets classes.Backslash ts te tb th tq td tl = IsTrue tb
-Meets classes.Hash ts te tb th tq td tl = IsTrue th
-Meets classes.Quote ts te tb th tq td tl = IsTrue tq
-Meets classes.Digit ts te tb th tq td tl = IsTrue td
-Meets classes.Letter ts te tb th tq td tl = IsTrue tl
-Meets classes.Other ts te tb th tq td tl = tq ≡ false
+pub option_cases : {A : Type 0} (o : Option A) → (o ≡ None) ⊎ ((x : A) × (o ≡ Some x))
+option_cases None = inl refl
+option_cases (Some x) = inr (x, refl)
 
-tests_meet : (ts te tb th tq td tl : Bool) → Meets (cond ts classes.Blank (cond te classes.LineEnd (cond tb classes.Backslash (cond th classes.Hash (cond tq classes.Quote (cond td classes.Digit (cond tl classes.Letter classes.Other))))))) ts te tb th tq td tl
-tests_meet true te tb th tq td tl = refl
-tests_meet false true tb th tq td tl = refl
-tests_meet false false true th tq td tl = refl
-tests_meet false false false true tq td tl = refl
-tests_meet false false false false true td tl = refl
-tests_meet false false false false false true tl = refl
-tests_meet false false false false false false true = refl
-tests_meet false false false false false false false = refl
+IfSome_at : {A : Type 0} (o : Option A) (P : A → Type 0) (x : A) → o ≡ Some x → IfSome o P → P x
+IfSome_at o P x e h = rw e at h
 
-abbrev IsOf : Class → ℕ → Type 0
-IsOf k b = Meets k (is_blank b) (b == 10) (b == 92) (b == 35) (b == 34) (is_ascii_digit b) (begins_word b)
+else_found : {A : Type 0} (Q : A → Type 0) (o d : Option A) → IfSome o Q → IfSome d Q → IfSome (option_or o d) Q
+else_found Q None d h k = k
+else_found Q (Some x) d h k = h
 
-own_class : (b : ℕ) → IsOf (class_of b) b
-own_class b = tests_meet (is_blank b) (b == 10) (b == 92) (b == 35) (b == 34) (is_ascii_digit b) (begins_word b)
+-- ---- runs
 
-blank_class : (b : ℕ) → is_blank b ≡ true → class_of b ≡ classes.Blank
-blank_class b e = rw e refl
+-- the bytes of the front pass
+front_all : (test : ℕ → Bool) (ts : List ℕ) → list_all test (front test ts) ≡ true
+front_all test [] = refl
+front_all test (b ∷ bs) =
+    by_test (λ n. list_all test (take n (b ∷ bs)) ≡ true) (test b) (1 + prefix_len test bs) 0 (λ e.
+    let one : 1 + prefix_len test bs ≡ suc (prefix_len test bs) = omega arith in
+    rw (one, e) (front_all test bs)) (λ _. refl)
 
-digit_apart : (b : ℕ) → is_ascii_digit b ≡ true → (is_blank b ≡ false) × ((b == 10) ≡ false) × ((b == 92) ≡ false) × ((b == 35) ≡ false) × ((b == 34) ≡ false)
-digit_apart b e = (grind (arith, nat_tests), grind (arith, nat_tests), grind (arith, nat_tests), grind (arith, nat_tests), grind (arith, nat_tests))
+front_behind : (test : ℕ → Bool) (ts : List ℕ) → ts ≡ front test ts ++ behind test ts
+front_behind test ts = sym (take-append-drop (prefix_len test ts) ts)
 
-digit_class : (b : ℕ) → is_ascii_digit b ≡ true → class_of b ≡ classes.Digit
-digit_class b e = let apart = digit_apart b e in rw (apart.0, apart.1, apart.2, apart.3, apart.4, e) refl
+behind_short : (test : ℕ → Bool) (ts : List ℕ) → length (behind test ts) ≤ length ts
+behind_short test ts = omega (arith, length-drop (prefix_len test ts) ts)
 
-letter_apart : (b : ℕ) → begins_word b ≡ true → (is_blank b ≡ false) × ((b == 10) ≡ false) × ((b == 92) ≡ false) × ((b == 35) ≡ false) × ((b == 34) ≡ false) × (is_ascii_digit b ≡ false)
-letter_apart b e = (grind (arith, nat_tests), grind (arith, nat_tests), grind (arith, nat_tests), grind (arith, nat_tests), grind (arith, nat_tests), grind (arith, nat_tests))
+-- bytes that pass go before the front of what follows them
+passed : (test : ℕ → Bool) (xs rest : List ℕ) → list_all test xs ≡ true → prefix_len test (xs ++ rest) ≡ length xs + prefix_len test rest
+passed test [] rest all = omega arith
+passed test (x ∷ xs) rest all =
+    let parts = and_parts (test x) (list_all test xs) all in
+    let others = passed test xs rest parts.1 in
+    rw parts.0 (omega arith)
 
-letter_class : (b : ℕ) → begins_word b ≡ true → class_of b ≡ classes.Letter
-letter_class b e = let apart = letter_apart b e in rw (apart.0, apart.1, apart.2, apart.3, apart.4, apart.5, e) refl
+front_more : (test : ℕ → Bool) (xs rest : List ℕ) → list_all test xs ≡ true → front test (xs ++ rest) ≡ xs ++ front test rest
+front_more test xs rest all = rw (passed test xs rest all) (take-append-add xs rest (prefix_len test rest))
 
-digit_no_x : (b : ℕ) → is_ascii_digit b ≡ true → (b == 120) ≡ false
-digit_no_x b e = grind (arith, nat_tests)
+behind_more : (test : ℕ → Bool) (xs rest : List ℕ) → list_all test xs ≡ true → behind test (xs ++ rest) ≡ behind test rest
+behind_more test xs rest all = rw (passed test xs rest all) (drop-append-add xs rest (prefix_len test rest))
+
+abbrev IsRun : (ℕ → Bool) → List ℕ → Type 0
+IsRun test bytes = (bytes ≢ []) × IsTrue (list_all test bytes)
+
+run_found : (test : ℕ → Bool) (ts : List ℕ) → IfSome (run_at test ts) (λ x. (ts ≡ x.0 ++ x.1) × IsRun test x.0)
+unfolding run_at
+run_found test [] = tt
+run_found test (b ∷ bs) =
+    by_test (λ o. IfSome o (λ x. (b ∷ bs ≡ x.0 ++ x.1) × IsRun test x.0)) (test b) (Some (b ∷ front test bs, behind test bs)) None
+    (λ e. (ap (λ (t : List ℕ). b ∷ t) (front_behind test bs), ((λ n. absurd cc), rw e (front_all test bs)))) (λ _. tt)
+
+-- a run is read together with the bytes that go on with it
+run_more : (test : ℕ → Bool) (ds rest : List ℕ) → IsRun test ds → run_at test (ds ++ rest) ≡ Some (ds ++ front test rest, behind test rest)
+unfolding run_at
+run_more test [] rest s = absurd (s.0 refl)
+run_more test (b ∷ bs) rest s =
+    let parts = and_parts (test b) (list_all test bs) s.1 in
+    rw (parts.0, front_more test bs rest parts.1, behind_more test bs rest parts.1) refl
+
+run_exact : (test : ℕ → Bool) (ds rest : List ℕ) → IsRun test ds → prefix_len test rest ≡ 0 → run_at test (ds ++ rest) ≡ Some (ds, rest)
+run_exact test ds rest s none = run_more test ds rest s ∙ rw (none, append-nil ds) refl
+
+byte_found : (k : ℕ) (ts : List ℕ) → IfSome (after_byte k ts) (λ r. ts ≡ k ∷ r)
+byte_found k [] = tt
+byte_found k (b ∷ bs) =
+    by_test (λ o. IfSome o (λ r. b ∷ bs ≡ k ∷ r)) (b == k) (Some bs) None (λ e. ap (λ (x : ℕ). x ∷ bs) (eqb-true b k e)) (λ _. tt)
 
 -- ---- what is read is spelled
 
+-- the piece is spelled in front, and this follows it
 abbrev pub Front : Part → List ℕ → List ℕ → Type 0
 Front p ts rest = (bytes : List ℕ) × (ts ≡ bytes ++ rest) × SpellsPart p bytes
+
+-- so it is of digits and what follows them, of which it takes something
+abbrev Onward : List ℕ → List ℕ → Part × List ℕ → Type 0
+Onward first ts x = Front x.0 (first ++ ts) x.1 × (length x.1 < length ts)
+
+zero_is : (ds : List ℕ) → is_zero ds ≡ true → ds ≡ 48 ∷ []
+zero_is [] e = absurd cc
+zero_is (b ∷ []) e = ap (λ (x : ℕ). x ∷ []) (eqb-true b 48 e)
+zero_is (b ∷ c ∷ cs) e = absurd (grind (arith, nat_tests))
+
+hexadecimal_found : (first ts : List ℕ) → IfSome (hexadecimal_at first ts) (Onward first ts)
+unfolding hexadecimal_at
+hexadecimal_found first ts =
+    bind_found _ (after_byte 120 ts) _ (byte_found 120 ts) (λ r er.
+    by_test (λ o. IfSome (o >>= (λ x. Some (hexadecimal x.0, x.1))) (Onward first ts)) (is_zero first) (run_at is_ascii_hexdigit r) None (λ zero.
+    bind_found _ (run_at is_ascii_hexdigit r) _ (run_found is_ascii_hexdigit r) (λ x h.
+    ((48 ∷ 120 ∷ x.0, rw (zero_is first zero, er, h.0) refl, (refl, h.1)), omega (arith, ap length er, ap length h.0, length-append x.0 x.1)))) (λ _. tt))
+
+group_found : (ts : List ℕ) → IfSome (next_group_at ts) (λ x. (ts ≡ 46 ∷ (x.0 ++ x.1)) × IsDigits x.0)
+unfolding next_group_at
+group_found ts =
+    bind_found _ (after_byte 46 ts) (run_at is_ascii_digit) (byte_found 46 ts) (λ r er.
+    IfSome_weaker (run_at is_ascii_digit r) _ _ (λ x h. (er ∙ ap (λ (t : List ℕ). 46 ∷ t) h.0, h.1)) (run_found is_ascii_digit r))
+
+-- what follows the first of four groups, grouped from the right
+abbrev groups_after : (b c d rest : List ℕ) → List ℕ
+groups_after b c d rest = 46 ∷ (b ++ (46 ∷ (c ++ (46 ∷ (d ++ rest)))))
+
+regroup : (a b c d rest : List ℕ) → (a ++ 46 ∷ b ++ 46 ∷ c ++ 46 ∷ d) ++ rest ≡ a ++ groups_after b c d rest
+regroup a b c d rest = simp append_assoc
+
+dotted_found : (first ts : List ℕ) → IsDigits first → IfSome (dotted_at first ts) (Onward first ts)
+unfolding dotted_at
+dotted_found first ts s =
+    bind_found _ (next_group_at ts) _ (group_found ts) (λ b hb.
+    bind_found _ (next_group_at b.1) _ (group_found b.1) (λ c hc.
+    bind_found _ (next_group_at c.1) _ (group_found c.1) (λ d hd.
+    let all : ts ≡ groups_after b.0 c.0 d.0 d.1 = hb.0 ∙ ap (λ (t : List ℕ). 46 ∷ (b.0 ++ t)) (hc.0 ∙ ap (λ (t : List ℕ). 46 ∷ (c.0 ++ t)) hd.0) in (
+      (_, ap (λ (t : List ℕ). first ++ t) all ∙ sym (regroup first b.0 c.0 d.0 d.1), (refl, s, hb.1, hc.1, hd.1)),
+      omega (arith, ap length hb.0, ap length hc.0, ap length hd.0, length-append b.0 b.1, length-append c.0 c.1, length-append d.0 d.1),
+    ))))
 
 number_found : (ts : List ℕ) → IfSome (number_at ts) (λ x. Front x.0 ts x.1)
 unfolding number_at
 number_found ts =
-    else_found _ (hexadecimal_at ts) _ _ (hexadecimal_found ts) (λ x h. (48 ∷ 120 ∷ x.0, h.0, (refl, h.1)))
-    (else_found _ (dotted_at ts) _ _ (dotted_found ts) (λ x h. (bytes_of x.0, h.0, (refl, h.1.0, h.1.1, h.1.2, h.1.3)))
-    (view_found _ (digits_at ts) _ (digits_found ts) (λ x h. (x.0, h.0, (refl, h.1)))))
+    bind_found _ (run_at is_ascii_digit ts) _ (run_found is_ascii_digit ts) (λ a h.
+    rw h.0 (else_found _ (hexadecimal_at a.0 a.1) _ (IfSome_weaker _ _ _ (λ x (g : Onward a.0 a.1 x). g.0) (hexadecimal_found a.0 a.1))
+    (else_found _ (dotted_at a.0 a.1) _ (IfSome_weaker _ _ _ (λ x (g : Onward a.0 a.1 x). g.0) (dotted_found a.0 a.1 h.1))
+    (a.0, refl, (refl, h.1)))))
 
-mark_step : (b k : ℕ) (m : Mark) (d : Option Mark) (c : Bool) → (b == k) ≡ c → k ∷ [] ≡ mark_text m → IfSome d (λ n. b ∷ [] ≡ mark_text n) → IfSome (cond c (Some m) d) (λ n. b ∷ [] ≡ mark_text n)
-mark_step b k m d true e at h = let same : b ≡ k = eqb-true b k e in ap (λ (x : ℕ). x ∷ []) same ∙ at
-mark_step b k m d false e at h = h
+abbrev EndIn : List ℕ → List Mark → Type 0
+EndIn t ms = AllByRecursion (λ m. mark_text m ≡ slice_index (mark_text m) 0 ∷ t) ms
 
-mark_found : (b : ℕ) → IfSome (mark_of b) (λ m. b ∷ [] ≡ mark_text m)
-mark_found b =
-    mark_step b 123 OpenBrace _ (b == 123) refl refl
-    (mark_step b 125 CloseBrace _ (b == 125) refl refl
-    (mark_step b 40 OpenParenthesis _ (b == 40) refl refl
-    (mark_step b 41 CloseParenthesis _ (b == 41) refl refl
-    (mark_step b 44 Comma _ (b == 44) refl refl
-    (mark_step b 59 Semicolon _ (b == 59) refl refl
-    (mark_step b 58 Colon _ (b == 58) refl refl
-    (mark_step b 46 Dot _ (b == 46) refl refl
-    (mark_step b 47 Slash _ (b == 47) refl refl
-    (mark_step b 45 Minus _ (b == 45) refl refl
-    (mark_step b 43 Plus _ (b == 43) refl refl
-    (mark_step b 61 Equals _ (b == 61) refl refl
-    (mark_step b 64 At _ (b == 64) refl refl
-    (mark_step b 38 Ampersand _ (b == 38) refl refl
-    (mark_step b 124 Bar _ (b == 124) refl refl
-    (mark_step b 60 Below _ (b == 60) refl refl
-    (mark_step b 62 Above None (b == 62) refl refl tt))))))))))))))))
+mark_found : (t : List ℕ) (b : ℕ) (ms : List Mark) → EndIn t ms → IfSome (mark_from b ms) (λ m. mark_text m ≡ b ∷ t)
+mark_found t b [] all = tt
+mark_found t b (m ∷ ms) all =
+    by_test (λ o. IfSome o (λ m. mark_text m ≡ b ∷ t)) (b == slice_index (mark_text m) 0) (Some m) (mark_from b ms)
+    (λ e. all.0 ∙ ap (λ (x : ℕ). x ∷ t) (sym (eqb-true b (slice_index (mark_text m) 0) e))) (λ _. mark_found t b ms all.1)
 
-long_step : (a k : ℕ) (m : Mark) (d : Option Mark) (c : Bool) → (a == k) ≡ c → k ∷ 61 ∷ [] ≡ mark_text m → IfSome d (λ n. a ∷ 61 ∷ [] ≡ mark_text n) → IfSome (cond c (Some m) d) (λ n. a ∷ 61 ∷ [] ≡ mark_text n)
-long_step a k m d true e at h = let same : a ≡ k = eqb-true a k e in ap (λ (x : ℕ). x ∷ 61 ∷ []) same ∙ at
-long_step a k m d false e at h = h
-
-second_step : (a b : ℕ) (d : Option Mark) (c : Bool) → (b == 61) ≡ c → IfSome d (λ n. a ∷ 61 ∷ [] ≡ mark_text n) → IfSome (cond c d None) (λ n. a ∷ b ∷ [] ≡ mark_text n)
-second_step a b d true e h = let same : b ≡ 61 = eqb-true b 61 e in rw same h
-second_step a b d false e h = tt
-
-long_mark_found : (a b : ℕ) → IfSome (long_mark_of a b) (λ m. a ∷ b ∷ [] ≡ mark_text m)
-long_mark_found a b =
-    second_step a b _ (b == 61) refl
-    (long_step a 61 EqualTo _ (a == 61) refl refl
-    (long_step a 33 NotEqualTo _ (a == 33) refl refl
-    (long_step a 60 AtMost _ (a == 60) refl refl
-    (long_step a 62 AtLeast None (a == 62) refl refl tt))))
-
-marks_found : (ts : List ℕ) → IfSome (mark_at ts) (λ x. Front x.0 ts x.1)
-unfolding mark_at
-marks_found [] = tt
-marks_found (a ∷ []) = view_found _ (mark_of a) (λ m. (sole m, [])) (mark_found a) (λ m e. (a ∷ [], refl, e))
-marks_found (a ∷ b ∷ bs) =
-    else_found _ (long_mark_of a b) _ _ (long_mark_found a b) (λ m e. (a ∷ b ∷ [], refl, e))
-    (view_found _ (mark_of a) (λ m. (sole m, b ∷ bs)) (mark_found a) (λ m e. (a ∷ [], refl, e)))
+marks_found : (b : ℕ) (bs : List ℕ) → IfSome (mark_at b bs) (λ x. Front x.0 (b ∷ bs) x.1)
+unfolding mark_at long_mark_at
+marks_found b bs =
+    let long : EndIn (61 ∷ []) long_marks = search rules in
+    let short : EndIn [] short_marks = search rules in
+    else_found _ (long_mark_at b bs) _
+    (bind_found _ (mark_from b long_marks) _ (mark_found (61 ∷ []) b long_marks long) (λ m e.
+    bind_found _ (after_byte 61 bs) _ (byte_found 61 bs) (λ r er. (b ∷ 61 ∷ [], ap (λ (t : List ℕ). b ∷ t) er, sym e))))
+    (view_found _ (mark_from b short_marks) _ (mark_found [] b short_marks short) (λ m e. (b ∷ [], refl, sym e)))
 
 quoted_found : (ts : List ℕ) → IfSome (quoted_at ts) (λ x. Front x.0 (34 ∷ ts) x.1)
 unfolding quoted_at
 quoted_found ts =
-    let n = prefix_len stands_in_string ts in
-    view_found _ (after_byte 34 (drop n ts)) _ (byte_found 34 (drop n ts)) (λ r e.
-    let all : ts ≡ take n ts ++ 34 ∷ r = sym (take-append-drop n ts) ∙ ap (λ (t : List ℕ). take n ts ++ t) e in
-    let right : take n ts ++ 34 ∷ r ≡ (take n ts ++ 34 ∷ []) ++ r = sym (append_assoc (take n ts) (34 ∷ []) r) in
-    (34 ∷ (take n ts ++ 34 ∷ []), ap (λ (t : List ℕ). 34 ∷ t) (all ∙ right), (refl, front_all stands_in_string ts)))
+    let s = front stands_in_string ts in
+    view_found _ (after_byte 34 (behind stands_in_string ts)) _ (byte_found 34 (behind stands_in_string ts)) (λ r e.
+    let all : ts ≡ s ++ 34 ∷ r = front_behind stands_in_string ts ∙ ap (λ (t : List ℕ). s ++ t) e in
+    (34 ∷ (s ++ 34 ∷ []), ap (λ (t : List ℕ). 34 ∷ t) (all ∙ sym (append_assoc s (34 ∷ []) r)), (refl, front_all stands_in_string ts)))
 
-class_found : (k : Class) (b : ℕ) (bs : List ℕ) → IsOf k b → IfSome (class_at k b bs) (λ x. Front x.0 (b ∷ bs) x.1)
+abbrev Found : ℕ → List ℕ → Class → Type 0
+Found b bs k = IfSome (class_at k b bs) (λ x. Front x.0 (b ∷ bs) x.1)
+
+class_found : (b : ℕ) (bs : List ℕ) → Found b bs (class_of b)
 unfolding class_at
-class_found classes.Blank b bs is = (b ∷ [], refl, (b, refl, is))
-class_found classes.LineEnd b bs is = let e : b ≡ 10 = eqb-true b 10 is in (b ∷ [], refl, ap (λ (x : ℕ). x ∷ []) e)
-class_found classes.Backslash b bs is =
-    let e : b ≡ 92 = eqb-true b 92 is in
-    view_found _ (after_byte 10 bs) (λ r. (joined_line, r)) (byte_found 10 bs) (λ r h.
-    (b ∷ 10 ∷ [], ap (λ (t : List ℕ). b ∷ t) h, ap (λ (x : ℕ). x ∷ 10 ∷ []) e))
-class_found classes.Hash b bs is =
-    let e : b ≡ 35 = eqb-true b 35 is in
-    let n = prefix_len is_no_line_end bs in
-    (b ∷ take n bs, ap (λ (t : List ℕ). b ∷ t) (sym (take-append-drop n bs)), (ap (λ (x : ℕ). x ∷ take n bs) e, front_all is_no_line_end bs))
-class_found classes.Quote b bs is = let e : b ≡ 34 = eqb-true b 34 is in rw e (quoted_found bs)
-class_found classes.Digit b bs is = number_found (b ∷ bs)
-class_found classes.Letter b bs is =
-    let n = prefix_len continues_word bs in
-    (b ∷ take n bs, ap (λ (t : List ℕ). b ∷ t) (sym (take-append-drop n bs)), (refl, (is, front_all continues_word bs)))
-class_found classes.Other b bs is = marks_found (b ∷ bs)
+class_found b bs =
+    by_test (Found b bs) (is_ascii_digit b) classes.Digit _ (λ _. number_found (b ∷ bs)) (λ _.
+    by_test (Found b bs) (begins_word b) classes.Letter _ (λ e.
+    (b ∷ front continues_word bs, ap (λ (t : List ℕ). b ∷ t) (front_behind continues_word bs), (refl, (e, front_all continues_word bs)))) (λ _.
+    by_test (Found b bs) (is_blank b) classes.Blank _ (λ e. (b ∷ [], refl, (b, refl, e))) (λ _.
+    by_test (Found b bs) (b == 10) classes.LineEnd _ (λ e. (b ∷ [], refl, ap (λ (x : ℕ). x ∷ []) (eqb-true b 10 e))) (λ _.
+    by_test (Found b bs) (b == 92) classes.Backslash _ (λ e. view_found _ (after_byte 10 bs) (λ r. (joined_line, r)) (byte_found 10 bs) (λ r h.
+    (b ∷ 10 ∷ [], ap (λ (t : List ℕ). b ∷ t) h, ap (λ (x : ℕ). x ∷ 10 ∷ []) (eqb-true b 92 e)))) (λ _.
+    by_test (Found b bs) (b == 35) classes.Hash _ (λ e.
+    (b ∷ front is_no_line_end bs, ap (λ (t : List ℕ). b ∷ t) (front_behind is_no_line_end bs), (ap (λ (x : ℕ). x ∷ front is_no_line_end bs) (eqb-true b 35 e), front_all is_no_line_end bs))) (λ _.
+    by_test (Found b bs) (b == 34) classes.Quote _ (λ e. rw (eqb-true b 34 e) (quoted_found bs)) (λ _. marks_found b bs)))))))
 
-pub piece_spelled : (ts : List ℕ) → IfSome (piece_at ts) (λ x. Front x.0 ts x.1)
+piece_spelled : (ts : List ℕ) → IfSome (piece_at ts) (λ x. Front x.0 ts x.1)
 unfolding piece_at
 piece_spelled [] = tt
-piece_spelled (b ∷ bs) = class_found (class_of b) b bs (own_class b)
+piece_spelled (b ∷ bs) = class_found b bs
 
 -- ---- each spelling is read, as far as it goes or farther
 
--- a reading that leaves no more than this
-abbrev pub Reaches : List ℕ → List ℕ → Type 0
-Reaches ts rest = IsSomeAnd (piece_at ts) (λ x. length x.1 ≤ length rest)
+-- a reading that leaves no more than this, and where this is nothing is of this piece
+abbrev Reads : Part → List ℕ → Option (Part × List ℕ) → Type 0
+Reads p rest o = IsSomeAnd o (λ x. (length x.1 ≤ length rest) × (rest ≡ [] → x.0 ≡ p))
 
-reaches_at : (ts rest : List ℕ) (x : Part × List ℕ) → piece_at ts ≡ Some x → length x.1 ≤ length rest → Reaches ts rest
-reaches_at ts rest x e le = rw e le
+-- the piece with all that goes on with it
+with_all : (test : ℕ → Bool) (f : List ℕ → Part) (xs rest : List ℕ) → Reads (f xs) rest (Some (f (xs ++ front test rest), behind test rest))
+with_all test f xs rest = (behind_short test rest, λ e. ap f (rw e (append-nil xs)))
 
-class_read : (k : Class) (b : ℕ) (bs : List ℕ) → class_of b ≡ k → piece_at (b ∷ bs) ≡ class_at k b bs
-unfolding piece_at
-class_read k b bs e = rw e refl
+no_digit : (b : ℕ) → begins_word b ≡ true → is_ascii_digit b ≡ false
+no_digit b e = grind (arith, nat_tests)
 
-blank_read : (b : ℕ) (rest : List ℕ) → is_blank b ≡ true → piece_at (b ∷ rest) ≡ Some (blank, rest)
-unfolding class_at
-blank_read b rest e = class_read classes.Blank b rest (blank_class b e)
+blank_apart : (b : ℕ) → is_blank b ≡ true → (is_ascii_digit b ≡ false) × (begins_word b ≡ false)
+blank_apart b e = (grind (arith, nat_tests), grind (arith, nat_tests))
 
-line_end_read : (rest : List ℕ) → piece_at (10 ∷ rest) ≡ Some (line_end, rest)
+digit_read : (ds rest : List ℕ) → IsDigits ds → piece_at (ds ++ rest) ≡ number_at (ds ++ rest)
 unfolding piece_at class_at
-line_end_read rest = refl
+digit_read [] rest s = absurd (s.0 refl)
+digit_read (b ∷ bs) rest s = rw (and_parts (is_ascii_digit b) (list_all is_ascii_digit bs) s.1).0 refl
 
-joined_line_read : (rest : List ℕ) → piece_at (92 ∷ 10 ∷ rest) ≡ Some (joined_line, rest)
-unfolding piece_at class_at
-joined_line_read rest = refl
+-- what takes some of what follows the digits comes before the digits alone
+else_reads : (p : Part) (first ts rest : List ℕ) (o d : Option (Part × List ℕ)) → IfSome o (Onward first ts) → length ts ≤ length rest → Reads p rest d → Reads p rest (option_or o d)
+else_reads p first ts rest None d h le r = r
+else_reads p first ts rest (Some x) d h le r =
+    let less : length x.1 < length ts = h.1 in
+    (omega arith, λ e. absurd (omega (arith, ap length e)))
 
-comment_read : (c rest : List ℕ) → list_all is_no_line_end c ≡ true → piece_at (35 ∷ (c ++ rest)) ≡ Some (comment (c ++ take (prefix_len is_no_line_end rest) rest), drop (prefix_len is_no_line_end rest) rest)
-unfolding piece_at class_at
-comment_read c rest all =
-    let n : prefix_len is_no_line_end (c ++ rest) ≡ length c + prefix_len is_no_line_end rest = front_append is_no_line_end c rest all in
-    rw (n, take-append-add c rest (prefix_len is_no_line_end rest), drop-append-add c rest (prefix_len is_no_line_end rest)) refl
+number_reads : (n rest : List ℕ) → IsDigits n → Reads (digits n) rest (number_at (n ++ rest))
+unfolding number_at
+number_reads n rest s =
+    let first = n ++ front is_ascii_digit rest in
+    let ts = behind is_ascii_digit rest in
+    let le = behind_short is_ascii_digit rest in
+    let all = rw (run_more is_ascii_digit n rest s) at (run_found is_ascii_digit (n ++ rest)) in
+    rw (run_more is_ascii_digit n rest s)
+    (else_reads (digits n) first ts rest (hexadecimal_at first ts) _ (hexadecimal_found first ts) le
+    (else_reads (digits n) first ts rest (dotted_at first ts) _ (dotted_found first ts all.1) le
+    (with_all is_ascii_digit digits n rest)))
 
-add-zero : (n : ℕ) → n + 0 ≡ n
-add-zero n = omega arith
+hexadecimal_read : (n rest : List ℕ) → IsRun is_ascii_hexdigit n → piece_at (48 ∷ 120 ∷ (n ++ rest)) ≡ Some (hexadecimal (n ++ front is_ascii_hexdigit rest), behind is_ascii_hexdigit rest)
+unfolding piece_at class_at number_at run_at hexadecimal_at
+hexadecimal_read n rest s = rw (run_more is_ascii_hexdigit n rest s) refl
+
+dotted_read : (a b c d rest : List ℕ) → IsDigits a → IsDigits b → IsDigits c → IsDigits d
+    → piece_at (a ++ groups_after b c d rest) ≡ Some (dotted a b c (d ++ front is_ascii_digit rest), behind is_ascii_digit rest)
+unfolding number_at hexadecimal_at dotted_at next_group_at
+dotted_read a b c d rest sa sb sc sd =
+    let last = 46 ∷ (d ++ rest) in
+    let third = 46 ∷ (c ++ last) in
+    digit_read a (groups_after b c d rest) sa
+    ∙ rw (run_exact is_ascii_digit a (46 ∷ (b ++ third)) sa refl, run_exact is_ascii_digit b third sb refl, run_exact is_ascii_digit c last sc refl, run_more is_ascii_digit d rest sd) refl
 
 string_read : (s rest : List ℕ) → list_all stands_in_string s ≡ true → quoted_at (s ++ 34 ∷ rest) ≡ Some (quoted s, rest)
 unfolding quoted_at
-string_read s rest all =
-    let n : prefix_len stands_in_string (s ++ 34 ∷ rest) ≡ length s = front_append stands_in_string s (34 ∷ rest) all ∙ add-zero (length s) in
-    rw (n, take_at s (34 ∷ rest) (length s) refl, drop_at s (34 ∷ rest) (length s) refl) refl
+string_read s rest all = rw (front_more stands_in_string s (34 ∷ rest) all, behind_more stands_in_string s (34 ∷ rest) all, append-nil s) refl
 
-quoted_read : (s rest : List ℕ) → list_all stands_in_string s ≡ true → piece_at (34 ∷ ((s ++ 34 ∷ []) ++ rest)) ≡ Some (quoted s, rest)
+-- a mark before an equals sign that may stand there
+sign_reads : (long m : Mark) (rest : List ℕ) → Reads (sole m) rest (option_or (after_byte 61 rest >>= (λ r. Some (sole long, r))) (Some (sole m, rest)))
+sign_reads long m [] = (omega arith, λ _. refl)
+sign_reads long m (b ∷ bs) =
+    by_test (λ o. Reads (sole m) (b ∷ bs) (option_or (o >>= (λ r. Some (sole long, r))) (Some (sole m, b ∷ bs)))) (b == 61) (Some bs) None (λ _. (omega arith, λ e. absurd cc)) (λ _. (omega arith, λ _. refl))
+
+marks_read : (m : Mark) (rest : List ℕ) → Reads (sole m) rest (piece_at (mark_text m ++ rest))
+unfolding piece_at class_at mark_at long_mark_at
+marks_read Equals rest = sign_reads EqualTo Equals rest
+marks_read Below rest = sign_reads AtMost Below rest
+marks_read Above rest = sign_reads AtLeast Above rest
+marks_read m rest = (omega arith, λ _. refl)
+
+reads : (p : Part) (bytes rest : List ℕ) → SpellsPart p bytes → Reads p rest (piece_at (bytes ++ rest))
 unfolding piece_at class_at
-quoted_read s rest all = rw (append_assoc s (34 ∷ []) rest) (string_read s rest all)
+reads blank bytes rest s = let apart = blank_apart s.0 s.2 in rw (s.1, apart.0, apart.1, s.2) (omega arith, λ _. refl)
+reads joined_line bytes rest s = rw s (omega arith, λ _. refl)
+reads (comment c) bytes rest s = rw (s.0, front_more is_no_line_end c rest s.1, behind_more is_no_line_end c rest s.1) (with_all is_no_line_end comment c rest)
+reads line_end bytes rest s = rw s (omega arith, λ _. refl)
+reads (name []) bytes rest s = absurd s.1
+reads (name (b ∷ bs)) bytes rest s = rw (s.0, no_digit b s.1.0, s.1.0, front_more continues_word bs rest s.1.1, behind_more continues_word bs rest s.1.1) (with_all continues_word (λ t. name (b ∷ t)) bs rest)
+reads (digits n) bytes rest s = rw (s.0, digit_read n rest s.1) (number_reads n rest s.1)
+reads (hexadecimal n) bytes rest s = rw (s.0, hexadecimal_read n rest s.1) (with_all is_ascii_hexdigit hexadecimal n rest)
+reads (dotted a b c d) bytes rest s = rw (s.0, regroup a b c d rest, dotted_read a b c d rest s.1 s.2 s.3 s.4) (with_all is_ascii_digit (dotted a b c) d rest)
+reads (quoted t) bytes rest s = rw (s.0, append_assoc t (34 ∷ []) rest, string_read t rest s.1) (omega arith, λ _. refl)
+reads (sole m) bytes rest s = rw s (marks_read m rest)
 
-word_read : (b : ℕ) (bs rest : List ℕ) → begins_word b ≡ true → list_all continues_word bs ≡ true
-    → piece_at (b ∷ (bs ++ rest)) ≡ Some (name (b ∷ (bs ++ take (prefix_len continues_word rest) rest)), drop (prefix_len continues_word rest) rest)
-unfolding class_at
-word_read b bs rest e all =
-    let n : prefix_len continues_word (bs ++ rest) ≡ length bs + prefix_len continues_word rest = front_append continues_word bs rest all in
-    let read : piece_at (b ∷ (bs ++ rest)) ≡ class_at classes.Letter b (bs ++ rest) = class_read classes.Letter b (bs ++ rest) (letter_class b e) in
-    read ∙ rw (n, take-append-add bs rest (prefix_len continues_word rest), drop-append-add bs rest (prefix_len continues_word rest)) refl
+both_read : (p q : Part) (o : Option (Part × List ℕ)) → Reads p [] o → Reads q [] o → p ≡ q
+both_read p q None h k = absurd h
+both_read p q (Some x) h k = sym (h.1 refl) ∙ k.1 refl
 
--- a piece that begins with a digit
-digit_read : (d rest : List ℕ) → IsDigits d → piece_at (d ++ rest) ≡ number_at (d ++ rest)
-unfolding class_at
-digit_read [] rest s = absurd s
-digit_read (b ∷ bs) rest s = class_read classes.Digit b (bs ++ rest) (digit_class b s.0)
+-- bytes spell one piece
+one_piece : (p q : Part) (bytes : List ℕ) → SpellsPart p bytes → SpellsPart q bytes → p ≡ q
+one_piece p q bytes s t = both_read p q (piece_at (bytes ++ [])) (reads p bytes [] s) (reads q bytes [] t)
 
-hexadecimal_read : (n rest : List ℕ) → IsHexadecimal n → piece_at (48 ∷ 120 ∷ (n ++ rest)) ≡ Some (hexadecimal (n ++ take (prefix_len is_ascii_hexdigit rest) rest), drop (prefix_len is_ascii_hexdigit rest) rest)
-unfolding piece_at class_at number_at
-hexadecimal_read n rest s = rw (hexadecimal_more n rest s) refl
+-- ---- the longest piece
 
--- digits with a dot after them don't begin a hexadecimal number
-dot_no_hexadecimal : (d rest : List ℕ) → IsDigits d → hexadecimal_at (d ++ 46 ∷ rest) ≡ None
-dot_no_hexadecimal [] rest s = absurd s
-dot_no_hexadecimal (b ∷ []) rest s = hexadecimal_none b 46 rest refl
-dot_no_hexadecimal (b ∷ c ∷ cs) rest s = hexadecimal_none b c (cs ++ 46 ∷ rest) (digit_no_x c (and_parts (is_ascii_digit c) (list_all is_ascii_digit cs) s.1).0)
-
-alone_no_hexadecimal : (d : List ℕ) → IsDigits d → hexadecimal_at d ≡ None
-alone_no_hexadecimal [] s = absurd s
-alone_no_hexadecimal (b ∷ []) s = hexadecimal_none-one b
-alone_no_hexadecimal (b ∷ c ∷ cs) s = hexadecimal_none b c cs (digit_no_x c (and_parts (is_ascii_digit c) (list_all is_ascii_digit cs) s.1).0)
-
-groups_read : (g : Groups) (rest : List ℕ) → AreDigits g
-    → number_at (bytes_of g ++ rest) ≡ Some (dotted g.first g.second g.third (g.fourth ++ take (prefix_len is_ascii_digit rest) rest), drop (prefix_len is_ascii_digit rest) rest)
-unfolding number_at
-groups_read g rest s =
-    let after = g.second ++ (46 ∷ (g.third ++ (46 ∷ (g.fourth ++ rest)))) in
-    let none : hexadecimal_at (bytes_of g ++ rest) ≡ None = ap hexadecimal_at (bytes_regroup g rest) ∙ dot_no_hexadecimal g.first after s.0 in
-    rw (none, dotted_more g rest s) refl
-
-dotted_read : (g : Groups) (rest : List ℕ) → AreDigits g
-    → piece_at (bytes_of g ++ rest) ≡ Some (dotted g.first g.second g.third (g.fourth ++ take (prefix_len is_ascii_digit rest) rest), drop (prefix_len is_ascii_digit rest) rest)
-dotted_read g rest s =
-    let after = 46 ∷ (g.second ++ (46 ∷ (g.third ++ (46 ∷ (g.fourth ++ rest))))) in
-    let split : bytes_of g ++ rest ≡ g.first ++ after = bytes_regroup g rest in
-    ap piece_at split ∙ digit_read g.first after s.0 ∙ ap number_at (sym split) ∙ groups_read g rest s
-
--- four groups leave less than the digits that they begin with
-dotted_shorter : (n rest : List ℕ) → IsDigits n → (g : Groups) (to : List ℕ) → n ++ rest ≡ bytes_of g ++ to → AreDigits g → length to ≤ length rest
-dotted_shorter n rest s g to e t =
-    let k = prefix_len is_ascii_digit rest in
-    let after = 46 ∷ (g.second ++ (46 ∷ (g.third ++ (46 ∷ (g.fourth ++ to))))) in
-    let split : n ++ rest ≡ g.first ++ after = e ∙ bytes_regroup g to in
-    let one : digits_at (n ++ rest) ≡ Some (g.first, after) = rw split (digits_exact g.first after t.0 refl) in
-    let same : ◌≡◌ {A = List ℕ × List ℕ} (n ++ take k rest, drop k rest) (g.first, after) = some_is _ _ (sym (digits_more n rest s) ∙ one) in
-    let left : drop k rest ≡ after = ap (λ (x : List ℕ × List ℕ). x.1) same in
-    omega (arith, ap length left, length-drop k rest, length-append g.second (46 ∷ (g.third ++ (46 ∷ (g.fourth ++ to)))), length-append g.third (46 ∷ (g.fourth ++ to)), length-append g.fourth to)
-
--- so does a hexadecimal number: the digits are a zero alone
-hexadecimal_shorter : (n rest : List ℕ) → IsDigits n → (d to : List ℕ) → n ++ rest ≡ 48 ∷ 120 ∷ (d ++ to) → length to ≤ length rest
-hexadecimal_shorter [] rest s d to e = absurd s
-hexadecimal_shorter (b ∷ []) rest s d to e = omega (arith, ap length e, length-append d to)
-hexadecimal_shorter (b ∷ c ∷ cs) rest s d to e =
-    let x : c ≡ 120 = cc in
-    let no_x : (c == 120) ≡ false = digit_no_x c (and_parts (is_ascii_digit c) (list_all is_ascii_digit cs) s.1).0 in
-    let never : true ≡ false = rw x at no_x in
-    absurd cc
-
-number_reaches : (n rest : List ℕ) → IsDigits n → IsSomeAnd (number_at (n ++ rest)) (λ x. length x.1 ≤ length rest)
-unfolding number_at
-number_reaches n rest s =
-    let k = prefix_len is_ascii_digit rest in
-    elim (option_cases (hexadecimal_at (n ++ rest))) [
-      | inl no_x ↦
-          elim (option_cases (dotted_at (n ++ rest))) [
-            | inl e ↦ rw (no_x, e, digits_more n rest s) (omega (arith, length-drop k rest))
-            | inr w ↦
-                let h = IfSome_at (dotted_at (n ++ rest)) (λ x. (n ++ rest ≡ bytes_of x.0 ++ x.1) × AreDigits x.0) w.0 w.1 (dotted_found (n ++ rest)) in
-                rw (no_x, w.1) (dotted_shorter n rest s w.0.0 w.0.1 h.0 h.1)
-          ]
-      | inr w ↦
-          let h = IfSome_at (hexadecimal_at (n ++ rest)) (λ x. (n ++ rest ≡ 48 ∷ 120 ∷ (x.0 ++ x.1)) × IsHexadecimal x.0) w.0 w.1 (hexadecimal_found (n ++ rest)) in
-          rw w.1 (hexadecimal_shorter n rest s w.0.0 w.0.1 h.0)
+reaches : (q : Part) (ts others rest : List ℕ) → SpellsPart q others → ts ≡ others ++ rest → IsSomeAnd (piece_at ts) (λ x. length x.1 ≤ length rest)
+reaches q ts others rest s split =
+    elim (option_cases (piece_at ts)) [
+      | inl e ↦ let h = reads q others rest s in absurd (rw (sym split, e) at h)
+      | inr w ↦ let h = reads q others rest s in let g = rw (sym split, w.1) at h in rw w.1 g.0
     ]
 
--- ---- marks
+pub piece_stands : (ts : List ℕ) (x : Part × List ℕ) → piece_at ts ≡ Some x → (bytes : List ℕ) × IsPartAt x.0 bytes ts x.1
+piece_stands ts x e =
+    let there : Front x.0 ts x.1 = IfSome_at (piece_at ts) (λ x. Front x.0 ts x.1) x e (piece_spelled ts) in (
+      there.0,
+      record {
+        joined = there.1;
+        spelled = there.2;
+        longest = λ q others rest s split.
+            let less : length x.1 ≤ length rest = rw e at (reaches q ts others rest s split) in
+            omega (arith, less, ap length there.1, ap length split, length-append there.0 x.1, length-append others rest);
+      },
+    )
 
-else_reaches : (o : Option Mark) (b : ℕ) (bs : List ℕ) (d : Option (Part × List ℕ)) → IsSomeAnd d (λ x. length x.1 ≤ length (b ∷ bs)) → IsSomeAnd (option_else o (λ m. Some (sole m, bs)) d) (λ x. length x.1 ≤ length (b ∷ bs))
-else_reaches None b bs d h = h
-else_reaches (Some m) b bs d h = omega arith
+same_front : (xs ys vs ws : List ℕ) → xs ++ vs ≡ ys ++ ws → length xs ≡ length ys → (xs ≡ ys) × (vs ≡ ws)
+same_front xs ys vs ws e n = (
+  sym (take_at xs vs (length xs) refl) ∙ ap (take (length xs)) e ∙ take_at ys ws (length xs) (sym n),
+  sym (drop_at xs vs (length xs) refl) ∙ ap (drop (length xs)) e ∙ drop_at ys ws (length xs) (sym n),
+)
 
-mark_reaches : (a : ℕ) (m : Mark) (rest : List ℕ) → mark_of a ≡ Some m → IsSomeAnd (mark_at (a ∷ rest)) (λ x. length x.1 ≤ length rest)
-unfolding mark_at
-mark_reaches a m [] e = rw e (omega arith)
-mark_reaches a m (b ∷ bs) e = else_reaches (long_mark_of a b) b bs _ (rw e (omega arith))
+-- one piece stands at a place
+pub stands_one : (p q : Part) (bytes others from to rest : List ℕ) → IsPartAt p bytes from to → IsPartAt q others from rest → (p ≡ q) × (bytes ≡ others) × (to ≡ rest)
+stands_one p q bytes others from to rest s t =
+    let more : length bytes ≤ length others = t.longest p bytes to s.spelled s.joined in
+    let less : length others ≤ length bytes = s.longest q others rest t.spelled t.joined in
+    let same = same_front bytes others to rest (sym s.joined ∙ t.joined) (omega arith) in
+    (one_piece p q bytes s.spelled (subst (SpellsPart q) (sym same.0) t.spelled), same.0, same.1)
 
-other_reaches : (a : ℕ) (m : Mark) (rest : List ℕ) → class_of a ≡ classes.Other → mark_of a ≡ Some m → Reaches (a ∷ rest) rest
-unfolding class_at
-other_reaches a m rest k e = rw (class_read classes.Other a rest k) (mark_reaches a m rest e)
+pub means_one : (p : Part) (bytes : List ℕ) (xs ys : List Spelled) → SpellsPart p bytes → Means p bytes xs → Means p bytes ys → xs ≡ ys
+means_one p bytes xs ys s m n = cc (meaning_only p bytes xs s m, meaning_only p bytes ys s n)
 
-long_read : (a : ℕ) (m : Mark) (rest : List ℕ) → class_of a ≡ classes.Other → long_mark_of a 61 ≡ Some m → piece_at (a ∷ 61 ∷ rest) ≡ Some (sole m, rest)
-unfolding class_at mark_at
-long_read a m rest k e = class_read classes.Other a (61 ∷ rest) k ∙ rw e refl
+-- ---- what is read, against what stands
 
-long_reaches : (a : ℕ) (m : Mark) (rest : List ℕ) → class_of a ≡ classes.Other → long_mark_of a 61 ≡ Some m → Reaches (a ∷ 61 ∷ rest) rest
-long_reaches a m rest k e = reaches_at (a ∷ 61 ∷ rest) rest (sole m, rest) (long_read a m rest k e) (omega arith)
+-- where none is read none begins
+none_begins : (ts : List ℕ) → piece_at ts ≡ None → BeginsNone ts
+none_begins ts e q others after s joined = rw e at (reaches q ts others after s joined)
 
-marks_reach : (m : Mark) (rest : List ℕ) → Reaches (mark_text m ++ rest) rest
-marks_reach OpenBrace rest = other_reaches 123 OpenBrace rest refl refl
-marks_reach CloseBrace rest = other_reaches 125 CloseBrace rest refl refl
-marks_reach OpenParenthesis rest = other_reaches 40 OpenParenthesis rest refl refl
-marks_reach CloseParenthesis rest = other_reaches 41 CloseParenthesis rest refl refl
-marks_reach Comma rest = other_reaches 44 Comma rest refl refl
-marks_reach Semicolon rest = other_reaches 59 Semicolon rest refl refl
-marks_reach Colon rest = other_reaches 58 Colon rest refl refl
-marks_reach Dot rest = other_reaches 46 Dot rest refl refl
-marks_reach Slash rest = other_reaches 47 Slash rest refl refl
-marks_reach Minus rest = other_reaches 45 Minus rest refl refl
-marks_reach Plus rest = other_reaches 43 Plus rest refl refl
-marks_reach Equals rest = other_reaches 61 Equals rest refl refl
-marks_reach At rest = other_reaches 64 At rest refl refl
-marks_reach Ampersand rest = other_reaches 38 Ampersand rest refl refl
-marks_reach Bar rest = other_reaches 124 Bar rest refl refl
-marks_reach EqualTo rest = long_reaches 61 EqualTo rest refl refl
-marks_reach NotEqualTo rest = long_reaches 33 NotEqualTo rest refl refl
-marks_reach AtMost rest = long_reaches 60 AtMost rest refl refl
-marks_reach AtLeast rest = long_reaches 62 AtLeast rest refl refl
-marks_reach Below rest = other_reaches 60 Below rest refl refl
-marks_reach Above rest = other_reaches 62 Above rest refl refl
+-- the bytes before a rest
+pub before : (ts bytes rest : List ℕ) → ts ≡ bytes ++ rest → take (length ts - length rest) ts ≡ bytes
+before ts bytes rest e =
+    let n : length ts - length rest ≡ length bytes = omega (arith, ap length e, length-append bytes rest) in
+    rw n (ap (take (length bytes)) e ∙ take_at bytes rest (length bytes) refl)
 
-mark_alone : (m : Mark) → piece_at (mark_text m) ≡ Some (sole m, [])
-unfolding piece_at class_at mark_at
-mark_alone OpenBrace = refl
-mark_alone CloseBrace = refl
-mark_alone OpenParenthesis = refl
-mark_alone CloseParenthesis = refl
-mark_alone Comma = refl
-mark_alone Semicolon = refl
-mark_alone Colon = refl
-mark_alone Dot = refl
-mark_alone Slash = refl
-mark_alone Minus = refl
-mark_alone Plus = refl
-mark_alone Equals = refl
-mark_alone At = refl
-mark_alone Ampersand = refl
-mark_alone Bar = refl
-mark_alone EqualTo = refl
-mark_alone NotEqualTo = refl
-mark_alone AtMost = refl
-mark_alone AtLeast = refl
-mark_alone Below = refl
-mark_alone Above = refl
+pub piece_within : (ts : List ℕ) (x : Part × List ℕ) → piece_at ts ≡ Some x → length x.1 ≤ length ts
+piece_within ts x e =
+    let stands = piece_stands ts x e in
+    omega (arith, ap length stands.1.joined, length-append stands.0 x.1)
 
--- ---- every piece
+abbrev pub Stands : List ℕ → Result (List Spelled × List ℕ) Fault → Type 0
+Stands ts r = MatchResult r (λ x. Passes ts x.0 x.1) (λ fault. (line : ℕ) → IsFaultAt ts line (on_line fault line))
 
-pub reaches : (q : Part) (others rest : List ℕ) → SpellsPart q others → Reaches (others ++ rest) rest
-reaches blank others rest s = rw s.1 (reaches_at (s.0 ∷ rest) rest (blank, rest) (blank_read s.0 rest s.2) (omega arith))
-reaches joined_line others rest s = rw s (reaches_at (92 ∷ 10 ∷ rest) rest (joined_line, rest) (joined_line_read rest) (omega arith))
-reaches (comment c) others rest s =
-    let k = prefix_len is_no_line_end rest in
-    rw s.0 (reaches_at (35 ∷ (c ++ rest)) rest (comment (c ++ take k rest), drop k rest) (comment_read c rest s.1) (omega (arith, length-drop k rest)))
-reaches line_end others rest s = rw s (reaches_at (10 ∷ rest) rest (line_end, rest) (line_end_read rest) (omega arith))
-reaches (name []) others rest s = absurd s.1
-reaches (name (b ∷ bs)) others rest s =
-    let k = prefix_len continues_word rest in
-    rw s.0 (reaches_at (b ∷ (bs ++ rest)) rest (name (b ∷ (bs ++ take k rest)), drop k rest) (word_read b bs rest s.1.0 s.1.1) (omega (arith, length-drop k rest)))
-reaches (digits n) others rest s = rw (s.0, digit_read n rest s.1) (number_reaches n rest s.1)
-reaches (hexadecimal n) others rest s =
-    let k = prefix_len is_ascii_hexdigit rest in
-    rw s.0 (reaches_at (48 ∷ 120 ∷ (n ++ rest)) rest (hexadecimal (n ++ take k rest), drop k rest) (hexadecimal_read n rest s.1) (omega (arith, length-drop k rest)))
-reaches (dotted a b c d) others rest s =
-    let k = prefix_len is_ascii_digit rest in
-    let g : Groups = record { first = a; second = b; third = c; fourth = d } in
-    rw s.0 (reaches_at (bytes_of g ++ rest) rest (dotted a b c (d ++ take k rest), drop k rest) (dotted_read g rest (s.1, s.2, s.3, s.4)) (omega (arith, length-drop k rest)))
-reaches (quoted t) others rest s = rw s.0 (reaches_at (34 ∷ ((t ++ 34 ∷ []) ++ rest)) rest (quoted t, rest) (quoted_read t rest s.1) (omega arith))
-reaches (sole m) others rest s = rw s (marks_reach m rest)
-
-number_alone : (n : List ℕ) → IsDigits n → number_at n ≡ Some (digits n, [])
-unfolding number_at
-number_alone n s =
-    let e : digits_at n ≡ Some (n, []) = rw (append-nil n) at (digits_exact n [] s refl) in
-    rw (alone_no_hexadecimal n s, dotted_none-end n s, e) refl
-
--- a spelling alone is read as its piece
-pub alone : (p : Part) (bytes : List ℕ) → SpellsPart p bytes → piece_at bytes ≡ Some (p, [])
-alone blank bytes s = rw s.1 (blank_read s.0 [] s.2)
-alone joined_line bytes s = rw s (joined_line_read [])
-alone (comment c) bytes s =
-    let e : piece_at (35 ∷ c) ≡ Some (comment c, []) = rw (append-nil c) at (comment_read c [] s.1) in
-    rw s.0 e
-alone line_end bytes s = rw s (line_end_read [])
-alone (name []) bytes s = absurd s.1
-alone (name (b ∷ bs)) bytes s =
-    let e : piece_at (b ∷ bs) ≡ Some (name (b ∷ bs), []) = rw (append-nil bs) at (word_read b bs [] s.1.0 s.1.1) in
-    rw s.0 e
-alone (digits n) bytes s =
-    let e : piece_at n ≡ number_at n = rw (append-nil n) at (digit_read n [] s.1) in
-    rw s.0 (e ∙ number_alone n s.1)
-alone (hexadecimal n) bytes s =
-    let e : piece_at (48 ∷ 120 ∷ n) ≡ Some (hexadecimal n, []) = rw (append-nil n) at (hexadecimal_read n [] s.1) in
-    rw s.0 e
-alone (dotted a b c d) bytes s =
-    let g : Groups = record { first = a; second = b; third = c; fourth = d } in
-    let e : piece_at (bytes_of g) ≡ Some (dotted a b c d, []) = rw (append-nil (bytes_of g), append-nil d) at (dotted_read g [] (s.1, s.2, s.3, s.4)) in
-    rw s.0 e
-alone (quoted t) bytes s =
-    let e : piece_at (34 ∷ (t ++ 34 ∷ [])) ≡ Some (quoted t, []) = rw (append-nil (t ++ 34 ∷ [])) at (quoted_read t [] s.1) in
-    rw s.0 e
-alone (sole m) bytes s = rw s (mark_alone m)
+pub next_stands : (ts : List ℕ) → 0 < length ts → Stands ts (next_at ts)
+unfolding next_at
+next_stands [] some = absurd (omega arith)
+next_stands (b ∷ bs) some =
+    elim (option_cases (piece_at (b ∷ bs))) [
+      | inl none ↦
+          let begins = none_begins (b ∷ bs) none in
+          rw none (by_test (λ fault. Stands (b ∷ bs) (Err fault)) (b == 34) faults.OpenString faults.Byte (λ e line. inr (inl (eqb-true b 34 e, begins, refl))) (λ e line. inl (eqb-false b 34 e, begins, refl)))
+      | inr w ↦
+          let there = piece_stands (b ∷ bs) w.0 w.1 in
+          let bytes = before (b ∷ bs) there.0 w.0.1 there.1.joined in
+          elim (option_cases (meaning w.0.0 there.0)) [
+            | inl none ↦
+                rw (w.1, bytes, none) (λ line. inr (inr (w.0.0, there.0, w.0.1, there.1, (λ tokens m. let meant = meaning_only w.0.0 there.0 tokens there.1.spelled m in absurd (cc (none, meant))), refl)))
+            | inr m ↦
+                rw (w.1, bytes, m.1) (w.0.0, there.0, there.1, IfSome_at (meaning w.0.0 there.0) (λ xs. Means w.0.0 there.0 xs) m.0 m.1 (meaning_found w.0.0 there.0 there.1.spelled))
+          ]
+    ]

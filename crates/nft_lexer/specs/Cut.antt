@@ -44,13 +44,11 @@ IsWord (b ∷ bs) = IsTrue (begins_word b) × IsTrue (list_all continues_word bs
 
 -- one decimal digit or more
 abbrev pub IsDigits : List ℕ → Type 0
-IsDigits [] = ⊥
-IsDigits (b ∷ bs) = IsTrue (is_ascii_digit b) × IsTrue (list_all is_ascii_digit bs)
+IsDigits bytes = (bytes ≢ []) × IsTrue (list_all is_ascii_digit bytes)
 
 -- one hexadecimal digit or more, in either case
 abbrev pub IsHexadecimal : List ℕ → Type 0
-IsHexadecimal [] = ⊥
-IsHexadecimal (b ∷ bs) = IsTrue (is_ascii_hexdigit b) × IsTrue (list_all is_ascii_hexdigit bs)
+IsHexadecimal bytes = (bytes ≢ []) × IsTrue (list_all is_ascii_hexdigit bytes)
 
 abbrev pub is_no_line_end : ℕ → Bool
 is_no_line_end b = not (b == 10)

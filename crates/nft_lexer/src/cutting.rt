@@ -1,12 +1,12 @@
 //! The cutting of a text.
-ghost use Rattle.std.specs.Prelude.{◌≡◌, ◌<◌, ◌≤◌, ◌↔◌, ◌⊎◌, ◌++◌, ℕ, Err, IfOk, IfErr, OnOk, List, length, map, MatchResult};
+ghost use Rattle.std.specs.Prelude.{◌≡◌, ◌<◌, ◌≤◌, ◌↔◌, ◌⊎◌, ◌++◌, Err, IfOk, IfErr, OnOk, List, length, map, ok_or, MatchResult};
 ghost use Rattle.nft_lexer.specs.declared.fault.LexFault.{LexFault};
 ghost use Rattle.nft_lexer.specs.Sign.{Spelled, spelled};
-ghost use Rattle.nft_lexer.specs.Cut.{FirstFault, HasLexFault, IsCut, IsFaultAt, MOST_BYTES, line_after};
-ghost use Rattle.nft_lexer.specs.steps.Reading.{IsShaped, Passes, Tells, kind_meaning, listed, meaning, on_line, part};
+ghost use Rattle.nft_lexer.specs.Cut.{FirstFault, HasLexFault, IsCut, MOST_BYTES, line_after};
+ghost use Rattle.nft_lexer.specs.steps.Reading.{Tells, listed, meaning, next_at, on_line, part, told};
 
 use crate::fault::{LexError, LexFault};
-use crate::number::{address, decimal, hexadecimal};
+use crate::number::{address, decimal, value};
 use crate::piece::{Piece, next_piece};
 use crate::token::{Kind, Token};
 use std::alloc::{AllocError, Global};
@@ -41,31 +41,29 @@ fn line_after(done: &[u8]) -> u32
     done.iter().filter(|byte| **byte == b'\n').count() as u32 + 1
 }
 
-/// What token the piece is: a blank or a comment is none.
+/// The token that the piece with these bytes is: a blank or a comment is none.
 #[tactic(auto, unfolding(crate::specs::steps::Reading::meaning))]
-fn kind<'t>(piece: Piece<'t>) -> Result<Option<Kind<'t>>, Fault>
-    requires { IsShaped (part piece) }
-    ensures value { (bytes : List ℕ) → kind_meaning bytes result ≡ meaning (part piece.entry) bytes }
-    ensures fault { IfErr result (λ fault. fault ≡ Fault.Number) }
+fn token<'t>(piece: Piece<'t>, text: &'t [u8]) -> Result<Option<Token<'t>>, Fault>
+    ensures { told (listed spelled) result ≡ ok_or (meaning (part piece.entry) text.entry.now) Fault.Number }
 {
     let kind = match piece {
         Piece::Blank | Piece::JoinedLine | Piece::Comment(_) => return Ok(None),
         Piece::LineEnd => Kind::NewLine,
         Piece::Name(_) => Kind::Word,
         Piece::Digits(digits) => Kind::Number(decimal(digits).ok_or(Fault::Number)?),
-        Piece::Hexadecimal(digits) => Kind::Number(hexadecimal(digits).ok_or(Fault::Number)?),
+        Piece::Hexadecimal(digits) => Kind::Number(value(digits, 16).ok_or(Fault::Number)?),
         Piece::FourGroups(groups) => Kind::Address(address(groups).ok_or(Fault::Number)?),
         Piece::Quoted(string) => Kind::String(string),
         Piece::Sole(mark) => Kind::Mark(mark),
     };
-    Ok(Some(kind))
+    Ok(Some(Token { text, kind }))
 }
 
 /// The piece in front as a token, if it is one, and what follows it.
+#[tactic(auto, unfolding(crate::specs::steps::Reading::next_at))]
 fn next<'t>(text: &'t [u8]) -> Result<(Option<Token<'t>>, &'t [u8]), Fault>
     requires { 0 < length text.now }
-    ensures found { IfOk result (λ x. Passes text.entry.now (listed spelled x.0) x.1.now) }
-    ensures fault { IfErr result (λ fault. (line : ℕ) → IsFaultAt text.entry.now line (on_line fault line)) }
+    ensures { told (λ x. (listed spelled x.0, x.1.now)) result ≡ next_at text.entry.now }
 {
     let Some((piece, rest)) = next_piece(text) else {
         return Err(if text[0] == b'"' {
@@ -74,11 +72,8 @@ fn next<'t>(text: &'t [u8]) -> Result<(Option<Token<'t>>, &'t [u8]), Fault>
             Fault::Byte
         });
     };
-    let Some(kind) = kind(piece)? else {
-        return Ok((None, rest));
-    };
-    let text = &text[..text.len() - rest.len()];
-    Ok((Some(Token { text, kind }), rest))
+    let token = token(piece, &text[..text.len() - rest.len()])?;
+    Ok((token, rest))
 }
 
 /// Appends the token, if there is one.

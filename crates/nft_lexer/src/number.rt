@@ -1,10 +1,34 @@
 //! What digits say.
-ghost use Rattle.std.specs.Prelude.{◌≡◌, ◌^◌};
-ghost use Rattle.nft_lexer.specs.Cut.{IsDigits, IsHexadecimal};
-ghost use Rattle.nft_lexer.specs.steps.Reading.{AreDigits, address_at, decimal_at, groups, hexadecimal_value_at, leads_with_zero};
+ghost use Rattle.std.specs.Prelude.{◌≡◌, ◌≤◌, ◌<◌, ◌^◌};
+ghost use Rattle.nft_lexer.specs.steps.Reading.{address_at, decimal_at, group_at, leads_with_zero, value_after, with_digit};
 
 use crate::piece::Dotted;
-use std::str;
+
+/// The number below 2^64 that the digit says after those of this number.
+fn with_digit(number: u64, byte: u8, radix: u32) -> Option<u64>
+    requires { (2 ≤ radix) × (radix ≤ 36) }
+    ensures { result ≡ with_digit radix number byte }
+{
+    let digit = char::from(byte).to_digit(radix)?;
+    number
+        .checked_mul(u64::from(radix))?
+        .checked_add(u64::from(digit))
+}
+
+/// The number below 2^64 that the digits say, after any zeros.
+#[tactic(auto, unfolding(crate::specs::steps::Reading::value_after))]
+pub(crate) fn value(digits: &[u8], radix: u32) -> Option<u64>
+    requires { (2 ≤ radix) × (radix ≤ 36) }
+    ensures { result ≡ value_after radix 0 digits.now }
+{
+    let mut number = 0;
+    let mut rest = digits;
+    while let [byte, after @ ..] = rest {
+        number = with_digit(number, *byte, radix)?;
+        rest = after;
+    }
+    Some(number)
+}
 
 /// Whether more than one digit stands there and the first is a zero.
 fn leads_with_zero(digits: &[u8]) -> bool
@@ -16,46 +40,31 @@ fn leads_with_zero(digits: &[u8]) -> bool
 /// The number below 2^64 that decimal digits say with no leading zero.
 #[tactic(auto, unfolding(crate::specs::steps::Reading::decimal_at))]
 pub(crate) fn decimal(digits: &[u8]) -> Option<u64>
-    requires { IsDigits digits.now }
-    ensures { result ≡ decimal_at (2 ^ 64) digits.now }
+    ensures { result ≡ decimal_at digits.now }
 {
     if leads_with_zero(digits) {
         return None;
     }
-    str::from_utf8(digits).ok()?.parse().ok()
-}
-
-/// The number below 2^64 that hexadecimal digits say, in either case, after any zeros.
-#[tactic(auto, unfolding(crate::specs::steps::Reading::hexadecimal_value_at))]
-pub(crate) fn hexadecimal(digits: &[u8]) -> Option<u64>
-    requires { IsHexadecimal digits.now }
-    ensures { result ≡ hexadecimal_value_at digits.now }
-{
-    u64::from_str_radix(str::from_utf8(digits).ok()?, 16).ok()
+    value(digits, 10)
 }
 
 /// The number from 0 to 255 that the digits say with no leading zero.
-#[tactic(auto, unfolding(crate::specs::steps::Reading::decimal_at))]
+#[tactic(auto, unfolding(crate::specs::steps::Reading::group_at))]
 fn group(digits: &[u8]) -> Option<u8>
-    requires { IsDigits digits.now }
-    ensures { result ≡ decimal_at 256 digits.now }
+    ensures { result ≡ group_at digits.now }
 {
-    if leads_with_zero(digits) {
-        return None;
-    }
-    str::from_utf8(digits).ok()?.parse().ok()
+    u8::try_from(decimal(digits)?).ok()
 }
 
 /// The address that the groups say, the first its highest byte.
 #[tactic(auto, unfolding(crate::specs::steps::Reading::address_at))]
-pub(crate) fn address(dotted: Dotted) -> Option<u32>
-    requires { AreDigits (groups dotted) }
-    ensures { result ≡ address_at (groups dotted.entry) }
+pub(crate) fn address(groups: Dotted) -> Option<u32>
+    ensures { result ≡ address_at groups.entry.first.now groups.entry.second.now groups.entry.third.now groups.entry.fourth.now }
 {
     Some(u32::from_be_bytes([
-        group(dotted.first)?,
-        group(dotted.second)?,
-        group(dotted.third)?,
-        group(dotted.fourth)?,
+        group(groups.first)?,
+        group(groups.second)?,
+        group(groups.third)?,
+        group(groups.fourth)?,
     ]))
 }

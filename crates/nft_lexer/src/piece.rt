@@ -1,10 +1,9 @@
 //! The pieces of a text: blanks, comments, and tokens by their shapes (nft(8), "Lexical
 //! conventions").
-ghost use Rattle.std.specs.Prelude.{◌≡◌, ◌≤◌, length, IfSome, option_map};
-ghost use Rattle.std.specs.Char.{is_ascii_digit, is_ascii_hexdigit};
+ghost use Rattle.std.specs.Prelude.{◌≡◌, ◌≤◌, length, option_map};
 ghost use Rattle.std.specs.List.{prefix_len};
-ghost use Rattle.nft_lexer.specs.Cut.{IsDigits, IsHexadecimal, continues_word, is_no_line_end, stands_in_string};
-ghost use Rattle.nft_lexer.specs.steps.Reading.{AreDigits, IsShaped, class_at, class_of, digits_at, dotted_at, groups, hexadecimal_at, long_mark_of, mark_at, mark_of, next_group_at, number_at, part, piece_at, quoted_at, run_at};
+ghost use Rattle.nft_lexer.specs.Cut.{continues_word};
+ghost use Rattle.nft_lexer.specs.steps.Reading.{class_at, class_of, dotted_at, goes_on, hexadecimal_at, is_zero, long_mark_at, long_marks, mark_at, mark_from, next_group_at, number_at, part, piece_at, quoted_at, run_at, short_marks};
 
 use crate::token::Mark;
 
@@ -19,6 +18,18 @@ pub(crate) enum Class {
     Digit,
     Letter,
     Other,
+}
+
+/// What a run of bytes is of.
+#[derive(Clone, Copy)]
+enum Run {
+    Word,
+    /// All up to the line's end.
+    Line,
+    /// All up to the next quote or the line's end.
+    String,
+    Decimal,
+    Hexadecimal,
 }
 
 /// Four groups of digits with a dot between each two: an address, unless a group is no number
@@ -54,20 +65,20 @@ fn class_of(byte: u8) -> Class
     ensures { result ≡ class_of byte }
 {
     match byte {
+        b'0'..=b'9' => Class::Digit,
+        b'a'..=b'z' | b'A'..=b'Z' | b'_' => Class::Letter,
         b' ' | b'\t' | b'\r' => Class::Blank,
         b'\n' => Class::LineEnd,
         b'\\' => Class::Backslash,
         b'#' => Class::Hash,
         b'"' => Class::Quote,
-        b'0'..=b'9' => Class::Digit,
-        b'a'..=b'z' | b'A'..=b'Z' | b'_' => Class::Letter,
         _ => Class::Other,
     }
 }
 
 /// The mark that the byte alone is.
 fn mark_of(byte: u8) -> Option<Mark>
-    ensures { result ≡ mark_of byte }
+    ensures { result ≡ mark_from byte short_marks }
 {
     match byte {
         b'{' => Some(Mark::OpenBrace),
@@ -91,15 +102,15 @@ fn mark_of(byte: u8) -> Option<Mark>
     }
 }
 
-/// The mark that the two bytes are.
-fn long_mark_of(first: u8, second: u8) -> Option<Mark>
-    ensures { result ≡ long_mark_of first second }
+/// The mark that the byte and an equals sign are.
+fn mark_before_equals(byte: u8) -> Option<Mark>
+    ensures { result ≡ mark_from byte long_marks }
 {
-    match (first, second) {
-        (b'=', b'=') => Some(Mark::EqualTo),
-        (b'!', b'=') => Some(Mark::NotEqualTo),
-        (b'<', b'=') => Some(Mark::AtMost),
-        (b'>', b'=') => Some(Mark::AtLeast),
+    match byte {
+        b'=' => Some(Mark::EqualTo),
+        b'!' => Some(Mark::NotEqualTo),
+        b'<' => Some(Mark::AtMost),
+        b'>' => Some(Mark::AtLeast),
         _ => None,
     }
 }
@@ -111,177 +122,149 @@ fn continues_word(byte: u8) -> bool
     byte.is_ascii_alphanumeric() || byte == b'_' || byte == b'-' || byte == b'.' || byte == b'/'
 }
 
-/// How many bytes in front go on with a word.
-fn word_length(text: &[u8]) -> usize
-    ensures value { result ≡ prefix_len continues_word text.now }
-    ensures within { result ≤ length text.now }
+/// Whether the byte goes on with a run.
+fn goes_on(run: Run, byte: u8) -> bool
+    ensures { result ≡ goes_on run byte }
 {
-    text.iter()
-        .take_while(|byte| continues_word(**byte))
-        .count()
-}
-
-/// How many bytes stand before the line's end.
-fn line_length(text: &[u8]) -> usize
-    ensures value { result ≡ prefix_len is_no_line_end text.now }
-    ensures within { result ≤ length text.now }
-{
-    text.iter().take_while(|byte| **byte != b'\n').count()
-}
-
-/// How many bytes stand before the next quote or the line's end.
-fn string_length(text: &[u8]) -> usize
-    ensures value { result ≡ prefix_len stands_in_string text.now }
-    ensures within { result ≤ length text.now }
-{
-    text.iter()
-        .take_while(|byte| **byte != b'"' && **byte != b'\n')
-        .count()
-}
-
-/// How many bytes in front are digits.
-fn digits_length(text: &[u8]) -> usize
-    ensures value { result ≡ prefix_len is_ascii_digit text.now }
-    ensures within { result ≤ length text.now }
-{
-    text.iter().take_while(|byte| byte.is_ascii_digit()).count()
-}
-
-/// How many bytes in front are hexadecimal digits, in either case.
-fn hexadecimal_length(text: &[u8]) -> usize
-    ensures value { result ≡ prefix_len is_ascii_hexdigit text.now }
-    ensures within { result ≤ length text.now }
-{
-    text.iter()
-        .take_while(|byte| byte.is_ascii_hexdigit())
-        .count()
-}
-
-/// All the digits in front, one at least, and what follows them.
-#[tactic(auto, unfolding(crate::specs::steps::Reading::run_at))]
-fn digits<'t>(text: &'t [u8]) -> Option<(&'t [u8], &'t [u8])>
-    ensures value { option_map (λ x. (x.0.now, x.1.now)) result ≡ digits_at text.entry.now }
-    ensures digits { IfSome result (λ x. IsDigits x.0.now) }
-{
-    let length = digits_length(text);
-    if length == 0 {
-        return None;
+    match run {
+        Run::Word => continues_word(byte),
+        Run::Line => byte != b'\n',
+        Run::String => byte != b'"' && byte != b'\n',
+        Run::Decimal => byte.is_ascii_digit(),
+        Run::Hexadecimal => byte.is_ascii_hexdigit(),
     }
-    Some(text.split_at(length))
 }
 
-/// All the hexadecimal digits in front, one at least, and what follows them.
+/// How many bytes in front go on with the run.
+fn run_length(run: Run, text: &[u8]) -> usize
+    ensures value { result ≡ prefix_len (goes_on run) text.now }
+    ensures within { result ≤ length text.now }
+{
+    text.iter().take_while(|byte| goes_on(run, **byte)).count()
+}
+
+/// All the bytes in front that go on with the run, one at least, and what follows them.
 #[tactic(auto, unfolding(crate::specs::steps::Reading::run_at))]
-fn hexadecimal_digits<'t>(text: &'t [u8]) -> Option<(&'t [u8], &'t [u8])>
-    ensures value { option_map (λ x. (x.0.now, x.1.now)) result ≡ run_at is_ascii_hexdigit text.entry.now }
-    ensures digits { IfSome result (λ x. IsHexadecimal x.0.now) }
+fn some_run<'t>(run: Run, text: &'t [u8]) -> Option<(&'t [u8], &'t [u8])>
+    ensures { option_map (λ x. (x.0.now, x.1.now)) result ≡ run_at (goes_on run) text.entry.now }
 {
-    let length = hexadecimal_length(text);
-    if length == 0 {
-        return None;
-    }
-    Some(text.split_at(length))
-}
-
-/// The hexadecimal digits after `0x`, and what follows them.
-#[tactic(auto, unfolding(crate::specs::steps::Reading::hexadecimal_at))]
-fn hexadecimal<'t>(text: &'t [u8]) -> Option<(&'t [u8], &'t [u8])>
-    ensures value { option_map (λ x. (x.0.now, x.1.now)) result ≡ hexadecimal_at text.entry.now }
-    ensures digits { IfSome result (λ x. IsHexadecimal x.0.now) }
-{
-    let [b'0', b'x', rest @ ..] = text else {
+    let [first, rest @ ..] = text else {
         return None;
     };
-    hexadecimal_digits(rest)
+    if !goes_on(run, *first) {
+        return None;
+    }
+    Some(text.split_at(1 + run_length(run, rest)))
+}
+
+fn is_zero(digits: &[u8]) -> bool
+    ensures { result ≡ is_zero digits.now }
+{
+    digits.len() == 1 && digits[0] == b'0'
+}
+
+/// The hexadecimal number whose digits before its `x` are these, and what follows it.
+#[tactic(auto, unfolding(crate::specs::steps::Reading::hexadecimal_at))]
+fn hexadecimal<'t>(first: &'t [u8], text: &'t [u8]) -> Option<(Piece<'t>, &'t [u8])>
+    ensures { option_map (λ x. (part x.0, x.1.now)) result ≡ hexadecimal_at first.entry.now text.entry.now }
+{
+    let [b'x', rest @ ..] = text else {
+        return None;
+    };
+    if !is_zero(first) {
+        return None;
+    }
+    let (digits, rest) = some_run(Run::Hexadecimal, rest)?;
+    Some((Piece::Hexadecimal(digits), rest))
 }
 
 /// The digits after a dot, and what follows them.
 #[tactic(auto, unfolding(crate::specs::steps::Reading::next_group_at))]
 fn next_group<'t>(text: &'t [u8]) -> Option<(&'t [u8], &'t [u8])>
-    ensures value { option_map (λ x. (x.0.now, x.1.now)) result ≡ next_group_at text.entry.now }
-    ensures digits { IfSome result (λ x. IsDigits x.0.now) }
+    ensures { option_map (λ x. (x.0.now, x.1.now)) result ≡ next_group_at text.entry.now }
 {
     let [b'.', rest @ ..] = text else {
         return None;
     };
-    digits(rest)
+    some_run(Run::Decimal, rest)
 }
 
-/// Four groups in front and what follows them. The last takes all the digits that stand there.
+/// The four groups of which the first are these digits, and what follows them. The last takes
+/// all the digits that stand there.
 #[tactic(auto, unfolding(crate::specs::steps::Reading::dotted_at))]
-fn four_groups<'t>(text: &'t [u8]) -> Option<(Dotted<'t>, &'t [u8])>
-    ensures value { option_map (λ x. (groups x.0, x.1.now)) result ≡ dotted_at text.entry.now }
-    ensures digits { IfSome result (λ x. AreDigits (groups x.0)) }
+fn four_groups<'t>(first: &'t [u8], text: &'t [u8]) -> Option<(Piece<'t>, &'t [u8])>
+    ensures { option_map (λ x. (part x.0, x.1.now)) result ≡ dotted_at first.entry.now text.entry.now }
 {
-    let (first, rest) = digits(text)?;
-    let (second, rest) = next_group(rest)?;
+    let (second, rest) = next_group(text)?;
     let (third, rest) = next_group(rest)?;
     let (fourth, rest) = next_group(rest)?;
-    Some((
-        Dotted {
-            first,
-            second,
-            third,
-            fourth,
-        },
-        rest,
-    ))
+    let groups = Dotted {
+        first,
+        second,
+        third,
+        fourth,
+    };
+    Some((Piece::FourGroups(groups), rest))
 }
 
 /// The number or the address in front, and what follows it.
 ///
-/// The longer shapes are tried first: both begin with digits, that are a number by themselves.
+/// Digits stand first in each: what follows them tells which it is.
 #[tactic(auto, unfolding(crate::specs::steps::Reading::number_at))]
 fn number<'t>(text: &'t [u8]) -> Option<(Piece<'t>, &'t [u8])>
-    ensures value { option_map (λ x. (part x.0, x.1.now)) result ≡ number_at text.entry.now }
-    ensures shaped { IfSome result (λ x. IsShaped (part x.0)) }
+    ensures { option_map (λ x. (part x.0, x.1.now)) result ≡ number_at text.entry.now }
 {
-    if let Some((digits, rest)) = hexadecimal(text) {
-        return Some((Piece::Hexadecimal(digits), rest));
+    let (digits, rest) = some_run(Run::Decimal, text)?;
+    if let Some(found) = hexadecimal(digits, rest) {
+        return Some(found);
     }
-    if let Some((groups, rest)) = four_groups(text) {
-        return Some((Piece::FourGroups(groups), rest));
+    if let Some(found) = four_groups(digits, rest) {
+        return Some(found);
     }
-    let (digits, rest) = digits(text)?;
     Some((Piece::Digits(digits), rest))
 }
 
 /// The string whose first quote stands before the text, and what follows it.
 #[tactic(auto, unfolding(crate::specs::steps::Reading::quoted_at))]
 fn quoted<'t>(text: &'t [u8]) -> Option<(Piece<'t>, &'t [u8])>
-    ensures value { option_map (λ x. (part x.0, x.1.now)) result ≡ quoted_at text.entry.now }
-    ensures shaped { IfSome result (λ x. IsShaped (part x.0)) }
+    ensures { option_map (λ x. (part x.0, x.1.now)) result ≡ quoted_at text.entry.now }
 {
-    let (string, rest) = text.split_at(string_length(text));
+    let (string, rest) = text.split_at(run_length(Run::String, text));
     let [b'"', rest @ ..] = rest else {
         return None;
     };
     Some((Piece::Quoted(string), rest))
 }
 
-/// The mark in front, of two bytes where they are one, and what follows it.
-#[tactic(auto, unfolding(crate::specs::steps::Reading::mark_at))]
-fn mark<'t>(text: &'t [u8]) -> Option<(Piece<'t>, &'t [u8])>
-    ensures value { option_map (λ x. (part x.0, x.1.now)) result ≡ mark_at text.entry.now }
-    ensures shaped { IfSome result (λ x. IsShaped (part x.0)) }
+/// The mark that the byte before the text and an equals sign in front are, and what follows it.
+#[tactic(auto, unfolding(crate::specs::steps::Reading::long_mark_at))]
+fn long_mark<'t>(first: u8, text: &'t [u8]) -> Option<(Piece<'t>, &'t [u8])>
+    ensures { option_map (λ x. (part x.0, x.1.now)) result ≡ long_mark_at first text.entry.now }
 {
-    let [first, rest @ ..] = text else {
+    let mark = mark_before_equals(first)?;
+    let [b'=', rest @ ..] = text else {
         return None;
     };
-    if let [second, after @ ..] = rest {
-        if let Some(mark) = long_mark_of(*first, *second) {
-            return Some((Piece::Sole(mark), after));
-        }
-    }
-    let mark = mark_of(*first)?;
     Some((Piece::Sole(mark), rest))
+}
+
+/// The mark that begins with the byte before the text, of two bytes where they are one, and what
+/// follows it.
+#[tactic(auto, unfolding(crate::specs::steps::Reading::mark_at))]
+fn mark<'t>(first: u8, text: &'t [u8]) -> Option<(Piece<'t>, &'t [u8])>
+    ensures { option_map (λ x. (part x.0, x.1.now)) result ≡ mark_at first text.entry.now }
+{
+    if let Some(found) = long_mark(first, text) {
+        return Some(found);
+    }
+    let mark = mark_of(first)?;
+    Some((Piece::Sole(mark), text))
 }
 
 /// The longest piece in front, and what follows it.
 #[tactic(auto, unfolding(crate::specs::steps::Reading::piece_at, crate::specs::steps::Reading::class_at))]
 pub(crate) fn next_piece<'t>(text: &'t [u8]) -> Option<(Piece<'t>, &'t [u8])>
-    ensures value { option_map (λ x. (part x.0, x.1.now)) result ≡ piece_at text.entry.now }
-    ensures shaped { IfSome result (λ x. IsShaped (part x.0)) }
+    ensures { option_map (λ x. (part x.0, x.1.now)) result ≡ piece_at text.entry.now }
 {
     let [first, rest @ ..] = text else {
         return None;
@@ -296,15 +279,15 @@ pub(crate) fn next_piece<'t>(text: &'t [u8]) -> Option<(Piece<'t>, &'t [u8])>
             Some((Piece::JoinedLine, rest))
         }
         Class::Hash => {
-            let (comment, rest) = rest.split_at(line_length(rest));
+            let (comment, rest) = rest.split_at(run_length(Run::Line, rest));
             Some((Piece::Comment(comment), rest))
         }
         Class::Quote => quoted(rest),
         Class::Digit => number(text),
         Class::Letter => {
-            let (word, rest) = text.split_at(1 + word_length(rest));
+            let (word, rest) = text.split_at(1 + run_length(Run::Word, rest));
             Some((Piece::Name(word), rest))
         }
-        Class::Other => mark(text),
+        Class::Other => mark(*first, rest),
     }
 }
