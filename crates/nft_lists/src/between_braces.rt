@@ -1,30 +1,19 @@
-//! Tokens up to the brace that closes them, and the comma that may end a list.
-ghost use Rattle.std.specs.Prelude.{◌≡◌, [], ◌∷◌, ◌++◌, IfOk, option_map, ◌≤◌, length, IfSome};
+//! Lists up to the brace that closes them.
+ghost use Rattle.std.specs.Prelude.{◌≡◌, [], ◌∷◌, ◌++◌, ◌+◌, ◌-◌, ◌<◌, ◌≤◌, Some, drop, length, map, take, option_map, IfOk, IfSome};
 ghost use Rattle.nft_lexer.specs.Sign.{sign_of, signs};
+ghost use Rattle.nft_lexer.specs.declared.token.Mark.TheVariants as marks;
+ghost use Rattle.token_reader.specs.Readers.{IsRead, ahead};
 ghost use Rattle.token_reader.specs.Repeats.{without_newlines};
-ghost use Rattle.token_reader.specs.Places.{ahead};
-ghost use Rattle.nft_lists.specs.steps.Reading.{after_last_comma, inside_at, before_brace, from_brace, enclosed_at};
+ghost use Rattle.nft_lists.specs.steps.Reading.{after_last_comma, after_plain, at_brace, enclosed_at, inside_at, listed_at, up_to_brace_at};
 
 use nft_lexer::{Kind, Mark, Token};
 use nft_tree::Memory;
 use std::alloc::Global;
-use token_reader::after_mark;
-
-/// [","]
-pub(crate) fn after_last_comma(tokens: &[Token], at: usize) -> usize
-    ensures read { ahead tokens.now result ≡ after_last_comma (ahead tokens.now at) }
-    ensures within { at ≤ length tokens.now → result ≤ length tokens.now }
-{
-    match after_mark(tokens, at, Mark::Comma) {
-        Some(after) => after,
-        None => at,
-    }
-}
+use token_reader::{Part, Separator, after_mark, found, separated};
 
 /// The token here, unless it is a closing brace, and the place after it.
 fn inside<'t>(tokens: &[Token<'t>], at: usize) -> Option<(Token<'t>, usize)>
-    ensures read { option_map (λ x. (sign_of x.0.kind x.0.text.now, ahead tokens.now x.1)) result ≡ inside_at (ahead tokens.now at) }
-    ensures within { IfSome result (λ x. x.1 ≤ length tokens.now) }
+    ensures { IsRead (λ t. sign_of t.kind t.text.now) inside_at tokens.now at result }
 {
     let token = tokens.get(at)?;
     match token.kind {
@@ -35,7 +24,8 @@ fn inside<'t>(tokens: &[Token<'t>], at: usize) -> Option<(Token<'t>, usize)>
 
 /// Puts the token at the end of `kept`, unless it is a newline.
 fn keep<'t>(token: Token<'t>, kept: &mut Vec<Token<'t>>) -> Result<(), Memory>
-    ensures { IfOk result (λ _. signs kept.new.items ≡ signs kept.old.items ++ without_newlines (sign_of token.entry.kind token.entry.text.now ∷ [])) }
+    ensures read { IfOk result (λ _. signs kept.new.items ≡ signs kept.old.items ++ without_newlines (sign_of token.entry.kind token.entry.text.now ∷ [])) }
+    ensures one { IfOk result (λ _. length kept.new.items ≤ length kept.old.items + 1) }
 {
     match token.kind {
         Kind::NewLine => {}
@@ -46,13 +36,13 @@ fn keep<'t>(token: Token<'t>, kept: &mut Vec<Token<'t>>) -> Result<(), Memory>
 
 /// The tokens from this place up to the first closing brace, the newlines among them left out,
 /// and the place of that brace, or the end where there is none.
-fn lines_joined<'t>(
+fn enclosed<'t>(
     alloc: Global,
     tokens: &[Token<'t>],
     at: usize,
 ) -> Result<(Vec<Token<'t>>, usize), Memory>
-    ensures kept { IfOk result (λ x. signs x.0.items ≡ without_newlines (before_brace (ahead tokens.now at))) }
-    ensures brace { IfOk result (λ x. ahead tokens.now x.1 ≡ from_brace (ahead tokens.now at)) }
+    ensures read { IfOk result (λ x. enclosed_at (ahead tokens.now at) ≡ at_brace (signs x.0.items) (ahead tokens.now x.1)) }
+    ensures within { IfOk result (λ x. at + length x.0.items ≤ x.1) }
 {
     let mut kept = Vec::new(alloc);
     let mut here = at;
@@ -63,20 +53,78 @@ fn lines_joined<'t>(
     Ok((kept, here))
 }
 
-/// The tokens from this place up to the first closing brace, the newlines among them left out,
-/// and the place of that brace.
-#[tactic(auto, unfolding(crate::specs::steps::Reading::enclosed_at))]
-pub(crate) fn enclosed<'t>(
-    alloc: Global,
-    tokens: &[Token<'t>],
-    at: usize,
-) -> Result<Option<(Vec<Token<'t>>, usize)>, Memory>
-    ensures read { IfOk result (λ o. option_map (λ x. (signs x.0.items, ahead tokens.now x.1)) o ≡ enclosed_at (ahead tokens.now at)) }
-    ensures within { IfOk result (λ o. IfSome o (λ x. x.1 ≤ length tokens.now)) }
+/// The place after the token here, unless that is a newline or a closing brace.
+fn after_plain(tokens: &[Token], at: usize) -> Option<usize>
+    ensures read { option_map (ahead tokens.now) result ≡ after_plain (ahead tokens.now at) }
+    ensures next { IfSome result (λ end. end ≡ at + 1) }
 {
-    let (kept, brace) = lines_joined(alloc, tokens, at)?;
-    match after_mark(tokens, brace, Mark::CloseBrace) {
-        Some(_) => Ok(Some((kept, brace))),
-        None => Ok(None),
+    match tokens.get(at)?.kind {
+        Kind::NewLine | Kind::Mark(Mark::CloseBrace) => None,
+        _ => Some(at + 1),
     }
+}
+
+/// The place of the first closing brace, where no newline stands between here and it.
+fn unbroken(tokens: &[Token], at: usize) -> Option<usize>
+    ensures read { IfSome result (λ brace. enclosed_at (ahead tokens.now at) ≡ Some (signs (take (brace - at) (drop at tokens.now)), ahead tokens.now brace)) }
+    ensures within { IfSome result (λ brace. (at ≤ brace) × (brace ≤ length tokens.now)) }
+{
+    let mut here = at;
+    while let Some(after) = after_plain(tokens, here) {
+        here = after;
+    }
+    after_mark(tokens, here, Mark::CloseBrace)?;
+    Some(here)
+}
+
+/// [","]
+fn after_last_comma(tokens: &[Token], at: usize) -> usize
+    ensures { ahead tokens.now result ≡ after_last_comma (ahead tokens.now at) }
+{
+    match after_mark(tokens, at, Mark::Comma) {
+        Some(after) => after,
+        None => at,
+    }
+}
+
+struct Comma;
+
+impl Separator for Comma {
+    ghost mark = { marks.Comma };
+
+    fn mark() -> Mark {
+        Mark::Comma
+    }
+}
+
+/// x {"," x} [","], all of the tokens
+#[tactic(auto, unfolding(crate::specs::steps::Reading::listed_at))]
+fn listed<P: Part>(alloc: Global, tokens: &[Token]) -> Result<Option<Vec<P::Item>>, Memory>
+    ensures read { IfOk result (λ o. option_map (λ found. map P.tree found.items) o ≡ listed_at P.read_at (signs tokens.now)) }
+    ensures some { IfOk result (λ o. IfSome o (λ _. 0 < length tokens.now)) }
+{
+    let (found, end) = found!(separated::<Comma, P>(alloc, tokens, 0)?);
+    if after_last_comma(tokens, end) < tokens.len() {
+        return Ok(None);
+    }
+    Ok(Some(found))
+}
+
+/// x {"," x} [","] up to the brace that closes it, newlines skipped, and the place of that brace.
+#[tactic(auto, unfolding(crate::specs::steps::Reading::up_to_brace_at))]
+pub(crate) fn up_to_brace<P: Part>(
+    alloc: Global,
+    tokens: &[Token],
+    at: usize,
+) -> Result<Option<(Vec<P::Item>, usize)>, Memory>
+    ensures { IfOk result (IsRead (λ found. map P.tree found.items) (up_to_brace_at P.read_at) tokens.now at) }
+{
+    if let Some(brace) = unbroken(tokens, at) {
+        let found = found!(listed::<P>(alloc, &tokens[at..brace])?);
+        return Ok(Some((found, brace)));
+    }
+    let (inner, brace) = enclosed(alloc, tokens, at)?;
+    found!(after_mark(tokens, brace, Mark::CloseBrace));
+    let found = found!(listed::<P>(alloc, &inner)?);
+    Ok(Some((found, brace)))
 }

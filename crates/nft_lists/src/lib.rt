@@ -4,14 +4,12 @@
 
 mod between_braces;
 mod elements;
-mod laws;
 mod lists;
 mod maps;
 mod references;
 mod values;
 mod verdicts;
 
-pub use laws::list_laws;
 pub use lists::{elems, pairs};
 pub use references::{map_ref, set_ref};
 pub use values::{comment, range};

@@ -1,15 +1,17 @@
 //! Values, ranges and comments.
-ghost use Rattle.std.specs.Prelude.{◌≡◌, ◌≤◌, List, Option, length, option_map, IfOk, IfSome, IsSomeAnd};
-ghost use Rattle.nft_lexer.specs.Sign.{Sign};
-ghost use Rattle.nft_tree.specs.Tree.{RangeTree, Text, range_tree, value_tree};
-ghost use Rattle.token_reader.specs.Places.{ahead};
-ghost use Rattle.nft_lists.specs.Elements.{EndsRange, NoComment, SpellsComment, SpellsRange};
-ghost use Rattle.nft_lists.specs.steps.Reading.{value_at, prefix_at, high_at, between_at, range_at, comment_text_at, comment_at};
+ghost use Rattle.std.specs.Prelude.{◌≡◌, ◌≤◌, Some, codes, length, option_map, IfOk};
+ghost use Rattle.nft_lexer.specs.declared.token.Mark.TheVariants as marks;
+ghost use Rattle.nft_tree.specs.Tree.{range_tree, value_tree};
+ghost use Rattle.token_reader.specs.Readers.{IsRead, Reads, ahead};
+ghost use Rattle.token_reader.specs.Grammar.{a_string, keyword, ◌▹◌};
+ghost use Rattle.token_reader.specs.steps.Reading.{after_at, number_at, sign_at};
+ghost use Rattle.nft_lists.specs.Elements.{EndsComment, EndsRange, comment, range, value};
+ghost use Rattle.nft_lists.specs.steps.Reading.{one_or_prefix, range_after};
 
 use nft_lexer::{Kind, Mark, Token};
 use nft_tree::{Memory, Range, Value};
 use std::alloc::Global;
-use token_reader::{address, after_mark, after_word, number, string};
+use token_reader::{after_mark, after_word, found, number, string};
 
 /// value = NUM | ADDR | WORD | STRING
 pub(crate) fn value(
@@ -17,12 +19,9 @@ pub(crate) fn value(
     tokens: &[Token],
     at: usize,
 ) -> Result<Option<(Value, usize)>, Memory>
-    ensures read { IfOk result (λ o. option_map (λ x. (value_tree x.0, ahead tokens.now x.1)) o ≡ value_at (ahead tokens.now at)) }
-    ensures within { IfOk result (λ o. IfSome o (λ x. x.1 ≤ length tokens.now)) }
+    ensures { IfOk result (IsRead value_tree value.read tokens.now at) }
 {
-    let Some(token) = tokens.get(at) else {
-        return Ok(None);
-    };
+    let token = found!(tokens.get(at));
     let value = match token.kind {
         Kind::Number(number) => Value::Number(number),
         Kind::Address(address) => Value::Address(address),
@@ -33,112 +32,100 @@ pub(crate) fn value(
     Ok(Some((value, at + 1)))
 }
 
-/// ADDR "/" NUM
-#[tactic(auto, unfolding(crate::specs::steps::Reading::prefix_at))]
-fn prefix(tokens: &[Token], at: usize) -> Option<(Range, usize)>
-    ensures read { option_map (λ x. (range_tree x.0, ahead tokens.now x.1)) result ≡ prefix_at (ahead tokens.now at) }
-    ensures within { IfSome result (λ x. x.1 ≤ length tokens.now) }
+/// The value after the mark, where the mark stands here.
+pub(crate) fn value_after(
+    alloc: Global,
+    tokens: &[Token],
+    at: usize,
+    mark: Mark,
+) -> Result<Option<(Value, usize)>, Memory>
+    ensures { IfOk result (IsRead value_tree (after_at (sign_at mark) value.read) tokens.now at) }
 {
-    let (address, at) = address(tokens, at)?;
-    let at = after_mark(tokens, at, Mark::Slash)?;
-    let (length, at) = number(tokens, at)?;
-    Some((Range::Prefix(address, length), at))
-}
-
-/// "-" value
-#[tactic(auto, unfolding(crate::specs::steps::Reading::high_at))]
-fn high(alloc: Global, tokens: &[Token], at: usize) -> Result<Option<(Value, usize)>, Memory>
-    ensures read { IfOk result (λ o. option_map (λ x. (value_tree x.0, ahead tokens.now x.1)) o ≡ high_at (ahead tokens.now at)) }
-    ensures within { IfOk result (λ o. IfSome o (λ x. x.1 ≤ length tokens.now)) }
-{
-    let Some(at) = after_mark(tokens, at, Mark::Minus) else {
-        return Ok(None);
-    };
+    let at = found!(after_mark(tokens, at, mark));
     value(alloc, tokens, at)
 }
 
-/// value ["-" value]
-#[tactic(auto, unfolding(crate::specs::steps::Reading::between_at))]
-fn between(alloc: Global, tokens: &[Token], at: usize) -> Result<Option<(Range, usize)>, Memory>
-    ensures read { IfOk result (λ o. option_map (λ x. (range_tree x.0, ahead tokens.now x.1)) o ≡ between_at (ahead tokens.now at)) }
-    ensures within { IfOk result (λ o. IfSome o (λ x. x.1 ≤ length tokens.now)) }
+/// "/" NUM
+fn prefix_length(tokens: &[Token], at: usize) -> Option<(u64, usize)>
+    ensures { IsRead (λ x. x) (after_at (sign_at marks.Slash) number_at) tokens.now at result }
 {
-    let Some((low, at)) = value(alloc, tokens, at)? else {
-        return Ok(None);
-    };
-    match high(alloc, tokens, at)? {
-        Some((high, at)) => Ok(Some((Range::Between(low, high), at))),
-        None => Ok(Some((Range::One(low), at))),
+    let at = after_mark(tokens, at, Mark::Slash)?;
+    number(tokens, at)
+}
+
+/// The value as a range, or as a prefix where it is an address with a length after it.
+#[tactic(auto, unfolding(crate::specs::steps::Reading::one_or_prefix))]
+fn one_or_prefix(tokens: &[Token], at: usize, first: Value) -> (Range, usize)
+    ensures read { (range_tree result.0, ahead tokens.now result.1) ≡ one_or_prefix (value_tree first) (ahead tokens.now at) }
+    ensures within { (at ≤ result.1) × (at ≤ length tokens.now → result.1 ≤ length tokens.now) }
+{
+    match (first, prefix_length(tokens, at)) {
+        (Value::Address(address), Some((length, end))) => (Range::Prefix(address, length), end),
+        (value, _) => (Range::One(value), at),
+    }
+}
+
+/// The range that begins with the value, and the place after it.
+#[tactic(auto, unfolding(crate::specs::steps::Reading::range_after))]
+pub(crate) fn range_after(
+    alloc: Global,
+    tokens: &[Token],
+    at: usize,
+    first: Value,
+) -> Result<(Range, usize), Memory>
+    ensures read { IfOk result (λ x. (range_tree x.0, ahead tokens.now x.1) ≡ range_after (value_tree first) (ahead tokens.now at)) }
+    ensures within { IfOk result (λ x. (at ≤ x.1) × (at ≤ length tokens.now → x.1 ≤ length tokens.now)) }
+{
+    match value_after(alloc, tokens, at, Mark::Minus)? {
+        Some((high, end)) => Ok((Range::Between(first, high), end)),
+        None => Ok(one_or_prefix(tokens, at, first)),
     }
 }
 
 /// one = value | value "-" value | ADDR "/" NUM
-#[tactic(auto, unfolding(crate::specs::steps::Reading::range_at))]
+#[tactic(auto, unfolding(crate::specs::Elements::range))]
 fn range_here(alloc: Global, tokens: &[Token], at: usize) -> Result<Option<(Range, usize)>, Memory>
-    ensures read { IfOk result (λ o. option_map (λ x. (range_tree x.0, ahead tokens.now x.1)) o ≡ range_at (ahead tokens.now at)) }
-    ensures within { IfOk result (λ o. IfSome o (λ x. x.1 ≤ length tokens.now)) }
+    ensures { IfOk result (IsRead range_tree range.read tokens.now at) }
 {
-    if let Some(found) = prefix(tokens, at) {
-        return Ok(Some(found));
-    }
-    between(alloc, tokens, at)
+    let (first, at) = found!(value(alloc, tokens, at)?);
+    Ok(Some(range_after(alloc, tokens, at, first)?))
 }
 
 /// The value, the range of two values or the prefix at this place, and where it ends; none where
 /// no value stands here.
 pub fn range(alloc: Global, tokens: &[Token], at: usize) -> Result<Option<(Range, usize)>, Memory>
-    // What is read is spelled here.
-    ensures found { IfOk result (λ o. IfSome o (λ x. SpellsRange (range_tree x.0) (ahead tokens.now at) (ahead tokens.now x.1))) }
-    // It ends within the tokens.
-    ensures within { IfOk result (λ o. IfSome o (λ x. x.1 ≤ length tokens.now)) }
-    // What is spelled here, with nothing after it that goes on with it, is read.
-    ensures only { (r : RangeTree) (to : List Sign) → SpellsRange r (ahead tokens.now at) to → EndsRange to → IfOk result (λ o. IsSomeAnd o (λ x. (range_tree x.0 ≡ r) × (ahead tokens.now x.1 ≡ to))) }
+    // What is read is spelled here, and what is spelled here, with nothing after it that goes on with it, is read.
+    ensures reads { IfOk result (Reads range EndsRange range_tree tokens.now at) }
     // It is what reading from left to right gives.
-    ensures read { IfOk result (λ o. option_map (λ x. (range_tree x.0, ahead tokens.now x.1)) o ≡ range_at (ahead tokens.now at)) }
+    ensures read { IfOk result (IsRead range_tree range.read tokens.now at) }
 {
     range_here(alloc, tokens, at)
 }
 
 /// "comment" STRING
-#[tactic(auto, unfolding(crate::specs::steps::Reading::comment_text_at))]
 fn comment_text<'t>(tokens: &[Token<'t>], at: usize) -> Option<(&'t [u8], usize)>
-    ensures read { option_map (λ x. (x.0.now, ahead tokens.now x.1)) result ≡ comment_text_at (ahead tokens.now at) }
-    ensures within { IfSome result (λ x. x.1 ≤ length tokens.now) }
+    ensures { IsRead (λ x. x.now) (keyword (codes "comment") ▹ a_string).read tokens.now at result }
 {
     let at = after_word(tokens, at, b"comment")?;
     string(tokens, at)
 }
 
-/// ["comment" STRING]
-#[tactic(auto, unfolding(crate::specs::steps::Reading::comment_at))]
-fn comment_here(
-    alloc: Global,
-    tokens: &[Token],
-    at: usize,
-) -> Result<(Option<Vec<u8>>, usize), Memory>
-    ensures read { IfOk result (λ x. (option_map (λ c. c.items) x.0, ahead tokens.now x.1) ≡ comment_at (ahead tokens.now at)) }
-    ensures within { IfOk result (λ x. at ≤ length tokens.now → x.1 ≤ length tokens.now) }
-{
-    match comment_text(tokens, at) {
-        Some((text, after)) => Ok((Some(Vec::from_slice(alloc, text)?), after)),
-        None => Ok((None, at)),
-    }
-}
-
 /// The comment at this place, or none, and the place after it.
+#[tactic(auto, unfolding(crate::specs::Elements::comment))]
 pub fn comment(
     alloc: Global,
     tokens: &[Token],
     at: usize,
 ) -> Result<(Option<Vec<u8>>, usize), Memory>
-    // What is read is spelled here.
-    ensures found { IfOk result (λ x. SpellsComment (option_map (λ c. c.items) x.0) (ahead tokens.now at) (ahead tokens.now x.1)) }
+    // What is read is spelled here, and what is spelled here, with no comment after it, is read.
+    ensures reads { IfOk result (λ x. Reads comment EndsComment (option_map (λ c. c.items)) tokens.now at (Some x)) }
     // From a place within the tokens it ends within them.
-    ensures within { IfOk result (λ x. at ≤ length tokens.now → x.1 ≤ length tokens.now) }
-    // What is spelled here, with no comment after it, is read.
-    ensures only { (c : Option Text) (to : List Sign) → SpellsComment c (ahead tokens.now at) to → NoComment to → IfOk result (λ x. (option_map (λ c. c.items) x.0 ≡ c) × (ahead tokens.now x.1 ≡ to)) }
+    ensures within { IfOk result (λ x. (at ≤ x.1) × (at ≤ length tokens.now → x.1 ≤ length tokens.now)) }
     // It is what reading from left to right gives.
-    ensures read { IfOk result (λ x. (option_map (λ c. c.items) x.0, ahead tokens.now x.1) ≡ comment_at (ahead tokens.now at)) }
+    ensures read { IfOk result (λ x. Some (option_map (λ c. c.items) x.0, ahead tokens.now x.1) ≡ comment.read (ahead tokens.now at)) }
 {
-    comment_here(alloc, tokens, at)
+    match comment_text(tokens, at) {
+        Some((text, after)) => Ok((Some(Vec::from_slice(alloc, text)?), after)),
+        None => Ok((None, at)),
+    }
 }

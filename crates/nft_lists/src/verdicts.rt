@@ -1,15 +1,14 @@
 //! Verdicts.
-ghost use Rattle.std.specs.Prelude.{◌≡◌, ◌≤◌, List, length, option_map, IfOk, IfSome, IsSomeAnd};
-ghost use Rattle.nft_lexer.specs.Sign.{Sign};
-ghost use Rattle.nft_tree.specs.Tree.{VerdictTree, verdict_tree};
-ghost use Rattle.token_reader.specs.Places.{ahead};
-ghost use Rattle.nft_lists.specs.Elements.{SpellsVerdict, is_verdict_word};
-ghost use Rattle.nft_lists.specs.steps.Reading.{decision_at, transfer_at, verdict_at};
+ghost use Rattle.std.specs.Prelude.{◌≡◌, codes, IfOk};
+ghost use Rattle.nft_tree.specs.Tree.{verdict_tree, jump, goto};
+ghost use Rattle.token_reader.specs.Grammar.{a_word, keyword, made, one_of, ◌▹◌, ◌∣◌};
+ghost use Rattle.token_reader.specs.Readers.{Anything, IsRead, Reads};
+ghost use Rattle.nft_lists.specs.Elements.{decisions, is_verdict_word, verdict};
 
 use nft_lexer::Token;
 use nft_tree::{Memory, Verdict};
 use std::alloc::Global;
-use token_reader::{after_word, word};
+use token_reader::{after_word, found, word};
 
 /// Whether the word is one that a verdict begins with.
 pub(crate) fn is_verdict_word(text: &[u8]) -> bool
@@ -24,10 +23,8 @@ pub(crate) fn is_verdict_word(text: &[u8]) -> bool
 }
 
 /// "accept" | "drop" | "continue" | "return"
-#[tactic(auto, unfolding(crate::specs::steps::Reading::decision_at))]
 fn decision(tokens: &[Token], at: usize) -> Option<(Verdict, usize)>
-    ensures read { option_map (λ x. (verdict_tree x.0, ahead tokens.now x.1)) result ≡ decision_at (ahead tokens.now at) }
-    ensures within { IfSome result (λ x. x.1 ≤ length tokens.now) }
+    ensures { IsRead verdict_tree (one_of decisions).read tokens.now at result }
 {
     if let Some(at) = after_word(tokens, at, b"accept") {
         return Some((Verdict::Accept, at));
@@ -42,36 +39,27 @@ fn decision(tokens: &[Token], at: usize) -> Option<(Verdict, usize)>
     Some((Verdict::Return, at))
 }
 
-/// ("jump" | "goto") NAME
-#[tactic(auto, unfolding(crate::specs::steps::Reading::transfer_at))]
+/// "jump" NAME | "goto" NAME
 fn transfer(alloc: Global, tokens: &[Token], at: usize) -> Result<Option<(Verdict, usize)>, Memory>
-    ensures read { IfOk result (λ o. option_map (λ x. (verdict_tree x.0, ahead tokens.now x.1)) o ≡ transfer_at (ahead tokens.now at)) }
-    ensures within { IfOk result (λ o. IfSome o (λ x. x.1 ≤ length tokens.now)) }
+    ensures { IfOk result (IsRead verdict_tree (made jump (keyword (codes "jump") ▹ a_word) ∣ made goto (keyword (codes "goto") ▹ a_word)).read tokens.now at) }
 {
     if let Some(at) = after_word(tokens, at, b"jump") {
-        let Some((name, at)) = word(tokens, at) else {
-            return Ok(None);
-        };
+        let (name, at) = found!(word(tokens, at));
         return Ok(Some((Verdict::Jump(Vec::from_slice(alloc, name)?), at)));
     }
-    let Some(at) = after_word(tokens, at, b"goto") else {
-        return Ok(None);
-    };
-    let Some((name, at)) = word(tokens, at) else {
-        return Ok(None);
-    };
+    let at = found!(after_word(tokens, at, b"goto"));
+    let (name, at) = found!(word(tokens, at));
     Ok(Some((Verdict::Goto(Vec::from_slice(alloc, name)?), at)))
 }
 
 /// "accept" | "drop" | "continue" | "return" | ("jump" | "goto") NAME
-#[tactic(auto, unfolding(crate::specs::steps::Reading::verdict_at))]
+#[tactic(auto, unfolding(crate::specs::Elements::verdict))]
 fn verdict_here(
     alloc: Global,
     tokens: &[Token],
     at: usize,
 ) -> Result<Option<(Verdict, usize)>, Memory>
-    ensures read { IfOk result (λ o. option_map (λ x. (verdict_tree x.0, ahead tokens.now x.1)) o ≡ verdict_at (ahead tokens.now at)) }
-    ensures within { IfOk result (λ o. IfSome o (λ x. x.1 ≤ length tokens.now)) }
+    ensures { IfOk result (IsRead verdict_tree verdict.read tokens.now at) }
 {
     if let Some(found) = decision(tokens, at) {
         return Ok(Some(found));
@@ -86,14 +74,10 @@ pub fn verdict(
     tokens: &[Token],
     at: usize,
 ) -> Result<Option<(Verdict, usize)>, Memory>
-    // What is read is spelled here.
-    ensures found { IfOk result (λ o. IfSome o (λ x. SpellsVerdict (verdict_tree x.0) (ahead tokens.now at) (ahead tokens.now x.1))) }
-    // It ends within the tokens.
-    ensures within { IfOk result (λ o. IfSome o (λ x. x.1 ≤ length tokens.now)) }
-    // What is spelled here is read: there is no other verdict, and where nothing is read there is none.
-    ensures only { (v : VerdictTree) (to : List Sign) → SpellsVerdict v (ahead tokens.now at) to → IfOk result (λ o. IsSomeAnd o (λ x. (verdict_tree x.0 ≡ v) × (ahead tokens.now x.1 ≡ to))) }
+    // What is read is spelled here, and what is spelled here is read: there is no other verdict.
+    ensures reads { IfOk result (Reads verdict Anything verdict_tree tokens.now at) }
     // It is what reading from left to right gives.
-    ensures read { IfOk result (λ o. option_map (λ x. (verdict_tree x.0, ahead tokens.now x.1)) o ≡ verdict_at (ahead tokens.now at)) }
+    ensures read { IfOk result (IsRead verdict_tree verdict.read tokens.now at) }
 {
     verdict_here(alloc, tokens, at)
 }

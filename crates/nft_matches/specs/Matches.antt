@@ -1,31 +1,38 @@
 -- What spells a match (nft(8), "Expressions", "Payload expressions", "Conntrack expressions").
-use Rattle.std.specs.Prelude.{◌≡◌, List, [], ◌∷◌, ◌⊎◌, Bool, true, false, ◌&&◌, IsTrue}
+use Rattle.std.specs.Prelude.{List, [], ◌∷◌, ◌++◌, Bool, true, false, cond, ◌&&◌, Option, Some, None, IsTrue, option_map, ◌≡◌, ◌⊎◌}
 use Rattle.std.specs.List.{list_all}
+use Rattle.std.specs.Option.{unwrap_or}
 use Rattle.nft_lexer.specs.declared.token.Mark.TheVariants as marks
 use Rattle.nft_lexer.specs.Sign as signs
-use Rattle.nft_lexer.specs.Sign.{Sign, mark}
+use Rattle.nft_lexer.specs.Sign.{Sign}
 use Rattle.nft_tree.specs.declared.selector.Selector.{Selector}
 use Rattle.nft_tree.specs.declared.selector.Selector.TheVariants.{TcpFlags, CtState, CtStatus}
 use Rattle.nft_tree.specs.declared.statement.Operator.{Operator}
 use Rattle.nft_tree.specs.declared.statement.Operator.TheVariants as operators
 use Rattle.nft_tree.specs.declared.statement.BitField.{BitField}
 use Rattle.nft_tree.specs.declared.statement.BitField.TheVariants.{State, Status}
-use Rattle.nft_tree.specs.declared.statement.BitTest.{BitTest}
 use Rattle.nft_tree.specs.declared.statement.BitTest.TheVariants as tests
 use Rattle.nft_tree.specs.Tree as tree
-use Rattle.nft_tree.specs.Tree.{Text, ValueTree, RangeTree, FlagTree, MatchTree}
-use Rattle.token_reader.specs.Repeats.{Many}
-use Rattle.nft_selectors.specs.Selectors.{SpellsSelector, SpellsSelectors, is_plain, is_word_for}
-use Rattle.nft_lists.specs.Elements.{SpellsRange, SpellsSetRef}
+use Rattle.nft_tree.specs.Tree.{Text, ValueTree, RangeTree, FlagTree, flag_word, flag_number, MatchTree}
+use Rattle.token_reader.specs.Repeats.{stops}
+use Rattle.token_reader.specs.Grammar.{Grammar, ◌⨾◌, ◌▹◌, ◌◃◌, ◌∣◌, a_number, a_word, made, maybe, named, one_of, passing, separated, sign}
+use Rattle.token_reader.specs.steps.Reading.{◌>>=◌, all_at, with_front}
+use Rattle.nft_selectors.specs.Selectors.{is_word_for, selector, selectors}
+use Rattle.nft_lists.specs.Elements.{range, set_ref}
 
--- [op]: none is `==`
-abbrev pub SpellsOperator : Operator → List Sign → List Sign → Type 0
-SpellsOperator operators.Equal from to = (from ≡ to) ⊎ (from ≡ mark marks.EqualTo ∷ to)
-SpellsOperator operators.Unequal from to = from ≡ mark marks.NotEqualTo ∷ to
-SpellsOperator operators.Below from to = from ≡ mark marks.Below ∷ to
-SpellsOperator operators.Above from to = from ≡ mark marks.Above ∷ to
-SpellsOperator operators.AtMost from to = from ≡ mark marks.AtMost ∷ to
-SpellsOperator operators.AtLeast from to = from ≡ mark marks.AtLeast ∷ to
+-- "==" | "!=": whether it is `==`
+unfoldable pub equality : Grammar Bool
+equality = made (λ u. true) (sign marks.EqualTo) ∣ made (λ u. false) (sign marks.NotEqualTo)
+
+-- "<" | ">" | "<=" | ">="
+unfoldable pub inequality : Grammar Operator
+inequality =
+    made (λ u. operators.Below) (sign marks.Below) ∣ made (λ u. operators.Above) (sign marks.Above)
+    ∣ made (λ u. operators.AtMost) (sign marks.AtMost) ∣ made (λ u. operators.AtLeast) (sign marks.AtLeast)
+
+-- op
+unfoldable pub operator : Grammar Operator
+operator = made (λ equal. cond equal operators.Equal operators.Unequal) equality ∣ inequality
 
 -- a word of a direct match is one that the selector's type lists; any word is a name of an interface
 abbrev pub is_value_for : Selector → ValueTree → Bool
@@ -39,81 +46,77 @@ is_range_for s (tree.one v) = is_value_for s v
 is_range_for s (tree.between low high) = is_value_for s low && is_value_for s high
 is_range_for s (tree.prefix a n) = true
 
-abbrev pub selector_of : BitField → Selector
-selector_of State = CtState
-selector_of Status = CtStatus
-
-abbrev pub SpellsBitTest : BitTest → List Sign → List Sign → Type 0
-SpellsBitTest tests.Any from to = from ≡ to
-SpellsBitTest tests.Exactly from to = from ≡ mark marks.EqualTo ∷ to
-SpellsBitTest tests.None from to = from ≡ mark marks.NotEqualTo ∷ to
-
-abbrev pub SpellsNextWord : Text → List Sign → List Sign → Type 0
-SpellsNextWord w from to = from ≡ mark marks.Comma ∷ signs.word w ∷ to
+-- [op] one: none is `==`
+unfoldable pub comparison : Selector → Grammar MatchTree
+comparison s = made (λ x. tree.compare s (unwrap_or x.0 operators.Equal) x.1) (maybe operator ⨾ passing (is_range_for s) range)
 
 -- WORD {"," WORD}
-abbrev pub SpellsWords : List Text → List Sign → List Sign → Type 0
-SpellsWords [] from to = ⊥
-SpellsWords (w ∷ ws) from to = (a : List Sign) × (from ≡ signs.word w ∷ a) × Many SpellsNextWord ws a to
+unfoldable pub words : Grammar (List Text)
+words = separated (sign marks.Comma) a_word
 
-abbrev pub sign_of_flag : FlagTree → Sign
-sign_of_flag (tree.flag_word w) = signs.word w
-sign_of_flag (tree.flag_number n) = signs.number n
+-- bits = ["==" | "!="] WORD {"," WORD}
+unfoldable pub bits : BitField → Selector → Grammar MatchTree
+bits field s = made (λ x. tree.bits field (unwrap_or (option_map (λ equal. cond equal tests.Exactly tests.None) x.0) tests.Any) x.1) (maybe equality ⨾ passing (list_all (is_word_for s)) words)
 
 abbrev pub is_flag : FlagTree → Bool
-is_flag (tree.flag_word w) = is_word_for TcpFlags w
-is_flag (tree.flag_number n) = true
+is_flag (flag_word w) = is_word_for TcpFlags w
+is_flag (flag_number n) = true
 
--- ("," | "|") (WORD | NUM)
-abbrev pub SpellsNextFlag : FlagTree → List Sign → List Sign → Type 0
-SpellsNextFlag f from to = (from ≡ mark marks.Comma ∷ sign_of_flag f ∷ to) ⊎ (from ≡ mark marks.Bar ∷ sign_of_flag f ∷ to)
+-- WORD | NUM
+unfoldable pub flag : Grammar FlagTree
+flag = made flag_word a_word ∣ made flag_number a_number
 
 -- flags = (WORD | NUM) {("," | "|") (WORD | NUM)}
-abbrev pub SpellsFlags : List FlagTree → List Sign → List Sign → Type 0
-SpellsFlags [] from to = ⊥
-SpellsFlags (f ∷ fs) from to = (a : List Sign) × (from ≡ sign_of_flag f ∷ a) × Many SpellsNextFlag fs a to × IsTrue (list_all is_flag (f ∷ fs))
+unfoldable pub flags : Grammar (List FlagTree)
+flags = passing (list_all is_flag) (separated (sign marks.Comma ∣ sign marks.Bar) flag)
 
 -- pflags = flags | "(" flags ")"
-abbrev pub SpellsFlagGroup : List FlagTree → List Sign → List Sign → Type 0
-SpellsFlagGroup fs from to = SpellsFlags fs from to ⊎ ((a : List Sign) × (from ≡ mark marks.OpenParenthesis ∷ a) × SpellsFlags fs a (mark marks.CloseParenthesis ∷ to))
+unfoldable pub flag_group : Grammar (List FlagTree)
+flag_group = flags ∣ sign marks.OpenParenthesis ▹ flags ◃ sign marks.CloseParenthesis
 
--- whether the flags wanted are equal, or not
-abbrev pub SpellsEquality : Bool → List Sign → List Sign → Type 0
-SpellsEquality true from to = from ≡ mark marks.EqualTo ∷ to
-SpellsEquality false from to = from ≡ mark marks.NotEqualTo ∷ to
+abbrev pub masked_by : (equal : Bool) (mask wanted : List FlagTree) → MatchTree
+masked_by equal mask wanted = cond equal (tree.masked_flags wanted mask) (tree.masked_flags_unequal wanted mask)
 
--- the same, where no sign is equality
-abbrev pub SpellsEqualityOrNone : Bool → List Sign → List Sign → Type 0
-SpellsEqualityOrNone true from to = (from ≡ to) ⊎ (from ≡ mark marks.EqualTo ∷ to)
-SpellsEqualityOrNone false from to = from ≡ mark marks.NotEqualTo ∷ to
+-- `!=` asks for a mask
+abbrev pub listed : Option Bool → List FlagTree → Option (List FlagTree) → Option MatchTree
+listed equal wanted (Some mask) = Some (masked_by (unwrap_or equal true) mask wanted)
+listed None wanted None = Some (tree.any_flag wanted)
+listed (Some equal) wanted None = cond equal (Some (tree.exact_flags wanted)) None
 
--- after "tcp" "flags": ["==" | "!="] flags "/" flags | "&" pflags ("==" | "!=") pflags
-abbrev pub SpellsMasked : Bool → (wanted mask : List FlagTree) → List Sign → List Sign → Type 0
-SpellsMasked equal wanted mask from to =
-    ((a b : List Sign) × SpellsEqualityOrNone equal from a × SpellsFlags wanted a (mark marks.Slash ∷ b) × SpellsFlags mask b to)
-    ⊎ ((a b c : List Sign) × (from ≡ mark marks.Ampersand ∷ a) × SpellsFlagGroup mask a b × SpellsEquality equal b c × SpellsFlagGroup wanted c to)
+-- ["==" | "!="] flags ["/" flags]
+unfoldable pub flag_list : Grammar MatchTree
+flag_list = named (λ x. listed x.0 x.1.0 x.1.1) (maybe equality ⨾ flags ⨾ maybe (sign marks.Slash ▹ flags))
 
--- match = sel [op] one | keys ["==" | "!="] setref | bits
-abbrev pub SpellsMatch : MatchTree → List Sign → List Sign → Type 0
-SpellsMatch (tree.compare s op r) from to =
-    (a b : List Sign) × SpellsSelector s from a × IsTrue (is_plain s) × SpellsOperator op a b × SpellsRange r b to × IsTrue (is_range_for s r)
-SpellsMatch (tree.is_in ss set) from to = (a b : List Sign) × SpellsSelectors ss from a × ((a ≡ b) ⊎ (a ≡ mark marks.EqualTo ∷ b)) × SpellsSetRef set b to
-SpellsMatch (tree.not_in ss set) from to = (a b : List Sign) × SpellsSelectors ss from a × (a ≡ mark marks.NotEqualTo ∷ b) × SpellsSetRef set b to
-SpellsMatch (tree.bits field test ws) from to =
-    (a b : List Sign) × SpellsSelector (selector_of field) from a × SpellsBitTest test a b × SpellsWords ws b to × IsTrue (list_all (is_word_for (selector_of field)) ws)
-SpellsMatch (tree.any_flag fs) from to = (a : List Sign) × SpellsSelector TcpFlags from a × SpellsFlags fs a to
-SpellsMatch (tree.exact_flags fs) from to = (a : List Sign) × SpellsSelector TcpFlags from (mark marks.EqualTo ∷ a) × SpellsFlags fs a to
-SpellsMatch (tree.masked_flags wanted mask) from to = (a : List Sign) × SpellsSelector TcpFlags from a × SpellsMasked true wanted mask a to
-SpellsMatch (tree.masked_flags_unequal wanted mask) from to = (a : List Sign) × SpellsSelector TcpFlags from a × SpellsMasked false wanted mask a to
+-- "&" pflags ("==" | "!=") pflags
+unfoldable pub masked : Grammar MatchTree
+masked = made (λ x. masked_by x.1.0 x.0 x.1.1) (sign marks.Ampersand ▹ flag_group ⨾ equality ⨾ flag_group)
 
--- what may follow a match in a rule: a word, or what ends a rule
-abbrev pub ends_match : List Sign → Bool
-ends_match [] = true
-ends_match (signs.newline ∷ ts) = true
-ends_match (signs.word w ∷ ts) = true
-ends_match (mark marks.Semicolon ∷ ts) = true
-ends_match (mark marks.CloseBrace ∷ ts) = true
-ends_match _ = false
+-- what tests one selector
+unfoldable pub test : Selector → Grammar MatchTree
+test CtState = bits State CtState
+test CtStatus = bits Status CtStatus
+test TcpFlags = flag_list ∣ masked
+test s = comparison s
 
+-- what tests no set: just one selector
+abbrev pub direct : List Selector → Grammar MatchTree
+direct (s ∷ []) = test s
+direct ss = one_of []
+
+-- ["==" | "!="] setref
+unfoldable pub set_test : List Selector → Grammar MatchTree
+set_test ss = made (λ x. cond (unwrap_or x.0 true) (tree.is_in ss x.1) (tree.not_in ss x.1)) (maybe equality ⨾ set_ref)
+
+-- match = keys ["==" | "!="] setref | sel [op] one | "ct" ("state" | "status") bits | "tcp" "flags" (["==" | "!="] flags ["/" flags] | "&" pflags ("==" | "!=") pflags)
+unfoldable pub matching : Grammar MatchTree
+matching = record {
+  spells = λ m from to. (ss : List Selector) × (mid : List Sign) × selectors.spells ss from mid × (set_test ss ∣ direct ss).spells m mid to;
+  read = λ ts. selector.read ts >>= λ s. let keys = with_front (s.0 ∷ []) (all_at (sign marks.Dot ▹ selector).read s.1) in (set_test keys.0 ∣ direct keys.0).read keys.1;
+  first = selectors.first;
+  follow = words.follow ++ ((flag_list ∣ masked).follow ++ (range.follow ++ set_ref.first));
+  empty = false;
+}
+
+-- what may follow a match in a rule: nothing, a word, or what ends a rule
 abbrev pub EndsMatch : List Sign → Type 0
-EndsMatch ts = IsTrue (ends_match ts)
+EndsMatch ts = (ts ≡ []) ⊎ (((w : Text) × (rest : List Sign) × (ts ≡ signs.word w ∷ rest)) ⊎ IsTrue (stops ts))

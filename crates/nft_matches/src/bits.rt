@@ -1,70 +1,51 @@
 //! The named bits of `ct state` and `ct status`.
-ghost use Rattle.std.specs.Prelude.{◌≡◌, IfOk, map, option_map, ◌≤◌, length, IfSome};
+ghost use Rattle.std.specs.Prelude.{◌≡◌, ℕ, IfOk, List, cond, map};
 ghost use Rattle.std.specs.List.{list_all};
+ghost use Rattle.nft_lexer.specs.declared.token.Mark.TheVariants.{Comma};
+ghost use Rattle.nft_tree.specs.declared.statement.BitTest.TheVariants.{Any, Exactly, None};
 ghost use Rattle.nft_tree.specs.Tree.{match_tree};
-ghost use Rattle.token_reader.specs.Places.{ahead};
-ghost use Rattle.token_reader.specs.steps.Reading.{all_at, with_front};
+ghost use Rattle.token_reader.specs.Grammar.{a_word, passing};
+ghost use Rattle.token_reader.specs.Readers.{IsRead};
+ghost use Rattle.token_reader.specs.steps.Reading.{option_else};
 ghost use Rattle.nft_selectors.specs.Selectors.{is_word_for};
-ghost use Rattle.nft_matches.specs.Matches.{selector_of};
-ghost use Rattle.nft_matches.specs.steps.Reading.{next_word_at, words_at, bits_at};
+ghost use Rattle.nft_matches.specs.Matches.{bits, words};
 
-use crate::operators::bit_test;
+use crate::signs::equality_if;
 use nft_lexer::{Mark, Token};
 use nft_selectors::lists_word;
-use nft_tree::{BitField, Match, Memory, Selector};
+use nft_tree::{BitField, BitTest, Match, Memory, Selector};
 use std::alloc::Global;
-use token_reader::{after_mark, word};
+use token_reader::{Part, Separator, found, separated, word};
 
-/// "," WORD
-#[tactic(auto, unfolding(crate::specs::steps::Reading::next_word_at))]
-fn next_word(alloc: Global, tokens: &[Token], at: usize) -> Result<Option<(Vec<u8>, usize)>, Memory>
-    ensures read { IfOk result (λ o. option_map (λ x. (x.0.items, ahead tokens.now x.1)) o ≡ next_word_at (ahead tokens.now at)) }
-    ensures within { IfOk result (λ o. IfSome o (λ x. x.1 ≤ length tokens.now)) }
-{
-    let Some(at) = after_mark(tokens, at, Mark::Comma) else {
-        return Ok(None);
-    };
-    let Some((text, at)) = word(tokens, at) else {
-        return Ok(None);
-    };
-    Ok(Some((Vec::from_slice(alloc, text)?, at)))
-}
+struct Comma {}
 
-/// {"," WORD}, each word put at the end of `words`.
-fn more_words(
-    alloc: Global,
-    tokens: &[Token],
-    at: usize,
-    words: &mut Vec<Vec<u8>>,
-) -> Result<usize, Memory>
-    ensures read { IfOk result (λ end. (map (λ w. w.items) words.new.items, ahead tokens.now end) ≡ with_front (map (λ w. w.items) words.old.items) (all_at next_word_at (ahead tokens.now at))) }
-    ensures within { IfOk result (λ end. at ≤ length tokens.now → end ≤ length tokens.now) }
-{
-    let mut here = at;
-    while let Some((next, after)) = next_word(alloc, tokens, here)? {
-        words.push(next)?;
-        here = after;
+impl Separator for Comma {
+    ghost mark = { Comma };
+
+    fn mark() -> Mark {
+        Mark::Comma
     }
-    Ok(here)
 }
 
-/// WORD {"," WORD}
-#[tactic(auto, unfolding(crate::specs::steps::Reading::words_at))]
-fn words(
-    alloc: Global,
-    tokens: &[Token],
-    at: usize,
-) -> Result<Option<(Vec<Vec<u8>>, usize)>, Memory>
-    ensures read { IfOk result (λ o. option_map (λ x. (map (λ w. w.items) x.0.items, ahead tokens.now x.1)) o ≡ words_at (ahead tokens.now at)) }
-    ensures within { IfOk result (λ o. IfSome o (λ x. x.1 ≤ length tokens.now)) }
-{
-    let Some((first, second)) = word(tokens, at) else {
-        return Ok(None);
-    };
-    let mut words = Vec::new(alloc);
-    words.push(Vec::from_slice(alloc, first)?)?;
-    let end = more_words(alloc, tokens, second, &mut words)?;
-    Ok(Some((words, end)))
+struct Word {}
+
+impl Part for Word {
+    type Item = Vec<u8>;
+
+    ghost Tree = { List ℕ };
+
+    ghost tree = { λ w. w.items };
+
+    ghost read_at = { a_word.read };
+
+    fn read(
+        alloc: Global,
+        tokens: &[Token],
+        at: usize,
+    ) -> Result<Option<(Vec<u8>, usize)>, Memory> {
+        let (text, at) = found!(word(tokens, at));
+        Ok(Some((Vec::from_slice(alloc, text)?, at)))
+    }
 }
 
 /// Whether the type of what the selector reads lists each of the words.
@@ -74,33 +55,57 @@ fn lists_words(selector: Selector, words: &[Vec<u8>]) -> bool
     words.iter().all(|word| lists_word(selector, word))
 }
 
-/// The selector that reads the bits.
-fn selector_of(field: BitField) -> Selector
-    ensures { result ≡ selector_of field }
+/// A test of any of the bits, of just these, or of none of them.
+fn bit_test(equal: Option<bool>) -> BitTest
+    ensures { result ≡ option_else equal (λ e. cond e Exactly None) Any }
 {
-    match field {
-        BitField::State => Selector::CtState,
-        BitField::Status => Selector::CtStatus,
+    match equal {
+        Some(true) => BitTest::Exactly,
+        Some(false) => BitTest::None,
+        None => BitTest::Any,
     }
 }
 
-/// ["==" | "!="] WORD {"," WORD}, each of them listed
-#[tactic(auto, unfolding(crate::specs::steps::Reading::bits_at))]
+/// WORD {"," WORD}
+#[tactic(auto, unfolding(crate::specs::Matches::words))]
+fn words(
+    alloc: Global,
+    tokens: &[Token],
+    at: usize,
+) -> Result<Option<(Vec<Vec<u8>>, usize)>, Memory>
+    ensures { IfOk result (IsRead (λ found. map (λ w. w.items) found.items) words.read tokens.now at) }
+{
+    separated::<Comma, Word>(alloc, tokens, at)
+}
+
+/// WORD {"," WORD}, each of them listed
+fn words_for(
+    alloc: Global,
+    tokens: &[Token],
+    at: usize,
+    selector: Selector,
+) -> Result<Option<(Vec<Vec<u8>>, usize)>, Memory>
+    ensures { IfOk result (IsRead (λ found. map (λ w. w.items) found.items) (passing (list_all (is_word_for selector)) words).read tokens.now at) }
+{
+    let (words, at) = found!(words(alloc, tokens, at)?);
+    if !lists_words(selector, &words) {
+        return Ok(None);
+    }
+    Ok(Some((words, at)))
+}
+
+/// ["==" | "!="] WORD {"," WORD}
+#[tactic(auto, unfolding(crate::specs::Matches::bits))]
 pub(crate) fn bits(
     alloc: Global,
     tokens: &[Token],
     at: usize,
     field: BitField,
+    selector: Selector,
 ) -> Result<Option<(Match, usize)>, Memory>
-    ensures read { IfOk result (λ o. option_map (λ x. (match_tree x.0, ahead tokens.now x.1)) o ≡ bits_at field (ahead tokens.now at)) }
-    ensures within { IfOk result (λ o. IfSome o (λ x. x.1 ≤ length tokens.now)) }
+    ensures { IfOk result (IsRead match_tree (bits field selector).read tokens.now at) }
 {
-    let (test, at) = bit_test(tokens, at);
-    let Some((words, at)) = words(alloc, tokens, at)? else {
-        return Ok(None);
-    };
-    if !lists_words(selector_of(field), &words) {
-        return Ok(None);
-    }
-    Ok(Some((Match::Bits(field, test, words), at)))
+    let (equal, at) = equality_if(tokens, at);
+    let (words, at) = found!(words_for(alloc, tokens, at, selector)?);
+    Ok(Some((Match::Bits(field, bit_test(equal), words), at)))
 }

@@ -1,74 +1,58 @@
 //! The flags of TCP.
-ghost use Rattle.std.specs.Prelude.{◌≡◌, IfOk, map, option_map, ◌≤◌, length, IfSome};
+ghost use Rattle.std.specs.Prelude.{◌≡◌, ◌≤◌, IfOk, IfSome, Some, length, map, option_map};
 ghost use Rattle.std.specs.List.{list_all};
-ghost use Rattle.nft_tree.specs.Tree.{flag_tree, match_tree};
-ghost use Rattle.token_reader.specs.Places.{ahead};
-ghost use Rattle.token_reader.specs.steps.Reading.{all_at, with_front};
-ghost use Rattle.nft_matches.specs.Matches.{is_flag};
-ghost use Rattle.nft_matches.specs.steps.Reading.{flag_at, after_separator, next_flag_at, flags_at, closed_flags_at, flag_group_at, masked, after_ampersand_at, is_equality, after_slash_at, listed_flags_at, flag_test_at};
+ghost use Rattle.nft_lexer.specs.declared.token.Mark.TheVariants.{Bar, CloseParenthesis, Comma, OpenParenthesis, Slash};
+ghost use Rattle.nft_tree.specs.Tree.{FlagTree, flag_tree, match_tree};
+ghost use Rattle.token_reader.specs.Grammar.{maybe, sign, ◌∣◌, ◌▹◌, ◌◃◌};
+ghost use Rattle.token_reader.specs.Readers.{IsAfter, IsRead, ahead};
+ghost use Rattle.nft_matches.specs.Matches.{flag, flag_group, flag_list, flags, is_flag, listed, masked, masked_by};
 
-use crate::operators::{bit_test, equality};
-use nft_lexer::{Kind, Mark, Token};
+use crate::signs::{equality, equality_if};
+use nft_lexer::{Mark, Token};
 use nft_selectors::lists_word;
-use nft_tree::{BitTest, Flag, Masked, Match, Memory, Selector};
+use nft_tree::{Flag, Masked, Match, Memory, Selector};
 use std::alloc::Global;
-use token_reader::after_mark;
+use token_reader::{Part, after_mark, found, more, number, word};
 
 /// WORD | NUM
+#[tactic(auto, unfolding(crate::specs::Matches::flag))]
 fn flag(alloc: Global, tokens: &[Token], at: usize) -> Result<Option<(Flag, usize)>, Memory>
-    ensures read { IfOk result (λ o. option_map (λ x. (flag_tree x.0, ahead tokens.now x.1)) o ≡ flag_at (ahead tokens.now at)) }
-    ensures within { IfOk result (λ o. IfSome o (λ x. x.1 ≤ length tokens.now)) }
+    ensures { IfOk result (IsRead flag_tree flag.read tokens.now at) }
 {
-    let Some(token) = tokens.get(at) else {
-        return Ok(None);
-    };
-    let flag = match token.kind {
-        Kind::Word => Flag::Word(Vec::from_slice(alloc, token.text)?),
-        Kind::Number(number) => Flag::Number(number),
-        _ => return Ok(None),
-    };
-    Ok(Some((flag, at + 1)))
+    if let Some((text, at)) = word(tokens, at) {
+        return Ok(Some((Flag::Word(Vec::from_slice(alloc, text)?), at)));
+    }
+    let (number, at) = found!(number(tokens, at));
+    Ok(Some((Flag::Number(number), at)))
 }
 
 /// "," | "|"
 fn after_separator(tokens: &[Token], at: usize) -> Option<usize>
-    ensures read { option_map (ahead tokens.now) result ≡ after_separator (ahead tokens.now at) }
-    ensures within { IfSome result (λ end. end ≤ length tokens.now) }
+    ensures read { option_map (λ end. (tt, ahead tokens.now end)) result ≡ (sign Comma ∣ sign Bar).read (ahead tokens.now at) }
+    ensures within { IfSome result (IsAfter tokens.now at) }
 {
-    match tokens.get(at)?.kind {
-        Kind::Mark(Mark::Comma | Mark::Bar) => Some(at + 1),
-        _ => None,
+    match after_mark(tokens, at, Mark::Comma) {
+        Some(at) => Some(at),
+        None => after_mark(tokens, at, Mark::Bar),
     }
 }
 
-/// ("," | "|") (WORD | NUM)
-#[tactic(auto, unfolding(crate::specs::steps::Reading::next_flag_at))]
-fn next_flag(alloc: Global, tokens: &[Token], at: usize) -> Result<Option<(Flag, usize)>, Memory>
-    ensures read { IfOk result (λ o. option_map (λ x. (flag_tree x.0, ahead tokens.now x.1)) o ≡ next_flag_at (ahead tokens.now at)) }
-    ensures within { IfOk result (λ o. IfSome o (λ x. x.1 ≤ length tokens.now)) }
-{
-    let Some(at) = after_separator(tokens, at) else {
-        return Ok(None);
-    };
-    flag(alloc, tokens, at)
-}
+/// A flag with the separator before it.
+struct NextFlag {}
 
-/// {("," | "|") (WORD | NUM)}, each flag put at the end of `flags`.
-fn more_flags(
-    alloc: Global,
-    tokens: &[Token],
-    at: usize,
-    flags: &mut Vec<Flag>,
-) -> Result<usize, Memory>
-    ensures read { IfOk result (λ end. (map flag_tree flags.new.items, ahead tokens.now end) ≡ with_front (map flag_tree flags.old.items) (all_at next_flag_at (ahead tokens.now at))) }
-    ensures within { IfOk result (λ end. at ≤ length tokens.now → end ≤ length tokens.now) }
-{
-    let mut here = at;
-    while let Some((next, after)) = next_flag(alloc, tokens, here)? {
-        flags.push(next)?;
-        here = after;
+impl Part for NextFlag {
+    type Item = Flag;
+
+    ghost Tree = { FlagTree };
+
+    ghost tree = { flag_tree };
+
+    ghost read_at = { ((sign Comma ∣ sign Bar) ▹ flag).read };
+
+    fn read(alloc: Global, tokens: &[Token], at: usize) -> Result<Option<(Flag, usize)>, Memory> {
+        let at = found!(after_separator(tokens, at));
+        flag(alloc, tokens, at)
     }
-    Ok(here)
 }
 
 /// Whether it is a number, or the word of a flag.
@@ -88,61 +72,72 @@ fn are_flags(flags: &[Flag]) -> bool
 }
 
 /// (WORD | NUM) {("," | "|") (WORD | NUM)}, each word a flag
-#[tactic(auto, unfolding(crate::specs::steps::Reading::flags_at))]
+#[tactic(auto, unfolding(crate::specs::Matches::flags))]
 fn flags(alloc: Global, tokens: &[Token], at: usize) -> Result<Option<(Vec<Flag>, usize)>, Memory>
-    ensures read { IfOk result (λ o. option_map (λ x. (map flag_tree x.0.items, ahead tokens.now x.1)) o ≡ flags_at (ahead tokens.now at)) }
-    ensures within { IfOk result (λ o. IfSome o (λ x. x.1 ≤ length tokens.now)) }
+    ensures { IfOk result (IsRead (λ found. map flag_tree found.items) flags.read tokens.now at) }
 {
-    let Some((first, second)) = flag(alloc, tokens, at)? else {
-        return Ok(None);
-    };
+    let (first, at) = found!(flag(alloc, tokens, at)?);
     let mut flags = Vec::new(alloc);
     flags.push(first)?;
-    let end = more_flags(alloc, tokens, second, &mut flags)?;
+    let end = more::<NextFlag>(alloc, tokens, at, &mut flags)?;
     if !are_flags(&flags) {
         return Ok(None);
     }
     Ok(Some((flags, end)))
 }
 
-/// flags ")"
-#[tactic(auto, unfolding(crate::specs::steps::Reading::closed_flags_at))]
-fn closed_flags(
+/// "(" flags ")"
+fn enclosed(
     alloc: Global,
     tokens: &[Token],
     at: usize,
 ) -> Result<Option<(Vec<Flag>, usize)>, Memory>
-    ensures read { IfOk result (λ o. option_map (λ x. (map flag_tree x.0.items, ahead tokens.now x.1)) o ≡ closed_flags_at (ahead tokens.now at)) }
-    ensures within { IfOk result (λ o. IfSome o (λ x. x.1 ≤ length tokens.now)) }
+    ensures { IfOk result (IsRead (λ found. map flag_tree found.items) (sign OpenParenthesis ▹ flags ◃ sign CloseParenthesis).read tokens.now at) }
 {
-    let Some((flags, at)) = flags(alloc, tokens, at)? else {
-        return Ok(None);
-    };
-    let Some(at) = after_mark(tokens, at, Mark::CloseParenthesis) else {
-        return Ok(None);
-    };
+    let at = found!(after_mark(tokens, at, Mark::OpenParenthesis));
+    let (flags, at) = found!(flags(alloc, tokens, at)?);
+    let at = found!(after_mark(tokens, at, Mark::CloseParenthesis));
     Ok(Some((flags, at)))
 }
 
 /// flags | "(" flags ")"
-#[tactic(auto, unfolding(crate::specs::steps::Reading::flag_group_at))]
+#[tactic(auto, unfolding(crate::specs::Matches::flag_group))]
 fn flag_group(
     alloc: Global,
     tokens: &[Token],
     at: usize,
 ) -> Result<Option<(Vec<Flag>, usize)>, Memory>
-    ensures read { IfOk result (λ o. option_map (λ x. (map flag_tree x.0.items, ahead tokens.now x.1)) o ≡ flag_group_at (ahead tokens.now at)) }
-    ensures within { IfOk result (λ o. IfSome o (λ x. x.1 ≤ length tokens.now)) }
+    ensures { IfOk result (IsRead (λ found. map flag_tree found.items) flag_group.read tokens.now at) }
 {
-    match after_mark(tokens, at, Mark::OpenParenthesis) {
-        Some(at) => closed_flags(alloc, tokens, at),
-        None => flags(alloc, tokens, at),
+    match flags(alloc, tokens, at)? {
+        Some(found) => Ok(Some(found)),
+        None => enclosed(alloc, tokens, at),
+    }
+}
+
+/// "/" flags
+fn mask(alloc: Global, tokens: &[Token], at: usize) -> Result<Option<(Vec<Flag>, usize)>, Memory>
+    ensures { IfOk result (IsRead (λ found. map flag_tree found.items) (sign Slash ▹ flags).read tokens.now at) }
+{
+    let at = found!(after_mark(tokens, at, Mark::Slash));
+    let (mask, end) = found!(flags(alloc, tokens, at)?);
+    Ok(Some((mask, end)))
+}
+
+/// ["/" flags]
+fn mask_if(alloc: Global, tokens: &[Token], at: usize) -> Result<(Option<Vec<Flag>>, usize), Memory>
+    ensures read { IfOk result (λ x. Some (option_map (λ mask. map flag_tree mask.items) x.0, ahead tokens.now x.1) ≡ (maybe (sign Slash ▹ flags)).read (ahead tokens.now at)) }
+    ensures within { IfOk result (λ x. (at ≤ x.1) × (at ≤ length tokens.now → x.1 ≤ length tokens.now)) }
+{
+    match mask(alloc, tokens, at)? {
+        Some((mask, end)) => Ok((Some(mask), end)),
+        None => Ok((None, at)),
     }
 }
 
 /// The match that these flags are wanted of the mask's, or that others are.
-fn masked(equal: bool, wanted: Vec<Flag>, mask: Vec<Flag>) -> Match
-    ensures { match_tree result ≡ masked equal (map flag_tree wanted.items) (map flag_tree mask.items) }
+fn masked_by(equal: bool, mask: Vec<Flag>, wanted: Vec<Flag>) -> Match
+    ensures { match_tree result ≡ masked_by equal (map flag_tree mask.items) (map flag_tree wanted.items) }
 {
     let masked = Masked { wanted, mask };
     if equal {
@@ -152,86 +147,54 @@ fn masked(equal: bool, wanted: Vec<Flag>, mask: Vec<Flag>) -> Match
     }
 }
 
-/// pflags ("==" | "!=") pflags
-#[tactic(auto, unfolding(crate::specs::steps::Reading::after_ampersand_at))]
-fn after_ampersand(
-    alloc: Global,
-    tokens: &[Token],
-    at: usize,
-) -> Result<Option<(Match, usize)>, Memory>
-    ensures read { IfOk result (λ o. option_map (λ x. (match_tree x.0, ahead tokens.now x.1)) o ≡ after_ampersand_at (ahead tokens.now at)) }
-    ensures within { IfOk result (λ o. IfSome o (λ x. x.1 ≤ length tokens.now)) }
+/// The match of flags that are wanted, of all or of those of a mask; `!=` asks for a mask.
+fn listed(equal: Option<bool>, wanted: Vec<Flag>, mask: Option<Vec<Flag>>) -> Option<Match>
+    ensures { option_map match_tree result ≡ listed equal (map flag_tree wanted.items) (option_map (λ m. map flag_tree m.items) mask) }
 {
-    let Some((mask, at)) = flag_group(alloc, tokens, at)? else {
-        return Ok(None);
-    };
-    let Some((equal, at)) = equality(tokens, at) else {
-        return Ok(None);
-    };
-    let Some((wanted, at)) = flag_group(alloc, tokens, at)? else {
-        return Ok(None);
-    };
-    Ok(Some((masked(equal, wanted, mask), at)))
+    if let Some(mask) = mask {
+        return Some(masked_by(equal.unwrap_or(true), mask, wanted));
+    }
+    match equal {
+        None => Some(Match::AnyFlag(wanted)),
+        Some(true) => Some(Match::ExactFlags(wanted)),
+        Some(false) => None,
+    }
 }
 
-/// flags, after the flags wanted and "/"
-#[tactic(auto, unfolding(crate::specs::steps::Reading::after_slash_at))]
-fn after_slash(
-    alloc: Global,
-    tokens: &[Token],
-    at: usize,
-    test: BitTest,
-    wanted: Vec<Flag>,
-) -> Result<Option<(Match, usize)>, Memory>
-    ensures read { IfOk result (λ o. option_map (λ x. (match_tree x.0, ahead tokens.now x.1)) o ≡ after_slash_at test (map flag_tree wanted.items) (ahead tokens.now at)) }
-    ensures within { IfOk result (λ o. IfSome o (λ x. x.1 ≤ length tokens.now)) }
+/// ["==" | "!="] flags ["/" flags]
+#[tactic(auto, unfolding(crate::specs::Matches::flag_list))]
+fn flag_list(alloc: Global, tokens: &[Token], at: usize) -> Result<Option<(Match, usize)>, Memory>
+    ensures { IfOk result (IsRead match_tree flag_list.read tokens.now at) }
 {
-    let Some((mask, at)) = flags(alloc, tokens, at)? else {
-        return Ok(None);
-    };
-    let found = match test {
-        BitTest::Any | BitTest::Exactly => masked(true, wanted, mask),
-        BitTest::None => masked(false, wanted, mask),
-    };
+    let (equal, at) = equality_if(tokens, at);
+    let (wanted, at) = found!(flags(alloc, tokens, at)?);
+    let (mask, at) = mask_if(alloc, tokens, at)?;
+    let found = found!(listed(equal, wanted, mask));
     Ok(Some((found, at)))
 }
 
-/// ["==" | "!="] flags ["/" flags]; `!=` asks for a mask
-#[tactic(auto, unfolding(crate::specs::steps::Reading::listed_flags_at))]
-fn listed_flags(
-    alloc: Global,
-    tokens: &[Token],
-    at: usize,
-) -> Result<Option<(Match, usize)>, Memory>
-    ensures read { IfOk result (λ o. option_map (λ x. (match_tree x.0, ahead tokens.now x.1)) o ≡ listed_flags_at (ahead tokens.now at)) }
-    ensures within { IfOk result (λ o. IfSome o (λ x. x.1 ≤ length tokens.now)) }
+/// "&" pflags ("==" | "!=") pflags
+#[tactic(auto, unfolding(crate::specs::Matches::masked))]
+fn masked(alloc: Global, tokens: &[Token], at: usize) -> Result<Option<(Match, usize)>, Memory>
+    ensures { IfOk result (IsRead match_tree masked.read tokens.now at) }
 {
-    let (test, at) = bit_test(tokens, at);
-    let Some((wanted, at)) = flags(alloc, tokens, at)? else {
-        return Ok(None);
-    };
-    if let Some(at) = after_mark(tokens, at, Mark::Slash) {
-        return after_slash(alloc, tokens, at, test, wanted);
-    }
-    match test {
-        BitTest::Any => Ok(Some((Match::AnyFlag(wanted), at))),
-        BitTest::Exactly => Ok(Some((Match::ExactFlags(wanted), at))),
-        BitTest::None => Ok(None),
-    }
+    let at = found!(after_mark(tokens, at, Mark::Ampersand));
+    let (mask, at) = found!(flag_group(alloc, tokens, at)?);
+    let (equal, at) = found!(equality(tokens, at));
+    let (wanted, at) = found!(flag_group(alloc, tokens, at)?);
+    Ok(Some((masked_by(equal, mask, wanted), at)))
 }
 
 /// ["==" | "!="] flags ["/" flags] | "&" pflags ("==" | "!=") pflags
-#[tactic(auto, unfolding(crate::specs::steps::Reading::flag_test_at))]
 pub(crate) fn flag_test(
     alloc: Global,
     tokens: &[Token],
     at: usize,
 ) -> Result<Option<(Match, usize)>, Memory>
-    ensures read { IfOk result (λ o. option_map (λ x. (match_tree x.0, ahead tokens.now x.1)) o ≡ flag_test_at (ahead tokens.now at)) }
-    ensures within { IfOk result (λ o. IfSome o (λ x. x.1 ≤ length tokens.now)) }
+    ensures { IfOk result (IsRead match_tree (flag_list ∣ masked).read tokens.now at) }
 {
-    match after_mark(tokens, at, Mark::Ampersand) {
-        Some(at) => after_ampersand(alloc, tokens, at),
-        None => listed_flags(alloc, tokens, at),
+    match flag_list(alloc, tokens, at)? {
+        Some(found) => Ok(Some(found)),
+        None => masked(alloc, tokens, at),
     }
 }

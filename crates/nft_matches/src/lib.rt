@@ -5,11 +5,9 @@
 #![tactic(auto)]
 
 mod bits;
-mod direct;
+mod comparisons;
 mod flags;
-mod laws;
 mod matches;
-mod operators;
+mod signs;
 
-pub use laws::match_laws;
-pub use matches::match_here;
+pub use matches::{match_after, match_here};

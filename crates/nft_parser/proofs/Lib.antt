@@ -1,4 +1,1 @@
-pub mod HeadLaws
-pub mod ChainLaws
-pub mod TableLaws
 pub mod TextLaws

@@ -1,12 +1,11 @@
 -- What spells a chain (nft(8), "Chains").
-use Rattle.std.specs.Prelude.{◌≡◌, List, [], ◌∷◌, Option, Some, None, codes}
+use Rattle.std.specs.Prelude.{ℕ, List, [], ◌∷◌, Option, Some, None, codes}
+use Rattle.std.specs.Option.{unwrap_or}
 use Rattle.nft_lexer.specs.declared.token.Mark.TheVariants as marks
-use Rattle.nft_lexer.specs.Sign as signs
-use Rattle.nft_lexer.specs.Sign.{Sign, mark}
-use Rattle.nft_tree.specs.declared.chain.ChainKind.{ChainKind}
 use Rattle.nft_tree.specs.declared.chain.Hook.{Hook}
 use Rattle.nft_tree.specs.declared.chain.Priority.{Priority}
 use Rattle.nft_tree.specs.declared.chain.PriorityName.{PriorityName}
+use Rattle.nft_tree.specs.declared.chain.OffsetSign.{OffsetSign}
 use Rattle.nft_tree.specs.declared.chain.Policy.{Policy}
 use Rattle.nft_tree.specs.declared.chain.ChainKind.TheVariants as chain_kinds
 use Rattle.nft_tree.specs.declared.chain.Hook.TheVariants as hooks
@@ -15,83 +14,54 @@ use Rattle.nft_tree.specs.declared.chain.PriorityName.TheVariants as priority_na
 use Rattle.nft_tree.specs.declared.chain.OffsetSign.TheVariants.{Plus, Minus}
 use Rattle.nft_tree.specs.declared.chain.Policy.TheVariants as policies
 use Rattle.nft_tree.specs.Tree.{Text, RuleTree, HeadTree, ChainTree}
-use Rattle.token_reader.specs.Repeats.{Many, Ends, SomeEnds}
-use Rattle.nft_rules.specs.Rules.{SpellsRule}
+use Rattle.token_reader.specs.Grammar.{Grammar, keyword, sign, a_word, a_number, a_string, ends, some_ends, maybe, many, made, one_of, lines, ◌⨾◌, ◌▹◌, ◌◃◌, ◌∣◌}
+use Rattle.nft_rules.specs.Rules.{ended_rule}
+
+-- "comment" STRING
+unfoldable pub comment : Grammar Text
+comment = keyword (codes "comment") ▹ a_string
 
 -- note = "comment" STRING end {end}
-abbrev pub SpellsNote : Text → List Sign → List Sign → Type 0
-SpellsNote text from to = (a : List Sign) × (from ≡ signs.word (codes "comment") ∷ signs.string text ∷ a) × SomeEnds a to
+unfoldable pub note : Grammar Text
+note = comment ◃ some_ends
 
-abbrev pub kind_word : ChainKind → Text
-kind_word chain_kinds.Filter = codes "filter"
-kind_word chain_kinds.Nat = codes "nat"
+abbrev pub hook_names : List (Text × Hook)
+hook_names =
+    (codes "prerouting", hooks.Prerouting) ∷ (codes "input", hooks.Input) ∷ (codes "forward", hooks.Forward) ∷ (codes "output", hooks.Output)
+    ∷ (codes "postrouting", hooks.Postrouting) ∷ []
 
-abbrev pub hook_word : Hook → Text
-hook_word hooks.Prerouting = codes "prerouting"
-hook_word hooks.Input = codes "input"
-hook_word hooks.Forward = codes "forward"
-hook_word hooks.Output = codes "output"
-hook_word hooks.Postrouting = codes "postrouting"
+abbrev pub places : List (Text × PriorityName)
+places =
+    (codes "raw", priority_names.Raw) ∷ (codes "mangle", priority_names.Mangle) ∷ (codes "dstnat", priority_names.DstNat) ∷ (codes "filter", priority_names.Filter)
+    ∷ (codes "security", priority_names.Security) ∷ (codes "srcnat", priority_names.SrcNat) ∷ []
 
-abbrev pub priority_word : PriorityName → Text
-priority_word priority_names.Raw = codes "raw"
-priority_word priority_names.Mangle = codes "mangle"
-priority_word priority_names.DstNat = codes "dstnat"
-priority_word priority_names.Filter = codes "filter"
-priority_word priority_names.Security = codes "security"
-priority_word priority_names.SrcNat = codes "srcnat"
+-- ("+" | "-") NUM
+unfoldable pub offset : Grammar (OffsetSign × ℕ)
+offset = (made (λ u. Plus) (sign marks.Plus) ∣ made (λ u. Minus) (sign marks.Minus)) ⨾ a_number
+
+abbrev pub named_priority : PriorityName × Option (OffsetSign × ℕ) → Priority
+named_priority (name, None) = Named name
+named_priority (name, Some by) = Offset name by.0 by.1
 
 -- prio = ["-"] NUM | pname [("+" | "-") NUM]
-abbrev pub SpellsPriority : Priority → List Sign → List Sign → Type 0
-SpellsPriority (Number Plus n) from to = from ≡ signs.number n ∷ to
-SpellsPriority (Number Minus n) from to = from ≡ mark marks.Minus ∷ signs.number n ∷ to
-SpellsPriority (Named name) from to = from ≡ signs.word (priority_word name) ∷ to
-SpellsPriority (Offset name Plus n) from to = from ≡ signs.word (priority_word name) ∷ mark marks.Plus ∷ signs.number n ∷ to
-SpellsPriority (Offset name Minus n) from to = from ≡ signs.word (priority_word name) ∷ mark marks.Minus ∷ signs.number n ∷ to
+unfoldable pub priority : Grammar Priority
+priority = made (Number Plus) a_number ∣ made (Number Minus) (sign marks.Minus ▹ a_number) ∣ made named_priority (one_of places ⨾ maybe offset)
 
-abbrev pub policy_word : Policy → Text
-policy_word policies.Accept = codes "accept"
-policy_word policies.Drop = codes "drop"
-
--- ["policy" ("accept" | "drop") end {end}]
-abbrev pub SpellsPolicy : Option Policy → List Sign → List Sign → Type 0
-SpellsPolicy None from to = from ≡ to
-SpellsPolicy (Some p) from to = (a : List Sign) × (from ≡ signs.word (codes "policy") ∷ signs.word (policy_word p) ∷ a) × SomeEnds a to
+-- "policy" ("accept" | "drop") end {end}
+unfoldable pub policy : Grammar Policy
+policy = keyword (codes "policy") ▹ one_of ((codes "accept", policies.Accept) ∷ (codes "drop", policies.Drop) ∷ []) ◃ some_ends
 
 -- head = "type" ("filter" | "nat") "hook" hook "priority" prio end {end} ["policy" ..], and the notes after it
-pub record SpellsHead (h : HeadTree) (from to : List Sign) : Type 0 where
-  pub placed : List Sign
-  pub front : from ≡ signs.word (codes "type") ∷ signs.word (kind_word h.kind) ∷ signs.word (codes "hook") ∷ signs.word (hook_word h.hook) ∷ signs.word (codes "priority") ∷ placed
-  pub ranked : List Sign
-  pub priority : SpellsPriority h.priority placed ranked
-  pub ended : List Sign
-  pub ends : SomeEnds ranked ended
-  pub judged : List Sign
-  pub policy : SpellsPolicy h.policy ended judged
-  pub notes : Many SpellsNote h.notes judged to
-
--- [head {note}]
-abbrev pub SpellsHeadIf : Option HeadTree → List Sign → List Sign → Type 0
-SpellsHeadIf None from to = from ≡ to
-SpellsHeadIf (Some h) from to = SpellsHead h from to
-
--- end {end} rule
-abbrev pub SpellsNextRule : RuleTree → List Sign → List Sign → Type 0
-SpellsNextRule r from to = (a : List Sign) × SomeEnds from a × SpellsRule r a to
+unfoldable pub head : Grammar HeadTree
+head = made (λ x. record { kind = x.0; hook = x.1.0; priority = x.1.1.0; policy = x.1.1.1.0; notes = x.1.1.1.1 }) (
+    keyword (codes "type") ▹ one_of ((codes "filter", chain_kinds.Filter) ∷ (codes "nat", chain_kinds.Nat) ∷ []) ⨾ keyword (codes "hook") ▹ one_of hook_names ⨾ keyword (codes "priority") ▹ priority ⨾ some_ends ▹ maybe policy ⨾ many note)
 
 -- [rule {end {end} rule} {end}]
-abbrev pub SpellsRules : List RuleTree → List Sign → List Sign → Type 0
-SpellsRules [] from to = from ≡ to
-SpellsRules (r ∷ rs) from to = (a b : List Sign) × SpellsRule r from a × Many SpellsNextRule rs a b × Ends b to
+unfoldable pub rules : Grammar (List RuleTree)
+rules = made (λ rs. unwrap_or rs []) (maybe (lines ended_rule))
 
 -- chain = "chain" NAME "{" {end} {note} [head {note}] [rule {end {end} rule} {end}] "}"
-pub record SpellsChain (c : ChainTree) (from to : List Sign) : Type 0 where
-  pub opened : List Sign
-  pub front : from ≡ signs.word (codes "chain") ∷ signs.word c.name ∷ mark marks.OpenBrace ∷ opened
-  pub begun : List Sign
-  pub ends : Ends opened begun
-  pub noted : List Sign
-  pub notes : Many SpellsNote c.notes begun noted
-  pub headed : List Sign
-  pub head : SpellsHeadIf c.head noted headed
-  pub rules : SpellsRules c.rules headed (mark marks.CloseBrace ∷ to)
+unfoldable pub chain : Grammar ChainTree
+chain =
+    made (λ x. record { name = x.0; notes = x.1.0; head = x.1.1.0; rules = x.1.1.1 })
+    (keyword (codes "chain") ▹ a_word ⨾ sign marks.OpenBrace ▹ ends ▹ many note ⨾ maybe head ⨾ rules ◃ sign marks.CloseBrace)

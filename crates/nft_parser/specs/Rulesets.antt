@@ -1,55 +1,53 @@
 -- What spells a ruleset, and the fault of tokens that spell none (nft(8), "Ruleset", "Tables").
-use Rattle.std.specs.Prelude.{◌≡◌, List, [], ◌∷◌, ◌⊎◌, Bool, false, ◌||◌, codes}
+use Rattle.std.specs.Prelude.{List, [], ◌∷◌, ◌++◌, Bool, false, Option, Some, None, codes}
 use Rattle.std.specs.List.{list_any}
+use Rattle.std.specs.Option.{unwrap_or}
 use Rattle.std.specs.Str.{bytes_eq}
 use Rattle.nft_lexer.specs.declared.token.Mark.TheVariants as marks
 use Rattle.nft_lexer.specs.Sign as signs
-use Rattle.nft_lexer.specs.Sign.{Sign, mark}
+use Rattle.nft_lexer.specs.Sign.{Sign}
 use Rattle.nft_tree.specs.declared.ruleset.Family.{Family}
 use Rattle.nft_tree.specs.declared.ruleset.Family.TheVariants.{Ip, Inet}
 use Rattle.nft_tree.specs.Tree as tree
 use Rattle.nft_tree.specs.Tree.{Text, ItemTree, TableTree}
-use Rattle.token_reader.specs.Repeats.{Many, Ends, SomeEnds}
-use Rattle.nft_sets.specs.Sets.{SpellsSet, SpellsMap}
-use Rattle.nft_parser.specs.Chains.{SpellsChain}
-
--- ---- tables
+use Rattle.token_reader.specs.Grammar.{Grammar, keyword, sign, a_word, any_word, ends, some_ends, maybe, many, made, one_of, ◌⨾◌, ◌▹◌, ◌◃◌, ◌∣◌}
+use Rattle.nft_sets.specs.Sets.{named_set, named_map}
+use Rattle.nft_parser.specs.Chains.{comment, chain}
 
 -- item = "comment" STRING | chain | set | map
-abbrev pub SpellsItem : ItemTree → List Sign → List Sign → Type 0
-SpellsItem (tree.comment text) from to = from ≡ signs.word (codes "comment") ∷ signs.string text ∷ to
-SpellsItem (tree.chain c) from to = SpellsChain c from to
-SpellsItem (tree.set s) from to = SpellsSet s from to
-SpellsItem (tree.map_item m) from to = SpellsMap m from to
+unfoldable pub item : Grammar ItemTree
+item = made tree.comment comment ∣ made tree.chain chain ∣ made tree.set named_set ∣ made tree.map_item named_map
 
--- item {end}
-abbrev pub SpellsNextItem : ItemTree → List Sign → List Sign → Type 0
-SpellsNextItem i from to = (a : List Sign) × SpellsItem i from a × Ends a to
+abbrev pub families : List (Text × Family)
+families = (codes "ip", Ip) ∷ (codes "inet", Inet) ∷ []
 
--- "table" ["ip" | "inet"] NAME: none is ip
-abbrev pub SpellsFamily : Family → Text → List Sign → List Sign → Type 0
-SpellsFamily Ip name from to = (from ≡ signs.word (codes "table") ∷ signs.word name ∷ to) ⊎ (from ≡ signs.word (codes "table") ∷ signs.word (codes "ip") ∷ signs.word name ∷ to)
-SpellsFamily Inet name from to = from ≡ signs.word (codes "table") ∷ signs.word (codes "inet") ∷ signs.word name ∷ to
+-- ["ip" | "inet"] NAME: none is ip, and a table may have the name of a family
+unfoldable pub table_name : Grammar (Family × Text)
+table_name = record {
+  spells = (made (λ x. (unwrap_or x.0 Ip, x.1)) (maybe (one_of families) ⨾ a_word)).spells;
+  read = (one_of families ⨾ a_word ∣ made (λ name. (Ip, name)) a_word).read;
+  first = (one_of families).first ++ any_word ∷ [];
+  follow = any_word ∷ [];
+  empty = false;
+}
 
 -- table = "table" ["ip" | "inet"] NAME "{" {end} {item {end}} "}"
-pub record SpellsTable (t : TableTree) (from to : List Sign) : Type 0 where
-  pub opened : List Sign
-  pub front : SpellsFamily t.family t.name from (mark marks.OpenBrace ∷ opened)
-  pub begun : List Sign
-  pub ends : Ends opened begun
-  pub items : Many SpellsNextItem t.items begun (mark marks.CloseBrace ∷ to)
+unfoldable pub table : Grammar TableTree
+table =
+    made (λ x. record { family = x.0.0; name = x.0.1; items = x.1 })
+    (keyword (codes "table") ▹ table_name ⨾ sign marks.OpenBrace ▹ ends ▹ many (item ◃ ends) ◃ sign marks.CloseBrace)
 
--- table {end}
-abbrev pub SpellsNextTable : TableTree → List Sign → List Sign → Type 0
-SpellsNextTable t from to = (a : List Sign) × SpellsTable t from a × Ends a to
+-- "flush" "ruleset" end {end}
+unfoldable pub flush : Grammar Unit
+flush = keyword (codes "flush") ▹ keyword (codes "ruleset") ▹ some_ends
 
--- ["flush" "ruleset" end {end}]
-abbrev pub SpellsFlush : List Sign → List Sign → Type 0
-SpellsFlush from to = (from ≡ to) ⊎ ((a : List Sign) × (from ≡ signs.word (codes "flush") ∷ signs.word (codes "ruleset") ∷ a) × SomeEnds a to)
+-- ruleset = {end} ["flush" "ruleset" end {end}] {table {end}}
+unfoldable pub whole_ruleset : Grammar (List TableTree)
+whole_ruleset = ends ▹ made (λ o. tt) (maybe flush) ▹ many (table ◃ ends)
 
--- ruleset = {end} ["flush" "ruleset" end {end}] {table {end}}, all of the tokens
+-- all of the tokens
 abbrev pub SpellsRuleset : List TableTree → List Sign → Type 0
-SpellsRuleset tables tokens = (a b : List Sign) × Ends tokens a × SpellsFlush a b × Many SpellsNextTable tables b []
+SpellsRuleset tables tokens = whole_ruleset.spells tables tokens []
 
 -- ---- the fault of tokens that spell no ruleset
 
@@ -62,12 +60,10 @@ left_out =
     ∷ codes "flowtable" ∷ codes "flow" ∷ codes "helper" ∷ codes "expectation" ∷ codes "timeout" ∷ codes "expires" ∷ codes "dynamic" ∷ codes "gc-interval" ∷ codes "numgen"
     ∷ codes "jhash" ∷ codes "symhash" ∷ codes "fib" ∷ codes "rt" ∷ codes "socket" ∷ codes "osf" ∷ codes "random" ∷ codes "fully-random" ∷ codes "persistent" ∷ codes "dscp" ∷ []
 
+abbrev pub is_left_out : Sign → Bool
+is_left_out (signs.word w) = list_any (bytes_eq w) left_out
+is_left_out _ = false
+
 -- some word of the tokens is left out
 abbrev pub has_left_out : List Sign → Bool
-has_left_out [] = false
-has_left_out (signs.word w ∷ ts) = list_any (bytes_eq w) left_out || has_left_out ts
-has_left_out (signs.newline ∷ ts) = has_left_out ts
-has_left_out (mark m ∷ ts) = has_left_out ts
-has_left_out (signs.number n ∷ ts) = has_left_out ts
-has_left_out (signs.address a ∷ ts) = has_left_out ts
-has_left_out (signs.string s ∷ ts) = has_left_out ts
+has_left_out ts = list_any is_left_out ts

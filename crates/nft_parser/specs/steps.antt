@@ -1,2 +1,2 @@
 pub mod Faults
-pub mod Reading
+pub mod Laws

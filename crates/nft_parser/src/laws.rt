@@ -4,17 +4,12 @@ ghost use Rattle.nft_tree.specs.Tree.{TableTree};
 ghost use Rattle.nft_parser.specs.declared.fault.TextFault.{TextFault};
 ghost use Rattle.nft_parser.specs.Spells.{Spells, HasTextFault};
 
-use nft_rules::rule_laws;
-use nft_sets::set_laws;
-
 /// A text spells at most one tree, and none where it has a fault.
 pub fn one_tree()
     ensures one { (text : List ℕ) (first second : List TableTree) → Spells first text → Spells second text → first ≡ second }
     ensures faultless { (text : List ℕ) (tree : List TableTree) (fault : TextFault) → Spells tree text → HasTextFault text fault → ⊥ }
 {
     nft_lexer::one_cutting();
-    rule_laws();
-    set_laws();
 }
 
 /// A text has at most one fault.
@@ -30,6 +25,4 @@ pub fn some_answer()
     ensures { (text : List ℕ) → ((tree : List TableTree) × Spells tree text) ⊎ ((fault : TextFault) × HasTextFault text fault) }
 {
     nft_lexer::some_cutting();
-    rule_laws();
-    set_laws();
 }

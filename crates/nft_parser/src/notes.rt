@@ -1,48 +1,42 @@
 //! Comments that stand alone.
-ghost use Rattle.std.specs.Prelude.{◌≡◌, IfOk, map};
-ghost use Rattle.std.specs.Option.{option_map};
-ghost use Rattle.token_reader.specs.Places.{ahead};
-ghost use Rattle.token_reader.specs.steps.Reading.{all_at};
-ghost use Rattle.nft_parser.specs.steps.Reading.{comment_at, note_at};
+ghost use Rattle.nft_tree.specs.Tree.{Text};
+ghost use Rattle.token_reader.specs.Readers.{IsRead};
+ghost use Rattle.nft_parser.specs.Chains.{comment, note};
 
 use nft_lexer::Token;
 use nft_tree::Memory;
 use std::alloc::Global;
-use token_reader::{after_ends, after_word, string};
+use token_reader::{Part, after_ends, after_word, found, string};
 
 /// "comment" STRING
-#[tactic(auto, unfolding(crate::specs::steps::Reading::comment_at))]
+#[tactic(auto, unfolding(crate::specs::Chains::comment))]
 pub(crate) fn comment<'t>(tokens: &[Token<'t>], at: usize) -> Option<(&'t [u8], usize)>
-    ensures { option_map (λ x. (x.0.now, ahead tokens.now x.1)) result ≡ comment_at (ahead tokens.now at) }
+    ensures { IsRead (λ text. text.now) comment.read tokens.now at result }
 {
     let at = after_word(tokens, at, b"comment")?;
     string(tokens, at)
 }
 
 /// "comment" STRING end {end}
-#[tactic(auto, unfolding(crate::specs::steps::Reading::note_at))]
-fn note<'t>(tokens: &[Token<'t>], at: usize) -> Option<(&'t [u8], usize)>
-    ensures { option_map (λ x. (x.0.now, ahead tokens.now x.1)) result ≡ note_at (ahead tokens.now at) }
-{
-    let (text, at) = comment(tokens, at)?;
-    let at = after_ends(tokens, at)?;
-    Some((text, at))
-}
+pub(crate) struct Note;
 
-/// {note}
-pub(crate) fn notes(
-    alloc: Global,
-    tokens: &[Token],
-    at: usize,
-) -> Result<(Vec<Vec<u8>>, usize), Memory>
-    ensures { IfOk result (λ x. (map (λ n. n.items) x.0.items, ahead tokens.now x.1) ≡ all_at note_at (ahead tokens.now at)) }
-{
-    let mut found = Vec::new(alloc);
-    let mut here = at;
-    while let Some((text, after)) = note(tokens, here) {
-        let text = Vec::from_slice(alloc, text)?;
-        found.push(text)?;
-        here = after;
+impl Part for Note {
+    type Item = Vec<u8>;
+
+    ghost Tree = { Text };
+
+    ghost tree = { λ text. text.items };
+
+    ghost read_at = { note.read };
+
+    #[tactic(auto, unfolding(crate::specs::Chains::note))]
+    fn read(
+        alloc: Global,
+        tokens: &[Token],
+        at: usize,
+    ) -> Result<Option<(Vec<u8>, usize)>, Memory> {
+        let (text, at) = found!(comment(tokens, at));
+        let at = found!(after_ends(tokens, at));
+        Ok(Some((Vec::from_slice(alloc, text)?, at)))
     }
-    Ok((found, here))
 }

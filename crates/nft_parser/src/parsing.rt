@@ -11,7 +11,7 @@ ghost use Rattle.nft_parser.specs.Spells.{Spells, HasTextFault};
 ghost use Rattle.nft_parser.specs.steps.Faults.{refusal};
 
 use crate::fault::{ParseError, TextFault};
-use crate::laws::one_tree;
+use crate::laws::{one_fault, one_tree};
 use crate::left_out::has_left_out;
 use crate::tables::ruleset;
 use nft_lexer::{Token, lex};
@@ -36,6 +36,7 @@ pub fn parse(alloc: Global, text: &[u8]) -> Result<Ruleset, ParseError>
     ensures long { (result ≡ Err (ParseError.Refused (TextFault.Cutting LexFault.TooLong))) ↔ (MOST_BYTES < length text.now) }
 {
     one_tree();
+    one_fault();
     let tokens = lex(alloc, text)?;
     match ruleset(alloc, &tokens)? {
         Some(ruleset) => Ok(ruleset),

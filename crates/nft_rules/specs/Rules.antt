@@ -1,87 +1,91 @@
 -- What spells a rule (nft(8), "Rules", "Statements").
-use Rattle.std.specs.Prelude.{◌≡◌, ◌≢◌, List, [], ◌∷◌, ◌⊎◌, Some, None, codes}
-use Rattle.nft_lexer.specs.declared.token.Mark.TheVariants as marks
-use Rattle.nft_lexer.specs.Sign as signs
-use Rattle.nft_lexer.specs.Sign.{Sign, mark}
+use Rattle.std.specs.Prelude.{ℕ, List, ◌∷◌, Option, Some, None, option_map, codes, IsTrue, [], false, cond}
+use Rattle.std.specs.Option.{unwrap_or}
+use Rattle.nft_lexer.specs.declared.token.Mark.TheVariants.{Colon, Minus}
+use Rattle.nft_lexer.specs.Sign.{Sign}
+use Rattle.nft_tree.specs.declared.selector.Selector.{Selector}
+use Rattle.nft_tree.specs.declared.selector.Selector.TheVariants.{MetaMark, CtMark}
 use Rattle.nft_tree.specs.declared.statement.MarkField.{MarkField}
-use Rattle.nft_tree.specs.declared.nat.PortRange.{PortRange}
 use Rattle.nft_tree.specs.declared.statement.MarkField.TheVariants.{Meta, Ct}
-use Rattle.nft_tree.specs.declared.nat.PortRange.TheVariants as port_ranges
+use Rattle.nft_tree.specs.declared.nat.PortRange.{PortRange}
+use Rattle.nft_tree.specs.declared.nat.PortRange.TheVariants.{One, Between}
 use Rattle.nft_tree.specs.Tree as tree
-use Rattle.nft_tree.specs.Tree.{Text, LookTree, OperandTree, SourceTree, DestinationTree, NatTree, Statement, RuleTree}
-use Rattle.token_reader.specs.Repeats.{Many}
-use Rattle.nft_selectors.specs.Selectors.{SpellsSelector}
-use Rattle.nft_lists.specs.Elements.{SpellsComment, SpellsVerdict, SpellsMapRef}
-use Rattle.nft_matches.specs.Matches.{SpellsMatch}
+use Rattle.nft_tree.specs.Tree.{LookTree, OperandTree, NatTree, Statement, RuleTree}
+use Rattle.token_reader.specs.Repeats.{stops}
+use Rattle.token_reader.specs.Grammar.{Grammar, keyword, sign, a_number, an_address, a_string, maybe, many, made, named, ◌⨾◌, ◌▹◌, ◌∣◌}
+use Rattle.token_reader.specs.steps.Reading.{◌>>=◌}
+use Rattle.nft_selectors.specs.Selectors.{selector}
+use Rattle.nft_lists.specs.Elements.{comment, verdict, map_ref}
+use Rattle.nft_matches.specs.Matches.{matching}
 
 -- look = anysel "map" mapref
-abbrev pub SpellsLook : LookTree → List Sign → List Sign → Type 0
-SpellsLook l from to = (a : List Sign) × SpellsSelector l.selector from (signs.word (codes "map") ∷ a) × SpellsMapRef l.map a to
+unfoldable pub look : Grammar LookTree
+look = made (λ x. record { selector = x.0; map = x.1 }) (selector ⨾ keyword (codes "map") ▹ map_ref)
 
-abbrev pub mark_word : MarkField → Text
-mark_word Meta = codes "meta"
-mark_word Ct = codes "ct"
+-- "meta" "mark" | "ct" "mark"
+abbrev pub mark_field : Selector → Option MarkField
+mark_field MetaMark = Some Meta
+mark_field CtMark = Some Ct
+mark_field s = None
 
--- operand = NUM | "meta" "mark" | "ct" "mark" | look
-abbrev pub SpellsOperand : OperandTree → List Sign → List Sign → Type 0
-SpellsOperand (tree.constant n) from to = from ≡ signs.number n ∷ to
-SpellsOperand (tree.mark_of m) from to = from ≡ signs.word (mark_word m) ∷ signs.word (codes "mark") ∷ to
-SpellsOperand (tree.looked_up l) from to = SpellsLook l from to
+-- operand = NUM | look | "meta" "mark" | "ct" "mark"
+unfoldable pub operand : Grammar OperandTree
+operand =
+    made tree.constant a_number
+    ∣ named (λ x. unwrap_or (option_map (λ m. Some (tree.looked_up (record { selector = x.0; map = m }))) x.1) (option_map tree.mark_of (mark_field x.0))) (selector ⨾ maybe (keyword (codes "map") ▹ map_ref))
 
 -- ports = NUM ["-" NUM]
-abbrev pub SpellsPorts : PortRange → List Sign → List Sign → Type 0
-SpellsPorts (port_ranges.One n) from to = from ≡ signs.number n ∷ to
-SpellsPorts (port_ranges.Between n m) from to = from ≡ signs.number n ∷ mark marks.Minus ∷ signs.number m ∷ to
+unfoldable pub ports : Grammar PortRange
+ports = made (λ x. unwrap_or (option_map (Between x.0) x.1) (One x.0)) (a_number ⨾ maybe (sign Minus ▹ a_number))
 
 -- ["ip"] "to"
-abbrev pub SpellsTo : List Sign → List Sign → Type 0
-SpellsTo from to = (from ≡ signs.word (codes "to") ∷ to) ⊎ (from ≡ signs.word (codes "ip") ∷ signs.word (codes "to") ∷ to)
+unfoldable pub to_word : Grammar Unit
+to_word = keyword (codes "to") ∣ keyword (codes "ip") ▹ keyword (codes "to")
 
-abbrev pub SpellsSource : SourceTree → List Sign → List Sign → Type 0
-SpellsSource (tree.source_address a None) from to = from ≡ signs.address a ∷ to
-SpellsSource (tree.source_address a (Some range)) from to = (b : List Sign) × (from ≡ signs.address a ∷ mark marks.Colon ∷ b) × SpellsPorts range b to
-SpellsSource (tree.source_look l) from to = SpellsLook l from to
+-- ADDR [":" port] | look
+abbrev pub target : {A B : Type 0} → (ℕ → Option A → B) → (LookTree → B) → Grammar A → Grammar B
+target at_address looked port = made (λ x. at_address x.0 x.1) (an_address ⨾ maybe (sign Colon ▹ port)) ∣ made looked look
 
-abbrev pub SpellsDestination : DestinationTree → List Sign → List Sign → Type 0
-SpellsDestination (tree.destination_address a None) from to = from ≡ signs.address a ∷ to
-SpellsDestination (tree.destination_address a (Some port)) from to = from ≡ signs.address a ∷ mark marks.Colon ∷ signs.number port ∷ to
-SpellsDestination (tree.destination_look l) from to = SpellsLook l from to
+unfoldable pub nat : Grammar NatTree
+nat =
+    made tree.source (keyword (codes "snat") ▹ to_word ▹ target tree.source_address tree.source_look ports)
+    ∣ made tree.destination (keyword (codes "dnat") ▹ to_word ▹ target tree.destination_address tree.destination_look a_number)
+    ∣ made tree.masquerade (keyword (codes "masquerade") ▹ maybe (keyword (codes "to") ▹ sign Colon ▹ ports))
+    ∣ made tree.redirect (keyword (codes "redirect") ▹ maybe (keyword (codes "to") ▹ sign Colon ▹ a_number))
 
-abbrev pub SpellsNat : NatTree → List Sign → List Sign → Type 0
-SpellsNat (tree.source s) from to = (a b : List Sign) × (from ≡ signs.word (codes "snat") ∷ a) × SpellsTo a b × SpellsSource s b to
-SpellsNat (tree.destination d) from to = (a b : List Sign) × (from ≡ signs.word (codes "dnat") ∷ a) × SpellsTo a b × SpellsDestination d b to
-SpellsNat (tree.masquerade None) from to = from ≡ signs.word (codes "masquerade") ∷ to
-SpellsNat (tree.masquerade (Some range)) from to = (a : List Sign) × (from ≡ signs.word (codes "masquerade") ∷ signs.word (codes "to") ∷ mark marks.Colon ∷ a) × SpellsPorts range a to
-SpellsNat (tree.redirect None) from to = from ≡ signs.word (codes "redirect") ∷ to
-SpellsNat (tree.redirect (Some port)) from to = from ≡ signs.word (codes "redirect") ∷ signs.word (codes "to") ∷ mark marks.Colon ∷ signs.number port ∷ to
-
-abbrev pub SpellsStatement : Statement → List Sign → List Sign → Type 0
-SpellsStatement (tree.matching m) from to = SpellsMatch m from to
 -- "counter" ["packets" NUM "bytes" NUM]
-SpellsStatement (tree.counter None) from to = from ≡ signs.word (codes "counter") ∷ to
-SpellsStatement (tree.counter (Some start)) from to =
-    from ≡ signs.word (codes "counter") ∷ signs.word (codes "packets") ∷ signs.number start.packets ∷ signs.word (codes "bytes") ∷ signs.number start.bytes ∷ to
+unfoldable pub counter : Grammar Statement
+counter = made tree.counter (keyword (codes "counter") ▹ maybe (made (λ x. record { packets = x.0; bytes = x.1 }) (keyword (codes "packets") ▹ a_number ⨾ keyword (codes "bytes") ▹ a_number)))
+
 -- "log" ["prefix" STRING]
-SpellsStatement (tree.log None) from to = from ≡ signs.word (codes "log") ∷ to
-SpellsStatement (tree.log (Some text)) from to = from ≡ signs.word (codes "log") ∷ signs.word (codes "prefix") ∷ signs.string text ∷ to
+unfoldable pub log : Grammar Statement
+log = made tree.log (keyword (codes "log") ▹ maybe (keyword (codes "prefix") ▹ a_string))
+
 -- ("meta" | "ct") "mark" "set" operand
-SpellsStatement (tree.set_mark m o) from to = (a : List Sign) × (from ≡ signs.word (mark_word m) ∷ signs.word (codes "mark") ∷ signs.word (codes "set") ∷ a) × SpellsOperand o a to
+unfoldable pub set_mark : Grammar Statement
+set_mark = named (λ x. option_map (λ m. tree.set_mark m x.1) (mark_field x.0)) (selector ⨾ keyword (codes "set") ▹ operand)
+
 -- anysel "vmap" mapref
-SpellsStatement (tree.verdict_map s map) from to = (a : List Sign) × SpellsSelector s from (signs.word (codes "vmap") ∷ a) × SpellsMapRef map a to
-SpellsStatement (tree.verdict v) from to = SpellsVerdict v from to
-SpellsStatement (tree.nat n) from to = SpellsNat n from to
+unfoldable pub verdict_map : Grammar Statement
+verdict_map = made (λ x. tree.verdict_map x.0 x.1) (selector ⨾ keyword (codes "vmap") ▹ map_ref)
+
+unfoldable pub statement : Grammar Statement
+statement = counter ∣ log ∣ made tree.verdict verdict ∣ made tree.nat nat ∣ set_mark ∣ verdict_map ∣ made tree.matching matching
 
 -- rule = stmt {stmt} ["comment" STRING]
-pub record SpellsRule (r : RuleTree) (from to : List Sign) : Type 0 where
-  pub some : r.statements ≢ []
-  pub mid : List Sign
-  pub each : Many SpellsStatement r.statements from mid
-  pub last : SpellsComment r.comment mid to
+unfoldable pub rule : Grammar RuleTree
+rule = made (λ x. record { statements = x.0 ∷ x.1.0; comment = x.1.1 }) (statement ⨾ many statement ⨾ comment)
+
+abbrev pub SpellsRule : RuleTree → List Sign → List Sign → Type 0
+SpellsRule = rule.spells
 
 -- a newline, a semicolon or a closing brace stands in front
 abbrev pub Stops : List Sign → Type 0
-Stops ts = (rest : List Sign) × ((ts ≡ signs.newline ∷ rest) ⊎ ((ts ≡ mark marks.Semicolon ∷ rest) ⊎ (ts ≡ mark marks.CloseBrace ∷ rest)))
+Stops ts = IsTrue (stops ts)
 
 -- a rule with its end after it
 abbrev pub SpellsEndedRule : RuleTree → List Sign → List Sign → Type 0
 SpellsEndedRule r from to = SpellsRule r from to × Stops to
+
+unfoldable pub ended_rule : Grammar RuleTree
+ended_rule = record { spells = SpellsEndedRule; read = λ ts. rule.read ts >>= λ r. cond (stops r.1) (Some r) None; first = rule.first; follow = []; empty = false }

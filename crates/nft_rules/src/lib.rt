@@ -3,13 +3,11 @@
 #![tactic(auto)]
 
 mod counters;
-mod laws;
 mod marks;
 mod nat;
 mod rules;
 mod statements;
 
-pub use laws::rule_laws;
 pub use nft_lists::{elems, pairs};
 pub use nft_selectors::anysel;
 pub use rules::rule;

@@ -1,29 +1,27 @@
 //! Rules.
-ghost use Rattle.std.specs.Prelude.{◌≡◌, ◌≤◌, List, length, IfOk, IfSome, IsSomeAnd};
+ghost use Rattle.std.specs.Prelude.{◌≡◌, List, IfOk, IfSome, IsSomeAnd};
 ghost use Rattle.nft_lexer.specs.Sign.{Sign};
 ghost use Rattle.nft_tree.specs.Tree.{RuleTree, rule_tree};
-ghost use Rattle.std.specs.Option.{option_map};
-ghost use Rattle.token_reader.specs.Places.{ahead};
-ghost use Rattle.nft_rules.specs.Rules.{SpellsEndedRule};
-ghost use Rattle.nft_rules.specs.steps.Reading.{rule_at, ended_rule_at};
+ghost use Rattle.token_reader.specs.Readers.{IsAfter, IsRead, ahead};
+ghost use Rattle.nft_rules.specs.Rules.{SpellsEndedRule, rule};
+ghost use Rattle.nft_rules.specs.Rules.{ended_rule};
 
-use crate::laws::rule_laws;
-use crate::statements::statements;
+use crate::statements::AnyStatement;
 use nft_lexer::Token;
 use nft_lists::comment;
 use nft_tree::{Memory, Rule};
 use std::alloc::Global;
-use token_reader::stops;
+use token_reader::{Part, found, more, stops};
 
 /// stmt {stmt} ["comment" STRING], whatever follows it.
-#[tactic(auto, unfolding(crate::specs::steps::Reading::rule_at))]
+#[tactic(auto, unfolding(crate::specs::Rules::rule))]
 fn unended_rule(alloc: Global, tokens: &[Token], at: usize) -> Result<Option<(Rule, usize)>, Memory>
-    ensures { IfOk result (λ o. option_map (λ x. (rule_tree x.0, ahead tokens.now x.1)) o ≡ rule_at (ahead tokens.now at)) }
+    ensures { IfOk result (IsRead rule_tree rule.read tokens.now at) }
 {
-    let (statements, at) = statements(alloc, tokens, at)?;
-    if statements.is_empty() {
-        return Ok(None);
-    }
+    let (first, at) = found!(AnyStatement::read(alloc, tokens, at)?);
+    let mut statements = Vec::new(alloc);
+    statements.push(first)?;
+    let at = more::<AnyStatement>(alloc, tokens, at, &mut statements)?;
     let (comment, at) = comment(alloc, tokens, at)?;
     let rule = Rule {
         statements,
@@ -32,19 +30,17 @@ fn unended_rule(alloc: Global, tokens: &[Token], at: usize) -> Result<Option<(Ru
     Ok(Some((rule, at)))
 }
 
-/// stmt {stmt} ["comment" STRING], and what ends a rule after it.
-#[tactic(auto, unfolding(crate::specs::steps::Reading::ended_rule_at))]
-fn ended_rule(alloc: Global, tokens: &[Token], at: usize) -> Result<Option<(Rule, usize)>, Memory>
-    ensures read { IfOk result (λ o. option_map (λ x. (rule_tree x.0, ahead tokens.now x.1)) o ≡ ended_rule_at (ahead tokens.now at)) }
-    ensures within { IfOk result (λ o. IfSome o (λ x. x.1 ≤ length tokens.now)) }
+/// The same, with what ends a rule after it.
+#[tactic(auto, unfolding(crate::specs::Rules::ended_rule))]
+fn ended(alloc: Global, tokens: &[Token], at: usize) -> Result<Option<(Rule, usize)>, Memory>
+    ensures { IfOk result (IsRead rule_tree ended_rule.read tokens.now at) }
 {
-    let Some((rule, end)) = unended_rule(alloc, tokens, at)? else {
-        return Ok(None);
-    };
-    if !stops(tokens, end) {
-        return Ok(None);
+    let (rule, end) = found!(unended_rule(alloc, tokens, at)?);
+    if stops(tokens, end) {
+        Ok(Some((rule, end)))
+    } else {
+        Ok(None)
     }
-    Ok(Some((rule, end)))
 }
 
 /// The one rule at this place with a newline, a semicolon or a closing brace after it, and where
@@ -54,11 +50,10 @@ pub fn rule(alloc: Global, tokens: &[Token], at: usize) -> Result<Option<(Rule, 
     ensures found { IfOk result (λ o. IfSome o (λ x. SpellsEndedRule (rule_tree x.0) (ahead tokens.now at) (ahead tokens.now x.1))) }
     // What is spelled so is read: there is no other rule, and where nothing is read there is none.
     ensures only { (r : RuleTree) (to : List Sign) → SpellsEndedRule r (ahead tokens.now at) to → IfOk result (λ o. IsSomeAnd o (λ x. (rule_tree x.0 ≡ r) × (ahead tokens.now x.1 ≡ to))) }
-    // It ends within the tokens.
-    ensures within { IfOk result (λ o. IfSome o (λ x. x.1 ≤ length tokens.now)) }
+    // It ends behind this place, within the tokens.
+    ensures within { IfOk result (λ o. IfSome o (λ x. IsAfter tokens.now at x.1)) }
     // It is what a reading from left to right gives.
-    ensures read { IfOk result (λ o. option_map (λ x. (rule_tree x.0, ahead tokens.now x.1)) o ≡ ended_rule_at (ahead tokens.now at)) }
+    ensures read { IfOk result (IsRead rule_tree ended_rule.read tokens.now at) }
 {
-    rule_laws();
-    ended_rule(alloc, tokens, at)
+    ended(alloc, tokens, at)
 }

@@ -1,72 +1,66 @@
 -- What spells a selector (nft(8), "Payload expressions", "Meta expressions", "Conntrack expressions").
-use Rattle.std.specs.Prelude.{◌≡◌, ℕ, List, [], ◌∷◌, codes, Bool, true, false, Option, Some, None, is_some}
+use Rattle.std.specs.Prelude.{ℕ, List, [], ◌∷◌, codes, Bool, true, false, Option, Some, None, is_some}
 use Rattle.nft_lexer.specs.declared.token.Mark.TheVariants.{Dot}
-use Rattle.nft_lexer.specs.Sign.{Sign, mark}
+use Rattle.nft_lexer.specs.Sign.{Sign}
 use Rattle.nft_tree.specs.declared.selector.Selector.{Selector}
-use Rattle.nft_tree.specs.declared.selector.Selector.TheVariants as selectors
+use Rattle.nft_tree.specs.declared.selector.Selector.TheVariants as kinds
 use Rattle.nft_tree.specs.declared.selector.ValueType.{ValueType}
 use Rattle.nft_tree.specs.declared.selector.ValueType.TheVariants.{InterfaceName, InterfaceIndex}
 use Rattle.nft_tree.specs.Words.{entry_in, words_of, selector_type}
-use Rattle.token_reader.specs.Repeats.{Many, OneOf}
+use Rattle.token_reader.specs.Grammar.{Grammar, keyword, sign, one_of, separated, ◌▹◌, ◌∣◌}
 
--- a word alone, or after `meta`
-abbrev pub also_meta : List ℕ → List (List (List ℕ))
-also_meta w = (w ∷ []) ∷ (codes "meta" ∷ w ∷ []) ∷ []
+-- words, and the selectors that they name
+abbrev pub in_ip : List (List ℕ × Selector)
+in_ip =
+    (codes "saddr", kinds.IpSource) ∷ (codes "daddr", kinds.IpDestination) ∷ (codes "protocol", kinds.IpProtocol) ∷ (codes "ttl", kinds.IpTtl)
+    ∷ (codes "length", kinds.IpLength) ∷ []
 
-abbrev pub two_words : List ℕ → List ℕ → List (List (List ℕ))
-two_words v w = (v ∷ w ∷ []) ∷ []
+abbrev pub in_meta : List (List ℕ × Selector)
+in_meta =
+    (codes "l4proto", kinds.MetaProtocol) ∷ (codes "length", kinds.MetaLength) ∷ (codes "mark", kinds.MetaMark) ∷ (codes "nfproto", kinds.MetaFamily)
+    ∷ (codes "iifname", kinds.InputName) ∷ (codes "oifname", kinds.OutputName) ∷ (codes "iif", kinds.InputIndex) ∷ (codes "oif", kinds.OutputIndex) ∷ []
 
--- the ways in which a selector is written
-abbrev pub spellings_of : Selector → List (List (List ℕ))
-spellings_of selectors.IpSource = two_words (codes "ip") (codes "saddr")
-spellings_of selectors.IpDestination = two_words (codes "ip") (codes "daddr")
-spellings_of selectors.IpProtocol = two_words (codes "ip") (codes "protocol")
-spellings_of selectors.MetaProtocol = two_words (codes "meta") (codes "l4proto")
-spellings_of selectors.IpTtl = two_words (codes "ip") (codes "ttl")
-spellings_of selectors.IpLength = two_words (codes "ip") (codes "length")
-spellings_of selectors.MetaLength = two_words (codes "meta") (codes "length")
-spellings_of selectors.TcpSource = two_words (codes "tcp") (codes "sport")
-spellings_of selectors.TcpDestination = two_words (codes "tcp") (codes "dport")
-spellings_of selectors.UdpSource = two_words (codes "udp") (codes "sport")
-spellings_of selectors.UdpDestination = two_words (codes "udp") (codes "dport")
-spellings_of selectors.TransportSource = two_words (codes "th") (codes "sport")
-spellings_of selectors.TransportDestination = two_words (codes "th") (codes "dport")
-spellings_of selectors.TcpFlags = two_words (codes "tcp") (codes "flags")
-spellings_of selectors.IcmpType = two_words (codes "icmp") (codes "type")
-spellings_of selectors.InputName = also_meta (codes "iifname")
-spellings_of selectors.OutputName = also_meta (codes "oifname")
-spellings_of selectors.InputIndex = also_meta (codes "iif")
-spellings_of selectors.OutputIndex = also_meta (codes "oif")
-spellings_of selectors.MetaMark = two_words (codes "meta") (codes "mark")
-spellings_of selectors.CtMark = two_words (codes "ct") (codes "mark")
-spellings_of selectors.MetaFamily = two_words (codes "meta") (codes "nfproto")
-spellings_of selectors.CtState = two_words (codes "ct") (codes "state")
-spellings_of selectors.CtDirection = two_words (codes "ct") (codes "direction")
-spellings_of selectors.CtStatus = two_words (codes "ct") (codes "status")
+abbrev pub in_tcp : List (List ℕ × Selector)
+in_tcp = (codes "sport", kinds.TcpSource) ∷ (codes "dport", kinds.TcpDestination) ∷ (codes "flags", kinds.TcpFlags) ∷ []
+
+abbrev pub in_udp : List (List ℕ × Selector)
+in_udp = (codes "sport", kinds.UdpSource) ∷ (codes "dport", kinds.UdpDestination) ∷ []
+
+abbrev pub in_th : List (List ℕ × Selector)
+in_th = (codes "sport", kinds.TransportSource) ∷ (codes "dport", kinds.TransportDestination) ∷ []
+
+abbrev pub in_icmp : List (List ℕ × Selector)
+in_icmp = (codes "type", kinds.IcmpType) ∷ []
+
+abbrev pub in_ct : List (List ℕ × Selector)
+in_ct = (codes "mark", kinds.CtMark) ∷ (codes "state", kinds.CtState) ∷ (codes "direction", kinds.CtDirection) ∷ (codes "status", kinds.CtStatus) ∷ []
+
+-- those that stand without `meta`, too
+abbrev pub alone : List (List ℕ × Selector)
+alone = (codes "iifname", kinds.InputName) ∷ (codes "oifname", kinds.OutputName) ∷ (codes "iif", kinds.InputIndex) ∷ (codes "oif", kinds.OutputIndex) ∷ []
 
 -- anysel
-abbrev pub SpellsSelector : Selector → List Sign → List Sign → Type 0
-SpellsSelector s from to = OneOf (spellings_of s) from to
+unfoldable pub selector : Grammar Selector
+selector =
+    keyword (codes "ip") ▹ one_of in_ip
+    ∣ keyword (codes "meta") ▹ one_of in_meta
+    ∣ keyword (codes "tcp") ▹ one_of in_tcp
+    ∣ keyword (codes "udp") ▹ one_of in_udp
+    ∣ keyword (codes "th") ▹ one_of in_th
+    ∣ keyword (codes "icmp") ▹ one_of in_icmp
+    ∣ keyword (codes "ct") ▹ one_of in_ct
+    ∣ one_of alone
 
--- "." anysel
-abbrev pub SpellsNextSelector : Selector → List Sign → List Sign → Type 0
-SpellsNextSelector s from to = (a : List Sign) × (from ≡ mark Dot ∷ a) × SpellsSelector s a to
+abbrev pub SpellsSelector : Selector → List Sign → List Sign → Type 0
+SpellsSelector = selector.spells
 
 -- keys = anysel {"." anysel}
-abbrev pub SpellsSelectors : List Selector → List Sign → List Sign → Type 0
-SpellsSelectors [] from to = ⊥
-SpellsSelectors (s ∷ ss) from to = (a : List Sign) × SpellsSelector s from a × Many SpellsNextSelector ss a to
+unfoldable pub selectors : Grammar (List Selector)
+selectors = separated (sign Dot) selector
 
 -- no further selector stands here that would go on with others
 abbrev pub EndsSelectors : List Sign → Type 0
-EndsSelectors ts = (s : Selector) (to : List Sign) → SpellsNextSelector s ts to → ⊥
-
--- sel: all but `ct state`, `ct status` and `tcp flags`
-abbrev pub is_plain : Selector → Bool
-is_plain selectors.CtState = false
-is_plain selectors.CtStatus = false
-is_plain selectors.TcpFlags = false
-is_plain _ = true
+EndsSelectors ts = (s : Selector) (to : List Sign) → (sign Dot ▹ selector).spells s ts to → ⊥
 
 -- a type lists the word; any word is the name of an interface
 abbrev pub is_word_of : Option ValueType → List ℕ → Bool

@@ -2,11 +2,9 @@
 //! expressions", "Conntrack expressions").
 #![tactic(auto)]
 
-mod laws;
 mod reading;
 mod spellings;
 mod words;
 
-pub use laws::selector_laws;
 pub use reading::{anysel, selectors};
 pub use words::lists_word;

@@ -1,97 +1,101 @@
 //! Selectors, and selectors joined by dots.
-ghost use Rattle.std.specs.Prelude.{◌≡◌, ◌≤◌, List, length, IfOk, IfSome, IsSomeAnd, option_map};
+ghost use Rattle.std.specs.Prelude.{◌≡◌, List, IfOk, IfSome, IsSomeAnd};
+ghost use Rattle.nft_lexer.specs.declared.token.Mark.TheVariants.{Dot};
 ghost use Rattle.nft_lexer.specs.Sign.{Sign};
 ghost use Rattle.nft_tree.specs.declared.selector.Selector.{Selector};
-ghost use Rattle.token_reader.specs.Places.{ahead};
-ghost use Rattle.token_reader.specs.steps.Reading.{all_at, with_front};
-ghost use Rattle.nft_selectors.specs.Selectors.{EndsSelectors, SpellsSelector, SpellsSelectors};
-ghost use Rattle.nft_selectors.specs.steps.Reading.{selector_at, second_at, next_selector_at, selectors_at};
+ghost use Rattle.token_reader.specs.Readers.{IsAfter, IsRead, ahead};
+ghost use Rattle.nft_selectors.specs.Selectors.{EndsSelectors, SpellsSelector, selector, selectors};
 
-use crate::spellings::{interface, pair};
+use crate::spellings::{ALONE, IN_CT, IN_ICMP, IN_IP, IN_META, IN_TCP, IN_TH, IN_UDP};
 use nft_lexer::{Mark, Token};
 use nft_tree::{Memory, Selector};
 use std::alloc::Global;
-use token_reader::{after_mark, word};
+use token_reader::{Part, Separator, after_word, one_of, separated};
 
 /// The one selector at this place, whatever follows it, and where it ends; none where no selector
 /// stands here.
 pub fn anysel(tokens: &[Token], at: usize) -> Option<(Selector, usize)>
     // What is read is spelled here.
     ensures found { IfSome result (λ x. SpellsSelector x.0 (ahead tokens.now at) (ahead tokens.now x.1)) }
-    // It ends within the tokens.
-    ensures within { IfSome result (λ x. x.1 ≤ length tokens.now) }
+    // It ends behind this place, within the tokens.
+    ensures within { IfSome result (λ x. IsAfter tokens.now at x.1) }
     // What is spelled here is read: there is no other selector, and where nothing is read there is none.
     ensures only { (s : Selector) (to : List Sign) → SpellsSelector s (ahead tokens.now at) to → IsSomeAnd result (λ x. (x.0 ≡ s) × (ahead tokens.now x.1 ≡ to)) }
     // It is what reading from left to right gives.
-    ensures read { option_map (λ x. (x.0, ahead tokens.now x.1)) result ≡ selector_at (ahead tokens.now at) }
+    ensures read { IsRead (λ s. s) selector.read tokens.now at result }
 {
     selector(tokens, at)
 }
 
-/// anysel, and the place after it, which lies within the tokens.
-#[tactic(auto, unfolding(crate::specs::steps::Reading::selector_at))]
+/// anysel
+#[tactic(auto, unfolding(crate::specs::Selectors::selector))]
 fn selector(tokens: &[Token], at: usize) -> Option<(Selector, usize)>
-    ensures read { option_map (λ x. (x.0, ahead tokens.now x.1)) result ≡ selector_at (ahead tokens.now at) }
-    ensures within { IfSome result (λ x. x.1 ≤ length tokens.now) }
+    ensures { IsRead (λ s. s) selector.read tokens.now at result }
 {
-    let (first, after) = word(tokens, at)?;
-    match interface(first) {
-        Some(found) => Some((found, after)),
-        None => second(tokens, after, first),
+    if let Some(at) = after_word(tokens, at, b"ip") {
+        return one_of(tokens, at, &IN_IP);
+    }
+    if let Some(at) = after_word(tokens, at, b"meta") {
+        return one_of(tokens, at, &IN_META);
+    }
+    if let Some(at) = after_word(tokens, at, b"tcp") {
+        return one_of(tokens, at, &IN_TCP);
+    }
+    if let Some(at) = after_word(tokens, at, b"udp") {
+        return one_of(tokens, at, &IN_UDP);
+    }
+    if let Some(at) = after_word(tokens, at, b"th") {
+        return one_of(tokens, at, &IN_TH);
+    }
+    if let Some(at) = after_word(tokens, at, b"icmp") {
+        return one_of(tokens, at, &IN_ICMP);
+    }
+    if let Some(at) = after_word(tokens, at, b"ct") {
+        return one_of(tokens, at, &IN_CT);
+    }
+    one_of(tokens, at, &ALONE)
+}
+
+struct Dot;
+
+impl Separator for Dot {
+    ghost mark = { Dot };
+
+    fn mark() -> Mark {
+        Mark::Dot
     }
 }
 
-/// The selector whose second word stands here, and the place after it, which lies within the
-/// tokens.
-#[tactic(auto, unfolding(crate::specs::steps::Reading::second_at))]
-fn second(tokens: &[Token], at: usize, first: &[u8]) -> Option<(Selector, usize)>
-    ensures read { option_map (λ x. (x.0, ahead tokens.now x.1)) result ≡ second_at first.now (ahead tokens.now at) }
-    ensures within { IfSome result (λ x. x.1 ≤ length tokens.now) }
-{
-    let (second, after) = word(tokens, at)?;
-    Some((pair(first, second)?, after))
-}
+struct AnySelector;
 
-/// "." anysel
-#[tactic(auto, unfolding(crate::specs::steps::Reading::next_selector_at))]
-fn next_selector(tokens: &[Token], at: usize) -> Option<(Selector, usize)>
-    ensures read { option_map (λ x. (x.0, ahead tokens.now x.1)) result ≡ next_selector_at (ahead tokens.now at) }
-    ensures within { IfSome result (λ x. x.1 ≤ length tokens.now) }
-{
-    let at = after_mark(tokens, at, Mark::Dot)?;
-    anysel(tokens, at)
-}
+impl Part for AnySelector {
+    type Item = Selector;
 
-/// {"." anysel}, each selector put at the end of `found`.
-fn more_selectors(tokens: &[Token], at: usize, found: &mut Vec<Selector>) -> Result<usize, Memory>
-    ensures read { IfOk result (λ end. (found.new.items, ahead tokens.now end) ≡ with_front found.old.items (all_at next_selector_at (ahead tokens.now at))) }
-    ensures within { IfOk result (λ end. at ≤ length tokens.now → end ≤ length tokens.now) }
-{
-    let mut here = at;
-    while let Some((next, after)) = next_selector(tokens, here) {
-        found.push(next)?;
-        here = after;
+    ghost Tree = { Selector };
+
+    ghost tree = { λ s. s };
+
+    ghost read_at = { selector.read };
+
+    fn read(
+        _alloc: Global,
+        tokens: &[Token],
+        at: usize,
+    ) -> Result<Option<(Selector, usize)>, Memory> {
+        Ok(anysel(tokens, at))
     }
-    Ok(here)
 }
 
-/// anysel {"." anysel}, and the place after it.
-#[tactic(auto, unfolding(crate::specs::steps::Reading::selectors_at))]
+/// anysel {"." anysel}
+#[tactic(auto, unfolding(crate::specs::Selectors::selectors))]
 fn joined(
     alloc: Global,
     tokens: &[Token],
     at: usize,
 ) -> Result<Option<(Vec<Selector>, usize)>, Memory>
-    ensures read { IfOk result (λ o. option_map (λ x. (x.0.items, ahead tokens.now x.1)) o ≡ selectors_at (ahead tokens.now at)) }
-    ensures within { IfOk result (λ o. IfSome o (λ x. x.1 ≤ length tokens.now)) }
+    ensures { IfOk result (IsRead (λ found. found.items) selectors.read tokens.now at) }
 {
-    let Some((first, at)) = anysel(tokens, at) else {
-        return Ok(None);
-    };
-    let mut found = Vec::new(alloc);
-    found.push(first)?;
-    let at = more_selectors(tokens, at, &mut found)?;
-    Ok(Some((found, at)))
+    separated::<Dot, AnySelector>(alloc, tokens, at)
 }
 
 /// The selectors at this place, joined by dots, as many as stand there, and where they end; none
@@ -102,13 +106,11 @@ pub fn selectors(
     at: usize,
 ) -> Result<Option<(Vec<Selector>, usize)>, Memory>
     // What is read is spelled here.
-    ensures found { IfOk result (λ o. IfSome o (λ x. SpellsSelectors x.0.items (ahead tokens.now at) (ahead tokens.now x.1))) }
-    // It ends within the tokens.
-    ensures within { IfOk result (λ o. IfSome o (λ x. x.1 ≤ length tokens.now)) }
+    ensures found { IfOk result (λ o. IfSome o (λ x. selectors.spells x.0.items (ahead tokens.now at) (ahead tokens.now x.1))) }
     // What is spelled here, with no further selector after it, is read.
-    ensures only { (ss : List Selector) (to : List Sign) → SpellsSelectors ss (ahead tokens.now at) to → EndsSelectors to → IfOk result (λ o. IsSomeAnd o (λ x. (x.0.items ≡ ss) × (ahead tokens.now x.1 ≡ to))) }
+    ensures only { (ss : List Selector) (to : List Sign) → selectors.spells ss (ahead tokens.now at) to → EndsSelectors to → IfOk result (λ o. IsSomeAnd o (λ x. (x.0.items ≡ ss) × (ahead tokens.now x.1 ≡ to))) }
     // It is what reading from left to right gives.
-    ensures read { IfOk result (λ o. option_map (λ x. (x.0.items, ahead tokens.now x.1)) o ≡ selectors_at (ahead tokens.now at)) }
+    ensures read { IfOk result (IsRead (λ found. found.items) selectors.read tokens.now at) }
 {
     joined(alloc, tokens, at)
 }

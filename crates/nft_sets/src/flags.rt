@@ -1,62 +1,62 @@
 //! The flags of sets and maps.
-ghost use Rattle.std.specs.Prelude.{◌≡◌, IfOk};
-ghost use Rattle.std.specs.Option.{option_map};
-ghost use Rattle.token_reader.specs.Places.{ahead};
-ghost use Rattle.token_reader.specs.steps.Reading.{all_at, with_front};
-ghost use Rattle.nft_sets.specs.steps.Reading.{flag_at, next_flag_at, flags_at};
+ghost use Rattle.std.specs.Prelude.{IfOk, codes, [], ◌∷◌};
+ghost use Rattle.nft_lexer.specs.declared.token.Mark.TheVariants.{Comma};
+ghost use Rattle.nft_tree.specs.declared.set.SetFlag.{SetFlag};
+ghost use Rattle.nft_tree.specs.declared.set.SetFlag.TheVariants.{Constant, Interval};
+ghost use Rattle.token_reader.specs.Grammar.{one_of};
+ghost use Rattle.token_reader.specs.Readers.{IsRead};
+ghost use Rattle.nft_sets.specs.Sets.{set_flags};
 
 use nft_lexer::{Mark, Token};
 use nft_tree::{Memory, SetFlag};
 use std::alloc::Global;
-use token_reader::{after_mark, after_word};
+use token_reader::{Part, Separator, after_word, found, one_of, separated};
 
-/// "constant" | "interval"
-#[tactic(auto, unfolding(crate::specs::steps::Reading::flag_at))]
-fn flag(tokens: &[Token], at: usize) -> Option<(SetFlag, usize)>
-    ensures { option_map (λ x. (x.0, ahead tokens.now x.1)) result ≡ flag_at (ahead tokens.now at) }
-{
-    if let Some(at) = after_word(tokens, at, b"constant") {
-        return Some((SetFlag::Constant, at));
+static FLAGS: [(&[u8], SetFlag); 2] = [
+    (b"constant", SetFlag::Constant),
+    (b"interval", SetFlag::Interval),
+];
+
+/// A flag, "constant" or "interval".
+struct Flag;
+
+impl Part for Flag {
+    type Item = SetFlag;
+
+    ghost Tree = { SetFlag };
+
+    ghost tree = { λ f. f };
+
+    ghost read_at = { (one_of ((codes "constant", Constant) ∷ (codes "interval", Interval) ∷ [])).read };
+
+    fn read(
+        _alloc: Global,
+        tokens: &[Token],
+        at: usize,
+    ) -> Result<Option<(SetFlag, usize)>, Memory> {
+        Ok(one_of(tokens, at, &FLAGS))
     }
-    let at = after_word(tokens, at, b"interval")?;
-    Some((SetFlag::Interval, at))
 }
 
-/// "," sflag
-#[tactic(auto, unfolding(crate::specs::steps::Reading::next_flag_at))]
-fn next_flag(tokens: &[Token], at: usize) -> Option<(SetFlag, usize)>
-    ensures { option_map (λ x. (x.0, ahead tokens.now x.1)) result ≡ next_flag_at (ahead tokens.now at) }
-{
-    let at = after_mark(tokens, at, Mark::Comma)?;
-    flag(tokens, at)
-}
+struct Comma;
 
-/// {"," sflag}, each flag put at the end of `found`.
-fn more_flags(tokens: &[Token], at: usize, found: &mut Vec<SetFlag>) -> Result<usize, Memory>
-    ensures { IfOk result (λ end. (found.new.items, ahead tokens.now end) ≡ with_front found.old.items (all_at next_flag_at (ahead tokens.now at))) }
-{
-    let mut here = at;
-    while let Some((next, after)) = next_flag(tokens, here) {
-        found.push(next)?;
-        here = after;
+impl Separator for Comma {
+    ghost mark = { Comma };
+
+    fn mark() -> Mark {
+        Mark::Comma
     }
-    Ok(here)
 }
 
-/// sflag {"," sflag}
-#[tactic(auto, unfolding(crate::specs::steps::Reading::flags_at))]
+/// "flags" sflag {"," sflag}
+#[tactic(auto, unfolding(crate::specs::Sets::set_flags))]
 pub(crate) fn set_flags(
     alloc: Global,
     tokens: &[Token],
     at: usize,
 ) -> Result<Option<(Vec<SetFlag>, usize)>, Memory>
-    ensures { IfOk result (λ o. option_map (λ x. (x.0.items, ahead tokens.now x.1)) o ≡ flags_at (ahead tokens.now at)) }
+    ensures { IfOk result (IsRead (λ found. found.items) set_flags.read tokens.now at) }
 {
-    let Some((first, at)) = flag(tokens, at) else {
-        return Ok(None);
-    };
-    let mut found = Vec::new(alloc);
-    found.push(first)?;
-    let at = more_flags(tokens, at, &mut found)?;
-    Ok(Some((found, at)))
+    let at = found!(after_word(tokens, at, b"flags"));
+    separated::<Comma, Flag>(alloc, tokens, at)
 }

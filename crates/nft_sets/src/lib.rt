@@ -3,10 +3,8 @@
 
 mod fields;
 mod flags;
-mod laws;
 mod parts;
 mod sets;
 mod types;
 
-pub use laws::set_laws;
 pub use sets::{map_decl, set_decl};

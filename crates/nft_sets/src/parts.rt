@@ -1,41 +1,24 @@
-//! What sets and maps each read in their own way: keys and elements.
-ghost use Rattle.std.specs.Prelude.{◌≡◌, List, Option, IfOk, map};
-ghost use Rattle.nft_lexer.specs.Sign.{Sign};
+//! The elements of sets and of maps, as parts of a grammar.
+ghost use Rattle.std.specs.Prelude.{List, map};
 ghost use Rattle.nft_tree.specs.Tree.{ElementTree, PairTree, element_tree, pair_tree};
-ghost use Rattle.std.specs.Option.{option_map};
-ghost use Rattle.token_reader.specs.Places.{ahead};
-ghost use Rattle.token_reader.specs.steps.Laws.{Shortens};
-ghost use Rattle.nft_lists.specs.steps.Reading.{elements_at, pairs_at};
+ghost use Rattle.nft_lists.specs.Elements.{elements, pairs};
 
 use nft_lexer::Token;
-use nft_lists::{elems, list_laws, pairs};
+use nft_lists::{elems, pairs};
 use nft_tree::{Element, Memory, Pair};
 use std::alloc::Global;
+use token_reader::Part;
 
-/// What a field holds that differs between sets and maps.
-pub(crate) trait Part: Drop {
-    ghost Tree: { Type 0 };
+pub(crate) struct Elements;
 
-    /// What contracts compare of it.
-    ghost tree: { Self → Tree };
+impl Part for Elements {
+    type Item = Vec<Element>;
 
-    ghost read_at: { List Sign → Option (Tree × List Sign) };
-
-    /// The part here, and the place after it.
-    fn read(alloc: Global, tokens: &[Token], at: usize) -> Result<Option<(Self, usize)>, Memory>
-        ensures { IfOk result (λ o. option_map (λ x. (tree x.0, ahead tokens.now x.1)) o ≡ read_at (ahead tokens.now at)) };
-
-    /// Each reading takes a token.
-    fn laws()
-        ensures { Shortens read_at };
-}
-
-impl Part for Vec<Element> {
     ghost Tree = { List ElementTree };
 
     ghost tree = { λ es. map element_tree es.items };
 
-    ghost read_at = { elements_at };
+    ghost read_at = { elements.read };
 
     fn read(
         alloc: Global,
@@ -44,18 +27,18 @@ impl Part for Vec<Element> {
     ) -> Result<Option<(Vec<Element>, usize)>, Memory> {
         elems(alloc, tokens, at)
     }
-
-    fn laws() {
-        list_laws();
-    }
 }
 
-impl Part for Vec<Pair> {
+pub(crate) struct Pairs;
+
+impl Part for Pairs {
+    type Item = Vec<Pair>;
+
     ghost Tree = { List PairTree };
 
     ghost tree = { λ ps. map pair_tree ps.items };
 
-    ghost read_at = { pairs_at };
+    ghost read_at = { pairs.read };
 
     fn read(
         alloc: Global,
@@ -63,9 +46,5 @@ impl Part for Vec<Pair> {
         at: usize,
     ) -> Result<Option<(Vec<Pair>, usize)>, Memory> {
         pairs(alloc, tokens, at)
-    }
-
-    fn laws() {
-        list_laws();
     }
 }

@@ -1,34 +1,24 @@
 //! Sets and maps.
-ghost use Rattle.std.specs.Prelude.{◌≡◌, ◌≤◌, List, length, IfOk, IfSome, IsSomeAnd};
-ghost use Rattle.nft_lexer.specs.Sign.{Sign};
-ghost use Rattle.nft_tree.specs.Tree.{MapTree, SetTree, map_tree, set_tree};
-ghost use Rattle.std.specs.Option.{option_map};
-ghost use Rattle.token_reader.specs.Places.{ahead};
-ghost use Rattle.nft_sets.specs.Sets.{SpellsMap, SpellsSet};
-ghost use Rattle.nft_sets.specs.steps.Reading.{set_at, map_at};
+ghost use Rattle.std.specs.Prelude.{IfOk};
+ghost use Rattle.nft_tree.specs.Tree.{map_tree, set_tree};
+ghost use Rattle.token_reader.specs.Readers.{Anything, IsRead, Reads};
+ghost use Rattle.nft_sets.specs.Sets.{named_map, named_set};
 
-use crate::fields::{Fields, all_fields};
-use crate::laws::set_laws;
+use crate::fields::{Fields, block};
+use crate::parts::{Elements, Pairs};
+use crate::types::{MapTypes, SetTypes};
 use nft_lexer::Token;
-use nft_tree::{Element, MapDecl, MapType, Memory, Pair, SetDecl, SetType};
+use nft_tree::{MapDecl, Memory, SetDecl};
 use std::alloc::Global;
-use token_reader::{after_word, word};
+use token_reader::{after_word, found};
 
-/// "set" NAME "{" {end} field {end {end} field} {end} "}", its fields in any order.
-#[tactic(auto, unfolding(crate::specs::steps::Reading::set_at))]
-fn set_here(alloc: Global, tokens: &[Token], at: usize) -> Result<Option<(SetDecl, usize)>, Memory>
-    ensures read { IfOk result (λ o. option_map (λ x. (set_tree x.0, ahead tokens.now x.1)) o ≡ set_at (ahead tokens.now at)) }
-    ensures within { IfOk result (λ o. IfSome o (λ x. x.1 ≤ length tokens.now)) }
+/// "set" NAME "{" .. "}"
+#[tactic(auto, using(crate::specs::steps::Laws::same_block), unfolding(crate::specs::Sets::named_set))]
+fn named_set(alloc: Global, tokens: &[Token], at: usize) -> Result<Option<(SetDecl, usize)>, Memory>
+    ensures { IfOk result (IsRead set_tree named_set.read tokens.now at) }
 {
-    let Some(at) = after_word(tokens, at, b"set") else {
-        return Ok(None);
-    };
-    let Some((name, at)) = word(tokens, at) else {
-        return Ok(None);
-    };
-    let Some((found, at)) = all_fields::<SetType, Vec<Element>>(alloc, tokens, at)? else {
-        return Ok(None);
-    };
+    let at = found!(after_word(tokens, at, b"set"));
+    let ((name, all), at) = found!(block::<SetTypes, Elements>(alloc, tokens, at)?);
     let Fields {
         key,
         flags,
@@ -36,14 +26,10 @@ fn set_here(alloc: Global, tokens: &[Token], at: usize) -> Result<Option<(SetDec
         auto_merge,
         comment,
         elements,
-    } = found;
-    let Some(key) = key else {
-        return Ok(None);
-    };
-    let name = Vec::from_slice(alloc, name)?;
+    } = all;
     let decl = SetDecl {
         name,
-        key,
+        key: found!(key),
         flags,
         size,
         auto_merge,
@@ -53,21 +39,13 @@ fn set_here(alloc: Global, tokens: &[Token], at: usize) -> Result<Option<(SetDec
     Ok(Some((decl, at)))
 }
 
-/// "map" NAME "{" {end} mfield {end {end} mfield} {end} "}", its fields in any order.
-#[tactic(auto, unfolding(crate::specs::steps::Reading::map_at))]
-fn map_here(alloc: Global, tokens: &[Token], at: usize) -> Result<Option<(MapDecl, usize)>, Memory>
-    ensures read { IfOk result (λ o. option_map (λ x. (map_tree x.0, ahead tokens.now x.1)) o ≡ map_at (ahead tokens.now at)) }
-    ensures within { IfOk result (λ o. IfSome o (λ x. x.1 ≤ length tokens.now)) }
+/// "map" NAME "{" .. "}"
+#[tactic(auto, using(crate::specs::steps::Laws::same_block), unfolding(crate::specs::Sets::named_map))]
+fn named_map(alloc: Global, tokens: &[Token], at: usize) -> Result<Option<(MapDecl, usize)>, Memory>
+    ensures { IfOk result (IsRead map_tree named_map.read tokens.now at) }
 {
-    let Some(at) = after_word(tokens, at, b"map") else {
-        return Ok(None);
-    };
-    let Some((name, at)) = word(tokens, at) else {
-        return Ok(None);
-    };
-    let Some((found, at)) = all_fields::<MapType, Vec<Pair>>(alloc, tokens, at)? else {
-        return Ok(None);
-    };
+    let at = found!(after_word(tokens, at, b"map"));
+    let ((name, all), at) = found!(block::<MapTypes, Pairs>(alloc, tokens, at)?);
     let Fields {
         key,
         flags,
@@ -75,14 +53,10 @@ fn map_here(alloc: Global, tokens: &[Token], at: usize) -> Result<Option<(MapDec
         auto_merge,
         comment,
         elements,
-    } = found;
-    let Some(types) = key else {
-        return Ok(None);
-    };
-    let name = Vec::from_slice(alloc, name)?;
+    } = all;
     let decl = MapDecl {
         name,
-        types,
+        types: found!(key),
         flags,
         size,
         auto_merge,
@@ -98,17 +72,13 @@ pub fn set_decl(
     tokens: &[Token],
     at: usize,
 ) -> Result<Option<(SetDecl, usize)>, Memory>
-    // What is read is spelled so.
-    ensures found { IfOk result (λ o. IfSome o (λ x. SpellsSet (set_tree x.0) (ahead tokens.now at) (ahead tokens.now x.1))) }
-    // What is spelled so is read: there is no other set, and where nothing is read there is none.
-    ensures only { (s : SetTree) (to : List Sign) → SpellsSet s (ahead tokens.now at) to → IfOk result (λ o. IsSomeAnd o (λ x. (set_tree x.0 ≡ s) × (ahead tokens.now x.1 ≡ to))) }
-    // It ends within the tokens.
-    ensures within { IfOk result (λ o. IfSome o (λ x. x.1 ≤ length tokens.now)) }
+    // What is read is spelled so, and what is spelled so is read: there is no other set, and where
+    // nothing is read there is none.
+    ensures reads { IfOk result (Reads named_set Anything set_tree tokens.now at) }
     // It is what a reading from left to right gives.
-    ensures read { IfOk result (λ o. option_map (λ x. (set_tree x.0, ahead tokens.now x.1)) o ≡ set_at (ahead tokens.now at)) }
+    ensures read { IfOk result (IsRead set_tree named_set.read tokens.now at) }
 {
-    set_laws();
-    set_here(alloc, tokens, at)
+    named_set(alloc, tokens, at)
 }
 
 /// The one map with a name at this place, and where it ends; none where no map is spelled so.
@@ -117,15 +87,11 @@ pub fn map_decl(
     tokens: &[Token],
     at: usize,
 ) -> Result<Option<(MapDecl, usize)>, Memory>
-    // What is read is spelled so.
-    ensures found { IfOk result (λ o. IfSome o (λ x. SpellsMap (map_tree x.0) (ahead tokens.now at) (ahead tokens.now x.1))) }
-    // What is spelled so is read: there is no other map, and where nothing is read there is none.
-    ensures only { (m : MapTree) (to : List Sign) → SpellsMap m (ahead tokens.now at) to → IfOk result (λ o. IsSomeAnd o (λ x. (map_tree x.0 ≡ m) × (ahead tokens.now x.1 ≡ to))) }
-    // It ends within the tokens.
-    ensures within { IfOk result (λ o. IfSome o (λ x. x.1 ≤ length tokens.now)) }
+    // What is read is spelled so, and what is spelled so is read: there is no other map, and where
+    // nothing is read there is none.
+    ensures reads { IfOk result (Reads named_map Anything map_tree tokens.now at) }
     // It is what a reading from left to right gives.
-    ensures read { IfOk result (λ o. option_map (λ x. (map_tree x.0, ahead tokens.now x.1)) o ≡ map_at (ahead tokens.now at)) }
+    ensures read { IfOk result (IsRead map_tree named_map.read tokens.now at) }
 {
-    set_laws();
-    map_here(alloc, tokens, at)
+    named_map(alloc, tokens, at)
 }

@@ -1,106 +1,100 @@
 //! The types of a set's elements, and of a map's keys and data.
-ghost use Rattle.std.specs.Prelude.{◌≡◌, List, Option, IfOk};
-ghost use Rattle.nft_lexer.specs.Sign.{Sign};
+ghost use Rattle.std.specs.Prelude.{IfOk};
+ghost use Rattle.nft_lexer.specs.declared.token.Mark.TheVariants.{Dot};
+ghost use Rattle.nft_tree.specs.declared.selector.ValueType.{ValueType};
 ghost use Rattle.nft_tree.specs.declared.set.MapType.{MapType};
 ghost use Rattle.nft_tree.specs.Tree.{SetTypeTree, set_type_tree};
-ghost use Rattle.std.specs.Option.{option_map};
-ghost use Rattle.token_reader.specs.Places.{ahead};
-ghost use Rattle.token_reader.specs.steps.Reading.{all_at, with_front};
-ghost use Rattle.token_reader.specs.steps.Laws.{Shortens};
-ghost use Rattle.nft_sets.specs.steps.Reading.{type_at, next_type_at, types_at, typeof_at, set_type_at, data_type_at, data_selector_at, type_pair_at, selector_pair_at, map_type_at};
+ghost use Rattle.token_reader.specs.Readers.{IsRead};
+ghost use Rattle.nft_sets.specs.Sets.{data_selector, data_type, map_type, set_type, value_type, value_types};
 
-use crate::parts::Part;
 use nft_lexer::{Mark, Token};
-use nft_selectors::{anysel, selector_laws, selectors};
+use nft_selectors::{anysel, selectors};
 use nft_tree::{MapType, Memory, SelectorOrVerdict, SetType, TypeOrVerdict, ValueType};
 use std::alloc::Global;
-use token_reader::{after_mark, after_word, word};
+use token_reader::{Part, Separator, after_mark, after_word, found, separated, word};
 
 /// TYPE
-#[tactic(auto, unfolding(crate::specs::steps::Reading::type_at))]
+#[tactic(auto, unfolding(crate::specs::Sets::value_type))]
 fn value_type(tokens: &[Token], at: usize) -> Option<(ValueType, usize)>
-    ensures { option_map (λ x. (x.0, ahead tokens.now x.1)) result ≡ type_at (ahead tokens.now at) }
+    ensures { IsRead (λ t. t) value_type.read tokens.now at result }
 {
     let (name, at) = word(tokens, at)?;
     Some((ValueType::named(name)?, at))
 }
 
-/// "." TYPE
-#[tactic(auto, unfolding(crate::specs::steps::Reading::next_type_at))]
-fn next_type(tokens: &[Token], at: usize) -> Option<(ValueType, usize)>
-    ensures { option_map (λ x. (x.0, ahead tokens.now x.1)) result ≡ next_type_at (ahead tokens.now at) }
-{
-    let at = after_mark(tokens, at, Mark::Dot)?;
-    value_type(tokens, at)
+/// The name of a type.
+struct TypeName;
+
+impl Part for TypeName {
+    type Item = ValueType;
+
+    ghost Tree = { ValueType };
+
+    ghost tree = { λ t. t };
+
+    ghost read_at = { value_type.read };
+
+    fn read(
+        _alloc: Global,
+        tokens: &[Token],
+        at: usize,
+    ) -> Result<Option<(ValueType, usize)>, Memory> {
+        Ok(value_type(tokens, at))
+    }
 }
 
-/// {"." TYPE}, each type put at the end of `found`.
-fn more_types(tokens: &[Token], at: usize, found: &mut Vec<ValueType>) -> Result<usize, Memory>
-    ensures { IfOk result (λ end. (found.new.items, ahead tokens.now end) ≡ with_front found.old.items (all_at next_type_at (ahead tokens.now at))) }
-{
-    let mut here = at;
-    while let Some((next, after)) = next_type(tokens, here) {
-        found.push(next)?;
-        here = after;
+struct Dot;
+
+impl Separator for Dot {
+    ghost mark = { Dot };
+
+    fn mark() -> Mark {
+        Mark::Dot
     }
-    Ok(here)
 }
 
 /// TYPE {"." TYPE}
-#[tactic(auto, unfolding(crate::specs::steps::Reading::types_at))]
-fn types(alloc: Global, tokens: &[Token], at: usize) -> Result<Option<(SetType, usize)>, Memory>
-    ensures { IfOk result (λ o. option_map (λ x. (set_type_tree x.0, ahead tokens.now x.1)) o ≡ types_at (ahead tokens.now at)) }
+#[tactic(auto, unfolding(crate::specs::Sets::value_types))]
+fn value_types(
+    alloc: Global,
+    tokens: &[Token],
+    at: usize,
+) -> Result<Option<(Vec<ValueType>, usize)>, Memory>
+    ensures { IfOk result (IsRead (λ found. found.items) value_types.read tokens.now at) }
 {
-    let Some((first, at)) = value_type(tokens, at) else {
-        return Ok(None);
-    };
-    let mut found = Vec::new(alloc);
-    found.push(first)?;
-    let at = more_types(tokens, at, &mut found)?;
-    Ok(Some((SetType::Types(found), at)))
-}
-
-/// keys
-#[tactic(auto, unfolding(crate::specs::steps::Reading::typeof_at))]
-fn type_of(alloc: Global, tokens: &[Token], at: usize) -> Result<Option<(SetType, usize)>, Memory>
-    ensures { IfOk result (λ o. option_map (λ x. (set_type_tree x.0, ahead tokens.now x.1)) o ≡ typeof_at (ahead tokens.now at)) }
-{
-    let Some((found, at)) = selectors(alloc, tokens, at)? else {
-        return Ok(None);
-    };
-    Ok(Some((SetType::Selectors(found), at)))
+    separated::<Dot, TypeName>(alloc, tokens, at)
 }
 
 /// "type" TYPE {"." TYPE} | "typeof" keys
-#[tactic(auto, unfolding(crate::specs::steps::Reading::set_type_at))]
+#[tactic(auto, unfolding(crate::specs::Sets::set_type))]
 fn set_type(alloc: Global, tokens: &[Token], at: usize) -> Result<Option<(SetType, usize)>, Memory>
-    ensures { IfOk result (λ o. option_map (λ x. (set_type_tree x.0, ahead tokens.now x.1)) o ≡ set_type_at (ahead tokens.now at)) }
+    ensures { IfOk result (IsRead set_type_tree set_type.read tokens.now at) }
 {
     if let Some(at) = after_word(tokens, at, b"type") {
-        return types(alloc, tokens, at);
+        let (found, at) = found!(value_types(alloc, tokens, at)?);
+        return Ok(Some((SetType::Types(found), at)));
     }
-    match after_word(tokens, at, b"typeof") {
-        Some(at) => type_of(alloc, tokens, at),
-        None => Ok(None),
-    }
+    let at = found!(after_word(tokens, at, b"typeof"));
+    let (found, at) = found!(selectors(alloc, tokens, at)?);
+    Ok(Some((SetType::Selectors(found), at)))
 }
 
 /// TYPE | "verdict"
-#[tactic(auto, unfolding(crate::specs::steps::Reading::data_type_at))]
+#[tactic(auto, unfolding(crate::specs::Sets::data_type))]
 fn data_type(tokens: &[Token], at: usize) -> Option<(TypeOrVerdict, usize)>
-    ensures { option_map (λ x. (x.0, ahead tokens.now x.1)) result ≡ data_type_at (ahead tokens.now at) }
+    ensures { IsRead (λ t. t) data_type.read tokens.now at result }
 {
-    if let Some((found, at)) = value_type(tokens, at) {
-        return Some((TypeOrVerdict::Type(found), at));
+    let (name, at) = word(tokens, at)?;
+    if name == b"verdict".as_slice() {
+        return Some((TypeOrVerdict::Verdict, at));
     }
-    let at = after_word(tokens, at, b"verdict")?;
-    Some((TypeOrVerdict::Verdict, at))
+    Some((TypeOrVerdict::Type(ValueType::named(name)?), at))
 }
 
 /// anysel | "verdict"
-#[tactic(auto, unfolding(crate::specs::steps::Reading::data_selector_at))]
+#[tactic(auto, unfolding(crate::specs::Sets::data_selector))]
 fn data_selector(tokens: &[Token], at: usize) -> Option<(SelectorOrVerdict, usize)>
-    ensures { option_map (λ x. (x.0, ahead tokens.now x.1)) result ≡ data_selector_at (ahead tokens.now at) }
+    ensures { IsRead (λ s. s) data_selector.read tokens.now at result }
 {
     if let Some((found, at)) = anysel(tokens, at) {
         return Some((SelectorOrVerdict::Selector(found), at));
@@ -109,46 +103,34 @@ fn data_selector(tokens: &[Token], at: usize) -> Option<(SelectorOrVerdict, usiz
     Some((SelectorOrVerdict::Verdict, at))
 }
 
-/// TYPE ":" (TYPE | "verdict")
-#[tactic(auto, unfolding(crate::specs::steps::Reading::type_pair_at))]
-fn type_pair(tokens: &[Token], at: usize) -> Option<(MapType, usize)>
-    ensures { option_map (λ x. (x.0, ahead tokens.now x.1)) result ≡ type_pair_at (ahead tokens.now at) }
+/// "type" TYPE ":" (TYPE | "verdict") | "typeof" anysel ":" (anysel | "verdict")
+#[tactic(auto, unfolding(crate::specs::Sets::map_type))]
+fn map_type(tokens: &[Token], at: usize) -> Option<(MapType, usize)>
+    ensures { IsRead (λ t. t) map_type.read tokens.now at result }
 {
-    let (key, at) = value_type(tokens, at)?;
-    let at = after_mark(tokens, at, Mark::Colon)?;
-    let (value, at) = data_type(tokens, at)?;
-    Some((MapType::Types(key, value), at))
-}
-
-/// anysel ":" (anysel | "verdict")
-#[tactic(auto, unfolding(crate::specs::steps::Reading::selector_pair_at))]
-fn selector_pair(tokens: &[Token], at: usize) -> Option<(MapType, usize)>
-    ensures { option_map (λ x. (x.0, ahead tokens.now x.1)) result ≡ selector_pair_at (ahead tokens.now at) }
-{
+    if let Some(at) = after_word(tokens, at, b"type") {
+        let (key, at) = value_type(tokens, at)?;
+        let at = after_mark(tokens, at, Mark::Colon)?;
+        let (value, at) = data_type(tokens, at)?;
+        return Some((MapType::Types(key, value), at));
+    }
+    let at = after_word(tokens, at, b"typeof")?;
     let (key, at) = anysel(tokens, at)?;
     let at = after_mark(tokens, at, Mark::Colon)?;
     let (value, at) = data_selector(tokens, at)?;
     Some((MapType::Selectors(key, value), at))
 }
 
-/// "type" TYPE ":" (TYPE | "verdict") | "typeof" anysel ":" (anysel | "verdict")
-#[tactic(auto, unfolding(crate::specs::steps::Reading::map_type_at))]
-fn map_type(tokens: &[Token], at: usize) -> Option<(MapType, usize)>
-    ensures { option_map (λ x. (x.0, ahead tokens.now x.1)) result ≡ map_type_at (ahead tokens.now at) }
-{
-    if let Some(at) = after_word(tokens, at, b"type") {
-        return type_pair(tokens, at);
-    }
-    let at = after_word(tokens, at, b"typeof")?;
-    selector_pair(tokens, at)
-}
+pub(crate) struct SetTypes;
 
-impl Part for SetType {
+impl Part for SetTypes {
+    type Item = SetType;
+
     ghost Tree = { SetTypeTree };
 
     ghost tree = { set_type_tree };
 
-    ghost read_at = { set_type_at };
+    ghost read_at = { set_type.read };
 
     fn read(
         alloc: Global,
@@ -157,18 +139,18 @@ impl Part for SetType {
     ) -> Result<Option<(SetType, usize)>, Memory> {
         set_type(alloc, tokens, at)
     }
-
-    fn laws() {
-        selector_laws();
-    }
 }
 
-impl Part for MapType {
+pub(crate) struct MapTypes;
+
+impl Part for MapTypes {
+    type Item = MapType;
+
     ghost Tree = { MapType };
 
     ghost tree = { λ t. t };
 
-    ghost read_at = { map_type_at };
+    ghost read_at = { map_type.read };
 
     fn read(
         _alloc: Global,
@@ -176,9 +158,5 @@ impl Part for MapType {
         at: usize,
     ) -> Result<Option<(MapType, usize)>, Memory> {
         Ok(map_type(tokens, at))
-    }
-
-    fn laws() {
-        selector_laws();
     }
 }

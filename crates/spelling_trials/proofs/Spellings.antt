@@ -1,203 +1,90 @@
--- Spellings that several trials cite, and what spells nothing.
-use Rattle.std.proofs.Common.{refl, inl, inr, ap, List, codes, Bool, IsTrue, zero, suc, sym, drop, [], ◌∷◌, ◌≡◌, ◌∙◌, ◌≢◌}
-use Rattle.std.specs.Prelude.{true, false, IsFalse}
-use Rattle.std.specs.Str.{bytes_eq}
-use Rattle.nft_lexer.specs.declared.token.Mark.TheVariants.{Comma, Semicolon, Colon, Minus}
-use Rattle.nft_lexer.specs.Sign.{Sign, newline, mark, word, number}
-use Rattle.nft_tree.specs.declared.ruleset.Family.{Family}
-use Rattle.nft_tree.specs.declared.statement.Operator.{Operator}
-use Rattle.nft_tree.specs.declared.ruleset.Family.TheVariants.{Ip, Inet}
+-- What is read is spelled, and what spells nothing.
+use Rattle.std.proofs.Common.{◌≡◌, List, [], ◌∷◌, Bool, true, false, cond, Option, Some, None, inl, inr, refl}
+use Rattle.nft_lexer.specs.Sign.{Sign}
+use Rattle.nft_tree.specs.declared.selector.Selector.{Selector}
 use Rattle.nft_tree.specs.declared.selector.Selector.TheVariants as selectors
+use Rattle.nft_tree.specs.declared.statement.Operator.{Operator}
 use Rattle.nft_tree.specs.Tree as tree
-use Rattle.nft_tree.specs.Tree.{Text, VerdictTree, RangeTree, TableTree}
-use Rattle.token_reader.specs.Repeats.{Many, Ends, SomeEnds}
-use Rattle.nft_lists.specs.Elements.{is_verdict_word, SpellsVerdict, SpellsElements, SpellsData}
-use Rattle.nft_matches.specs.Matches.{SpellsMatch}
-use Rattle.nft_rules.specs.Rules.{SpellsRule}
-use Rattle.nft_parser.specs.Rulesets.{SpellsFamily, SpellsFlush, SpellsNextTable, SpellsRuleset}
-use Rattle.spelling_trials.specs.Trials as trials
+use Rattle.nft_tree.specs.Tree.{RangeTree, SetRefTree, FlagTree, Statement, TableTree}
+use Rattle.token_reader.specs.Repeats.{Many}
+use Rattle.token_reader.specs.Grammar.{Grammar}
+use Rattle.token_reader.specs.steps.Laws.{IfSome_at}
+use Rattle.token_reader.specs.steps.Lawful.{Lawful}
+use Rattle.nft_lists.specs.Elements.{comment}
+use Rattle.nft_matches.specs.Matches.{is_range_for, comparison, bits, listed, masked_by, flag_list, masked, test, direct, set_test, matching}
+use Rattle.nft_rules.specs.Rules.{statement, rule, SpellsRule}
+use Rattle.nft_rules.specs.steps.Laws.{lawful_statement}
+use Rattle.nft_parser.specs.Rulesets.{SpellsRuleset}
+use Rattle.nft_parser.specs.steps.Laws.{ruleset_at, ruleset_found}
 
--- meta l4proto { icmp, ipv6-icmp } accept
-pub either_icmp : (rest : List Sign) → SpellsRule trials.either_icmp (trials.either_icmp_tokens rest) rest
-either_icmp rest = record {
-  some = λ e. cc;
-  mid = _;
-  each = (
-    _,
-    (
-      _,
-      _,
-      (_, inl refl, refl),
-      inl refl,
-      (
-        _,
-        refl,
-        record {
-          inner = word (codes "icmp") ∷ mark Comma ∷ word (codes "ipv6-icmp") ∷ [];
-          after = _;
-          joined = refl;
-          closed = refl;
-          listed = (_, _, (_, refl, refl), (_, (_, refl, (_, refl, refl)), refl), inl refl);
-        },
-      ),
-    ),
-    (_, refl, refl),
-  );
-  last = refl;
-}
+pub said : {A : Type 0} (p : Grammar A) → Lawful p → (x : A) (from to : List Sign) → p.read from ≡ Some (x, to) → p.spells x from to
+said p l x from to e = IfSome_at (p.read from) (λ y. p.spells y.0 from y.1) (x, to) e (l.found from)
 
--- iifname "lo" accept
-pub from_loopback : (rest : List Sign) → SpellsRule trials.from_loopback (trials.from_loopback_tokens rest) rest
-from_loopback rest = record {
-  some = λ e. cc;
-  mid = _;
-  each = (_, (_, _, inl refl, refl, inl refl, refl, refl), (_, refl, refl));
-  last = refl;
-}
+pub text_said : (tables : List TableTree) (tokens : List Sign) → ruleset_at tokens ≡ Some tables → SpellsRuleset tables tokens
+text_said tables tokens e = IfSome_at (ruleset_at tokens) (λ t. SpellsRuleset t tokens) tables e (ruleset_found tokens)
 
--- ip saddr @lan4 tcp dport { 22, 80-443 } counter packets 12 bytes 840 accept comment "in"
-pub web_from_lan : (rest : List Sign) → SpellsRule trials.web_from_lan (trials.web_from_lan_tokens rest) rest
-web_from_lan rest = record {
-  some = λ e. cc;
-  mid = _;
-  each = (
-    _,
-    (_, _, (_, inl refl, refl), inl refl, refl),
-    (
-      _,
-      (
-        _,
-        _,
-        (_, inl refl, refl),
-        inl refl,
-        (
-          _,
-          refl,
-          record {
-            inner = number 22 ∷ mark Comma ∷ number 80 ∷ mark Minus ∷ number 443 ∷ [];
-            after = _;
-            joined = refl;
-            closed = refl;
-            listed = (_, _, (_, refl, refl), (_, (_, refl, (_, refl, refl)), refl), inl refl);
-          },
-        ),
-      ),
-      (_, refl, (_, refl, refl)),
-    ),
-  );
-  last = refl;
-}
+-- statements that are read one after the other
+abbrev pub AreRead : List Statement → List Sign → List Sign → Type 0
+AreRead [] from to = from ≡ to
+AreRead (x ∷ xs) from to = (mid : List Sign) × (statement.read from ≡ Some (x, mid)) × AreRead xs mid to
 
--- ct state vmap { invalid : drop, established : accept, related : accept }
-pub judged_by_state : (rest : List Sign) → SpellsRule trials.judged_by_state (trials.judged_by_state_tokens rest) rest
-judged_by_state rest = record {
-  some = λ e. cc;
-  mid = _;
-  each = (
-    _,
-    (
-      _,
-      inl refl,
-      (
-        _,
-        refl,
-        record {
-          inner =
-              word (codes "invalid") ∷ mark Colon ∷ word (codes "drop") ∷ mark Comma ∷ word (codes "established")
-              ∷ mark Colon ∷ word (codes "accept") ∷ mark Comma ∷ word (codes "related") ∷ mark Colon
-              ∷ word (codes "accept") ∷ [];
-          after = _;
-          joined = refl;
-          closed = refl;
-          listed = (
-            _,
-            _,
-            (_, _, refl, refl, refl),
-            (_, (_, refl, (_, _, refl, refl, refl)), (_, (_, refl, (_, _, refl, refl, refl)), refl)),
-            inl refl,
-          );
-        },
-      ),
-    ),
-    refl,
-  );
-  last = refl;
-}
+all_said : (xs : List Statement) (from to : List Sign) → AreRead xs from to → Many statement.spells xs from to
+all_said [] from to e = e
+all_said (x ∷ xs) from to (mid, e, es) = (mid, said statement lawful_statement x from mid e, all_said xs mid to es)
 
--- whether a word of a verdict stands in front
-abbrev pub starts_verdict : List Sign → Bool
-starts_verdict (word w ∷ rest) = is_verdict_word w
-starts_verdict _ = false
+-- a rule without a comment, its statements read so
+pub plain_said : (x : Statement) (xs : List Statement) (from to : List Sign) → AreRead (x ∷ xs) from to → SpellsRule (record { statements = x ∷ xs; comment = None }) from to
+unfolding rule comment
+plain_said x xs from to (a, e, es) = ((x, (xs, None)), refl, (a, said statement lawful_statement x from a e, (to, all_said xs a to es, refl)))
 
--- a verdict begins with one of its words
-pub verdict_starts : (v : VerdictTree) (from to : List Sign) → SpellsVerdict v from to → IsTrue (starts_verdict from)
-verdict_starts tree.accept from to e = ap starts_verdict e
-verdict_starts tree.drop from to e = ap starts_verdict e
-verdict_starts tree.continue from to e = ap starts_verdict e
-verdict_starts tree.return from to e = ap starts_verdict e
-verdict_starts (tree.jump name) from to e = ap starts_verdict e
-verdict_starts (tree.goto name) from to e = ap starts_verdict e
+-- ---- comparisons
 
--- `reject` is no verdict
-pub no_reject : (v : VerdictTree) (rest to : List Sign) → SpellsVerdict v (word (codes "reject") ∷ rest) to → ⊥
-no_reject v rest to e = let h : false ≡ true = verdict_starts v _ to e in cc
+-- all selectors but `ct state`, `ct status` and `tcp flags`
+abbrev pub is_plain : Selector → Bool
+is_plain selectors.CtState = false
+is_plain selectors.CtStatus = false
+is_plain selectors.TcpFlags = false
+is_plain s = true
 
--- `tcp flags` is no selector of a comparison
-pub no_plain_flags : (op : Operator) (r : RangeTree) (from to : List Sign) → SpellsMatch (tree.compare selectors.TcpFlags op r) from to → ⊥
-no_plain_flags op r from to h = let e : false ≡ true = h.3 in cc
+module _ (s : Selector) (op : Operator) (r : RangeTree) where
+  no_set_test : (equal : Bool) (ss : List Selector) (set : SetRefTree) → tree.compare s op r ≡ cond equal (tree.is_in ss set) (tree.not_in ss set) → ⊥
+  no_set_test true ss set e = cc
+  no_set_test false ss set e = cc
 
--- `telnet` is no word of ports
-pub no_unlisted_word : (op : Operator) (from to : List Sign) → SpellsMatch (tree.compare selectors.TcpDestination op (tree.one (tree.word (codes "telnet")))) from to → ⊥
-no_unlisted_word op from to h = let e : false ≡ true = h.6 in cc
+  no_flags : (equal : Option Bool) (wanted : List FlagTree) (mask : Option (List FlagTree)) → listed equal wanted mask ≡ Some (tree.compare s op r) → ⊥
+  no_flags None wanted None e = cc
+  no_flags None wanted (Some mask) e = cc
+  no_flags (Some true) wanted None e = cc
+  no_flags (Some false) wanted None e = cc
+  no_flags (Some true) wanted (Some mask) e = cc
+  no_flags (Some false) wanted (Some mask) e = cc
 
--- `accept` is no value of a map
-pub no_verdict_as_value : (from to : List Sign) → SpellsData (tree.to_value (tree.word (codes "accept"))) from to → ⊥
-no_verdict_as_value from to h = let e : false ≡ true = h.1 in cc
+  no_mask : (equal : Bool) (mask wanted : List FlagTree) → tree.compare s op r ≡ masked_by equal mask wanted → ⊥
+  no_mask true mask wanted e = cc
+  no_mask false mask wanted e = cc
 
--- no element, no list
-pub no_empty_list : (from to : List Sign) → SpellsElements [] from to → ⊥
-no_empty_list from to h = h.listed
+  -- only a plain selector is compared, and only with words that its type lists
+  test_compares : (t : Selector) (from to : List Sign) → (test t).spells (tree.compare s op r) from to → (is_plain s ≡ true) × (is_range_for s r ≡ true)
+  unfolding test comparison bits flag_list masked
+  test_compares selectors.CtState from to h = absurd (let e = h.1 in cc)
+  test_compares selectors.CtStatus from to h = absurd (let e = h.1 in cc)
+  test_compares selectors.TcpFlags from to h =
+      elim h [
+        | inl x ↦ absurd (no_flags x.0.0 x.0.1.0 x.0.1.1 x.1)
+        | inr x ↦ absurd (no_mask x.0.1.0 x.0.0 x.0.1.1 x.1)
+      ]
+  test_compares t from to h =
+      let e = h.1 in
+      let es : s ≡ t = cc in
+      let er : r ≡ h.0.1 = cc in
+      (rw es refl, rw (es, er) h.2.2.1)
 
--- whether the word `table` stands in front
-abbrev pub starts_table : List Sign → Bool
-starts_table (word w ∷ rest) = bytes_eq w (codes "table")
-starts_table _ = false
+  direct_compares : (ss : List Selector) (from to : List Sign) → (direct ss).spells (tree.compare s op r) from to → (is_plain s ≡ true) × (is_range_for s r ≡ true)
+  direct_compares [] from to h = absurd h
+  direct_compares (t ∷ []) from to h = test_compares t from to h
+  direct_compares (t ∷ u ∷ ss) from to h = absurd h
 
--- a table begins with its word
-pub table_starts : (f : Family) (name : Text) (from to : List Sign) → SpellsFamily f name from to → IsTrue (starts_table from)
-table_starts Ip name from to (inl e) = ap starts_table e
-table_starts Ip name from to (inr e) = ap starts_table e
-table_starts Inet name from to e = ap starts_table e
-
--- tokens that begin with no table are no tables
-pub no_tables : (tables : List TableTree) (from : List Sign) → from ≢ [] → IsFalse (starts_table from) → Many SpellsNextTable tables from [] → ⊥
-no_tables [] from some other e = some e
-no_tables (t ∷ ts) from some other (mid, (after, table, ends), more) =
-    let h : false ≡ true = sym other ∙ table_starts t.family t.name from _ table.front in cc
-
--- no end stands before a word
-pub none_before_word : (w : Text) (rest to : List Sign) → Ends (word w ∷ rest) to → word w ∷ rest ≡ to
-none_before_word w rest to (zero, e) = e
-none_before_word w rest to (suc n, (mid, inl e, more)) = absurd (let h : word w ∷ rest ≡ newline ∷ mid = e in cc)
-none_before_word w rest to (suc n, (mid, inr e, more)) =
-    absurd (let h : word w ∷ rest ≡ mark Semicolon ∷ mid = e in cc)
-
--- no token, no end
-pub none_at_last : (from to : List Sign) → [] ≡ from → SomeEnds from to → ⊥
-none_at_last from to empty (mid, inl e, more) = let h : [] ≡ newline ∷ mid = empty ∙ e in cc
-none_at_last from to empty (mid, inr e, more) = let h : [] ≡ mark Semicolon ∷ mid = empty ∙ e in cc
-
--- `flush ruleset` alone
-abbrev pub unended : List Sign
-unended = word (codes "flush") ∷ word (codes "ruleset") ∷ []
-
--- neither a flush nor tables
-pub unended_flush : (tables : List TableTree) (from to : List Sign) → unended ≡ from → SpellsFlush from to → Many SpellsNextTable tables to [] → ⊥
-unended_flush tables from to is (inl e) spelled =
-    no_tables tables to (λ none. let h : unended ≡ [] = is ∙ e ∙ none in cc) (ap starts_table (sym (is ∙ e))) spelled
-unended_flush tables from to is (inr (after, e, ends)) spelled = none_at_last after to (ap (drop 2) (is ∙ e)) ends
-
--- `flush ruleset` wants an end
-pub no_unended_flush : (tables : List TableTree) → SpellsRuleset tables (word (codes "flush") ∷ word (codes "ruleset") ∷ []) → ⊥
-no_unended_flush tables (from, to, ends, flushed, spelled) =
-    unended_flush tables from to (none_before_word _ _ from ends) flushed spelled
+  pub compares : (from to : List Sign) → matching.spells (tree.compare s op r) from to → (is_plain s ≡ true) × (is_range_for s r ≡ true)
+  unfolding matching set_test
+  compares from to (ss, mid, keys, inl h) = absurd (no_set_test _ ss h.0.1 h.1)
+  compares from to (ss, mid, keys, inr h) = direct_compares ss mid to h

@@ -1,4 +1,4 @@
-pub mod Places
-pub mod Tokens
 pub mod Repeats
 pub mod steps
+pub mod Grammar
+pub mod Readers

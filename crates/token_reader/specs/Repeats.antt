@@ -1,6 +1,6 @@
 -- Tokens one after the other. `P x from to` says that the tokens `from` begin with a spelling of x, and that `to` follows it.
-use Rattle.std.specs.Prelude.{◌≡◌, ℕ, zero, suc, List, [], ◌∷◌, ◌++◌, map, ◌⊎◌}
-use Rattle.nft_lexer.specs.declared.token.Mark.TheVariants.{Semicolon}
+use Rattle.std.specs.Prelude.{◌≡◌, ℕ, zero, suc, List, [], ◌∷◌, ◌⊎◌, Bool, true, false}
+use Rattle.nft_lexer.specs.declared.token.Mark.TheVariants.{Semicolon, CloseBrace}
 use Rattle.nft_lexer.specs.Sign.{Sign, newline, mark, word, number, address, string}
 
 -- {x}: one after the other, from the first place to the last
@@ -25,11 +25,6 @@ Ends from to = (n : ℕ) × EndsCounted n from to
 abbrev pub SomeEnds : List Sign → List Sign → Type 0
 SomeEnds from to = (a : List Sign) × SpellsEnd from a × Ends a to
 
--- one of these lists of words stands in front
-abbrev pub OneOf : List (List (List ℕ)) → List Sign → List Sign → Type 0
-OneOf [] from to = ⊥
-OneOf (ws ∷ others) from to = (from ≡ map word ws ++ to) ⊎ OneOf others from to
-
 -- the tokens without the newlines among them
 abbrev pub without_newlines : List Sign → List Sign
 without_newlines [] = []
@@ -39,3 +34,15 @@ without_newlines (word w ∷ ts) = word w ∷ without_newlines ts
 without_newlines (number n ∷ ts) = number n ∷ without_newlines ts
 without_newlines (address a ∷ ts) = address a ∷ without_newlines ts
 without_newlines (string s ∷ ts) = string s ∷ without_newlines ts
+
+-- whether a newline, a semicolon or a closing brace stands in front
+abbrev pub stops : List Sign → Bool
+stops (newline ∷ ts) = true
+stops (mark Semicolon ∷ ts) = true
+stops (mark CloseBrace ∷ ts) = true
+stops ts = false
+
+-- none of these tokens stands in front
+abbrev pub NoneOf : List Sign → List Sign → Type 0
+NoneOf [] ts = Unit
+NoneOf (t ∷ others) ts = ((rest : List Sign) → ts ≡ t ∷ rest → ⊥) × NoneOf others ts

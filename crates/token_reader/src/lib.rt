@@ -6,7 +6,12 @@
 #![tactic(auto)]
 
 mod ends;
+mod found;
+mod parts;
 mod single;
+mod tables;
 
 pub use ends::{after_end, after_ends, skip_ends, stops};
+pub use parts::{Part, Separator, lines, more, repeated, separated};
 pub use single::{address, after_mark, after_word, number, string, word};
+pub use tables::one_of;

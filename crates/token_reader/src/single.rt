@@ -1,15 +1,15 @@
 //! Single tokens at a place.
 
-ghost use Rattle.std.specs.Prelude.{◌≡◌, ◌≤◌, length, option_map, IfSome};
-ghost use Rattle.token_reader.specs.Places.{ahead};
-ghost use Rattle.token_reader.specs.Tokens.{after_word, after_mark, word_at, number_at, address_at, string_at};
+ghost use Rattle.std.specs.Prelude.{◌≡◌, option_map, IfSome};
+ghost use Rattle.token_reader.specs.Readers.{IsAfter, ahead};
+ghost use Rattle.token_reader.specs.steps.Reading.{after_word, after_mark, word_at, number_at, address_at, string_at};
 
 use nft_lexer::{Kind, Mark, Token};
 
 /// The place after the word, where it stands here.
 pub fn after_word(tokens: &[Token], at: usize, word: &[u8]) -> Option<usize>
     ensures read { option_map (ahead tokens.now) result ≡ after_word word.now (ahead tokens.now at) }
-    ensures within { IfSome result (λ end. end ≤ length tokens.now) }
+    ensures within { IfSome result (IsAfter tokens.now at) }
 {
     let token = tokens.get(at)?;
     match token.kind {
@@ -21,7 +21,7 @@ pub fn after_word(tokens: &[Token], at: usize, word: &[u8]) -> Option<usize>
 /// The place after the mark, where it stands here.
 pub fn after_mark(tokens: &[Token], at: usize, mark: Mark) -> Option<usize>
     ensures read { option_map (ahead tokens.now) result ≡ after_mark mark (ahead tokens.now at) }
-    ensures within { IfSome result (λ end. end ≤ length tokens.now) }
+    ensures within { IfSome result (IsAfter tokens.now at) }
 {
     match tokens.get(at)?.kind {
         Kind::Mark(found) if found == mark => Some(at + 1),
@@ -32,7 +32,7 @@ pub fn after_mark(tokens: &[Token], at: usize, mark: Mark) -> Option<usize>
 /// The word here, and the place after it.
 pub fn word<'t>(tokens: &[Token<'t>], at: usize) -> Option<(&'t [u8], usize)>
     ensures read { option_map (λ x. (x.0.now, ahead tokens.now x.1)) result ≡ word_at (ahead tokens.now at) }
-    ensures within { IfSome result (λ x. x.1 ≤ length tokens.now) }
+    ensures within { IfSome result (λ x. IsAfter tokens.now at x.1) }
 {
     let token = tokens.get(at)?;
     match token.kind {
@@ -44,7 +44,7 @@ pub fn word<'t>(tokens: &[Token<'t>], at: usize) -> Option<(&'t [u8], usize)>
 /// The number here, and the place after it.
 pub fn number(tokens: &[Token], at: usize) -> Option<(u64, usize)>
     ensures read { option_map (λ x. (x.0, ahead tokens.now x.1)) result ≡ number_at (ahead tokens.now at) }
-    ensures within { IfSome result (λ x. x.1 ≤ length tokens.now) }
+    ensures within { IfSome result (λ x. IsAfter tokens.now at x.1) }
 {
     match tokens.get(at)?.kind {
         Kind::Number(found) => Some((found, at + 1)),
@@ -55,7 +55,7 @@ pub fn number(tokens: &[Token], at: usize) -> Option<(u64, usize)>
 /// The IPv4 address here, its first group the highest byte, and the place after it.
 pub fn address(tokens: &[Token], at: usize) -> Option<(u32, usize)>
     ensures read { option_map (λ x. (x.0, ahead tokens.now x.1)) result ≡ address_at (ahead tokens.now at) }
-    ensures within { IfSome result (λ x. x.1 ≤ length tokens.now) }
+    ensures within { IfSome result (λ x. IsAfter tokens.now at x.1) }
 {
     match tokens.get(at)?.kind {
         Kind::Address(found) => Some((found, at + 1)),
@@ -66,7 +66,7 @@ pub fn address(tokens: &[Token], at: usize) -> Option<(u32, usize)>
 /// The bytes between the quotes of the string here, and the place after it.
 pub fn string<'t>(tokens: &[Token<'t>], at: usize) -> Option<(&'t [u8], usize)>
     ensures read { option_map (λ x. (x.0.now, ahead tokens.now x.1)) result ≡ string_at (ahead tokens.now at) }
-    ensures within { IfSome result (λ x. x.1 ≤ length tokens.now) }
+    ensures within { IfSome result (λ x. IsAfter tokens.now at x.1) }
 {
     match tokens.get(at)?.kind {
         Kind::String(found) => Some((found, at + 1)),

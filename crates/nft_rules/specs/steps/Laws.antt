@@ -1,9 +1,167 @@
--- What holds of reading rules, for the grammar of chains.
-use Rattle.token_reader.specs.steps.Laws.{Finds, FindsAll, Takes}
-use Rattle.nft_rules.specs.Rules.{SpellsRule, Stops, SpellsEndedRule}
-use Rattle.nft_rules.specs.steps.Reading.{ended_rule_at}
+-- What is read as a rule is what spells it.
+use Rattle.std.proofs.Common.{◌≡◌, ℕ, List, [], ◌∷◌, ◌++◌, true, false, Option, Some, inl, inr, refl, sym, ap, subst, ◌∙◌}
+use Rattle.std.specs.Prelude.{codes, option_map}
+use Rattle.nft_lexer.specs.declared.token.Mark.TheVariants.{Semicolon, CloseBrace}
+use Rattle.nft_lexer.specs.Sign.{Sign, newline, mark, word}
+use Rattle.nft_tree.specs.declared.selector.Selector.{Selector}
+use Rattle.nft_tree.specs.declared.selector.Selector.TheVariants.{MetaMark, CtMark}
+use Rattle.nft_tree.specs.Tree as tree
+use Rattle.nft_tree.specs.Tree.{LookTree, OperandTree, MatchTree, Statement}
+use Rattle.token_reader.specs.Repeats.{stops}
+use Rattle.token_reader.specs.Grammar.{Front, line, this_mark, stands, Grammar, when, ◌∣◌}
+use Rattle.token_reader.specs.steps.Laws.{some_is, option_cases, IfSome_at, IfSome_weaker, bind_found, else_found}
+use Rattle.token_reader.specs.steps.TokenLaws.{when_found}
+use Rattle.token_reader.specs.steps.Lawful.{Lawful, stands_apart, neither, stands_left, stands_right, shortens, begins, lawful_keyword, lawful_sign, lawful_number, lawful_address, lawful_string, lawful_then, lawful_after, lawful_either, lawful_maybe, lawful_many, lawful_made, lawful_named}
+use Rattle.nft_selectors.specs.Selectors.{selector, selectors, is_word_for}
+use Rattle.nft_selectors.specs.steps.Laws.{lawful_selector}
+use Rattle.nft_lists.specs.Elements.{range, comment, verdict, elements, set_ref, pairs, map_ref}
+use Rattle.nft_lists.specs.steps.Laws.{lawful_comment, lawful_verdict, lawful_map_ref}
+use Rattle.nft_matches.specs.Matches.{matching, words, flag_list, masked, flag_group, flags, flag, equality}
+use Rattle.nft_matches.specs.steps.Laws.{lawful_matching, match_word}
+use Rattle.nft_rules.specs.Rules.{look, mark_field, operand, ports, to_word, target, nat, counter, log, set_mark, verdict_map, statement, rule, Stops}
+use Rattle.nft_rules.specs.Rules.{ended_rule}
 
-pub record RuleLaws : Type 0 where
-  pub rule_found : Finds SpellsEndedRule ended_rule_at
-  pub rule_only : FindsAll SpellsRule Stops ended_rule_at
-  pub rule_takes : Takes SpellsRule
+lawful_look : Lawful look
+unfolding look selector map_ref
+lawful_look = lawful_made _ (lawful_then lawful_selector (lawful_after (lawful_keyword _) lawful_map_ref refl) refl)
+
+lawful_operand : Lawful operand
+unfolding operand selector map_ref
+lawful_operand =
+    lawful_either (lawful_made _ lawful_number) (lawful_named _ (lawful_then lawful_selector (lawful_maybe (lawful_after (lawful_keyword _) lawful_map_ref refl) refl) refl)) refl refl
+
+lawful_ports : Lawful ports
+unfolding ports
+lawful_ports = lawful_made _ (lawful_then lawful_number (lawful_maybe (lawful_after (lawful_sign _) lawful_number refl) refl) refl)
+
+lawful_to_word : Lawful to_word
+unfolding to_word
+lawful_to_word = lawful_either (lawful_keyword _) (lawful_after (lawful_keyword _) (lawful_keyword _) refl) refl refl
+
+lawful_target : {A B : Type 0} (at_address : ℕ → Option A → B) (looked : LookTree → B) {port : Grammar A} → Lawful port → Lawful (target at_address looked port)
+unfolding look selector
+lawful_target at_address looked port =
+    lawful_either (lawful_made _ (lawful_then lawful_address (lawful_maybe (lawful_after (lawful_sign _) port refl) refl) refl)) (lawful_made looked lawful_look) refl refl
+
+lawful_nat : Lawful nat
+unfolding nat to_word ports look selector
+lawful_nat =
+    lawful_either (lawful_made _ (lawful_after (lawful_keyword _) (lawful_after lawful_to_word (lawful_target _ _ lawful_ports) refl) refl))
+    (lawful_either (lawful_made _ (lawful_after (lawful_keyword _) (lawful_after lawful_to_word (lawful_target _ _ lawful_number) refl) refl))
+    (lawful_either (lawful_made _ (lawful_after (lawful_keyword _) (lawful_maybe (lawful_after (lawful_keyword _) (lawful_after (lawful_sign _) lawful_ports refl) refl) refl) refl))
+    (lawful_made _ (lawful_after (lawful_keyword _) (lawful_maybe (lawful_after (lawful_keyword _) (lawful_after (lawful_sign _) lawful_number refl) refl) refl) refl))
+    refl refl) refl refl) refl refl
+
+lawful_counter : Lawful counter
+unfolding counter
+lawful_counter =
+    lawful_made _ (lawful_after (lawful_keyword _) (lawful_maybe (lawful_made _ (lawful_after (lawful_keyword _) (lawful_then lawful_number (lawful_after (lawful_keyword _) lawful_number refl) refl) refl)) refl) refl)
+
+lawful_log : Lawful log
+unfolding log
+lawful_log = lawful_made _ (lawful_after (lawful_keyword _) (lawful_maybe (lawful_after (lawful_keyword _) lawful_string refl) refl) refl)
+
+-- ---- a statement that begins with a selector
+
+-- the first of two, where no tokens begin with both
+lawful_first : {A : Type 0} {p q : Grammar A} → Lawful p → Lawful q → p.empty ≡ false → q.empty ≡ false
+    → ((x y : A) (from to mid : List Sign) → q.spells x from to → stands q.follow to ≡ false → p.spells y from mid → ⊥) → Lawful (p ∣ q)
+lawful_first {p = p} {q = q} lp lq some other apart = record {
+  found = λ ts. else_found _ (p.read ts) _ _ (lp.found ts) (λ x ex. inl ex) (IfSome_weaker (q.read ts) _ _ (λ x ex. inr ex) (lq.found ts));
+  only = λ x from to s none.
+      let rests = neither p.follow (q.follow ++ when q.empty p.first) to none in
+      let more = neither q.follow (when q.empty p.first) to rests.1 in
+      elim s [
+        | inl a ↦ rw (lp.only x from to a rests.0) refl
+        | inr b ↦
+            elim (option_cases (p.read from)) [
+              | inl e ↦ rw (e, lq.only x from to b more.0) refl
+              | inr y ↦ absurd (apart x y.0.0 from to y.0.1 b more.0 (IfSome_at (p.read from) (λ z. p.spells z.0 from z.1) y.0 y.1 (lp.found from)))
+            ]
+      ];
+  front = λ x from to s.
+      elim s [
+        | inl a ↦ inl (shortens p lp some x from to a, stands_left p.first q.first from (begins p lp some x from to a))
+        | inr b ↦ inl (shortens q lq other x from to b, stands_right p.first q.first from (begins q lq other x from to b))
+      ];
+}
+
+lawful_set_mark : Lawful set_mark
+unfolding set_mark operand selector
+lawful_set_mark = lawful_named _ (lawful_then lawful_selector (lawful_after (lawful_keyword _) lawful_operand refl) refl)
+
+lawful_verdict_map : Lawful verdict_map
+unfolding verdict_map selector map_ref
+lawful_verdict_map = lawful_made _ (lawful_then lawful_selector (lawful_after (lawful_keyword _) lawful_map_ref refl) refl)
+
+-- one selector stands in front, and one thing behind it
+one_selector : (s t : Selector) (from a b : List Sign) → selector.spells s from a → selector.spells t from b → a ≡ b
+unfolding selector
+one_selector s t from a b e f =
+    let same = sym (lawful_selector.only s from a e refl) ∙ lawful_selector.only t from b f refl in
+    ap (λ (x : Selector × List Sign). x.1) (some_is (s, a) (t, b) same)
+
+not_both : (x y : Statement) (from to mid : List Sign) → verdict_map.spells x from to → set_mark.spells y from mid → ⊥
+unfolding verdict_map set_mark
+not_both x y from to mid (v, is, (a, ev, (b, vmap, em))) (w, same, (c, es, (d, set, eo))) =
+    let behind : word (codes "vmap") ∷ b ≡ word (codes "set") ∷ d = sym vmap ∙ one_selector v.0 w.0 from a c ev es ∙ set in
+    absurd cc
+
+-- the type of a mark lists no word
+no_word : (s : Selector) (o : OperandTree) (x : Statement) → option_map (λ m. tree.set_mark m o) (mark_field s) ≡ Some x → is_word_for s (codes "set") ≡ true → ⊥
+no_word MetaMark o x e fits = absurd cc
+no_word CtMark o x e fits = absurd cc
+no_word s o x e fits = absurd cc
+
+no_set_mark : (m : MatchTree) (y : Statement) (from to mid : List Sign) → matching.spells m from to → stands matching.follow to ≡ false → set_mark.spells y from mid → ⊥
+unfolding set_mark
+no_set_mark m y from to mid e none ((s, o), same, (a, es, (b, set, eo))) =
+    no_word s o y same (match_word m from to e none s (codes "set") b (subst (λ (r : List Sign). selector.spells s from r) set es)).0
+
+no_verdict_map : (m : MatchTree) (y : Statement) (from to mid : List Sign) → matching.spells m from to → stands matching.follow to ≡ false → verdict_map.spells y from mid → ⊥
+unfolding verdict_map map_ref
+no_verdict_map m y from to mid e none ((s, map), same, (a, es, (b, vmap, em))) =
+    let plain = (match_word m from to e none s (codes "vmap") b (subst (λ (r : List Sign). selector.spells s from r) vmap es)).1 in
+    let stood = begins map_ref lawful_map_ref refl map b mid em in
+    absurd (cc (plain, stood))
+
+pub lawful_statement : Lawful statement
+unfolding statement counter log verdict nat set_mark verdict_map selector selectors matching
+lawful_statement =
+    lawful_either lawful_counter
+    (lawful_either lawful_log
+    (lawful_either (lawful_made _ lawful_verdict)
+    (lawful_either (lawful_made _ lawful_nat)
+    (lawful_first lawful_set_mark
+    (lawful_first lawful_verdict_map (lawful_made tree.matching lawful_matching) refl refl (λ x y from to mid e none s. no_verdict_map e.0 y from to mid e.2 none s))
+    refl refl (λ x y from to mid e none s.
+    elim e [
+      | inl v ↦ not_both x y from to mid v s
+      | inr m ↦ no_set_mark m.0 y from to mid m.2 (neither matching.follow [] to (neither verdict_map.follow (matching.follow ++ []) to none).1).0 s
+    ]))
+    refl refl) refl refl) refl refl) refl refl
+
+-- ---- rules
+
+lawful_unended : Lawful rule
+unfolding rule statement comment counter log verdict nat set_mark verdict_map operand to_word ports look selector selectors map_ref pairs matching words flag_list masked flag_group flags flag equality range set_ref elements
+lawful_unended = lawful_made _ (lawful_then lawful_statement (lawful_then (lawful_many lawful_statement refl refl) lawful_comment refl) refl)
+
+-- what stops a rule
+abbrev stop_front : List Front
+stop_front = line ∷ this_mark Semicolon ∷ this_mark CloseBrace ∷ []
+
+stop_stands : (ts : List Sign) → Stops ts → stands stop_front ts ≡ true
+stop_stands [] e = absurd cc
+stop_stands (newline ∷ ts) e = refl
+stop_stands (mark Semicolon ∷ ts) e = refl
+stop_stands (mark CloseBrace ∷ ts) e = refl
+stop_stands ts e = absurd cc
+
+pub lawful_rule : Lawful ended_rule
+unfolding ended_rule rule statement comment counter log verdict nat set_mark verdict_map operand to_word ports look selector selectors map_ref pairs matching words flag_list masked flag_group flags flag equality range set_ref elements
+lawful_rule = record {
+  found = λ ts. bind_found _ (rule.read ts) _ (lawful_unended.found ts) (λ r e. when_found _ (stops r.1) r (λ stop. (e, stop)));
+  only = λ r from to e none. rw (lawful_unended.only r from to e.0 (stands_apart rule.follow stop_front to refl (stop_stands to e.1)), e.1) refl;
+  front = λ r from to e. lawful_unended.front r from to e.0;
+}

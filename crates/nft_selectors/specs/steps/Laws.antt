@@ -1,34 +1,36 @@
--- What holds of reading selectors, for the grammars above.
-use Rattle.std.specs.Prelude.{◌≡◌, ℕ, List, [], ◌∷◌, Bool, false, None, codes}
-use Rattle.std.specs.List.{list_any}
-use Rattle.std.specs.Str.{bytes_eq}
+-- What is read as selectors is what spells them.
+use Rattle.std.proofs.Common.{◌≡◌, List, Some, inl, inr, refl}
+use Rattle.std.specs.Prelude.{codes}
 use Rattle.nft_lexer.specs.declared.token.Mark.TheVariants.{Dot}
-use Rattle.nft_lexer.specs.Sign.{Sign, word}
-use Rattle.token_reader.specs.Tokens.{after_mark}
-use Rattle.token_reader.specs.steps.Laws.{Finds, FindsAll, Takes, Always}
-use Rattle.nft_selectors.specs.Selectors.{EndsSelectors, SpellsSelector, SpellsSelectors}
-use Rattle.nft_selectors.specs.steps.Reading.{selector_at, selectors_at}
+use Rattle.nft_lexer.specs.Sign.{Sign}
+use Rattle.nft_tree.specs.declared.selector.Selector.{Selector}
+use Rattle.token_reader.specs.Grammar.{sign, ◌▹◌}
+use Rattle.token_reader.specs.steps.Laws.{option_cases, IfSome_at}
+use Rattle.token_reader.specs.steps.Lawful.{Lawful, lawful_keyword, lawful_sign, lawful_one_of, lawful_after, lawful_either, lawful_separated, separated_only}
+use Rattle.nft_selectors.specs.Selectors.{EndsSelectors, in_ip, in_meta, in_tcp, in_udp, in_th, in_icmp, in_ct, alone, selector, selectors}
 
--- no dot stands in front, which would go on with the selectors
-abbrev pub NoDot : List Sign → Type 0
-NoDot ts = after_mark Dot ts ≡ None
+pub lawful_selector : Lawful selector
+unfolding selector
+lawful_selector =
+    lawful_either (lawful_after (lawful_keyword (codes "ip")) (lawful_one_of in_ip refl) refl)
+    (lawful_either (lawful_after (lawful_keyword (codes "meta")) (lawful_one_of in_meta refl) refl)
+    (lawful_either (lawful_after (lawful_keyword (codes "tcp")) (lawful_one_of in_tcp refl) refl)
+    (lawful_either (lawful_after (lawful_keyword (codes "udp")) (lawful_one_of in_udp refl) refl)
+    (lawful_either (lawful_after (lawful_keyword (codes "th")) (lawful_one_of in_th refl) refl)
+    (lawful_either (lawful_after (lawful_keyword (codes "icmp")) (lawful_one_of in_icmp refl) refl)
+    (lawful_either (lawful_after (lawful_keyword (codes "ct")) (lawful_one_of in_ct refl) refl) (lawful_one_of alone refl) refl refl) refl refl) refl refl) refl refl) refl refl) refl refl) refl refl
 
--- the words that a selector may begin with
-abbrev pub first_words : List (List ℕ)
-first_words =
-    codes "ip" ∷ codes "meta" ∷ codes "tcp" ∷ codes "udp" ∷ codes "th" ∷ codes "icmp" ∷ codes "ct"
-    ∷ codes "iifname" ∷ codes "oifname" ∷ codes "iif" ∷ codes "oif" ∷ []
+pub lawful_selectors : Lawful selectors
+unfolding selectors selector
+lawful_selectors = lawful_separated (lawful_sign Dot) lawful_selector refl refl refl refl
 
-abbrev pub begins_selector : List Sign → Bool
-begins_selector (word w ∷ ts) = list_any (bytes_eq w) first_words
-begins_selector _ = false
-
-pub record SelectorLaws : Type 0 where
-  pub selector_found : Finds SpellsSelector selector_at
-  pub selector_only : FindsAll SpellsSelector Always selector_at
-  pub selector_takes : Takes SpellsSelector
-  pub selector_none : (ts : List Sign) → begins_selector ts ≡ false → selector_at ts ≡ None
-  pub selectors_found : Finds SpellsSelectors selectors_at
-  pub selectors_only : FindsAll SpellsSelectors EndsSelectors selectors_at
-  pub no_dot_ends : (ts : List Sign) → NoDot ts → EndsSelectors ts
-  pub selectors_takes : Takes SpellsSelectors
+-- selectors are read up to a place where no further one stands
+pub selectors_only : (ss : List Selector) (from to : List Sign) → selectors.spells ss from to → EndsSelectors to → selectors.read from ≡ Some (ss, to)
+unfolding selectors selector
+selectors_only ss from to s ends =
+    let next = lawful_after (lawful_sign Dot) lawful_selector refl in
+    separated_only (sign Dot) selector (lawful_sign Dot) lawful_selector refl refl next refl ss from to s refl
+    (elim (option_cases ((sign Dot ▹ selector).read to)) [
+      | inl e ↦ e
+      | inr x ↦ absurd (ends x.0.0 x.0.1 (IfSome_at ((sign Dot ▹ selector).read to) (λ y. (sign Dot ▹ selector).spells y.0 to y.1) x.0 x.1 (next.found to)))
+    ])

@@ -1,10 +1,10 @@
 -- What the fields that are read show, without where they lie in memory.
-use Rattle.std.specs.Option.{option_map}
+use Rattle.std.specs.Prelude.{option_map}
 use Rattle.nft_sets.specs.declared.fields.Field.TheVariants as fields
 use Rattle.nft_sets.specs.declared.fields.Field.{Field}
 use Rattle.nft_sets.specs.declared.fields.Fields.{Fields}
 use Rattle.nft_sets.specs.Sets as trees
-use Rattle.nft_sets.specs.steps.Reading.{Collected}
+use Rattle.nft_sets.specs.Sets.{Gathered}
 
 abbrev pub field_tree : {K E T U : Type 0} → (K → T) → (E → U) → Field K E → trees.Field T U
 field_tree key elements (fields.Key k) = trees.key (key k)
@@ -14,5 +14,5 @@ field_tree key elements fields.AutoMerge = trees.auto_merge
 field_tree key elements (fields.Comment text) = trees.comment text.items
 field_tree key elements (fields.Elements es) = trees.elements (elements es)
 
-abbrev pub collected : {K E T U : Type 0} → (K → T) → (E → U) → Fields K E → Collected T U
-collected key elements c = record { key = option_map key c.key; flags = option_map (λ f. f.items) c.flags; size = c.size; auto_merge = c.auto_merge; comment = option_map (λ t. t.items) c.comment; elements = option_map elements c.elements }
+abbrev pub fields_tree : {K E T U : Type 0} → (K → T) → (E → U) → Fields K E → Gathered T U
+fields_tree key elements c = (option_map key c.key, option_map (λ f. f.items) c.flags, c.size, c.auto_merge, option_map (λ t. t.items) c.comment, option_map elements c.elements)

@@ -1,10 +1,9 @@
 -- One after the other while there is a next: what holds of each such reading.
-use Rattle.std.proofs.Common.{◌≡◌, ℕ, zero, suc, ◌<◌, ◌≤◌, List, [], ◌∷◌, ◌++◌, length, Option, Some, None, ◌⊎◌, inl, inr, refl, sym, ap, subst, ◌∙◌, append_assoc, arith}
-use Rattle.std.proofs.lemmas.List.{append-nil}
-use Rattle.std.specs.Prelude.{IfSome, IsSomeAnd, option_map, Result, Ok, Err, IfOk}
+use Rattle.std.proofs.Common.{◌≡◌, ℕ, zero, suc, ◌<◌, ◌≤◌, List, [], ◌∷◌, length, Option, Some, None, ◌⊎◌, inl, inr, refl, sym, ap, subst, ◌∙◌, arith}
+use Rattle.std.specs.Prelude.{IfSome, IsSomeAnd, option_map}
 use Rattle.nft_lexer.specs.Sign.{Sign}
 use Rattle.token_reader.specs.Repeats.{Many}
-use Rattle.token_reader.specs.steps.Reading.{option_else, ◌>>=◌, many_at, all_at, with_front}
+use Rattle.token_reader.specs.steps.Reading.{option_else, ◌>>=◌, many_at, with_front}
 
 pub some_is : {A : Type 0} (x y : A) → ◌≡◌ {A = Option A} (Some x) (Some y) → x ≡ y
 some_is x y e = cc
@@ -12,10 +11,6 @@ some_is x y e = cc
 pub option_cases : {A : Type 0} (o : Option A) → (o ≡ None) ⊎ ((x : A) × (o ≡ Some x))
 option_cases None = inl refl
 option_cases (Some x) = inr (x, refl)
-
--- each reading takes a token
-abbrev pub Shortens : {A : Type 0} → (List Sign → Option (A × List Sign)) → Type 0
-Shortens {A} read = (ts : List Sign) (x : A × List Sign) → read ts ≡ Some x → length x.1 < length ts
 
 pub many_at-none : {A : Type 0} (read : List Sign → Option (A × List Sign)) (n : ℕ) (ts : List Sign) → read ts ≡ None → many_at read n ts ≡ ([], ts)
 unfolding many_at
@@ -25,47 +20,6 @@ many_at-none read (suc n) ts e = rw e refl
 pub many_at-some : {A : Type 0} (read : List Sign → Option (A × List Sign)) (n : ℕ) (ts : List Sign) (x : A × List Sign) → read ts ≡ Some x → many_at read (suc n) ts ≡ with_front (x.0 ∷ []) (many_at read n x.1)
 unfolding many_at
 many_at-some read n ts x e = rw e refl
-
--- without a token nothing is read
-nothing_left : {A : Type 0} (read : List Sign → Option (A × List Sign)) → Shortens read → (ts : List Sign) → length ts ≤ 0 → read ts ≡ None
-nothing_left read shortens ts none =
-    elim (option_cases (read ts)) [
-      | inl e ↦ e
-      | inr w ↦ absurd (omega (arith, shortens ts w.0 w.1))
-    ]
-
--- more turns than tokens change nothing
-pub many_at-enough : {A : Type 0} (read : List Sign → Option (A × List Sign)) → Shortens read → (n m : ℕ) (ts : List Sign) → length ts ≤ n → length ts ≤ m → many_at read n ts ≡ many_at read m ts
-many_at-enough read shortens zero m ts hn hm =
-    let e : read ts ≡ None = nothing_left read shortens ts hn in
-    many_at-none read 0 ts e ∙ sym (many_at-none read m ts e)
-many_at-enough read shortens (suc n) zero ts hn hm =
-    let e : read ts ≡ None = nothing_left read shortens ts hm in
-    many_at-none read (suc n) ts e ∙ sym (many_at-none read 0 ts e)
-many_at-enough read shortens (suc n) (suc m) ts hn hm =
-    elim (option_cases (read ts)) [
-      | inl e ↦ many_at-none read (suc n) ts e ∙ sym (many_at-none read (suc m) ts e)
-      | inr w ↦
-          let less : length w.0.1 < length ts = shortens ts w.0 w.1 in
-          many_at-some read n ts w.0 w.1 ∙ ap (with_front (w.0.0 ∷ [])) (many_at-enough read shortens n m w.0.1 (omega arith) (omega arith)) ∙ sym (many_at-some read m ts w.0 w.1)
-    ]
-
--- a turn of a loop that reads one after the other
-pub goes_on : {A : Type 0} (read : List Sign → Option (A × List Sign)) → Shortens read → (front : List A) (here : List Sign) (x : A × List Sign) (total : List A × List Sign)
-    → read here ≡ Some x → with_front front (all_at read here) ≡ total → with_front (front ++ x.0 ∷ []) (all_at read x.1) ≡ total
-goes_on {A} read shortens front here x total e so_far =
-    let less : length x.1 < length here = shortens here x e in
-    let all : all_at read here ≡ with_front (x.0 ∷ []) (all_at read x.1) =
-    many_at-enough read shortens (length here) (suc (length here)) here (omega arith) (omega arith)
-    ∙ many_at-some read (length here) here x e
-    ∙ ap (with_front (x.0 ∷ [])) (many_at-enough read shortens (length here) (length x.1) x.1 (omega arith) (omega arith)) in
-    ap (λ (xs : List A). (xs, (all_at read x.1).1)) (append_assoc front (x.0 ∷ []) (all_at read x.1).0) ∙ sym (ap (with_front front) all) ∙ so_far
-
--- the end of such a loop
-pub is_done : {A : Type 0} (read : List Sign → Option (A × List Sign)) (front : List A) (here : List Sign) (total : List A × List Sign)
-    → read here ≡ None → with_front front (all_at read here) ≡ total → total ≡ (front, here)
-is_done {A} read front here total e so_far =
-    sym so_far ∙ ap (with_front front) (many_at-none read (length here) here e) ∙ ap (λ (xs : List A). (xs, here)) (append-nil front)
 
 -- a reading gives what is spelled
 abbrev pub Finds : {A : Type 0} → (A → List Sign → List Sign → Type 0) → (List Sign → Option (A × List Sign)) → Type 0
@@ -83,11 +37,6 @@ IfSome_weaker (Some x) P Q k h = k x h
 pub bind_found : {A B : Type 0} {P : A → Type 0} (Q : B → Type 0) (o : Option A) (f : A → Option B) → IfSome o P → ((x : A) → P x → IfSome (f x) Q) → IfSome (o >>= f) Q
 bind_found Q None f h k = tt
 bind_found Q (Some x) f h k = k x h
-
--- a value seen so
-pub map_found : {A B : Type 0} {P : A → Type 0} (Q : B → Type 0) (o : Option A) (f : A → B) → IfSome o P → ((x : A) → P x → Q (f x)) → IfSome (option_map f o) Q
-map_found Q None f h k = tt
-map_found Q (Some x) f h k = k x h
 
 -- a choice
 pub else_found : {A B : Type 0} {P : A → Type 0} (Q : B → Type 0) (o : Option A) (f : A → Option B) (d : Option B) → IfSome o P → ((x : A) → P x → IfSome (f x) Q) → IfSome d Q → IfSome (option_else o f d) Q
@@ -128,9 +77,6 @@ many_only P Follow read only fronts takes (suc n) (x ∷ xs) from to m follow no
     let less : length m.0 < length from = takes x from m.0 m.1 in
     many_at-some read n from (x, m.0) here ∙ ap (with_front (x ∷ [])) (many_only P Follow read only fronts takes n xs m.0 to m.2 follow none (omega arith))
 
-pub shortens_from : {A : Type 0} (P : A → List Sign → List Sign → Type 0) (read : List Sign → Option (A × List Sign)) → Finds P read → Takes P → Shortens read
-shortens_from P read found takes ts x e = takes x.0 ts x.1 (IfSome_at (read ts) (λ x. P x.0 ts x.1) x e (found ts))
-
 pub Many_takes : {A : Type 0} (P : A → List Sign → List Sign → Type 0) → Takes P → (xs : List A) (from to : List Sign) → Many P xs from to → length to ≤ length from
 Many_takes P takes [] from to m = omega (arith, ap length m)
 Many_takes P takes (x ∷ xs) from to m = omega (arith, takes x from m.0 m.1, Many_takes P takes xs m.0 to m.2)
@@ -157,18 +103,3 @@ reader_only view rest read from None e a to only = absurd (cc (e ∙ only))
 reader_only view rest read from (Some x) e a to only =
     let same = some_is (view x.0, rest x.1) (a, to) (e ∙ only) in
     (ap (λ y. y.0) same, ap (λ y. y.1) same)
-
--- and of a reader that takes memory
-pub taking_found : {X A E : Type 0} (P : A → List Sign → List Sign → Type 0) (view : X → A) (rest : ℕ → List Sign) (read : List Sign → Option (A × List Sign)) (from : List Sign) (r : Result (Option (X × ℕ)) E)
-    → IfOk r (λ o. option_map (λ x. (view x.0, rest x.1)) o ≡ read from) → Finds P read → IfOk r (λ o. IfSome o (λ x. P (view x.0) from (rest x.1)))
-taking_found P view rest read from (Ok o) e found = reader_found P view rest read from o e found
-taking_found P view rest read from (Err error) e found = tt
-
-pub taking_only : {X A E : Type 0} (view : X → A) (rest : ℕ → List Sign) (read : List Sign → Option (A × List Sign)) (from : List Sign) (r : Result (Option (X × ℕ)) E)
-    → IfOk r (λ o. option_map (λ x. (view x.0, rest x.1)) o ≡ read from) → (a : A) (to : List Sign) → read from ≡ Some (a, to) → IfOk r (λ o. IsSomeAnd o (λ x. (view x.0 ≡ a) × (rest x.1 ≡ to)))
-taking_only view rest read from (Ok o) e a to only = reader_only view rest read from o e a to only
-taking_only view rest read from (Err error) e a to only = tt
-
--- a fact that holds of all that may follow
-abbrev pub Always : List Sign → Type 0
-Always ts = Unit {0}

@@ -1,7 +1,58 @@
 -- Reading from left to right: what is read at the front of some tokens, and what is left.
-use Rattle.std.specs.Prelude.{ℕ, zero, suc, List, [], ◌∷◌, ◌++◌, length, Option, Some, None}
-use Rattle.nft_lexer.specs.Sign.{Sign}
-pub use Rattle.token_reader.specs.Tokens.{after_word, after_mark, word_at, number_at, address_at, string_at, after_end, after_ends, skip_ends, stops}
+use Rattle.std.specs.Prelude.{ℕ, zero, suc, List, [], ◌∷◌, ◌++◌, length, ◌==◌, Option, Some, None, option_map, if◌then◌else◌}
+use Rattle.std.specs.Borrow.{Bor}
+use Rattle.std.specs.Str.{bytes_eq}
+use Rattle.nft_lexer.specs.declared.token.Mark.{Mark}
+use Rattle.nft_lexer.specs.declared.token.Mark.TheVariants as marks
+use Rattle.nft_lexer.specs.Sign.{Sign, newline, mark, word, number, address, string}
+use Rattle.token_reader.specs.steps.Fronts.{place}
+
+-- ---- single tokens
+
+-- what follows the word, where it stands in front
+abbrev pub after_word : List ℕ → List Sign → Option (List Sign)
+after_word w (word v ∷ ts) = if bytes_eq v w then Some ts else None
+after_word w ts = None
+
+-- what follows the mark, where it stands in front
+abbrev pub after_mark : Mark → List Sign → Option (List Sign)
+after_mark m (mark n ∷ ts) = if place n == place m then Some ts else None
+after_mark m ts = None
+
+-- the word in front, and what follows it; so with numbers, addresses and strings
+abbrev pub word_at : List Sign → Option (List ℕ × List Sign)
+word_at (word w ∷ ts) = Some (w, ts)
+word_at ts = None
+
+abbrev pub number_at : List Sign → Option (ℕ × List Sign)
+number_at (number n ∷ ts) = Some (n, ts)
+number_at ts = None
+
+abbrev pub address_at : List Sign → Option (ℕ × List Sign)
+address_at (address a ∷ ts) = Some (a, ts)
+address_at ts = None
+
+abbrev pub string_at : List Sign → Option (List ℕ × List Sign)
+string_at (string s ∷ ts) = Some (s, ts)
+string_at ts = None
+
+-- ---- ends
+
+-- NL | ";"
+abbrev pub after_end : List Sign → Option (List Sign)
+after_end (newline ∷ ts) = Some ts
+after_end (mark marks.Semicolon ∷ ts) = Some ts
+after_end ts = None
+
+-- {end}: all that stand there
+abbrev pub skip_ends : List Sign → List Sign
+skip_ends (newline ∷ ts) = skip_ends ts
+skip_ends (mark marks.Semicolon ∷ ts) = skip_ends ts
+skip_ends ts = ts
+
+-- end {end}
+abbrev pub after_ends : List Sign → Option (List Sign)
+after_ends ts = option_map skip_ends (after_end ts)
 
 -- ---- steps
 
@@ -28,9 +79,27 @@ all_at read ts = many_at read (length ts) ts
 abbrev pub with_front : {A : Type 0} → List A → List A × List Sign → List A × List Sign
 with_front front x = (front ++ x.0, x.1)
 
--- ---- a table by first words
+-- ---- one after the other
 
--- the row of the word that stands in front, at what follows it
-abbrev pub by_word : {B : Type 0} → List (List ℕ × (List Sign → Option B)) → List Sign → Option B
-by_word [] ts = None
-by_word (row ∷ rows) ts = option_else (after_word row.0 ts) row.1 (by_word rows ts)
+-- one part, and the other after it
+abbrev pub after_at : {A B : Type 0} → (List Sign → Option (A × List Sign)) → (List Sign → Option (B × List Sign)) → List Sign → Option (B × List Sign)
+after_at first second ts = first ts >>= λ x. second x.1
+
+-- a mark, and end {end}, which say nothing
+abbrev pub sign_at : Mark → List Sign → Option (Unit × List Sign)
+sign_at m ts = after_mark m ts >>= λ a. Some (tt, a)
+
+abbrev pub some_ends_at : List Sign → Option (Unit × List Sign)
+some_ends_at ts = after_ends ts >>= λ a. Some (tt, a)
+
+-- x {s x}
+abbrev pub separated_at : {A : Type 0} → (List Sign → Option (Unit × List Sign)) → (List Sign → Option (A × List Sign)) → List Sign → Option (List A × List Sign)
+separated_at separator read ts = read ts >>= λ x. Some (with_front (x.0 ∷ []) (all_at (after_at separator read) x.1))
+
+-- x {end {end} x} {end}
+abbrev pub lines_at : {A : Type 0} → (List Sign → Option (A × List Sign)) → List Sign → Option (List A × List Sign)
+lines_at read ts = separated_at some_ends_at read ts >>= λ xs. Some (xs.0, skip_ends xs.1)
+
+-- a word of a table, without its reference, and what it stands for
+abbrev pub row_of : {A : Type 0} → Bor (List ℕ) × A → List ℕ × A
+row_of row = (row.0.now, row.1)

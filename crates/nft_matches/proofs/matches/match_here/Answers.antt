@@ -1,13 +1,25 @@
+use Rattle.std.proofs.Common.{◌≡◌, List, [], ◌∷◌, false, inl, inr, refl}
+use Rattle.nft_lexer.specs.declared.token.Mark.TheVariants.{Semicolon, CloseBrace}
+use Rattle.nft_lexer.specs.Sign.{Sign, newline, mark, word}
 use Rattle.nft_tree.specs.Tree.{match_tree}
-use Rattle.token_reader.specs.Places.{ahead}
-use Rattle.token_reader.specs.steps.Laws.{taking_found, taking_only}
-use Rattle.nft_matches.specs.Matches.{SpellsMatch}
-use Rattle.nft_matches.specs.steps.Reading.{match_at}
+use Rattle.token_reader.specs.Grammar.{stands}
+use Rattle.token_reader.specs.steps.Lawful.{taking_reads}
+use Rattle.nft_lists.specs.Elements.{elements, range, set_ref}
+use Rattle.nft_matches.specs.Matches.{EndsMatch, equality, flag, flag_group, flag_list, flags, masked, matching, words}
+use Rattle.nft_matches.specs.steps.Laws.{lawful_matching}
 use Rattle.nft_matches.proofs.matches.match_here.Goals as goal
 
-pub returns-clause-found : goal.returns-clause-found
-returns-clause-found c = taking_found SpellsMatch match_tree (ahead c.args.tokens.now) match_at (ahead c.args.tokens.now c.args.at) c.found_here.result c.found_here.ensures.read c.match_laws.ensures.match_found
+-- no word and no stop goes on with a match
+ended : (ts : List Sign) → EndsMatch ts → stands matching.follow ts ≡ false
+unfolding matching words flag_list masked flag_group flags flag equality range set_ref elements
+ended [] ends = refl
+ended (newline ∷ ts) ends = refl
+ended (word w ∷ ts) ends = refl
+ended (mark Semicolon ∷ ts) ends = refl
+ended (mark CloseBrace ∷ ts) ends = refl
+ended ts (inl e) = absurd cc
+ended ts (inr (inl (w, rest, e))) = absurd cc
+ended ts (inr (inr e)) = absurd cc
 
-pub returns-clause-only : goal.returns-clause-only
-returns-clause-only c = λ m to s ends.
-    taking_only match_tree (ahead c.args.tokens.now) match_at (ahead c.args.tokens.now c.args.at) c.found_here.result c.found_here.ensures.read m to (c.match_laws.ensures.match_only m (ahead c.args.tokens.now c.args.at) to s ends)
+pub returns-clause-reads : goal.returns-clause-reads
+returns-clause-reads c = taking_reads lawful_matching EndsMatch ended match_tree c.args.tokens.now c.args.at c.matching.result c.matching.ensures

@@ -1,13 +1,14 @@
-use Rattle.std.proofs.Common.{◌≡◌, ◌⊎◌, ◌∙◌, ap, List, inl, sym, subst}
-use Rattle.nft_lexer.specs.Sign.{signs}
-use Rattle.nft_tree.specs.Tree.{TableTree, tables_of}
+use Rattle.std.proofs.Common.{◌≡◌, ◌⊎◌, ◌∙◌, ap, Some, None, inl, map, sym, subst}
+use Rattle.nft_lexer.specs.Sign.{signs_of, spelled}
+use Rattle.nft_tree.specs.Tree.{tables_of}
+use Rattle.token_reader.specs.steps.TokenLaws.{signs_of-spelled}
 use Rattle.nft_parser.specs.declared.fault.ParseError.{ParseError}
 use Rattle.nft_parser.specs.declared.fault.ParseError.TheVariants.{Refused, Memory}
-use Rattle.nft_parser.specs.declared.fault.TextFault.{TextFault}
-use Rattle.nft_parser.specs.Rulesets.{has_left_out, SpellsRuleset}
+use Rattle.nft_parser.specs.Rulesets.{has_left_out}
 use Rattle.nft_parser.specs.Spells.{HasTextFault}
 use Rattle.nft_parser.specs.steps.Faults.{of_cutting, refusal}
-use Rattle.nft_parser.proofs.TextLaws.{spelled_text, spelled_tokens, refused, refused_only, uncut_only, at_error}
+use Rattle.nft_parser.specs.steps.Laws.{ruleset_at}
+use Rattle.nft_parser.proofs.TextLaws.{read_so, unread_so, uncut_only, at_error}
 use Rattle.nft_parser.proofs.parsing.parse.Goals as goal
 
 pub returns-in_err-tokens-clause-only : goal.returns-in_err-tokens-clause-only
@@ -21,8 +22,10 @@ returns-in_err-tokens-clause-only_fault c = λ fault h.
 
 pub returns-in-Some-clause-found : goal.returns-in-Some-clause-found
 returns-in-Some-clause-found c =
-    let said : SpellsRuleset (tables_of c.in-Some.ruleset) (signs c.deref.result.now) = rw c.in-Some.is at c.in_ok-ruleset.ensures.found in
-    spelled_text (tables_of c.in-Some.ruleset) c.args.text.now c.in_ok-tokens.tokens.items c.in_ok-tokens.ensures.found (rw c.deref.ensures.value at said)
+    let tokens = c.in_ok-tokens.tokens.items in
+    let tree = tables_of c.in-Some.ruleset in
+    let read : ruleset_at (signs_of (map spelled tokens)) ≡ Some tree = rw (signs_of-spelled tokens, sym c.deref.ensures.value) (sym (rw c.in-Some.is at c.in_ok-ruleset.ensures)) in
+    read_so c.args.text.now (map spelled tokens) tree c.in_ok-tokens.ensures.found read
 
 pub returns-in-Some-clause-only : goal.returns-in-Some-clause-only
 returns-in-Some-clause-only c = λ tree s. c.one_tree.ensures.one c.args.text.now (tables_of c.in-Some.ruleset) tree (returns-in-Some-clause-found c) s
@@ -30,20 +33,19 @@ returns-in-Some-clause-only c = λ tree s. c.one_tree.ensures.one c.args.text.no
 pub returns-in-Some-clause-only_fault : goal.returns-in-Some-clause-only_fault
 returns-in-Some-clause-only_fault c = λ fault h. c.one_tree.ensures.faultless c.args.text.now (tables_of c.in-Some.ruleset) fault (returns-in-Some-clause-found c) h
 
--- where nothing is read, no tree is spelled
-none : (c : goal.After-drop-tokens-2) (tree : List TableTree) → SpellsRuleset tree (signs c.in_ok-tokens.tokens.items) → ⊥
-none c tree s = rw c.in-None.is at (c.in_ok-ruleset.ensures.only tree (rw (sym c.deref.ensures.value) at s))
+-- where nothing is read, the fault that is told is the text's
+told : (c : goal.After-drop-tokens-2) → HasTextFault c.args.text.now c.refusal.result
+told c =
+    let tokens = c.in_ok-tokens.tokens.items in
+    let none : ruleset_at (signs_of (map spelled tokens)) ≡ None = rw (signs_of-spelled tokens, sym c.deref.ensures.value) (sym (rw c.in-None.is at c.in_ok-ruleset.ensures)) in
+    let same : c.refusal.result ≡ refusal (has_left_out (signs_of (map spelled tokens))) = rw (signs_of-spelled tokens, sym c.deref-in-None.ensures.value) c.refusal.ensures in
+    rw same (unread_so c.args.text.now (map spelled tokens) c.in_ok-tokens.ensures.found none)
 
 pub returns-clause-only : goal.returns-clause-only
-returns-clause-only c = λ tree s. absurd (none c tree (spelled_tokens tree c.args.text.now c.in_ok-tokens.tokens.items c.in_ok-tokens.ensures.only s))
+returns-clause-only c = λ tree s. absurd (c.one_tree.ensures.faultless c.args.text.now tree c.refusal.result s (told c))
 
 pub returns-clause-fault : goal.returns-clause-fault
-returns-clause-fault c = λ fault e.
-    let told : c.refusal.result ≡ refusal (has_left_out (signs c.in_ok-tokens.tokens.items)) = rw c.deref-in-None.ensures.value at c.refusal.ensures in
-    let same : c.refusal.result ≡ fault = cc in
-    subst (λ (answer : TextFault). HasTextFault c.args.text.now answer) (sym told ∙ same) (refused c.args.text.now c.in_ok-tokens.tokens.items c.in_ok-tokens.ensures.found (none c))
+returns-clause-fault c = λ fault e. let same : c.refusal.result ≡ fault = cc in rw same at (told c)
 
 pub returns-clause-only_fault : goal.returns-clause-only_fault
-returns-clause-only_fault c = λ fault h.
-    let told : c.refusal.result ≡ refusal (has_left_out (signs c.in_ok-tokens.tokens.items)) = rw c.deref-in-None.ensures.value at c.refusal.ensures in
-    inl (ap Refused (told ∙ refused_only c.args.text.now c.in_ok-tokens.tokens.items c.in_ok-tokens.ensures.only c.in_ok-tokens.ensures.only_fault fault h))
+returns-clause-only_fault c = λ fault h. inl (ap Refused (c.one_fault.ensures c.args.text.now c.refusal.result fault (told c) h))

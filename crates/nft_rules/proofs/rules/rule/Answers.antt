@@ -1,14 +1,16 @@
+use Rattle.std.proofs.Common.{refl}
+use Rattle.std.proofs.lemmas.Result.{IfOk-weaker}
+use Rattle.token_reader.specs.Readers.{Anything}
+use Rattle.token_reader.specs.steps.Lawful.{reads_from}
 use Rattle.nft_tree.specs.Tree.{rule_tree}
-use Rattle.token_reader.specs.Places.{ahead}
-use Rattle.token_reader.specs.steps.Laws.{taking_found, taking_only}
-use Rattle.nft_rules.specs.Rules.{SpellsEndedRule}
-use Rattle.nft_rules.specs.steps.Reading.{ended_rule_at}
+use Rattle.nft_rules.specs.Rules.{ended_rule}
+use Rattle.nft_rules.specs.steps.Laws.{lawful_rule}
 use Rattle.nft_rules.proofs.rules.rule.Goals as goal
 
 pub returns-clause-found : goal.returns-clause-found
-returns-clause-found c = taking_found SpellsEndedRule rule_tree (ahead c.args.tokens.now) ended_rule_at (ahead c.args.tokens.now c.args.at) c.ended_rule.result c.ended_rule.ensures.read c.rule_laws.ensures.rule_found
+unfolding ended_rule
+returns-clause-found c = IfOk-weaker c.ended.result _ _ (λ o e. (reads_from lawful_rule Anything (λ ts e. refl) rule_tree c.args.tokens.now c.args.at o e).found) c.ended.ensures
 
 pub returns-clause-only : goal.returns-clause-only
-returns-clause-only c = λ r to s.
-    let here = ahead c.args.tokens.now c.args.at in
-    taking_only rule_tree (ahead c.args.tokens.now) ended_rule_at here c.ended_rule.result c.ended_rule.ensures.read r to (c.rule_laws.ensures.rule_only r here to s.0 s.1)
+unfolding ended_rule
+returns-clause-only c = λ r to spelled. IfOk-weaker c.ended.result _ _ (λ o e. (reads_from lawful_rule Anything (λ ts e. refl) rule_tree c.args.tokens.now c.args.at o e).only r to spelled tt) c.ended.ensures

@@ -1,13 +1,14 @@
-use Rattle.token_reader.specs.Places.{ahead}
-use Rattle.token_reader.specs.steps.Laws.{reader_found, reader_only}
-use Rattle.nft_selectors.specs.Selectors.{SpellsSelector}
-use Rattle.nft_selectors.specs.steps.Reading.{selector_at}
-use Rattle.nft_selectors.proofs.ReadingLaws.{selector_found, selector_only}
+use Rattle.token_reader.specs.Readers.{Anything}
+use Rattle.token_reader.specs.steps.Lawful.{reads_from}
+use Rattle.std.proofs.Common.{refl}
+use Rattle.nft_selectors.specs.Selectors.{selector}
+use Rattle.nft_selectors.specs.steps.Laws.{lawful_selector}
 use Rattle.nft_selectors.proofs.reading.anysel.Goals as goal
 
 pub returns-clause-found : goal.returns-clause-found
-returns-clause-found c = reader_found SpellsSelector (λ s. s) (ahead c.args.tokens.now) selector_at (ahead c.args.tokens.now c.args.at) c.selector.result c.selector.ensures.read selector_found
+unfolding selector
+returns-clause-found c = (reads_from lawful_selector Anything (λ ts e. refl) (λ s. s) c.args.tokens.now c.args.at c.selector.result c.selector.ensures).found
 
 pub returns-clause-only : goal.returns-clause-only
-returns-clause-only c = λ s to spelled.
-    reader_only (λ s. s) (ahead c.args.tokens.now) selector_at (ahead c.args.tokens.now c.args.at) c.selector.result c.selector.ensures.read s to (selector_only s (ahead c.args.tokens.now c.args.at) to spelled tt)
+unfolding selector
+returns-clause-only c = λ s to spelled. (reads_from lawful_selector Anything (λ ts e. refl) (λ s. s) c.args.tokens.now c.args.at c.selector.result c.selector.ensures).only s to spelled tt

@@ -1,14 +1,11 @@
 use Rattle.nft_tree.specs.Tree.{map_tree}
-use Rattle.token_reader.specs.Places.{ahead}
-use Rattle.token_reader.specs.steps.Laws.{taking_found, taking_only}
-use Rattle.nft_sets.specs.Sets.{SpellsMap}
-use Rattle.nft_sets.specs.steps.Reading.{map_at}
+use Rattle.std.proofs.Common.{refl}
+use Rattle.token_reader.specs.Readers.{Anything}
+use Rattle.token_reader.specs.steps.Lawful.{taking_reads}
+use Rattle.nft_sets.specs.Sets.{block, named_map}
+use Rattle.nft_sets.specs.steps.Laws.{lawful_map}
 use Rattle.nft_sets.proofs.sets.map_decl.Goals as goal
 
-pub returns-clause-found : goal.returns-clause-found
-returns-clause-found c = taking_found SpellsMap map_tree (ahead c.args.tokens.now) map_at (ahead c.args.tokens.now c.args.at) c.map_here.result c.map_here.ensures.read c.set_laws.ensures.map_found
-
-pub returns-clause-only : goal.returns-clause-only
-returns-clause-only c = λ tree to spelled.
-    let here = ahead c.args.tokens.now c.args.at in
-    taking_only map_tree (ahead c.args.tokens.now) map_at here c.map_here.result c.map_here.ensures.read tree to (c.set_laws.ensures.map_only tree here to spelled tt)
+pub returns-clause-reads : goal.returns-clause-reads
+unfolding named_map block
+returns-clause-reads c = taking_reads lawful_map Anything (λ ts e. refl) map_tree c.args.tokens.now c.args.at c.named_map.result c.named_map.ensures

@@ -1,11 +1,12 @@
 use Rattle.std.proofs.Common.{◌≡◌, ◌≤◌, length}
-use Rattle.token_reader.specs.Places.{ahead}
-use Rattle.token_reader.specs.Tokens.{skip_ends}
+use Rattle.token_reader.specs.Readers.{ahead}
+use Rattle.token_reader.specs.steps.Reading.{skip_ends}
 use Rattle.token_reader.proofs.ends.skip_ends.Given as goal
 
 abbrev pub invariant-loop-after : goal.invariant-loop-after
 invariant-loop-after l = record {
   read : skip_ends (ahead l.tokens l.here) ≡ skip_ends (ahead l.tokens l.at);
+  after : l.at ≤ l.here;
   within : l.at ≤ length l.tokens → l.here ≤ length l.tokens;
 }
 

@@ -1,7 +1,0 @@
-pub mod ValueLaws
-pub mod VerdictLaws
-pub mod ElementLaws
-pub mod PairLaws
-pub mod ListedLaws
-pub mod BraceLaws
-pub mod ReferenceLaws

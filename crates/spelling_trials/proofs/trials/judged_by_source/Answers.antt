@@ -1,5 +1,0 @@
-use Rattle.std.proofs.Common.{refl, inl}
-use Rattle.spelling_trials.proofs.trials.judged_by_source.Goals as goal
-
-pub returns : goal.returns
-returns c rest = record { some = λ e. cc; mid = _; each = (_, (_, inl refl, refl), refl); last = refl }
