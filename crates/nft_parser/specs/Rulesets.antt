@@ -49,9 +49,7 @@ whole_ruleset = ends ▹ made (λ o. tt) (maybe flush) ▹ many (table ◃ ends)
 abbrev pub SpellsRuleset : List TableTree → List Sign → Type 0
 SpellsRuleset tables tokens = whole_ruleset.spells tables tokens []
 
--- ---- the fault of tokens that spell no ruleset
-
--- words of nft(8) that this profile leaves out
+-- words of nft(8) that this profile leaves out: tokens that spell no ruleset have a fault by them
 abbrev pub left_out : List Text
 left_out =
     codes "define" ∷ codes "undefine" ∷ codes "redefine" ∷ codes "include" ∷ codes "add" ∷ codes "create" ∷ codes "insert" ∷ codes "replace" ∷ codes "delete"

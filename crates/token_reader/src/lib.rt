@@ -1,8 +1,9 @@
-//! Reads single tokens at a place, and what may stand between parts.
+//! Reads single tokens at a place, words of a table, and parts that stand one after the other.
 //!
 //! A place past the last token is one at which nothing stands; each place that a reader gives lies
-//! within the tokens. `specs/Repeats.antt` says what "any number of" means for every grammar on
-//! these tokens, `specs/steps/Laws.antt` what holds of each reading from left to right.
+//! behind the one it began at, and within the tokens. `specs/Grammar.antt` says what a production
+//! is and how productions combine, for every grammar on these tokens; `specs/steps/Lawful.antt`
+//! proves that what is read by a combination is what it spells.
 #![tactic(auto)]
 
 mod ends;
