@@ -92,15 +92,15 @@ unfoldable pub masked : Grammar MatchTree
 masked = made (λ x. masked_by x.1.0 x.0 x.1.1) (sign marks.Ampersand ▹ flag_group ⨾ equality ⨾ flag_group)
 
 -- what tests one selector
-unfoldable pub test : Selector → Grammar MatchTree
-test CtState = bits State CtState
-test CtStatus = bits Status CtStatus
-test TcpFlags = flag_list ∣ masked
-test s = comparison s
+unfoldable pub one_test : Selector → Grammar MatchTree
+one_test CtState = bits State CtState
+one_test CtStatus = bits Status CtStatus
+one_test TcpFlags = flag_list ∣ masked
+one_test s = comparison s
 
 -- what tests no set: just one selector
 abbrev pub direct : List Selector → Grammar MatchTree
-direct (s ∷ []) = test s
+direct (s ∷ []) = one_test s
 direct ss = one_of []
 
 -- ["==" | "!="] setref

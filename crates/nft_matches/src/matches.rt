@@ -8,7 +8,7 @@ ghost use Rattle.token_reader.specs.Readers.{IsRead, Reads, ahead};
 ghost use Rattle.token_reader.specs.steps.Reading.{all_at, with_front};
 ghost use Rattle.nft_selectors.specs.Selectors.{selector};
 ghost use Rattle.nft_matches.specs.steps.Reading.{match_after};
-ghost use Rattle.nft_matches.specs.Matches.{EndsMatch, matching, test};
+ghost use Rattle.nft_matches.specs.Matches.{EndsMatch, matching, one_test};
 
 use crate::bits::bits;
 use crate::comparisons::comparison;
@@ -22,14 +22,14 @@ use std::alloc::Global;
 use token_reader::{Part, after_mark, found, more};
 
 /// What tests one selector: bits, flags, or [op] one
-#[tactic(auto, unfolding(crate::specs::Matches::test))]
+#[tactic(auto, unfolding(crate::specs::Matches::one_test))]
 fn test(
     alloc: Global,
     tokens: &[Token],
     at: usize,
     selector: Selector,
 ) -> Result<Option<(Match, usize)>, Memory>
-    ensures { IfOk result (IsRead match_tree (test selector).read tokens.now at) }
+    ensures { IfOk result (IsRead match_tree (one_test selector).read tokens.now at) }
 {
     match selector {
         Selector::CtState => bits(alloc, tokens, at, BitField::State, selector),

@@ -11,7 +11,7 @@ use Rattle.token_reader.specs.Grammar.{Grammar}
 use Rattle.token_reader.specs.steps.Laws.{IfSome_at}
 use Rattle.token_reader.specs.steps.Lawful.{Lawful}
 use Rattle.nft_lists.specs.Elements.{comment}
-use Rattle.nft_matches.specs.Matches.{is_range_for, comparison, bits, listed, masked_by, flag_list, masked, test, direct, set_test, matching}
+use Rattle.nft_matches.specs.Matches.{is_range_for, comparison, bits, listed, masked_by, flag_list, masked, one_test, direct, set_test, matching}
 use Rattle.nft_rules.specs.Rules.{statement, rule, SpellsRule}
 use Rattle.nft_rules.specs.steps.Laws.{lawful_statement}
 use Rattle.nft_parser.specs.Rulesets.{SpellsRuleset}
@@ -64,8 +64,8 @@ module _ (s : Selector) (op : Operator) (r : RangeTree) where
   no_mask false mask wanted e = cc
 
   -- only a plain selector is compared, and only with words that its type lists
-  test_compares : (t : Selector) (from to : List Sign) → (test t).spells (tree.compare s op r) from to → (is_plain s ≡ true) × (is_range_for s r ≡ true)
-  unfolding test comparison bits flag_list masked
+  test_compares : (t : Selector) (from to : List Sign) → (one_test t).spells (tree.compare s op r) from to → (is_plain s ≡ true) × (is_range_for s r ≡ true)
+  unfolding one_test comparison bits flag_list masked
   test_compares selectors.CtState from to h = absurd (let e = h.1 in cc)
   test_compares selectors.CtStatus from to h = absurd (let e = h.1 in cc)
   test_compares selectors.TcpFlags from to h =

@@ -21,7 +21,7 @@ use Rattle.nft_selectors.specs.Selectors.{is_word_for, selector, selectors}
 use Rattle.nft_selectors.specs.steps.Laws.{lawful_selector, lawful_selectors}
 use Rattle.nft_lists.specs.Elements.{elements, range, set_ref, sign_of}
 use Rattle.nft_lists.specs.steps.Laws.{lawful_range, lawful_set_ref}
-use Rattle.nft_matches.specs.Matches.{bits, comparison, direct, equality, flag, flag_group, flag_list, flags, inequality, is_flag, is_range_for, is_value_for, masked, matching, operator, set_test, test, words}
+use Rattle.nft_matches.specs.Matches.{bits, comparison, direct, equality, flag, flag_group, flag_list, flags, inequality, is_flag, is_range_for, is_value_for, masked, matching, operator, set_test, one_test, words}
 
 lawful_equality : Lawful equality
 unfolding equality
@@ -160,8 +160,8 @@ flags_direct = record {
   no_set = flags_no_set;
 }
 
-test_direct : (s : Selector) → IsDirect (test s)
-unfolding test
+test_direct : (s : Selector) → IsDirect (one_test s)
+unfolding one_test
 test_direct CtState = bits_direct State CtState
 test_direct CtStatus = bits_direct Status CtStatus
 test_direct TcpFlags = flags_direct
@@ -286,8 +286,8 @@ comparison_fits : (s : Selector) (m : MatchTree) (w : Text) (a to : List Sign) �
 unfolding comparison
 comparison_fits s m w a to (x, same, (mid, op, one)) none = range_fits s x.1 w a to (rw (no_operator x.0 w a mid op) at one) none
 
-test_fits : (s : Selector) (m : MatchTree) (w : Text) (a to : List Sign) → (test s).spells m (word w ∷ a) to → stands set_ref.first to ≡ false → Fits s w a
-unfolding test
+test_fits : (s : Selector) (m : MatchTree) (w : Text) (a to : List Sign) → (one_test s).spells m (word w ∷ a) to → stands set_ref.first to ≡ false → Fits s w a
+unfolding one_test
 test_fits CtState = bits_fit State CtState
 test_fits CtStatus = bits_fit Status CtStatus
 test_fits TcpFlags = flag_test_fits
@@ -296,7 +296,7 @@ test_fits s = comparison_fits s
 tested_fits : (s : Selector) (m : MatchTree) (w : Text) (a to : List Sign) → (set_test (s ∷ []) ∣ direct (s ∷ [])).spells m (word w ∷ a) to → stands set_ref.first to ≡ false → Fits s w a
 unfolding set_test equality set_ref
 tested_fits s m w a to (inl set) none = absurd (cc (begins (set_test (s ∷ [])) (lawful_set_test (s ∷ [])) refl m (word w ∷ a) to set))
-tested_fits s m w a to (inr test) none = test_fits s m w a to test none
+tested_fits s m w a to (inr one_test) none = test_fits s m w a to one_test none
 
 only_key : (ts : List Selector) (s : Selector) (m : MatchTree) (w : Text) (a mid to : List Sign) → Many (sign Dot ▹ selector).spells ts (word w ∷ a) mid → (set_test (s ∷ ts) ∣ direct (s ∷ ts)).spells m mid to → stands set_ref.first to ≡ false → Fits s w a
 only_key [] s m w a mid to last tested none = tested_fits s m w a to (rw (sym last) at tested) none

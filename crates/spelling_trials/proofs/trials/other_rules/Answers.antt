@@ -3,7 +3,7 @@ use Rattle.token_reader.specs.steps.Reading.{many_at}
 use Rattle.nft_selectors.specs.Selectors.{selector}
 use Rattle.nft_lists.specs.Elements.{range, key, element, comment, verdict, map_data, pair, elements, pairs, set_ref, map_ref}
 use Rattle.nft_lists.specs.steps.Reading.{one_or_prefix, range_after, key_after, enclosed_at, listed_at, up_to_brace_at}
-use Rattle.nft_matches.specs.Matches.{equality, inequality, operator, comparison, test, set_test, matching}
+use Rattle.nft_matches.specs.Matches.{equality, inequality, operator, comparison, one_test, set_test, matching}
 use Rattle.nft_rules.specs.Rules.{look, operand, ports, to_word, nat, counter, log, set_mark, verdict_map, statement, rule}
 use Rattle.nft_selectors.specs.steps.Laws.{lawful_selector}
 use Rattle.nft_rules.specs.steps.Laws.{lawful_statement}
@@ -12,7 +12,7 @@ use Rattle.spelling_trials.proofs.trials.other_rules.Goals as goal
 
 -- what is read on where others might follow is spelled by hand
 pub returns : goal.returns
-unfolding many_at selector one_or_prefix range_after key_after enclosed_at listed_at up_to_brace_at range key element comment verdict map_data pair elements pairs set_ref map_ref equality inequality operator comparison test set_test matching look operand ports to_word nat counter log set_mark verdict_map statement rule
+unfolding many_at selector one_or_prefix range_after key_after enclosed_at listed_at up_to_brace_at range key element comment verdict map_data pair elements pairs set_ref map_ref equality inequality operator comparison one_test set_test matching look operand ports to_word nat counter log set_mark verdict_map statement rule
 returns c = record {
   goto_b = λ rest. plain_said _ _ _ rest (_, refl, refl);
   judged_by_source = λ rest. plain_said _ _ _ rest (_, refl, refl);
