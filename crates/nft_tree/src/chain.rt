@@ -83,8 +83,13 @@ pub enum Policy {
 }
 
 /// A rule: its statements from left to right, and its comment.
-#[derive(Drop)]
 pub struct Rule {
     pub statements: Vec<Stmt>,
     pub comment: Option<Vec<u8>>,
+}
+
+impl Drop for Rule {
+    fn drop(self) {
+        let Rule { statements: _, comment: _ } = self;
+    }
 }

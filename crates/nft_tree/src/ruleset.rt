@@ -25,13 +25,23 @@ pub enum Family {
 }
 
 /// What a table holds.
-#[derive(Drop)]
 pub enum Item {
     /// `comment "TEXT"`
     Comment(Vec<u8>),
     Chain(Chain),
     Set(SetDecl),
     Map(MapDecl),
+}
+
+impl Drop for Item {
+    fn drop(self) {
+        match self {
+            Item::Comment(_) => {}
+            Item::Chain(_) => {}
+            Item::Set(_) => {}
+            Item::Map(_) => {}
+        }
+    }
 }
 
 /// The place of a rule: its table and its chain within the table from 0, in text order, and the

@@ -64,10 +64,15 @@ pub enum SetFlag {
 }
 
 /// An element of a set, and its comment.
-#[derive(Drop)]
 pub struct Element {
     pub key: Key,
     pub comment: Option<Vec<u8>>,
+}
+
+impl Drop for Element {
+    fn drop(self) {
+        let Element { key: _, comment: _ } = self;
+    }
 }
 
 /// What an element holds: a value, a range or a prefix, or values joined.
@@ -79,11 +84,16 @@ pub enum Key {
 }
 
 /// An element of a map: a key, its comment, and the data.
-#[derive(Drop)]
 pub struct Pair {
     pub key: Range,
     pub comment: Option<Vec<u8>>,
     pub value: Data,
+}
+
+impl Drop for Pair {
+    fn drop(self) {
+        let Pair { key: _, comment: _, value: _ } = self;
+    }
 }
 
 /// The data of a map's element.

@@ -5,7 +5,6 @@ use crate::set::{Element, Pair};
 use crate::word::Range;
 
 /// One statement of a rule.
-#[derive(Drop)]
 pub enum Stmt {
     Match(Match),
     /// `counter`, with its start
@@ -18,6 +17,22 @@ pub enum Stmt {
     VerdictMap(Selector, MapRef),
     Verdict(Verdict),
     Nat(Nat),
+}
+
+/// Written out, as those of rules, items, elements and pairs, so that crates that drop lists of
+/// them prove no more than a call.
+impl Drop for Stmt {
+    fn drop(self) {
+        match self {
+            Stmt::Match(_) => {}
+            Stmt::Counter(_) => {}
+            Stmt::Log(_) => {}
+            Stmt::SetMark(_, _) => {}
+            Stmt::VerdictMap(_, _) => {}
+            Stmt::Verdict(_) => {}
+            Stmt::Nat(_) => {}
+        }
+    }
 }
 
 /// Where a counter begins: `packets NUMBER bytes NUMBER`.

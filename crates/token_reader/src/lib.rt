@@ -13,6 +13,8 @@ mod single;
 mod tables;
 
 pub use ends::{after_end, after_ends, skip_ends, stops};
-pub use parts::{Part, Separator, lines, more, repeated, separated};
-pub use single::{address, after_mark, after_word, number, string, word};
+pub use parts::{Comma, Dot, Part, Separator, lines, more, repeated, separated};
+pub use single::{
+    address, after_mark, after_word, number, number_after, string, string_after, word,
+};
 pub use tables::one_of;

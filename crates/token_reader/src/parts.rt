@@ -3,6 +3,7 @@ ghost use Rattle.std.specs.Prelude.{◌≡◌, ◌≤◌, ℕ, List, Option, len
 ghost use Rattle.nft_lexer.specs.Sign.{Sign};
 ghost use Rattle.token_reader.specs.Readers.{IsRead, ahead};
 ghost use Rattle.nft_lexer.specs.declared.token.Mark.{Mark};
+ghost use Rattle.nft_lexer.specs.declared.token.Mark.TheVariants as marks;
 ghost use Rattle.token_reader.specs.steps.Reading.{after_at, all_at, lines_at, separated_at, sign_at, some_ends_at, with_front};
 
 use crate::ends::{after_ends, skip_ends};
@@ -71,6 +72,28 @@ pub trait Separator {
 
     fn mark() -> Mark
         ensures { result ≡ mark };
+}
+
+/// `,`
+pub struct Comma;
+
+impl Separator for Comma {
+    ghost mark = { marks.Comma };
+
+    fn mark() -> Mark {
+        Mark::Comma
+    }
+}
+
+/// `.`
+pub struct Dot;
+
+impl Separator for Dot {
+    ghost mark = { marks.Dot };
+
+    fn mark() -> Mark {
+        Mark::Dot
+    }
 }
 
 /// A part with the separator before it.

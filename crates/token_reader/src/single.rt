@@ -1,7 +1,8 @@
 //! Single tokens at a place.
 
 ghost use Rattle.std.specs.Prelude.{◌≡◌, option_map, IfSome};
-ghost use Rattle.token_reader.specs.Readers.{IsAfter, ahead};
+ghost use Rattle.token_reader.specs.Grammar.{a_number, a_string, keyword, sign, ◌▹◌};
+ghost use Rattle.token_reader.specs.Readers.{IsAfter, IsRead, ahead};
 ghost use Rattle.token_reader.specs.steps.Reading.{after_word, after_mark, word_at, number_at, address_at, string_at};
 
 use nft_lexer::{Kind, Mark, Token};
@@ -72,4 +73,20 @@ pub fn string<'t>(tokens: &[Token<'t>], at: usize) -> Option<(&'t [u8], usize)>
         Kind::String(found) => Some((found, at + 1)),
         _ => None,
     }
+}
+
+/// The string after the word, where both stand here, and the place after it.
+pub fn string_after<'t>(tokens: &[Token<'t>], at: usize, word: &[u8]) -> Option<(&'t [u8], usize)>
+    ensures { IsRead (λ x. x.now) (keyword word.now ▹ a_string).read tokens.now at result }
+{
+    let at = after_word(tokens, at, word)?;
+    string(tokens, at)
+}
+
+/// The number after the mark, where both stand here, and the place after it.
+pub fn number_after(tokens: &[Token], at: usize, mark: Mark) -> Option<(u64, usize)>
+    ensures { IsRead (λ n. n) (sign mark ▹ a_number).read tokens.now at result }
+{
+    let at = after_mark(tokens, at, mark)?;
+    number(tokens, at)
 }
