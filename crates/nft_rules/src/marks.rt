@@ -2,31 +2,16 @@
 #![tactic(auto, unfolding(crate::specs::Rules::look, crate::specs::Rules::operand))]
 
 ghost use Rattle.std.specs.Prelude.{◌≡◌, IfOk};
-ghost use Rattle.nft_tree.specs.Tree.{look_tree, map_ref_tree, operand_tree};
-ghost use Rattle.token_reader.specs.Grammar.{keyword, ◌▹◌};
+ghost use Rattle.nft_tree.specs.Tree.{look_tree, operand_tree};
 ghost use Rattle.token_reader.specs.Readers.{IsRead};
-ghost use Rattle.nft_lists.specs.Elements.{map_ref};
 ghost use Rattle.nft_rules.specs.Rules.{look, mark_field, operand};
 
 use nft_lexer::Token;
 use nft_lists::map_ref;
 use nft_selectors::anysel;
-use nft_tree::{Look, MapRef, MarkField, Memory, Operand, Selector};
+use nft_tree::{Look, MarkField, Memory, Operand, Selector};
 use std::alloc::Global;
 use token_reader::{after_word, found, number};
-
-/// A map after this word.
-pub(crate) fn map_after(
-    alloc: Global,
-    tokens: &[Token],
-    at: usize,
-    word: &[u8],
-) -> Result<Option<(MapRef, usize)>, Memory>
-    ensures { IfOk result (IsRead map_ref_tree (keyword word.now ▹ map_ref).read tokens.now at) }
-{
-    let at = found!(after_word(tokens, at, word));
-    map_ref(alloc, tokens, at)
-}
 
 /// anysel "map" mapref
 pub(crate) fn look(
@@ -37,7 +22,8 @@ pub(crate) fn look(
     ensures { IfOk result (IsRead look_tree look.read tokens.now at) }
 {
     let (selector, at) = found!(anysel(tokens, at));
-    let (map, at) = found!(map_after(alloc, tokens, at, b"map")?);
+    let at = found!(after_word(tokens, at, b"map"));
+    let (map, at) = found!(map_ref(alloc, tokens, at)?);
     Ok(Some((Look { selector, map }, at)))
 }
 
@@ -64,7 +50,9 @@ pub(crate) fn operand(
         return Ok(Some((Operand::Number(constant), end)));
     }
     let (selector, at) = found!(anysel(tokens, at));
-    if let Some((map, end)) = map_after(alloc, tokens, at, b"map")? {
+    if let Some(after) = after_word(tokens, at, b"map")
+        && let Some((map, end)) = map_ref(alloc, tokens, after)?
+    {
         return Ok(Some((Operand::Look(Look { selector, map }), end)));
     }
     let mark = found!(mark_field(selector));

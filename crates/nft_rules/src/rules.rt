@@ -3,8 +3,7 @@ ghost use Rattle.std.specs.Prelude.{◌≡◌, List, IfOk, IfSome, IsSomeAnd};
 ghost use Rattle.nft_lexer.specs.Sign.{Sign};
 ghost use Rattle.nft_tree.specs.Tree.{RuleTree, rule_tree};
 ghost use Rattle.token_reader.specs.Readers.{IsAfter, IsRead, ahead};
-ghost use Rattle.nft_rules.specs.Rules.{SpellsEndedRule, rule};
-ghost use Rattle.nft_rules.specs.Rules.{ended_rule};
+ghost use Rattle.nft_rules.specs.Rules.{SpellsEndedRule, ended_rule};
 
 use crate::statements::AnyStatement;
 use nft_lexer::Token;
@@ -13,34 +12,27 @@ use nft_tree::{Memory, Rule};
 use std::alloc::Global;
 use token_reader::{Part, found, more, stops};
 
-/// stmt {stmt} ["comment" STRING], whatever follows it.
-#[tactic(auto, unfolding(crate::specs::Rules::rule))]
-fn unended_rule(alloc: Global, tokens: &[Token], at: usize) -> Result<Option<(Rule, usize)>, Memory>
-    ensures { IfOk result (IsRead rule_tree rule.read tokens.now at) }
-{
-    let (first, at) = found!(AnyStatement::read(alloc, tokens, at)?);
-    let mut statements = Vec::new(alloc);
-    statements.push(first)?;
-    let at = more::<AnyStatement>(alloc, tokens, at, &mut statements)?;
-    let (comment, at) = comment(alloc, tokens, at)?;
-    let rule = Rule {
-        statements,
-        comment,
-    };
-    Ok(Some((rule, at)))
-}
-
-/// The same, with what ends a rule after it.
-#[tactic(auto, unfolding(crate::specs::Rules::ended_rule))]
+/// stmt {stmt} ["comment" STRING], with what ends a rule after it.
+#[tactic(auto, unfolding(crate::specs::Rules::rule, crate::specs::Rules::ended_rule))]
 fn ended(alloc: Global, tokens: &[Token], at: usize) -> Result<Option<(Rule, usize)>, Memory>
     ensures { IfOk result (IsRead rule_tree ended_rule.read tokens.now at) }
 {
-    let (rule, end) = found!(unended_rule(alloc, tokens, at)?);
-    if stops(tokens, end) {
-        Ok(Some((rule, end)))
-    } else {
-        Ok(None)
+    let (first, at) = found!(AnyStatement::read(alloc, tokens, at)?);
+    // Most rules have one statement or two, and a vector that grows would take room for four.
+    let mut statements = Vec::with_capacity(alloc, 2)?;
+    statements.push(first)?;
+    let at = more::<AnyStatement>(alloc, tokens, at, &mut statements)?;
+    let (comment, at) = comment(alloc, tokens, at)?;
+    if !stops(tokens, at) {
+        return Ok(None);
     }
+    Ok(Some((
+        Rule {
+            statements,
+            comment,
+        },
+        at,
+    )))
 }
 
 /// The one rule at this place with a newline, a semicolon or a closing brace after it, and where

@@ -1,30 +1,21 @@
 //! Statements.
-ghost use Rattle.std.specs.Prelude.{codes, IfOk};
-ghost use Rattle.nft_tree.specs.Tree.{Statement, matching, operand_tree, statement};
-ghost use Rattle.token_reader.specs.Grammar.{keyword, made, ◌▹◌, ◌∣◌};
+ghost use Rattle.std.specs.Prelude.{IfOk};
+ghost use Rattle.nft_tree.specs.Tree.{Statement, matching, statement};
+ghost use Rattle.token_reader.specs.Grammar.{made, ◌∣◌};
 ghost use Rattle.token_reader.specs.Readers.{IsRead};
 ghost use Rattle.nft_matches.specs.Matches as matches;
 ghost use Rattle.nft_rules.specs.Rules as rules;
 
 use crate::counters::{counter, log};
-use crate::marks::{map_after, mark_field, operand};
+use crate::marks::{mark_field, operand};
 use crate::nat::nat;
 use nft_lexer::Token;
-use nft_lists::verdict;
+use nft_lists::{map_ref, verdict};
 use nft_matches::match_after;
 use nft_selectors::anysel;
-use nft_tree::{Memory, Operand, Stmt};
+use nft_tree::{Memory, Stmt};
 use std::alloc::Global;
-use token_reader::{Part, after_word, found};
-
-/// "set" operand
-#[tactic(auto, unfolding(crate::specs::Rules::set_mark))]
-fn set_to(alloc: Global, tokens: &[Token], at: usize) -> Result<Option<(Operand, usize)>, Memory>
-    ensures { IfOk result (IsRead operand_tree (keyword (codes "set") ▹ rules.operand).read tokens.now at) }
-{
-    let at = found!(after_word(tokens, at, b"set"));
-    operand(alloc, tokens, at)
-}
+use token_reader::{Part, after_word, found, word};
 
 /// ("meta" | "ct") "mark" "set" operand | anysel "vmap" mapref | match
 ///
@@ -34,12 +25,15 @@ fn selected(alloc: Global, tokens: &[Token], at: usize) -> Result<Option<(Stmt, 
     ensures { IfOk result (IsRead statement (rules.set_mark ∣ rules.verdict_map ∣ made matching matches.matching).read tokens.now at) }
 {
     let (selector, at) = found!(anysel(tokens, at));
-    if let Some((operand, end)) = set_to(alloc, tokens, at)? {
-        if let Some(mark) = mark_field(selector) {
-            return Ok(Some((Stmt::SetMark(mark, operand), end)));
-        }
+    if let Some(after) = after_word(tokens, at, b"set")
+        && let Some(mark) = mark_field(selector)
+        && let Some((operand, end)) = operand(alloc, tokens, after)?
+    {
+        return Ok(Some((Stmt::SetMark(mark, operand), end)));
     }
-    if let Some((map, end)) = map_after(alloc, tokens, at, b"vmap")? {
+    if let Some(after) = after_word(tokens, at, b"vmap")
+        && let Some((map, end)) = map_ref(alloc, tokens, after)?
+    {
         return Ok(Some((Stmt::VerdictMap(selector, map), end)));
     }
     let (found, end) = found!(match_after(alloc, tokens, at, selector)?);
@@ -47,25 +41,6 @@ fn selected(alloc: Global, tokens: &[Token], at: usize) -> Result<Option<(Stmt, 
 }
 
 /// stmt = counter | log | verdict | nat | setmark | vmap | match
-#[tactic(auto, unfolding(crate::specs::Rules::statement))]
-fn statement(alloc: Global, tokens: &[Token], at: usize) -> Result<Option<(Stmt, usize)>, Memory>
-    ensures { IfOk result (IsRead statement rules.statement.read tokens.now at) }
-{
-    if let Some(found) = counter(tokens, at) {
-        return Ok(Some(found));
-    }
-    if let Some(found) = log(alloc, tokens, at)? {
-        return Ok(Some(found));
-    }
-    if let Some((found, end)) = verdict(alloc, tokens, at)? {
-        return Ok(Some((Stmt::Verdict(found), end)));
-    }
-    if let Some((found, end)) = nat(alloc, tokens, at)? {
-        return Ok(Some((Stmt::Nat(found), end)));
-    }
-    selected(alloc, tokens, at)
-}
-
 pub(crate) struct AnyStatement;
 
 impl Part for AnyStatement {
@@ -77,7 +52,22 @@ impl Part for AnyStatement {
 
     ghost read_at = { rules.statement.read };
 
+    #[tactic(auto, using(crate::specs::steps::Laws::no_statement), unfolding(crate::specs::Rules::statement))]
     fn read(alloc: Global, tokens: &[Token], at: usize) -> Result<Option<(Stmt, usize)>, Memory> {
-        statement(alloc, tokens, at)
+        // Where no word stands, as at the end of a rule, no keyword is tried.
+        found!(word(tokens, at));
+        if let Some(found) = counter(tokens, at) {
+            return Ok(Some(found));
+        }
+        if let Some(found) = log(alloc, tokens, at)? {
+            return Ok(Some(found));
+        }
+        if let Some((found, end)) = verdict(alloc, tokens, at)? {
+            return Ok(Some((Stmt::Verdict(found), end)));
+        }
+        if let Some((found, end)) = nat(alloc, tokens, at)? {
+            return Ok(Some((Stmt::Nat(found), end)));
+        }
+        selected(alloc, tokens, at)
     }
 }

@@ -1,5 +1,5 @@
 -- What is read as a rule is what spells it.
-use Rattle.std.proofs.Common.{◌≡◌, ℕ, List, [], ◌∷◌, ◌++◌, true, false, Option, Some, inl, inr, refl, sym, ap, subst, ◌∙◌}
+use Rattle.std.proofs.Common.{◌≡◌, ℕ, List, [], ◌∷◌, ◌++◌, true, false, Option, Some, None, inl, inr, refl, sym, ap, subst, ◌∙◌}
 use Rattle.std.specs.Prelude.{codes, option_map}
 use Rattle.nft_lexer.specs.declared.token.Mark.TheVariants.{Semicolon, CloseBrace}
 use Rattle.nft_lexer.specs.Sign.{Sign, newline, mark, word}
@@ -8,10 +8,11 @@ use Rattle.nft_tree.specs.declared.selector.Selector.TheVariants.{MetaMark, CtMa
 use Rattle.nft_tree.specs.Tree as tree
 use Rattle.nft_tree.specs.Tree.{LookTree, OperandTree, MatchTree, Statement}
 use Rattle.token_reader.specs.Repeats.{stops}
-use Rattle.token_reader.specs.Grammar.{Front, line, this_mark, stands, Grammar, when, ◌∣◌}
-use Rattle.token_reader.specs.steps.Laws.{some_is, option_cases, IfSome_at, IfSome_weaker, bind_found, else_found}
+use Rattle.token_reader.specs.Grammar.{Front, line, this_mark, stands, Grammar}
+use Rattle.token_reader.specs.steps.Reading.{word_at}
+use Rattle.token_reader.specs.steps.Laws.{some_is, bind_found}
 use Rattle.token_reader.specs.steps.TokenLaws.{when_found}
-use Rattle.token_reader.specs.steps.Lawful.{Lawful, stands_apart, neither, stands_left, stands_right, shortens, begins, lawful_keyword, lawful_sign, lawful_number, lawful_address, lawful_string, lawful_then, lawful_after, lawful_either, lawful_maybe, lawful_many, lawful_made, lawful_named}
+use Rattle.token_reader.specs.steps.Lawful.{Lawful, stands_apart, neither, begins, lawful_keyword, lawful_sign, lawful_number, lawful_address, lawful_string, lawful_then, lawful_after, lawful_either, lawful_first, lawful_maybe, lawful_many, lawful_made, lawful_named}
 use Rattle.nft_selectors.specs.Selectors.{selector, selectors, is_word_for}
 use Rattle.nft_selectors.specs.steps.Laws.{lawful_selector}
 use Rattle.nft_lists.specs.Elements.{range, comment, verdict, elements, set_ref, pairs, map_ref}
@@ -63,29 +64,6 @@ lawful_log = lawful_made _ (lawful_after (lawful_keyword _) (lawful_maybe (lawfu
 
 -- ---- a statement that begins with a selector
 
--- the first of two, where no tokens begin with both
-lawful_first : {A : Type 0} {p q : Grammar A} → Lawful p → Lawful q → p.empty ≡ false → q.empty ≡ false
-    → ((x y : A) (from to mid : List Sign) → q.spells x from to → stands q.follow to ≡ false → p.spells y from mid → ⊥) → Lawful (p ∣ q)
-lawful_first {p = p} {q = q} lp lq some other apart = record {
-  found = λ ts. else_found _ (p.read ts) _ _ (lp.found ts) (λ x ex. inl ex) (IfSome_weaker (q.read ts) _ _ (λ x ex. inr ex) (lq.found ts));
-  only = λ x from to s none.
-      let rests = neither p.follow (q.follow ++ when q.empty p.first) to none in
-      let more = neither q.follow (when q.empty p.first) to rests.1 in
-      elim s [
-        | inl a ↦ rw (lp.only x from to a rests.0) refl
-        | inr b ↦
-            elim (option_cases (p.read from)) [
-              | inl e ↦ rw (e, lq.only x from to b more.0) refl
-              | inr y ↦ absurd (apart x y.0.0 from to y.0.1 b more.0 (IfSome_at (p.read from) (λ z. p.spells z.0 from z.1) y.0 y.1 (lp.found from)))
-            ]
-      ];
-  front = λ x from to s.
-      elim s [
-        | inl a ↦ inl (shortens p lp some x from to a, stands_left p.first q.first from (begins p lp some x from to a))
-        | inr b ↦ inl (shortens q lq other x from to b, stands_right p.first q.first from (begins q lq other x from to b))
-      ];
-}
-
 lawful_set_mark : Lawful set_mark
 unfolding set_mark operand selector
 lawful_set_mark = lawful_named _ (lawful_then lawful_selector (lawful_after (lawful_keyword _) lawful_operand refl) refl)
@@ -133,13 +111,19 @@ lawful_statement =
     (lawful_either (lawful_made _ lawful_verdict)
     (lawful_either (lawful_made _ lawful_nat)
     (lawful_first lawful_set_mark
-    (lawful_first lawful_verdict_map (lawful_made tree.matching lawful_matching) refl refl (λ x y from to mid e none s. no_verdict_map e.0 y from to mid e.2 none s))
-    refl refl (λ x y from to mid e none s.
+    (lawful_first lawful_verdict_map (lawful_made tree.matching lawful_matching) refl (λ x y from to mid e none s. no_verdict_map e.0 y from to mid e.2 (neither matching.follow [] to none).0 s))
+    refl (λ x y from to mid e none s.
     elim e [
       | inl v ↦ not_both x y from to mid v s
-      | inr m ↦ no_set_mark m.0 y from to mid m.2 (neither matching.follow [] to (neither verdict_map.follow (matching.follow ++ []) to none).1).0 s
+      | inr m ↦ no_set_mark m.0 y from to mid m.2 (neither matching.follow [] to (neither verdict_map.follow (matching.follow ++ []) to (neither (verdict_map.follow ++ (matching.follow ++ [])) [] to none).0).1).0 s
     ]))
     refl refl) refl refl) refl refl) refl refl
+
+-- a statement begins with a word
+pub no_statement : (ts : List Sign) → word_at ts ≡ None → statement.read ts ≡ None
+unfolding statement counter log verdict nat set_mark verdict_map selector matching
+no_statement (word w ∷ ts) none = absurd cc
+no_statement ts none = refl
 
 -- ---- rules
 

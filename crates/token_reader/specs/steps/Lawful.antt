@@ -237,15 +237,20 @@ front_else : (gs fs : List Front) {second : Bool} (from to : List Sign) → ((le
 front_else gs fs from to (inl a) = inl (a.0, stands_right fs gs from a.1)
 front_else gs fs from to (inr a) = inr a
 
-pub lawful_either : {A : Type 0} {p q : Grammar A} → Lawful p → Lawful q → p.empty ≡ false → are_apart p.first q.first ≡ true → Lawful (p ∣ q)
-lawful_either {p = p} {q = q} lp lq some apart = record {
+-- the first of two, where no tokens begin with both
+pub lawful_first : {A : Type 0} {p q : Grammar A} → Lawful p → Lawful q → p.empty ≡ false
+    → ((x y : A) (from to mid : List Sign) → q.spells x from to → stands (q.follow ++ when q.empty p.first) to ≡ false → p.spells y from mid → ⊥) → Lawful (p ∣ q)
+lawful_first {p = p} {q = q} lp lq some apart = record {
   found = λ ts. else_found _ (p.read ts) _ _ (lp.found ts) (λ x ex. inl ex) (IfSome_weaker (q.read ts) _ _ (λ x ex. inr ex) (lq.found ts));
   only = λ x from to s none.
       let rests = neither p.follow (q.follow ++ when q.empty p.first) to none in
-      let more = neither q.follow (when q.empty p.first) to rests.1 in
       elim s [
         | inl a ↦ rw (lp.only x from to a rests.0) refl
-        | inr b ↦ rw (unread p lp some from (parted q lq p.first apart x from to b more.1), lq.only x from to b more.0) refl
+        | inr b ↦
+            elim (option_cases (p.read from)) [
+              | inl e ↦ rw (e, lq.only x from to b (neither q.follow (when q.empty p.first) to rests.1).0) refl
+              | inr y ↦ absurd (apart x y.0.0 from to y.0.1 b rests.1 (IfSome_at (p.read from) (λ z. p.spells z.0 from z.1) y.0 y.1 (lp.found from)))
+            ]
       ];
   front = λ x from to s.
       elim s [
@@ -253,6 +258,12 @@ lawful_either {p = p} {q = q} lp lq some apart = record {
         | inr b ↦ front_else q.first p.first from to (lq.front x from to b)
       ];
 }
+
+-- the one token in front tells which it is
+pub lawful_either : {A : Type 0} {p q : Grammar A} → Lawful p → Lawful q → p.empty ≡ false → are_apart p.first q.first ≡ true → Lawful (p ∣ q)
+lawful_either {p = p} {q = q} lp lq some apart = lawful_first lp lq some (λ x y from to mid other none s.
+    let absent = parted q lq p.first apart x from to other (neither q.follow (when q.empty p.first) to none).1 in
+    absurd (cc (absent, begins p lp some y from mid s)))
 
 maybe_found : {A : Type 0} (p : Grammar A) → Lawful p → Finds (grammars.maybe p).spells (grammars.maybe p).read
 maybe_found p l ts = else_found _ (p.read ts) _ _ (l.found ts) (λ x ex. ex) refl
