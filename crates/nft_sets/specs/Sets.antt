@@ -2,7 +2,6 @@
 use Rattle.std.specs.Prelude.{ℕ, List, [], ◌∷◌, Option, Some, None, option_map, option_and_then, Bool, true, false, cond, codes}
 use Rattle.std.specs.Str.{bytes_eq}
 use Rattle.nft_lexer.specs.declared.token.Mark.TheVariants.{Dot, Comma, Colon, Equals, OpenBrace, CloseBrace}
-use Rattle.nft_lexer.specs.Sign.{Sign}
 use Rattle.nft_tree.specs.declared.selector.ValueType.{ValueType}
 use Rattle.nft_tree.specs.declared.set.SetFlag.{SetFlag}
 use Rattle.nft_tree.specs.declared.set.MapType.{MapType}
@@ -108,8 +107,8 @@ map_of _ = None
 
 -- set = "set" NAME "{" .. "}"
 unfoldable pub named_set : Grammar SetTree
-named_set = keyword (codes "set") ▹ named set_of (block set_type lists.elements)
+named_set = named set_of (keyword (codes "set") ▹ block set_type lists.elements)
 
 -- map = "map" NAME "{" .. "}"
 unfoldable pub named_map : Grammar MapTree
-named_map = keyword (codes "map") ▹ named map_of (block map_type lists.pairs)
+named_map = named map_of (keyword (codes "map") ▹ block map_type lists.pairs)

@@ -1,11 +1,14 @@
 -- What is read as a named set or map is what spells one.
 use Rattle.std.proofs.Common.{◌≡◌, false, true, refl}
-use Rattle.std.specs.Prelude.{List, [], ◌∷◌, codes}
+use Rattle.std.specs.Prelude.{ℕ, List, [], ◌∷◌, Option, codes}
 use Rattle.nft_tree.specs.declared.set.SetFlag.TheVariants.{Constant, Interval}
 use Rattle.nft_lexer.specs.declared.token.Mark.TheVariants.{CloseBrace}
+use Rattle.nft_lexer.specs.declared.token.Token.{Token}
 use Rattle.nft_lexer.specs.Sign.{Sign}
-use Rattle.token_reader.specs.Grammar.{Grammar, ends_front, sign, lines, ◌◃◌}
-use Rattle.token_reader.specs.steps.Lawful.{Lawful, are_apart, lawful_keyword, lawful_sign, lawful_word, lawful_number, lawful_string, lawful_ends, lawful_after, lawful_before, lawful_then, lawful_either, lawful_made, lawful_named, lawful_one_of, lawful_separated, lawful_lines}
+use Rattle.nft_tree.specs.Tree.{SetTree, MapTree}
+use Rattle.token_reader.specs.Grammar.{Grammar, ends_front, keyword, sign, lines, ◌▹◌, ◌◃◌}
+use Rattle.token_reader.specs.Readers.{Anything, IsRead, Reads}
+use Rattle.token_reader.specs.steps.Lawful.{Lawful, reads_from, are_apart, lawful_keyword, lawful_sign, lawful_word, lawful_number, lawful_string, lawful_ends, lawful_after, lawful_before, lawful_then, lawful_either, lawful_made, lawful_named, lawful_one_of, lawful_separated, lawful_lines}
 use Rattle.nft_lists.specs.Elements.{elements, pairs}
 use Rattle.nft_lists.specs.steps.Laws.{lawful_elements, lawful_pairs}
 use Rattle.nft_sets.specs.Sets.{set_of, map_of, gathered, value_type, value_types, set_type, data_type, data_selector, map_type, set_flags, other_field, any_field, block, named_set, named_map}
@@ -62,16 +65,25 @@ lawful_block lk le some apart behind ahead ended begun closed =
     lawful_then lawful_word (lawful_named gathered (lawful_after (lawful_sign _) (lawful_after lawful_ends (lawful_before (lawful_lines field refl ahead ended) (lawful_sign _) closed) begun) refl)) refl
 
 -- how fields are read depends on how keys and elements are read, and on no more of them
-pub same_block : {K E : Type 0} (k : Grammar K) (e : Grammar E) (ts : List Sign) → (block (read_by k.read) (read_by e.read)).read ts ≡ (block k e).read ts
+pub same_block : (w : List ℕ) {K E : Type 0} (k : Grammar K) (e : Grammar E) (ts : List Sign) → (keyword w ▹ block (read_by k.read) (read_by e.read)).read ts ≡ (keyword w ▹ block k e).read ts
 unfolding block any_field other_field
-same_block k e ts = refl
+same_block w k e ts = refl
 
 -- ---- sets and maps
 
 pub lawful_set : Lawful named_set
 unfolding named_set block any_field other_field set_flags set_type value_types value_type selector selectors elements
-lawful_set = lawful_after (lawful_keyword _) (lawful_named set_of (lawful_block lawful_set_type lawful_elements refl refl refl refl refl refl refl)) refl
+lawful_set = lawful_named set_of (lawful_after (lawful_keyword _) (lawful_block lawful_set_type lawful_elements refl refl refl refl refl refl refl) refl)
 
 pub lawful_map : Lawful named_map
 unfolding named_map block any_field other_field set_flags map_type value_type data_type data_selector selector pairs
-lawful_map = lawful_after (lawful_keyword _) (lawful_named map_of (lawful_block lawful_map_type lawful_pairs refl refl refl refl refl refl refl)) refl
+lawful_map = lawful_named map_of (lawful_after (lawful_keyword _) (lawful_block lawful_map_type lawful_pairs refl refl refl refl refl refl refl) refl)
+
+-- what is read from left to right is the one set, or the one map, that is spelled
+pub set_reads : {X : Type 0} (view : X → SetTree) (tokens : List Token) (at : ℕ) (o : Option (X × ℕ)) → IsRead view named_set.read tokens at o → Reads named_set Anything view tokens at o
+unfolding named_set block
+set_reads = reads_from lawful_set Anything (λ ts e. refl)
+
+pub map_reads : {X : Type 0} (view : X → MapTree) (tokens : List Token) (at : ℕ) (o : Option (X × ℕ)) → IsRead view named_map.read tokens at o → Reads named_map Anything view tokens at o
+unfolding named_map block
+map_reads = reads_from lawful_map Anything (λ ts e. refl)

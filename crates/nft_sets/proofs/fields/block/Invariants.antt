@@ -2,9 +2,9 @@ use Rattle.std.proofs.Common.{◌≡◌, map}
 use Rattle.std.specs.Vec.Iter.{into_iter_items}
 use Rattle.nft_sets.specs.Sets.{gathered, with_fields}
 use Rattle.nft_sets.specs.steps.Views.{field_tree, fields_tree}
-use Rattle.nft_sets.proofs.fields.gathered.Given as goal
+use Rattle.nft_sets.proofs.fields.block.Given as goal
 
 abbrev pub invariant-loop-field : goal.invariant-loop-field
 invariant-loop-field g l =
     let trees = map (field_tree g.K.Part.tree g.E.Part.tree) in
-    with_fields (trees (into_iter_items l.field-iterator)) (fields_tree g.K.Part.tree g.E.Part.tree l.all) ≡ gathered (trees l.fn.fields.items)
+    with_fields (trees (into_iter_items l.field-iterator)) (fields_tree g.K.Part.tree g.E.Part.tree l.all) ≡ gathered (trees (into_iter_items l.initial.field-iterator))
