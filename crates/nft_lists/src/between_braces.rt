@@ -1,15 +1,13 @@
 //! Lists up to the brace that closes them.
-ghost use Rattle.std.specs.Prelude.{◌≡◌, [], ◌∷◌, ◌++◌, ◌+◌, ◌-◌, ◌<◌, ◌≤◌, Some, drop, length, map, take, option_map, IfOk, IfSome};
+ghost use Rattle.std.specs.Prelude.{◌≡◌, ◌+◌, ◌-◌, ◌<◌, ◌≤◌, Some, drop, length, map, take, option_map, IfOk, IfSome};
 ghost use Rattle.nft_lexer.specs.Sign.{sign_of, signs};
-ghost use Rattle.nft_lexer.specs.declared.token.Mark.TheVariants as marks;
 ghost use Rattle.token_reader.specs.Readers.{IsRead, ahead};
-ghost use Rattle.token_reader.specs.Repeats.{without_newlines};
-ghost use Rattle.nft_lists.specs.steps.Reading.{after_last_comma, after_plain, at_brace, enclosed_at, inside_at, listed_at, up_to_brace_at};
+ghost use Rattle.nft_lists.specs.steps.Reading.{after_plain, at_brace, enclosed_at, inside_at, listed_at, up_to_brace_at};
 
 use nft_lexer::{Kind, Mark, Token};
 use nft_tree::Memory;
 use std::alloc::Global;
-use token_reader::{Part, Separator, after_mark, found, separated};
+use token_reader::{Comma, Part, after_mark, found, separated};
 
 /// The token here, unless it is a closing brace, and the place after it.
 fn inside<'t>(tokens: &[Token<'t>], at: usize) -> Option<(Token<'t>, usize)>
@@ -20,18 +18,6 @@ fn inside<'t>(tokens: &[Token<'t>], at: usize) -> Option<(Token<'t>, usize)>
         Kind::Mark(Mark::CloseBrace) => None,
         _ => Some((*token, at + 1)),
     }
-}
-
-/// Puts the token at the end of `kept`, unless it is a newline.
-fn keep<'t>(token: Token<'t>, kept: &mut Vec<Token<'t>>) -> Result<(), Memory>
-    ensures read { IfOk result (λ _. signs kept.new.items ≡ signs kept.old.items ++ without_newlines (sign_of token.entry.kind token.entry.text.now ∷ [])) }
-    ensures one { IfOk result (λ _. length kept.new.items ≤ length kept.old.items + 1) }
-{
-    match token.kind {
-        Kind::NewLine => {}
-        _ => kept.push(token)?,
-    }
-    Ok(())
 }
 
 /// The tokens from this place up to the first closing brace, the newlines among them left out,
@@ -47,8 +33,11 @@ fn enclosed<'t>(
     let mut kept = Vec::new(alloc);
     let mut here = at;
     while let Some((token, after)) = inside(tokens, here) {
-        keep(token, &mut kept)?;
         here = after;
+        if let Kind::NewLine = token.kind {
+            continue;
+        }
+        kept.push(token)?;
     }
     Ok((kept, here))
 }
@@ -77,26 +66,6 @@ fn unbroken(tokens: &[Token], at: usize) -> Option<usize>
     Some(here)
 }
 
-/// [","]
-fn after_last_comma(tokens: &[Token], at: usize) -> usize
-    ensures { ahead tokens.now result ≡ after_last_comma (ahead tokens.now at) }
-{
-    match after_mark(tokens, at, Mark::Comma) {
-        Some(after) => after,
-        None => at,
-    }
-}
-
-struct Comma;
-
-impl Separator for Comma {
-    ghost mark = { marks.Comma };
-
-    fn mark() -> Mark {
-        Mark::Comma
-    }
-}
-
 /// x {"," x} [","], all of the tokens
 #[tactic(auto, unfolding(crate::specs::steps::Reading::listed_at))]
 fn listed<P: Part>(alloc: Global, tokens: &[Token]) -> Result<Option<Vec<P::Item>>, Memory>
@@ -104,7 +73,7 @@ fn listed<P: Part>(alloc: Global, tokens: &[Token]) -> Result<Option<Vec<P::Item
     ensures some { IfOk result (λ o. IfSome o (λ _. 0 < length tokens.now)) }
 {
     let (found, end) = found!(separated::<Comma, P>(alloc, tokens, 0)?);
-    if after_last_comma(tokens, end) < tokens.len() {
+    if after_mark(tokens, end, Mark::Comma).unwrap_or(end) < tokens.len() {
         return Ok(None);
     }
     Ok(Some(found))

@@ -12,20 +12,9 @@ use nft_lexer::Token;
 use nft_tree::{Element, Memory, Pair};
 use std::alloc::Global;
 
-/// elems, up to the brace that closes them
-#[tactic(auto, unfolding(crate::specs::Elements::elements))]
-fn elems_here(
-    alloc: Global,
-    tokens: &[Token],
-    at: usize,
-) -> Result<Option<(Vec<Element>, usize)>, Memory>
-    ensures { IfOk result (IsRead (λ found. map element_tree found.items) elements.read tokens.now at) }
-{
-    up_to_brace::<SetElement>(alloc, tokens, at)
-}
-
 /// The one list of elements from this place up to the brace that closes it, newlines skipped, and
 /// the place of that brace; none where no list is spelled so.
+#[tactic(auto, unfolding(crate::specs::Elements::elements))]
 pub fn elems(
     alloc: Global,
     tokens: &[Token],
@@ -40,22 +29,11 @@ pub fn elems(
     // It is what reading from left to right gives.
     ensures read { IfOk result (IsRead (λ found. map element_tree found.items) elements.read tokens.now at) }
 {
-    elems_here(alloc, tokens, at)
-}
-
-/// pairs, up to the brace that closes them
-#[tactic(auto, unfolding(crate::specs::Elements::pairs))]
-fn pairs_here(
-    alloc: Global,
-    tokens: &[Token],
-    at: usize,
-) -> Result<Option<(Vec<Pair>, usize)>, Memory>
-    ensures { IfOk result (IsRead (λ found. map pair_tree found.items) pairs.read tokens.now at) }
-{
-    up_to_brace::<MapPair>(alloc, tokens, at)
+    up_to_brace::<SetElement>(alloc, tokens, at)
 }
 
 /// The same for the pairs of a map.
+#[tactic(auto, unfolding(crate::specs::Elements::pairs))]
 pub fn pairs(
     alloc: Global,
     tokens: &[Token],
@@ -66,5 +44,5 @@ pub fn pairs(
     ensures only { (ps : List PairTree) (to : List Sign) → SpellsPairs ps (ahead tokens.now at) to → IfOk result (λ o. IsSomeAnd o (λ x. (map pair_tree x.0.items ≡ ps) × (ahead tokens.now x.1 ≡ to))) }
     ensures read { IfOk result (IsRead (λ found. map pair_tree found.items) pairs.read tokens.now at) }
 {
-    pairs_here(alloc, tokens, at)
+    up_to_brace::<MapPair>(alloc, tokens, at)
 }

@@ -1,53 +1,35 @@
 //! Elements of maps.
-ghost use Rattle.std.specs.Prelude.{◌≡◌, IfOk};
-ghost use Rattle.nft_tree.specs.Tree.{PairTree, data_tree, pair_tree, value_tree, to_value};
-ghost use Rattle.token_reader.specs.Grammar.{made, passing};
-ghost use Rattle.token_reader.specs.Readers.{IsRead};
-ghost use Rattle.nft_lists.specs.Elements.{is_data_value, map_data, pair, value};
+ghost use Rattle.std.specs.Prelude.{◌≡◌};
+ghost use Rattle.nft_tree.specs.Tree.{PairTree, pair_tree, value_tree};
+ghost use Rattle.nft_lists.specs.Elements.{is_data_value, pair};
 
 use crate::values::{comment, range, value};
-use crate::verdicts::{is_verdict_word, verdict};
+use crate::verdicts::verdict;
 use nft_lexer::{Mark, Token};
 use nft_tree::{Data, Memory, Pair, Value};
 use std::alloc::Global;
 use token_reader::{Part, after_mark, found};
 
-/// A word that is data of a map is no word of a verdict.
+/// Whether the value may be data of a map: no word that a verdict begins with is.
 fn is_data_value(value: &Value) -> bool
     ensures { result ≡ is_data_value (value_tree value.now) }
 {
-    match value {
-        Value::Word(word) => !is_verdict_word(word),
-        _ => true,
-    }
-}
-
-/// A value that is no word of a verdict.
-fn data_value(alloc: Global, tokens: &[Token], at: usize) -> Result<Option<(Data, usize)>, Memory>
-    ensures { IfOk result (IsRead data_tree (made to_value (passing is_data_value value)).read tokens.now at) }
-{
-    let (value, at) = found!(value(alloc, tokens, at)?);
-    if !is_data_value(&value) {
-        return Ok(None);
-    }
-    Ok(Some((Data::Value(value), at)))
-}
-
-/// verdict | value
-#[tactic(auto, unfolding(crate::specs::Elements::map_data))]
-fn map_data(alloc: Global, tokens: &[Token], at: usize) -> Result<Option<(Data, usize)>, Memory>
-    ensures { IfOk result (IsRead data_tree map_data.read tokens.now at) }
-{
-    if let Some((verdict, after)) = verdict(alloc, tokens, at)? {
-        return Ok(Some((Data::Verdict(verdict), after)));
-    }
-    data_value(alloc, tokens, at)
+    let Value::Word(word) = value else {
+        return true;
+    };
+    let word = word.as_slice();
+    !(word == b"accept".as_slice()
+        || word == b"drop".as_slice()
+        || word == b"continue".as_slice()
+        || word == b"return".as_slice()
+        || word == b"jump".as_slice()
+        || word == b"goto".as_slice())
 }
 
 /// pair = one ["comment" STRING] ":" (verdict | value)
 pub(crate) struct MapPair;
 
-#[tactic(auto, unfolding(crate::specs::Elements::pair))]
+#[tactic(auto, unfolding(crate::specs::Elements::pair, crate::specs::Elements::map_data))]
 impl Part for MapPair {
     type Item = Pair;
 
@@ -61,14 +43,21 @@ impl Part for MapPair {
         let (key, at) = found!(range(alloc, tokens, at)?);
         let (comment, at) = comment(alloc, tokens, at)?;
         let at = found!(after_mark(tokens, at, Mark::Colon));
-        let (value, at) = found!(map_data(alloc, tokens, at)?);
-        Ok(Some((
-            Pair {
-                key,
-                comment,
-                value,
-            },
-            at,
-        )))
+        let (value, at) = match verdict(alloc, tokens, at)? {
+            Some((verdict, after)) => (Data::Verdict(verdict), after),
+            None => {
+                let (other, after) = found!(value(alloc, tokens, at)?);
+                if !is_data_value(&other) {
+                    return Ok(None);
+                }
+                (Data::Value(other), after)
+            }
+        };
+        let pair = Pair {
+            key,
+            comment,
+            value,
+        };
+        Ok(Some((pair, at)))
     }
 }

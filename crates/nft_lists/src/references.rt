@@ -2,7 +2,7 @@
 ghost use Rattle.std.specs.Prelude.{map, IfOk};
 ghost use Rattle.nft_lexer.specs.declared.token.Mark.TheVariants as marks;
 ghost use Rattle.nft_tree.specs.Tree.{map_ref_tree, set_ref_tree};
-ghost use Rattle.token_reader.specs.Grammar.{a_word, sign, ◌▹◌, ◌◃◌};
+ghost use Rattle.token_reader.specs.Grammar.{a_word, sign, ◌▹◌};
 ghost use Rattle.token_reader.specs.Readers.{Anything, IsRead, Reads};
 ghost use Rattle.nft_lists.specs.Elements.{map_ref, set_ref};
 ghost use Rattle.nft_lists.specs.steps.Reading.{braced_at};
@@ -38,24 +38,9 @@ fn braced<P: Part>(
     Ok(Some((found, at)))
 }
 
-/// "@" NAME | "{" elems "}"
-#[tactic(auto, unfolding(crate::specs::Elements::set_ref, crate::specs::Elements::elements, crate::specs::steps::Reading::braced_at))]
-fn set_ref_here(
-    alloc: Global,
-    tokens: &[Token],
-    at: usize,
-) -> Result<Option<(SetRef, usize)>, Memory>
-    ensures { IfOk result (IsRead set_ref_tree set_ref.read tokens.now at) }
-{
-    if let Some((name, at)) = name(tokens, at) {
-        return Ok(Some((SetRef::Named(Vec::from_slice(alloc, name)?), at)));
-    }
-    let (elements, at) = found!(braced::<SetElement>(alloc, tokens, at)?);
-    Ok(Some((SetRef::Anonymous(elements), at)))
-}
-
 /// The set at this place, by its name or by its elements between braces, and where it ends; none
 /// where no set stands here.
+#[tactic(auto, unfolding(crate::specs::Elements::set_ref, crate::specs::Elements::elements, crate::specs::steps::Reading::braced_at))]
 pub fn set_ref(
     alloc: Global,
     tokens: &[Token],
@@ -66,27 +51,16 @@ pub fn set_ref(
     // It is what reading from left to right gives.
     ensures read { IfOk result (IsRead set_ref_tree set_ref.read tokens.now at) }
 {
-    set_ref_here(alloc, tokens, at)
-}
-
-/// "@" NAME | "{" pairs "}"
-#[tactic(auto, unfolding(crate::specs::Elements::map_ref, crate::specs::Elements::pairs, crate::specs::steps::Reading::braced_at))]
-fn map_ref_here(
-    alloc: Global,
-    tokens: &[Token],
-    at: usize,
-) -> Result<Option<(MapRef, usize)>, Memory>
-    ensures { IfOk result (IsRead map_ref_tree map_ref.read tokens.now at) }
-{
     if let Some((name, at)) = name(tokens, at) {
-        return Ok(Some((MapRef::Named(Vec::from_slice(alloc, name)?), at)));
+        return Ok(Some((SetRef::Named(Vec::from_slice(alloc, name)?), at)));
     }
-    let (pairs, at) = found!(braced::<MapPair>(alloc, tokens, at)?);
-    Ok(Some((MapRef::Anonymous(pairs), at)))
+    let (elements, at) = found!(braced::<SetElement>(alloc, tokens, at)?);
+    Ok(Some((SetRef::Anonymous(elements), at)))
 }
 
 /// The map at this place, by its name or by its pairs between braces, and where it ends; none where
 /// no map stands here.
+#[tactic(auto, unfolding(crate::specs::Elements::map_ref, crate::specs::Elements::pairs, crate::specs::steps::Reading::braced_at))]
 pub fn map_ref(
     alloc: Global,
     tokens: &[Token],
@@ -97,5 +71,9 @@ pub fn map_ref(
     // It is what reading from left to right gives.
     ensures read { IfOk result (IsRead map_ref_tree map_ref.read tokens.now at) }
 {
-    map_ref_here(alloc, tokens, at)
+    if let Some((name, at)) = name(tokens, at) {
+        return Ok(Some((MapRef::Named(Vec::from_slice(alloc, name)?), at)));
+    }
+    let (pairs, at) = found!(braced::<MapPair>(alloc, tokens, at)?);
+    Ok(Some((MapRef::Anonymous(pairs), at)))
 }

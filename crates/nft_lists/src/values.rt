@@ -1,17 +1,14 @@
 //! Values, ranges and comments.
-ghost use Rattle.std.specs.Prelude.{◌≡◌, ◌≤◌, Some, codes, length, option_map, IfOk};
-ghost use Rattle.nft_lexer.specs.declared.token.Mark.TheVariants as marks;
+ghost use Rattle.std.specs.Prelude.{◌≡◌, ◌≤◌, Some, length, option_map, IfOk};
 ghost use Rattle.nft_tree.specs.Tree.{range_tree, value_tree};
 ghost use Rattle.token_reader.specs.Readers.{IsRead, Reads, ahead};
-ghost use Rattle.token_reader.specs.Grammar.{a_string, keyword, ◌▹◌};
-ghost use Rattle.token_reader.specs.steps.Reading.{after_at, number_at, sign_at};
 ghost use Rattle.nft_lists.specs.Elements.{EndsComment, EndsRange, comment, range, value};
-ghost use Rattle.nft_lists.specs.steps.Reading.{one_or_prefix, range_after};
+ghost use Rattle.nft_lists.specs.steps.Reading.{range_after};
 
 use nft_lexer::{Kind, Mark, Token};
 use nft_tree::{Memory, Range, Value};
 use std::alloc::Global;
-use token_reader::{after_mark, after_word, found, number, string};
+use token_reader::{after_mark, found, number_after, string_after};
 
 /// value = NUM | ADDR | WORD | STRING
 pub(crate) fn value(
@@ -32,41 +29,8 @@ pub(crate) fn value(
     Ok(Some((value, at + 1)))
 }
 
-/// The value after the mark, where the mark stands here.
-pub(crate) fn value_after(
-    alloc: Global,
-    tokens: &[Token],
-    at: usize,
-    mark: Mark,
-) -> Result<Option<(Value, usize)>, Memory>
-    ensures { IfOk result (IsRead value_tree (after_at (sign_at mark) value.read) tokens.now at) }
-{
-    let at = found!(after_mark(tokens, at, mark));
-    value(alloc, tokens, at)
-}
-
-/// "/" NUM
-fn prefix_length(tokens: &[Token], at: usize) -> Option<(u64, usize)>
-    ensures { IsRead (λ x. x) (after_at (sign_at marks.Slash) number_at) tokens.now at result }
-{
-    let at = after_mark(tokens, at, Mark::Slash)?;
-    number(tokens, at)
-}
-
-/// The value as a range, or as a prefix where it is an address with a length after it.
-#[tactic(auto, unfolding(crate::specs::steps::Reading::one_or_prefix))]
-fn one_or_prefix(tokens: &[Token], at: usize, first: Value) -> (Range, usize)
-    ensures read { (range_tree result.0, ahead tokens.now result.1) ≡ one_or_prefix (value_tree first) (ahead tokens.now at) }
-    ensures within { (at ≤ result.1) × (at ≤ length tokens.now → result.1 ≤ length tokens.now) }
-{
-    match (first, prefix_length(tokens, at)) {
-        (Value::Address(address), Some((length, end))) => (Range::Prefix(address, length), end),
-        (value, _) => (Range::One(value), at),
-    }
-}
-
 /// The range that begins with the value, and the place after it.
-#[tactic(auto, unfolding(crate::specs::steps::Reading::range_after))]
+#[tactic(auto, unfolding(crate::specs::steps::Reading::range_after, crate::specs::steps::Reading::one_or_prefix))]
 pub(crate) fn range_after(
     alloc: Global,
     tokens: &[Token],
@@ -76,38 +40,28 @@ pub(crate) fn range_after(
     ensures read { IfOk result (λ x. (range_tree x.0, ahead tokens.now x.1) ≡ range_after (value_tree first) (ahead tokens.now at)) }
     ensures within { IfOk result (λ x. (at ≤ x.1) × (at ≤ length tokens.now → x.1 ≤ length tokens.now)) }
 {
-    match value_after(alloc, tokens, at, Mark::Minus)? {
-        Some((high, end)) => Ok((Range::Between(first, high), end)),
-        None => Ok(one_or_prefix(tokens, at, first)),
+    if let Some(after) = after_mark(tokens, at, Mark::Minus) {
+        if let Some((high, end)) = value(alloc, tokens, after)? {
+            return Ok((Range::Between(first, high), end));
+        }
     }
-}
-
-/// one = value | value "-" value | ADDR "/" NUM
-#[tactic(auto, unfolding(crate::specs::Elements::range))]
-fn range_here(alloc: Global, tokens: &[Token], at: usize) -> Result<Option<(Range, usize)>, Memory>
-    ensures { IfOk result (IsRead range_tree range.read tokens.now at) }
-{
-    let (first, at) = found!(value(alloc, tokens, at)?);
-    Ok(Some(range_after(alloc, tokens, at, first)?))
+    Ok(match (first, number_after(tokens, at, Mark::Slash)) {
+        (Value::Address(address), Some((length, end))) => (Range::Prefix(address, length), end),
+        (value, _) => (Range::One(value), at),
+    })
 }
 
 /// The value, the range of two values or the prefix at this place, and where it ends; none where
 /// no value stands here.
+#[tactic(auto, unfolding(crate::specs::Elements::range))]
 pub fn range(alloc: Global, tokens: &[Token], at: usize) -> Result<Option<(Range, usize)>, Memory>
     // What is read is spelled here, and what is spelled here, with nothing after it that goes on with it, is read.
     ensures reads { IfOk result (Reads range EndsRange range_tree tokens.now at) }
     // It is what reading from left to right gives.
     ensures read { IfOk result (IsRead range_tree range.read tokens.now at) }
 {
-    range_here(alloc, tokens, at)
-}
-
-/// "comment" STRING
-fn comment_text<'t>(tokens: &[Token<'t>], at: usize) -> Option<(&'t [u8], usize)>
-    ensures { IsRead (λ x. x.now) (keyword (codes "comment") ▹ a_string).read tokens.now at result }
-{
-    let at = after_word(tokens, at, b"comment")?;
-    string(tokens, at)
+    let (first, at) = found!(value(alloc, tokens, at)?);
+    Ok(Some(range_after(alloc, tokens, at, first)?))
 }
 
 /// The comment at this place, or none, and the place after it.
@@ -124,7 +78,7 @@ pub fn comment(
     // It is what reading from left to right gives.
     ensures read { IfOk result (λ x. Some (option_map (λ c. c.items) x.0, ahead tokens.now x.1) ≡ comment.read (ahead tokens.now at)) }
 {
-    match comment_text(tokens, at) {
+    match string_after(tokens, at, b"comment") {
         Some((text, after)) => Ok((Some(Vec::from_slice(alloc, text)?), after)),
         None => Ok((None, at)),
     }

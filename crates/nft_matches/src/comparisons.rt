@@ -1,10 +1,8 @@
 //! Comparisons of what a selector reads with values.
 ghost use Rattle.std.specs.Prelude.{◌≡◌, IfOk};
-ghost use Rattle.nft_tree.specs.Tree.{match_tree, range_tree, value_tree};
-ghost use Rattle.token_reader.specs.Grammar.{passing};
+ghost use Rattle.nft_tree.specs.Tree.{match_tree, value_tree};
 ghost use Rattle.token_reader.specs.Readers.{IsRead};
-ghost use Rattle.nft_matches.specs.Matches.{comparison, is_range_for, is_value_for};
-ghost use Rattle.nft_lists.specs.Elements.{range};
+ghost use Rattle.nft_matches.specs.Matches.{comparison, is_value_for};
 
 use crate::signs::operator;
 use nft_lexer::Token;
@@ -24,34 +22,7 @@ fn is_value_for(selector: Selector, value: &Value) -> bool
     }
 }
 
-/// The same of each value of a range.
-fn is_range_for(selector: Selector, range: &Range) -> bool
-    ensures { result ≡ is_range_for selector (range_tree range.now) }
-{
-    match range {
-        Range::One(value) => is_value_for(selector, value),
-        Range::Between(low, high) => is_value_for(selector, low) && is_value_for(selector, high),
-        Range::Prefix(..) => true,
-    }
-}
-
-/// one, each word of it listed
-fn range_for(
-    alloc: Global,
-    tokens: &[Token],
-    at: usize,
-    selector: Selector,
-) -> Result<Option<(Range, usize)>, Memory>
-    ensures { IfOk result (IsRead range_tree (passing (is_range_for selector) range).read tokens.now at) }
-{
-    let (range, at) = found!(range(alloc, tokens, at)?);
-    if !is_range_for(selector, &range) {
-        return Ok(None);
-    }
-    Ok(Some((range, at)))
-}
-
-/// [op] one; none is `==`
+/// [op] one, each word of it listed; none is `==`
 #[tactic(auto, unfolding(crate::specs::Matches::comparison))]
 pub(crate) fn comparison(
     alloc: Global,
@@ -62,6 +33,14 @@ pub(crate) fn comparison(
     ensures { IfOk result (IsRead match_tree (comparison selector).read tokens.now at) }
 {
     let (operator, at) = operator(tokens, at).unwrap_or((Operator::Equal, at));
-    let (range, at) = found!(range_for(alloc, tokens, at, selector)?);
+    let (range, at) = found!(range(alloc, tokens, at)?);
+    let fits = match &range {
+        Range::One(value) => is_value_for(selector, value),
+        Range::Between(low, high) => is_value_for(selector, low) && is_value_for(selector, high),
+        Range::Prefix(..) => true,
+    };
+    if !fits {
+        return Ok(None);
+    }
     Ok(Some((Match::Compare(selector, operator, range), at)))
 }

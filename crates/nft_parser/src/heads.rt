@@ -2,13 +2,13 @@
 ghost use Rattle.std.specs.Prelude.{IfOk};
 ghost use Rattle.nft_tree.specs.Tree.{head_tree};
 ghost use Rattle.token_reader.specs.Readers.{IsRead};
-ghost use Rattle.nft_parser.specs.Chains.{head, offset, policy, priority};
+ghost use Rattle.nft_parser.specs.Chains.{head, priority};
 
 use crate::notes::Note;
 use nft_lexer::{Mark, Token};
 use nft_tree::{ChainKind, Head, Hook, Memory, OffsetSign, Policy, Priority, PriorityName};
 use std::alloc::Global;
-use token_reader::{after_ends, after_mark, after_word, found, number, one_of, repeated};
+use token_reader::{after_ends, after_word, found, number, number_after, one_of, repeated};
 
 static KINDS: [(&[u8], ChainKind); 2] = [(b"filter", ChainKind::Filter), (b"nat", ChainKind::Nat)];
 
@@ -31,52 +31,30 @@ static PLACES: [(&[u8], PriorityName); 6] = [
 
 static DECISIONS: [(&[u8], Policy); 2] = [(b"accept", Policy::Accept), (b"drop", Policy::Drop)];
 
-/// ("+" | "-") NUM
-#[tactic(auto, unfolding(crate::specs::Chains::offset))]
-fn offset(tokens: &[Token], at: usize) -> Option<((OffsetSign, u64), usize)>
-    ensures { IsRead (λ by. by) offset.read tokens.now at result }
-{
-    if let Some(at) = after_mark(tokens, at, Mark::Plus) {
-        let (number, at) = number(tokens, at)?;
-        return Some(((OffsetSign::Plus, number), at));
-    }
-    let at = after_mark(tokens, at, Mark::Minus)?;
-    let (number, at) = number(tokens, at)?;
-    Some(((OffsetSign::Minus, number), at))
-}
-
 /// ["-"] NUM | pname [("+" | "-") NUM]
-#[tactic(auto, unfolding(crate::specs::Chains::priority))]
+#[tactic(auto, unfolding(crate::specs::Chains::priority, crate::specs::Chains::offset))]
 fn priority(tokens: &[Token], at: usize) -> Option<(Priority, usize)>
     ensures { IsRead (λ p. p) priority.read tokens.now at result }
 {
     if let Some((positive, at)) = number(tokens, at) {
         return Some((Priority::Number(OffsetSign::Plus, positive), at));
     }
-    if let Some(at) = after_mark(tokens, at, Mark::Minus) {
-        let (negative, at) = number(tokens, at)?;
+    if let Some((negative, at)) = number_after(tokens, at, Mark::Minus) {
         return Some((Priority::Number(OffsetSign::Minus, negative), at));
     }
     let (name, at) = one_of(tokens, at, &PLACES)?;
-    match offset(tokens, at) {
-        Some(((sign, number), at)) => Some((Priority::Offset(name, sign, number), at)),
-        None => Some((Priority::Named(name), at)),
+    if let Some((above, at)) = number_after(tokens, at, Mark::Plus) {
+        return Some((Priority::Offset(name, OffsetSign::Plus, above), at));
     }
-}
-
-/// "policy" ("accept" | "drop") end {end}
-#[tactic(auto, unfolding(crate::specs::Chains::policy))]
-fn policy(tokens: &[Token], at: usize) -> Option<(Policy, usize)>
-    ensures { IsRead (λ p. p) policy.read tokens.now at result }
-{
-    let at = after_word(tokens, at, b"policy")?;
-    let (policy, at) = one_of(tokens, at, &DECISIONS)?;
-    Some((policy, after_ends(tokens, at)?))
+    if let Some((below, at)) = number_after(tokens, at, Mark::Minus) {
+        return Some((Priority::Offset(name, OffsetSign::Minus, below), at));
+    }
+    Some((Priority::Named(name), at))
 }
 
 /// "type" ("filter" | "nat") "hook" hook "priority" prio end {end} ["policy" ..], and the notes
 /// after it.
-#[tactic(auto, unfolding(crate::specs::Chains::head))]
+#[tactic(auto, unfolding(crate::specs::Chains::head, crate::specs::Chains::policy))]
 pub(crate) fn head(
     alloc: Global,
     tokens: &[Token],
@@ -91,9 +69,13 @@ pub(crate) fn head(
     let at = found!(after_word(tokens, at, b"priority"));
     let (priority, at) = found!(priority(tokens, at));
     let at = found!(after_ends(tokens, at));
-    let (policy, at) = match policy(tokens, at) {
-        Some((policy, after)) => (Some(policy), after),
-        None => (None, at),
+    let (policy, at) = if let Some(after) = after_word(tokens, at, b"policy")
+        && let Some((policy, after)) = one_of(tokens, after, &DECISIONS)
+        && let Some(end) = after_ends(tokens, after)
+    {
+        (Some(policy), end)
+    } else {
+        (None, at)
     };
     let (notes, at) = repeated::<Note>(alloc, tokens, at)?;
     let head = Head {

@@ -1,9 +1,7 @@
 //! Words of nft(8) that the language leaves out.
 ghost use Rattle.std.specs.Prelude.{◌≡◌};
-ghost use Rattle.std.specs.List.{list_any};
-ghost use Rattle.std.specs.Str.{bytes_eq};
-ghost use Rattle.nft_lexer.specs.Sign.{sign_of, signs};
-ghost use Rattle.nft_parser.specs.Rulesets.{left_out, is_left_out, has_left_out};
+ghost use Rattle.nft_lexer.specs.Sign.{sign_of};
+ghost use Rattle.nft_parser.specs.Rulesets.{is_left_out};
 
 use nft_lexer::{Kind, Token};
 
@@ -58,26 +56,12 @@ static LEFT_OUT: [&[u8]; 48] = [
     b"dscp",
 ];
 
-/// Whether the language leaves the word out.
-fn is_listed(word: &[u8]) -> bool
-    ensures { result ≡ list_any (bytes_eq word.now) left_out }
-{
-    LEFT_OUT.iter().any(|known| word == *known)
-}
-
 /// Whether the token is a word that the language leaves out.
-fn is_left_out(token: &Token) -> bool
+pub(crate) fn is_left_out(token: &Token) -> bool
     ensures { result ≡ is_left_out (sign_of token.now.kind token.now.text.now) }
 {
     match token.kind {
-        Kind::Word => is_listed(token.text),
+        Kind::Word => LEFT_OUT.contains(&token.text),
         _ => false,
     }
-}
-
-/// Whether some word of the tokens is left out of the language.
-pub(crate) fn has_left_out(tokens: &[Token]) -> bool
-    ensures { result ≡ has_left_out (signs tokens.now) }
-{
-    tokens.iter().any(|token| is_left_out(token))
 }

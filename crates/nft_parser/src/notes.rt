@@ -1,21 +1,11 @@
 //! Comments that stand alone.
 ghost use Rattle.nft_tree.specs.Tree.{Text};
-ghost use Rattle.token_reader.specs.Readers.{IsRead};
-ghost use Rattle.nft_parser.specs.Chains.{comment, note};
+ghost use Rattle.nft_parser.specs.Chains.{note};
 
 use nft_lexer::Token;
 use nft_tree::Memory;
 use std::alloc::Global;
-use token_reader::{Part, after_ends, after_word, found, string};
-
-/// "comment" STRING
-#[tactic(auto, unfolding(crate::specs::Chains::comment))]
-pub(crate) fn comment<'t>(tokens: &[Token<'t>], at: usize) -> Option<(&'t [u8], usize)>
-    ensures { IsRead (λ text. text.now) comment.read tokens.now at result }
-{
-    let at = after_word(tokens, at, b"comment")?;
-    string(tokens, at)
-}
+use token_reader::{Part, after_ends, found, string_after};
 
 /// "comment" STRING end {end}
 pub(crate) struct Note;
@@ -29,13 +19,13 @@ impl Part for Note {
 
     ghost read_at = { note.read };
 
-    #[tactic(auto, unfolding(crate::specs::Chains::note))]
+    #[tactic(auto, unfolding(crate::specs::Chains::note, crate::specs::Chains::comment))]
     fn read(
         alloc: Global,
         tokens: &[Token],
         at: usize,
     ) -> Result<Option<(Vec<u8>, usize)>, Memory> {
-        let (text, at) = found!(comment(tokens, at));
+        let (text, at) = found!(string_after(tokens, at, b"comment"));
         let at = found!(after_ends(tokens, at));
         Ok(Some((Vec::from_slice(alloc, text)?, at)))
     }

@@ -12,7 +12,7 @@ ghost use Rattle.nft_parser.specs.steps.Faults.{refusal};
 
 use crate::fault::{ParseError, TextFault};
 use crate::laws::{one_fault, one_tree};
-use crate::left_out::has_left_out;
+use crate::left_out::is_left_out;
 use crate::tables::ruleset;
 use nft_lexer::{Token, lex};
 use nft_tree::Ruleset;
@@ -48,9 +48,10 @@ pub fn parse(alloc: Global, text: &[u8]) -> Result<Ruleset, ParseError>
 fn refusal(tokens: &[Token]) -> TextFault
     ensures { result ≡ refusal (has_left_out (signs tokens.now)) }
 {
-    if has_left_out(tokens) {
-        TextFault::LeftOut
-    } else {
-        TextFault::Syntax
+    for token in tokens {
+        if is_left_out(token) {
+            return TextFault::LeftOut;
+        }
     }
+    TextFault::Syntax
 }

@@ -3,43 +3,24 @@ ghost use Rattle.std.specs.Prelude.{◌≡◌, IfOk};
 ghost use Rattle.std.specs.Option.{option_map};
 ghost use Rattle.nft_lexer.specs.Sign.{signs};
 ghost use Rattle.nft_tree.specs.Tree.{ItemTree, TableTree, item_tree, table_tree, tables_of};
-ghost use Rattle.token_reader.specs.Readers.{IsRead, ahead};
+ghost use Rattle.token_reader.specs.Readers.{IsRead};
 ghost use Rattle.token_reader.specs.Grammar.{ends, ◌◃◌};
 ghost use Rattle.nft_parser.specs.Rulesets.{flush, item, table, table_name};
 ghost use Rattle.nft_parser.specs.steps.Laws.{ruleset_at};
 
 use crate::chains::chain;
-use crate::notes::comment;
 use nft_lexer::{Mark, Token};
 use nft_sets::{map_decl, set_decl};
 use nft_tree::{Family, Item, Memory, Ruleset, Table};
 use std::alloc::Global;
 use token_reader::{
-    Part, after_ends, after_mark, after_word, found, one_of, repeated, skip_ends, word,
+    Part, after_ends, after_mark, after_word, found, one_of, repeated, skip_ends, string_after,
+    word,
 };
 
 static FAMILIES: [(&[u8], Family); 2] = [(b"ip", Family::Ip), (b"inet", Family::Inet)];
 
-/// "comment" STRING | chain | set | map
-#[tactic(auto, unfolding(crate::specs::Rulesets::item))]
-fn item(alloc: Global, tokens: &[Token], at: usize) -> Result<Option<(Item, usize)>, Memory>
-    ensures { IfOk result (IsRead item_tree item.read tokens.now at) }
-{
-    if let Some((text, at)) = comment(tokens, at) {
-        let text = Vec::from_slice(alloc, text)?;
-        return Ok(Some((Item::Comment(text), at)));
-    }
-    if let Some((chain, at)) = chain(alloc, tokens, at)? {
-        return Ok(Some((Item::Chain(chain), at)));
-    }
-    if let Some((set, at)) = set_decl(alloc, tokens, at)? {
-        return Ok(Some((Item::Set(set), at)));
-    }
-    let (map, at) = found!(map_decl(alloc, tokens, at)?);
-    Ok(Some((Item::Map(map), at)))
-}
-
-/// item {end}
+/// ("comment" STRING | chain | set | map) {end}
 struct NextItem;
 
 impl Part for NextItem {
@@ -51,8 +32,18 @@ impl Part for NextItem {
 
     ghost read_at = { (item ◃ ends).read };
 
+    #[tactic(auto, unfolding(crate::specs::Rulesets::item, crate::specs::Chains::comment))]
     fn read(alloc: Global, tokens: &[Token], at: usize) -> Result<Option<(Item, usize)>, Memory> {
-        let (item, at) = found!(item(alloc, tokens, at)?);
+        let (item, at) = if let Some((text, at)) = string_after(tokens, at, b"comment") {
+            (Item::Comment(Vec::from_slice(alloc, text)?), at)
+        } else if let Some((chain, at)) = chain(alloc, tokens, at)? {
+            (Item::Chain(chain), at)
+        } else if let Some((set, at)) = set_decl(alloc, tokens, at)? {
+            (Item::Set(set), at)
+        } else {
+            let (map, at) = found!(map_decl(alloc, tokens, at)?);
+            (Item::Map(map), at)
+        };
         Ok(Some((item, skip_ends(tokens, at))))
     }
 }
@@ -71,27 +62,7 @@ fn table_name<'t>(tokens: &[Token<'t>], at: usize) -> Option<((Family, &'t [u8])
     Some(((Family::Ip, name), at))
 }
 
-/// "table" ["ip" | "inet"] NAME "{" {end} {item {end}} "}"
-#[tactic(auto, unfolding(crate::specs::Rulesets::table))]
-fn table(alloc: Global, tokens: &[Token], at: usize) -> Result<Option<(Table, usize)>, Memory>
-    ensures { IfOk result (IsRead table_tree table.read tokens.now at) }
-{
-    let at = found!(after_word(tokens, at, b"table"));
-    let ((family, name), at) = found!(table_name(tokens, at));
-    let at = found!(after_mark(tokens, at, Mark::OpenBrace));
-    let at = skip_ends(tokens, at);
-    let (items, at) = repeated::<NextItem>(alloc, tokens, at)?;
-    let at = found!(after_mark(tokens, at, Mark::CloseBrace));
-    let name = Vec::from_slice(alloc, name)?;
-    let table = Table {
-        family,
-        name,
-        items,
-    };
-    Ok(Some((table, at)))
-}
-
-/// table {end}
+/// "table" ["ip" | "inet"] NAME "{" {end} {item {end}} "}" {end}
 struct NextTable;
 
 impl Part for NextTable {
@@ -103,29 +74,38 @@ impl Part for NextTable {
 
     ghost read_at = { (table ◃ ends).read };
 
+    #[tactic(auto, unfolding(crate::specs::Rulesets::table))]
     fn read(alloc: Global, tokens: &[Token], at: usize) -> Result<Option<(Table, usize)>, Memory> {
-        let (table, at) = found!(table(alloc, tokens, at)?);
+        let at = found!(after_word(tokens, at, b"table"));
+        let ((family, name), at) = found!(table_name(tokens, at));
+        let at = found!(after_mark(tokens, at, Mark::OpenBrace));
+        let at = skip_ends(tokens, at);
+        let (items, at) = repeated::<NextItem>(alloc, tokens, at)?;
+        let at = found!(after_mark(tokens, at, Mark::CloseBrace));
+        let name = Vec::from_slice(alloc, name)?;
+        let table = Table {
+            family,
+            name,
+            items,
+        };
         Ok(Some((table, skip_ends(tokens, at))))
     }
 }
 
-/// "flush" "ruleset" end {end}
-#[tactic(auto, unfolding(crate::specs::Rulesets::flush))]
-fn after_flush(tokens: &[Token], at: usize) -> Option<usize>
-    ensures { option_map (λ end. (tt, ahead tokens.now end)) result ≡ flush.read (ahead tokens.now at) }
-{
-    let at = after_word(tokens, at, b"flush")?;
-    let at = after_word(tokens, at, b"ruleset")?;
-    after_ends(tokens, at)
-}
-
 /// {end} ["flush" "ruleset" end {end}] {table {end}}, all of the tokens.
-#[tactic(auto, unfolding(crate::specs::steps::Laws::ruleset_at, crate::specs::Rulesets::whole_ruleset))]
+#[tactic(auto, unfolding(crate::specs::steps::Laws::ruleset_at, crate::specs::Rulesets::whole_ruleset, crate::specs::Rulesets::flush))]
 pub(crate) fn ruleset(alloc: Global, tokens: &[Token]) -> Result<Option<Ruleset>, Memory>
     ensures { IfOk result (λ o. option_map tables_of o ≡ ruleset_at (signs tokens.now)) }
 {
-    let at = skip_ends(tokens, 0);
-    let at = after_flush(tokens, at).unwrap_or(at);
+    let start = skip_ends(tokens, 0);
+    let at = if let Some(after) = after_word(tokens, start, b"flush")
+        && let Some(after) = after_word(tokens, after, b"ruleset")
+        && let Some(end) = after_ends(tokens, after)
+    {
+        end
+    } else {
+        start
+    };
     let (tables, end) = repeated::<NextTable>(alloc, tokens, at)?;
     if end < tokens.len() {
         return Ok(None);

@@ -1,16 +1,15 @@
 //! Selectors, and selectors joined by dots.
 ghost use Rattle.std.specs.Prelude.{◌≡◌, List, IfOk, IfSome, IsSomeAnd};
-ghost use Rattle.nft_lexer.specs.declared.token.Mark.TheVariants.{Dot};
 ghost use Rattle.nft_lexer.specs.Sign.{Sign};
 ghost use Rattle.nft_tree.specs.declared.selector.Selector.{Selector};
 ghost use Rattle.token_reader.specs.Readers.{IsAfter, IsRead, ahead};
 ghost use Rattle.nft_selectors.specs.Selectors.{EndsSelectors, SpellsSelector, selector, selectors};
 
 use crate::spellings::{ALONE, IN_CT, IN_ICMP, IN_IP, IN_META, IN_TCP, IN_TH, IN_UDP};
-use nft_lexer::{Mark, Token};
+use nft_lexer::Token;
 use nft_tree::{Memory, Selector};
 use std::alloc::Global;
-use token_reader::{Part, Separator, after_word, one_of, separated};
+use token_reader::{Dot, Part, after_word, one_of, separated};
 
 /// The one selector at this place, whatever follows it, and where it ends; none where no selector
 /// stands here.
@@ -56,17 +55,8 @@ fn selector(tokens: &[Token], at: usize) -> Option<(Selector, usize)>
     one_of(tokens, at, &ALONE)
 }
 
-struct Dot;
-
-impl Separator for Dot {
-    ghost mark = { Dot };
-
-    fn mark() -> Mark {
-        Mark::Dot
-    }
-}
-
-struct AnySelector;
+/// anysel
+pub struct AnySelector;
 
 impl Part for AnySelector {
     type Item = Selector;
@@ -86,20 +76,9 @@ impl Part for AnySelector {
     }
 }
 
-/// anysel {"." anysel}
-#[tactic(auto, unfolding(crate::specs::Selectors::selectors))]
-fn joined(
-    alloc: Global,
-    tokens: &[Token],
-    at: usize,
-) -> Result<Option<(Vec<Selector>, usize)>, Memory>
-    ensures { IfOk result (IsRead (λ found. found.items) selectors.read tokens.now at) }
-{
-    separated::<Dot, AnySelector>(alloc, tokens, at)
-}
-
 /// The selectors at this place, joined by dots, as many as stand there, and where they end; none
 /// where no selector stands here.
+#[tactic(auto, unfolding(crate::specs::Selectors::selectors))]
 pub fn selectors(
     alloc: Global,
     tokens: &[Token],
@@ -112,5 +91,5 @@ pub fn selectors(
     // It is what reading from left to right gives.
     ensures read { IfOk result (IsRead (λ found. found.items) selectors.read tokens.now at) }
 {
-    joined(alloc, tokens, at)
+    separated::<Dot, AnySelector>(alloc, tokens, at)
 }
