@@ -3,10 +3,10 @@ ghost use Rattle.std.specs.Prelude.{◌≡◌};
 ghost use Rattle.nft_tree.specs.Tree.{PairTree, pair_tree, value_tree};
 ghost use Rattle.nft_lists.specs.Elements.{is_data_value, pair};
 
-use crate::values::{comment, range, value};
+use crate::values::{comment, range_after, value};
 use crate::verdicts::verdict;
 use nft_lexer::{Mark, Token};
-use nft_tree::{Data, Memory, Pair, Value};
+use nft_tree::{Data, Memory, Pair, Range, Value};
 use std::alloc::Global;
 use token_reader::{Part, after_mark, found};
 
@@ -29,7 +29,7 @@ fn is_data_value(value: &Value) -> bool
 /// pair = one ["comment" STRING] ":" (verdict | value)
 pub(crate) struct MapPair;
 
-#[tactic(auto, unfolding(crate::specs::Elements::pair, crate::specs::Elements::map_data))]
+#[tactic(auto, unfolding(crate::specs::Elements::pair, crate::specs::Elements::map_data, crate::specs::Elements::range, crate::specs::Elements::comment, crate::specs::steps::Reading::range_after, crate::specs::steps::Reading::one_or_prefix))]
 impl Part for MapPair {
     type Item = Pair;
 
@@ -40,9 +40,16 @@ impl Part for MapPair {
     ghost read_at = { pair.read };
 
     fn read(alloc: Global, tokens: &[Token], at: usize) -> Result<Option<(Pair, usize)>, Memory> {
-        let (key, at) = found!(range(alloc, tokens, at)?);
-        let (comment, at) = comment(alloc, tokens, at)?;
-        let at = found!(after_mark(tokens, at, Mark::Colon));
+        let (first, at) = found!(value(alloc, tokens, at)?);
+        // Most keys are a value alone, and have no comment.
+        let (key, comment, at) = match after_mark(tokens, at, Mark::Colon) {
+            Some(after) => (Range::One(first), None, after),
+            None => {
+                let (key, at) = range_after(alloc, tokens, at, first)?;
+                let (comment, at) = comment(alloc, tokens, at)?;
+                (key, comment, found!(after_mark(tokens, at, Mark::Colon)))
+            }
+        };
         let (value, at) = match verdict(alloc, tokens, at)? {
             Some((verdict, after)) => (Data::Verdict(verdict), after),
             None => {

@@ -6,5 +6,5 @@ mod reading;
 mod spellings;
 mod words;
 
-pub use reading::{AnySelector, anysel, selectors};
+pub use reading::{anysel, selectors};
 pub use words::lists_word;

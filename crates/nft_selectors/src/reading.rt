@@ -55,8 +55,7 @@ fn selector(tokens: &[Token], at: usize) -> Option<(Selector, usize)>
     one_of(tokens, at, &ALONE)
 }
 
-/// anysel
-pub struct AnySelector;
+struct AnySelector;
 
 impl Part for AnySelector {
     type Item = Selector;

@@ -90,6 +90,9 @@ pub struct Rule {
 
 impl Drop for Rule {
     fn drop(self) {
-        let Rule { statements: _, comment: _ } = self;
+        let Rule {
+            statements: _,
+            comment: _,
+        } = self;
     }
 }

@@ -92,7 +92,11 @@ pub struct Pair {
 
 impl Drop for Pair {
     fn drop(self) {
-        let Pair { key: _, comment: _, value: _ } = self;
+        let Pair {
+            key: _,
+            comment: _,
+            value: _,
+        } = self;
     }
 }
 
