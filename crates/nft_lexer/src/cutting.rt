@@ -92,7 +92,8 @@ fn tokens<'t>(alloc: Global, text: &'t [u8]) -> Result<Vec<Token<'t>>, LexError>
     ensures found { IfOk result (λ tokens. IsCut text.entry.now (map spelled tokens.items)) }
     ensures fault { IfErr result (Tells (FirstFault text.entry.now)) }
 {
-    let mut found = Vec::new(alloc);
+    // Few texts have more than a token for three bytes.
+    let mut found = Vec::with_capacity(alloc, text.len() / 3)?;
     let mut rest = text;
     while !rest.is_empty() {
         let (token, after) = match next(rest) {

@@ -5,7 +5,7 @@ ghost use Rattle.token_reader.specs.Readers.{ahead};
 ghost use Rattle.nft_lists.specs.Elements.{element};
 ghost use Rattle.nft_lists.specs.steps.Reading.{key_after, next_value_at};
 
-use crate::values::{comment, range_after, value};
+use crate::values::{comment, range_after, value, value_after};
 use nft_lexer::{Mark, Token};
 use nft_tree::{Element, Key, Memory, Range, Value};
 use std::alloc::Global;
@@ -24,8 +24,7 @@ impl Part for NextValue {
     ghost read_at = { next_value_at };
 
     fn read(alloc: Global, tokens: &[Token], at: usize) -> Result<Option<(Value, usize)>, Memory> {
-        let at = found!(after_mark(tokens, at, Mark::Dot));
-        value(alloc, tokens, at)
+        value_after(alloc, tokens, at, Mark::Dot)
     }
 }
 

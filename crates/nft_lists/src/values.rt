@@ -1,9 +1,10 @@
 //! Values, ranges and comments.
 ghost use Rattle.std.specs.Prelude.{◌≡◌, ◌≤◌, Some, length, option_map, IfOk};
 ghost use Rattle.nft_tree.specs.Tree.{range_tree, value_tree};
+ghost use Rattle.token_reader.specs.Grammar.{sign, ◌▹◌};
 ghost use Rattle.token_reader.specs.Readers.{IsRead, Reads, ahead};
 ghost use Rattle.nft_lists.specs.Elements.{EndsComment, EndsRange, comment, range, value};
-ghost use Rattle.nft_lists.specs.steps.Reading.{range_after};
+ghost use Rattle.nft_lists.specs.steps.Reading.{one_or_prefix, range_after};
 
 use nft_lexer::{Kind, Mark, Token};
 use nft_tree::{Memory, Range, Value};
@@ -29,8 +30,33 @@ pub(crate) fn value(
     Ok(Some((value, at + 1)))
 }
 
+/// The value behind the mark, where both stand here, and the place after it.
+pub(crate) fn value_after(
+    alloc: Global,
+    tokens: &[Token],
+    at: usize,
+    mark: Mark,
+) -> Result<Option<(Value, usize)>, Memory>
+    ensures { IfOk result (IsRead value_tree (sign mark ▹ value).read tokens.now at) }
+{
+    let at = found!(after_mark(tokens, at, mark));
+    value(alloc, tokens, at)
+}
+
+/// The value, or the prefix that begins with it, and the place after it.
+#[tactic(auto, unfolding(crate::specs::steps::Reading::one_or_prefix))]
+fn one_or_prefix(tokens: &[Token], at: usize, first: Value) -> (Range, usize)
+    ensures read { (range_tree result.0, ahead tokens.now result.1) ≡ one_or_prefix (value_tree first) (ahead tokens.now at) }
+    ensures within { (at ≤ result.1) × (at ≤ length tokens.now → result.1 ≤ length tokens.now) }
+{
+    match (first, number_after(tokens, at, Mark::Slash)) {
+        (Value::Address(address), Some((length, end))) => (Range::Prefix(address, length), end),
+        (value, _) => (Range::One(value), at),
+    }
+}
+
 /// The range that begins with the value, and the place after it.
-#[tactic(auto, unfolding(crate::specs::steps::Reading::range_after, crate::specs::steps::Reading::one_or_prefix))]
+#[tactic(auto, unfolding(crate::specs::steps::Reading::range_after))]
 pub(crate) fn range_after(
     alloc: Global,
     tokens: &[Token],
@@ -40,15 +66,10 @@ pub(crate) fn range_after(
     ensures read { IfOk result (λ x. (range_tree x.0, ahead tokens.now x.1) ≡ range_after (value_tree first) (ahead tokens.now at)) }
     ensures within { IfOk result (λ x. (at ≤ x.1) × (at ≤ length tokens.now → x.1 ≤ length tokens.now)) }
 {
-    if let Some(after) = after_mark(tokens, at, Mark::Minus) {
-        if let Some((high, end)) = value(alloc, tokens, after)? {
-            return Ok((Range::Between(first, high), end));
-        }
+    if let Some((high, end)) = value_after(alloc, tokens, at, Mark::Minus)? {
+        return Ok((Range::Between(first, high), end));
     }
-    Ok(match (first, number_after(tokens, at, Mark::Slash)) {
-        (Value::Address(address), Some((length, end))) => (Range::Prefix(address, length), end),
-        (value, _) => (Range::One(value), at),
-    })
+    Ok(one_or_prefix(tokens, at, first))
 }
 
 /// The value, the range of two values or the prefix at this place, and where it ends; none where

@@ -1,10 +1,11 @@
 //! The flags of TCP.
 ghost use Rattle.std.specs.Prelude.{◌≡◌, IfOk, map};
+ghost use Rattle.std.specs.List.{list_all};
 ghost use Rattle.nft_lexer.specs.declared.token.Mark.TheVariants.{Bar, Comma};
 ghost use Rattle.nft_tree.specs.Tree.{FlagTree, flag_tree, match_tree};
 ghost use Rattle.token_reader.specs.Grammar.{sign, ◌∣◌, ◌▹◌};
 ghost use Rattle.token_reader.specs.Readers.{IsRead};
-ghost use Rattle.nft_matches.specs.Matches.{flag, flag_group, flag_list, flags, masked, masked_by};
+ghost use Rattle.nft_matches.specs.Matches.{flag, flag_group, flag_list, flags, is_flag, masked, masked_by};
 
 use crate::signs::equality_if;
 use nft_lexer::{Mark, Token};
@@ -46,6 +47,20 @@ impl Part for NextFlag {
     }
 }
 
+/// Whether each word of the list is a flag.
+fn are_flags(flags: &[Flag]) -> bool
+    ensures { result ≡ list_all is_flag (map flag_tree flags.now) }
+{
+    for flag in flags {
+        if let Flag::Word(word) = flag
+            && !lists_word(Selector::TcpFlags, word)
+        {
+            return false;
+        }
+    }
+    true
+}
+
 /// (WORD | NUM) {("," | "|") (WORD | NUM)}, each word a flag
 #[tactic(auto, unfolding(crate::specs::Matches::flags))]
 fn flags(alloc: Global, tokens: &[Token], at: usize) -> Result<Option<(Vec<Flag>, usize)>, Memory>
@@ -55,14 +70,11 @@ fn flags(alloc: Global, tokens: &[Token], at: usize) -> Result<Option<(Vec<Flag>
     let mut flags = Vec::new(alloc);
     flags.push(first)?;
     let end = more::<NextFlag>(alloc, tokens, at, &mut flags)?;
-    for flag in &flags {
-        if let Flag::Word(word) = flag
-            && !lists_word(Selector::TcpFlags, word)
-        {
-            return Ok(None);
-        }
+    if are_flags(&flags) {
+        Ok(Some((flags, end)))
+    } else {
+        Ok(None)
     }
-    Ok(Some((flags, end)))
 }
 
 /// flags | "(" flags ")"
@@ -97,11 +109,7 @@ fn masked_by(equal: bool, mask: Vec<Flag>, wanted: Vec<Flag>) -> Match
 
 /// ["==" | "!="] flags ["/" flags]
 #[tactic(auto, unfolding(crate::specs::Matches::flag_list))]
-pub(crate) fn flag_list(
-    alloc: Global,
-    tokens: &[Token],
-    at: usize,
-) -> Result<Option<(Match, usize)>, Memory>
+fn flag_list(alloc: Global, tokens: &[Token], at: usize) -> Result<Option<(Match, usize)>, Memory>
     ensures { IfOk result (IsRead match_tree flag_list.read tokens.now at) }
 {
     let (equal, at) = equality_if(tokens, at);
@@ -120,11 +128,7 @@ pub(crate) fn flag_list(
 
 /// "&" pflags ("==" | "!=") pflags
 #[tactic(auto, unfolding(crate::specs::Matches::masked))]
-pub(crate) fn masked(
-    alloc: Global,
-    tokens: &[Token],
-    at: usize,
-) -> Result<Option<(Match, usize)>, Memory>
+fn masked(alloc: Global, tokens: &[Token], at: usize) -> Result<Option<(Match, usize)>, Memory>
     ensures { IfOk result (IsRead match_tree masked.read tokens.now at) }
 {
     let at = found!(after_mark(tokens, at, Mark::Ampersand));
@@ -133,4 +137,18 @@ pub(crate) fn masked(
     let equal = found!(equal);
     let (wanted, at) = found!(flag_group(alloc, tokens, at)?);
     Ok(Some((masked_by(equal, mask, wanted), at)))
+}
+
+/// ["==" | "!="] flags ["/" flags] | "&" pflags ("==" | "!=") pflags
+pub(crate) fn flag_test(
+    alloc: Global,
+    tokens: &[Token],
+    at: usize,
+) -> Result<Option<(Match, usize)>, Memory>
+    ensures { IfOk result (IsRead match_tree (flag_list ∣ masked).read tokens.now at) }
+{
+    if let Some(found) = flag_list(alloc, tokens, at)? {
+        return Ok(Some(found));
+    }
+    masked(alloc, tokens, at)
 }

@@ -1,5 +1,5 @@
 //! Matches.
-ghost use Rattle.std.specs.Prelude.{◌∷◌, IfOk};
+ghost use Rattle.std.specs.Prelude.{◌≡◌, ◌∷◌, IfOk};
 ghost use Rattle.nft_lexer.specs.declared.token.Mark.TheVariants.{Dot};
 ghost use Rattle.nft_tree.specs.declared.selector.Selector.{Selector};
 ghost use Rattle.nft_tree.specs.Tree.{match_tree};
@@ -7,11 +7,11 @@ ghost use Rattle.token_reader.specs.Grammar.{sign, ◌▹◌};
 ghost use Rattle.token_reader.specs.Readers.{IsRead, Reads};
 ghost use Rattle.nft_selectors.specs.Selectors.{selector};
 ghost use Rattle.nft_matches.specs.steps.Reading.{match_after};
-ghost use Rattle.nft_matches.specs.Matches.{EndsMatch, matching, set_test};
+ghost use Rattle.nft_matches.specs.Matches.{EndsMatch, matching, one_test, set_test};
 
 use crate::bits::bits;
 use crate::comparisons::comparison;
-use crate::flags::{flag_list, masked};
+use crate::flags::flag_test;
 use crate::signs::equality_if;
 use nft_lexer::{Mark, Token};
 use nft_lists::set_ref;
@@ -43,6 +43,16 @@ impl Part for NextSelector {
     }
 }
 
+/// The first selector, and those that are joined to it.
+fn joined(alloc: Global, first: Selector, others: &[Selector]) -> Result<Vec<Selector>, Memory>
+    ensures { IfOk result (λ keys. keys.items ≡ first ∷ others.now) }
+{
+    let mut selectors = Vec::new(alloc);
+    selectors.push(first)?;
+    selectors.extend_from_slice(others)?;
+    Ok(selectors)
+}
+
 /// ["==" | "!="] setref, behind the first selector and those that are joined to it
 #[tactic(auto, unfolding(crate::specs::Matches::set_test))]
 fn set_test(
@@ -56,18 +66,36 @@ fn set_test(
 {
     let (equal, at) = equality_if(tokens, at);
     let (set, at) = found!(set_ref(alloc, tokens, at)?);
-    let mut selectors = Vec::new(alloc);
-    selectors.push(first)?;
-    selectors.extend_from_slice(others)?;
-    if equal.unwrap_or(true) {
-        return Ok(Some((Match::In(selectors, set), at)));
+    let selectors = joined(alloc, first, others)?;
+    let test = if equal.unwrap_or(true) {
+        Match::In(selectors, set)
+    } else {
+        Match::NotIn(selectors, set)
+    };
+    Ok(Some((test, at)))
+}
+
+/// What tests the one selector.
+#[tactic(auto, unfolding(crate::specs::Matches::one_test))]
+fn one_test(
+    alloc: Global,
+    tokens: &[Token],
+    at: usize,
+    selector: Selector,
+) -> Result<Option<(Match, usize)>, Memory>
+    ensures { IfOk result (IsRead match_tree (one_test selector).read tokens.now at) }
+{
+    match selector {
+        Selector::CtState => bits(alloc, tokens, at, BitField::State, selector),
+        Selector::CtStatus => bits(alloc, tokens, at, BitField::Status, selector),
+        Selector::TcpFlags => flag_test(alloc, tokens, at),
+        _ => comparison(alloc, tokens, at, selector),
     }
-    Ok(Some((Match::NotIn(selectors, set), at)))
 }
 
 /// The match that begins with the selector before this place, and where it ends; none where no
 /// match goes on here.
-#[tactic(auto, unfolding(crate::specs::steps::Reading::match_after, crate::specs::Matches::one_test))]
+#[tactic(auto, unfolding(crate::specs::steps::Reading::match_after))]
 pub fn match_after(
     alloc: Global,
     tokens: &[Token],
@@ -81,17 +109,10 @@ pub fn match_after(
     if let Some(found) = set_test(alloc, tokens, at, first, &others)? {
         return Ok(Some(found));
     }
-    if !others.is_empty() {
-        return Ok(None);
-    }
-    match first {
-        Selector::CtState => bits(alloc, tokens, at, BitField::State, first),
-        Selector::CtStatus => bits(alloc, tokens, at, BitField::Status, first),
-        Selector::TcpFlags => match flag_list(alloc, tokens, at)? {
-            Some(found) => Ok(Some(found)),
-            None => masked(alloc, tokens, at),
-        },
-        _ => comparison(alloc, tokens, at, first),
+    if others.is_empty() {
+        one_test(alloc, tokens, at, first)
+    } else {
+        Ok(None)
     }
 }
 

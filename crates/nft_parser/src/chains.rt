@@ -24,7 +24,6 @@ impl Part for EndedRule {
 
     ghost read_at = { ended_rule.read };
 
-    #[tactic(auto, unfolding(crate::specs::Chains::rules))]
     fn read(alloc: Global, tokens: &[Token], at: usize) -> Result<Option<(Rule, usize)>, Memory> {
         rule(alloc, tokens, at)
     }

@@ -2,7 +2,7 @@
 ghost use Rattle.std.specs.Prelude.{IfOk};
 ghost use Rattle.nft_tree.specs.Tree.{head_tree};
 ghost use Rattle.token_reader.specs.Readers.{IsRead};
-ghost use Rattle.nft_parser.specs.Chains.{head, priority};
+ghost use Rattle.nft_parser.specs.Chains.{head, offset, priority};
 
 use crate::notes::Note;
 use nft_lexer::{Mark, Token};
@@ -31,8 +31,20 @@ static PLACES: [(&[u8], PriorityName); 6] = [
 
 static DECISIONS: [(&[u8], Policy); 2] = [(b"accept", Policy::Accept), (b"drop", Policy::Drop)];
 
+/// ("+" | "-") NUM
+#[tactic(auto, unfolding(crate::specs::Chains::offset))]
+fn offset(tokens: &[Token], at: usize) -> Option<((OffsetSign, u64), usize)>
+    ensures { IsRead (λ by. by) offset.read tokens.now at result }
+{
+    if let Some((above, at)) = number_after(tokens, at, Mark::Plus) {
+        return Some(((OffsetSign::Plus, above), at));
+    }
+    let (below, at) = number_after(tokens, at, Mark::Minus)?;
+    Some(((OffsetSign::Minus, below), at))
+}
+
 /// ["-"] NUM | pname [("+" | "-") NUM]
-#[tactic(auto, unfolding(crate::specs::Chains::priority, crate::specs::Chains::offset))]
+#[tactic(auto, unfolding(crate::specs::Chains::priority))]
 fn priority(tokens: &[Token], at: usize) -> Option<(Priority, usize)>
     ensures { IsRead (λ p. p) priority.read tokens.now at result }
 {
@@ -43,13 +55,10 @@ fn priority(tokens: &[Token], at: usize) -> Option<(Priority, usize)>
         return Some((Priority::Number(OffsetSign::Minus, negative), at));
     }
     let (name, at) = one_of(tokens, at, &PLACES)?;
-    if let Some((above, at)) = number_after(tokens, at, Mark::Plus) {
-        return Some((Priority::Offset(name, OffsetSign::Plus, above), at));
+    match offset(tokens, at) {
+        Some(((sign, by), at)) => Some((Priority::Offset(name, sign, by), at)),
+        None => Some((Priority::Named(name), at)),
     }
-    if let Some((below, at)) = number_after(tokens, at, Mark::Minus) {
-        return Some((Priority::Offset(name, OffsetSign::Minus, below), at));
-    }
-    Some((Priority::Named(name), at))
 }
 
 /// "type" ("filter" | "nat") "hook" hook "priority" prio end {end} ["policy" ..], and the notes

@@ -34,17 +34,18 @@ impl Part for NextItem {
 
     #[tactic(auto, unfolding(crate::specs::Rulesets::item, crate::specs::Chains::comment))]
     fn read(alloc: Global, tokens: &[Token], at: usize) -> Result<Option<(Item, usize)>, Memory> {
-        let (item, at) = if let Some((text, at)) = string_after(tokens, at, b"comment") {
-            (Item::Comment(Vec::from_slice(alloc, text)?), at)
-        } else if let Some((chain, at)) = chain(alloc, tokens, at)? {
-            (Item::Chain(chain), at)
-        } else if let Some((set, at)) = set_decl(alloc, tokens, at)? {
-            (Item::Set(set), at)
-        } else {
-            let (map, at) = found!(map_decl(alloc, tokens, at)?);
-            (Item::Map(map), at)
-        };
-        Ok(Some((item, skip_ends(tokens, at))))
+        if let Some((text, at)) = string_after(tokens, at, b"comment") {
+            let text = Vec::from_slice(alloc, text)?;
+            return Ok(Some((Item::Comment(text), skip_ends(tokens, at))));
+        }
+        if let Some((chain, at)) = chain(alloc, tokens, at)? {
+            return Ok(Some((Item::Chain(chain), skip_ends(tokens, at))));
+        }
+        if let Some((set, at)) = set_decl(alloc, tokens, at)? {
+            return Ok(Some((Item::Set(set), skip_ends(tokens, at))));
+        }
+        let (map, at) = found!(map_decl(alloc, tokens, at)?);
+        Ok(Some((Item::Map(map), skip_ends(tokens, at))))
     }
 }
 

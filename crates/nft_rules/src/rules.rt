@@ -18,8 +18,9 @@ fn ended(alloc: Global, tokens: &[Token], at: usize) -> Result<Option<(Rule, usi
     ensures { IfOk result (IsRead rule_tree ended_rule.read tokens.now at) }
 {
     let (first, at) = found!(AnyStatement::read(alloc, tokens, at)?);
-    // Most rules have one statement or two, and a vector that grows would take room for four.
-    let mut statements = Vec::with_capacity(alloc, 2)?;
+    // Most rules have one statement or two; a vector that grows would take room for four.
+    let room = if stops(tokens, at) { 1 } else { 2 };
+    let mut statements = Vec::with_capacity(alloc, room)?;
     statements.push(first)?;
     let at = more::<AnyStatement>(alloc, tokens, at, &mut statements)?;
     let (comment, at) = comment(alloc, tokens, at)?;

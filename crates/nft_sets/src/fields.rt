@@ -1,9 +1,11 @@
 //! The fields of sets and maps, which stand in any order.
-ghost use Rattle.std.specs.Prelude.{◌≡◌, Some, None, IfOk, if◌then◌else◌};
-ghost use Rattle.token_reader.specs.Grammar.{keyword, ◌▹◌};
+ghost use Rattle.std.specs.Prelude.{◌≡◌, Some, None, IfOk, codes, if◌then◌else◌, map, option_map};
+ghost use Rattle.std.specs.Option.{is_none};
+ghost use Rattle.token_reader.specs.Grammar.{keyword, sign, ◌▹◌, ◌◃◌};
 ghost use Rattle.token_reader.specs.Readers.{IsRead};
+ghost use Rattle.nft_lexer.specs.declared.token.Mark.TheVariants.{CloseBrace, Equals, OpenBrace};
 ghost use Rattle.nft_sets.specs.Sets as trees;
-ghost use Rattle.nft_sets.specs.Sets.{any_field, block, with_field};
+ghost use Rattle.nft_sets.specs.Sets.{any_field, block, gathered, set_flags, with_field};
 ghost use Rattle.nft_sets.specs.steps.Reading.{read_by};
 ghost use Rattle.nft_sets.specs.steps.Views.{field_tree, fields_tree};
 
@@ -40,18 +42,55 @@ pub(crate) struct Fields<K, E> {
     pub(crate) elements: Option<E>,
 }
 
+/// Puts the value in its place, and says whether the place was empty.
+fn fill<T: Drop>(place: &mut Option<T>, value: T) -> bool
+    ensures after { place.new ≡ Some value }
+    ensures first { result ≡ is_none place.old }
+{
+    place.replace(value).is_none()
+}
+
 /// Puts the field to the others, and says whether it is the first of its kind.
 fn put<K: Part, E: Part>(all: &mut Fields<K::Item, E::Item>, field: Field<K::Item, E::Item>) -> bool
     ensures { (if result then Some (fields_tree K.tree E.tree all.new) else None) ≡ with_field (field_tree K.tree E.tree field) (fields_tree K.tree E.tree all.old) }
 {
     match field {
-        Field::Key(key) => all.key.replace(key).is_none(),
-        Field::Flags(flags) => all.flags.replace(flags).is_none(),
-        Field::Size(size) => all.size.replace(size).is_none(),
+        Field::Key(key) => fill(&mut all.key, key),
+        Field::Flags(flags) => fill(&mut all.flags, flags),
+        Field::Size(size) => fill(&mut all.size, size),
         Field::AutoMerge => !mem::replace(&mut all.auto_merge, true),
-        Field::Comment(text) => all.comment.replace(text).is_none(),
-        Field::Elements(elements) => all.elements.replace(elements).is_none(),
+        Field::Comment(text) => fill(&mut all.comment, text),
+        Field::Elements(elements) => fill(&mut all.elements, elements),
     }
+}
+
+/// "flags" sflag {"," sflag}
+#[tactic(auto, unfolding(crate::specs::Sets::set_flags))]
+fn set_flags(
+    alloc: Global,
+    tokens: &[Token],
+    at: usize,
+) -> Result<Option<(Vec<SetFlag>, usize)>, Memory>
+    ensures { IfOk result (IsRead (λ found. found.items) set_flags.read tokens.now at) }
+{
+    let at = found!(after_word(tokens, at, b"flags"));
+    separated::<Comma, Flag>(alloc, tokens, at)
+}
+
+/// "elements" "=" "{" elements "}"
+fn listed<E: Part>(
+    alloc: Global,
+    tokens: &[Token],
+    at: usize,
+) -> Result<Option<(E::Item, usize)>, Memory>
+    ensures { IfOk result (IsRead E.tree (keyword (codes "elements") ▹ sign Equals ▹ sign OpenBrace ▹ read_by E.read_at ◃ sign CloseBrace).read tokens.now at) }
+{
+    let at = found!(after_word(tokens, at, b"elements"));
+    let at = found!(after_mark(tokens, at, Mark::Equals));
+    let at = found!(after_mark(tokens, at, Mark::OpenBrace));
+    let (elements, at) = found!(E::read(alloc, tokens, at)?);
+    let at = found!(after_mark(tokens, at, Mark::CloseBrace));
+    Ok(Some((elements, at)))
 }
 
 /// key | "flags" sflag {"," sflag} | "size" NUM | "auto-merge" | "comment" STRING
@@ -69,7 +108,7 @@ impl<K: Part, E: Part> Part for AnyField<K, E> {
 
     ghost read_at = { (any_field (read_by K.read_at) (read_by E.read_at)).read };
 
-    #[tactic(auto, unfolding(crate::specs::Sets::any_field, crate::specs::Sets::other_field, crate::specs::Sets::set_flags))]
+    #[tactic(auto, unfolding(crate::specs::Sets::any_field, crate::specs::Sets::other_field))]
     fn read(
         alloc: Global,
         tokens: &[Token],
@@ -78,8 +117,7 @@ impl<K: Part, E: Part> Part for AnyField<K, E> {
         if let Some((key, at)) = K::read(alloc, tokens, at)? {
             return Ok(Some((Field::Key(key), at)));
         }
-        if let Some(at) = after_word(tokens, at, b"flags") {
-            let (flags, at) = found!(separated::<Comma, Flag>(alloc, tokens, at)?);
+        if let Some((flags, at)) = set_flags(alloc, tokens, at)? {
             return Ok(Some((Field::Flags(flags), at)));
         }
         if let Some(at) = after_word(tokens, at, b"size") {
@@ -92,13 +130,31 @@ impl<K: Part, E: Part> Part for AnyField<K, E> {
         if let Some((text, at)) = string_after(tokens, at, b"comment") {
             return Ok(Some((Field::Comment(Vec::from_slice(alloc, text)?), at)));
         }
-        let at = found!(after_word(tokens, at, b"elements"));
-        let at = found!(after_mark(tokens, at, Mark::Equals));
-        let at = found!(after_mark(tokens, at, Mark::OpenBrace));
-        let (elements, at) = found!(E::read(alloc, tokens, at)?);
-        let at = found!(after_mark(tokens, at, Mark::CloseBrace));
+        let (elements, at) = found!(listed::<E>(alloc, tokens, at)?);
         Ok(Some((Field::Elements(elements), at)))
     }
+}
+
+/// What the fields say together, where no two are of one kind.
+fn gathered<K: Part, E: Part>(
+    fields: Vec<Field<K::Item, E::Item>>,
+) -> Option<Fields<K::Item, E::Item>>
+    ensures { option_map (fields_tree K.tree E.tree) result ≡ gathered (map (field_tree K.tree E.tree) fields.items) }
+{
+    let mut all = Fields {
+        key: None,
+        flags: None,
+        size: None,
+        auto_merge: false,
+        comment: None,
+        elements: None,
+    };
+    for field in fields {
+        if !put::<K, E>(&mut all, field) {
+            return None;
+        }
+    }
+    Some(all)
 }
 
 /// kind NAME "{" {end} field {end {end} field} {end} "}"
@@ -117,18 +173,6 @@ pub(crate) fn block<K: Part, E: Part>(
     let at = skip_ends(tokens, at);
     let (fields, at) = found!(lines::<AnyField<K, E>>(alloc, tokens, at)?);
     let at = found!(after_mark(tokens, at, Mark::CloseBrace));
-    let mut all = Fields {
-        key: None,
-        flags: None,
-        size: None,
-        auto_merge: false,
-        comment: None,
-        elements: None,
-    };
-    for field in fields {
-        if !put::<K, E>(&mut all, field) {
-            return Ok(None);
-        }
-    }
+    let all = found!(gathered::<K, E>(fields));
     Ok(Some(((Vec::from_slice(alloc, name)?, all), at)))
 }

@@ -2,7 +2,8 @@
 ghost use Rattle.nft_tree.specs.declared.selector.ValueType.{ValueType};
 ghost use Rattle.nft_tree.specs.declared.set.MapType.{MapType};
 ghost use Rattle.nft_tree.specs.Tree.{SetTypeTree, set_type_tree};
-ghost use Rattle.nft_sets.specs.Sets.{map_type, set_type, value_type};
+ghost use Rattle.token_reader.specs.Readers.{IsRead};
+ghost use Rattle.nft_sets.specs.Sets.{data_selector, data_type, map_type, set_type, value_type};
 
 use nft_lexer::{Mark, Token};
 use nft_selectors::{anysel, selectors};
@@ -61,6 +62,30 @@ impl Part for SetTypes {
     }
 }
 
+/// TYPE | "verdict"
+#[tactic(auto, unfolding(crate::specs::Sets::data_type))]
+fn data_type(tokens: &[Token], at: usize) -> Option<(TypeOrVerdict, usize)>
+    ensures { IsRead (λ t. t) data_type.read tokens.now at result }
+{
+    let (name, at) = word(tokens, at)?;
+    if name == b"verdict".as_slice() {
+        return Some((TypeOrVerdict::Verdict, at));
+    }
+    Some((TypeOrVerdict::Type(ValueType::named(name)?), at))
+}
+
+/// anysel | "verdict"
+#[tactic(auto, unfolding(crate::specs::Sets::data_selector))]
+fn data_selector(tokens: &[Token], at: usize) -> Option<(SelectorOrVerdict, usize)>
+    ensures { IsRead (λ s. s) data_selector.read tokens.now at result }
+{
+    if let Some((found, at)) = anysel(tokens, at) {
+        return Some((SelectorOrVerdict::Selector(found), at));
+    }
+    let at = after_word(tokens, at, b"verdict")?;
+    Some((SelectorOrVerdict::Verdict, at))
+}
+
 /// "type" TYPE ":" (TYPE | "verdict") | "typeof" anysel ":" (anysel | "verdict")
 pub(crate) struct MapTypes;
 
@@ -73,7 +98,7 @@ impl Part for MapTypes {
 
     ghost read_at = { map_type.read };
 
-    #[tactic(auto, unfolding(crate::specs::Sets::map_type, crate::specs::Sets::value_type, crate::specs::Sets::data_type, crate::specs::Sets::data_selector))]
+    #[tactic(auto, unfolding(crate::specs::Sets::map_type))]
     fn read(
         alloc: Global,
         tokens: &[Token],
@@ -82,21 +107,13 @@ impl Part for MapTypes {
         if let Some(at) = after_word(tokens, at, b"type") {
             let (key, at) = found!(TypeName::read(alloc, tokens, at)?);
             let at = found!(after_mark(tokens, at, Mark::Colon));
-            let (name, at) = found!(word(tokens, at));
-            if name == b"verdict".as_slice() {
-                return Ok(Some((MapType::Types(key, TypeOrVerdict::Verdict), at)));
-            }
-            let value = TypeOrVerdict::Type(found!(ValueType::named(name)));
+            let (value, at) = found!(data_type(tokens, at));
             return Ok(Some((MapType::Types(key, value), at)));
         }
         let at = found!(after_word(tokens, at, b"typeof"));
         let (key, at) = found!(anysel(tokens, at));
         let at = found!(after_mark(tokens, at, Mark::Colon));
-        if let Some((found, at)) = anysel(tokens, at) {
-            let value = SelectorOrVerdict::Selector(found);
-            return Ok(Some((MapType::Selectors(key, value), at)));
-        }
-        let at = found!(after_word(tokens, at, b"verdict"));
-        Ok(Some((MapType::Selectors(key, SelectorOrVerdict::Verdict), at)))
+        let (value, at) = found!(data_selector(tokens, at));
+        Ok(Some((MapType::Selectors(key, value), at)))
     }
 }

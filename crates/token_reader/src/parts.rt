@@ -176,7 +176,8 @@ pub fn lines<P: Part>(
     let Some((first, at)) = P::read(alloc, tokens, at)? else {
         return Ok(None);
     };
-    let mut found = Vec::new(alloc);
+    // Room for one: many chains have one rule.
+    let mut found = Vec::with_capacity(alloc, 1)?;
     found.push(first)?;
     let end = more::<NextLine<P>>(alloc, tokens, at, &mut found)?;
     Ok(Some((found, skip_ends(tokens, end))))

@@ -296,7 +296,7 @@ test_fits s = comparison_fits s
 tested_fits : (s : Selector) (m : MatchTree) (w : Text) (a to : List Sign) → (set_test (s ∷ []) ∣ direct (s ∷ [])).spells m (word w ∷ a) to → stands set_ref.first to ≡ false → Fits s w a
 unfolding set_test equality set_ref
 tested_fits s m w a to (inl set) none = absurd (cc (begins (set_test (s ∷ [])) (lawful_set_test (s ∷ [])) refl m (word w ∷ a) to set))
-tested_fits s m w a to (inr one_test) none = test_fits s m w a to one_test none
+tested_fits s m w a to (inr one) none = test_fits s m w a to one none
 
 only_key : (ts : List Selector) (s : Selector) (m : MatchTree) (w : Text) (a mid to : List Sign) → Many (sign Dot ▹ selector).spells ts (word w ∷ a) mid → (set_test (s ∷ ts) ∣ direct (s ∷ ts)).spells m mid to → stands set_ref.first to ≡ false → Fits s w a
 only_key [] s m w a mid to last tested none = tested_fits s m w a to (rw (sym last) at tested) none

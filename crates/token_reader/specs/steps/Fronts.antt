@@ -2,36 +2,15 @@
 use Rattle.std.specs.Prelude.{ℕ, List, ◌∷◌, Bool, true, false, ◌==◌}
 use Rattle.std.specs.List.{list_any}
 use Rattle.std.specs.Str.{bytes_eq}
+use denote.Enum.Declared.{tag_of}
 use Rattle.nft_lexer.specs.declared.token.Mark.{Mark}
-use Rattle.nft_lexer.specs.declared.token.Mark.TheVariants as marks
+use Rattle.nft_lexer.specs.contracts.token.Mark.{the_type}
 use Rattle.nft_lexer.specs.Sign as signs
 use Rattle.nft_lexer.specs.Sign.{Sign}
 
 -- marks by number, to compare them
 abbrev pub place : Mark → ℕ
-place = elim [
-  | marks.OpenBrace ↦ 0
-  | marks.CloseBrace ↦ 1
-  | marks.OpenParenthesis ↦ 2
-  | marks.CloseParenthesis ↦ 3
-  | marks.Comma ↦ 4
-  | marks.Semicolon ↦ 5
-  | marks.Colon ↦ 6
-  | marks.Dot ↦ 7
-  | marks.Slash ↦ 8
-  | marks.Minus ↦ 9
-  | marks.Plus ↦ 10
-  | marks.Equals ↦ 11
-  | marks.At ↦ 12
-  | marks.Ampersand ↦ 13
-  | marks.Bar ↦ 14
-  | marks.EqualTo ↦ 15
-  | marks.NotEqualTo ↦ 16
-  | marks.AtMost ↦ 17
-  | marks.AtLeast ↦ 18
-  | marks.Below ↦ 19
-  | marks.Above ↦ 20
-]
+place = tag_of the_type
 
 -- tokens that may stand in front
 pub data Front : Type 0 where

@@ -86,12 +86,6 @@ pub seen_found : {X A : Type 0} (P : A → Type 0) (view : X → A) (o : Option 
 seen_found P view None read e found = tt
 seen_found P view (Some x) read e found = IfSome_at read P (view x) (sym e) found
 
-pub seen_only : {X A : Type 0} (view : X → A) (o : Option X) (read : Option A) (a : A) → option_map view o ≡ read → read ≡ Some a → IsSomeAnd o (λ x. view x ≡ a)
-seen_only {X} {A} view None read a e only =
-    let same : ◌≡◌ {A = Option A} None (Some a) = e ∙ only in
-    absurd cc
-seen_only view (Some x) read a e only = some_is (view x) a (e ∙ only)
-
 -- the same of a reader: what it gives at a place, and the place after it
 pub reader_found : {X A : Type 0} (P : A → List Sign → List Sign → Type 0) (view : X → A) (rest : ℕ → List Sign) (read : List Sign → Option (A × List Sign)) (from : List Sign) (o : Option (X × ℕ))
     → option_map (λ x. (view x.0, rest x.1)) o ≡ read from → Finds P read → IfSome o (λ x. P (view x.0) from (rest x.1))

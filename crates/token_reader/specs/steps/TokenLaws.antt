@@ -103,13 +103,6 @@ ends_or_not (newline ∷ ts) = inl (ts, inl refl, refl, refl)
 ends_or_not (mark marks.Semicolon ∷ ts) = inl (ts, inr refl, refl, refl)
 ends_or_not ts = inr (refl, refl)
 
-end_found : (ts : List Sign) → IfSome (after_end ts) (λ a. SpellsEnd ts a)
-end_found ts =
-    elim (ends_or_not ts) [
-      | inl s ↦ rw s.2 s.1
-      | inr s ↦ rw s.0 tt
-    ]
-
 end_only : (from to : List Sign) → SpellsEnd from to → (after_end from ≡ Some to) × (skip_ends from ≡ skip_ends to) × (length from ≡ suc (length to))
 end_only from to (inl e) = rw e (refl, refl, refl)
 end_only from to (inr e) = rw e (refl, refl, refl)

@@ -7,7 +7,7 @@ use Rattle.nft_lexer.proofs.Cuttings.{passes_less, reached_none, reached_push, r
 use Rattle.nft_lexer.proofs.cutting.tokens.Goals as goal
 
 pub loop-rest-init : goal.loop-rest-init
-loop-rest-init c = rw c.new-found.ensures.items (reached_none c.args.text.now)
+loop-rest-init c = rw c.in_ok-found.ensures.items (reached_none c.args.text.now)
 
 passed : (c : goal.In_ok-append) → Passes c.loop-rest.rest.now (listed spelled c.in-Ok.read.0) c.in-Ok.read.1.now
 passed c =

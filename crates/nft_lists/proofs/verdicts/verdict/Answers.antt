@@ -1,15 +1,11 @@
-use Rattle.std.proofs.Common.{refl, rules}
+use Rattle.std.proofs.Common.{refl}
 use Rattle.nft_tree.specs.Tree.{verdict_tree}
 use Rattle.token_reader.specs.Readers.{Anything}
-use Rattle.token_reader.specs.steps.Lawful.{reads_from}
+use Rattle.token_reader.specs.steps.Lawful.{taking_reads}
 use Rattle.nft_lists.specs.Elements.{verdict}
 use Rattle.nft_lists.specs.steps.Laws.{lawful_verdict}
 use Rattle.nft_lists.proofs.verdicts.verdict.Goals as goal
 
-pub returns-in-Some-after_word-4-2-clause-reads : goal.returns-in-Some-after_word-4-2-clause-reads
+pub returns-clause-reads : goal.returns-clause-reads
 unfolding verdict
-returns-in-Some-after_word-4-2-clause-reads c = reads_from lawful_verdict Anything (λ ts e. refl) verdict_tree c.args.tokens.now c.args.at _ (search rules)
-
-pub returns-3-clause-reads : goal.returns-3-clause-reads
-unfolding verdict
-returns-3-clause-reads c = reads_from lawful_verdict Anything (λ ts e. refl) verdict_tree c.args.tokens.now c.args.at _ (search rules)
+returns-clause-reads c = taking_reads lawful_verdict Anything (λ ts e. refl) verdict_tree c.args.tokens.now c.args.at c.verdict_here.result c.verdict_here.ensures
