@@ -14,9 +14,9 @@ use Rattle.nft_tree.specs.Tree.{LookTree, OperandTree, NatTree, Statement, RuleT
 use Rattle.token_reader.specs.Repeats.{stops}
 use Rattle.token_reader.specs.Grammar.{Grammar, keyword, sign, a_number, an_address, a_string, maybe, many, made, named, ◌⨾◌, ◌▹◌, ◌∣◌}
 use Rattle.token_reader.specs.steps.Reading.{◌>>=◌}
-use Rattle.nft_selectors.specs.Selectors.{selector}
-use Rattle.nft_lists.specs.Elements.{comment, verdict, map_ref}
-use Rattle.nft_matches.specs.Matches.{matching}
+use Rattle.nft_expressions.specs.Selectors.{selector}
+use Rattle.nft_expressions.specs.Elements.{comment, verdict, map_ref}
+use Rattle.nft_rules.specs.Matches.{matching}
 
 -- look = anysel "map" mapref
 unfoldable pub look : Grammar LookTree

@@ -6,9 +6,8 @@ ghost use Rattle.nft_tree.specs.Tree.{look_tree, operand_tree};
 ghost use Rattle.token_reader.specs.Readers.{IsRead};
 ghost use Rattle.nft_rules.specs.Rules.{look, mark_field, operand};
 
+use nft_expressions::{anysel, map_ref};
 use nft_lexer::Token;
-use nft_lists::map_ref;
-use nft_selectors::anysel;
 use nft_tree::{Look, MarkField, Memory, Operand, Selector};
 use std::alloc::Global;
 use token_reader::{after_word, found, number};

@@ -6,8 +6,8 @@ ghost use Rattle.token_reader.specs.Readers.{IsAfter, IsRead, ahead};
 ghost use Rattle.nft_rules.specs.Rules.{SpellsEndedRule, ended_rule};
 
 use crate::statements::AnyStatement;
+use nft_expressions::comment;
 use nft_lexer::Token;
-use nft_lists::comment;
 use nft_tree::{Memory, Rule};
 use std::alloc::Global;
 use token_reader::{Part, found, more, stops};

@@ -3,16 +3,15 @@ ghost use Rattle.std.specs.Prelude.{IfOk};
 ghost use Rattle.nft_tree.specs.Tree.{Statement, matching, statement};
 ghost use Rattle.token_reader.specs.Grammar.{made, ◌∣◌};
 ghost use Rattle.token_reader.specs.Readers.{IsRead};
-ghost use Rattle.nft_matches.specs.Matches as matches;
+ghost use Rattle.nft_rules.specs.Matches as matches;
 ghost use Rattle.nft_rules.specs.Rules as rules;
 
 use crate::counters::{counter, log};
 use crate::marks::{mark_field, operand};
+use crate::matches::match_after;
 use crate::nat::nat;
+use nft_expressions::{anysel, map_ref, verdict};
 use nft_lexer::Token;
-use nft_lists::{map_ref, verdict};
-use nft_matches::match_after;
-use nft_selectors::anysel;
 use nft_tree::{Memory, Stmt};
 use std::alloc::Global;
 use token_reader::{Part, after_word, found, word};
@@ -20,7 +19,7 @@ use token_reader::{Part, after_word, found, word};
 /// ("meta" | "ct") "mark" "set" operand | anysel "vmap" mapref | match
 ///
 /// The selector is read once: what stands behind it tells the rest.
-#[tactic(auto, unfolding(crate::specs::Rules::set_mark, crate::specs::Rules::verdict_map, nft_matches::specs::Matches::matching, nft_matches::specs::steps::Reading::match_after))]
+#[tactic(auto, unfolding(crate::specs::Rules::set_mark, crate::specs::Rules::verdict_map, crate::specs::Matches::matching, crate::specs::steps::Reading::match_after))]
 fn selected(alloc: Global, tokens: &[Token], at: usize) -> Result<Option<(Stmt, usize)>, Memory>
     ensures { IfOk result (IsRead statement (rules.set_mark ∣ rules.verdict_map ∣ made matching matches.matching).read tokens.now at) }
 {

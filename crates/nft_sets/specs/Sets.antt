@@ -15,8 +15,8 @@ use Rattle.nft_tree.specs.Tree as tree
 use Rattle.nft_tree.specs.Tree.{Text, SetTypeTree, SetTree, MapTree}
 use Rattle.nft_tree.specs.Words.{type_named}
 use Rattle.token_reader.specs.Grammar.{Grammar, keyword, sign, a_word, a_number, a_string, ends, made, named, one_of, separated, lines, ◌⨾◌, ◌▹◌, ◌◃◌, ◌∣◌}
-use Rattle.nft_selectors.specs.Selectors.{selector, selectors}
-use Rattle.nft_lists.specs.Elements as lists
+use Rattle.nft_expressions.specs.Selectors.{selector, selectors}
+use Rattle.nft_expressions.specs.Elements as lists
 
 -- one field of a set or a map
 pub data Field (K E : Type 0) : Type 0 where

@@ -78,7 +78,7 @@ fn set_flags(
 }
 
 /// "elements" "=" "{" elements "}"
-fn listed<E: Part>(
+fn elements_field<E: Part>(
     alloc: Global,
     tokens: &[Token],
     at: usize,
@@ -130,7 +130,7 @@ impl<K: Part, E: Part> Part for AnyField<K, E> {
         if let Some((text, at)) = string_after(tokens, at, b"comment") {
             return Ok(Some((Field::Comment(Vec::from_slice(alloc, text)?), at)));
         }
-        let (elements, at) = found!(listed::<E>(alloc, tokens, at)?);
+        let (elements, at) = found!(elements_field::<E>(alloc, tokens, at)?);
         Ok(Some((Field::Elements(elements), at)))
     }
 }

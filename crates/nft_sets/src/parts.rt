@@ -1,10 +1,10 @@
 //! The elements of sets and of maps, as parts of a grammar.
 ghost use Rattle.std.specs.Prelude.{List, map};
 ghost use Rattle.nft_tree.specs.Tree.{ElementTree, PairTree, element_tree, pair_tree};
-ghost use Rattle.nft_lists.specs.Elements.{elements, pairs};
+ghost use Rattle.nft_expressions.specs.Elements.{elements, pairs};
 
+use nft_expressions::{elems, pairs};
 use nft_lexer::Token;
-use nft_lists::{elems, pairs};
 use nft_tree::{Element, Memory, Pair};
 use std::alloc::Global;
 use token_reader::Part;

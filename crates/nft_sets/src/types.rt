@@ -5,8 +5,8 @@ ghost use Rattle.nft_tree.specs.Tree.{SetTypeTree, set_type_tree};
 ghost use Rattle.token_reader.specs.Readers.{IsRead};
 ghost use Rattle.nft_sets.specs.Sets.{data_selector, data_type, map_type, set_type, value_type};
 
+use nft_expressions::{anysel, selectors};
 use nft_lexer::{Mark, Token};
-use nft_selectors::{anysel, selectors};
 use nft_tree::{MapType, Memory, SelectorOrVerdict, SetType, TypeOrVerdict, ValueType};
 use std::alloc::Global;
 use token_reader::{Dot, Part, after_mark, after_word, found, separated, word};

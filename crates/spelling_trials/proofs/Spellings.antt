@@ -10,8 +10,8 @@ use Rattle.token_reader.specs.Repeats.{Many}
 use Rattle.token_reader.specs.Grammar.{Grammar}
 use Rattle.token_reader.specs.steps.Laws.{IfSome_at}
 use Rattle.token_reader.specs.steps.Lawful.{Lawful}
-use Rattle.nft_lists.specs.Elements.{comment}
-use Rattle.nft_matches.specs.Matches.{is_range_for, comparison, bits, listed, masked_by, flag_list, masked, one_test, direct, set_test, matching}
+use Rattle.nft_expressions.specs.Elements.{comment}
+use Rattle.nft_rules.specs.Matches.{is_range_for, comparison, bits, listed, masked_by, flag_list, masked, one_test, direct, set_test, matching}
 use Rattle.nft_rules.specs.Rules.{statement, rule, SpellsRule}
 use Rattle.nft_rules.specs.steps.Laws.{lawful_statement}
 use Rattle.nft_parser.specs.Rulesets.{SpellsRuleset}

@@ -6,8 +6,8 @@ ghost use Rattle.nft_tree.specs.declared.selector.Selector.TheVariants as select
 ghost use Rattle.nft_tree.specs.declared.statement.Operator.{Operator};
 ghost use Rattle.nft_tree.specs.Tree as tree;
 ghost use Rattle.nft_tree.specs.Tree.{RangeTree, TableTree, VerdictTree};
-ghost use Rattle.nft_lists.specs.Elements.{SpellsElements, map_data, verdict};
-ghost use Rattle.nft_matches.specs.Matches.{matching};
+ghost use Rattle.nft_expressions.specs.Elements.{SpellsElements, map_data, verdict};
+ghost use Rattle.nft_rules.specs.Matches.{matching};
 ghost use Rattle.nft_rules.specs.Rules.{SpellsRule};
 ghost use Rattle.nft_parser.specs.Chains.{chain};
 ghost use Rattle.nft_sets.specs.Sets.{named_set, named_map};

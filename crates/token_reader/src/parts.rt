@@ -176,7 +176,7 @@ pub fn lines<P: Part>(
     let Some((first, at)) = P::read(alloc, tokens, at)? else {
         return Ok(None);
     };
-    // Room for one: many chains have one rule.
+    // Room for one: many lists have one part.
     let mut found = Vec::with_capacity(alloc, 1)?;
     found.push(first)?;
     let end = more::<NextLine<P>>(alloc, tokens, at, &mut found)?;

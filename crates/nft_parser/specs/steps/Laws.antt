@@ -17,10 +17,10 @@ use Rattle.token_reader.specs.steps.Reading.{◌>>=◌}
 use Rattle.token_reader.specs.steps.Laws.{bind_found, else_found, Finds}
 use Rattle.token_reader.specs.steps.TokenLaws.{when_found, word_found}
 use Rattle.token_reader.specs.steps.Lawful.{Lawful, shortens, begins, unread, stands_left, stands_right, lawful_keyword, lawful_sign, lawful_word, lawful_number, lawful_string, lawful_ends, lawful_some_ends, lawful_then, lawful_after, lawful_before, lawful_either, lawful_maybe, lawful_many, lawful_made, lawful_one_of, lawful_lines}
-use Rattle.nft_selectors.specs.Selectors.{selector, selectors}
-use Rattle.nft_lists.specs.Elements.{verdict}
+use Rattle.nft_expressions.specs.Selectors.{selector, selectors}
+use Rattle.nft_expressions.specs.Elements.{verdict}
 use Rattle.nft_rules.specs.Rules.{counter, log, nat, set_mark, verdict_map, statement, rule, ended_rule}
-use Rattle.nft_matches.specs.Matches.{matching}
+use Rattle.nft_rules.specs.Matches.{matching}
 use Rattle.nft_rules.specs.steps.Laws.{lawful_rule}
 use Rattle.nft_sets.specs.Sets.{named_set, named_map, block}
 use Rattle.nft_sets.specs.steps.Laws.{lawful_set, lawful_map}

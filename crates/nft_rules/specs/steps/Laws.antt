@@ -13,12 +13,12 @@ use Rattle.token_reader.specs.steps.Reading.{word_at}
 use Rattle.token_reader.specs.steps.Laws.{some_is, bind_found}
 use Rattle.token_reader.specs.steps.TokenLaws.{when_found}
 use Rattle.token_reader.specs.steps.Lawful.{Lawful, stands_apart, neither, begins, lawful_keyword, lawful_sign, lawful_number, lawful_address, lawful_string, lawful_then, lawful_after, lawful_either, lawful_first, lawful_maybe, lawful_many, lawful_made, lawful_named}
-use Rattle.nft_selectors.specs.Selectors.{selector, selectors, is_word_for}
-use Rattle.nft_selectors.specs.steps.Laws.{lawful_selector}
-use Rattle.nft_lists.specs.Elements.{range, comment, verdict, elements, set_ref, pairs, map_ref}
-use Rattle.nft_lists.specs.steps.Laws.{lawful_comment, lawful_verdict, lawful_map_ref}
-use Rattle.nft_matches.specs.Matches.{matching, words, flag_list, masked, flag_group, flags, flag, equality}
-use Rattle.nft_matches.specs.steps.Laws.{lawful_matching, match_word}
+use Rattle.nft_expressions.specs.Selectors.{selector, selectors, is_word_for}
+use Rattle.nft_expressions.specs.steps.SelectorLaws.{lawful_selector}
+use Rattle.nft_expressions.specs.Elements.{range, comment, verdict, elements, set_ref, pairs, map_ref}
+use Rattle.nft_expressions.specs.steps.Laws.{lawful_comment, lawful_verdict, lawful_map_ref}
+use Rattle.nft_rules.specs.Matches.{matching, words, flag_list, masked, flag_group, flags, flag, equality}
+use Rattle.nft_rules.specs.steps.MatchLaws.{lawful_matching, match_word}
 use Rattle.nft_rules.specs.Rules.{look, mark_field, operand, ports, to_word, target, nat, counter, log, set_mark, verdict_map, statement, rule, Stops}
 use Rattle.nft_rules.specs.Rules.{ended_rule}
 

@@ -9,12 +9,12 @@ use Rattle.nft_tree.specs.Tree.{SetTree, MapTree}
 use Rattle.token_reader.specs.Grammar.{Grammar, ends_front, keyword, sign, lines, ◌▹◌, ◌◃◌}
 use Rattle.token_reader.specs.Readers.{Anything, IsRead, Reads}
 use Rattle.token_reader.specs.steps.Lawful.{Lawful, reads_from, are_apart, lawful_keyword, lawful_sign, lawful_word, lawful_number, lawful_string, lawful_ends, lawful_after, lawful_before, lawful_then, lawful_either, lawful_made, lawful_named, lawful_one_of, lawful_separated, lawful_lines}
-use Rattle.nft_lists.specs.Elements.{elements, pairs}
-use Rattle.nft_lists.specs.steps.Laws.{lawful_elements, lawful_pairs}
+use Rattle.nft_expressions.specs.Elements.{elements, pairs}
+use Rattle.nft_expressions.specs.steps.Laws.{lawful_elements, lawful_pairs}
 use Rattle.nft_sets.specs.Sets.{set_of, map_of, gathered, value_type, value_types, set_type, data_type, data_selector, map_type, set_flags, other_field, any_field, block, named_set, named_map}
 use Rattle.nft_sets.specs.Sets as sets
-use Rattle.nft_selectors.specs.Selectors.{selector, selectors}
-use Rattle.nft_selectors.specs.steps.Laws.{lawful_selector, lawful_selectors}
+use Rattle.nft_expressions.specs.Selectors.{selector, selectors}
+use Rattle.nft_expressions.specs.steps.SelectorLaws.{lawful_selector, lawful_selectors}
 use Rattle.nft_sets.specs.steps.Reading.{read_by}
 
 lawful_value_type : Lawful value_type

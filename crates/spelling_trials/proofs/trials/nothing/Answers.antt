@@ -5,8 +5,8 @@ use Rattle.nft_tree.specs.declared.selector.Selector.TheVariants as selectors
 use Rattle.nft_tree.specs.Tree as tree
 use Rattle.token_reader.specs.steps.Reading.{many_at}
 use Rattle.token_reader.specs.steps.Lawful.{begins}
-use Rattle.nft_lists.specs.Elements.{is_data_value, verdict, map_data, elements}
-use Rattle.nft_lists.specs.steps.Laws.{lawful_verdict}
+use Rattle.nft_expressions.specs.Elements.{is_data_value, verdict, map_data, elements}
+use Rattle.nft_expressions.specs.steps.Laws.{lawful_verdict}
 use Rattle.nft_parser.specs.Rulesets.{flush, whole_ruleset, table}
 use Rattle.nft_parser.specs.steps.Laws.{ruleset_at, ruleset_only}
 use Rattle.spelling_trials.proofs.Spellings.{compares}

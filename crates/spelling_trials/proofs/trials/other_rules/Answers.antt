@@ -1,11 +1,11 @@
 use Rattle.std.proofs.Common.{None, inl, inr, refl}
 use Rattle.token_reader.specs.steps.Reading.{many_at}
-use Rattle.nft_selectors.specs.Selectors.{selector}
-use Rattle.nft_lists.specs.Elements.{range, key, element, comment, verdict, map_data, pair, elements, pairs, set_ref, map_ref}
-use Rattle.nft_lists.specs.steps.Reading.{one_or_prefix, range_after, key_after, enclosed_at, listed_at, up_to_brace_at}
-use Rattle.nft_matches.specs.Matches.{equality, inequality, operator, comparison, one_test, set_test, matching}
+use Rattle.nft_expressions.specs.Selectors.{selector}
+use Rattle.nft_expressions.specs.Elements.{range, key, element, comment, verdict, map_data, pair, elements, pairs, set_ref, map_ref}
+use Rattle.nft_expressions.specs.steps.Reading.{one_or_prefix, range_after, key_after, enclosed_at, listed_at, up_to_brace_at}
+use Rattle.nft_rules.specs.Matches.{equality, inequality, operator, comparison, one_test, set_test, matching}
 use Rattle.nft_rules.specs.Rules.{look, operand, ports, to_word, nat, counter, log, set_mark, verdict_map, statement, rule}
-use Rattle.nft_selectors.specs.steps.Laws.{lawful_selector}
+use Rattle.nft_expressions.specs.steps.SelectorLaws.{lawful_selector}
 use Rattle.nft_rules.specs.steps.Laws.{lawful_statement}
 use Rattle.spelling_trials.proofs.Spellings.{said, plain_said}
 use Rattle.spelling_trials.proofs.trials.other_rules.Goals as goal

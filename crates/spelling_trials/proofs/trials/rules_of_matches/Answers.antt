@@ -1,9 +1,9 @@
 use Rattle.std.proofs.Common.{refl}
 use Rattle.token_reader.specs.steps.Reading.{many_at}
-use Rattle.nft_selectors.specs.Selectors.{selector}
-use Rattle.nft_lists.specs.Elements.{range, key, element, comment, verdict, elements, set_ref}
-use Rattle.nft_lists.specs.steps.Reading.{one_or_prefix, range_after, joined_after, key_after, enclosed_at, listed_at, up_to_brace_at}
-use Rattle.nft_matches.specs.Matches.{equality, inequality, operator, comparison, words, bits, flag, flags, flag_group, flag_list, masked, one_test, set_test, matching}
+use Rattle.nft_expressions.specs.Selectors.{selector}
+use Rattle.nft_expressions.specs.Elements.{range, key, element, comment, verdict, elements, set_ref}
+use Rattle.nft_expressions.specs.steps.Reading.{one_or_prefix, range_after, joined_after, key_after, enclosed_at, listed_at, up_to_brace_at}
+use Rattle.nft_rules.specs.Matches.{equality, inequality, operator, comparison, words, bits, flag, flags, flag_group, flag_list, masked, one_test, set_test, matching}
 use Rattle.nft_rules.specs.Rules.{nat, counter, log, set_mark, verdict_map, statement}
 use Rattle.spelling_trials.proofs.Spellings.{plain_said}
 use Rattle.spelling_trials.proofs.trials.rules_of_matches.Goals as goal

@@ -1,9 +1,9 @@
 use Rattle.std.proofs.Common.{refl}
 use Rattle.token_reader.specs.steps.Reading.{many_at}
-use Rattle.nft_selectors.specs.Selectors.{selector, selectors}
-use Rattle.nft_lists.specs.Elements.{range, key, element, comment, verdict, map_data, pair, elements, pairs, set_ref, map_ref}
-use Rattle.nft_lists.specs.steps.Reading.{one_or_prefix, range_after, key_after, enclosed_at, listed_at, up_to_brace_at}
-use Rattle.nft_matches.specs.Matches.{equality, inequality, operator, comparison, one_test, set_test, matching}
+use Rattle.nft_expressions.specs.Selectors.{selector, selectors}
+use Rattle.nft_expressions.specs.Elements.{range, key, element, comment, verdict, map_data, pair, elements, pairs, set_ref, map_ref}
+use Rattle.nft_expressions.specs.steps.Reading.{one_or_prefix, range_after, key_after, enclosed_at, listed_at, up_to_brace_at}
+use Rattle.nft_rules.specs.Matches.{equality, inequality, operator, comparison, one_test, set_test, matching}
 use Rattle.nft_rules.specs.Rules.{look, to_word, nat, counter, log, set_mark, verdict_map, statement, rule}
 use Rattle.nft_rules.specs.Rules.{ended_rule}
 use Rattle.nft_sets.specs.Sets.{value_type, value_types, set_type, data_type, map_type, set_flags, other_field, any_field, block, named_set, named_map}

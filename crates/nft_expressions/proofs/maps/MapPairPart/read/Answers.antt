@@ -1,0 +1,36 @@
+use Rattle.std.proofs.Common.{◌≡◌, List, Some, inl, inr, refl, rules}
+use Rattle.nft_lexer.specs.declared.token.Mark.TheVariants.{Colon}
+use Rattle.nft_lexer.specs.Sign.{Sign}
+use Rattle.token_reader.specs.Grammar.{sign, ◌⨾◌, ◌◃◌}
+use Rattle.token_reader.specs.Readers.{ahead}
+use Rattle.token_reader.specs.steps.Laws.{option_cases}
+use Rattle.token_reader.specs.steps.Reading.{◌>>=◌, after_mark}
+use Rattle.nft_expressions.specs.Elements.{range, comment, map_data, pair}
+use Rattle.nft_expressions.proofs.maps.MapPairPart.read.Goals as goal
+
+-- a pair is read as its key up to the colon, and its data
+in_two : (ts : List Sign) → pair.read ts ≡ (range ⨾ comment ◃ sign Colon).read ts >>= λ k. map_data.read k.1 >>= λ d. Some (record { key = k.0.0; comment = k.0.1; value = d.0 }, d.1)
+unfolding pair
+in_two ts =
+    elim (option_cases (range.read ts)) [
+      | inl none ↦ rw none refl
+      | inr key ↦ rw key.1
+          (elim (option_cases (comment.read key.0.1)) [
+            | inl none ↦ rw none refl
+            | inr said ↦ rw said.1
+                (elim (option_cases (after_mark Colon said.0.1)) [
+                  | inl none ↦ rw none refl
+                  | inr after ↦ rw after.1
+                      (elim (option_cases (map_data.read after.0)) [ inl none ↦ rw none refl | inr found ↦ rw found.1 refl ])
+                ])
+          ])
+    ]
+
+pub returns : goal.returns
+returns c = rw (in_two (ahead c.args.tokens.now c.args.at)) (search rules)
+
+pub returns-2 : goal.returns-2
+returns-2 c = rw (in_two (ahead c.args.tokens.now c.args.at)) (search rules)
+
+pub returns-3 : goal.returns-3
+returns-3 c = rw (in_two (ahead c.args.tokens.now c.args.at)) (search rules)

@@ -1,0 +1,119 @@
+-- What spells values, elements of sets and of maps, and references to them.
+use Rattle.std.specs.Prelude.{◌≡◌, List, [], ◌∷◌, ◌++◌, ◌⊎◌, Option, codes, Bool, true, false, ◌||◌, not}
+use Rattle.std.specs.Str.{bytes_eq}
+use Rattle.nft_lexer.specs.declared.token.Mark.TheVariants.{OpenBrace, CloseBrace, Comma, Colon, Dot, Slash, Minus, At}
+use Rattle.nft_lexer.specs.Sign as signs
+use Rattle.nft_lexer.specs.Sign.{Sign, mark}
+use Rattle.nft_tree.specs.Tree as tree
+use Rattle.nft_tree.specs.Tree.{Text, ValueTree, RangeTree, KeyTree, ElementTree, DataTree, PairTree, VerdictTree, SetRefTree, MapRefTree}
+use Rattle.token_reader.specs.Repeats.{NoneOf, without_newlines}
+use Rattle.token_reader.specs.Grammar.{Grammar, Separated, line, this_mark, any_word, any_number, any_address, any_string, keyword, sign, a_word, a_number, an_address, a_string, one_of, maybe, many, made, passing, ◌⨾◌, ◌▹◌, ◌◃◌, ◌∣◌}
+use Rattle.nft_expressions.specs.steps.Reading.{value_at, range_at, key_at, up_to_brace_at}
+
+-- value = NUM | ADDR | WORD | STRING
+abbrev pub sign_of : ValueTree → Sign
+sign_of (tree.number n) = signs.number n
+sign_of (tree.address a) = signs.address a
+sign_of (tree.word w) = signs.word w
+sign_of (tree.string s) = signs.string s
+
+abbrev pub value : Grammar ValueTree
+value = record { spells = λ v from to. from ≡ sign_of v ∷ to; read = value_at; first = any_number ∷ any_address ∷ any_word ∷ any_string ∷ []; follow = []; empty = false }
+
+-- one = value | value "-" value | ADDR "/" NUM
+abbrev pub ranges : Grammar RangeTree
+ranges = made tree.one value ∣ made (λ x. tree.between x.0 x.1) (value ⨾ sign Minus ▹ value) ∣ made (λ x. tree.prefix x.0 x.1) (an_address ⨾ sign Slash ▹ a_number)
+
+unfoldable pub range : Grammar RangeTree
+range = record { spells = ranges.spells; read = range_at; first = value.first; follow = this_mark Minus ∷ this_mark Slash ∷ []; empty = false }
+
+-- no mark stands here that would go on with a range
+abbrev pub EndsRange : List Sign → Type 0
+EndsRange = NoneOf (mark Minus ∷ mark Slash ∷ [])
+
+-- "." value
+abbrev pub next_value : Grammar ValueTree
+next_value = sign Dot ▹ value
+
+-- key = one | value "." value {"." value}
+abbrev pub keys : Grammar KeyTree
+keys = made tree.single range ∣ made (λ x. tree.joined (x.0 ∷ x.1.0 ∷ x.1.1)) (value ⨾ next_value ⨾ many next_value)
+
+unfoldable pub key : Grammar KeyTree
+key = record { spells = keys.spells; read = key_at; first = value.first; follow = this_mark Dot ∷ this_mark Minus ∷ this_mark Slash ∷ []; empty = false }
+
+-- ["comment" STRING]
+unfoldable pub comment : Grammar (Option Text)
+comment = maybe (keyword (codes "comment") ▹ a_string)
+
+abbrev pub EndsComment : List Sign → Type 0
+EndsComment = NoneOf (signs.word (codes "comment") ∷ [])
+
+-- elem = key ["comment" STRING]
+unfoldable pub element : Grammar ElementTree
+element = made (λ x. record { key = x.0; comment = x.1 }) (key ⨾ comment)
+
+-- verdict = "accept" | "drop" | "continue" | "return" | ("jump" | "goto") NAME
+abbrev pub decisions : List (Text × VerdictTree)
+decisions = (codes "accept", tree.accept) ∷ (codes "drop", tree.drop) ∷ (codes "continue", tree.continue) ∷ (codes "return", tree.return) ∷ []
+
+unfoldable pub verdict : Grammar VerdictTree
+verdict = one_of decisions ∣ made tree.jump (keyword (codes "jump") ▹ a_word) ∣ made tree.goto (keyword (codes "goto") ▹ a_word)
+
+abbrev pub is_verdict_word : Text → Bool
+is_verdict_word w = bytes_eq w (codes "accept") || bytes_eq w (codes "drop") || bytes_eq w (codes "continue") || bytes_eq w (codes "return") || bytes_eq w (codes "jump") || bytes_eq w (codes "goto")
+
+-- a word that is data of a map is no word of a verdict
+abbrev pub is_data_value : ValueTree → Bool
+is_data_value (tree.number n) = true
+is_data_value (tree.address a) = true
+is_data_value (tree.word w) = not (is_verdict_word w)
+is_data_value (tree.string s) = true
+
+-- verdict | value
+unfoldable pub map_data : Grammar DataTree
+map_data = made tree.to_verdict verdict ∣ made tree.to_value (passing is_data_value value)
+
+-- pair = one ["comment" STRING] ":" (verdict | value)
+unfoldable pub pair : Grammar PairTree
+pair = made (λ x. record { key = x.0; comment = x.1.0; value = x.1.1 }) (range ⨾ comment ⨾ sign Colon ▹ map_data)
+
+-- x {"," x} [","]
+abbrev pub Listed : {A : Type 0} → Grammar A → List A → List Sign → List Sign → Type 0
+Listed p xs from to = (a : List Sign) × Separated (sign Comma) p xs from a × ((a ≡ to) ⊎ (a ≡ mark Comma ∷ to))
+
+-- a list up to the brace that closes it: the tokens before the brace, the newlines among them skipped, are the list
+pub record ListedUpTo {A : Type 0} (p : Grammar A) (xs : List A) (from to : List Sign) : Type 0 where
+  pub inner : List Sign
+  pub after : List Sign
+  pub joined : from ≡ inner ++ to
+  pub closed : to ≡ mark CloseBrace ∷ after
+  pub listed : Listed p xs (without_newlines inner) []
+
+abbrev pub up_to_brace : {A : Type 0} → Grammar A → Grammar (List A)
+up_to_brace p = record { spells = ListedUpTo p; read = up_to_brace_at p.read; first = line ∷ p.first; follow = []; empty = false }
+
+-- elems and pairs, with the brace after them
+unfoldable pub elements : Grammar (List ElementTree)
+elements = up_to_brace element
+
+unfoldable pub pairs : Grammar (List PairTree)
+pairs = up_to_brace pair
+
+abbrev pub SpellsElements : List ElementTree → List Sign → List Sign → Type 0
+SpellsElements = elements.spells
+
+abbrev pub SpellsPairs : List PairTree → List Sign → List Sign → Type 0
+SpellsPairs = pairs.spells
+
+-- "@" NAME | "{" x "}"
+abbrev pub reference : {A B : Type 0} → (Text → B) → (A → B) → Grammar A → Grammar B
+reference named listed p = made named (sign At ▹ a_word) ∣ made listed (sign OpenBrace ▹ p ◃ sign CloseBrace)
+
+-- setref = "@" NAME | "{" elems "}"
+unfoldable pub set_ref : Grammar SetRefTree
+set_ref = reference tree.named_set tree.elements elements
+
+-- mapref = "@" NAME | "{" pairs "}"
+unfoldable pub map_ref : Grammar MapRefTree
+map_ref = reference tree.named_map tree.pairs pairs

@@ -1,0 +1,4 @@
+pub mod Reading
+pub mod Braces
+pub mod SelectorLaws
+pub mod Laws

@@ -1,0 +1,94 @@
+//! Selectors, and selectors joined by dots.
+ghost use Rattle.std.specs.Prelude.{◌≡◌, List, IfOk, IfSome, IsSomeAnd};
+ghost use Rattle.nft_lexer.specs.Sign.{Sign};
+ghost use Rattle.nft_tree.specs.declared.selector.Selector.{Selector};
+ghost use Rattle.token_reader.specs.Readers.{IsAfter, IsRead, ahead};
+ghost use Rattle.nft_expressions.specs.Selectors.{EndsSelectors, SpellsSelector, selector, selectors};
+
+use crate::selector_words::{ALONE, IN_CT, IN_ICMP, IN_IP, IN_META, IN_TCP, IN_TH, IN_UDP};
+use nft_lexer::Token;
+use nft_tree::{Memory, Selector};
+use std::alloc::Global;
+use token_reader::{Dot, Part, after_word, one_of, separated};
+
+/// The one selector at this place, whatever follows it, and where it ends; none where no selector
+/// stands here.
+pub fn anysel(tokens: &[Token], at: usize) -> Option<(Selector, usize)>
+    // What is read is spelled here.
+    ensures found { IfSome result (λ x. SpellsSelector x.0 (ahead tokens.now at) (ahead tokens.now x.1)) }
+    // It ends behind this place, within the tokens.
+    ensures within { IfSome result (λ x. IsAfter tokens.now at x.1) }
+    // What is spelled here is read: there is no other selector, and where nothing is read there is none.
+    ensures only { (s : Selector) (to : List Sign) → SpellsSelector s (ahead tokens.now at) to → IsSomeAnd result (λ x. (x.0 ≡ s) × (ahead tokens.now x.1 ≡ to)) }
+    // It is what reading from left to right gives.
+    ensures read { IsRead (λ s. s) selector.read tokens.now at result }
+{
+    selector(tokens, at)
+}
+
+/// anysel
+#[tactic(auto, unfolding(crate::specs::Selectors::selector))]
+fn selector(tokens: &[Token], at: usize) -> Option<(Selector, usize)>
+    ensures { IsRead (λ s. s) selector.read tokens.now at result }
+{
+    if let Some(at) = after_word(tokens, at, b"ip") {
+        return one_of(tokens, at, &IN_IP);
+    }
+    if let Some(at) = after_word(tokens, at, b"meta") {
+        return one_of(tokens, at, &IN_META);
+    }
+    if let Some(at) = after_word(tokens, at, b"tcp") {
+        return one_of(tokens, at, &IN_TCP);
+    }
+    if let Some(at) = after_word(tokens, at, b"udp") {
+        return one_of(tokens, at, &IN_UDP);
+    }
+    if let Some(at) = after_word(tokens, at, b"th") {
+        return one_of(tokens, at, &IN_TH);
+    }
+    if let Some(at) = after_word(tokens, at, b"icmp") {
+        return one_of(tokens, at, &IN_ICMP);
+    }
+    if let Some(at) = after_word(tokens, at, b"ct") {
+        return one_of(tokens, at, &IN_CT);
+    }
+    one_of(tokens, at, &ALONE)
+}
+
+struct AnySelector;
+
+impl Part for AnySelector {
+    type Item = Selector;
+
+    ghost Tree = { Selector };
+
+    ghost tree = { λ s. s };
+
+    ghost read_at = { selector.read };
+
+    fn read(
+        _alloc: Global,
+        tokens: &[Token],
+        at: usize,
+    ) -> Result<Option<(Selector, usize)>, Memory> {
+        Ok(anysel(tokens, at))
+    }
+}
+
+/// The selectors at this place, joined by dots, as many as stand there, and where they end; none
+/// where no selector stands here.
+#[tactic(auto, unfolding(crate::specs::Selectors::selectors))]
+pub fn selectors(
+    alloc: Global,
+    tokens: &[Token],
+    at: usize,
+) -> Result<Option<(Vec<Selector>, usize)>, Memory>
+    // What is read is spelled here.
+    ensures found { IfOk result (λ o. IfSome o (λ x. selectors.spells x.0.items (ahead tokens.now at) (ahead tokens.now x.1))) }
+    // What is spelled here, with no further selector after it, is read.
+    ensures only { (ss : List Selector) (to : List Sign) → selectors.spells ss (ahead tokens.now at) to → EndsSelectors to → IfOk result (λ o. IsSomeAnd o (λ x. (x.0.items ≡ ss) × (ahead tokens.now x.1 ≡ to))) }
+    // It is what reading from left to right gives.
+    ensures read { IfOk result (IsRead (λ found. found.items) selectors.read tokens.now at) }
+{
+    separated::<Dot, AnySelector>(alloc, tokens, at)
+}

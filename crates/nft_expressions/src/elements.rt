@@ -1,0 +1,81 @@
+//! Elements of sets.
+ghost use Rattle.std.specs.Prelude.{◌≡◌, ◌≤◌, length, IfOk};
+ghost use Rattle.nft_tree.specs.Tree.{ElementTree, ValueTree, element_tree, key_tree, value_tree};
+ghost use Rattle.token_reader.specs.Readers.{ahead};
+ghost use Rattle.nft_expressions.specs.Elements.{element};
+ghost use Rattle.nft_expressions.specs.steps.Reading.{key_after, next_value_at};
+
+use crate::values::{comment, range_after, value, value_after};
+use nft_lexer::{Mark, Token};
+use nft_tree::{Element, Key, Memory, Range, Value};
+use std::alloc::Global;
+use token_reader::{Part, after_mark, found, more};
+
+/// "." value
+struct NextValue;
+
+impl Part for NextValue {
+    type Item = Value;
+
+    ghost Tree = { ValueTree };
+
+    ghost tree = { value_tree };
+
+    ghost read_at = { next_value_at };
+
+    fn read(alloc: Global, tokens: &[Token], at: usize) -> Result<Option<(Value, usize)>, Memory> {
+        value_after(alloc, tokens, at, Mark::Dot)
+    }
+}
+
+/// The key that begins with the value, and the place after it.
+#[tactic(auto, unfolding(crate::specs::steps::Reading::key_after, crate::specs::steps::Reading::joined_after))]
+fn key_after(
+    alloc: Global,
+    tokens: &[Token],
+    at: usize,
+    first: Value,
+) -> Result<(Key, usize), Memory>
+    ensures read { IfOk result (λ x. (key_tree x.0, ahead tokens.now x.1) ≡ key_after (value_tree first) (ahead tokens.now at)) }
+    ensures within { IfOk result (λ x. (at ≤ x.1) × (at ≤ length tokens.now → x.1 ≤ length tokens.now)) }
+{
+    let Some((second, at)) = NextValue::read(alloc, tokens, at)? else {
+        let (range, end) = range_after(alloc, tokens, at, first)?;
+        return Ok((Key::Single(range), end));
+    };
+    let mut values = Vec::new(alloc);
+    values.push(first)?;
+    values.push(second)?;
+    let end = more::<NextValue>(alloc, tokens, at, &mut values)?;
+    Ok((Key::Joined(values), end))
+}
+
+/// elem = key ["comment" STRING]
+pub(crate) struct SetElement;
+
+#[tactic(auto, unfolding(crate::specs::Elements::element, crate::specs::Elements::key, crate::specs::Elements::comment, crate::specs::steps::Reading::key_after, crate::specs::steps::Reading::range_after, crate::specs::steps::Reading::one_or_prefix))]
+impl Part for SetElement {
+    type Item = Element;
+
+    ghost Tree = { ElementTree };
+
+    ghost tree = { element_tree };
+
+    ghost read_at = { element.read };
+
+    fn read(
+        alloc: Global,
+        tokens: &[Token],
+        at: usize,
+    ) -> Result<Option<(Element, usize)>, Memory> {
+        let (first, at) = found!(value(alloc, tokens, at)?);
+        // Most elements are a value alone.
+        if after_mark(tokens, at, Mark::Comma).is_some() {
+            let key = Key::Single(Range::One(first));
+            return Ok(Some((Element { key, comment: None }, at)));
+        }
+        let (key, at) = key_after(alloc, tokens, at, first)?;
+        let (comment, at) = comment(alloc, tokens, at)?;
+        Ok(Some((Element { key, comment }, at)))
+    }
+}

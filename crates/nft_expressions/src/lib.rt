@@ -1,0 +1,21 @@
+//! Reads what rules are made of: selectors, values and ranges, elements of sets and of maps,
+//! references to both, and verdicts (nft(8), "Expressions", "Sets", "Maps", "Verdict statement").
+#![tactic(auto)]
+
+mod any_selector;
+mod between_braces;
+mod elements;
+mod listed_words;
+mod lists;
+mod maps;
+mod references;
+mod selector_words;
+mod values;
+mod verdicts;
+
+pub use any_selector::{anysel, selectors};
+pub use listed_words::lists_word;
+pub use lists::{elems, pairs};
+pub use references::{map_ref, set_ref};
+pub use values::{comment, range};
+pub use verdicts::verdict;

@@ -1,0 +1,89 @@
+//! Elements of maps.
+ghost use Rattle.std.specs.Prelude.{◌≡◌, option_map, IfOk};
+ghost use Rattle.nft_lexer.specs.declared.token.Mark.TheVariants as marks;
+ghost use Rattle.nft_tree.specs.Tree.{PairTree, data_tree, pair_tree, range_tree, value_tree};
+ghost use Rattle.token_reader.specs.Grammar.{sign, ◌⨾◌, ◌◃◌};
+ghost use Rattle.token_reader.specs.Readers.{IsRead};
+ghost use Rattle.nft_expressions.specs.Elements.{comment, is_data_value, map_data, pair, range};
+
+use crate::values::{comment, range_after, value};
+use crate::verdicts::verdict_here;
+use nft_lexer::{Mark, Token};
+use nft_tree::{Data, Memory, Pair, Range, Value};
+use std::alloc::Global;
+use token_reader::{Part, after_mark, found};
+
+/// Whether the value may be data of a map: no word that a verdict begins with is.
+fn is_data_value(value: &Value) -> bool
+    ensures { result ≡ is_data_value (value_tree value.now) }
+{
+    let Value::Word(word) = value else {
+        return true;
+    };
+    let word = word.as_slice();
+    !(word == b"accept".as_slice()
+        || word == b"drop".as_slice()
+        || word == b"continue".as_slice()
+        || word == b"return".as_slice()
+        || word == b"jump".as_slice()
+        || word == b"goto".as_slice())
+}
+
+/// verdict | value
+#[tactic(auto, unfolding(crate::specs::Elements::map_data))]
+fn map_data(alloc: Global, tokens: &[Token], at: usize) -> Result<Option<(Data, usize)>, Memory>
+    ensures { IfOk result (IsRead data_tree map_data.read tokens.now at) }
+{
+    if let Some((verdict, at)) = verdict_here(alloc, tokens, at)? {
+        return Ok(Some((Data::Verdict(verdict), at)));
+    }
+    let (value, at) = found!(value(alloc, tokens, at)?);
+    if !is_data_value(&value) {
+        return Ok(None);
+    }
+    Ok(Some((Data::Value(value), at)))
+}
+
+/// The key of a pair, with its comment: one ["comment" STRING] ":"
+#[tactic(auto, unfolding(crate::specs::Elements::range, crate::specs::Elements::comment, crate::specs::steps::Reading::range_after, crate::specs::steps::Reading::one_or_prefix))]
+fn map_key(
+    alloc: Global,
+    tokens: &[Token],
+    at: usize,
+) -> Result<Option<((Range, Option<Vec<u8>>), usize)>, Memory>
+    ensures { IfOk result (IsRead (λ k. (range_tree k.0, option_map (λ c. c.items) k.1)) (range ⨾ comment ◃ sign marks.Colon).read tokens.now at) }
+{
+    let (first, at) = found!(value(alloc, tokens, at)?);
+    // Most keys are a value alone, and have no comment.
+    if let Some(at) = after_mark(tokens, at, Mark::Colon) {
+        return Ok(Some(((Range::One(first), None), at)));
+    }
+    let (key, at) = range_after(alloc, tokens, at, first)?;
+    let (comment, at) = comment(alloc, tokens, at)?;
+    let at = found!(after_mark(tokens, at, Mark::Colon));
+    Ok(Some(((key, comment), at)))
+}
+
+/// pair = one ["comment" STRING] ":" (verdict | value)
+pub(crate) struct MapPair;
+
+impl Part for MapPair {
+    type Item = Pair;
+
+    ghost Tree = { PairTree };
+
+    ghost tree = { pair_tree };
+
+    ghost read_at = { pair.read };
+
+    fn read(alloc: Global, tokens: &[Token], at: usize) -> Result<Option<(Pair, usize)>, Memory> {
+        let ((key, comment), at) = found!(map_key(alloc, tokens, at)?);
+        let (value, at) = found!(map_data(alloc, tokens, at)?);
+        let pair = Pair {
+            key,
+            comment,
+            value,
+        };
+        Ok(Some((pair, at)))
+    }
+}

@@ -1,0 +1,79 @@
+//! Sets and maps by name, or by their elements between braces.
+ghost use Rattle.std.specs.Prelude.{map, IfOk};
+ghost use Rattle.nft_lexer.specs.declared.token.Mark.TheVariants as marks;
+ghost use Rattle.nft_tree.specs.Tree.{map_ref_tree, set_ref_tree};
+ghost use Rattle.token_reader.specs.Grammar.{a_word, sign, ◌▹◌};
+ghost use Rattle.token_reader.specs.Readers.{Anything, IsRead, Reads};
+ghost use Rattle.nft_expressions.specs.Elements.{map_ref, set_ref};
+ghost use Rattle.nft_expressions.specs.steps.Reading.{braced_at};
+
+use crate::between_braces::up_to_brace;
+use crate::elements::SetElement;
+use crate::maps::MapPair;
+use nft_lexer::{Mark, Token};
+use nft_tree::{MapRef, Memory, SetRef};
+use std::alloc::Global;
+use token_reader::{Part, after_mark, found, word};
+
+/// "@" NAME
+fn name<'t>(tokens: &[Token<'t>], at: usize) -> Option<(&'t [u8], usize)>
+    ensures { IsRead (λ x. x.now) (sign marks.At ▹ a_word).read tokens.now at result }
+{
+    let at = after_mark(tokens, at, Mark::At)?;
+    word(tokens, at)
+}
+
+/// "{" list "}"
+#[tactic(auto, unfolding(crate::specs::steps::Reading::braced_at))]
+fn braced<P: Part>(
+    alloc: Global,
+    tokens: &[Token],
+    at: usize,
+) -> Result<Option<(Vec<P::Item>, usize)>, Memory>
+    ensures { IfOk result (IsRead (λ found. map P.tree found.items) (braced_at P.read_at) tokens.now at) }
+{
+    let at = found!(after_mark(tokens, at, Mark::OpenBrace));
+    let (found, at) = found!(up_to_brace::<P>(alloc, tokens, at)?);
+    let at = found!(after_mark(tokens, at, Mark::CloseBrace));
+    Ok(Some((found, at)))
+}
+
+/// The set at this place, by its name or by its elements between braces, and where it ends; none
+/// where no set stands here.
+#[tactic(auto, unfolding(crate::specs::Elements::set_ref, crate::specs::Elements::elements, crate::specs::steps::Reading::braced_at))]
+pub fn set_ref(
+    alloc: Global,
+    tokens: &[Token],
+    at: usize,
+) -> Result<Option<(SetRef, usize)>, Memory>
+    // What is read is spelled here, and what is spelled here is read: there is no other.
+    ensures reads { IfOk result (Reads set_ref Anything set_ref_tree tokens.now at) }
+    // It is what reading from left to right gives.
+    ensures read { IfOk result (IsRead set_ref_tree set_ref.read tokens.now at) }
+{
+    if let Some((name, at)) = name(tokens, at) {
+        return Ok(Some((SetRef::Named(Vec::from_slice(alloc, name)?), at)));
+    }
+    let (elements, at) = found!(braced::<SetElement>(alloc, tokens, at)?);
+    Ok(Some((SetRef::Anonymous(elements), at)))
+}
+
+/// The map at this place, by its name or by its pairs between braces, and where it ends; none where
+/// no map stands here.
+#[tactic(auto, unfolding(crate::specs::Elements::map_ref, crate::specs::Elements::pairs, crate::specs::steps::Reading::braced_at))]
+pub fn map_ref(
+    alloc: Global,
+    tokens: &[Token],
+    at: usize,
+) -> Result<Option<(MapRef, usize)>, Memory>
+    // What is read is spelled here, and what is spelled here is read: there is no other.
+    ensures reads { IfOk result (Reads map_ref Anything map_ref_tree tokens.now at) }
+    // It is what reading from left to right gives.
+    ensures read { IfOk result (IsRead map_ref_tree map_ref.read tokens.now at) }
+{
+    if let Some((name, at)) = name(tokens, at) {
+        return Ok(Some((MapRef::Named(Vec::from_slice(alloc, name)?), at)));
+    }
+    let (pairs, at) = found!(braced::<MapPair>(alloc, tokens, at)?);
+    Ok(Some((MapRef::Anonymous(pairs), at)))
+}

@@ -1,0 +1,106 @@
+//! Values, ranges and comments.
+ghost use Rattle.std.specs.Prelude.{◌≡◌, ◌≤◌, Some, length, option_map, IfOk};
+ghost use Rattle.nft_tree.specs.Tree.{range_tree, value_tree};
+ghost use Rattle.token_reader.specs.Grammar.{sign, ◌▹◌};
+ghost use Rattle.token_reader.specs.Readers.{IsRead, Reads, ahead};
+ghost use Rattle.nft_expressions.specs.Elements.{EndsComment, EndsRange, comment, range, value};
+ghost use Rattle.nft_expressions.specs.steps.Reading.{one_or_prefix, range_after};
+
+use nft_lexer::{Kind, Mark, Token};
+use nft_tree::{Memory, Range, Value};
+use std::alloc::Global;
+use token_reader::{after_mark, found, number_after, string_after};
+
+/// value = NUM | ADDR | WORD | STRING
+pub(crate) fn value(
+    alloc: Global,
+    tokens: &[Token],
+    at: usize,
+) -> Result<Option<(Value, usize)>, Memory>
+    ensures { IfOk result (IsRead value_tree value.read tokens.now at) }
+{
+    let token = found!(tokens.get(at));
+    let value = match token.kind {
+        Kind::Number(number) => Value::Number(number),
+        Kind::Address(address) => Value::Address(address),
+        Kind::Word => Value::Word(Vec::from_slice(alloc, token.text)?),
+        Kind::String(text) => Value::String(Vec::from_slice(alloc, text)?),
+        Kind::NewLine | Kind::Mark(_) => return Ok(None),
+    };
+    Ok(Some((value, at + 1)))
+}
+
+/// The value behind the mark, where both stand here, and the place after it.
+pub(crate) fn value_after(
+    alloc: Global,
+    tokens: &[Token],
+    at: usize,
+    mark: Mark,
+) -> Result<Option<(Value, usize)>, Memory>
+    ensures { IfOk result (IsRead value_tree (sign mark ▹ value).read tokens.now at) }
+{
+    let at = found!(after_mark(tokens, at, mark));
+    value(alloc, tokens, at)
+}
+
+/// The value, or the prefix that begins with it, and the place after it.
+#[tactic(auto, unfolding(crate::specs::steps::Reading::one_or_prefix))]
+fn one_or_prefix(tokens: &[Token], at: usize, first: Value) -> (Range, usize)
+    ensures read { (range_tree result.0, ahead tokens.now result.1) ≡ one_or_prefix (value_tree first) (ahead tokens.now at) }
+    ensures within { (at ≤ result.1) × (at ≤ length tokens.now → result.1 ≤ length tokens.now) }
+{
+    match (first, number_after(tokens, at, Mark::Slash)) {
+        (Value::Address(address), Some((length, end))) => (Range::Prefix(address, length), end),
+        (value, _) => (Range::One(value), at),
+    }
+}
+
+/// The range that begins with the value, and the place after it.
+#[tactic(auto, unfolding(crate::specs::steps::Reading::range_after))]
+pub(crate) fn range_after(
+    alloc: Global,
+    tokens: &[Token],
+    at: usize,
+    first: Value,
+) -> Result<(Range, usize), Memory>
+    ensures read { IfOk result (λ x. (range_tree x.0, ahead tokens.now x.1) ≡ range_after (value_tree first) (ahead tokens.now at)) }
+    ensures within { IfOk result (λ x. (at ≤ x.1) × (at ≤ length tokens.now → x.1 ≤ length tokens.now)) }
+{
+    if let Some((high, end)) = value_after(alloc, tokens, at, Mark::Minus)? {
+        return Ok((Range::Between(first, high), end));
+    }
+    Ok(one_or_prefix(tokens, at, first))
+}
+
+/// The value, the range of two values or the prefix at this place, and where it ends; none where
+/// no value stands here.
+#[tactic(auto, unfolding(crate::specs::Elements::range))]
+pub fn range(alloc: Global, tokens: &[Token], at: usize) -> Result<Option<(Range, usize)>, Memory>
+    // What is read is spelled here, and what is spelled here, with nothing after it that goes on with it, is read.
+    ensures reads { IfOk result (Reads range EndsRange range_tree tokens.now at) }
+    // It is what reading from left to right gives.
+    ensures read { IfOk result (IsRead range_tree range.read tokens.now at) }
+{
+    let (first, at) = found!(value(alloc, tokens, at)?);
+    Ok(Some(range_after(alloc, tokens, at, first)?))
+}
+
+/// The comment at this place, or none, and the place after it.
+#[tactic(auto, unfolding(crate::specs::Elements::comment))]
+pub fn comment(
+    alloc: Global,
+    tokens: &[Token],
+    at: usize,
+) -> Result<(Option<Vec<u8>>, usize), Memory>
+    // What is read is spelled here, and what is spelled here, with no comment after it, is read.
+    ensures reads { IfOk result (λ x. Reads comment EndsComment (option_map (λ c. c.items)) tokens.now at (Some x)) }
+    // From a place within the tokens it ends within them.
+    ensures within { IfOk result (λ x. (at ≤ x.1) × (at ≤ length tokens.now → x.1 ≤ length tokens.now)) }
+    // It is what reading from left to right gives.
+    ensures read { IfOk result (λ x. Some (option_map (λ c. c.items) x.0, ahead tokens.now x.1) ≡ comment.read (ahead tokens.now at)) }
+{
+    match string_after(tokens, at, b"comment") {
+        Some((text, after)) => Ok((Some(Vec::from_slice(alloc, text)?), after)),
+        None => Ok((None, at)),
+    }
+}

@@ -1,0 +1,76 @@
+//! Verdicts.
+ghost use Rattle.std.specs.Prelude.{IfOk};
+ghost use Rattle.nft_tree.specs.Tree.{verdict_tree};
+ghost use Rattle.token_reader.specs.Grammar.{a_word, keyword, one_of, ◌▹◌};
+ghost use Rattle.token_reader.specs.Readers.{Anything, IsRead, Reads};
+ghost use Rattle.nft_expressions.specs.Elements.{decisions, verdict};
+
+use nft_lexer::Token;
+use nft_tree::{Memory, Verdict};
+use std::alloc::Global;
+use token_reader::{after_word, found, word};
+
+/// "accept" | "drop" | "continue" | "return"
+fn decision(tokens: &[Token], at: usize) -> Option<(Verdict, usize)>
+    ensures { IsRead verdict_tree (one_of decisions).read tokens.now at result }
+{
+    if let Some(at) = after_word(tokens, at, b"accept") {
+        return Some((Verdict::Accept, at));
+    }
+    if let Some(at) = after_word(tokens, at, b"drop") {
+        return Some((Verdict::Drop, at));
+    }
+    if let Some(at) = after_word(tokens, at, b"continue") {
+        return Some((Verdict::Continue, at));
+    }
+    let at = after_word(tokens, at, b"return")?;
+    Some((Verdict::Return, at))
+}
+
+/// The name behind this word, where both stand here, and the place after it.
+fn name_after(
+    alloc: Global,
+    tokens: &[Token],
+    at: usize,
+    before: &[u8],
+) -> Result<Option<(Vec<u8>, usize)>, Memory>
+    ensures { IfOk result (IsRead (λ name. name.items) (keyword before.now ▹ a_word).read tokens.now at) }
+{
+    let at = found!(after_word(tokens, at, before));
+    let (name, at) = found!(word(tokens, at));
+    Ok(Some((Vec::from_slice(alloc, name)?, at)))
+}
+
+/// verdict = "accept" | "drop" | "continue" | "return" | ("jump" | "goto") NAME
+#[tactic(auto, unfolding(crate::specs::Elements::verdict))]
+pub(crate) fn verdict_here(
+    alloc: Global,
+    tokens: &[Token],
+    at: usize,
+) -> Result<Option<(Verdict, usize)>, Memory>
+    ensures { IfOk result (IsRead verdict_tree verdict.read tokens.now at) }
+{
+    if let Some(decided) = decision(tokens, at) {
+        return Ok(Some(decided));
+    }
+    if let Some((name, at)) = name_after(alloc, tokens, at, b"jump")? {
+        return Ok(Some((Verdict::Jump(name), at)));
+    }
+    let (name, at) = found!(name_after(alloc, tokens, at, b"goto")?);
+    Ok(Some((Verdict::Goto(name), at)))
+}
+
+/// The one verdict at this place, whatever follows it, and where it ends; none where no verdict
+/// stands here.
+pub fn verdict(
+    alloc: Global,
+    tokens: &[Token],
+    at: usize,
+) -> Result<Option<(Verdict, usize)>, Memory>
+    // What is read is spelled here, and what is spelled here is read: there is no other verdict.
+    ensures reads { IfOk result (Reads verdict Anything verdict_tree tokens.now at) }
+    // It is what reading from left to right gives.
+    ensures read { IfOk result (IsRead verdict_tree verdict.read tokens.now at) }
+{
+    verdict_here(alloc, tokens, at)
+}

@@ -1,2 +1,0 @@
-pub mod Selectors
-pub mod steps
