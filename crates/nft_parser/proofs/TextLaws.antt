@@ -11,10 +11,11 @@ use Rattle.token_reader.specs.steps.Laws.{option_cases, IfSome_at}
 use Rattle.nft_parser.specs.declared.fault.TextFault.{TextFault}
 use Rattle.nft_parser.specs.declared.fault.TextFault.TheVariants.{Cutting, Syntax, LeftOut}
 use Rattle.nft_parser.specs.declared.fault.ParseError.TheVariants.{Refused, Memory}
-use Rattle.nft_parser.specs.Rulesets.{has_left_out, SpellsRuleset}
+use Rattle.nft_rulesets.specs.Rulesets.{SpellsRuleset}
+use Rattle.nft_parser.specs.LeftOut.{has_left_out}
 use Rattle.nft_parser.specs.Spells.{Spells, SpellsNone, HasTextFault}
 use Rattle.nft_parser.specs.steps.Faults.{of_cutting, refusal}
-use Rattle.nft_parser.specs.steps.Laws.{ruleset_at, ruleset_found, ruleset_only}
+use Rattle.nft_rulesets.specs.steps.Laws.{ruleset_at, ruleset_found, ruleset_only}
 
 -- the fault is one of the tokens, or that they spell no tree
 abbrev pub FaultCases : List ℕ → TextFault → Type 0

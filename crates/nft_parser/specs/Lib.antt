@@ -1,4 +1,3 @@
-pub mod Chains
-pub mod Rulesets
+pub mod LeftOut
 pub mod Spells
 pub mod steps

@@ -1,7 +1,7 @@
 //! Words of nft(8) that the language leaves out.
 ghost use Rattle.std.specs.Prelude.{◌≡◌};
 ghost use Rattle.nft_lexer.specs.Sign.{sign_of};
-ghost use Rattle.nft_parser.specs.Rulesets.{is_left_out};
+ghost use Rattle.nft_parser.specs.LeftOut.{is_left_out};
 
 use nft_lexer::{Kind, Token};
 

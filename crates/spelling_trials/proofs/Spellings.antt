@@ -14,8 +14,8 @@ use Rattle.nft_expressions.specs.Elements.{comment}
 use Rattle.nft_rules.specs.Matches.{is_range_for, comparison, bits, listed, masked_by, flag_list, masked, one_test, direct, set_test, matching}
 use Rattle.nft_rules.specs.Rules.{statement, rule, SpellsRule}
 use Rattle.nft_rules.specs.steps.Laws.{lawful_statement}
-use Rattle.nft_parser.specs.Rulesets.{SpellsRuleset}
-use Rattle.nft_parser.specs.steps.Laws.{ruleset_at, ruleset_found}
+use Rattle.nft_rulesets.specs.Rulesets.{SpellsRuleset}
+use Rattle.nft_rulesets.specs.steps.Laws.{ruleset_at, ruleset_found}
 
 pub said : {A : Type 0} (p : Grammar A) → Lawful p → (x : A) (from to : List Sign) → p.read from ≡ Some (x, to) → p.spells x from to
 said p l x from to e = IfSome_at (p.read from) (λ y. p.spells y.0 from y.1) (x, to) e (l.found from)

@@ -9,9 +9,10 @@ ghost use Rattle.nft_tree.specs.Tree.{RangeTree, TableTree, VerdictTree};
 ghost use Rattle.nft_expressions.specs.Elements.{SpellsElements, map_data, verdict};
 ghost use Rattle.nft_rules.specs.Matches.{matching};
 ghost use Rattle.nft_rules.specs.Rules.{SpellsRule};
-ghost use Rattle.nft_parser.specs.Chains.{chain};
+ghost use Rattle.nft_rulesets.specs.Chains.{chain};
 ghost use Rattle.nft_sets.specs.Sets.{named_set, named_map};
-ghost use Rattle.nft_parser.specs.Rulesets.{SpellsRuleset, has_left_out};
+ghost use Rattle.nft_parser.specs.LeftOut.{has_left_out};
+ghost use Rattle.nft_rulesets.specs.Rulesets.{SpellsRuleset};
 ghost use Rattle.spelling_trials.specs.Trials as trials;
 
 /// Rules of matches and a verdict.

@@ -1,7 +1,7 @@
 use Rattle.std.proofs.Common.{◌≡◌, ◌∙◌, inl, inr, sym, ap}
 use Rattle.nft_lexer.specs.Sign.{signs_of}
 use Rattle.token_reader.specs.steps.Laws.{some_is}
-use Rattle.nft_parser.specs.steps.Laws.{ruleset_at, ruleset_only}
+use Rattle.nft_rulesets.specs.steps.Laws.{ruleset_at, ruleset_only}
 use Rattle.nft_parser.proofs.TextLaws.{fault_cases}
 use Rattle.nft_parser.proofs.laws.one_tree.Goals as goal
 

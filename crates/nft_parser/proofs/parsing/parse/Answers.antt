@@ -4,10 +4,10 @@ use Rattle.nft_tree.specs.Tree.{tables_of}
 use Rattle.token_reader.specs.steps.TokenLaws.{signs_of-spelled}
 use Rattle.nft_parser.specs.declared.fault.ParseError.{ParseError}
 use Rattle.nft_parser.specs.declared.fault.ParseError.TheVariants.{Refused, Memory}
-use Rattle.nft_parser.specs.Rulesets.{has_left_out}
+use Rattle.nft_parser.specs.LeftOut.{has_left_out}
 use Rattle.nft_parser.specs.Spells.{HasTextFault}
 use Rattle.nft_parser.specs.steps.Faults.{of_cutting, refusal}
-use Rattle.nft_parser.specs.steps.Laws.{ruleset_at}
+use Rattle.nft_rulesets.specs.steps.Laws.{ruleset_at}
 use Rattle.nft_parser.proofs.TextLaws.{read_so, unread_so, uncut_only, at_error}
 use Rattle.nft_parser.proofs.parsing.parse.Goals as goal
 
@@ -24,7 +24,7 @@ pub returns-in-Some-clause-found : goal.returns-in-Some-clause-found
 returns-in-Some-clause-found c =
     let tokens = c.in_ok-tokens.tokens.items in
     let tree = tables_of c.in-Some.ruleset in
-    let read : ruleset_at (signs_of (map spelled tokens)) ≡ Some tree = rw (signs_of-spelled tokens, sym c.deref.ensures.value) (sym (rw c.in-Some.is at c.in_ok-ruleset.ensures)) in
+    let read : ruleset_at (signs_of (map spelled tokens)) ≡ Some tree = rw (signs_of-spelled tokens, sym c.deref.ensures.value) (sym (rw c.in-Some.is at c.in_ok-ruleset.ensures.read)) in
     read_so c.args.text.now (map spelled tokens) tree c.in_ok-tokens.ensures.found read
 
 pub returns-in-Some-clause-only : goal.returns-in-Some-clause-only
@@ -37,7 +37,7 @@ returns-in-Some-clause-only_fault c = λ fault h. c.one_tree.ensures.faultless c
 told : (c : goal.After-drop-tokens-2) → HasTextFault c.args.text.now c.refusal.result
 told c =
     let tokens = c.in_ok-tokens.tokens.items in
-    let none : ruleset_at (signs_of (map spelled tokens)) ≡ None = rw (signs_of-spelled tokens, sym c.deref.ensures.value) (sym (rw c.in-None.is at c.in_ok-ruleset.ensures)) in
+    let none : ruleset_at (signs_of (map spelled tokens)) ≡ None = rw (signs_of-spelled tokens, sym c.deref.ensures.value) (sym (rw c.in-None.is at c.in_ok-ruleset.ensures.read)) in
     let same : c.refusal.result ≡ refusal (has_left_out (signs_of (map spelled tokens))) = rw (signs_of-spelled tokens, sym c.deref-in-None.ensures.value) c.refusal.ensures in
     rw same (unread_so c.args.text.now (map spelled tokens) c.in_ok-tokens.ensures.found none)
 

@@ -1,6 +1,6 @@
 use Rattle.std.proofs.Common.{◌≡◌, drop}
 use Rattle.nft_lexer.specs.Sign.{signs}
-use Rattle.nft_parser.specs.Rulesets.{has_left_out}
+use Rattle.nft_parser.specs.LeftOut.{has_left_out}
 use Rattle.nft_parser.proofs.parsing.refusal.Given as goal
 
 -- no word before this token is left out

@@ -7,8 +7,8 @@ use Rattle.token_reader.specs.steps.Reading.{many_at}
 use Rattle.token_reader.specs.steps.Lawful.{begins}
 use Rattle.nft_expressions.specs.Elements.{is_data_value, verdict, map_data, elements}
 use Rattle.nft_expressions.specs.steps.Laws.{lawful_verdict}
-use Rattle.nft_parser.specs.Rulesets.{flush, whole_ruleset, table}
-use Rattle.nft_parser.specs.steps.Laws.{ruleset_at, ruleset_only}
+use Rattle.nft_rulesets.specs.Rulesets.{flush, whole_ruleset, table}
+use Rattle.nft_rulesets.specs.steps.Laws.{ruleset_at, ruleset_only}
 use Rattle.spelling_trials.proofs.Spellings.{compares}
 use Rattle.spelling_trials.proofs.trials.nothing.Goals as goal
 

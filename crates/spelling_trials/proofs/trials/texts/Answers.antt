@@ -7,10 +7,10 @@ use Rattle.nft_rules.specs.Matches.{equality, inequality, operator, comparison, 
 use Rattle.nft_rules.specs.Rules.{look, to_word, nat, counter, log, set_mark, verdict_map, statement, rule}
 use Rattle.nft_rules.specs.Rules.{ended_rule}
 use Rattle.nft_sets.specs.Sets.{value_type, value_types, set_type, data_type, map_type, set_flags, other_field, any_field, block, named_set, named_map}
-use Rattle.nft_parser.specs.Chains as chains
-use Rattle.nft_parser.specs.Chains.{note, offset, priority, policy, head, rules, chain}
-use Rattle.nft_parser.specs.Rulesets.{item, table_name, table, flush, whole_ruleset}
-use Rattle.nft_parser.specs.steps.Laws.{ruleset_at}
+use Rattle.nft_rulesets.specs.Chains as chains
+use Rattle.nft_rulesets.specs.Chains.{note, offset, priority, policy, head, rules, chain}
+use Rattle.nft_rulesets.specs.Rulesets.{item, table_name, table, flush, whole_ruleset}
+use Rattle.nft_rulesets.specs.steps.Laws.{ruleset_at}
 use Rattle.spelling_trials.proofs.Spellings.{text_said}
 use Rattle.spelling_trials.proofs.trials.texts.Goals as goal
 

@@ -1,6 +1,6 @@
 //! Comments that stand alone.
 ghost use Rattle.nft_tree.specs.Tree.{Text};
-ghost use Rattle.nft_parser.specs.Chains.{note};
+ghost use Rattle.nft_rulesets.specs.Chains.{note};
 
 use nft_lexer::Token;
 use nft_tree::Memory;

@@ -2,7 +2,7 @@
 ghost use Rattle.std.specs.Prelude.{IfOk};
 ghost use Rattle.nft_tree.specs.Tree.{head_tree};
 ghost use Rattle.token_reader.specs.Readers.{IsRead};
-ghost use Rattle.nft_parser.specs.Chains.{head, offset, priority};
+ghost use Rattle.nft_rulesets.specs.Chains.{head, offset, priority};
 
 use crate::notes::Note;
 use nft_lexer::{Mark, Token};

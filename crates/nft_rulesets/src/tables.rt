@@ -1,12 +1,12 @@
 //! Tables and what they hold, and rulesets.
-ghost use Rattle.std.specs.Prelude.{◌≡◌, IfOk};
+ghost use Rattle.std.specs.Prelude.{◌≡◌, List, IfOk, IfSome, IsSomeAnd};
 ghost use Rattle.std.specs.Option.{option_map};
 ghost use Rattle.nft_lexer.specs.Sign.{signs};
 ghost use Rattle.nft_tree.specs.Tree.{ItemTree, TableTree, item_tree, table_tree, tables_of};
 ghost use Rattle.token_reader.specs.Readers.{IsRead};
 ghost use Rattle.token_reader.specs.Grammar.{ends, ◌◃◌};
-ghost use Rattle.nft_parser.specs.Rulesets.{flush, item, table, table_name};
-ghost use Rattle.nft_parser.specs.steps.Laws.{ruleset_at};
+ghost use Rattle.nft_rulesets.specs.Rulesets.{SpellsRuleset, flush, item, table, table_name};
+ghost use Rattle.nft_rulesets.specs.steps.Laws.{ruleset_at};
 
 use crate::chains::chain;
 use nft_lexer::{Mark, Token};
@@ -95,7 +95,7 @@ impl Part for NextTable {
 
 /// {end} ["flush" "ruleset" end {end}] {table {end}}, all of the tokens.
 #[tactic(auto, unfolding(crate::specs::steps::Laws::ruleset_at, crate::specs::Rulesets::whole_ruleset, crate::specs::Rulesets::flush))]
-pub(crate) fn ruleset(alloc: Global, tokens: &[Token]) -> Result<Option<Ruleset>, Memory>
+fn whole(alloc: Global, tokens: &[Token]) -> Result<Option<Ruleset>, Memory>
     ensures { IfOk result (λ o. option_map tables_of o ≡ ruleset_at (signs tokens.now)) }
 {
     let start = skip_ends(tokens, 0);
@@ -112,4 +112,16 @@ pub(crate) fn ruleset(alloc: Global, tokens: &[Token]) -> Result<Option<Ruleset>
         return Ok(None);
     }
     Ok(Some(Ruleset { tables }))
+}
+
+/// The one ruleset that the tokens spell, all of them; none where they spell none.
+pub fn ruleset(alloc: Global, tokens: &[Token]) -> Result<Option<Ruleset>, Memory>
+    // What is read is spelled by the tokens.
+    ensures found { IfOk result (λ o. IfSome o (λ read. SpellsRuleset (tables_of read) (signs tokens.now))) }
+    // What they spell is read: there is no other ruleset, and where nothing is read there is none.
+    ensures only { (tables : List TableTree) → SpellsRuleset tables (signs tokens.now) → IfOk result (λ o. IsSomeAnd o (λ read. tables_of read ≡ tables)) }
+    // It is what a reading from left to right gives.
+    ensures read { IfOk result (λ o. option_map tables_of o ≡ ruleset_at (signs tokens.now)) }
+{
+    whole(alloc, tokens)
 }

@@ -3,7 +3,7 @@ ghost use Rattle.std.specs.Prelude.{IfOk};
 ghost use Rattle.nft_tree.specs.Tree.{RuleTree, rule_tree, chain_tree};
 ghost use Rattle.token_reader.specs.Readers.{IsRead};
 ghost use Rattle.nft_rules.specs.Rules.{ended_rule};
-ghost use Rattle.nft_parser.specs.Chains.{chain};
+ghost use Rattle.nft_rulesets.specs.Chains.{chain};
 
 use crate::heads::head;
 use crate::notes::Note;

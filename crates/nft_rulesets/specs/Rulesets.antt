@@ -1,10 +1,7 @@
--- What spells a ruleset, and the fault of tokens that spell none (nft(8), "Ruleset", "Tables").
-use Rattle.std.specs.Prelude.{List, [], ◌∷◌, ◌++◌, Bool, false, codes}
-use Rattle.std.specs.List.{list_any}
+-- What spells a ruleset (nft(8), "Ruleset", "Tables").
+use Rattle.std.specs.Prelude.{List, [], ◌∷◌, ◌++◌, false, codes}
 use Rattle.std.specs.Option.{unwrap_or}
-use Rattle.std.specs.Str.{bytes_eq}
 use Rattle.nft_lexer.specs.declared.token.Mark.TheVariants as marks
-use Rattle.nft_lexer.specs.Sign as signs
 use Rattle.nft_lexer.specs.Sign.{Sign}
 use Rattle.nft_tree.specs.declared.ruleset.Family.{Family}
 use Rattle.nft_tree.specs.declared.ruleset.Family.TheVariants.{Ip, Inet}
@@ -12,7 +9,7 @@ use Rattle.nft_tree.specs.Tree as tree
 use Rattle.nft_tree.specs.Tree.{Text, ItemTree, TableTree}
 use Rattle.token_reader.specs.Grammar.{Grammar, keyword, sign, a_word, any_word, ends, some_ends, maybe, many, made, one_of, ◌⨾◌, ◌▹◌, ◌◃◌, ◌∣◌}
 use Rattle.nft_sets.specs.Sets.{named_set, named_map}
-use Rattle.nft_parser.specs.Chains.{comment, chain}
+use Rattle.nft_rulesets.specs.Chains.{comment, chain}
 
 -- item = "comment" STRING | chain | set | map
 unfoldable pub item : Grammar ItemTree
@@ -48,20 +45,3 @@ whole_ruleset = ends ▹ made (λ o. tt) (maybe flush) ▹ many (table ◃ ends)
 -- all of the tokens
 abbrev pub SpellsRuleset : List TableTree → List Sign → Type 0
 SpellsRuleset tables tokens = whole_ruleset.spells tables tokens []
-
--- words of nft(8) that this profile leaves out: tokens that spell no ruleset have a fault by them
-abbrev pub left_out : List Text
-left_out =
-    codes "define" ∷ codes "undefine" ∷ codes "redefine" ∷ codes "include" ∷ codes "add" ∷ codes "create" ∷ codes "insert" ∷ codes "replace" ∷ codes "delete"
-    ∷ codes "destroy" ∷ codes "list" ∷ codes "reset" ∷ codes "rename" ∷ codes "monitor" ∷ codes "ip6" ∷ codes "icmpv6" ∷ codes "arp" ∷ codes "bridge" ∷ codes "netdev"
-    ∷ codes "ether" ∷ codes "vlan" ∷ codes "reject" ∷ codes "limit" ∷ codes "quota" ∷ codes "queue" ∷ codes "dup" ∷ codes "fwd" ∷ codes "tproxy" ∷ codes "synproxy"
-    ∷ codes "flowtable" ∷ codes "flow" ∷ codes "helper" ∷ codes "expectation" ∷ codes "timeout" ∷ codes "expires" ∷ codes "dynamic" ∷ codes "gc-interval" ∷ codes "numgen"
-    ∷ codes "jhash" ∷ codes "symhash" ∷ codes "fib" ∷ codes "rt" ∷ codes "socket" ∷ codes "osf" ∷ codes "random" ∷ codes "fully-random" ∷ codes "persistent" ∷ codes "dscp" ∷ []
-
-abbrev pub is_left_out : Sign → Bool
-is_left_out (signs.word w) = list_any (bytes_eq w) left_out
-is_left_out _ = false
-
--- some word of the tokens is left out
-abbrev pub has_left_out : List Sign → Bool
-has_left_out ts = list_any is_left_out ts
