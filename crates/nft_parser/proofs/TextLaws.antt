@@ -12,7 +12,7 @@ use Rattle.nft_parser.specs.declared.fault.TextFault.{TextFault}
 use Rattle.nft_parser.specs.declared.fault.TextFault.TheVariants.{Cutting, Syntax, LeftOut}
 use Rattle.nft_parser.specs.declared.fault.ParseError.TheVariants.{Refused, Memory}
 use Rattle.nft_rulesets.specs.Rulesets.{SpellsRuleset}
-use Rattle.nft_parser.specs.LeftOut.{has_left_out}
+use Rattle.nft_rulesets.specs.LeftOut.{has_left_out}
 use Rattle.nft_parser.specs.Spells.{Spells, SpellsNone, HasTextFault}
 use Rattle.nft_parser.specs.steps.Faults.{of_cutting, refusal}
 use Rattle.nft_rulesets.specs.steps.Laws.{ruleset_at, ruleset_found, ruleset_only}

@@ -1,3 +1,2 @@
-pub mod LeftOut
 pub mod Spells
 pub mod steps

@@ -6,7 +6,7 @@ use Rattle.nft_tree.specs.Tree.{TableTree}
 use Rattle.nft_parser.specs.declared.fault.TextFault.{TextFault}
 use Rattle.nft_parser.specs.declared.fault.TextFault.TheVariants.{Cutting, Syntax, LeftOut}
 use Rattle.nft_rulesets.specs.Rulesets.{SpellsRuleset}
-use Rattle.nft_parser.specs.LeftOut.{has_left_out}
+use Rattle.nft_rulesets.specs.LeftOut.{has_left_out}
 
 -- the text is cut into tokens, and these spell the tree
 abbrev pub Spells : List TableTree → List ℕ → Type 0

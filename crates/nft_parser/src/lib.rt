@@ -3,7 +3,6 @@
 
 mod fault;
 mod laws;
-mod left_out;
 mod parsing;
 
 pub use fault::{ParseError, TextFault};

@@ -6,15 +6,14 @@ ghost use Rattle.nft_lexer.specs.Cut.{MOST_BYTES};
 ghost use Rattle.nft_tree.specs.Tree.{TableTree, tables_of};
 ghost use Rattle.nft_parser.specs.declared.fault.ParseError.{ParseError};
 ghost use Rattle.nft_parser.specs.declared.fault.TextFault.{TextFault};
-ghost use Rattle.nft_parser.specs.LeftOut.{has_left_out};
+ghost use Rattle.nft_rulesets.specs.LeftOut.{has_left_out};
 ghost use Rattle.nft_parser.specs.Spells.{Spells, HasTextFault};
 ghost use Rattle.nft_parser.specs.steps.Faults.{refusal};
 
 use crate::fault::{ParseError, TextFault};
 use crate::laws::{one_fault, one_tree};
-use crate::left_out::is_left_out;
 use nft_lexer::{Token, lex};
-use nft_rulesets::ruleset;
+use nft_rulesets::{has_left_out, ruleset};
 use nft_tree::Ruleset;
 use std::alloc::Global;
 
@@ -48,10 +47,9 @@ pub fn parse(alloc: Global, text: &[u8]) -> Result<Ruleset, ParseError>
 fn refusal(tokens: &[Token]) -> TextFault
     ensures { result ≡ refusal (has_left_out (signs tokens.now)) }
 {
-    for token in tokens {
-        if is_left_out(token) {
-            return TextFault::LeftOut;
-        }
+    if has_left_out(tokens) {
+        TextFault::LeftOut
+    } else {
+        TextFault::Syntax
     }
-    TextFault::Syntax
 }

@@ -37,8 +37,7 @@ impl Part for NextSelector {
         at: usize,
     ) -> Result<Option<(Selector, usize)>, Memory> {
         let at = found!(after_mark(tokens, at, Mark::Dot));
-        let (next, end) = found!(anysel(tokens, at));
-        Ok(Some((next, end)))
+        Ok(anysel(tokens, at))
     }
 }
 

@@ -1,1 +1,4 @@
 pub mod Laws
+pub mod Reading
+pub mod SetLaws
+pub mod Views

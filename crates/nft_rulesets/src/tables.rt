@@ -9,8 +9,8 @@ ghost use Rattle.nft_rulesets.specs.Rulesets.{SpellsRuleset, flush, item, table,
 ghost use Rattle.nft_rulesets.specs.steps.Laws.{ruleset_at};
 
 use crate::chains::chain;
+use crate::sets::{map_decl, set_decl};
 use nft_lexer::{Mark, Token};
-use nft_sets::{map_decl, set_decl};
 use nft_tree::{Family, Item, Memory, Ruleset, Table};
 use std::alloc::Global;
 use token_reader::{

@@ -10,8 +10,8 @@ ghost use Rattle.nft_expressions.specs.Elements.{SpellsElements, map_data, verdi
 ghost use Rattle.nft_rules.specs.Matches.{matching};
 ghost use Rattle.nft_rules.specs.Rules.{SpellsRule};
 ghost use Rattle.nft_rulesets.specs.Chains.{chain};
-ghost use Rattle.nft_sets.specs.Sets.{named_set, named_map};
-ghost use Rattle.nft_parser.specs.LeftOut.{has_left_out};
+ghost use Rattle.nft_rulesets.specs.Sets.{named_set, named_map};
+ghost use Rattle.nft_rulesets.specs.LeftOut.{has_left_out};
 ghost use Rattle.nft_rulesets.specs.Rulesets.{SpellsRuleset};
 ghost use Rattle.spelling_trials.specs.Trials as trials;
 

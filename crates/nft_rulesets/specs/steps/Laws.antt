@@ -22,8 +22,8 @@ use Rattle.nft_expressions.specs.Elements.{verdict}
 use Rattle.nft_rules.specs.Rules.{counter, log, nat, set_mark, verdict_map, statement, rule, ended_rule}
 use Rattle.nft_rules.specs.Matches.{matching}
 use Rattle.nft_rules.specs.steps.Laws.{lawful_rule}
-use Rattle.nft_sets.specs.Sets.{named_set, named_map, block}
-use Rattle.nft_sets.specs.steps.Laws.{lawful_set, lawful_map}
+use Rattle.nft_rulesets.specs.Sets.{named_set, named_map, block}
+use Rattle.nft_rulesets.specs.steps.SetLaws.{lawful_set, lawful_map}
 use Rattle.nft_rulesets.specs.Chains.{comment, note, hook_names, places, offset, named_priority, priority, policy, head, rules, chain}
 use Rattle.nft_rulesets.specs.Rulesets.{item, families, table_name, table, flush, whole_ruleset, SpellsRuleset}
 

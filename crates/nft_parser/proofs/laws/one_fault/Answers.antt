@@ -1,7 +1,7 @@
 use Rattle.std.proofs.Common.{◌≡◌, ◌∙◌, List, inl, inr, sym, ap}
 use Rattle.nft_lexer.specs.Sign.{Spelled, signs_of}
 use Rattle.nft_parser.specs.declared.fault.TextFault.TheVariants.{Cutting}
-use Rattle.nft_parser.specs.LeftOut.{has_left_out}
+use Rattle.nft_rulesets.specs.LeftOut.{has_left_out}
 use Rattle.nft_parser.specs.steps.Faults.{refusal}
 use Rattle.nft_parser.proofs.TextLaws.{fault_cases}
 use Rattle.nft_parser.proofs.laws.one_fault.Goals as goal

@@ -4,7 +4,7 @@ use Rattle.nft_tree.specs.Tree.{tables_of}
 use Rattle.token_reader.specs.steps.TokenLaws.{signs_of-spelled}
 use Rattle.nft_parser.specs.declared.fault.ParseError.{ParseError}
 use Rattle.nft_parser.specs.declared.fault.ParseError.TheVariants.{Refused, Memory}
-use Rattle.nft_parser.specs.LeftOut.{has_left_out}
+use Rattle.nft_rulesets.specs.LeftOut.{has_left_out}
 use Rattle.nft_parser.specs.Spells.{HasTextFault}
 use Rattle.nft_parser.specs.steps.Faults.{of_cutting, refusal}
 use Rattle.nft_rulesets.specs.steps.Laws.{ruleset_at}

@@ -6,11 +6,11 @@ use Rattle.nft_expressions.specs.steps.Reading.{one_or_prefix, range_after, join
 use Rattle.nft_rules.specs.Matches.{equality, inequality, operator, comparison, one_test, set_test, matching}
 use Rattle.nft_rules.specs.Rules.{nat, counter, log, set_mark, verdict_map, statement, rule}
 use Rattle.nft_rules.specs.Rules.{ended_rule}
-use Rattle.nft_sets.specs.Sets.{value_type, value_types, set_type, data_selector, map_type, set_flags, other_field, any_field, block, named_set, named_map}
+use Rattle.nft_rulesets.specs.Sets.{value_type, value_types, set_type, data_selector, map_type, set_flags, other_field, any_field, block, named_set, named_map}
 use Rattle.nft_rulesets.specs.Chains as chains
 use Rattle.nft_rulesets.specs.Chains.{note, priority, policy, head, rules, chain}
 use Rattle.nft_expressions.specs.steps.Laws.{lawful_elements}
-use Rattle.nft_sets.specs.steps.Laws.{lawful_set, lawful_map}
+use Rattle.nft_rulesets.specs.steps.SetLaws.{lawful_set, lawful_map}
 use Rattle.nft_rulesets.specs.steps.Laws.{lawful_chain}
 use Rattle.spelling_trials.proofs.Spellings.{said}
 use Rattle.spelling_trials.proofs.trials.sets_and_chains.Goals as goal

@@ -6,7 +6,7 @@ use Rattle.nft_expressions.specs.steps.Reading.{one_or_prefix, range_after, key_
 use Rattle.nft_rules.specs.Matches.{equality, inequality, operator, comparison, one_test, set_test, matching}
 use Rattle.nft_rules.specs.Rules.{look, to_word, nat, counter, log, set_mark, verdict_map, statement, rule}
 use Rattle.nft_rules.specs.Rules.{ended_rule}
-use Rattle.nft_sets.specs.Sets.{value_type, value_types, set_type, data_type, map_type, set_flags, other_field, any_field, block, named_set, named_map}
+use Rattle.nft_rulesets.specs.Sets.{value_type, value_types, set_type, data_type, map_type, set_flags, other_field, any_field, block, named_set, named_map}
 use Rattle.nft_rulesets.specs.Chains as chains
 use Rattle.nft_rulesets.specs.Chains.{note, offset, priority, policy, head, rules, chain}
 use Rattle.nft_rulesets.specs.Rulesets.{item, table_name, table, flush, whole_ruleset}

@@ -1,8 +1,8 @@
 use Rattle.std.proofs.Common.{◌≡◌, map}
 use Rattle.std.specs.Vec.Iter.{into_iter_items}
-use Rattle.nft_sets.specs.Sets.{gathered, with_fields}
-use Rattle.nft_sets.specs.steps.Views.{field_tree, fields_tree}
-use Rattle.nft_sets.proofs.fields.gathered.Given as goal
+use Rattle.nft_rulesets.specs.Sets.{gathered, with_fields}
+use Rattle.nft_rulesets.specs.steps.Views.{field_tree, fields_tree}
+use Rattle.nft_rulesets.proofs.fields.gathered.Given as goal
 
 abbrev pub invariant-loop-field : goal.invariant-loop-field
 invariant-loop-field g l =

@@ -1,10 +1,10 @@
 -- What the fields that are read show, without where they lie in memory.
 use Rattle.std.specs.Prelude.{option_map}
-use Rattle.nft_sets.specs.declared.fields.Field.TheVariants as fields
-use Rattle.nft_sets.specs.declared.fields.Field.{Field}
-use Rattle.nft_sets.specs.declared.fields.Fields.{Fields}
-use Rattle.nft_sets.specs.Sets as trees
-use Rattle.nft_sets.specs.Sets.{Gathered}
+use Rattle.nft_rulesets.specs.declared.fields.Field.TheVariants as fields
+use Rattle.nft_rulesets.specs.declared.fields.Field.{Field}
+use Rattle.nft_rulesets.specs.declared.fields.Fields.{Fields}
+use Rattle.nft_rulesets.specs.Sets as trees
+use Rattle.nft_rulesets.specs.Sets.{Gathered}
 
 abbrev pub field_tree : {K E T U : Type 0} → (K → T) → (E → U) → Field K E → trees.Field T U
 field_tree key elements (fields.Key k) = trees.key (key k)

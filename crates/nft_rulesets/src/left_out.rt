@@ -1,7 +1,7 @@
 //! Words of nft(8) that the language leaves out.
 ghost use Rattle.std.specs.Prelude.{◌≡◌};
-ghost use Rattle.nft_lexer.specs.Sign.{sign_of};
-ghost use Rattle.nft_parser.specs.LeftOut.{is_left_out};
+ghost use Rattle.nft_lexer.specs.Sign.{sign_of, signs};
+ghost use Rattle.nft_rulesets.specs.LeftOut.{has_left_out, is_left_out};
 
 use nft_lexer::{Kind, Token};
 
@@ -57,11 +57,23 @@ static LEFT_OUT: [&[u8]; 48] = [
 ];
 
 /// Whether the token is a word that the language leaves out.
-pub(crate) fn is_left_out(token: &Token) -> bool
+fn is_left_out(token: &Token) -> bool
     ensures { result ≡ is_left_out (sign_of token.now.kind token.now.text.now) }
 {
     match token.kind {
         Kind::Word => LEFT_OUT.contains(&token.text),
         _ => false,
     }
+}
+
+/// Whether one of the tokens is a word that the language leaves out.
+pub fn has_left_out(tokens: &[Token]) -> bool
+    ensures { result ≡ has_left_out (signs tokens.now) }
+{
+    for token in tokens {
+        if is_left_out(token) {
+            return true;
+        }
+    }
+    false
 }

@@ -4,10 +4,10 @@ ghost use Rattle.std.specs.Option.{is_none};
 ghost use Rattle.token_reader.specs.Grammar.{keyword, sign, ◌▹◌, ◌◃◌};
 ghost use Rattle.token_reader.specs.Readers.{IsRead};
 ghost use Rattle.nft_lexer.specs.declared.token.Mark.TheVariants.{CloseBrace, Equals, OpenBrace};
-ghost use Rattle.nft_sets.specs.Sets as trees;
-ghost use Rattle.nft_sets.specs.Sets.{any_field, block, gathered, set_flags, with_field};
-ghost use Rattle.nft_sets.specs.steps.Reading.{read_by};
-ghost use Rattle.nft_sets.specs.steps.Views.{field_tree, fields_tree};
+ghost use Rattle.nft_rulesets.specs.Sets as trees;
+ghost use Rattle.nft_rulesets.specs.Sets.{any_field, block, gathered, set_flags, with_field};
+ghost use Rattle.nft_rulesets.specs.steps.Reading.{read_by};
+ghost use Rattle.nft_rulesets.specs.steps.Views.{field_tree, fields_tree};
 
 use crate::flags::Flag;
 use nft_lexer::{Mark, Token};

@@ -2,8 +2,8 @@ use Rattle.std.proofs.Common.{◌≡◌, ℕ, List, [], ◌∷◌, map, refl, �
 use Rattle.std.proofs.lemmas.Cmp.{nat_list_eq_equiv}
 use Rattle.std.specs.List.{list_any}
 use Rattle.std.specs.Str.{bytes_eq}
-use Rattle.nft_parser.specs.declared.left_out.TheConstants.{LEFT_OUT}
-use Rattle.nft_parser.proofs.left_out.is_left_out.Goals as goal
+use Rattle.nft_rulesets.specs.declared.left_out.TheConstants.{LEFT_OUT}
+use Rattle.nft_rulesets.proofs.left_out.is_left_out.Goals as goal
 
 either_way : {X : Type 0} (text : X → List ℕ) (word : List ℕ) (known : List X) → list_any (λ k. bytes_eq (text k) word) known ≡ list_any (bytes_eq word) (map text known)
 either_way text word [] = refl

@@ -1,21 +1,18 @@
 -- What is read as a named set or map is what spells one.
 use Rattle.std.proofs.Common.{◌≡◌, false, true, refl}
-use Rattle.std.specs.Prelude.{ℕ, List, [], ◌∷◌, Option, codes}
+use Rattle.std.specs.Prelude.{ℕ, List, [], ◌∷◌, codes}
 use Rattle.nft_tree.specs.declared.set.SetFlag.TheVariants.{Constant, Interval}
 use Rattle.nft_lexer.specs.declared.token.Mark.TheVariants.{CloseBrace}
-use Rattle.nft_lexer.specs.declared.token.Token.{Token}
 use Rattle.nft_lexer.specs.Sign.{Sign}
-use Rattle.nft_tree.specs.Tree.{SetTree, MapTree}
 use Rattle.token_reader.specs.Grammar.{Grammar, ends_front, keyword, sign, lines, ◌▹◌, ◌◃◌}
-use Rattle.token_reader.specs.Readers.{Anything, IsRead, Reads}
-use Rattle.token_reader.specs.steps.Lawful.{Lawful, reads_from, are_apart, lawful_keyword, lawful_sign, lawful_word, lawful_number, lawful_string, lawful_ends, lawful_after, lawful_before, lawful_then, lawful_either, lawful_made, lawful_named, lawful_one_of, lawful_separated, lawful_lines}
+use Rattle.token_reader.specs.steps.Lawful.{Lawful, are_apart, lawful_keyword, lawful_sign, lawful_word, lawful_number, lawful_string, lawful_ends, lawful_after, lawful_before, lawful_then, lawful_either, lawful_made, lawful_named, lawful_one_of, lawful_separated, lawful_lines}
 use Rattle.nft_expressions.specs.Elements.{elements, pairs}
 use Rattle.nft_expressions.specs.steps.Laws.{lawful_elements, lawful_pairs}
-use Rattle.nft_sets.specs.Sets.{set_of, map_of, gathered, value_type, value_types, set_type, data_type, data_selector, map_type, set_flags, other_field, any_field, block, named_set, named_map}
-use Rattle.nft_sets.specs.Sets as sets
+use Rattle.nft_rulesets.specs.Sets.{set_of, map_of, gathered, value_type, value_types, set_type, data_type, data_selector, map_type, set_flags, other_field, any_field, block, named_set, named_map}
+use Rattle.nft_rulesets.specs.Sets as sets
 use Rattle.nft_expressions.specs.Selectors.{selector, selectors}
 use Rattle.nft_expressions.specs.steps.SelectorLaws.{lawful_selector, lawful_selectors}
-use Rattle.nft_sets.specs.steps.Reading.{read_by}
+use Rattle.nft_rulesets.specs.steps.Reading.{read_by}
 
 lawful_value_type : Lawful value_type
 unfolding value_type
@@ -78,12 +75,3 @@ lawful_set = lawful_named set_of (lawful_after (lawful_keyword _) (lawful_block 
 pub lawful_map : Lawful named_map
 unfolding named_map block any_field other_field set_flags map_type value_type data_type data_selector selector pairs
 lawful_map = lawful_named map_of (lawful_after (lawful_keyword _) (lawful_block lawful_map_type lawful_pairs refl refl refl refl refl refl refl) refl)
-
--- what is read from left to right is the one set, or the one map, that is spelled
-pub set_reads : {X : Type 0} (view : X → SetTree) (tokens : List Token) (at : ℕ) (o : Option (X × ℕ)) → IsRead view named_set.read tokens at o → Reads named_set Anything view tokens at o
-unfolding named_set block
-set_reads = reads_from lawful_set Anything (λ ts e. refl)
-
-pub map_reads : {X : Type 0} (view : X → MapTree) (tokens : List Token) (at : ℕ) (o : Option (X × ℕ)) → IsRead view named_map.read tokens at o → Reads named_map Anything view tokens at o
-unfolding named_map block
-map_reads = reads_from lawful_map Anything (λ ts e. refl)

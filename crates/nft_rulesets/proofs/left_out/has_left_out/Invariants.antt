@@ -1,7 +1,7 @@
 use Rattle.std.proofs.Common.{◌≡◌, drop}
 use Rattle.nft_lexer.specs.Sign.{signs}
-use Rattle.nft_parser.specs.LeftOut.{has_left_out}
-use Rattle.nft_parser.proofs.parsing.refusal.Given as goal
+use Rattle.nft_rulesets.specs.LeftOut.{has_left_out}
+use Rattle.nft_rulesets.proofs.left_out.has_left_out.Given as goal
 
 -- no word before this token is left out
 abbrev pub invariant-loop-token : goal.invariant-loop-token
