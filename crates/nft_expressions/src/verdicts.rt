@@ -42,7 +42,7 @@ fn name_after(
 }
 
 /// verdict = "accept" | "drop" | "continue" | "return" | ("jump" | "goto") NAME
-#[tactic(auto, unfolding(crate::specs::Elements::verdict))]
+#[tactic(auto, using(crate::specs::steps::Laws::wordless), unfolding(crate::specs::Elements::verdict))]
 pub(crate) fn verdict_here(
     alloc: Global,
     tokens: &[Token],
@@ -50,6 +50,8 @@ pub(crate) fn verdict_here(
 ) -> Result<Option<(Verdict, usize)>, Memory>
     ensures { IfOk result (IsRead verdict_tree verdict.read tokens.now at) }
 {
+    // Most data of maps are no words, and then no keyword is tried.
+    found!(word(tokens, at));
     if let Some(decided) = decision(tokens, at) {
         return Ok(Some(decided));
     }

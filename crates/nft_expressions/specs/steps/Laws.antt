@@ -1,5 +1,5 @@
 -- What is read as values, elements and references is what spells them.
-use Rattle.std.proofs.Common.{◌≡◌, ◌<◌, Bool, true, false, ◌||◌, List, [], ◌∷◌, length, Some, ◌⊎◌, inl, inr, refl, ap, arith}
+use Rattle.std.proofs.Common.{◌≡◌, ◌<◌, Bool, true, false, ◌||◌, List, [], ◌∷◌, length, Some, None, ◌⊎◌, inl, inr, refl, ap, arith}
 use Rattle.std.proofs.lemmas.Bool.{not-true}
 use Rattle.std.specs.Prelude.{codes, IfSome}
 use Rattle.std.specs.Str.{bytes_eq}
@@ -9,7 +9,7 @@ use Rattle.nft_lexer.specs.Sign.{Sign, mark}
 use Rattle.nft_tree.specs.Tree as tree
 use Rattle.nft_tree.specs.Tree.{Text, ValueTree, RangeTree, KeyTree, DataTree}
 use Rattle.token_reader.specs.Grammar.{Grammar, stands, this_mark, sign, a_number, many, made, passing, ◌▹◌}
-use Rattle.token_reader.specs.steps.Reading.{all_at}
+use Rattle.token_reader.specs.steps.Reading.{all_at, word_at}
 use Rattle.token_reader.specs.steps.Laws.{some_is, option_cases, IfSome_at, IfSome_weaker, bind_found, else_found}
 use Rattle.token_reader.specs.steps.Lawful.{Lawful, lawful_keyword, lawful_sign, lawful_word, lawful_number, lawful_string, lawful_one_of, lawful_then, lawful_after, lawful_before, lawful_either, lawful_made, lawful_maybe, lawful_many, lawful_passing, are_apart, shortens, begins, unread, neither, stands_left, stands_right}
 use Rattle.nft_expressions.specs.Elements.{sign_of, value, ranges, range, next_value, keys, key, comment, element, decisions, verdict, is_verdict_word, is_data_value, map_data, pair, elements, pairs, reference, set_ref, map_ref}
@@ -157,6 +157,12 @@ lawful_verdict =
 no_word : (a b c d e f : Bool) → (a || b || c || d || e || f) ≡ false → (a || (b || (c || (d || (e || (f || false)))))) ≡ false
 no_word false false false false false false none = refl
 no_word a b c d e f none = absurd cc
+
+-- a verdict begins with a word
+pub wordless : (ts : List Sign) → word_at ts ≡ None → verdict.read ts ≡ None
+unfolding verdict
+wordless (signs.word w ∷ ts) none = absurd cc
+wordless ts none = refl
 
 -- a value that is data begins no verdict
 no_verdict : (v : ValueTree) (to : List Sign) → is_data_value v ≡ true → stands verdict.first (sign_of v ∷ to) ≡ false
