@@ -90,5 +90,5 @@ pub fn selectors(
     // It is what reading from left to right gives.
     ensures read { IfOk result (IsRead (λ found. found.items) selectors.read tokens.now at) }
 {
-    separated::<Dot, AnySelector>(alloc, tokens, at)
+    separated::<Dot, AnySelector>(alloc, tokens, at, 1)
 }

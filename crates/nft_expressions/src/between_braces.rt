@@ -9,6 +9,14 @@ use nft_tree::Memory;
 use std::alloc::Global;
 use token_reader::{Comma, Part, after_mark, found, separated};
 
+/// A part of a list between braces.
+pub(crate) trait InBraces: Part {
+    /// The fewest tokens that one takes, with the comma after it. Only the room that a list has
+    /// before it grows comes from this.
+    fn fewest_tokens() -> usize
+        ensures { 0 < result };
+}
+
 /// The token here, unless it is a closing brace, and the place after it.
 fn inside<'t>(tokens: &[Token<'t>], at: usize) -> Option<(Token<'t>, usize)>
     ensures { IsRead (λ t. sign_of t.kind t.text.now) inside_at tokens.now at result }
@@ -68,11 +76,12 @@ fn unbroken(tokens: &[Token], at: usize) -> Option<usize>
 
 /// x {"," x} [","], all of the tokens
 #[tactic(auto, unfolding(crate::specs::steps::Reading::listed_at))]
-fn listed<P: Part>(alloc: Global, tokens: &[Token]) -> Result<Option<Vec<P::Item>>, Memory>
+fn listed<P: InBraces>(alloc: Global, tokens: &[Token]) -> Result<Option<Vec<P::Item>>, Memory>
     ensures read { IfOk result (λ o. option_map (λ found. map P.tree found.items) o ≡ listed_at P.read_at (signs tokens.now)) }
     ensures some { IfOk result (λ o. IfSome o (λ _. 0 < length tokens.now)) }
 {
-    let (found, end) = found!(separated::<Comma, P>(alloc, tokens, 0)?);
+    let room = tokens.len().div_ceil(P::fewest_tokens());
+    let (found, end) = found!(separated::<Comma, P>(alloc, tokens, 0, room)?);
     if after_mark(tokens, end, Mark::Comma).unwrap_or(end) < tokens.len() {
         return Ok(None);
     }
@@ -81,7 +90,7 @@ fn listed<P: Part>(alloc: Global, tokens: &[Token]) -> Result<Option<Vec<P::Item
 
 /// x {"," x} [","] up to the brace that closes it, newlines skipped, and the place of that brace.
 #[tactic(auto, unfolding(crate::specs::steps::Reading::up_to_brace_at))]
-pub(crate) fn up_to_brace<P: Part>(
+pub(crate) fn up_to_brace<P: InBraces>(
     alloc: Global,
     tokens: &[Token],
     at: usize,

@@ -5,6 +5,7 @@ ghost use Rattle.token_reader.specs.Readers.{ahead};
 ghost use Rattle.nft_expressions.specs.Elements.{element};
 ghost use Rattle.nft_expressions.specs.steps.Reading.{key_after, next_value_at};
 
+use crate::between_braces::InBraces;
 use crate::values::{comment, range_after, value, value_after};
 use nft_lexer::{Mark, Token};
 use nft_tree::{Element, Key, Memory, Range, Value};
@@ -77,5 +78,12 @@ impl Part for SetElement {
         let (key, at) = key_after(alloc, tokens, at, first)?;
         let (comment, at) = comment(alloc, tokens, at)?;
         Ok(Some((Element { key, comment }, at)))
+    }
+}
+
+impl InBraces for SetElement {
+    // A value and a comma.
+    fn fewest_tokens() -> usize {
+        2
     }
 }

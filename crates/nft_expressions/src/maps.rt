@@ -6,6 +6,7 @@ ghost use Rattle.token_reader.specs.Grammar.{sign, ◌⨾◌, ◌◃◌};
 ghost use Rattle.token_reader.specs.Readers.{IsRead};
 ghost use Rattle.nft_expressions.specs.Elements.{comment, is_data_value, map_data, pair, range};
 
+use crate::between_braces::InBraces;
 use crate::values::{comment, range_after, value};
 use crate::verdicts::verdict_here;
 use nft_lexer::{Mark, Token};
@@ -85,5 +86,12 @@ impl Part for MapPair {
             value,
         };
         Ok(Some((pair, at)))
+    }
+}
+
+impl InBraces for MapPair {
+    // A key, a colon, a value and a comma.
+    fn fewest_tokens() -> usize {
+        4
     }
 }

@@ -7,13 +7,13 @@ ghost use Rattle.token_reader.specs.Readers.{Anything, IsRead, Reads};
 ghost use Rattle.nft_expressions.specs.Elements.{map_ref, set_ref};
 ghost use Rattle.nft_expressions.specs.steps.Reading.{braced_at};
 
-use crate::between_braces::up_to_brace;
+use crate::between_braces::{InBraces, up_to_brace};
 use crate::elements::SetElement;
 use crate::maps::MapPair;
 use nft_lexer::{Mark, Token};
 use nft_tree::{MapRef, Memory, SetRef};
 use std::alloc::Global;
-use token_reader::{Part, after_mark, found, word};
+use token_reader::{after_mark, found, word};
 
 /// "@" NAME
 fn name<'t>(tokens: &[Token<'t>], at: usize) -> Option<(&'t [u8], usize)>
@@ -25,7 +25,7 @@ fn name<'t>(tokens: &[Token<'t>], at: usize) -> Option<(&'t [u8], usize)>
 
 /// "{" list "}"
 #[tactic(auto, unfolding(crate::specs::steps::Reading::braced_at))]
-fn braced<P: Part>(
+fn braced<P: InBraces>(
     alloc: Global,
     tokens: &[Token],
     at: usize,

@@ -24,7 +24,7 @@ pub(crate) fn value(
         Kind::Number(number) => Value::Number(number),
         Kind::Address(address) => Value::Address(address),
         Kind::Word => Value::Word(Vec::from_slice(alloc, token.text)?),
-        Kind::String(text) => Value::String(Vec::from_slice(alloc, text)?),
+        Kind::String => Value::String(Vec::from_slice(alloc, token.between_quotes())?),
         Kind::NewLine | Kind::Mark(_) => return Ok(None),
     };
     Ok(Some((value, at + 1)))

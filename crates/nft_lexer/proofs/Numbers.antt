@@ -1,5 +1,5 @@
 -- Digits as numbers, and the tokens of pieces.
-use Rattle.std.proofs.Common.{◌≡◌, ◌≢◌, ℕ, zero, suc, ◌+◌, ◌*◌, ◌/◌, ◌%◌, ◌^◌, ◌<◌, ◌≤◌, Bool, true, false, cond, ◌&&◌, ◌==◌, List, [], ◌∷◌, length, get_or, Some, None, Option, inl, inr, refl, sym, ap, ◌∙◌, arith, rules}
+use Rattle.std.proofs.Common.{◌≡◌, ◌≢◌, ℕ, zero, suc, ◌+◌, ◌-◌, ◌*◌, ◌/◌, ◌%◌, ◌^◌, ◌<◌, ◌≤◌, Bool, true, false, cond, ◌&&◌, ◌==◌, List, [], ◌∷◌, ◌++◌, length, take, drop, get_or, Some, None, Option, inl, inr, refl, sym, ap, ◌∙◌, arith, rules}
 use Rattle.std.specs.Prelude.{IfSome, nat_lt, option_map}
 use Rattle.std.specs.Char.{is_ascii_digit, is_ascii_hexdigit, digit_value}
 use Rattle.std.specs.Fmt.{decimal}
@@ -7,10 +7,12 @@ use Rattle.std.specs.List.{list_all}
 use Rattle.std.specs.Str.Parse.{AllDigits, digits_value, digits_value_after}
 use Rattle.std.proofs.lemmas.Bool.{and_parts, lt-ltb, le-ltb, cases_lt}
 use Rattle.std.proofs.lemmas.Bool.Decides.{nat_tests}
+use Rattle.std.proofs.lemmas.List.{length-append}
+use Rattle.std.proofs.Math.Seq.{take-append_seam}
 use Rattle.std.proofs.lemmas.Fmt.{decimal_digit, decimal_is_IsNumeral, decimal-digits_value, first_decimal}
 use Rattle.std.proofs.lemmas.Str.Parse.{IsNumeralModel, numerals_by_value}
-use Rattle.nft_lexer.specs.Sign.{Spelled, word, number, address}
-use Rattle.nft_lexer.specs.Cut.{Part, name, digits, hexadecimal, dotted, IsDigits, IsHexadecimal, IsSoundDecimal, AreGroups, SpellsPart, Means}
+use Rattle.nft_lexer.specs.Sign.{Spelled, word, number, address, string}
+use Rattle.nft_lexer.specs.Cut.{Part, name, digits, hexadecimal, dotted, quoted, IsDigits, IsHexadecimal, IsSoundDecimal, AreGroups, SpellsPart, Means}
 use Rattle.nft_lexer.specs.steps.Reading.{◌>>=◌, leads_with_zero, below, value_after, decimal_at, group_at, address_at, meaning, one}
 
 -- ---- options
@@ -156,6 +158,12 @@ address_only a b c d n sa sb sc sd m =
 
 -- ---- the tokens of pieces
 
+-- the bytes between the quotes of a string
+between : (s bytes : List ℕ) → bytes ≡ 34 ∷ s ++ 34 ∷ [] → take (length bytes - 2) (drop 1 bytes) ≡ s
+between s bytes e =
+    let long : length (34 ∷ s ++ 34 ∷ []) - 2 ≡ length s = omega (arith, length-append s (34 ∷ [])) in
+    rw (e, long) (take-append_seam s (34 ∷ []))
+
 pub meaning_found : (p : Part) (bytes : List ℕ) → SpellsPart p bytes → IfSome (meaning p bytes) (λ tokens. Means p bytes tokens)
 unfolding meaning
 meaning_found (name w) bytes s = ap (λ (t : List ℕ). one (word t) bytes) s.0
@@ -165,6 +173,7 @@ meaning_found (hexadecimal n) bytes s =
     let less : v < 2 ^ 64 = h.1 in
     (rw h.0 at less, ap (λ (k : ℕ). one (number k) bytes) h.0)))
 meaning_found (dotted a b c d) bytes s = view_found _ (address_at a b c d) (λ v. one (address v) bytes) (address_found a b c d s.1 s.2 s.3 s.4) (λ n h. (n, h, refl))
+meaning_found (quoted q) bytes s = ap (λ (t : List ℕ). one (string t) bytes) (between q bytes s.0)
 meaning_found p bytes s = refl
 
 some_of : {A : Type 0} (x y : A) → x ≡ y → ◌≡◌ {A = Option A} (Some y) (Some x)
@@ -176,4 +185,5 @@ meaning_only (name w) bytes tokens s m = some_of tokens _ (m ∙ ap (λ (t : Lis
 meaning_only (digits n) bytes tokens s m = rw (decimal_only n s.1 m.0) (some_of tokens _ m.1)
 meaning_only (hexadecimal n) bytes tokens s m = rw (hexadecimal_is n s.1, below_only (2 ^ 64) (digits_value 16 n) m.0) (some_of tokens _ m.1)
 meaning_only (dotted a b c d) bytes tokens s m = rw (address_only a b c d m.0 s.1 s.2 s.3 s.4 m.1) (some_of tokens _ m.2)
+meaning_only (quoted q) bytes tokens s m = some_of tokens _ (m ∙ ap (λ (t : List ℕ). one (string t) bytes) (sym (between q bytes s.0)))
 meaning_only p bytes tokens s m = some_of tokens _ m

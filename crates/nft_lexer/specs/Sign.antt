@@ -1,5 +1,5 @@
 -- Tokens as they are spelled, without where they lie in memory.
-use Rattle.std.specs.Prelude.{ℕ, List, map}
+use Rattle.std.specs.Prelude.{ℕ, ◌-◌, List, drop, length, map, take}
 use Rattle.nft_lexer.specs.declared.token.Mark.{Mark}
 use Rattle.nft_lexer.specs.declared.token.Kind.{Kind}
 use Rattle.nft_lexer.specs.declared.token.Kind.TheVariants as kinds
@@ -25,7 +25,7 @@ sign_of (kinds.Mark m) text = mark m
 sign_of kinds.Word text = word text
 sign_of (kinds.Number n) text = number n
 sign_of (kinds.Address a) text = address a
-sign_of (kinds.String s) text = string s.now
+sign_of kinds.String text = string (take (length text - 2) (drop 1 text))
 
 abbrev pub spelled : Token → Spelled
 spelled t = record { sign = sign_of t.kind t.text.now; text = t.text.now }

@@ -53,7 +53,7 @@ fn token<'t>(piece: Piece<'t>, text: &'t [u8]) -> Result<Option<Token<'t>>, Faul
         Piece::Digits(digits) => Kind::Number(decimal(digits).ok_or(Fault::Number)?),
         Piece::Hexadecimal(digits) => Kind::Number(value(digits, 16).ok_or(Fault::Number)?),
         Piece::FourGroups(groups) => Kind::Address(address(groups).ok_or(Fault::Number)?),
-        Piece::Quoted(string) => Kind::String(string),
+        Piece::Quoted(_) => Kind::String,
         Piece::Sole(mark) => Kind::Mark(mark),
     };
     Ok(Some(Token { text, kind }))
@@ -92,8 +92,8 @@ fn tokens<'t>(alloc: Global, text: &'t [u8]) -> Result<Vec<Token<'t>>, LexError>
     ensures found { IfOk result (λ tokens. IsCut text.entry.now (map spelled tokens.items)) }
     ensures fault { IfErr result (Tells (FirstFault text.entry.now)) }
 {
-    // Few texts have more than a token for three bytes.
-    let mut found = Vec::with_capacity(alloc, text.len() / 3)?;
+    // Few texts have more than a token for two bytes.
+    let mut found = Vec::with_capacity(alloc, text.len() / 2)?;
     let mut rest = text;
     while !rest.is_empty() {
         let (token, after) = match next(rest) {

@@ -1,4 +1,5 @@
 //! Tokens of a ruleset's text.
+ghost use Rattle.std.specs.Prelude.{◌≡◌, ◌-◌, drop, length, take};
 
 /// A mark of one byte or two.
 #[derive(Clone, Copy, PartialEq)]
@@ -49,7 +50,7 @@ pub enum Mark {
 
 /// What a token is.
 #[derive(Clone, Copy)]
-pub enum Kind<'t> {
+pub enum Kind {
     NewLine,
     Mark(Mark),
     /// The bytes are the token's text.
@@ -58,13 +59,25 @@ pub enum Kind<'t> {
     Number(u64),
     /// An IPv4 address, its first group the highest byte.
     Address(u32),
-    /// The bytes between the quotes.
-    String(&'t [u8]),
+    /// The bytes between two quotes, which the token's text has too.
+    String,
 }
 
 /// A token: its slice of the source, and what it is.
 #[derive(Clone, Copy)]
 pub struct Token<'t> {
     pub text: &'t [u8],
-    pub kind: Kind<'t>,
+    pub kind: Kind,
+}
+
+impl<'t> Token<'t> {
+    /// The bytes between the quotes, where the token is a string: all but the first and the last.
+    pub fn between_quotes(self) -> &'t [u8]
+        ensures { result.now ≡ take (length self.entry.text.now - 2) (drop 1 self.entry.text.now) }
+    {
+        if self.text.len() < 2 {
+            return &[];
+        }
+        &self.text[1..self.text.len() - 1]
+    }
 }

@@ -45,7 +45,7 @@ fn words(
 ) -> Result<Option<(Vec<Vec<u8>>, usize)>, Memory>
     ensures { IfOk result (IsRead (λ found. map (λ w. w.items) found.items) (passing (list_all (is_word_for selector)) words).read tokens.now at) }
 {
-    let (words, at) = found!(separated::<Comma, Word>(alloc, tokens, at)?);
+    let (words, at) = found!(separated::<Comma, Word>(alloc, tokens, at, 1)?);
     for word in &words {
         if !lists_word(selector, word) {
             return Ok(None);

@@ -74,7 +74,7 @@ fn set_flags(
     ensures { IfOk result (IsRead (λ found. found.items) set_flags.read tokens.now at) }
 {
     let at = found!(after_word(tokens, at, b"flags"));
-    separated::<Comma, Flag>(alloc, tokens, at)
+    separated::<Comma, Flag>(alloc, tokens, at, 1)
 }
 
 /// "elements" "=" "{" elements "}"

@@ -53,7 +53,7 @@ impl Part for SetTypes {
         at: usize,
     ) -> Result<Option<(SetType, usize)>, Memory> {
         if let Some(at) = after_word(tokens, at, b"type") {
-            let (found, at) = found!(separated::<Dot, TypeName>(alloc, tokens, at)?);
+            let (found, at) = found!(separated::<Dot, TypeName>(alloc, tokens, at, 1)?);
             return Ok(Some((SetType::Types(found), at)));
         }
         let at = found!(after_word(tokens, at, b"typeof"));

@@ -122,18 +122,19 @@ impl<S: Separator, P: Part> Part for After<S, P> {
     }
 }
 
-/// x {s x}, and the place after them.
+/// x {s x}, and the place after them. There is room for so many before the list grows.
 pub fn separated<S: Separator, P: Part>(
     alloc: Global,
     tokens: &[Token],
     at: usize,
+    room: usize,
 ) -> Result<Option<(Vec<P::Item>, usize)>, Memory>
     ensures { IfOk result (IsRead (λ found. map P.tree found.items) (separated_at (sign_at S.mark) P.read_at) tokens.now at) }
 {
     let Some((first, at)) = P::read(alloc, tokens, at)? else {
         return Ok(None);
     };
-    let mut found = Vec::new(alloc);
+    let mut found = Vec::with_capacity(alloc, room)?;
     found.push(first)?;
     let end = more::<After<S, P>>(alloc, tokens, at, &mut found)?;
     Ok(Some((found, end)))

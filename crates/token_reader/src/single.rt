@@ -69,8 +69,9 @@ pub fn string<'t>(tokens: &[Token<'t>], at: usize) -> Option<(&'t [u8], usize)>
     ensures read { option_map (λ x. (x.0.now, ahead tokens.now x.1)) result ≡ string_at (ahead tokens.now at) }
     ensures within { IfSome result (λ x. IsAfter tokens.now at x.1) }
 {
-    match tokens.get(at)?.kind {
-        Kind::String(found) => Some((found, at + 1)),
+    let token = tokens.get(at)?;
+    match token.kind {
+        Kind::String => Some((token.between_quotes(), at + 1)),
         _ => None,
     }
 }

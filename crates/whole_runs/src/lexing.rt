@@ -16,8 +16,8 @@ fn shown(alloc: Global, text: &[u8]) -> Result<Vec<u8>, Fail> {
             Kind::Word => format!(in alloc; " word")?,
             Kind::Number(number) => format!(in alloc; " number {number}")?,
             Kind::Address(address) => format!(in alloc; " address {address:08x}")?,
-            Kind::String(string) => {
-                all.extend_from_slice(string)?;
+            Kind::String => {
+                all.extend_from_slice(token.between_quotes())?;
                 format!(in alloc; " string")?
             }
         };

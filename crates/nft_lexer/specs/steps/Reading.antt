@@ -190,7 +190,7 @@ meaning (name w) bytes = Some (one (word bytes) bytes)
 meaning (digits n) bytes = option_map (λ v. one (number v) bytes) (decimal_at n)
 meaning (hexadecimal n) bytes = option_map (λ v. one (number v) bytes) (value_after 16 0 n)
 meaning (dotted a b c d) bytes = option_map (λ v. one (address v) bytes) (address_at a b c d)
-meaning (quoted s) bytes = Some (one (string s) bytes)
+meaning (quoted s) bytes = Some (one (string (take (length bytes - 2) (drop 1 bytes))) bytes)
 meaning (sole m) bytes = Some (one (mark m) bytes)
 meaning p bytes = Some []
 
