@@ -25,6 +25,7 @@ sign_of (kinds.Mark m) text = mark m
 sign_of kinds.Word text = word text
 sign_of (kinds.Number n) text = number n
 sign_of (kinds.Address a) text = address a
+-- what stands between the quotes
 sign_of kinds.String text = string (take (length text - 2) (drop 1 text))
 
 abbrev pub spelled : Token → Spelled

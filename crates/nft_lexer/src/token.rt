@@ -59,7 +59,7 @@ pub enum Kind {
     Number(u64),
     /// An IPv4 address, its first group the highest byte.
     Address(u32),
-    /// The bytes between two quotes, which the token's text has too.
+    /// Its bytes stand between the two quotes that the token's text begins and ends with.
     String,
 }
 
