@@ -11,6 +11,13 @@ use nft_tree::{Memory, Range, Value};
 use std::alloc::Global;
 use token_reader::{after_mark, found, number_after, string_after};
 
+/// The bytes, boxed.
+fn boxed(alloc: Global, bytes: &[u8]) -> Result<Box<Vec<u8>>, Memory>
+    ensures { IfOk result (λ text. text.value.items ≡ bytes.now) }
+{
+    Ok(Box::new(alloc, Vec::from_slice(alloc, bytes)?)?)
+}
+
 /// value = NUM | ADDR | WORD | STRING
 pub(crate) fn value(
     alloc: Global,
@@ -23,8 +30,8 @@ pub(crate) fn value(
     let value = match token.kind {
         Kind::Number(number) => Value::Number(number),
         Kind::Address(address) => Value::Address(address),
-        Kind::Word => Value::Word(Vec::from_slice(alloc, token.text)?),
-        Kind::String => Value::String(Vec::from_slice(alloc, token.between_quotes())?),
+        Kind::Word => Value::Word(boxed(alloc, token.text)?),
+        Kind::String => Value::String(boxed(alloc, token.between_quotes())?),
         Kind::NewLine | Kind::Mark(_) => return Ok(None),
     };
     Ok(Some((value, at + 1)))

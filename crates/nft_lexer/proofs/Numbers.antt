@@ -13,7 +13,7 @@ use Rattle.std.proofs.lemmas.Fmt.{decimal_digit, decimal_is_IsNumeral, decimal-d
 use Rattle.std.proofs.lemmas.Str.Parse.{IsNumeralModel, numerals_by_value}
 use Rattle.nft_lexer.specs.Sign.{Spelled, word, number, address, string}
 use Rattle.nft_lexer.specs.Cut.{Part, name, digits, hexadecimal, dotted, quoted, IsDigits, IsHexadecimal, IsSoundDecimal, AreGroups, SpellsPart, Means}
-use Rattle.nft_lexer.specs.steps.Reading.{◌>>=◌, leads_with_zero, below, value_after, decimal_at, group_at, address_at, meaning, one}
+use Rattle.nft_lexer.specs.steps.Reading.{◌>>=◌, leads_with_zero, below, value_after, decimal_at, group_at, address_of, address_at, number_piece, address_piece, tokens_of, meaning, one}
 
 -- ---- options
 
@@ -140,7 +140,7 @@ joined : (a b c d : ℕ) → a < 256 → b < 256 → c < 256 → d < 256 → (le
 joined a b c d la lb lc ld = (omega arith, omega arith, omega arith, omega arith, omega arith)
 
 address_found : (a b c d : List ℕ) → IsDigits a → IsDigits b → IsDigits c → IsDigits d → IfSome (address_at a b c d) (AreGroups a b c d)
-unfolding address_at
+unfolding address_of group_at
 address_found a b c d sa sb sc sd =
     bind_found _ (group_at a) _ (group_found a sa) (λ w hw.
     bind_found _ (group_at b) _ (group_found b sb) (λ x hx.
@@ -150,7 +150,7 @@ address_found a b c d sa sb sc sd =
     (all.0, hw.1 ∙ ap decimal (sym all.1), hx.1 ∙ ap decimal (sym all.2), hy.1 ∙ ap decimal (sym all.3), hz.1 ∙ ap decimal (sym all.4))))))
 
 address_only : (a b c d : List ℕ) (n : ℕ) → IsDigits a → IsDigits b → IsDigits c → IsDigits d → AreGroups a b c d n → address_at a b c d ≡ Some n
-unfolding address_at
+unfolding address_of group_at
 address_only a b c d n sa sb sc sd m =
     let small : n < 2 ^ 32 = m.0 in
     let whole : n / 16777216 * 16777216 + n / 65536 % 256 * 65536 + n / 256 % 256 * 256 + n % 256 ≡ n = omega arith in
@@ -164,15 +164,22 @@ between s bytes e =
     let long : length (34 ∷ s ++ 34 ∷ []) - 2 ≡ length s = omega (arith, length-append s (34 ∷ [])) in
     rw (e, long) (take-append_seam s (34 ∷ []))
 
+as_number : (o : Option ℕ) (bytes : List ℕ) → tokens_of (number_piece o) bytes ≡ option_map (λ v. one (number v) bytes) o
+as_number None bytes = refl
+as_number (Some n) bytes = refl
+
+as_address : (o : Option ℕ) (bytes : List ℕ) → tokens_of (address_piece o) bytes ≡ option_map (λ v. one (address v) bytes) o
+as_address None bytes = refl
+as_address (Some a) bytes = refl
+
 pub meaning_found : (p : Part) (bytes : List ℕ) → SpellsPart p bytes → IfSome (meaning p bytes) (λ tokens. Means p bytes tokens)
-unfolding meaning
 meaning_found (name w) bytes s = ap (λ (t : List ℕ). one (word t) bytes) s.0
-meaning_found (digits n) bytes s = view_found _ (decimal_at n) (λ v. one (number v) bytes) (decimal_found n s.1) (λ v h. (h.0, ap (λ (k : ℕ). one (number k) bytes) h.1))
+meaning_found (digits n) bytes s = rw (as_number (decimal_at n) bytes) (view_found _ (decimal_at n) (λ v. one (number v) bytes) (decimal_found n s.1) (λ v h. (h.0, ap (λ (k : ℕ). one (number k) bytes) h.1)))
 meaning_found (hexadecimal n) bytes s =
-    rw (hexadecimal_is n s.1) (view_found _ (below (2 ^ 64) (digits_value 16 n)) (λ v. one (number v) bytes) (below_found (2 ^ 64) (digits_value 16 n)) (λ v h.
+    rw (as_number (value_after 16 0 n) bytes, hexadecimal_is n s.1) (view_found _ (below (2 ^ 64) (digits_value 16 n)) (λ v. one (number v) bytes) (below_found (2 ^ 64) (digits_value 16 n)) (λ v h.
     let less : v < 2 ^ 64 = h.1 in
     (rw h.0 at less, ap (λ (k : ℕ). one (number k) bytes) h.0)))
-meaning_found (dotted a b c d) bytes s = view_found _ (address_at a b c d) (λ v. one (address v) bytes) (address_found a b c d s.1 s.2 s.3 s.4) (λ n h. (n, h, refl))
+meaning_found (dotted a b c d) bytes s = rw (as_address (address_at a b c d) bytes) (view_found _ (address_at a b c d) (λ v. one (address v) bytes) (address_found a b c d s.1 s.2 s.3 s.4) (λ n h. (n, h, refl)))
 meaning_found (quoted q) bytes s = ap (λ (t : List ℕ). one (string t) bytes) (between q bytes s.0)
 meaning_found p bytes s = refl
 
@@ -180,10 +187,9 @@ some_of : {A : Type 0} (x y : A) → x ≡ y → ◌≡◌ {A = Option A} (Some 
 some_of x y e = ap (λ z. Some z) (sym e)
 
 pub meaning_only : (p : Part) (bytes : List ℕ) (tokens : List Spelled) → SpellsPart p bytes → Means p bytes tokens → meaning p bytes ≡ Some tokens
-unfolding meaning
 meaning_only (name w) bytes tokens s m = some_of tokens _ (m ∙ ap (λ (t : List ℕ). one (word t) bytes) (sym s.0))
-meaning_only (digits n) bytes tokens s m = rw (decimal_only n s.1 m.0) (some_of tokens _ m.1)
-meaning_only (hexadecimal n) bytes tokens s m = rw (hexadecimal_is n s.1, below_only (2 ^ 64) (digits_value 16 n) m.0) (some_of tokens _ m.1)
-meaning_only (dotted a b c d) bytes tokens s m = rw (address_only a b c d m.0 s.1 s.2 s.3 s.4 m.1) (some_of tokens _ m.2)
+meaning_only (digits n) bytes tokens s m = rw (as_number (decimal_at n) bytes, decimal_only n s.1 m.0) (some_of tokens _ m.1)
+meaning_only (hexadecimal n) bytes tokens s m = rw (as_number (value_after 16 0 n) bytes, hexadecimal_is n s.1, below_only (2 ^ 64) (digits_value 16 n) m.0) (some_of tokens _ m.1)
+meaning_only (dotted a b c d) bytes tokens s m = rw (as_address (address_at a b c d) bytes, address_only a b c d m.0 s.1 s.2 s.3 s.4 m.1) (some_of tokens _ m.2)
 meaning_only (quoted q) bytes tokens s m = some_of tokens _ (m ∙ ap (λ (t : List ℕ). one (string t) bytes) (sym (between q bytes s.0)))
 meaning_only p bytes tokens s m = some_of tokens _ m

@@ -16,7 +16,7 @@ use Rattle.nft_lexer.specs.declared.cutting.Fault.{Fault}
 use Rattle.nft_lexer.specs.declared.cutting.Fault.TheVariants as faults
 use Rattle.nft_lexer.specs.Sign.{Spelled}
 use Rattle.nft_lexer.specs.Cut.{Part, blank, joined_line, comment, line_end, name, digits, hexadecimal, dotted, quoted, sole, is_blank, begins_word, continues_word, is_no_line_end, stands_in_string, mark_text, IsDigits, SpellsPart, IsPartAt, Means, BeginsNone, IsFaultAt}
-use Rattle.nft_lexer.specs.steps.Reading.{◌>>=◌, class_of, mark_from, short_marks, long_marks, after_byte, front, behind, run_at, is_zero, hexadecimal_at, next_group_at, dotted_at, number_at, quoted_at, long_mark_at, mark_at, class_at, piece_at, meaning, next_at, on_line, Passes}
+use Rattle.nft_lexer.specs.steps.Reading.{◌>>=◌, class_of, mark_from, short_marks, long_marks, after_byte, front, behind, run_at, is_zero, hexadecimal_at, next_group_at, dotted_at, number_at, quoted_at, long_mark_at, mark_at, class_at, piece_at, seen, meaning, next_at, on_line, Passes}
 use Rattle.nft_lexer.proofs.Numbers.{IfSome_weaker, bind_found, view_found, by_test, meaning_found, meaning_only}
 
 -- ---- options
@@ -335,10 +335,14 @@ before ts bytes rest e =
     let n : length ts - length rest ≡ length bytes = omega (arith, ap length e, length-append bytes rest) in
     rw n (ap (take (length bytes)) e ∙ take_at bytes rest (length bytes) refl)
 
-pub piece_within : (ts : List ℕ) (x : Part × List ℕ) → piece_at ts ≡ Some x → length x.1 ≤ length ts
-piece_within ts x e =
-    let stands = piece_stands ts x e in
-    omega (arith, ap length stands.1.joined, length-append stands.0 x.1)
+pub piece_within : (ts : List ℕ) → IfSome (seen (piece_at ts)) (λ x. length x.1 ≤ length ts)
+piece_within ts =
+    elim (option_cases (piece_at ts)) [
+      | inl e ↦ rw e tt
+      | inr w ↦
+          let stands = piece_stands ts w.0 w.1 in
+          rw w.1 (omega (arith, ap length stands.1.joined, length-append stands.0 w.0.1))
+    ]
 
 abbrev pub Stands : List ℕ → Result (List Spelled × List ℕ) Fault → Type 0
 Stands ts r = MatchResult r (λ x. Passes ts x.0 x.1) (λ fault. (line : ℕ) → IsFaultAt ts line (on_line fault line))

@@ -3,12 +3,11 @@ ghost use Rattle.std.specs.Prelude.{◌≡◌, ◌<◌, ◌≤◌, ◌↔◌, �
 ghost use Rattle.nft_lexer.specs.declared.fault.LexFault.{LexFault};
 ghost use Rattle.nft_lexer.specs.Sign.{Spelled, spelled};
 ghost use Rattle.nft_lexer.specs.Cut.{FirstFault, HasLexFault, IsCut, MOST_BYTES, line_after};
-ghost use Rattle.nft_lexer.specs.steps.Reading.{Tells, listed, meaning, next_at, on_line, part, told};
+ghost use Rattle.nft_lexer.specs.steps.Reading.{Tells, listed, next_at, on_line, told, tokens_of};
 
 use crate::fault::{LexError, LexFault};
-use crate::number::{address, decimal, value};
 use crate::piece::{Piece, next_piece};
-use crate::token::{Kind, Token};
+use crate::token::Token;
 use std::alloc::{AllocError, Global};
 
 /// More bytes than this are no ruleset.
@@ -41,22 +40,15 @@ fn line_after(done: &[u8]) -> u32
     done.iter().filter(|byte| **byte == b'\n').count() as u32 + 1
 }
 
-/// The token that the piece with these bytes is: a blank or a comment is none.
-#[tactic(auto, unfolding(crate::specs::steps::Reading::meaning))]
-fn token<'t>(piece: Piece<'t>, text: &'t [u8]) -> Result<Option<Token<'t>>, Fault>
-    ensures { told (listed spelled) result ≡ ok_or (meaning (part piece.entry) text.entry.now) Fault.Number }
+/// The token that the piece with these bytes is: a blank is none.
+fn token<'t>(piece: Piece, text: &'t [u8]) -> Result<Option<Token<'t>>, Fault>
+    ensures { told (listed spelled) result ≡ ok_or (tokens_of piece text.entry.now) Fault.Number }
 {
-    let kind = match piece {
-        Piece::Blank | Piece::JoinedLine | Piece::Comment(_) => return Ok(None),
-        Piece::LineEnd => Kind::NewLine,
-        Piece::Name(_) => Kind::Word,
-        Piece::Digits(digits) => Kind::Number(decimal(digits).ok_or(Fault::Number)?),
-        Piece::Hexadecimal(digits) => Kind::Number(value(digits, 16).ok_or(Fault::Number)?),
-        Piece::FourGroups(groups) => Kind::Address(address(groups).ok_or(Fault::Number)?),
-        Piece::Quoted(_) => Kind::String,
-        Piece::Sole(mark) => Kind::Mark(mark),
-    };
-    Ok(Some(Token { text, kind }))
+    match piece {
+        Piece::Blank => Ok(None),
+        Piece::Token(kind) => Ok(Some(Token { text, kind })),
+        Piece::NoNumber => Err(Fault::Number),
+    }
 }
 
 /// The piece in front as a token, if it is one, and what follows it.

@@ -1,8 +1,15 @@
 //! What digits say.
-ghost use Rattle.std.specs.Prelude.{◌≡◌, ◌≤◌, ◌<◌, ◌^◌};
-ghost use Rattle.nft_lexer.specs.steps.Reading.{address_at, decimal_at, group_at, leads_with_zero, value_after, with_digit};
+ghost use Rattle.std.specs.Prelude.{◌≡◌, ◌≤◌, ◌<◌, ◌^◌, length, option_map};
+ghost use Rattle.std.specs.Char.{is_ascii_digit};
+ghost use Rattle.std.specs.List.{prefix_len};
+ghost use Rattle.nft_lexer.specs.steps.Reading.{address_of, byte_of, digit_at, digits_at, front, leads_with_zero, value_after, with_digit};
 
-use crate::piece::Dotted;
+/// Decimal digits, and the number below 2^64 that they say with no leading zero.
+#[derive(Clone, Copy)]
+pub(crate) struct Digits<'t> {
+    pub text: &'t [u8],
+    pub number: Option<u64>,
+}
 
 /// The number below 2^64 that the digit says after those of this number.
 fn with_digit(number: u64, byte: u8, radix: u32) -> Option<u64>
@@ -37,34 +44,83 @@ fn leads_with_zero(digits: &[u8]) -> bool
     digits.len() > 1 && digits[0] == b'0'
 }
 
-/// The number below 2^64 that decimal digits say with no leading zero.
-#[tactic(auto, unfolding(crate::specs::steps::Reading::decimal_at))]
-pub(crate) fn decimal(digits: &[u8]) -> Option<u64>
-    ensures { result ≡ decimal_at digits.now }
+/// The digit in front, and what follows it.
+fn digit<'t>(text: &'t [u8]) -> Option<(u8, &'t [u8])>
+    ensures { option_map (λ x. (x.0, x.1.now)) result ≡ digit_at text.entry.now }
 {
-    if leads_with_zero(digits) {
-        return None;
+    match text {
+        [first, rest @ ..] if first.is_ascii_digit() => Some((*first, rest)),
+        _ => None,
     }
-    value(digits, 10)
 }
 
-/// The number from 0 to 255 that the digits say with no leading zero.
-#[tactic(auto, unfolding(crate::specs::steps::Reading::group_at))]
-fn group(digits: &[u8]) -> Option<u8>
-    ensures { result ≡ group_at digits.now }
+/// How many digits stand in front.
+fn count_digits(text: &[u8]) -> usize
+    ensures value { result ≡ prefix_len is_ascii_digit text.now }
+    ensures within { result ≤ length text.now }
 {
-    u8::try_from(decimal(digits)?).ok()
+    text.iter().take_while(|byte| byte.is_ascii_digit()).count()
+}
+
+/// How many digits stand in front, and the number below 2^64 that they say, after any zeros. They
+/// are gone through once.
+fn digits_in_front(text: &[u8]) -> (usize, Option<u64>)
+    ensures count { result.0 ≡ prefix_len is_ascii_digit text.now }
+    ensures within { result.0 ≤ length text.now }
+    ensures number { result.1 ≡ value_after 10 0 (front is_ascii_digit text.now) }
+{
+    let mut number = 0;
+    let mut rest = text;
+    while let Some((digit, after)) = digit(rest) {
+        let Some(next) = with_digit(number, digit, 10) else {
+            return (count_digits(text), None);
+        };
+        number = next;
+        rest = after;
+    }
+    (text.len() - rest.len(), Some(number))
+}
+
+/// All the digits in front, one at least, and what follows them.
+#[tactic(auto, using(crate::specs::steps::Values::run_is), unfolding(crate::specs::steps::Reading::digits_at, crate::specs::steps::Reading::decimal_at))]
+pub(crate) fn some_digits<'t>(text: &'t [u8]) -> Option<(Digits<'t>, &'t [u8])>
+    ensures { option_map (λ x. (x.0.text.now, x.0.number, x.1.now)) result ≡ digits_at text.entry.now }
+{
+    let (count, number) = digits_in_front(text);
+    if count == 0 {
+        return None;
+    }
+    let (digits, rest) = text.split_at(count);
+    let number = if leads_with_zero(digits) {
+        None
+    } else {
+        number
+    };
+    Some((
+        Digits {
+            text: digits,
+            number,
+        },
+        rest,
+    ))
+}
+
+/// The number as one from 0 to 255.
+fn group(number: Option<u64>) -> Option<u8>
+    ensures { result ≡ byte_of number }
+{
+    u8::try_from(number?).ok()
 }
 
 /// The address that the groups say, the first its highest byte.
-#[tactic(auto, unfolding(crate::specs::steps::Reading::address_at))]
-pub(crate) fn address(groups: Dotted) -> Option<u32>
-    ensures { result ≡ address_at groups.entry.first.now groups.entry.second.now groups.entry.third.now groups.entry.fourth.now }
+#[tactic(auto, unfolding(crate::specs::steps::Reading::address_of))]
+pub(crate) fn address(
+    first: Option<u64>,
+    second: Option<u64>,
+    third: Option<u64>,
+    fourth: Option<u64>,
+) -> Option<u32>
+    ensures { result ≡ address_of first second third fourth }
 {
-    Some(u32::from_be_bytes([
-        group(groups.first)?,
-        group(groups.second)?,
-        group(groups.third)?,
-        group(groups.fourth)?,
-    ]))
+    Some(u32::from_be_bytes([group(first)?, group(second)?, group(third)?, group(fourth)?]))
 }

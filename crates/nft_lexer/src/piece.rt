@@ -2,10 +2,11 @@
 //! conventions").
 ghost use Rattle.std.specs.Prelude.{◌≡◌, ◌≤◌, length, option_map};
 ghost use Rattle.std.specs.List.{prefix_len};
-ghost use Rattle.nft_lexer.specs.Cut.{continues_word};
-ghost use Rattle.nft_lexer.specs.steps.Reading.{class_at, class_of, dotted_at, goes_on, hexadecimal_at, is_zero, long_mark_at, long_marks, mark_at, mark_from, next_group_at, number_at, part, piece_at, quoted_at, run_at, short_marks};
+ghost use Rattle.nft_lexer.specs.Cut.{continues_word, sole, stands_in_string};
+ghost use Rattle.nft_lexer.specs.steps.Reading.{address_piece, after_byte, behind, class_at, class_of, goes_on, group_after, groups_after, hexadecimal_at, is_zero, long_mark_at, long_marks, mark_at, mark_from, number_piece, numeral_at, piece_at, run_at, seen, short_marks};
 
-use crate::token::Mark;
+use crate::number::{address, some_digits, value};
+use crate::token::{Kind, Mark};
 
 /// What pieces a byte may begin.
 #[derive(Clone, Copy)]
@@ -28,37 +29,17 @@ enum Run {
     Line,
     /// All up to the next quote or the line's end.
     String,
-    Decimal,
     Hexadecimal,
 }
 
-/// Four groups of digits with a dot between each two: an address, unless a group is no number
-/// from 0 to 255.
+/// The piece in front of a text.
 #[derive(Clone, Copy)]
-pub(crate) struct Dotted<'t> {
-    pub first: &'t [u8],
-    pub second: &'t [u8],
-    pub third: &'t [u8],
-    pub fourth: &'t [u8],
-}
-
-/// A piece of a text.
-#[derive(Clone, Copy)]
-pub(crate) enum Piece<'t> {
+pub(crate) enum Piece {
+    /// No token: a blank, a line's end after a backslash, or a comment.
     Blank,
-    /// A backslash and the line end after it.
-    JoinedLine,
-    /// The bytes after `#`.
-    Comment(&'t [u8]),
-    LineEnd,
-    Name(&'t [u8]),
-    Digits(&'t [u8]),
-    /// The digits after `0x`.
-    Hexadecimal(&'t [u8]),
-    FourGroups(Dotted<'t>),
-    /// The bytes between the quotes.
-    Quoted(&'t [u8]),
-    Sole(Mark),
+    Token(Kind),
+    /// Digits or groups of digits that are neither a number nor an address.
+    NoNumber,
 }
 
 fn class_of(byte: u8) -> Class
@@ -130,7 +111,6 @@ fn goes_on(run: Run, byte: u8) -> bool
         Run::Word => continues_word(byte),
         Run::Line => byte != b'\n',
         Run::String => byte != b'"' && byte != b'\n',
-        Run::Decimal => byte.is_ascii_digit(),
         Run::Hexadecimal => byte.is_ascii_hexdigit(),
     }
 }
@@ -157,6 +137,26 @@ fn some_run<'t>(run: Run, text: &'t [u8]) -> Option<(&'t [u8], &'t [u8])>
     Some(text.split_at(1 + run_length(run, rest)))
 }
 
+/// The number, as a piece.
+fn number_piece(number: Option<u64>) -> Piece
+    ensures { result ≡ number_piece number }
+{
+    match number {
+        Some(number) => Piece::Token(Kind::Number(number)),
+        None => Piece::NoNumber,
+    }
+}
+
+/// The address, as a piece.
+fn address_piece(address: Option<u32>) -> Piece
+    ensures { result ≡ address_piece address }
+{
+    match address {
+        Some(address) => Piece::Token(Kind::Address(address)),
+        None => Piece::NoNumber,
+    }
+}
+
 fn is_zero(digits: &[u8]) -> bool
     ensures { result ≡ is_zero digits.now }
 {
@@ -165,8 +165,8 @@ fn is_zero(digits: &[u8]) -> bool
 
 /// The hexadecimal number whose digits before its `x` are these, and what follows it.
 #[tactic(auto, unfolding(crate::specs::steps::Reading::hexadecimal_at))]
-fn hexadecimal<'t>(first: &'t [u8], text: &'t [u8]) -> Option<(Piece<'t>, &'t [u8])>
-    ensures { option_map (λ x. (part x.0, x.1.now)) result ≡ hexadecimal_at first.entry.now text.entry.now }
+fn hexadecimal<'t>(first: &'t [u8], text: &'t [u8]) -> Option<(Piece, &'t [u8])>
+    ensures { option_map (λ x. (x.0, x.1.now)) result ≡ seen (hexadecimal_at first.entry.now text.entry.now) }
 {
     let [b'x', rest @ ..] = text else {
         return None;
@@ -175,119 +175,111 @@ fn hexadecimal<'t>(first: &'t [u8], text: &'t [u8]) -> Option<(Piece<'t>, &'t [u
         return None;
     }
     let (digits, rest) = some_run(Run::Hexadecimal, rest)?;
-    Some((Piece::Hexadecimal(digits), rest))
+    Some((number_piece(value(digits, 16)), rest))
 }
 
-/// The digits after a dot, and what follows them.
-#[tactic(auto, unfolding(crate::specs::steps::Reading::next_group_at))]
-fn next_group<'t>(text: &'t [u8]) -> Option<(&'t [u8], &'t [u8])>
-    ensures { option_map (λ x. (x.0.now, x.1.now)) result ≡ next_group_at text.entry.now }
+/// The number of the digits after a dot, and what follows them.
+#[tactic(auto, unfolding(crate::specs::steps::Reading::group_after))]
+fn next_group<'t>(text: &'t [u8]) -> Option<(Option<u64>, &'t [u8])>
+    ensures { option_map (λ x. (x.0, x.1.now)) result ≡ group_after text.entry.now }
 {
     let [b'.', rest @ ..] = text else {
         return None;
     };
-    some_run(Run::Decimal, rest)
+    let (digits, rest) = some_digits(rest)?;
+    Some((digits.number, rest))
 }
 
-/// The four groups of which the first are these digits, and what follows them. The last takes
-/// all the digits that stand there.
-#[tactic(auto, unfolding(crate::specs::steps::Reading::dotted_at))]
-fn four_groups<'t>(first: &'t [u8], text: &'t [u8]) -> Option<(Piece<'t>, &'t [u8])>
-    ensures { option_map (λ x. (part x.0, x.1.now)) result ≡ dotted_at first.entry.now text.entry.now }
+/// The address of four groups of which the first is this number, and what follows them. The last
+/// takes all the digits that stand there.
+#[tactic(auto, unfolding(crate::specs::steps::Reading::groups_after))]
+fn four_groups<'t>(first: Option<u64>, text: &'t [u8]) -> Option<(Piece, &'t [u8])>
+    ensures { option_map (λ x. (x.0, x.1.now)) result ≡ groups_after first text.entry.now }
 {
     let (second, rest) = next_group(text)?;
     let (third, rest) = next_group(rest)?;
     let (fourth, rest) = next_group(rest)?;
-    let groups = Dotted {
-        first,
-        second,
-        third,
-        fourth,
-    };
-    Some((Piece::FourGroups(groups), rest))
+    Some((address_piece(address(first, second, third, fourth)), rest))
 }
 
 /// The number or the address in front, and what follows it.
 ///
 /// Digits stand first in each: what follows them tells which it is.
-#[tactic(auto, unfolding(crate::specs::steps::Reading::number_at))]
-fn number<'t>(text: &'t [u8]) -> Option<(Piece<'t>, &'t [u8])>
-    ensures { option_map (λ x. (part x.0, x.1.now)) result ≡ number_at text.entry.now }
+#[tactic(auto, unfolding(crate::specs::steps::Reading::numeral_at))]
+fn number<'t>(text: &'t [u8]) -> Option<(Piece, &'t [u8])>
+    ensures { option_map (λ x. (x.0, x.1.now)) result ≡ numeral_at text.entry.now }
 {
-    let (digits, rest) = some_run(Run::Decimal, text)?;
-    if let Some(found) = hexadecimal(digits, rest) {
+    let (digits, rest) = some_digits(text)?;
+    if let Some(found) = hexadecimal(digits.text, rest) {
         return Some(found);
     }
-    if let Some(found) = four_groups(digits, rest) {
+    if let Some(found) = four_groups(digits.number, rest) {
         return Some(found);
     }
-    Some((Piece::Digits(digits), rest))
+    Some((number_piece(digits.number), rest))
 }
 
-/// The string whose first quote stands before the text, and what follows it.
-#[tactic(auto, unfolding(crate::specs::steps::Reading::quoted_at))]
-fn quoted<'t>(text: &'t [u8]) -> Option<(Piece<'t>, &'t [u8])>
-    ensures { option_map (λ x. (part x.0, x.1.now)) result ≡ quoted_at text.entry.now }
+/// What follows the string whose first quote stands before the text.
+fn after_string<'t>(text: &'t [u8]) -> Option<&'t [u8]>
+    ensures { option_map (λ rest. rest.now) result ≡ after_byte 34 (behind stands_in_string text.entry.now) }
 {
-    let (string, rest) = text.split_at(run_length(Run::String, text));
-    let [b'"', rest @ ..] = rest else {
+    let [b'"', rest @ ..] = &text[run_length(Run::String, text)..] else {
         return None;
     };
-    Some((Piece::Quoted(string), rest))
+    Some(rest)
 }
 
 /// The mark that the byte before the text and an equals sign in front are, and what follows it.
 #[tactic(auto, unfolding(crate::specs::steps::Reading::long_mark_at))]
-fn long_mark<'t>(first: u8, text: &'t [u8]) -> Option<(Piece<'t>, &'t [u8])>
-    ensures { option_map (λ x. (part x.0, x.1.now)) result ≡ long_mark_at first text.entry.now }
+fn long_mark<'t>(first: u8, text: &'t [u8]) -> Option<(Mark, &'t [u8])>
+    ensures { option_map (λ x. (sole x.0, x.1.now)) result ≡ long_mark_at first text.entry.now }
 {
     let mark = mark_before_equals(first)?;
     let [b'=', rest @ ..] = text else {
         return None;
     };
-    Some((Piece::Sole(mark), rest))
+    Some((mark, rest))
 }
 
 /// The mark that begins with the byte before the text, of two bytes where they are one, and what
 /// follows it.
 #[tactic(auto, unfolding(crate::specs::steps::Reading::mark_at))]
-fn mark<'t>(first: u8, text: &'t [u8]) -> Option<(Piece<'t>, &'t [u8])>
-    ensures { option_map (λ x. (part x.0, x.1.now)) result ≡ mark_at first text.entry.now }
+fn mark<'t>(first: u8, text: &'t [u8]) -> Option<(Mark, &'t [u8])>
+    ensures { option_map (λ x. (sole x.0, x.1.now)) result ≡ mark_at first text.entry.now }
 {
     if let Some(found) = long_mark(first, text) {
         return Some(found);
     }
-    let mark = mark_of(first)?;
-    Some((Piece::Sole(mark), text))
+    Some((mark_of(first)?, text))
 }
 
 /// The longest piece in front, and what follows it.
-#[tactic(auto, unfolding(crate::specs::steps::Reading::piece_at, crate::specs::steps::Reading::class_at))]
-pub(crate) fn next_piece<'t>(text: &'t [u8]) -> Option<(Piece<'t>, &'t [u8])>
-    ensures { option_map (λ x. (part x.0, x.1.now)) result ≡ piece_at text.entry.now }
+#[tactic(auto, using(crate::specs::steps::Values::numeral_is), unfolding(crate::specs::steps::Reading::piece_at, crate::specs::steps::Reading::class_at, crate::specs::steps::Reading::quoted_at))]
+pub(crate) fn next_piece<'t>(text: &'t [u8]) -> Option<(Piece, &'t [u8])>
+    ensures { option_map (λ x. (x.0, x.1.now)) result ≡ seen (piece_at text.entry.now) }
 {
     let [first, rest @ ..] = text else {
         return None;
     };
     match class_of(*first) {
         Class::Blank => Some((Piece::Blank, rest)),
-        Class::LineEnd => Some((Piece::LineEnd, rest)),
+        Class::LineEnd => Some((Piece::Token(Kind::NewLine), rest)),
         Class::Backslash => {
             let [b'\n', rest @ ..] = rest else {
                 return None;
             };
-            Some((Piece::JoinedLine, rest))
+            Some((Piece::Blank, rest))
         }
-        Class::Hash => {
-            let (comment, rest) = rest.split_at(run_length(Run::Line, rest));
-            Some((Piece::Comment(comment), rest))
-        }
-        Class::Quote => quoted(rest),
+        Class::Hash => Some((Piece::Blank, &rest[run_length(Run::Line, rest)..])),
+        Class::Quote => Some((Piece::Token(Kind::String), after_string(rest)?)),
         Class::Digit => number(text),
-        Class::Letter => {
-            let (word, rest) = text.split_at(1 + run_length(Run::Word, rest));
-            Some((Piece::Name(word), rest))
+        Class::Letter => Some((
+            Piece::Token(Kind::Word),
+            &rest[run_length(Run::Word, rest)..],
+        )),
+        Class::Other => {
+            let (mark, rest) = mark(*first, rest)?;
+            Some((Piece::Token(Kind::Mark(mark)), rest))
         }
-        Class::Other => mark(*first, rest),
     }
 }

@@ -210,8 +210,8 @@ pub record TableTree : Type 0 where
 abbrev pub value_tree : Value → ValueTree
 value_tree (values.Number n) = number n
 value_tree (values.Address a) = address a
-value_tree (values.Word w) = word w.items
-value_tree (values.String s) = string s.items
+value_tree (values.Word w) = word w.value.items
+value_tree (values.String s) = string s.value.items
 
 abbrev pub range_tree : Range → RangeTree
 range_tree (ranges.One v) = one (value_tree v)

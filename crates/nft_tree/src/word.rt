@@ -1,14 +1,15 @@
 //! Values as they are written.
 
-/// A value as it is written; what it stands for depends on its type.
+/// A value as it is written; what it stands for depends on its type. Texts are boxed since nearly
+/// all values are numbers and addresses, and lists of elements and rules are long.
 #[derive(Drop)]
 pub enum Value {
     Number(u64),
     /// An IPv4 address, its first group the highest byte.
     Address(u32),
-    Word(Vec<u8>),
+    Word(Box<Vec<u8>>),
     /// The bytes between the quotes.
-    String(Vec<u8>),
+    String(Box<Vec<u8>>),
 }
 
 /// One value, a range or a prefix.

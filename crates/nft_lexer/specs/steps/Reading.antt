@@ -9,6 +9,7 @@ use Rattle.nft_lexer.specs.declared.piece.Class.{Class}
 use Rattle.nft_lexer.specs.declared.piece.Class.TheVariants as classes
 use Rattle.nft_lexer.specs.declared.piece.Piece.{Piece}
 use Rattle.nft_lexer.specs.declared.piece.Piece.TheVariants as pieces
+use Rattle.nft_lexer.specs.declared.token.Kind.TheVariants as kinds
 use Rattle.nft_lexer.specs.declared.piece.Run.{Run}
 use Rattle.nft_lexer.specs.declared.piece.Run.TheVariants as runs
 use Rattle.nft_lexer.specs.declared.fault.LexError.{LexError}
@@ -17,7 +18,7 @@ use Rattle.nft_lexer.specs.declared.fault.LexFault.{LexFault}
 use Rattle.nft_lexer.specs.declared.fault.LexFault.TheVariants as lexical
 use Rattle.nft_lexer.specs.declared.cutting.Fault.{Fault}
 use Rattle.nft_lexer.specs.declared.cutting.Fault.TheVariants as faults
-use Rattle.nft_lexer.specs.Sign.{Sign, newline, mark, word, number, address, string, Spelled}
+use Rattle.nft_lexer.specs.Sign.{Sign, Spelled, sign_of}
 use Rattle.nft_lexer.specs.Cut.{Part, blank, joined_line, comment, line_end, name, digits, hexadecimal, dotted, quoted, sole, is_blank, begins_word, continues_word, is_no_line_end, stands_in_string, mark_text, IsPartAt, Means}
 
 infixl 10 ◌>>=◌
@@ -42,7 +43,6 @@ abbrev pub goes_on : Run → ℕ → Bool
 goes_on runs.Word = continues_word
 goes_on runs.Line = is_no_line_end
 goes_on runs.String = stands_in_string
-goes_on runs.Decimal = is_ascii_digit
 goes_on runs.Hexadecimal = is_ascii_hexdigit
 
 -- the first of the marks that begins with the byte
@@ -119,34 +119,79 @@ unfoldable pub value_after : ℕ → ℕ → List ℕ → Option ℕ
 value_after radix n [] = Some n
 value_after radix n (b ∷ bs) = with_digit radix n b >>= (λ m. value_after radix m bs)
 
+-- the digit in front and what follows it
+abbrev pub digit_at : List ℕ → Option (ℕ × List ℕ)
+digit_at [] = None
+digit_at (b ∷ bs) = if is_ascii_digit b then Some (b, bs) else None
+
 unfoldable pub decimal_at : List ℕ → Option ℕ
 decimal_at ds = if leads_with_zero ds then None else value_after 10 0 ds
 
-unfoldable pub group_at : List ℕ → Option ℕ
-group_at ds = decimal_at ds >>= below 256
+abbrev pub byte_of : Option ℕ → Option ℕ
+byte_of n = n >>= below 256
 
-unfoldable pub address_at : (first second third fourth : List ℕ) → Option ℕ
-address_at first second third fourth = do
-  a ← group_at first
-  b ← group_at second
-  c ← group_at third
-  d ← group_at fourth
+unfoldable pub group_at : List ℕ → Option ℕ
+group_at ds = byte_of (decimal_at ds)
+
+-- the address of which these are the groups, where each is a number
+unfoldable pub address_of : (first second third fourth : Option ℕ) → Option ℕ
+address_of first second third fourth = do
+  a ← byte_of first
+  b ← byte_of second
+  c ← byte_of third
+  d ← byte_of fourth
   Some (a * 16777216 + b * 65536 + c * 256 + d)
+
+abbrev pub address_at : (first second third fourth : List ℕ) → Option ℕ
+address_at first second third fourth = address_of (decimal_at first) (decimal_at second) (decimal_at third) (decimal_at fourth)
 
 -- ---- pieces
 
--- a piece without where it lies in memory
-abbrev pub part : Piece → Part
-part pieces.Blank = blank
-part pieces.JoinedLine = joined_line
-part (pieces.Comment c) = comment c.now
-part pieces.LineEnd = line_end
-part (pieces.Name w) = name w.now
-part (pieces.Digits n) = digits n.now
-part (pieces.Hexadecimal n) = hexadecimal n.now
-part (pieces.FourGroups d) = dotted d.first.now d.second.now d.third.now d.fourth.now
-part (pieces.Quoted s) = quoted s.now
-part (pieces.Sole m) = sole m
+-- numbers and addresses as the code's pieces
+abbrev pub number_piece : Option ℕ → Piece
+number_piece (Some n) = pieces.Token (kinds.Number n)
+number_piece None = pieces.NoNumber
+
+abbrev pub address_piece : Option ℕ → Piece
+address_piece (Some a) = pieces.Token (kinds.Address a)
+address_piece None = pieces.NoNumber
+
+-- what the code holds of a piece
+abbrev pub held : Part → Piece
+held line_end = pieces.Token kinds.NewLine
+held (name w) = pieces.Token kinds.Word
+held (digits n) = number_piece (decimal_at n)
+held (hexadecimal n) = number_piece (value_after 16 0 n)
+held (dotted a b c d) = address_piece (address_at a b c d)
+held (quoted s) = pieces.Token kinds.String
+held (sole m) = pieces.Token (kinds.Mark m)
+held p = pieces.Blank
+
+abbrev pub seen : Option (Part × List ℕ) → Option (Piece × List ℕ)
+seen o = option_map (λ x. (held x.0, x.1)) o
+
+-- ---- numbers and addresses by their values
+
+-- all the digits in front, one at least, with their number
+unfoldable pub digits_at : List ℕ → Option (List ℕ × Option ℕ × List ℕ)
+digits_at ts = option_map (λ x. (x.0, decimal_at x.0, x.1)) (run_at is_ascii_digit ts)
+
+-- a dot and the number of the digits after it
+unfoldable pub group_after : List ℕ → Option (Option ℕ × List ℕ)
+group_after ts = after_byte 46 ts >>= (λ r. option_map (λ x. (x.1, x.2)) (digits_at r))
+
+-- after a group of this number: three more
+unfoldable pub groups_after : Option ℕ → List ℕ → Option (Piece × List ℕ)
+groups_after first ts = do
+  b ← group_after ts
+  c ← group_after b.1
+  d ← group_after c.1
+  Some (address_piece (address_of first b.0 c.0 d.0), d.1)
+
+unfoldable pub numeral_at : List ℕ → Option (Piece × List ℕ)
+numeral_at ts = digits_at ts >>= (λ a. option_or (seen (hexadecimal_at a.0 a.2)) (option_or (groups_after a.1 a.2) (Some (number_piece a.1, a.2))))
+
+-- ---- pieces
 
 -- what follows a quote: the bytes up to the next one, with no line's end before it
 unfoldable pub quoted_at : List ℕ → Option (Part × List ℕ)
@@ -183,16 +228,15 @@ piece_at (b ∷ bs) = class_at (class_of b) b bs
 abbrev pub one : Sign → List ℕ → List Spelled
 one s bytes = record { sign = s; text = bytes } ∷ []
 
+-- the tokens that what the code holds of a piece with these bytes is
+abbrev pub tokens_of : Piece → List ℕ → Option (List Spelled)
+tokens_of pieces.Blank bytes = Some []
+tokens_of (pieces.Token k) bytes = Some (one (sign_of k bytes) bytes)
+tokens_of pieces.NoNumber bytes = None
+
 -- the tokens of a piece with these bytes, if it has any meaning
-unfoldable pub meaning : Part → List ℕ → Option (List Spelled)
-meaning line_end bytes = Some (one newline bytes)
-meaning (name w) bytes = Some (one (word bytes) bytes)
-meaning (digits n) bytes = option_map (λ v. one (number v) bytes) (decimal_at n)
-meaning (hexadecimal n) bytes = option_map (λ v. one (number v) bytes) (value_after 16 0 n)
-meaning (dotted a b c d) bytes = option_map (λ v. one (address v) bytes) (address_at a b c d)
-meaning (quoted s) bytes = Some (one (string (take (length bytes - 2) (drop 1 bytes))) bytes)
-meaning (sole m) bytes = Some (one (mark m) bytes)
-meaning p bytes = Some []
+abbrev pub meaning : Part → List ℕ → Option (List Spelled)
+meaning p bytes = tokens_of (held p) bytes
 
 abbrev pub listed : {A B : Type 0} → (A → B) → Option A → List B
 listed f o = option_to_list (option_map f o)
@@ -205,7 +249,7 @@ told f (Err e) = Err e
 -- the tokens of the longest piece in front and what follows it, or why there are none
 unfoldable pub next_at : List ℕ → Result (List Spelled × List ℕ) Fault
 next_at ts =
-    option_map_or (λ x. told (λ tokens. (tokens, x.1)) (ok_or (meaning x.0 (take (length ts - length x.1) ts)) faults.Number)) (piece_at ts)
+    option_map_or (λ x. told (λ tokens. (tokens, x.1)) (ok_or (tokens_of x.0 (take (length ts - length x.1) ts)) faults.Number)) (seen (piece_at ts))
     (Err (if slice_index ts 0 == 34 then faults.OpenString else faults.Byte))
 
 -- a piece from a place to another is these tokens
