@@ -14,7 +14,7 @@ by_bool P false h k = k refl
 
 -- ---- runs
 
--- what is read of what follows nothing
+-- so many bytes in front, where that is some
 abbrev some_front : ℕ → List ℕ → Option (List ℕ × List ℕ)
 some_front n ts = if n == 0 then None else Some (take n ts, drop n ts)
 
@@ -29,6 +29,7 @@ run_is test (b ∷ bs) =
     let one : 1 + prefix_len test bs ≡ suc (prefix_len test bs) = omega arith in
     by_bool (λ t. ◌≡◌ {A = Option (List ℕ × List ℕ)} (if t then Some (b ∷ front test bs, behind test bs) else None) (some_front (if t then 1 + prefix_len test bs else 0) (b ∷ bs))) (test b) (λ _. rw (one, not_none (prefix_len test bs)) refl) (λ _. refl)
 
+-- what a digit in front says of the text
 pub digit_found : (ts : List ℕ) → IfSome (digit_at ts) (λ x. (ts ≡ x.0 ∷ x.1) × (is_ascii_digit x.0 ≡ true))
 digit_found [] = tt
 digit_found (c ∷ cs) = by_bool (λ t. IfSome {T = ℕ × List ℕ} (if t then Some (c, cs) else None) (λ x. (c ∷ cs ≡ x.0 ∷ x.1) × (is_ascii_digit x.0 ≡ true))) (is_ascii_digit c) (λ t. (refl, t)) (λ _. tt)
