@@ -63,7 +63,7 @@ fn count_digits(text: &[u8]) -> usize
 }
 
 /// How many digits stand in front, and the number below 2^64 that they say, after any zeros. They
-/// are gone through once.
+/// are gone through once, and counted again only where the number is too large.
 fn digits_in_front(text: &[u8]) -> (usize, Option<u64>)
     ensures count { result.0 ≡ prefix_len is_ascii_digit text.now }
     ensures within { result.0 ≤ length text.now }

@@ -127,6 +127,7 @@ digit_at (b ∷ bs) = if is_ascii_digit b then Some (b, bs) else None
 unfoldable pub decimal_at : List ℕ → Option ℕ
 decimal_at ds = if leads_with_zero ds then None else value_after 10 0 ds
 
+-- a number from 0 to 255
 abbrev pub byte_of : Option ℕ → Option ℕ
 byte_of n = n >>= below 256
 
@@ -145,7 +146,7 @@ address_of first second third fourth = do
 abbrev pub address_at : (first second third fourth : List ℕ) → Option ℕ
 address_at first second third fourth = address_of (decimal_at first) (decimal_at second) (decimal_at third) (decimal_at fourth)
 
--- ---- pieces
+-- ---- what the code holds of a piece
 
 -- numbers and addresses as the code's pieces
 abbrev pub number_piece : Option ℕ → Piece
@@ -156,7 +157,7 @@ abbrev pub address_piece : Option ℕ → Piece
 address_piece (Some a) = pieces.Token (kinds.Address a)
 address_piece None = pieces.NoNumber
 
--- what the code holds of a piece
+-- every piece as the code's
 abbrev pub held : Part → Piece
 held line_end = pieces.Token kinds.NewLine
 held (name w) = pieces.Token kinds.Word
@@ -167,6 +168,7 @@ held (quoted s) = pieces.Token kinds.String
 held (sole m) = pieces.Token (kinds.Mark m)
 held p = pieces.Blank
 
+-- with what follows it
 abbrev pub seen : Option (Part × List ℕ) → Option (Piece × List ℕ)
 seen o = option_map (λ x. (held x.0, x.1)) o
 
@@ -188,6 +190,7 @@ groups_after first ts = do
   d ← group_after c.1
   Some (address_piece (address_of first b.0 c.0 d.0), d.1)
 
+-- the number or the address in front
 unfoldable pub numeral_at : List ℕ → Option (Piece × List ℕ)
 numeral_at ts = digits_at ts >>= (λ a. option_or (seen (hexadecimal_at a.0 a.2)) (option_or (groups_after a.1 a.2) (Some (number_piece a.1, a.2))))
 
