@@ -1,11 +1,11 @@
 -- What the check answers, and what is known of the chains of a ruleset in which nothing is wrong.
-use Rattle.std.specs.Prelude.{◌≡◌, ℕ, ◌+◌, List, [], length, get_or, map, slice_get, sum_by, Contains, Option, Some, None, Vec}
+use Rattle.std.specs.Prelude.{◌≡◌, ℕ, ◌+◌, List, [], length, get_or, map, slice_get, sum_by, Option, Some, None, Vec}
 use Rattle.std.specs.List.{zip}
 use Rattle.std.specs.declared.alloc.Global.{Global}
 use Rattle.nft_tree.specs.Tree.{HeadTree, TableTree}
 use Rattle.nft_tree.specs.Parts.{chains_of}
 use Rattle.box_file.specs.Box.{PlantTree}
-use Rattle.rule_paths.specs.Paths.{Caller, AreCosts}
+use Rattle.rule_paths.specs.Paths.{Caller, AreAllCosts}
 use Rattle.rule_paths.specs.Findings.{AreChainCosts, AreChainDepths}
 use Rattle.rule_check.specs.WellFormed.{Least, WellFormed}
 use Rattle.rule_check.specs.declared.fault.CheckError.{CheckError}
@@ -54,4 +54,4 @@ pub record IsChecked (tables : List TableTree) (plant : PlantTree) (its_costs it
   pub fine : WellFormed tables plant
   pub costs : AreRulesetCosts tables (rows its_costs)
   pub depths : AreRulesetDepths tables (rows its_depths)
-  pub has_costs : (cost : TableTree → Caller → ℕ) × ((t : TableTree) → Contains tables t → AreCosts t (cost t))
+  pub has_costs : (cost : TableTree → Caller → ℕ) × AreAllCosts tables cost

@@ -1,12 +1,12 @@
 -- What is found of rulesets whose jumps and gotos lead to no cycle.
-use Rattle.std.specs.Prelude.{◌≡◌, ◌↔◌, ℕ, ◌<◌, ◌≤◌, IsTrue, List, [], length, get_or, map, slice_index, Contains, Vec}
+use Rattle.std.specs.Prelude.{◌≡◌, ◌↔◌, ℕ, ◌<◌, ◌≤◌, IsTrue, List, [], length, get_or, map, slice_index, Vec}
 use Rattle.std.specs.declared.alloc.Global.{Global}
 use Rattle.nft_tree.specs.Tree.{TableTree}
 use Rattle.nft_tree.specs.Parts.{chains_of}
 use Rattle.rule_names.specs.Names.{chain_names}
 use Rattle.chain_graph.specs.Graph.{Call, IsPath, jumps}
 use Rattle.chain_graph.specs.Known.{stopped}
-use Rattle.rule_paths.specs.Paths.{Caller, a_chain, CallsOf, AreCosts, Cycles, TooDeep, TooCostly, MisplacedNat}
+use Rattle.rule_paths.specs.Paths.{Caller, a_chain, CallsOf, AreCosts, AreAllCosts, Cycles, TooDeep, TooCostly, MisplacedNat}
 use Rattle.rule_paths.specs.declared.judging.Findings.{Findings}
 
 -- no path from the caller has more jumps, as far as 64-bit numbers go, and one has as many
@@ -37,7 +37,7 @@ pub record AreFindings (tables : List TableTree) (found : Findings) : Type 0 whe
   pub deep : IsTrue found.is_too_deep ↔ TooDeep tables
   pub costly : IsTrue found.is_too_costly ↔ TooCostly tables
   pub nat : IsTrue found.misplaces_nat ↔ MisplacedNat tables
-  pub has_costs : (cost : TableTree → Caller → ℕ) × ((t : TableTree) → Contains tables t → AreCosts t (cost t))
+  pub has_costs : (cost : TableTree → Caller → ℕ) × AreAllCosts tables cost
   pub costs_long : length found.costs.items ≡ length tables
   pub costs : (i : ℕ) (t : TableTree) → i < length tables → t ≡ get_or tables i t → AreChainCosts t (numbers_at found.costs.items i)
   pub depths_long : length found.depths.items ≡ length tables

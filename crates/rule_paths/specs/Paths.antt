@@ -91,11 +91,19 @@ table_cost cost t = sum_by (λ c. base_cost cost c.name c.head) (chains_of t)
 abbrev pub MOST_COST : ℕ
 MOST_COST = 65536
 
--- the base chains of all tables cost over 65,536
+-- the costs of the chains and maps of each table of a ruleset
+abbrev pub AreAllCosts : List TableTree → (TableTree → Caller → ℕ) → Type 0
+AreAllCosts tables cost = (t : TableTree) → Contains tables t → AreCosts t (cost t)
+
+-- what a ruleset costs: the base chains of all its tables, 1 more each
+abbrev pub ruleset_cost : (TableTree → Caller → ℕ) → List TableTree → ℕ
+ruleset_cost cost tables = sum_by (λ t. table_cost (cost t) t) tables
+
+-- a ruleset costs over 65,536
 pub record TooCostly (tables : List TableTree) : Type 0 where
   pub cost : TableTree → Caller → ℕ
-  pub are : (t : TableTree) → Contains tables t → AreCosts t (cost t)
-  pub over : MOST_COST < sum_by (λ t. table_cost (cost t) t) tables
+  pub are : AreAllCosts tables cost
+  pub over : MOST_COST < ruleset_cost cost tables
 
 -- ---- N10
 

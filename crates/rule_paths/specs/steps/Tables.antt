@@ -1,11 +1,11 @@
 -- What is found of one table.
-use Rattle.std.specs.Prelude.{◌≡◌, ◌↔◌, ◌⊎◌, ℕ, ◌<◌, IsTrue, Bool, List, length, get_or, sum_by, Contains, Vec}
+use Rattle.std.specs.Prelude.{◌≡◌, ◌↔◌, ◌⊎◌, ℕ, ◌<◌, IsTrue, Bool, List, length, get_or, Contains, Vec}
 use Rattle.std.specs.declared.alloc.Global.{Global}
 use Rattle.nft_tree.specs.Tree.{TableTree}
 use Rattle.chain_graph.specs.Graph.{HasCycle, HasPathOver}
 use Rattle.chain_graph.specs.Nodes.{Graph}
 use Rattle.chain_graph.specs.Known.{stopped, IsCost}
-use Rattle.rule_paths.specs.Paths.{Caller, CallsOf, MOST_JUMPS, node_of, Cycles, TooDeep, MisplacedNat, AreCosts, table_cost, Misplaces}
+use Rattle.rule_paths.specs.Paths.{Caller, CallsOf, MOST_JUMPS, node_of, Cycles, TooDeep, MisplacedNat, AreCosts, AreAllCosts, table_cost, ruleset_cost, Misplaces}
 use Rattle.rule_paths.specs.Findings.{AreChainCosts, AreChainDepths, numbers_at}
 use Rattle.rule_paths.specs.declared.marks.Translation.{Translation}
 use Rattle.rule_paths.specs.declared.marks.Translation.TheVariants.{Source, Destination}
@@ -41,7 +41,7 @@ pub record AreFoundSoFar (tables : List TableTree) (is_too_deep misplaces_nat : 
   pub deep : IsTrue is_too_deep ↔ TooDeep tables
   pub nat : IsTrue misplaces_nat ↔ MisplacedNat tables
   pub have_costs : HaveCosts tables
-  pub sum : (cost_of : TableTree → Caller → ℕ) → ((t : TableTree) → Contains tables t → AreCosts t (cost_of t)) → cost ≡ stopped (sum_by (λ t. table_cost (cost_of t) t) tables)
+  pub sum : (cost_of : TableTree → Caller → ℕ) → AreAllCosts tables cost_of → cost ≡ stopped (ruleset_cost cost_of tables)
   pub costs_long : length costs ≡ length tables
   pub chain_costs : (i : ℕ) (t : TableTree) → i < length tables → t ≡ get_or tables i t → AreChainCosts t (numbers_at costs i)
   pub depths_long : length depths ≡ length tables
