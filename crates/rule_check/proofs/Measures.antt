@@ -8,10 +8,11 @@ use Rattle.std.proofs.lemmas.Option.{get_or_from_slice_get, slice_get-map, slice
 use Rattle.std.proofs.lemmas.List.{get_or_past, length-map}
 use Rattle.std.proofs.lemmas.List.Elements.{Contains-get_or}
 use Rattle.std.proofs.lemmas.List.Sums.{sum_by-cons, get_or-le-sum_by}
-use Rattle.nft_tree.specs.Tree.{ChainTree, HeadTree, TableTree}
+use Rattle.nft_tree.specs.Tree.{Text, ChainTree, HeadTree, TableTree}
 use Rattle.nft_tree.specs.Parts.{chains_of}
 use Rattle.box_file.specs.Box.{PlantTree}
-use Rattle.rule_paths.specs.Paths.{Caller, a_chain, AreCosts, MOST_COST, MOST_JUMPS, base_cost, table_cost}
+use Rattle.rule_names.specs.Names.{chain_names}
+use Rattle.rule_paths.specs.Paths.{Caller, a_chain, AreCosts, AreAllCosts, MOST_COST, MOST_JUMPS, base_cost, table_cost, ruleset_cost}
 use Rattle.rule_paths.specs.Findings.{AreChainCosts, AreChainDepths, AreFindings, HasDepth, numbers_at}
 use Rattle.rule_paths.specs.declared.judging.Findings.{Findings}
 use Rattle.rule_check.specs.declared.fault.CheckFault.TheVariants as faults
@@ -85,13 +86,13 @@ module _ (tables : List TableTree) (plant : PlantTree) (costs depths : List (Vec
   abbrev cost : TableTree → Caller → ℕ
   cost = let has = k.has_costs in has.0
 
-  are_costs : (t : TableTree) → Contains tables t → AreCosts t (cost t)
+  are_costs : AreAllCosts tables cost
   are_costs = let has = k.has_costs in has.1
 
-  whole_cost : sum_by (λ t. table_cost (cost t) t) tables ≤ MOST_COST
-  whole_cost = by_size (cases_lt MOST_COST (sum_by (λ t. table_cost (cost t) t) tables))
+  whole_cost : ruleset_cost cost tables ≤ MOST_COST
+  whole_cost = by_size (cases_lt MOST_COST (ruleset_cost cost tables))
     where
-      by_size : (MOST_COST < sum_by (λ t. table_cost (cost t) t) tables) ⊎ (sum_by (λ t. table_cost (cost t) t) tables ≤ MOST_COST) → sum_by (λ t. table_cost (cost t) t) tables ≤ MOST_COST
+      by_size : (MOST_COST < ruleset_cost cost tables) ⊎ (ruleset_cost cost tables ≤ MOST_COST) → ruleset_cost cost tables ≤ MOST_COST
       by_size (inl over) = absurd (k.fine faults.TooCostly (record { cost = cost; are = are_costs; over = over }))
       by_size (inr low) = low
 
@@ -123,13 +124,13 @@ module _ (tables : List TableTree) (plant : PlantTree) (costs depths : List (Vec
   pub depths_of : (i : ℕ) (t : TableTree) → slice_get tables i ≡ Some t → AreChainDepths t (numbers_at depths i)
   depths_of i t at = k.depths.are i t at
 
-  not_deep : (t : TableTree) → Contains tables t → (from : Caller) (depth : ℕ) → HasDepth t from depth → depth ≤ MOST_JUMPS
-  not_deep t at from depth has = by_size (cases_lt MOST_JUMPS depth)
+  not_deep : (t : TableTree) → Contains tables t → (name : Text) (depth : ℕ) → Contains (chain_names t) name → HasDepth t (a_chain name) depth → depth ≤ MOST_JUMPS
+  not_deep t at name depth named has = by_size (cases_lt MOST_JUMPS depth)
     where
       by_size : (MOST_JUMPS < depth) ⊎ (depth ≤ MOST_JUMPS) → depth ≤ MOST_JUMPS
       by_size (inl over) =
           let deep = has.deep in
-          absurd (k.fine faults.TooDeep (record { table = t; stands = at; path = record { from = from; to = has.to; along = has.along; path = has.path; over = omega arith } }))
+          absurd (k.fine faults.TooDeep (record { table = t; stands = at; deep = record { chain = name; stands = named; path = record { from = a_chain name; to = has.to; along = has.along; path = has.path; over = omega arith }; begins = refl } }))
       by_size (inr low) = low
 
   -- ---- past the end, and the same in any lists
@@ -156,7 +157,11 @@ module _ (tables : List TableTree) (plant : PlantTree) (costs depths : List (Vec
   shallow_in i t at j = by_size (cases_lt j (length (numbers_at depths i)))
     where
       by_size : (j < length (numbers_at depths i)) ⊎ (length (numbers_at depths i) ≤ j) → slice_index (numbers_at depths i) j ≤ MOST_JUMPS
-      by_size (inl within) = not_deep t (stands tables i t at) _ _ ((depths_of i t at).are j within)
+      by_size (inl within) =
+          let long = (depths_of i t at).long in
+          let n = length-map (chains_of t) (λ (c : ChainTree). c.name) in
+          let named : Contains (chain_names t) (get_or (chain_names t) j []) = Contains-get_or (chain_names t) j [] (omega arith) in
+          not_deep t (stands tables i t at) (get_or (chain_names t) j []) _ named ((depths_of i t at).are j within)
       by_size (inr beyond) = omega (arith, get_or_past (numbers_at depths i) j 0 beyond)
 
   pub shallow : (i j : ℕ) → slice_index (numbers_at depths i) j ≤ MOST_JUMPS

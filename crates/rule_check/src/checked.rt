@@ -94,8 +94,8 @@ impl Checked {
     }
 
     /// What is known of a ruleset by its being checked: nothing is wrong with it, its chains have
-    /// costs, all base chains with 1 more each cost at most 65,536 together, and no path has more
-    /// than 16 jumps. It does nothing.
+    /// costs, all base chains with 1 more each cost at most 65,536 together, and no path from a
+    /// chain has more than 16 jumps. It does nothing.
     pub fn measured(&self)
         ensures fine { WellFormed self.now.rules self.now.plant }
         ensures some { (costs : List (List ℕ)) × AreRulesetCosts self.now.rules costs }

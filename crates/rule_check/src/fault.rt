@@ -17,7 +17,7 @@ pub enum CheckFault {
     /// A cycle of jumps and gotos, those of verdict maps included.
     #[error("N04")]
     Cycle,
-    /// A path with more than 16 jumps.
+    /// A path from a chain with more than 16 jumps.
     #[error("N05")]
     TooDeep,
     /// Base chains that cost over 65,536 together.

@@ -10,10 +10,10 @@ use Rattle.nft_tree.specs.Tree as tree
 use Rattle.nft_tree.specs.Tree.{Text, VerdictTree, PairTree, Statement, RuleTree, ChainTree, TableTree}
 use Rattle.nft_tree.specs.Parts.{chains_of}
 use Rattle.box_file.specs.Box.{PlantTree}
-use Rattle.chain_graph.specs.Graph.{Call, itself, calls_in, IsPath, jumps, HasPathOver, node_cost}
+use Rattle.chain_graph.specs.Graph.{Call, itself, calls_in, IsPath, jumps, node_cost}
 use Rattle.rule_names.specs.Names.{Repeats, chain_named, chain_names, rule_targets, some_of, targets_of}
-use Rattle.rule_names.proofs.Decisions.{Contains-none, Contains-here, Contains-cases}
-use Rattle.rule_paths.specs.Paths.{Caller, a_chain, a_map, verdict_calls, data_calls, pair_calls, statement_calls, statements_of, chain_node, map_node, CallsOf, AreCosts, MOST_JUMPS}
+use Rattle.rule_names.proofs.Decisions.{Contains-none, Contains-here, Contains-there, Contains-cases}
+use Rattle.rule_paths.specs.Paths.{Caller, a_chain, a_map, verdict_calls, data_calls, pair_calls, statement_calls, statements_of, chain_node, map_node, CallsOf, AreCosts, MOST_JUMPS, HasDeepPath}
 use Rattle.rule_paths.specs.Findings.{HasDepth, AreChainDepths}
 use Rattle.rule_meaning.specs.declared.facts.Facts.{Facts}
 use Rattle.rule_meaning.specs.declared.event.Place.{Place}
@@ -40,6 +40,11 @@ name_at : (cs : List ChainTree) (i : ℕ) (c : ChainTree) → slice_get cs i ≡
 name_at [] i c e = absurd cc
 name_at (x ∷ xs) zero c e = ap (λ o. (unwrap_or o x).name) e
 name_at (x ∷ xs) (suc i) c e = name_at xs i c e
+
+name_stands : (cs : List ChainTree) (i : ℕ) (c : ChainTree) → slice_get cs i ≡ Some c → Contains (map (λ x. x.name) cs) c.name
+name_stands [] i c e = absurd cc
+name_stands (x ∷ xs) zero c e = let same : x.name ≡ c.name = ap (λ o. (unwrap_or o x).name) e in subst (λ n. Contains (n ∷ map (λ y. y.name) xs) c.name) (sym same) (Contains-here c.name (map (λ y. y.name) xs))
+name_stands (x ∷ xs) (suc i) c e = Contains-there x.name c.name (map (λ y. y.name) xs) (name_stands xs i c e)
 
 twice_behind : (n : Text) (ns : List Text) → Repeats ns → Repeats (n ∷ ns)
 twice_behind n ns r = record { first = suc r.first; second = suc r.second; apart = omega (arith, r.apart); within = omega (arith, r.within); same = r.same }
@@ -132,16 +137,17 @@ module _ (plant : PlantTree) (number : ℕ) (t : TableTree) where
 
     -- ---- depths
 
-    module _ (deep : HasPathOver MOST_JUMPS (CallsOf t) → ⊥) (depths : List ℕ) (depths_are : AreChainDepths t depths) where
+    module _ (deep : HasDeepPath t → ⊥) (depths : List ℕ) (depths_are : AreChainDepths t depths) where
       depth_at : (i : ℕ) (c : ChainTree) → slice_get (chains_of t) i ≡ Some c → HasDepth t (a_chain c.name) (slice_index depths i)
       depth_at i c at =
           subst (λ n. HasDepth t (a_chain n) (slice_index depths i)) (name_at (chains_of t) i c at) (depths_are.are i (omega (arith, depths_are.long, got_within (chains_of t) i c at)))
 
-      bounded : (a b : Caller) (es : List (Call Caller)) → IsPath (CallsOf t) a es b → jumps es ≤ MOST_JUMPS
-      bounded a b es path = by_test (cases_lt MOST_JUMPS (jumps es))
+      bounded : (i : ℕ) (c : ChainTree) → slice_get (chains_of t) i ≡ Some c → (b : Caller) (es : List (Call Caller)) → IsPath (CallsOf t) (a_chain c.name) es b → jumps es ≤ MOST_JUMPS
+      bounded i c at b es path = by_test (cases_lt MOST_JUMPS (jumps es))
         where
           by_test : (MOST_JUMPS < jumps es) ⊎ (jumps es ≤ MOST_JUMPS) → jumps es ≤ MOST_JUMPS
-          by_test (inl over) = absurd (deep (record { from = a; to = b; along = es; path = path; over = omega (arith, over) }))
+          by_test (inl over) =
+              absurd (deep (record { chain = c.name; stands = name_stands (chains_of t) i c at; path = record { from = a_chain c.name; to = b; along = es; path = path; over = omega (arith, over) }; begins = refl }))
           by_test (inr within) = within
 
       deeper : (i j : ℕ) (c d : ChainTree) (es : List (Call Caller)) → slice_get (chains_of t) i ≡ Some c → slice_get (chains_of t) j ≡ Some d → IsPath (CallsOf t) (a_chain c.name) es (a_chain d.name) → slice_index depths j + jumps es ≤ slice_index depths i
@@ -150,7 +156,7 @@ module _ (plant : PlantTree) (number : ℕ) (t : TableTree) where
           let on = depth_at j d at_j in
           let whole_way = path_append (CallsOf t) (a_chain c.name) (a_chain d.name) on.to es on.along path on.path in
           let n = jumps_append es on.along in
-          let few = bounded (a_chain c.name) on.to (es ++ on.along) whole_way in
+          let few = bounded i c at_i on.to (es ++ on.along) whole_way in
           let most = from.most on.to (es ++ on.along) whole_way in
           let least = on.deep in
           omega arith

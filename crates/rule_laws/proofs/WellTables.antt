@@ -3,10 +3,9 @@ use Rattle.std.proofs.Common.{◌≡◌, ℕ, zero, suc, Bool, true, false, ◌|
 use Rattle.std.specs.List.{list_any}
 use Rattle.nft_tree.specs.Tree.{TableTree}
 use Rattle.box_file.specs.Box.{PlantTree}
-use Rattle.chain_graph.specs.Graph.{HasPathOver}
 use Rattle.rule_names.specs.Names as names
 use Rattle.rule_names.specs.Names.{Repeats, chain_names, targets_of, jumps_nowhere}
-use Rattle.rule_paths.specs.Paths.{CallsOf, MOST_JUMPS}
+use Rattle.rule_paths.specs.Paths.{HasDeepPath}
 use Rattle.rule_check.specs.declared.fault.CheckFault.TheVariants as faults
 use Rattle.rule_check.specs.WellFormed.{WellFormed}
 use Rattle.rule_laws.proofs.Tables.{There, there}
@@ -41,5 +40,5 @@ module _ (tables : List TableTree) (plant : PlantTree) (well : WellFormed tables
   pub once : Repeats (chain_names t) → ⊥
   once r = well faults.NameTwice (names.two_chains t contained r)
 
-  pub shallow : HasPathOver MOST_JUMPS (CallsOf t) → ⊥
-  shallow path = well faults.TooDeep (record { table = t; stands = contained; path = path })
+  pub shallow : HasDeepPath t → ⊥
+  shallow deep = well faults.TooDeep (record { table = t; stands = contained; deep = deep })

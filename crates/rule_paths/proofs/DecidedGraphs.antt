@@ -213,15 +213,11 @@ module _ {K : Type 0} (node : K → NodeTree K) where
           step (inl bounds) = inr (λ c. no_ring bound_of c.chain c.first c.rest (bounds c.chain (is_caller c.chain c.first c.path.0)) c.path.0 c.path.1)
           step (inr h) = inl (long_cycle h.0 h.2)
 
-      pub path_decided : (most : ℕ) → (HasCycle Calls → ⊥) → Decided (HasPathOver most Calls)
-      path_decided most acyclic = decided_as to_path of_path (some_decided (Deep (most + 1)) callers (λ a at. deep_decided bound_of (most + 1) a (all_bounded acyclic a)))
+      pub path_decided : (most : ℕ) → (HasCycle Calls → ⊥) → (a : K) → Decided ((p : HasPathOver most Calls) × (p.from ≡ a))
+      path_decided most acyclic a = decided_as to_path of_path (deep_decided bound_of (most + 1) a (all_bounded acyclic a))
         where
-          to_path : (a : K) × Contains callers a × Deep (most + 1) a → HasPathOver most Calls
-          to_path h = record { from = h.0; to = h.2.1; along = h.2.0; path = h.2.2; over = h.2.3 }
+          to_path : Deep (most + 1) a → (p : HasPathOver most Calls) × (p.from ≡ a)
+          to_path h = (record { from = a; to = h.1; along = h.0; path = h.2; over = h.3 }, refl)
 
-          first_of_path : (a b : K) (es : List (Call K)) → IsPath Calls a es b → most + 1 ≤ jumps es → (x : K) × Contains callers x × Deep (most + 1) x
-          first_of_path a b [] path over = absurd (omega arith)
-          first_of_path a b (e ∷ es) path over = (a, is_caller a e path.0, (e ∷ es, b, path, over))
-
-          of_path : HasPathOver most Calls → (a : K) × Contains callers a × Deep (most + 1) a
-          of_path p = first_of_path p.from p.to p.along p.path p.over
+          of_path : (p : HasPathOver most Calls) × (p.from ≡ a) → Deep (most + 1) a
+          of_path h = let p = h.0 in subst (Deep (most + 1)) h.1 (p.along, p.to, p.path, p.over)

@@ -10,7 +10,7 @@ use Rattle.nft_tree.specs.Parts.{chains_of, maps_of}
 use Rattle.chain_graph.specs.Graph.{Call, calls_in, HasCycle, HasPathOver, Reaches}
 use Rattle.rule_names.proofs.Decisions.{Decided, Contains-none, Contains-here, Contains-there, Contains-cases, some_decided, decided_as, either_decided, less_decided, texts_decided}
 use Rattle.rule_names.specs.Names.{chain_named, map_named, chain_names, map_names}
-use Rattle.rule_paths.specs.Paths.{Caller, a_chain, a_map, chain_node, map_node, node_of, CallsOf, Cycles, MOST_JUMPS, TooDeep, AreCosts, base_cost, table_cost, MOST_COST, TooCostly, translates_source, translates_destination, caller_has, may_translate_source, may_translate_destination, Misplaces, MisplacedNat, misplaced_source, misplaced_destination}
+use Rattle.rule_paths.specs.Paths.{Caller, a_chain, a_map, chain_node, map_node, node_of, CallsOf, Cycles, MOST_JUMPS, HasDeepPath, TooDeep, AreCosts, base_cost, table_cost, ruleset_cost, MOST_COST, TooCostly, translates_source, translates_destination, caller_has, may_translate_source, may_translate_destination, Misplaces, MisplacedNat, misplaced_source, misplaced_destination}
 use Rattle.rule_paths.proofs.DecidedGraphs.{Bounded, cost, costs_are, one_cost, reach_decided, all_bounded, cycle_decided, path_decided}
 
 -- ---- the callers of a table
@@ -71,9 +71,14 @@ bounds t acyclic = all_bounded (node_of t) callers_decided (callers t) (is_calle
 
 -- ---- depth
 
+deep_path : (t : TableTree) → (HasCycle (CallsOf t) → ⊥) → Decided (HasDeepPath t)
+deep_path t acyclic =
+    decided_as (λ h. record { chain = h.0; stands = h.1; path = h.2.0; begins = h.2.1 }) (λ d. (d.chain, d.stands, (d.path, d.begins)))
+    (some_decided (λ name. (p : HasPathOver MOST_JUMPS (CallsOf t)) × (p.from ≡ a_chain name)) (chain_names t) (λ name at. path_decided (node_of t) callers_decided (callers t) (is_caller t) MOST_JUMPS acyclic (a_chain name)))
+
 pub deep : (tables : List TableTree) → (Cycles tables → ⊥) → TooDeep tables ⊎ (TooDeep tables → ⊥)
 deep tables acyclic =
-    decided_as (λ h. record { table = h.0; stands = h.1; path = h.2 }) (λ d. (d.table, d.stands, d.path)) (some_decided (λ t. HasPathOver MOST_JUMPS (CallsOf t)) tables (λ t at. path_decided (node_of t) callers_decided (callers t) (is_caller t) MOST_JUMPS (acyclic_table tables acyclic t at)))
+    decided_as (λ h. record { table = h.0; stands = h.1; deep = h.2 }) (λ d. (d.table, d.stands, d.deep)) (some_decided HasDeepPath tables (λ t at. deep_path t (acyclic_table tables acyclic t at)))
 
 -- ---- cost
 
@@ -104,7 +109,7 @@ one_table_cost : (t : TableTree) → (HasCycle (CallsOf t) → ⊥) → (f : Cal
 one_table_cost t acyclic f are = table_cost_same f (cost_of t) (λ a. one_cost (node_of t) f (cost_of t) are (costs_of t acyclic) (bound t) a (bounds t acyclic a)) t
 
 whole_cost : List TableTree → ℕ
-whole_cost tables = sum_by (λ t. table_cost (cost_of t) t) tables
+whole_cost tables = ruleset_cost cost_of tables
 
 to_costly : (tables : List TableTree) → (Cycles tables → ⊥) → MOST_COST < whole_cost tables → TooCostly tables
 unfolding whole_cost

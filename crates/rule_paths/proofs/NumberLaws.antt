@@ -1,8 +1,8 @@
 -- Paths, costs and marks by number and by what the nodes are known by.
-use Rattle.std.proofs.Common.{◌≡◌, ◌⊎◌, ℕ, ◌+◌, ◌<◌, ◌≤◌, max, List, [], ◌∷◌, ◌++◌, Bool, true, false, length, get_or, map, sym, refl, ap, ap₂, subst, ◌∙◌, inl, inr, ⊎_elim, arith}
+use Rattle.std.proofs.Common.{◌≡◌, ◌⊎◌, ℕ, ◌+◌, ◌≤◌, max, List, [], ◌∷◌, ◌++◌, Bool, true, false, length, get_or, map, sym, refl, ap, ap₂, subst, ◌∙◌, inl, inr, ⊎_elim, arith}
 use Rattle.std.specs.Prelude.{Contains, flat_map}
 use Rattle.std.proofs.lemmas.List.{map-append}
-use Rattle.chain_graph.specs.Graph.{Call, NodeTree, chain, verdict_map, itself, calls_in, IsPath, jumps, HasCycle, HasPathOver, greatest, chain_cost, node_cost, Reaches}
+use Rattle.chain_graph.specs.Graph.{Call, NodeTree, chain, verdict_map, itself, calls_in, IsPath, jumps, HasCycle, greatest, chain_cost, node_cost, Reaches}
 use Rattle.chain_graph.specs.Nodes.{Graph, Calls, calls_of, node_at, InRange}
 use Rattle.chain_graph.specs.Known.{stopped, IsCost, IsDepth, LeadsOn}
 use Rattle.chain_graph.proofs.ListLaws.{Contains-map, Contains-unmap}
@@ -122,28 +122,6 @@ module _ {K : Type 0} (nodes : K → NodeTree K) (number : K → ℕ) (g : Graph
       record { chain = a.0; first = c.0; rest = more.along; path = (c.1, subst (IsPath CallsIn c.0.to more.along) (sym same) more.path) }
 
   -- ---- depth
-
-  pub deep-up-at : (i : ℕ) (xs : List (Call ℕ)) (j : ℕ) → IsPath (Calls g) i xs j → 17 ≤ jumps xs → HasPathOver 16 CallsIn
-  deep-up-at i [] j p over = absurd (omega (arith, over))
-  deep-up-at i (x ∷ xs) j p over =
-      let a = caller i x p.0 in
-      let up = path-up a.0 (x ∷ xs) j (subst (λ k. IsPath (Calls g) k (x ∷ xs) j) (sym a.1) p) in
-      let same = sym (jumps-numbered number up.along) ∙ ap jumps up.same in
-      record { from = a.0; to = up.to; along = up.along; path = up.path; over = omega (arith, over, same) }
-
-  pub deep-up : (i depth : ℕ) → IsDepth g i depth → 16 < depth → HasPathOver 16 CallsIn
-  deep-up i depth d over = let more = d.deep in deep-up-at i d.along d.to d.path (omega arith)
-
-  pub deep-down : HasPathOver 16 CallsIn → (i : ℕ) × (i < length g) × ((depth : ℕ) → IsDepth g i depth → 16 < depth)
-  deep-down k = (
-    number k.from,
-    s.inside k.from,
-    λ depth d.
-        let most = d.most (number k.to) (map (numbered_call number) k.along) (path-down k.from k.along k.to k.path) in
-        let same = jumps-numbered number k.along in
-        let over = k.over in
-        omega arith,
-  )
 
   pub most-up : (a : K) (depth : ℕ) → IsDepth g (number a) depth → (b : K) (es : List (Call K)) → IsPath CallsIn a es b → stopped (jumps es) ≤ depth
   most-up a depth d b es p =

@@ -1,6 +1,6 @@
 -- From what is found of each table to what is found of all.
 use Rattle.std.proofs.Common.{◌≡◌, ◌⊎◌, ℕ, ◌+◌, ◌<◌, List, [], ◌∷◌, ◌++◌, Bool, true, false, ◌||◌, length, get_or, map, take, sym, refl, ap, ap₂, subst, ◌∙◌, inl, inr, ⊎_elim, arith, Vec, Global, ltb-true, lt-ltb}
-use Rattle.std.specs.Prelude.{Contains, IsTrue, ◌↔◌, ◌&&◌, sum_by, if◌then◌else◌, nat_eq, nat_lt}
+use Rattle.std.specs.Prelude.{Contains, IsTrue, ◌↔◌, ◌&&◌, if◌then◌else◌, nat_eq, nat_lt}
 use Rattle.std.specs.Bool.{Decides}
 use Rattle.std.specs.Cmp.{unsigned_Decides}
 use Rattle.std.specs.Cmp.Lexicographic.{pointwise}
@@ -10,11 +10,11 @@ use Rattle.std.proofs.lemmas.List.{take_more, length-map, length_push, get_or_ap
 use Rattle.std.proofs.lemmas.List.Elements.{Contains-push_cases, Contains-push, Contains-append_left}
 use Rattle.std.proofs.lemmas.List.Sums.{sum_by_push}
 use Rattle.nft_tree.specs.Tree.{TableTree}
-use Rattle.chain_graph.specs.Graph.{Call, NodeTree, chain, verdict_map, HasCycle, HasPathOver}
+use Rattle.chain_graph.specs.Graph.{Call, NodeTree, chain, verdict_map, HasCycle}
 use Rattle.chain_graph.specs.Nodes.{Graph}
 use Rattle.chain_graph.specs.Known.{stopped, IsCost}
 use Rattle.chain_graph.proofs.ListLaws.{or-split, or-right}
-use Rattle.rule_paths.specs.Paths.{Caller, CallsOf, AreCosts, MOST_COST, table_cost, node_of, Cycles, TooDeep, TooCostly, MisplacedNat, misplaced_source, misplaced_destination}
+use Rattle.rule_paths.specs.Paths.{Caller, CallsOf, AreCosts, AreAllCosts, MOST_COST, table_cost, ruleset_cost, node_of, Cycles, HasDeepPath, TooDeep, TooCostly, MisplacedNat, misplaced_source, misplaced_destination}
 use Rattle.rule_paths.specs.Findings.{AreChainCosts, AreChainDepths, numbers_at, AreFindings}
 use Rattle.rule_paths.specs.declared.judging.Findings.{Findings}
 use Rattle.rule_paths.specs.declared.marks.Translation.TheVariants.{Source, Destination}
@@ -127,15 +127,15 @@ module _ (ts : List TableTree) (t : TableTree) where
       (λ e. now (subst (λ u. HasCycle (CallsOf u)) (sym e) k.cycle))
       (Contains-push_cases ts t k.table k.stands)
 
-  pub deep-more : (a b : Bool) → (IsTrue a ↔ TooDeep ts) → (IsTrue b ↔ HasPathOver 16 (CallsOf t)) → IsTrue (a || b) ↔ TooDeep (ts ++ t ∷ [])
+  pub deep-more : (a b : Bool) → (IsTrue a ↔ TooDeep ts) → (IsTrue b ↔ HasDeepPath t) → IsTrue (a || b) ↔ TooDeep (ts ++ t ∷ [])
   deep-more a b p q = (
     λ h. ⊎_elim
-        (λ k. let d = p.0 k in record { table = d.table; stands = stands-before d.table d.stands; path = d.path })
-        (λ k. record { table = t; stands = Contains-push ts t; path = q.0 k })
+        (λ k. let d = p.0 k in record { table = d.table; stands = stands-before d.table d.stands; deep = d.deep })
+        (λ k. record { table = t; stands = Contains-push ts t; deep = q.0 k })
         (or-split a b h),
     λ d. ⊎_elim
-        (λ h. or-first a b (p.1 (record { table = d.table; stands = h; path = d.path })))
-        (λ e. or-right a b (q.1 (subst (λ u. HasPathOver 16 (CallsOf u)) (sym e) d.path)))
+        (λ h. or-first a b (p.1 (record { table = d.table; stands = h; deep = d.deep })))
+        (λ e. or-right a b (q.1 (subst HasDeepPath (sym e) d.deep)))
         (Contains-push_cases ts t d.table d.stands),
   )
 
@@ -198,7 +198,7 @@ none-so-far = record {
 }
 
 module _ (ts : List TableTree) (t : TableTree) (deep misplaced : Bool) (cost : ℕ) (costs depths : List (Vec ℕ Global)) (found : TableFindings) (s : AreFoundSoFar ts deep misplaced cost costs depths) (f : AreTableFindings t found) where
-  pub sum-more : (cost_of : TableTree → Caller → ℕ) → ((u : TableTree) → Contains (ts ++ t ∷ []) u → AreCosts u (cost_of u)) → stopped (cost + found.base_cost) ≡ stopped (sum_by (λ u. table_cost (cost_of u) u) (ts ++ t ∷ []))
+  pub sum-more : (cost_of : TableTree → Caller → ℕ) → AreAllCosts (ts ++ t ∷ []) cost_of → stopped (cost + found.base_cost) ≡ stopped (ruleset_cost cost_of (ts ++ t ∷ []))
   sum-more cost_of are =
       let before = s.sum cost_of (λ u h. are u (stands-before ts t u h)) in
       let now = f.base_cost (cost_of t) (are t (Contains-push ts t)) in
@@ -220,7 +220,7 @@ module _ (ts : List TableTree) (t : TableTree) (deep misplaced : Bool) (cost : �
 
 -- ---- what the sum says
 
-module _ (ts : List TableTree) (have : HaveCosts ts) (cost : ℕ) (sum : (cost_of : TableTree → Caller → ℕ) → ((t : TableTree) → Contains ts t → AreCosts t (cost_of t)) → cost ≡ stopped (sum_by (λ t. table_cost (cost_of t) t) ts)) where
+module _ (ts : List TableTree) (have : HaveCosts ts) (cost : ℕ) (sum : (cost_of : TableTree → Caller → ℕ) → AreAllCosts ts cost_of → cost ≡ stopped (ruleset_cost cost_of ts)) where
   pub too-costly : MOST_COST < cost → TooCostly ts
   too-costly over =
       let is = sum (λ t a. have.costs (index_graph t) (index_of t a)) (are-costs ts have) in

@@ -8,20 +8,20 @@ use Rattle.std.proofs.lemmas.Bool.{cases_lt}
 use Rattle.nft_tree.specs.Tree.{Text, Statement, HeadTree, ChainTree, TableTree}
 use Rattle.nft_tree.specs.Parts.{chains_of}
 use Rattle.rule_names.specs.Names.{Repeats, chain_names, map_names}
-use Rattle.chain_graph.specs.Graph.{HasCycle, HasPathOver}
+use Rattle.chain_graph.specs.Graph.{HasCycle}
 use Rattle.chain_graph.specs.declared.judging.Judged.{Judged}
 use Rattle.chain_graph.specs.Nodes.{Graph, Calls}
 use Rattle.chain_graph.specs.Known.{stopped, IsCost, IsDepth, IsJudged, LeadsOn}
-use Rattle.chain_graph.proofs.ListLaws.{get_or-map, or-split, or-right}
-use Rattle.rule_paths.specs.Paths.{Caller, a_chain, a_map, CallsOf, AreCosts, table_cost, node_of, chain_has, caller_has}
-use Rattle.rule_paths.specs.Findings.{AreChainCosts, AreChainDepths}
+use Rattle.chain_graph.proofs.ListLaws.{get_or-map, or-split, or-right, Contains-at}
+use Rattle.rule_paths.specs.Paths.{Caller, a_chain, a_map, CallsOf, AreCosts, table_cost, node_of, HasDeepPath, chain_has, caller_has}
+use Rattle.rule_paths.specs.Findings.{HasDepth, AreChainCosts, AreChainDepths}
 use Rattle.rule_paths.specs.declared.marks.Translation.{Translation}
 use Rattle.rule_paths.specs.declared.marks.Translation.TheVariants.{Source, Destination}
 use Rattle.rule_paths.specs.steps.Numbers.{StandsFor}
 use Rattle.rule_paths.specs.steps.Index.{chain_count, index_of, index_graph, IsTableGraph, translates, may_translate, marks_of, is_barred, LeadsWrong}
 use Rattle.rule_paths.specs.steps.Tables.{MisplacesAs, MisplacesIn, AreTableFindings}
 use Rattle.rule_paths.specs.declared.table.TableFindings.{TableFindings}
-use Rattle.rule_paths.proofs.NumberLaws.{cycle-down, costs-up, costs-down, cost_by, cost-named, most-up, deep-path, deep-up, deep-down, leads-up, leads-down}
+use Rattle.rule_paths.proofs.NumberLaws.{cycle-down, costs-up, costs-down, cost_by, cost-named, most-up, deep-path, leads-up, leads-down}
 use Rattle.rule_paths.proofs.IndexLaws.{stands, chain-number, graph-long, name-at, no-chain, look-chain, look-map, chain-found, chain-missing, map-found, map-missing}
 
 pub table-graph : (t : TableTree) (g : Graph) → g ≡ index_graph t → (Repeats (chain_names t) → ⊥) → (Repeats (map_names t) → ⊥) → IsTableGraph t g
@@ -49,15 +49,41 @@ named-number f [] i h = absurd (omega (arith, h))
 named-number f (c ∷ cs) zero h = refl
 named-number f (c ∷ cs) (suc i) h = named-number f cs i (omega (arith, h))
 
-module _ (t : TableTree) (g : Graph) (s : IsTableGraph t g) where
-  pub too-deep : (depths : List ℕ) (b : Bool) → length depths ≡ length g → ((c : ℕ) → c < length g → IsDepth g c (get_or depths c 0)) → b ≡ list_any (λ d. nat_lt 16 d) depths → IsTrue b ↔ HasPathOver 16 (CallsOf t)
-  too-deep depths b long known e = (
-    λ h. let at = deep-found depths (sym e ∙ h) in let l = at.1 in
-        deep-up (node_of t) (index_of t) g s.stands at.0 (get_or depths at.0 0) (known at.0 (omega arith)) at.2,
-    λ k. let at = deep-down (node_of t) (index_of t) g s.stands k in let l = at.1 in
-        e ∙ list_any_at (λ d. nat_lt 16 d) depths at.0 0 (omega arith) (lt-ltb 16 (get_or depths at.0 0) (at.2 (get_or depths at.0 0) (known at.0 at.1))),
+module _ (t : TableTree) (depths : List ℕ) (known : AreChainDepths t depths) where
+  deep-from : (i : ℕ) → i < length depths → 16 < get_or depths i 0 → HasDeepPath t
+  deep-from i h over =
+      let name : Text = get_or (chain_names t) i [] in
+      let has = known.are i h in
+      let deep = has.deep in
+      let long = known.long in
+      let n = length-map (chains_of t) (λ (c : ChainTree). c.name) in
+      record {
+        chain = name;
+        stands = Contains-at (chain_names t) i [] name (omega arith) refl;
+        path = record { from = a_chain name; to = has.to; along = has.along; path = has.path; over = omega arith };
+        begins = refl;
+      }
+
+  deep-at : HasDeepPath t → (i : ℕ) × (i < length depths) × (16 < get_or depths i 0)
+  deep-at k =
+      let i : ℕ = k.stands.0 in
+      let l : i < length (chain_names t) = k.stands.1 in
+      let long = known.long in
+      let n = length-map (chains_of t) (λ (c : ChainTree). c.name) in
+      let h : i < length depths = omega arith in
+      let named : get_or (chain_names t) i [] ≡ k.chain = get_or_default (chain_names t) i [] k.chain l ∙ k.stands.2 in
+      let has : HasDepth t k.path.from (get_or depths i 0) = subst (λ a. HasDepth t a (get_or depths i 0)) (ap a_chain named ∙ sym k.begins) (known.are i h) in
+      let most = has.most k.path.to k.path.along k.path.path in
+      let over = k.path.over in
+      (i, h, omega arith)
+
+  pub too-deep : (b : Bool) → b ≡ list_any (λ d. nat_lt 16 d) depths → IsTrue b ↔ HasDeepPath t
+  too-deep b e = (
+    λ h. let at = deep-found depths (sym e ∙ h) in deep-from at.0 at.1 at.2,
+    λ k. let at = deep-at k in e ∙ list_any_at (λ d. nat_lt 16 d) depths at.0 0 at.1 (lt-ltb 16 (get_or depths at.0 0) at.2),
   )
 
+module _ (t : TableTree) (g : Graph) (s : IsTableGraph t g) where
   pub chain-depth : (j depth : ℕ) → j < chain_count t → IsDepth g j depth → IsDepth g (index_of t (a_chain (get_or (chain_names t) j []))) depth
   chain-depth j depth h d = subst (λ k. IsDepth g k depth) (sym (s.chains_first j h)) d
 
@@ -194,7 +220,7 @@ module _ (t : TableTree) (g : Graph) (s : IsTableGraph t g) (judged : Judged) (j
   judged-depths depths e = subst (AreChainDepths t) (sym e) (chain-depths t g s judged.depths.items j.depths_long j.depths)
 
   pub table-findings : (found : TableFindings)
-      → found.is_too_deep ≡ list_any (λ d. nat_lt 16 d) judged.depths.items
+      → found.is_too_deep ≡ list_any (λ d. nat_lt 16 d) found.depths.items
       → (IsTrue found.misplaces_nat ↔ MisplacesIn t)
       → ((cost : Caller → ℕ) → AreCosts t cost → found.base_cost ≡ stopped (table_cost cost t))
       → found.costs.items ≡ take (chain_count t) judged.costs.items
@@ -204,7 +230,7 @@ module _ (t : TableTree) (g : Graph) (s : IsTableGraph t g) (judged : Judged) (j
     stands = subst (StandsFor (node_of t) (index_of t)) s.is s.stands;
     has_costs = subst (λ h. (cost : ℕ → ℕ) × IsCost h cost) s.is j.has_costs;
     acyclic = table-cycle t g s j.acyclic;
-    deep = too-deep t g s judged.depths.items found.is_too_deep j.depths_long j.depths deep;
+    deep = too-deep t found.depths.items (judged-depths found.depths.items depths) found.is_too_deep deep;
     nat = nat;
     base_cost = base;
     costs = judged-costs found.costs.items costs;

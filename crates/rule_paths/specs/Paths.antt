@@ -8,7 +8,7 @@ use Rattle.nft_tree.specs.declared.chain.Hook.TheVariants as hooks
 use Rattle.nft_tree.specs.Tree as tree
 use Rattle.nft_tree.specs.Tree.{Text, VerdictTree, DataTree, PairTree, Statement, RuleTree, HeadTree, ChainTree, MapTree, TableTree}
 use Rattle.nft_tree.specs.Parts.{chains_of}
-use Rattle.rule_names.specs.Names.{chain_named, map_named, some_of}
+use Rattle.rule_names.specs.Names.{chain_named, chain_names, map_named, some_of}
 use Rattle.chain_graph.specs.Graph as graph
 use Rattle.chain_graph.specs.Graph.{Call, NodeTree, calls_in, HasCycle, HasPathOver, node_cost, Reaches}
 
@@ -68,11 +68,19 @@ pub record Cycles (tables : List TableTree) : Type 0 where
 abbrev pub MOST_JUMPS : ℕ
 MOST_JUMPS = 16
 
--- a path with more than 16 jumps, wherever it begins
+-- a path with more than 16 jumps that begins in a chain of the table: a jump is a verdict of a rule, and the verdicts
+-- of a map are those of the rules that look it up (nft(8), "Verdict statement", "Vmap statement")
+pub record HasDeepPath (t : TableTree) : Type 0 where
+  pub chain : Text
+  pub stands : Contains (chain_names t) chain
+  pub path : HasPathOver MOST_JUMPS (CallsOf t)
+  pub begins : path.from ≡ a_chain chain
+
+-- a table with such a path
 pub record TooDeep (tables : List TableTree) : Type 0 where
   pub table : TableTree
   pub stands : Contains tables table
-  pub path : HasPathOver MOST_JUMPS (CallsOf table)
+  pub deep : HasDeepPath table
 
 -- ---- N06
 

@@ -13,7 +13,7 @@ const MOST_COST: u64 = 65_536;
 /// What the jumps and gotos of a ruleset without cycles come to.
 #[derive(Drop)]
 pub struct Findings {
-    /// Whether some path has more than 16 jumps.
+    /// Whether a path from a chain has more than 16 jumps.
     pub is_too_deep: bool,
     /// Whether the base chains cost over 65,536.
     pub is_too_costly: bool,

@@ -25,7 +25,7 @@ const MOST_JUMPS: u64 = 16;
 /// What the jumps and gotos of a table without cycles come to.
 #[derive(Drop)]
 pub(crate) struct TableFindings {
-    /// Whether some path has more than 16 jumps.
+    /// Whether a path from a chain has more than 16 jumps.
     pub(crate) is_too_deep: bool,
     /// Whether a NAT statement has no place where it stands, or where it is reached from.
     pub(crate) misplaces_nat: bool,
@@ -87,7 +87,6 @@ fn findings(
 {
     let is_source = misplaces(alloc, names, nodes, &judged.order, Translation::Source)?;
     let is_destination = misplaces(alloc, names, nodes, &judged.order, Translation::Destination)?;
-    let is_too_deep = is_too_deep(&judged.depths);
     let Judged {
         order: _,
         costs,
@@ -95,6 +94,7 @@ fn findings(
     } = judged;
     let costs = of_chains(names, costs);
     let depths = of_chains(names, depths);
+    let is_too_deep = is_too_deep(&depths);
     let base_cost = base_cost(names, &costs);
     Ok(TableFindings {
         is_too_deep,

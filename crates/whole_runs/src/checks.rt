@@ -305,16 +305,18 @@ fn each_fault_has_a_nearest_text(rt: HostRuntime) -> Result<(), Fail> {
     prints(&rt, &OTHERS)
 }
 
-/// A chain that jumps, and chains behind it that each jump to the next.
-fn jumping(alloc: Global, jumps: usize) -> Result<Vec<u8>, Fail> {
+/// A chain that jumps, chains behind it that each jump to the next, and what else stands in the table.
+fn jumping(alloc: Global, jumps: usize, others: &[u8]) -> Result<Vec<u8>, Fail> {
     let mut text = Vec::new(alloc);
     text.extend_from_slice(b"table t { ")?;
     for jump in 0..jumps {
         let chain = format!(in alloc; "chain c{jump} {{ jump c{} }} ", jump + 1)?;
         text.extend_from_slice(chain.as_str().as_bytes())?;
     }
-    let last = format!(in alloc; "chain c{jumps} {{ goto end }} chain end {{ }} }}")?;
+    let last = format!(in alloc; "chain c{jumps} {{ goto end }} chain end {{ }} ")?;
     text.extend_from_slice(last.as_str().as_bytes())?;
+    text.extend_from_slice(others)?;
+    text.extend_from_slice(b" }")?;
     Ok(text)
 }
 
@@ -322,12 +324,18 @@ fn jumping(alloc: Global, jumps: usize) -> Result<Vec<u8>, Fail> {
 #[test]
 fn rulesets_have_limits(rt: HostRuntime) -> Result<(), Fail> {
     let alloc = rt.alloc();
+    let map = b"map m { type mark : verdict; elements = { 1 : jump c0 } }";
+    let used =
+        b"map m { type mark : verdict; elements = { 1 : jump c0 } } chain c { meta mark vmap @m }";
     let base = b"table t { chain c { type filter hook forward priority 0; ";
     let elements = b"table t { set s { type mark; elements = { 0";
     let prefix = b"table t { chain c { log prefix \"";
     let rows = [
-        (jumping(alloc, 16)?, "1 18 17"),
-        (jumping(alloc, 17)?, "nftrun: rules N05"),
+        (jumping(alloc, 16, b"")?, "1 18 17"),
+        (jumping(alloc, 17, b"")?, "nftrun: rules N05"),
+        (jumping(alloc, 16, map)?, "1 18 17"),
+        (jumping(alloc, 15, used)?, "1 18 17"),
+        (jumping(alloc, 16, used)?, "nftrun: rules N05"),
         (repeated(alloc, base, b"counter ", 65_535, b"} }")?, "1 1 1"),
         (
             repeated(alloc, base, b"counter ", 65_536, b"} }")?,

@@ -2,10 +2,10 @@
 use Rattle.std.specs.Prelude.{◌≡◌, ◌↔◌, ◌⊎◌, ℕ, ◌<◌, IsTrue, Bool, List, length, get_or, Contains, Vec}
 use Rattle.std.specs.declared.alloc.Global.{Global}
 use Rattle.nft_tree.specs.Tree.{TableTree}
-use Rattle.chain_graph.specs.Graph.{HasCycle, HasPathOver}
+use Rattle.chain_graph.specs.Graph.{HasCycle}
 use Rattle.chain_graph.specs.Nodes.{Graph}
 use Rattle.chain_graph.specs.Known.{stopped, IsCost}
-use Rattle.rule_paths.specs.Paths.{Caller, CallsOf, MOST_JUMPS, node_of, Cycles, TooDeep, MisplacedNat, AreCosts, AreAllCosts, table_cost, ruleset_cost, Misplaces}
+use Rattle.rule_paths.specs.Paths.{Caller, CallsOf, node_of, Cycles, HasDeepPath, TooDeep, MisplacedNat, AreCosts, AreAllCosts, table_cost, ruleset_cost, Misplaces}
 use Rattle.rule_paths.specs.Findings.{AreChainCosts, AreChainDepths, numbers_at}
 use Rattle.rule_paths.specs.declared.marks.Translation.{Translation}
 use Rattle.rule_paths.specs.declared.marks.Translation.TheVariants.{Source, Destination}
@@ -23,7 +23,7 @@ pub record AreTableFindings (t : TableTree) (found : TableFindings) : Type 0 whe
   pub stands : StandsFor (node_of t) (index_of t) (index_graph t)
   pub has_costs : (cost : ℕ → ℕ) × IsCost (index_graph t) cost
   pub acyclic : HasCycle (CallsOf t) → ⊥
-  pub deep : IsTrue found.is_too_deep ↔ HasPathOver MOST_JUMPS (CallsOf t)
+  pub deep : IsTrue found.is_too_deep ↔ HasDeepPath t
   pub nat : IsTrue found.misplaces_nat ↔ MisplacesIn t
   pub base_cost : (cost : Caller → ℕ) → AreCosts t cost → found.base_cost ≡ stopped (table_cost cost t)
   pub costs : AreChainCosts t found.costs.items
