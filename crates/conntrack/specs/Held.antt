@@ -12,6 +12,7 @@ use Rattle.conntrack.specs.declared.connection.Direction.{Direction}
 use Rattle.conntrack.specs.declared.connection.Direction.TheVariants.{Original, Reply}
 use Rattle.conntrack.specs.declared.connection.Flags.{Flags}
 use Rattle.conntrack.specs.declared.connection.Held.{Held}
+use Rattle.conntrack.specs.declared.limits.Limits.{Limits}
 use Rattle.conntrack.specs.declared.belonging.Belonging.{Belonging}
 use Rattle.conntrack.specs.declared.belonging.Belonging.TheVariants.{Nowhere, Ends, Found}
 use Rattle.conntrack.specs.declared.belonging.Place.{Place}
@@ -32,12 +33,13 @@ is_reply Reply = true
 
 -- ---- a connection
 
-abbrev pub limit_of : Held → ℕ
-limit_of h = limit_by h.original.kind (phase_of h)
+-- for how many nanoseconds after its last packet it is live
+abbrev pub limit_of : Limits → Held → ℕ
+limit_of limits h = limit_by limits h.original.kind (phase_of h)
 
 -- live while less than its limit has passed since its last packet
-abbrev pub is_live : ℕ → Held → Bool
-is_live now h = nat_lt (now - h.last) (limit_of h)
+abbrev pub is_live : Limits → ℕ → Held → Bool
+is_live limits now h = nat_lt (now - h.last) (limit_of limits h)
 
 -- with its first packet alone
 abbrev pub begun_with : ConnId → Connection → Flags → Held
@@ -94,8 +96,8 @@ nameless h = record {
 
 -- ---- those that are held
 
-abbrev pub live_at : ℕ → List Held → List Held
-live_at now held = filter (is_live now) held
+abbrev pub live_at : Limits → ℕ → List Held → List Held
+live_at limits now held = filter (is_live limits now) held
 
 -- none had a packet after this moment
 abbrev pub IsNoneLater : ℕ → List Held → Type 0
@@ -182,7 +184,7 @@ state_of kind (Found place) = if is_reply place.direction || place.replied then 
 
 -- ---- slots visited
 
--- at most so many more, where there is a bound
+-- a count doesn't fall, and rises by so many at most, where there is a bound
 abbrev pub IsWithin : Option ℕ → ℕ → ℕ → Type 0
-IsWithin None old new = Unit {0}
-IsWithin (Some n) old new = new ≤ old + n
+IsWithin None old new = old ≤ new
+IsWithin (Some n) old new = (old ≤ new) × (new ≤ old + n)

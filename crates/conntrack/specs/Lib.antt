@@ -1,4 +1,5 @@
 pub mod Tuples
+pub mod Limits
 pub mod Phases
 pub mod Held
 pub mod Stories

@@ -6,6 +6,7 @@ use Rattle.conntrack.specs.declared.connection.Flags.{Flags}
 use Rattle.conntrack.specs.declared.connection.Phase.{Phase}
 use Rattle.conntrack.specs.declared.connection.Phase.TheVariants.{Opening, Established, Closing}
 use Rattle.conntrack.specs.declared.connection.Held.{Held}
+use Rattle.conntrack.specs.declared.limits.Limits.{Limits}
 
 -- ---- flags
 
@@ -25,7 +26,7 @@ seen_more counts flags seen = record {
   rst = (counts && flags.rst) || seen.rst;
 }
 
--- a packet that asks for a connection and does nothing else
+-- a packet that asks for a connection and does nothing else: SYN without ACK, FIN and RST
 abbrev pub is_lone_syn : Flags → Bool
 is_lone_syn flags = flags.syn && not flags.ack && not flags.fin && not flags.rst
 
@@ -55,14 +56,14 @@ is_closing h = is_closing_phase (phase_of h)
 abbrev pub seconds : ℕ → ℕ
 seconds n = n * 1000000000
 
--- for how long after its last packet a connection is live: five minutes for UDP (RFC 4787, REQ-5); two hours and four
--- minutes for TCP, and four minutes while it opens or closes (RFC 5382, REQ-5); one minute for an echo (RFC 5508,
--- REQ-2); ten minutes for other protocols (own). No connection is begun by an answer
-abbrev pub limit_by : Kind → Phase → ℕ
-limit_by Udp phase = seconds 300
-limit_by Tcp Opening = seconds 240
-limit_by Tcp Established = seconds 7440
-limit_by Tcp Closing = seconds 240
-limit_by Ask phase = seconds 60
-limit_by Answer phase = seconds 60
-limit_by (Other number) phase = seconds 600
+-- for how many nanoseconds after its last packet a connection of this kind that is so far is live. TCP has one limit
+-- while it opens and while it closes, the "transitory connection idle-timeout" of RFC 5382, REQ-5; an answer stands
+-- under its ask's limit (no connection is begun by one)
+abbrev pub limit_by : Limits → Kind → Phase → ℕ
+limit_by limits Udp phase = seconds limits.udp
+limit_by limits Tcp Opening = seconds limits.transitory
+limit_by limits Tcp Established = seconds limits.established
+limit_by limits Tcp Closing = seconds limits.transitory
+limit_by limits Ask phase = seconds limits.ask
+limit_by limits Answer phase = seconds limits.ask
+limit_by limits (Other number) phase = seconds limits.other

@@ -58,7 +58,8 @@ ended_by_packet other = None
 abbrev pub what_of_packet : Belonging → Arrival → Count → What
 what_of_packet belonging p Uncounted = Nothing
 what_of_packet (Found place) p (Counted mark reply source dest) = Touches place.id.0 place.direction
-what_of_packet other p (Counted mark reply source dest) = Begins p.tuple reply source dest
+what_of_packet other p (Counted mark reply source dest) =
+    Begins (record { original = p.tuple; reply = reply; source = source; dest = dest })
 
 abbrev pub mark_left : Count → ℕ
 mark_left Uncounted = 0

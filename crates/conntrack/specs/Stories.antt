@@ -1,25 +1,34 @@
 -- The list of everything that happened, newest first, and what is found by searching it. Nothing is ever removed.
 use Rattle.std.specs.Prelude.{◌≡◌, ◌≤◌, ℕ, Bool, true, false, not, ◌&&◌, ◌||◌, ◌==◌, if◌then◌else◌, List, [], ◌∷◌, ◌++◌, map, filter, length, Option, Some, None}
 use Rattle.std.specs.List.{list_any}
-use Rattle.ip_headers.specs.declared.tuple.Kind.TheVariants.{Udp}
 use Rattle.ip_headers.specs.declared.tuple.Mapping.{Mapping}
 use Rattle.ip_headers.specs.declared.tuple.Tuple.{Tuple}
+use Rattle.conntrack.specs.Tuples.{no_tuple}
 use Rattle.conntrack.specs.declared.connection.Direction.{Direction}
 use Rattle.conntrack.specs.declared.connection.Direction.TheVariants.{Original}
 use Rattle.conntrack.specs.declared.connection.Flags.{Flags}
 use Rattle.conntrack.specs.declared.connection.Held.{Held}
 use Rattle.conntrack.specs.declared.connection.Phase.{Phase}
+use Rattle.conntrack.specs.declared.limits.Limits.{Limits}
 use Rattle.conntrack.specs.declared.belonging.Belonging.{Belonging}
 use Rattle.conntrack.specs.Phases.{phase_by}
 use Rattle.conntrack.specs.Held.{is_original, is_reply, is_live, live_at, belongs_in, nameless}
 
 -- ---- what is recorded of a packet, as far as connections go
 
+-- what a connection is begun with: the tuples of its incoming packets in both directions, and the mappings of its
+-- source and destination
+pub record Beginning : Type 0 where
+  pub original : Tuple
+  pub reply : Tuple
+  pub source : Option Mapping
+  pub dest : Option Mapping
+
 -- A connection is named by the number of the entry that began it; the oldest entry has number 0. A packet that is
 -- dropped does nothing, and so does one without a tuple
 pub data What : Type 0 where
   Nothing : What
-  Begins : (original reply : Tuple) (source dest : Option Mapping) → What
+  Begins : Beginning → What
   Touches : (connection : ℕ) (direction : Direction) → What
 
 pub record Entry : Type 0 where
@@ -34,14 +43,14 @@ pub record Entry : Type 0 where
 -- whether a connection is begun
 abbrev pub does_begin : What → Bool
 does_begin Nothing = false
-does_begin (Begins original reply source dest) = true
+does_begin (Begins beginning) = true
 does_begin (Touches k direction) = false
 
 -- ---- one connection: its entries are the one that began it and those that touched it
 
 abbrev pub does_touch : ℕ → What → Bool
 does_touch c Nothing = false
-does_touch c (Begins original reply source dest) = false
+does_touch c (Begins beginning) = false
 does_touch c (Touches k direction) = c == k
 
 -- newest first
@@ -58,34 +67,25 @@ abbrev pub is_ended : ℕ → List Entry → Bool
 is_ended c [] = false
 is_ended c (e ∷ story) = if length story == c then false else (is_that c e.ended || is_ended c story)
 
--- what its first entry did
-abbrev pub beginning_of : ℕ → List Entry → What
-beginning_of c [] = Nothing
-beginning_of c (e ∷ story) = if length story == c then e.what else beginning_of c story
+-- what stands where a beginning is asked for and there is none: numbers of entries that began nothing are never asked
+abbrev pub no_beginning : Beginning
+no_beginning = record { original = no_tuple; reply = no_tuple; source = None; dest = None }
 
-abbrev pub no_tuple : Tuple
-no_tuple = record { kind = Udp; source = record { address = 0; port = 0 }; destination = record { address = 0; port = 0 } }
+-- what an entry began
+abbrev pub begun : What → Beginning
+begun Nothing = no_beginning
+begun (Begins beginning) = beginning
+begun (Touches k direction) = no_beginning
 
-abbrev pub original_in : What → Tuple
-original_in (Begins original reply source dest) = original
-original_in other = no_tuple
-
-abbrev pub reply_in : What → Tuple
-reply_in (Begins original reply source dest) = reply
-reply_in other = no_tuple
-
-abbrev pub source_in : What → Option Mapping
-source_in (Begins original reply source dest) = source
-source_in other = None
-
-abbrev pub dest_in : What → Option Mapping
-dest_in (Begins original reply source dest) = dest
-dest_in other = None
+-- what it was begun with, by its first entry
+abbrev pub beginning_of : ℕ → List Entry → Beginning
+beginning_of c [] = no_beginning
+beginning_of c (e ∷ story) = if length story == c then begun e.what else beginning_of c story
 
 -- whether the packet went in a direction that is asked for; the first one of a connection went in direction original
 abbrev pub is_way : (Direction → Bool) → What → Bool
 is_way way Nothing = false
-is_way way (Begins original reply source dest) = way Original
+is_way way (Begins beginning) = way Original
 is_way way (Touches k direction) = way direction
 
 -- the flags that were seen in a direction
@@ -110,18 +110,18 @@ mark_of [] = 0
 mark_of (e ∷ entries) = e.mark
 
 -- a connection as its beginning and its entries tell it
-abbrev pub told : ℕ → What → List Entry → Held
-told c begun entries = record {
+abbrev pub told : ℕ → Beginning → List Entry → Held
+told c beginning entries = record {
   id = record { 0 = c };
-  original = original_in begun;
-  reply = reply_in begun;
+  original = beginning.original;
+  reply = beginning.reply;
   mark = mark_of entries;
   last = moment_of entries;
   from_original = flags_in is_original entries;
   from_reply = flags_in is_reply entries;
   replied = has_reply entries;
-  source = source_in begun;
-  dest = dest_in begun;
+  source = beginning.source;
+  dest = beginning.dest;
 }
 
 abbrev pub connection_in : ℕ → List Entry → Held
@@ -132,14 +132,14 @@ abbrev pub phase : ℕ → List Entry → Phase
 phase c story = phase_by (flags_in is_original (entries_of c story)) (flags_in is_reply (entries_of c story))
 
 -- no entry ended it, and less than its limit has passed since its last packet
-abbrev pub is_alive : ℕ → List Entry → ℕ → Bool
-is_alive c story now = not (is_ended c story) && is_live now (connection_in c story)
+abbrev pub is_alive : Limits → ℕ → List Entry → ℕ → Bool
+is_alive limits c story now = not (is_ended c story) && is_live limits now (connection_in c story)
 
 -- ---- all connections
 
 abbrev pub number_if_begins : ℕ → What → List ℕ
 number_if_begins n Nothing = []
-number_if_begins n (Begins original reply source dest) = n ∷ []
+number_if_begins n (Begins beginning) = n ∷ []
 number_if_begins n (Touches k direction) = []
 
 -- those ever begun, in that order
@@ -148,15 +148,15 @@ begun_in [] = []
 begun_in (e ∷ story) = begun_in story ++ number_if_begins (length story) e.what
 
 -- those alive at a moment, in the order in which they were begun
-abbrev pub live_list : List Entry → ℕ → List Held
-live_list story now = map (λ c. connection_in c story) (filter (λ c. is_alive c story now) (begun_in story))
+abbrev pub live_list : Limits → List Entry → ℕ → List Held
+live_list limits story now = map (λ c. connection_in c story) (filter (λ c. is_alive limits c story now) (begun_in story))
 
 -- what a packet with this tuple and these flags belongs to at a moment
-abbrev pub belongs : List Entry → ℕ → Tuple → Flags → Belonging
-belongs story now tuple flags = belongs_in (live_list story now) tuple flags
+abbrev pub belongs : Limits → List Entry → ℕ → Tuple → Flags → Belonging
+belongs limits story now tuple flags = belongs_in (live_list limits story now) tuple flags
 
 -- what is held stands for the story at a moment, that of its last entry or a later one: those that are live are those
 -- alive, in order, whatever they are called
-pub record Stands (held : List Held) (story : List Entry) (now : ℕ) : Type 0 where
+pub record Stands (limits : Limits) (held : List Held) (story : List Entry) (now : ℕ) : Type 0 where
   pub reached : moment_of story ≤ now
-  pub live : map nameless (live_at now held) ≡ map nameless (live_list story now)
+  pub live : map nameless (live_at limits now held) ≡ map nameless (live_list limits story now)

@@ -8,7 +8,8 @@ use Rattle.conntrack.specs.declared.connection.Direction.{Direction}
 use Rattle.conntrack.specs.declared.connection.Direction.TheVariants.{Original, Reply}
 use Rattle.conntrack.specs.declared.connection.Flags.{Flags}
 use Rattle.conntrack.specs.Phases.{flags_of, no_flags, seconds}
-use Rattle.conntrack.specs.Stories.{Entry, Nothing, Begins, Touches, live_list}
+use Rattle.conntrack.specs.Limits.{usual_limits}
+use Rattle.conntrack.specs.Stories.{Beginning, Entry, Nothing, Begins, Touches, live_list}
 
 -- ---- tuples
 
@@ -45,8 +46,12 @@ rst_ack = flags_of 20
 
 -- ---- entries, with mark 0
 
+-- nothing is translated
+abbrev pub begun_with : Tuple → Tuple → Beginning
+begun_with original reply = record { original = original; reply = reply; source = None; dest = None }
+
 abbrev pub begins : Tuple → ℕ → Flags → Entry
-begins tuple moment flags = record { moment = moment; flags = flags; mark = 0; what = Begins tuple (inverse tuple) None None; ended = None }
+begins tuple moment flags = record { moment = moment; flags = flags; mark = 0; what = Begins (begun_with tuple (inverse tuple)); ended = None }
 
 abbrev pub sends : Direction → ℕ → Flags → Entry
 sends direction moment flags = record { moment = moment; flags = flags; mark = 0; what = Touches 0 direction; ended = None }
@@ -56,11 +61,11 @@ is_dropped moment flags = record { moment = moment; flags = flags; mark = 0; wha
 
 -- the packet ends the first connection and begins another
 abbrev pub begins_anew : Tuple → ℕ → Entry
-begins_anew tuple moment = record { moment = moment; flags = syn; mark = 0; what = Begins tuple (inverse tuple) None None; ended = Some 0 }
+begins_anew tuple moment = record { moment = moment; flags = syn; mark = 0; what = Begins (begun_with tuple (inverse tuple)); ended = Some 0 }
 
 -- its reply tuple is its original tuple
 abbrev pub begins_as_one : Tuple → Entry
-begins_as_one tuple = record { moment = 0; flags = no_flags; mark = 0; what = Begins tuple tuple None None; ended = None }
+begins_as_one tuple = record { moment = 0; flags = no_flags; mark = 0; what = Begins (begun_with tuple tuple); ended = None }
 
 -- ---- stories, newest first
 
@@ -80,6 +85,6 @@ refused = sends Reply (seconds 1) rst_ack ∷ begins web 0 syn ∷ []
 
 -- ---- what they tell
 
--- the numbers of the connections that are alive
+-- the numbers of the connections that are alive, by the usual limits
 abbrev pub alive_at : ℕ → List Entry → List ℕ
-alive_at now story = map (λ h. h.id.0) (live_list story now)
+alive_at now story = map (λ h. h.id.0) (live_list usual_limits story now)

@@ -5,6 +5,14 @@ use Rattle.ip_headers.specs.declared.tuple.Kind.TheVariants.{Tcp, Udp, Ask, Answ
 use Rattle.ip_headers.specs.declared.tuple.Endpoint.{Endpoint}
 use Rattle.ip_headers.specs.declared.tuple.Tuple.{Tuple}
 
+-- what stands where a tuple is asked for and there is none
+abbrev pub no_tuple : Tuple
+no_tuple = record {
+  kind = Udp;
+  source = record { address = 0; port = 0 };
+  destination = record { address = 0; port = 0 };
+}
+
 -- ports of one kind say nothing of those of another: an identifier isn't a port
 abbrev pub same_kind : Kind → Kind → Bool
 same_kind Tcp Tcp = true

@@ -1,14 +1,13 @@
 //! A connection as it is held.
 ghost use Rattle.std.specs.Prelude.{◌≡◌, true};
-ghost use Rattle.conntrack.specs.Phases.{flags_of, is_closing, is_lone_syn, limit_by, no_flags, phase_by, phase_of, seen_more};
-ghost use Rattle.conntrack.specs.Held.{aged_of, connection_of, is_live, touched};
+ghost use Rattle.conntrack.specs.Phases.{flags_of, is_closing, is_lone_syn, no_flags, phase_by, phase_of, seen_more};
+ghost use Rattle.conntrack.specs.Held.{aged_of, connection_of, is_live, limit_of, touched};
 
-use ip_headers::{Kind, Mapping, Tuple};
+use crate::limits::Limits;
+use ip_headers::{Mapping, Tuple};
 
 /// In nanoseconds since 1970.
 pub type Moment = u64;
-
-const NANOSECONDS_IN_SECOND: u64 = 1_000_000_000;
 
 /// The control bits of TCP that tell how far a connection is (RFC 9293, section 3.1).
 #[derive(Clone, Copy, Debug, PartialEq, Eq)]
@@ -32,14 +31,14 @@ pub enum Direction {
     Reply,
 }
 
-/// How far a connection of TCP is.
+/// How far a connection of TCP is (RFC 9293, section 3.3.2).
 #[derive(Clone, Copy, Debug, PartialEq, Eq)]
 pub enum Phase {
-    /// The ends haven't both greeted and been answered.
+    /// Not each end has sent SYN and ACK.
     Opening,
-    /// Both have.
+    /// Each has.
     Established,
-    /// Both have taken leave, or one has reset it.
+    /// Each has sent FIN, or one has sent RST.
     Closing,
 }
 
@@ -161,27 +160,20 @@ impl Held {
     }
 
     /// For how many nanoseconds after its last packet it is live.
-    pub fn limit(&self) -> u64
-        ensures { result ≡ limit_by self.now.original.kind (phase_of self.now) }
+    pub fn limit(&self, limits: Limits) -> u64
+        ensures { result ≡ limit_of limits self.now }
     {
-        let seconds = match (self.original.kind, self.phase()) {
-            (Kind::Udp, _) => 300,
-            (Kind::Tcp, Phase::Established) => 7440,
-            (Kind::Tcp, Phase::Opening | Phase::Closing) => 240,
-            (Kind::Ask | Kind::Answer, _) => 60,
-            (Kind::Other(_), _) => 600,
-        };
-        seconds * NANOSECONDS_IN_SECOND
+        limits.limit_by(self.original.kind, self.phase())
     }
 
-    /// Whether it is live at a moment.
-    pub fn is_live(&self, now: Moment) -> bool
-        ensures { result ≡ is_live now self.now }
+    /// Whether it is live at a moment: less than its limit has passed since its last packet.
+    pub fn is_live(&self, limits: Limits, now: Moment) -> bool
+        ensures { result ≡ is_live limits now self.now }
     {
-        now.saturating_sub(self.last) < self.limit()
+        now.saturating_sub(self.last) < self.limit(limits)
     }
 
-    /// Whether both ends have taken leave, or one has reset it.
+    /// Whether each end has sent FIN, or one has sent RST.
     pub fn is_closing(&self) -> bool
         ensures { result ≡ is_closing self.now }
     {

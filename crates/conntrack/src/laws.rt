@@ -5,6 +5,7 @@ ghost use Rattle.ip_headers.specs.declared.tuple.Tuple.{Tuple};
 ghost use Rattle.conntrack.specs.declared.connection.ConnId.{ConnId};
 ghost use Rattle.conntrack.specs.declared.connection.Flags.{Flags};
 ghost use Rattle.conntrack.specs.declared.connection.Held.{Held};
+ghost use Rattle.conntrack.specs.declared.limits.Limits.{Limits};
 ghost use Rattle.conntrack.specs.declared.belonging.Belonging.{Belonging};
 ghost use Rattle.conntrack.specs.declared.belonging.Belonging.TheVariants.{Ends, Found, Nowhere};
 ghost use Rattle.conntrack.specs.declared.belonging.Place.{Place};
@@ -14,31 +15,31 @@ ghost use Rattle.conntrack.specs.Recorded.{Arrival, Count, IsBegunApart, after_e
 
 /// Before the first record nothing is held.
 pub fn nothing_at_first()
-    ensures { (now : ℕ) → Stands [] [] now }
+    ensures { (limits : Limits) (now : ℕ) → Stands limits [] [] now }
 {}
 
 /// What stands for a story at a moment does so at later ones too, and all that is live by then is
 /// what counts.
 pub fn still_standing()
-    ensures later { (held : List Held) (story : List Entry) (now later : ℕ) → now ≤ later → Stands held story now → Stands held story later }
-    ensures live { (held others : List Held) (story : List Entry) (now : ℕ) → live_at now held ≡ live_at now others → Stands held story now → Stands others story now }
+    ensures later { (limits : Limits) (held : List Held) (story : List Entry) (now later : ℕ) → now ≤ later → Stands limits held story now → Stands limits held story later }
+    ensures live { (limits : Limits) (held others : List Held) (story : List Entry) (now : ℕ) → live_at limits now held ≡ live_at limits now others → Stands limits held story now → Stands limits others story now }
 {}
 
 /// What the calls for one packet make of what is held stands for the story with the entry of that
 /// packet, whatever the name of a connection that it begins; without such a packet all stays.
 pub fn one_record_more()
-    ensures packet { (held : List Held) (story : List Entry) (id : ConnId) (p : Arrival) (count : Count) → IsTrue (has_distinct_ids held) → Stands held story p.moment
-        → Stands (after_packet (belongs_in (live_at p.moment held) p.tuple p.flags) id p count held) (entry_of (belongs story p.moment p.tuple p.flags) p count ∷ story) p.moment }
-    ensures none { (held : List Held) (story : List Entry) (now : ℕ) → Stands held story now → Stands held (entry_at now ∷ story) now }
+    ensures packet { (limits : Limits) (held : List Held) (story : List Entry) (id : ConnId) (p : Arrival) (count : Count) → IsTrue (has_distinct_ids held) → Stands limits held story p.moment
+        → Stands limits (after_packet (belongs_in (live_at limits p.moment held) p.tuple p.flags) id p count held) (entry_of (belongs limits story p.moment p.tuple p.flags) p count ∷ story) p.moment }
+    ensures none { (limits : Limits) (held : List Held) (story : List Entry) (now : ℕ) → Stands limits held story now → Stands limits held (entry_at now ∷ story) now }
 {}
 
 /// What a story with one entry more tells, and what a story tells of a later moment.
 pub fn one_entry_more()
-    ensures packet { (story : List Entry) (p : Arrival) (count : Count)
-        → live_list (entry_of (belongs story p.moment p.tuple p.flags) p count ∷ story) p.moment ≡ after_packet (belongs story p.moment p.tuple p.flags) (record { 0 = length story }) p count (live_list story p.moment) }
-    ensures none { (story : List Entry) (now : ℕ) → live_list (entry_at now ∷ story) now ≡ live_list story now }
-    ensures later { (story : List Entry) (now later : ℕ) → now ≤ later → live_list story later ≡ live_at later (live_list story now) }
-    ensures distinct { (story : List Entry) (now : ℕ) → IsTrue (has_distinct_ids (live_list story now)) }
+    ensures packet { (limits : Limits) (story : List Entry) (p : Arrival) (count : Count)
+        → live_list limits (entry_of (belongs limits story p.moment p.tuple p.flags) p count ∷ story) p.moment ≡ after_packet (belongs limits story p.moment p.tuple p.flags) (record { 0 = length story }) p count (live_list limits story p.moment) }
+    ensures none { (limits : Limits) (story : List Entry) (now : ℕ) → live_list limits (entry_at now ∷ story) now ≡ live_list limits story now }
+    ensures later { (limits : Limits) (story : List Entry) (now later : ℕ) → now ≤ later → live_list limits story later ≡ live_at limits later (live_list limits story now) }
+    ensures distinct { (limits : Limits) (story : List Entry) (now : ℕ) → IsTrue (has_distinct_ids (live_list limits story now)) }
 {}
 
 /// Lists that are one but for the names of connections answer alike, and stay so.
@@ -51,7 +52,7 @@ pub fn names_aside()
     ensures state { (one other : Belonging) (kind : Kind) → nameless_belonging one ≡ nameless_belonging other → state_of kind one ≡ state_of kind other }
     ensures taken { (held others : List Held) (tuple : Tuple) → map nameless held ≡ map nameless others → is_taken tuple held ≡ is_taken tuple others }
     ensures number { (held others : List Held) → map nameless held ≡ map nameless others → length held ≡ length others }
-    ensures live { (held others : List Held) (now : ℕ) → map nameless held ≡ map nameless others → map nameless (live_at now held) ≡ map nameless (live_at now others) }
+    ensures live { (limits : Limits) (held others : List Held) (now : ℕ) → map nameless held ≡ map nameless others → map nameless (live_at limits now held) ≡ map nameless (live_at limits now others) }
     ensures listed { (held others : List Held) → map nameless held ≡ map nameless others → map connection_of held ≡ map connection_of others }
 {}
 
@@ -67,7 +68,7 @@ pub fn looked_up()
 pub fn still_apart()
     ensures packet { (held : List Held) (id : ConnId) (p : Arrival) (count : Count) → IsTrue (has_distinct_ids held) → IsTrue (are_apart held) → IsBegunApart (belongs_in held p.tuple p.flags) count held
         → IsTrue (are_apart (after_packet (belongs_in held p.tuple p.flags) id p count held)) }
-    ensures live { (held : List Held) (now : ℕ) → IsTrue (are_apart held) → IsTrue (are_apart (live_at now held)) }
+    ensures live { (limits : Limits) (held : List Held) (now : ℕ) → IsTrue (are_apart held) → IsTrue (are_apart (live_at limits now held)) }
 {}
 
 /// No connection comes to have had a packet after the moment of the latest.

@@ -4,6 +4,7 @@
 mod belonging;
 mod connection;
 pub mod laws;
+mod limits;
 mod list_tracker;
 mod step_count;
 mod tracker;
@@ -11,6 +12,7 @@ pub mod trials;
 
 pub use belonging::{Belonging, Place, State};
 pub use connection::{Aged, ConnId, Connection, Direction, Flags, Held, Moment, Phase};
+pub use limits::Limits;
 pub use list_tracker::ListTracker;
 pub use step_count::Steps;
 pub use tracker::{BeginError, LIMIT, Memory, Tracker};

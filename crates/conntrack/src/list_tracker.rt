@@ -7,6 +7,7 @@ ghost use Rattle.conntrack.specs.Held.{are_apart, belongs_in, has_distinct_ids, 
 
 use crate::belonging::{Belonging, Place};
 use crate::connection::{Aged, ConnId, Connection, Direction, Flags, Held, Moment};
+use crate::limits::Limits;
 use crate::step_count::Steps;
 use crate::tracker::{BeginError, LIMIT, Memory, Tracker};
 use ip_headers::Tuple;
@@ -16,6 +17,7 @@ use std::alloc::Global;
 #[derive(Drop)]
 pub struct ListTracker {
     conns: Vec<Held>,
+    limits: Limits,
     ghost distinct: { IsTrue (has_distinct_ids conns.items) },
     ghost apart: { IsTrue (are_apart conns.items) },
 }
@@ -28,31 +30,37 @@ fn is_same(one: Tuple, other: Tuple) -> bool
 }
 
 /// The first that is live and has this original tuple.
-fn find_original(conns: &[Held], tuple: Tuple, now: Moment) -> Option<Held>
-    ensures { result ≡ find (λ h. is_live now h && same_tuple h.original tuple) conns.now }
+fn find_original(conns: &[Held], limits: Limits, tuple: Tuple, now: Moment) -> Option<Held>
+    ensures { result ≡ find (λ h. is_live limits now h && same_tuple h.original tuple) conns.now }
 {
     conns
         .iter()
-        .find(|held| held.is_live(now) && is_same(held.original, tuple))
+        .find(|held| held.is_live(limits, now) && is_same(held.original, tuple))
         .copied()
 }
 
 /// The first that is live and has this reply tuple.
-fn find_reply(conns: &[Held], tuple: Tuple, now: Moment) -> Option<Held>
-    ensures { result ≡ find (λ h. is_live now h && same_tuple h.reply tuple) conns.now }
+fn find_reply(conns: &[Held], limits: Limits, tuple: Tuple, now: Moment) -> Option<Held>
+    ensures { result ≡ find (λ h. is_live limits now h && same_tuple h.reply tuple) conns.now }
 {
     conns
         .iter()
-        .find(|held| held.is_live(now) && is_same(held.reply, tuple))
+        .find(|held| held.is_live(limits, now) && is_same(held.reply, tuple))
         .copied()
 }
 
 /// What a packet belongs to among those that are live.
 #[tactic(auto, using(crate::proofs::Lists::find_filter_rules))]
-fn look_in(conns: &[Held], tuple: Tuple, flags: Flags, now: Moment) -> Belonging
-    ensures { result ≡ belongs_in (live_at now conns.now) tuple flags }
+fn look_in(
+    conns: &[Held],
+    limits: Limits,
+    tuple: Tuple,
+    flags: Flags,
+    now: Moment,
+) -> Belonging
+    ensures { result ≡ belongs_in (live_at limits now conns.now) tuple flags }
 {
-    match find_original(conns, tuple, now) {
+    match find_original(conns, limits, tuple, now) {
         Some(held) => {
             if flags.is_lone_syn() && held.is_closing() {
                 Belonging::Ends(held.id)
@@ -60,7 +68,7 @@ fn look_in(conns: &[Held], tuple: Tuple, flags: Flags, now: Moment) -> Belonging
                 Belonging::Found(Place::of(&held, Direction::Original))
             }
         }
-        None => match find_reply(conns, tuple, now) {
+        None => match find_reply(conns, limits, tuple, now) {
             Some(held) => Belonging::Found(Place::of(&held, Direction::Reply)),
             None => Belonging::Nowhere,
         },
@@ -111,10 +119,10 @@ fn take_out(conns: &mut Vec<Held>, id: ConnId)
 }
 
 /// The first that is dead.
-fn find_dead(conns: &[Held], now: Moment) -> Option<Held>
-    ensures { result ≡ find (λ h. not (is_live now h)) conns.now }
+fn find_dead(conns: &[Held], limits: Limits, now: Moment) -> Option<Held>
+    ensures { result ≡ find (λ h. not (is_live limits now h)) conns.now }
 {
-    conns.iter().find(|held| !held.is_live(now)).copied()
+    conns.iter().find(|held| !held.is_live(limits, now)).copied()
 }
 
 /// The connection of that name.
@@ -170,19 +178,22 @@ fn least_free(conns: &[Held]) -> ConnId
 impl Tracker for ListTracker {
     ghost held = { λ t. t.conns.items };
 
+    ghost limits = { λ t. t.limits };
+
     ghost has_room = { λ t. nat_lt (vec_len t.conns) (vec_capacity t.conns) };
 
     ghost most_slots = { None };
 
-    fn new(alloc: Global) -> Self {
+    fn new(alloc: Global, limits: Limits) -> Self {
         ListTracker {
             conns: Vec::new(alloc),
+            limits,
         }
     }
 
     fn look(&self, tuple: Tuple, flags: Flags, now: Moment, steps: &mut Steps) -> Belonging {
         steps.add(self.conns.len());
-        look_in(&self.conns, tuple, flags, now)
+        look_in(&self.conns, self.limits, tuple, flags, now)
     }
 
     #[tactic(auto, using(crate::proofs::Names::name_rules))]
@@ -253,7 +264,7 @@ impl Tracker for ListTracker {
     #[tactic(auto, using(crate::proofs::Names::name_rules))]
     fn age(&mut self, now: Moment, steps: &mut Steps) -> Option<Aged> {
         steps.add(self.conns.len());
-        match find_dead(&self.conns, now) {
+        match find_dead(&self.conns, self.limits, now) {
             Some(dead) => {
                 take_out(&mut self.conns, dead.id);
                 Some(dead.aged())

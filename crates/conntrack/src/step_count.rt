@@ -1,4 +1,7 @@
 //! A count of the slots that a tracker visits.
+//!
+//! A caller of a tracker makes a count and reads it; `tick` and `add` are for those who write a
+//! tracker, wherever that stands. Nothing lowers a count.
 ghost use Rattle.std.specs.Prelude.{◌≡◌, ◌+◌, ◌-◌, ◌^◌, min};
 
 use std::marker::Model;
@@ -32,14 +35,14 @@ impl Steps {
         self.count
     }
 
-    /// One slot more.
+    /// One slot more; a tracker's call says so at each slot that it visits.
     pub fn tick(&mut self)
         ensures { self.new ≡ min (self.old + 1) (2 ^ 64 - 1) }
     {
         self.count = self.count.saturating_add(1);
     }
 
-    /// Some slots more.
+    /// Some slots more; as `tick`, so many times.
     pub fn add(&mut self, slots: usize)
         ensures { self.new ≡ min (self.old + slots) (2 ^ 64 - 1) }
     {

@@ -5,6 +5,7 @@ ghost use Rattle.conntrack.specs.Stories.{Entry, Stands, belongs};
 
 use crate::belonging::Belonging;
 use crate::connection::{Aged, ConnId, Connection, Direction, Flags, Moment};
+use crate::limits::Limits;
 use crate::step_count::Steps;
 use ip_headers::Tuple;
 use std::alloc::Global;
@@ -30,12 +31,17 @@ pub enum BeginError {
 }
 
 /// A table of connections. Moments don't fall from call to call. `steps` counts the slots that a
-/// call visits.
+/// call visits: a call raises it by those, and never lowers it. The clauses `distinct` and `apart`
+/// are facts of the table that a call is made on, which the call hands out, and no results of it.
 pub trait Tracker: Drop {
     ghost use Rattle.conntrack.specs.declared.connection.Held.{Held};
+    ghost use Rattle.conntrack.specs.declared.limits.Limits.{Limits};
 
     /// What it holds, in order of beginning, the dead that weren't taken out included.
     ghost held: { Self → List Held };
+
+    /// For how long its connections may be idle.
+    ghost limits: { Self → Limits };
 
     /// Whether the next `begin` needs no memory.
     ghost has_room: { Self → Bool };
@@ -43,16 +49,18 @@ pub trait Tracker: Drop {
     /// How many slots a call may visit, if that is bounded.
     ghost most_slots: { Option ℕ };
 
-    /// An empty table.
-    fn new(alloc: Global) -> Self
+    /// An empty table, whose connections may be idle for so long.
+    fn new(alloc: Global, limits: Limits) -> Self
     where
         Self: Sized,
-        ensures { held result ≡ [] };
+        ensures held { held result ≡ [] }
+        ensures limits { Self.limits result ≡ limits };
 
-    /// What a packet with this tuple and these flags belongs to at a moment.
+    /// What a packet with this tuple and these flags belongs to at a moment. `distinct` and `apart`
+    /// tell of the table, whatever is looked up.
     fn look(&self, tuple: Tuple, flags: Flags, now: Moment, steps: &mut Steps) -> Belonging
-        ensures belonging { result ≡ belongs_in (live_at now (held self.now)) tuple flags }
-        ensures story { (story : List Entry) → Stands (held self.now) story now → nameless_belonging result ≡ nameless_belonging (belongs story now tuple flags) }
+        ensures belonging { result ≡ belongs_in (live_at (limits self.now) now (held self.now)) tuple flags }
+        ensures story { (story : List Entry) → Stands (limits self.now) (held self.now) story now → nameless_belonging result ≡ nameless_belonging (belongs (limits self.now) story now tuple flags) }
         ensures distinct { IsTrue (has_distinct_ids (held self.now)) }
         ensures apart { IsTrue (are_apart (held self.now)) }
         ensures steps { IsWithin most_slots steps.old steps.new };
@@ -70,12 +78,14 @@ pub trait Tracker: Drop {
         requires is_held { IsTrue (has_id id (held self.old)) }
         requires later { IsNoneLater now (held self.old) }
         ensures held { held self.new ≡ touched_at id direction flags mark now (held self.old) }
+        ensures limits { limits self.new ≡ limits self.old }
         ensures room { IsTrue (has_room self.old) → IsTrue (has_room self.new) }
         ensures steps { IsWithin most_slots steps.old steps.new };
 
     /// Makes room for the next `begin` that answers `Ok`; `Memory` where there was none to be had.
     fn reserve_one(&mut self) -> Result<(), Memory>
         ensures held { held self.new ≡ held self.old }
+        ensures limits { limits self.new ≡ limits self.old }
         ensures room { OnOk result (IsTrue (has_room self.new)) }
         ensures kept { IsTrue (has_room self.old) → IsTrue (has_room self.new) };
 
@@ -96,6 +106,7 @@ pub trait Tracker: Drop {
         ensures full { (result ≡ Err BeginError.Full) ↔ (most_held ≤ length (held self.old)) }
         ensures clash { (result ≡ Err BeginError.Clash) ↔ ((length (held self.old) < most_held) × IsTrue (is_taken connection.reply (held self.old))) }
         ensures err { OnErr result ((held self.new ≡ held self.old) × IsTrue (has_room self.new)) }
+        ensures limits { limits self.new ≡ limits self.old }
         ensures steps { IsWithin most_slots steps.old steps.new };
 
     /// Takes out the connection of that name.
@@ -103,16 +114,19 @@ pub trait Tracker: Drop {
         requires { IsTrue (has_id id (held self.old)) }
         ensures aged { taken_out id (held self.old) ≡ Some result }
         ensures held { held self.new ≡ without id (held self.old) }
+        ensures limits { limits self.new ≡ limits self.old }
         ensures room { IsTrue (has_room self.old) → IsTrue (has_room self.new) }
         ensures steps { IsWithin most_slots steps.old steps.new };
 
-    /// Takes out one that is dead at a moment; `None` where all are live.
+    /// Takes out one that is dead at a moment; `None` where all are live. `distinct` tells of the
+    /// table before the call, whatever is taken out.
     fn age(&mut self, now: Moment, steps: &mut Steps) -> Option<Aged>
         requires { IsNoneLater now (held self.old) }
-        ensures some { IfSome result (λ aged. (taken_out aged.id (held self.old) ≡ Some aged) × (held self.new ≡ without aged.id (held self.old)) × (live_at now (held self.new) ≡ live_at now (held self.old))) }
+        ensures some { IfSome result (λ aged. (taken_out aged.id (held self.old) ≡ Some aged) × (held self.new ≡ without aged.id (held self.old)) × (live_at (limits self.old) now (held self.new) ≡ live_at (limits self.old) now (held self.old))) }
         ensures distinct { IsTrue (has_distinct_ids (held self.old)) }
         ensures fewer { IfSome result (λ aged. length (held self.new) < length (held self.old)) }
-        ensures none { IfNone result ((held self.new ≡ held self.old) × (live_at now (held self.old) ≡ held self.old)) }
+        ensures none { IfNone result ((held self.new ≡ held self.old) × (live_at (limits self.old) now (held self.old) ≡ held self.old)) }
+        ensures limits { limits self.new ≡ limits self.old }
         ensures room { IsTrue (has_room self.old) → IsTrue (has_room self.new) }
         ensures steps { IsWithin most_slots steps.old steps.new };
 

@@ -7,6 +7,7 @@ ghost use Rattle.conntrack.specs.declared.belonging.State.TheVariants as states;
 ghost use Rattle.conntrack.specs.declared.connection.Direction.TheVariants as ways;
 ghost use Rattle.conntrack.specs.declared.connection.Phase.TheVariants as phases;
 ghost use Rattle.conntrack.specs.Phases.{no_flags, seconds};
+ghost use Rattle.conntrack.specs.Limits.{usual_limits};
 ghost use Rattle.conntrack.specs.Held.{state_of};
 ghost use Rattle.conntrack.specs.Stories.{belongs, phase};
 ghost use Rattle.conntrack.specs.Trials.{alive_at, asked, begins, begins_anew, begins_as_one, both_asked, fin_ack, from_a, is_dropped, opened, plain_ack, question, refused, sends, syn, syn_ack, web};
@@ -23,9 +24,9 @@ pub fn simultaneous_open()
 
 /// A connection of UDP lives for 300 seconds after its last packet that wasn't dropped.
 pub fn answer_at_the_limit()
-    ensures within { state_of kinds.Udp (belongs asked (seconds 300 - 1000) (inverse question) no_flags) ≡ states.Established }
-    ensures at_limit { belongs asked (seconds 300) (inverse question) no_flags ≡ belongings.Nowhere }
-    ensures again { state_of kinds.Udp (belongs asked (seconds 300 - 1) question no_flags) ≡ states.New }
+    ensures within { state_of kinds.Udp (belongs usual_limits asked (seconds 300 - 1000) (inverse question) no_flags) ≡ states.Established }
+    ensures at_limit { belongs usual_limits asked (seconds 300) (inverse question) no_flags ≡ belongings.Nowhere }
+    ensures again { state_of kinds.Udp (belongs usual_limits asked (seconds 300 - 1) question no_flags) ≡ states.New }
     ensures prolonged { alive_at (seconds 400 - 1) (sends ways.Original (seconds 100) no_flags ∷ asked) ≡ 0 ∷ [] }
     ensures dropped { alive_at (seconds 300) (is_dropped (seconds 100) no_flags ∷ asked) ≡ [] }
 {}
@@ -34,12 +35,12 @@ pub fn answer_at_the_limit()
 /// anew; one that comes back doesn't, nor does one on a connection that isn't closing.
 pub fn reset_then_syn()
     ensures closing { phase 0 refused ≡ phases.Closing }
-    ensures ends { belongs refused (seconds 2) web syn ≡ belongings.Ends (record { 0 = 0 }) }
-    ensures state { state_of kinds.Tcp (belongs refused (seconds 2) web syn) ≡ states.New }
+    ensures ends { belongs usual_limits refused (seconds 2) web syn ≡ belongings.Ends (record { 0 = 0 }) }
+    ensures state { state_of kinds.Tcp (belongs usual_limits refused (seconds 2) web syn) ≡ states.New }
     ensures anew { alive_at (seconds 2) (begins_anew web (seconds 2) ∷ refused) ≡ 2 ∷ [] }
-    ensures not_lone { state_of kinds.Tcp (belongs refused (seconds 2) web syn_ack) ≡ states.Established }
-    ensures back { state_of kinds.Tcp (belongs refused (seconds 2) (inverse web) syn) ≡ states.Established }
-    ensures open { state_of kinds.Tcp (belongs opened (seconds 4) web syn) ≡ states.Established }
+    ensures not_lone { state_of kinds.Tcp (belongs usual_limits refused (seconds 2) web syn_ack) ≡ states.Established }
+    ensures back { state_of kinds.Tcp (belongs usual_limits refused (seconds 2) (inverse web) syn) ≡ states.Established }
+    ensures open { state_of kinds.Tcp (belongs usual_limits opened (seconds 4) web syn) ≡ states.Established }
 {}
 
 /// One FIN leaves a connection established, FIN from both ends closes it, and then it lives for 240
@@ -55,8 +56,8 @@ pub fn leave_taken()
 pub fn other_kinds()
     ensures ask { alive_at (seconds 60 - 1) (begins (from_a kinds.Ask 7 0) 0 no_flags ∷ []) ≡ 0 ∷ [] }
     ensures ask_at_limit { alive_at (seconds 60) (begins (from_a kinds.Ask 7 0) 0 no_flags ∷ []) ≡ [] }
-    ensures answer { state_of kinds.Answer (belongs (begins (from_a kinds.Ask 7 0) 0 no_flags ∷ []) 0 (inverse (from_a kinds.Ask 7 0)) no_flags) ≡ states.Established }
-    ensures other_answer { state_of kinds.Answer (belongs (begins (from_a kinds.Ask 7 0) 0 no_flags ∷ []) 0 (inverse (from_a kinds.Ask 8 0)) no_flags) ≡ states.Invalid }
+    ensures answer { state_of kinds.Answer (belongs usual_limits (begins (from_a kinds.Ask 7 0) 0 no_flags ∷ []) 0 (inverse (from_a kinds.Ask 7 0)) no_flags) ≡ states.Established }
+    ensures other_answer { state_of kinds.Answer (belongs usual_limits (begins (from_a kinds.Ask 7 0) 0 no_flags ∷ []) 0 (inverse (from_a kinds.Ask 8 0)) no_flags) ≡ states.Invalid }
     ensures other { alive_at (seconds 600 - 1) (begins (from_a (kinds.Other 47) 0 0) 0 no_flags ∷ []) ≡ 0 ∷ [] }
     ensures other_at_limit { alive_at (seconds 600) (begins (from_a (kinds.Other 47) 0 0) 0 no_flags ∷ []) ≡ [] }
 {}
@@ -64,7 +65,7 @@ pub fn other_kinds()
 /// A port of UDP isn't one of TCP, and a connection whose two tuples are one is met in direction
 /// original.
 pub fn told_apart()
-    ensures kinds { belongs asked 0 (from_a kinds.Tcp 5000 53) plain_ack ≡ belongings.Nowhere }
-    ensures ports { belongs asked 0 (from_a kinds.Udp 5001 53) no_flags ≡ belongings.Nowhere }
-    ensures one { state_of kinds.Udp (belongs (begins_as_one question ∷ []) 0 question no_flags) ≡ states.New }
+    ensures kinds { belongs usual_limits asked 0 (from_a kinds.Tcp 5000 53) plain_ack ≡ belongings.Nowhere }
+    ensures ports { belongs usual_limits asked 0 (from_a kinds.Udp 5001 53) no_flags ≡ belongings.Nowhere }
+    ensures one { state_of kinds.Udp (belongs usual_limits (begins_as_one question ∷ []) 0 question no_flags) ≡ states.New }
 {}

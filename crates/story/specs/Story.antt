@@ -1,6 +1,7 @@
 -- A story: the list of entries of all earlier records, the newest first. Nothing is ever removed.
-use Rattle.std.specs.Prelude.{◌≡◌, ℕ, List, [], ◌∷◌, ◌++◌, length, map, Option, Some, None}
+use Rattle.std.specs.Prelude.{◌≡◌, ℕ, Bool, List, [], ◌∷◌, ◌++◌, length, map, Option, Some, None}
 use Rattle.std.specs.List.{flat_map}
+use Rattle.ip_headers.specs.declared.tuple.Tuple.{Tuple}
 use Rattle.conntrack.specs.declared.connection.Held.{Held}
 use Rattle.conntrack.specs.Stories as connections
 use Rattle.conntrack.specs.Stories.{does_begin, live_list}
@@ -9,13 +10,25 @@ use Rattle.rule_meaning.specs.declared.event.Event.{Event}
 use Rattle.story.specs.declared.entry.Entry as lent
 use Rattle.story.specs.declared.outcome.Outcome.{Outcome}
 use Rattle.story.specs.declared.outcome.Outcome.TheVariants.{Passed, Local, Dropped}
+use Rattle.story.specs.Setup.{Setup, limits_of}
 
--- what became of a record: what is recorded of it as far as connections go, its moment among that, the total length of its packet as received, 0 where it carries none, what happened while the rules ran on it, how it ended, and the bytes of the packet that left, none where none did
+-- what became of a record
 pub record Entry : Type 0 where
+  -- what is recorded of it as far as connections go, its moment among that
   pub tracked : connections.Entry
+  -- the tuple of its packet as received, by which its connection was looked up; none where it wasn't looked up, or where
+  -- the packet has no tuple
+  pub sought : Option Tuple
+  -- whether ports were named when a port was chosen for the connection that its packet began; none where none was
+  -- chosen afresh, as always while nothing is translated
+  pub fresh : Option Bool
+  -- the total length of its packet as received, in bytes; 0 where it carries none
   pub length : ℕ
+  -- what happened while the rules ran on it, in order
   pub events : List Event
+  -- how it ended
   pub outcome : Outcome
+  -- the bytes of the packet that left; none where none did
   pub packet : List ℕ
 
 -- as far as connections go
@@ -27,8 +40,8 @@ abbrev pub moment_of : List Entry → ℕ
 moment_of story = connections.moment_of (tracked_of story)
 
 -- the connections that are alive at that moment, in the order in which they were begun
-abbrev pub live_in : List Entry → List Held
-live_in story = live_list (tracked_of story) (moment_of story)
+abbrev pub live_in : Setup → List Entry → List Held
+live_in setup story = live_list (limits_of setup) (tracked_of story) (moment_of story)
 
 -- the entries in the order of their records
 abbrev pub in_order : List Entry → List Entry
