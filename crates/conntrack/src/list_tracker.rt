@@ -184,10 +184,10 @@ impl Tracker for ListTracker {
 
     ghost most_slots = { None };
 
-    fn new(alloc: Global, limits: Limits) -> Self {
+    fn new(alloc: Global, idle: Limits) -> Self {
         ListTracker {
             conns: Vec::new(alloc),
-            limits,
+            limits: idle,
         }
     }
 

@@ -2,7 +2,7 @@
 //!
 //! A caller of a tracker makes a count and reads it; `tick` and `add` are for those who write a
 //! tracker, wherever that stands. Nothing lowers a count.
-ghost use Rattle.std.specs.Prelude.{◌≡◌, ◌+◌, ◌-◌, ◌^◌, min};
+ghost use Rattle.std.specs.Prelude.{◌≡◌, ◌≤◌, ◌+◌, ◌-◌, ◌^◌, min};
 
 use std::marker::Model;
 
@@ -37,14 +37,16 @@ impl Steps {
 
     /// One slot more; a tracker's call says so at each slot that it visits.
     pub fn tick(&mut self)
-        ensures { self.new ≡ min (self.old + 1) (2 ^ 64 - 1) }
+        ensures count { self.new ≡ min (self.old + 1) (2 ^ 64 - 1) }
+        ensures rises { self.old ≤ self.new }
     {
         self.count = self.count.saturating_add(1);
     }
 
     /// Some slots more; as `tick`, so many times.
     pub fn add(&mut self, slots: usize)
-        ensures { self.new ≡ min (self.old + slots) (2 ^ 64 - 1) }
+        ensures count { self.new ≡ min (self.old + slots) (2 ^ 64 - 1) }
+        ensures rises { self.old ≤ self.new }
     {
         self.count = self.count.saturating_add(slots as u64);
     }

@@ -50,11 +50,11 @@ pub trait Tracker: Drop {
     ghost most_slots: { Option ℕ };
 
     /// An empty table, whose connections may be idle for so long.
-    fn new(alloc: Global, limits: Limits) -> Self
+    fn new(alloc: Global, idle: Limits) -> Self
     where
         Self: Sized,
         ensures held { held result ≡ [] }
-        ensures limits { Self.limits result ≡ limits };
+        ensures limits { limits result ≡ idle };
 
     /// What a packet with this tuple and these flags belongs to at a moment. `distinct` and `apart`
     /// tell of the table, whatever is looked up.

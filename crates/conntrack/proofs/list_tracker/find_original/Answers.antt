@@ -7,4 +7,4 @@ use Rattle.conntrack.specs.Tuples.{same_tuple}
 use Rattle.conntrack.proofs.list_tracker.find_original.Goals as goal
 
 pub returns : goal.returns
-returns c = c.copied.ensures ∙ find_from_yields_List (λ (h : Held). is_live c.args.now h && same_tuple h.original c.args.tuple) _ _ c.find.result c.find.ensures.ran (YieldsList-from_slice c.args.conns.now cc) (λ x b q k. search (rules, tests))
+returns c = c.copied.ensures ∙ find_from_yields_List (λ (h : Held). is_live c.args.limits c.args.now h && same_tuple h.original c.args.tuple) _ _ c.find.result c.find.ensures.ran (YieldsList-from_slice c.args.conns.now cc) (λ x b q k. search (rules, tests))
