@@ -12,6 +12,7 @@ use Rattle.conntrack.specs.declared.connection.ConnId.{ConnId}
 use Rattle.ip_headers.specs.declared.tuple.Tuple.{Tuple}
 use Rattle.conntrack.specs.declared.connection.Flags.{Flags}
 use Rattle.conntrack.specs.declared.connection.Direction.{Direction}
+use Rattle.conntrack.specs.declared.limits.Limits.{Limits}
 use Rattle.conntrack.specs.Held.{has_id, same_id, has_distinct_ids, touched, touched_at, without, is_live, live_at, is_taken, is_incoming, are_apart}
 use Rattle.conntrack.specs.steps.Names.{has_ids_below}
 use Rattle.conntrack.specs.Tuples.{same_tuple}
@@ -110,23 +111,23 @@ module _ (p : Held → Bool) where
       let parts = and_parts (not (has_id x.id held)) (has_distinct_ids held) d in
       named_step (p x) x h held (not-true _ parts.0) e (found_by_name held h parts.1)
 
-dead_step : (live : Bool) (now : ℕ) (x h : Held) (held : List Held) → is_live now x ≡ live → not (has_id x.id held) ≡ true → cond (not live) (Some x) (find (λ y. not (is_live now y)) held) ≡ Some h →
-    (find (λ y. not (is_live now y)) held ≡ Some h → live_at now (without h.id held) ≡ live_at now held) → live_at now (without h.id (x ∷ held)) ≡ live_at now (x ∷ held)
-dead_step true now x h held l d e k =
-    let other : same_id h.id x ≡ false = other_name x held h (not-true _ d) (has_id-found (λ y. not (is_live now y)) held h e) in
+dead_step : (limits : Limits) (live : Bool) (now : ℕ) (x h : Held) (held : List Held) → is_live limits now x ≡ live → not (has_id x.id held) ≡ true → cond (not live) (Some x) (find (λ y. not (is_live limits now y)) held) ≡ Some h →
+    (find (λ y. not (is_live limits now y)) held ≡ Some h → live_at limits now (without h.id held) ≡ live_at limits now held) → live_at limits now (without h.id (x ∷ held)) ≡ live_at limits now (x ∷ held)
+dead_step limits true now x h held l d e k =
+    let other : same_id h.id x ≡ false = other_name x held h (not-true _ d) (has_id-found (λ y. not (is_live limits now y)) held h e) in
     rw (other, l, k e)
-dead_step false now x h held l d e k =
+dead_step limits false now x h held l d e k =
     let s : x ≡ h = cc in
     let same : same_id h.id x ≡ true = rw s (eq-eqb h.id.0 h.id.0 refl) in
     let rest : without h.id held ≡ held = rw (← s) (without_new x.id held (not-true _ d)) in
     rw (same, l, rest)
 
 -- to take out the first dead one leaves the live ones
-pub live_at-without_dead : (now : ℕ) (held : List Held) (h : Held) → has_distinct_ids held ≡ true → find (λ x. not (is_live now x)) held ≡ Some h → live_at now (without h.id held) ≡ live_at now held
-live_at-without_dead now [] h d e = refl
-live_at-without_dead now (x ∷ held) h d e =
+pub live_at-without_dead : (limits : Limits) (now : ℕ) (held : List Held) (h : Held) → has_distinct_ids held ≡ true → find (λ x. not (is_live limits now x)) held ≡ Some h → live_at limits now (without h.id held) ≡ live_at limits now held
+live_at-without_dead limits now [] h d e = refl
+live_at-without_dead limits now (x ∷ held) h d e =
     let parts = and_parts _ _ d in
-    dead_step (is_live now x) now x h held refl parts.0 e (live_at-without_dead now held h parts.1)
+    dead_step limits (is_live limits now x) now x h held refl parts.0 e (live_at-without_dead limits now held h parts.1)
 
 -- incoming tuples stay apart
 is_taken-filter : (p : Held → Bool) (tuple : Tuple) (held : List Held) → is_taken tuple held ≡ false → is_taken tuple (filter p held) ≡ false

@@ -11,6 +11,7 @@ use Rattle.conntrack.specs.declared.connection.Connection.{Connection}
 use Rattle.conntrack.specs.declared.connection.Direction.{Direction}
 use Rattle.conntrack.specs.declared.connection.Flags.{Flags}
 use Rattle.conntrack.specs.declared.connection.Held.{Held}
+use Rattle.conntrack.specs.declared.limits.Limits.{Limits}
 use Rattle.conntrack.specs.declared.belonging.Belonging.{Belonging}
 use Rattle.conntrack.specs.declared.belonging.Belonging.TheVariants.{Nowhere, Ends, Found}
 use Rattle.conntrack.specs.declared.belonging.Place.{Place}
@@ -33,18 +34,18 @@ found_in held tuple flags = found_is_held held tuple flags
 
 -- ---- what is live of it
 
-live_begun : (id : ConnId) (p : Arrival) (count : Count) (held : List Held) → live_at p.moment (with_begun id p count held) ≡ with_begun id p count (live_at p.moment held)
-live_begun id p Uncounted held = refl
-live_begun id p (Counted mark reply source dest) held =
+live_begun : (limits : Limits) (id : ConnId) (p : Arrival) (count : Count) (held : List Held) → live_at limits p.moment (with_begun id p count held) ≡ with_begun id p count (live_at limits p.moment held)
+live_begun limits id p Uncounted held = refl
+live_begun limits id p (Counted mark reply source dest) held =
     let connection : Connection = record { original = p.tuple; reply = reply; mark = mark; last = p.moment; source = source; dest = dest } in
-    rw (filter-append, live_at_last p.moment (begun_with id connection p.flags) refl) refl
+    rw (filter-append, live_at_last limits p.moment (begun_with id connection p.flags) refl) refl
 
-pub live_after : (b : Belonging) (id : ConnId) (p : Arrival) (count : Count) (held : List Held) → has_distinct_ids held ≡ true → IsFoundIn b (live_at p.moment held) →
-    live_at p.moment (after_packet b id p count held) ≡ after_packet b id p count (live_at p.moment held)
-live_after (Found place) id p Uncounted held d h = refl
-live_after (Found place) id p (Counted mark reply source dest) held d h = live_at-touched_at place.id place.direction p.flags mark p.moment held d (h place refl)
-live_after Nowhere id p count held d h = live_begun id p count held
-live_after (Ends ended) id p count held d h = live_begun id p count (without ended held) ∙ ap (with_begun id p count) (filter-swap (is_live p.moment) (λ h. not (same_id ended h)) held)
+pub live_after : (limits : Limits) (b : Belonging) (id : ConnId) (p : Arrival) (count : Count) (held : List Held) → has_distinct_ids held ≡ true → IsFoundIn b (live_at limits p.moment held) →
+    live_at limits p.moment (after_packet b id p count held) ≡ after_packet b id p count (live_at limits p.moment held)
+live_after limits (Found place) id p Uncounted held d h = refl
+live_after limits (Found place) id p (Counted mark reply source dest) held d h = live_at-touched_at limits place.id place.direction p.flags mark p.moment held d (h place refl)
+live_after limits Nowhere id p count held d h = live_begun limits id p count held
+live_after limits (Ends ended) id p count held d h = live_begun limits id p count (without ended held) ∙ ap (with_begun id p count) (filter-swap (is_live limits p.moment) (λ h. not (same_id ended h)) held)
 
 -- ---- names
 
@@ -100,58 +101,58 @@ changed_is_after Nowhere p (Counted mark reply source dest) n live = rw (map-sam
 changed_is_after (Ends id) p Uncounted n live = rw (append-nil, map-same) refl
 changed_is_after (Ends id) p (Counted mark reply source dest) n live = rw map-same refl
 
-pub recorded_by : (b : Belonging) (p : Arrival) (count : Count) (story : List Entry) → IsFoundIn b (live_list story p.moment) →
-    live_list (entry_of b p count ∷ story) p.moment ≡ after_packet b (record { 0 = length story }) p count (live_list story p.moment)
-recorded_by b p count story h = live_list-cons (entry_of b p count) story (touch_held b p count (live_list story p.moment) h) ∙ changed_is_after b p count (length story) (live_list story p.moment)
+pub recorded_by : (limits : Limits) (b : Belonging) (p : Arrival) (count : Count) (story : List Entry) → IsFoundIn b (live_list limits story p.moment) →
+    live_list limits (entry_of b p count ∷ story) p.moment ≡ after_packet b (record { 0 = length story }) p count (live_list limits story p.moment)
+recorded_by limits b p count story h = live_list-cons limits (entry_of b p count) story (touch_held b p count (live_list limits story p.moment) h) ∙ changed_is_after b p count (length story) (live_list limits story p.moment)
 
-pub recorded : (p : Arrival) (count : Count) (story : List Entry) →
-    live_list (entry_of (belongs story p.moment p.tuple p.flags) p count ∷ story) p.moment ≡ after_packet (belongs story p.moment p.tuple p.flags) (record { 0 = length story }) p count (live_list story p.moment)
-recorded p count story = recorded_by _ p count story (found_in (live_list story p.moment) p.tuple p.flags)
+pub recorded : (limits : Limits) (p : Arrival) (count : Count) (story : List Entry) →
+    live_list limits (entry_of (belongs limits story p.moment p.tuple p.flags) p count ∷ story) p.moment ≡ after_packet (belongs limits story p.moment p.tuple p.flags) (record { 0 = length story }) p count (live_list limits story p.moment)
+recorded limits p count story = recorded_by limits _ p count story (found_in (live_list limits story p.moment) p.tuple p.flags)
 
-pub recorded_nothing : (story : List Entry) (now : ℕ) (tuple : Tuple) → live_list (entry_at now ∷ story) now ≡ live_list story now
-recorded_nothing story now tuple =
+pub recorded_nothing : (limits : Limits) (story : List Entry) (now : ℕ) (tuple : Tuple) → live_list limits (entry_at now ∷ story) now ≡ live_list limits story now
+recorded_nothing limits story now tuple =
     let p : Arrival = record { tuple = tuple; flags = no_flags; moment = now } in
-    recorded_by Nowhere p Uncounted story (λ place e. cc)
+    recorded_by limits Nowhere p Uncounted story (λ place e. cc)
 
-pub live_list-later : (story : List Entry) (now later : ℕ) → now ≤ later → live_list story later ≡ live_at later (live_list story now)
-live_list-later story now later le = live_list-unended story later ∙ sym (live_at-later now later _ le) ∙ ap (live_at later) (sym (live_list-unended story now))
+pub live_list-later : (limits : Limits) (story : List Entry) (now later : ℕ) → now ≤ later → live_list limits story later ≡ live_at limits later (live_list limits story now)
+live_list-later limits story now later le = live_list-unended limits story later ∙ sym (live_at-later limits now later _ le) ∙ ap (live_at limits later) (sym (live_list-unended limits story now))
 
 -- ---- what stands for a story
 
-pub stands_later : (held : List Held) (story : List Entry) (now later : ℕ) → now ≤ later → Stands held story now → Stands held story later
-stands_later held story now later le s = record {
+pub stands_later : (limits : Limits) (held : List Held) (story : List Entry) (now later : ℕ) → now ≤ later → Stands limits held story now → Stands limits held story later
+stands_later limits held story now later le s = record {
   reached = omega (arith, s.reached);
   live =
-      ap (map nameless) (sym (live_at-later now later held le))
-      ∙ alike_later (live_at now held) (live_list story now) s.live
-      ∙ ap (map nameless) (sym (live_list-later story now later le));
+      ap (map nameless) (sym (live_at-later limits now later held le))
+      ∙ alike_later (live_at limits now held) (live_list limits story now) s.live
+      ∙ ap (map nameless) (sym (live_list-later limits story now later le));
 }
   where
     one_later : (b : Bool) (x y : Held) (xs ys : List Held) → nameless x ≡ nameless y → map nameless xs ≡ map nameless ys → map nameless (cond b (x ∷ xs) xs) ≡ map nameless (cond b (y ∷ ys) ys)
     one_later true x y xs ys n e = cc
     one_later false x y xs ys n e = e
 
-    alike_later : (xs ys : List Held) → map nameless xs ≡ map nameless ys → map nameless (live_at later xs) ≡ map nameless (live_at later ys)
+    alike_later : (xs ys : List Held) → map nameless xs ≡ map nameless ys → map nameless (live_at limits later xs) ≡ map nameless (live_at limits later ys)
     alike_later [] [] e = refl
     alike_later [] (y ∷ ys) e = cc
     alike_later (x ∷ xs) [] e = cc
     alike_later (x ∷ xs) (y ∷ ys) e =
         let heads : nameless x ≡ nameless y = cc in
         let tails : map nameless xs ≡ map nameless ys = cc in
-        let same : is_live later x ≡ is_live later y = ap (is_live later) heads in
-        one_later (is_live later x) x y (live_at later xs) (live_at later ys) heads (alike_later xs ys tails) ∙ ap (λ b. map nameless (cond b (y ∷ live_at later ys) (live_at later ys))) same
+        let same : is_live limits later x ≡ is_live limits later y = ap (is_live limits later) heads in
+        one_later (is_live limits later x) x y (live_at limits later xs) (live_at limits later ys) heads (alike_later xs ys tails) ∙ ap (λ b. map nameless (cond b (y ∷ live_at limits later ys) (live_at limits later ys))) same
 
-pub stands_after : (held : List Held) (story : List Entry) (id : ConnId) (p : Arrival) (count : Count) → has_distinct_ids held ≡ true → Stands held story p.moment →
-    Stands (after_packet (belongs_in (live_at p.moment held) p.tuple p.flags) id p count held) (entry_of (belongs story p.moment p.tuple p.flags) p count ∷ story) p.moment
-stands_after held story id p count d s =
-    let live = live_at p.moment held in
-    let told = live_list story p.moment in
+pub stands_after : (limits : Limits) (held : List Held) (story : List Entry) (id : ConnId) (p : Arrival) (count : Count) → has_distinct_ids held ≡ true → Stands limits held story p.moment →
+    Stands limits (after_packet (belongs_in (live_at limits p.moment held) p.tuple p.flags) id p count held) (entry_of (belongs limits story p.moment p.tuple p.flags) p count ∷ story) p.moment
+stands_after limits held story id p count d s =
+    let live = live_at limits p.moment held in
+    let told = live_list limits story p.moment in
     record {
       reached = omega arith;
       live =
-          ap (map nameless) (live_after (belongs_in live p.tuple p.flags) id p count held d (found_in live p.tuple p.flags))
-          ∙ packet_alike live told s.live (distinct-filter (is_live p.moment) held d) (live_list-distinct story p.moment) id (record { 0 = length story }) p count
-          ∙ ap (map nameless) (sym (recorded p count story));
+          ap (map nameless) (live_after limits (belongs_in live p.tuple p.flags) id p count held d (found_in live p.tuple p.flags))
+          ∙ packet_alike live told s.live (distinct-filter (is_live limits p.moment) held d) (live_list-distinct limits story p.moment) id (record { 0 = length story }) p count
+          ∙ ap (map nameless) (sym (recorded limits p count story));
     }
 
 -- ---- tuples stay apart
@@ -229,16 +230,16 @@ listed_alike held others e = listed_nameless held ∙ ap (map connection_of) e �
 pub length_alike : (held others : List Held) → map nameless held ≡ map nameless others → length held ≡ length others
 length_alike held others e = sym (length-map held nameless) ∙ ap length e ∙ length-map others nameless
 
-live_nameless : (now : ℕ) (held : List Held) → map nameless (live_at now held) ≡ live_at now (map nameless held)
-live_nameless now [] = refl
-live_nameless now (x ∷ held) = one_live (is_live now x) (live_nameless now held)
+live_nameless : (limits : Limits) (now : ℕ) (held : List Held) → map nameless (live_at limits now held) ≡ live_at limits now (map nameless held)
+live_nameless limits now [] = refl
+live_nameless limits now (x ∷ held) = one_live (is_live limits now x) (live_nameless limits now held)
   where
-    one_live : (b : Bool) → map nameless (live_at now held) ≡ live_at now (map nameless held) → map nameless (cond b (x ∷ live_at now held) (live_at now held)) ≡ cond b (nameless x ∷ live_at now (map nameless held)) (live_at now (map nameless held))
+    one_live : (b : Bool) → map nameless (live_at limits now held) ≡ live_at limits now (map nameless held) → map nameless (cond b (x ∷ live_at limits now held) (live_at limits now held)) ≡ cond b (nameless x ∷ live_at limits now (map nameless held)) (live_at limits now (map nameless held))
     one_live true e = ap (λ hs. nameless x ∷ hs) e
     one_live false e = e
 
-pub live_alike : (held others : List Held) (now : ℕ) → map nameless held ≡ map nameless others → map nameless (live_at now held) ≡ map nameless (live_at now others)
-live_alike held others now e = live_nameless now held ∙ ap (live_at now) e ∙ sym (live_nameless now others)
+pub live_alike : (limits : Limits) (held others : List Held) (now : ℕ) → map nameless held ≡ map nameless others → map nameless (live_at limits now held) ≡ map nameless (live_at limits now others)
+live_alike limits held others now e = live_nameless limits now held ∙ ap (live_at limits now) e ∙ sym (live_nameless limits now others)
 
 state_nameless : (kind : Kind) (b : Belonging) → state_of kind b ≡ state_of kind (nameless_belonging b)
 state_nameless kind Nowhere = refl

@@ -5,15 +5,12 @@ use Rattle.std.specs.List.{AllByRecursion}
 use Rattle.std.proofs.lemmas.Bool.{ne_eqb, eq-eqb}
 use Rattle.std.proofs.lemmas.List.{map-append}
 use Rattle.std.proofs.lemmas.List.Elements.{filter-append}
-use Rattle.ip_headers.specs.declared.tuple.Mapping.{Mapping}
-use Rattle.ip_headers.specs.declared.tuple.Tuple.{Tuple}
-use Rattle.conntrack.specs.declared.connection.Connection.{Connection}
-use Rattle.conntrack.specs.declared.connection.ConnId.{ConnId}
 use Rattle.conntrack.specs.declared.connection.Direction.{Direction}
 use Rattle.conntrack.specs.declared.connection.Flags.{Flags}
+use Rattle.conntrack.specs.declared.limits.Limits.{Limits}
 use Rattle.conntrack.specs.Held.{is_live, live_at, touched, begun_with}
-use Rattle.conntrack.specs.Stories.{Entry, What, Nothing, Begins, Touches, begun_in, number_if_begins, is_ended, is_that, connection_in, told, beginning_of, entries_of, does_touch, live_list}
-use Rattle.conntrack.specs.steps.Changes.{unended, changed_by, touched_if, begun_by}
+use Rattle.conntrack.specs.Stories.{Beginning, Entry, What, Nothing, Begins, Touches, begun_in, number_if_begins, is_ended, is_that, connection_in, told, beginning_of, entries_of, does_touch, live_list}
+use Rattle.conntrack.specs.steps.Changes.{unended, changed_by, connection_begun, touched_if, begun_by}
 
 -- a filter and a map that change along
 pub map-filter-change : {A B : Type 0} (f g : A → B) (p q : A → Bool) (r : B → Bool) (u : B → B) (cs : List A) → AllByRecursion (λ c. (p c ≡ (q c && r (f c))) × (g c ≡ u (f c))) cs → map g (filter p cs) ≡ map u (filter r (map f (filter q cs)))
@@ -30,7 +27,7 @@ All_more n (x ∷ xs) h = (omega (arith, h.0), All_more n xs h.1)
 
 number_below : (n : ℕ) (w : What) → AllByRecursion (λ c. c < suc n) (number_if_begins n w)
 number_below n Nothing = tt
-number_below n (Begins original reply source dest) = (omega arith, tt)
+number_below n (Begins b) = (omega arith, tt)
 number_below n (Touches k direction) = tt
 
 -- the numbers of a story's connections are below its length
@@ -50,17 +47,17 @@ is_ended-cons e story c below =
     let other : eqb (length story) c ≡ false = ne_eqb _ _ (λ same. omega arith) in
     rw other (not-or (is_that c e.ended) (is_ended c story))
 
-touch_or_not : (b : Bool) (c k : ℕ) (begun : What) (direction : Direction) (moment : ℕ) (flags : Flags) (mark : ℕ) (ended : Option ℕ) (entries : List Entry) →
+touch_or_not : (b : Bool) (c k : ℕ) (begun : Beginning) (direction : Direction) (moment : ℕ) (flags : Flags) (mark : ℕ) (ended : Option ℕ) (entries : List Entry) →
     let e : Entry = record { moment = moment; flags = flags; mark = mark; what = Touches k direction; ended = ended } in
     told c begun (cond b (e ∷ entries) entries) ≡ cond b (touched direction flags mark moment (told c begun entries)) (told c begun entries)
 touch_or_not true c k begun direction moment flags mark ended entries = refl
 touch_or_not false c k begun direction moment flags mark ended entries = refl
 
-conn_by_what : (what : What) (moment : ℕ) (flags : Flags) (mark : ℕ) (ended : Option ℕ) (begun : What) (entries : List Entry) (c : ℕ) →
+conn_by_what : (what : What) (moment : ℕ) (flags : Flags) (mark : ℕ) (ended : Option ℕ) (begun : Beginning) (entries : List Entry) (c : ℕ) →
     let e : Entry = record { moment = moment; flags = flags; mark = mark; what = what; ended = ended } in
     told c begun (cond (does_touch c what) (e ∷ entries) entries) ≡ touched_if what e (told c begun entries)
 conn_by_what Nothing moment flags mark ended begun entries c = refl
-conn_by_what (Begins original reply source dest) moment flags mark ended begun entries c = refl
+conn_by_what (Begins b) moment flags mark ended begun entries c = refl
 conn_by_what (Touches k direction) moment flags mark ended begun entries c = touch_or_not (eqb c k) c k begun direction moment flags mark ended entries
 
 connection_in-cons : (e : Entry) (story : List Entry) (c : ℕ) → c < length story → connection_in c (e ∷ story) ≡ touched_if e.what e (connection_in c story)
@@ -83,20 +80,19 @@ first_flags : (syn ack fin rst : Bool) →
     seen ≡ flags
 first_flags syn ack fin rst = rw (or-false syn, or-false ack, or-false fin, or-false rst) refl
 
-told_first : (n : ℕ) (original reply : Tuple) (source dest : Option Mapping) (moment : ℕ) (flags : Flags) (mark : ℕ) (ended : Option ℕ) →
-    let id : ConnId = record { 0 = n } in
-    let connection : Connection = record { original = original; reply = reply; mark = mark; last = moment; source = source; dest = dest } in
-    told n (Begins original reply source dest) (record { moment = moment; flags = flags; mark = mark; what = Begins original reply source dest; ended = ended } ∷ []) ≡ begun_with id connection flags
-told_first n original reply source dest moment flags mark ended = rw (first_flags flags.syn flags.ack flags.fin flags.rst) refl
+told_first : (n : ℕ) (b : Beginning) (moment : ℕ) (flags : Flags) (mark : ℕ) (ended : Option ℕ) →
+    let e : Entry = record { moment = moment; flags = flags; mark = mark; what = Begins b; ended = ended } in
+    told n b (e ∷ []) ≡ begun_with (record { 0 = n }) (connection_begun b e) flags
+told_first n b moment flags mark ended = rw (first_flags flags.syn flags.ack flags.fin flags.rst) refl
 
 -- the connection that the entry began
 begun_last : (what : What) (moment : ℕ) (flags : Flags) (mark : ℕ) (ended : Option ℕ) (story : List Entry) →
     let e : Entry = record { moment = moment; flags = flags; mark = mark; what = what; ended = ended } in
     map (λ c. connection_in c (e ∷ story)) (filter (λ c. not (is_ended c (e ∷ story))) (number_if_begins (length story) what)) ≡ begun_by (length story) what e
 begun_last Nothing moment flags mark ended story = refl
-begun_last (Begins original reply source dest) moment flags mark ended story =
+begun_last (Begins b) moment flags mark ended story =
     let here : eqb (length story) (length story) ≡ true = eq-eqb _ _ refl in
-    rw here (ap (λ h. h ∷ []) (rw here (told_first (length story) original reply source dest moment flags mark ended)))
+    rw here (ap (λ h. h ∷ []) (rw here (told_first (length story) b moment flags mark ended)))
 begun_last (Touches k direction) moment flags mark ended story = refl
 
 -- one entry more changes what is not ended by that entry alone
@@ -110,5 +106,5 @@ map-filter-later f q p [] = refl
 map-filter-later f q p (x ∷ xs) = grind (arith, map-filter-later f q p xs)
 
 -- those alive are the live ones of those that no entry ended
-pub live_list-unended : (story : List Entry) (now : ℕ) → live_list story now ≡ live_at now (unended story)
-live_list-unended story now = map-filter-later (λ c. connection_in c story) (λ c. not (is_ended c story)) (is_live now) (begun_in story)
+pub live_list-unended : (limits : Limits) (story : List Entry) (now : ℕ) → live_list limits story now ≡ live_at limits now (unended story)
+live_list-unended limits story now = map-filter-later (λ c. connection_in c story) (λ c. not (is_ended c story)) (is_live limits now) (begun_in story)

@@ -21,7 +21,7 @@ pub returns-clause-number : goal.returns-clause-number
 returns-clause-number c = λ held others e. length_alike held others e
 
 pub returns-clause-live : goal.returns-clause-live
-returns-clause-live c = λ held others now e. live_alike held others now e
+returns-clause-live c = λ limits held others now e. live_alike limits held others now e
 
 pub returns-clause-listed : goal.returns-clause-listed
 returns-clause-listed c = λ held others e. listed_alike held others e

@@ -7,4 +7,4 @@ pub returns-clause-packet : goal.returns-clause-packet
 returns-clause-packet c = λ held id p count d a n. apart_after id p count held d a n
 
 pub returns-clause-live : goal.returns-clause-live
-returns-clause-live c = λ held now a. apart-filter (is_live now) held a
+returns-clause-live c = λ limits held now a. apart-filter (is_live limits now) held a

@@ -6,14 +6,14 @@ use Rattle.conntrack.proofs.Names.{found_by_name, has_id-found, length-without, 
 use Rattle.conntrack.proofs.list_tracker.ListTrackerTracker.age.Goals as goal
 
 pub returns-in-None-clause-none : goal.returns-in-None-clause-none
-returns-in-None-clause-none c = (refl, filter_where_none (is_live c.args.now) _ (rw c.deref.ensures.value at (sym c.in-None.ensures)))
+returns-in-None-clause-none c = (refl, filter_where_none (is_live c.args.self.now.limits c.args.now) _ (rw c.deref.ensures.value at (sym c.in-None.ensures)))
 
 pub returns-in-Some-clause-some : goal.returns-in-Some-clause-some
 returns-in-Some-clause-some c =
     let found = rw c.deref.ensures.value at (sym c.in-Some.ensures) in
-    rw c.aged.ensures (ap (option_map aged_of) (found_by_name (λ h. not (is_live c.args.now h)) _ _ c.args.self.now.distinct found), c.take_out.ensures.items, rw c.take_out.ensures.items (live_at-without_dead _ _ _ c.args.self.now.distinct found))
+    rw c.aged.ensures (ap (option_map aged_of) (found_by_name (λ h. not (is_live c.args.self.now.limits c.args.now h)) _ _ c.args.self.now.distinct found), c.take_out.ensures.items, rw c.take_out.ensures.items (live_at-without_dead c.args.self.now.limits _ _ _ c.args.self.now.distinct found))
 
 pub returns-in-Some-clause-fewer : goal.returns-in-Some-clause-fewer
 returns-in-Some-clause-fewer c =
     let found = rw c.deref.ensures.value at (sym c.in-Some.ensures) in
-    rw c.take_out.ensures.items (length-without _ _ (has_id-found (λ h. not (is_live c.args.now h)) _ _ found))
+    rw c.take_out.ensures.items (length-without _ _ (has_id-found (λ h. not (is_live c.args.self.now.limits c.args.now h)) _ _ found))
