@@ -38,6 +38,13 @@ less_room old new before after going room fills = rw going (elim fills.progress 
   | inr (at, none, end) ↦ rw at (omega arith)
 ])
 
+-- a reader that came to its end has none left
+pub ended_only_at_end : (old new : Ahead) (before after : Option (List ℕ)) → Fills old new before after → new.ended ≡ true → IsAtEnd after
+ended_only_at_end old new before after fills ended = elim fills.progress [
+  | inl (on, some) ↦ absurd (false≢true (sym on ∙ ended))
+  | inr (at, none, end) ↦ end
+]
+
 -- a read that failed took none
 none_read : (before after : Option (List ℕ)) (held next : List ℕ) → next ≡ held → Keeps before after → Keeps (prepend_known held before) (prepend_known next after)
 none_read None after held next is kept = tt

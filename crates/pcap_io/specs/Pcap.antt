@@ -157,6 +157,10 @@ pub record Pcap (bytes : List ℕ) (records : List Captured) (ending : Ending) :
 
 -- ---- what the records tell
 
+-- no record's moment is as late, in nanoseconds: seconds have 32 bits, and a fraction is within a second
+abbrev pub MOMENTS_END : ℕ
+MOMENTS_END = 4294967296000000000
+
 -- a record as it is told: when, in nanoseconds, what its bytes begin with, and the bytes captured
 pub record Recorded : Type 0 where
   pub moment : ℕ

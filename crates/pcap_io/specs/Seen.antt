@@ -19,6 +19,14 @@ pub record Seen : Type 0 where
   pub fault : Option CaptureError
   pub last : Option Recorded
 
+-- so many bytes are held at most: the greatest record with its header, which settles the next answer
+abbrev pub READ_AHEAD : ℕ
+READ_AHEAD = 262160
+
+-- the reader came to its end, and all that it gave was taken
+abbrev pub IsDone : Seen → Type 0
+IsDone s = (s.fault ≡ None) × (s.ended ≡ true) × (s.held ≡ [])
+
 -- the bytes to come, where they are known: those that the capture holds, and those that the reader has left if it isn't done with it
 abbrev pub ahead : Seen → Option (List ℕ) → Option (List ℕ)
 ahead s left = cond s.ended (Some s.held) (prepend_known s.held left)

@@ -1,11 +1,6 @@
 //! Records read one after another.
-ghost use Rattle.std.specs.Prelude.{◌≡◌, ◌≢◌, ◌<◌, ◌≤◌, ◌+◌, ◌++◌, ◌⊎◌, ℕ, List, [], length, drop, true, false, Some, None, Ok, Err, IfOk, IfErr, IfSome, IsNone, IsErrOf, OnOk, OnErr};
-ghost use Rattle.std.specs.Io.KnownBytes.{Consumes};
-ghost use Rattle.pcap_io.specs.Counting.{one_more};
-ghost use Rattle.pcap_io.specs.Links as links;
-ghost use Rattle.pcap_io.specs.Pcap.{format_of, seconds_in, fraction_in, captured_length_in, IsGood};
-ghost use Rattle.pcap_io.specs.Pcap as pcap;
-ghost use Rattle.pcap_io.specs.Seen.{Seen, ahead, is_ready, settles, IsPart, Says, RefusedBy, IsOfHeader, IsOfRecords, recorded};
+ghost use Rattle.std.specs.Prelude.{◌<◌};
+ghost use Rattle.pcap_io.specs.Pcap.{MOMENTS_END};
 
 use crate::counted::Counted;
 use crate::fault::{CaptureError, CaptureFault};
@@ -34,9 +29,14 @@ pub struct Record<'a> {
     pub link_type: LinkType,
     /// The bytes captured, from the link header on.
     pub bytes: &'a [u8],
+    /// Seconds have 32 bits.
+    pub ghost early: { moment < MOMENTS_END },
 }
 
 impl<'a> Record<'a> {
+    ghost use Rattle.std.specs.Prelude.{◌≡◌, ◌≤◌, length, IfOk};
+    ghost use Rattle.pcap_io.specs.Links as links;
+
     /// Where the packet begins, and the interface that it entered by where the link header tells
     /// one; or the first that applies of `Short`, `NotIp` and `Link`.
     pub fn link(&self) -> Result<Link, LinkCause>
@@ -56,6 +56,10 @@ struct RecordHeader {
 }
 
 impl RecordHeader {
+    ghost use Rattle.std.specs.Prelude.{◌≡◌, ◌<◌, ◌≤◌, ◌+◌, ◌⊎◌, length, IfOk, IsErrOf, OnOk, OnErr};
+    ghost use Rattle.pcap_io.specs.Pcap.{seconds_in, fraction_in, captured_length_in, IsGood};
+    ghost use Rattle.pcap_io.specs.Pcap as pcap;
+
     /// The header of the record that these bytes begin with, all of which is there.
     #[inline(always)]
     fn read(format: Format, bytes: &[u8]) -> Result<RecordHeader, CaptureFault>
@@ -109,6 +113,13 @@ impl Model for Capture {
 }
 
 impl Capture {
+    ghost use Rattle.std.specs.Prelude.{◌≡◌, ◌≢◌, ◌<◌, ◌≤◌, ◌+◌, ◌++◌, ℕ, List, [], length, drop, true, false, Some, None, Ok, Err, IfOk, IfErr, IfSome, IsNone, IsErrOf, OnOk, OnErr};
+    ghost use Rattle.std.specs.Io.KnownBytes.{Consumes, IsAtEnd};
+    ghost use Rattle.pcap_io.specs.Counting.{one_more};
+    ghost use Rattle.pcap_io.specs.Pcap.{format_of, MOMENTS_END};
+    ghost use Rattle.pcap_io.specs.Pcap as pcap;
+    ghost use Rattle.pcap_io.specs.Seen.{Seen, READ_AHEAD, IsDone, ahead, is_ready, settles, IsPart, Says, RefusedBy, IsOfHeader, IsOfRecords, recorded};
+
     /// Reserves the buffer and reads the header.
     ///
     /// The faults of a header are `TornEnd`, `Magic`, `Version` and `LinkType`, the first that
@@ -122,6 +133,10 @@ impl Capture {
         // Before the header is there fewer bytes than it has were read.
         ensures broken { IsErrOf result CaptureError.Device → (part : List ℕ) × Consumes (R.remaining reader.old.inner) (R.remaining reader.new.inner) part × (length part < pcap.HEADER_BYTES) }
         ensures memory { IsErrOf result CaptureError.Memory → reader.new ≡ reader.old }
+        ensures room { IfOk result (λ c. length c.held ≤ READ_AHEAD) }
+        ensures drained { IfOk result (λ c. c.ended ≡ true → IsAtEnd (R.remaining reader.new.inner)) }
+        // Whatever the error, no more was read than the buffer holds.
+        ensures read { OnErr result ((part : List ℕ) × Consumes (R.remaining reader.old.inner) (R.remaining reader.new.inner) part × (length part ≤ READ_AHEAD)) }
         ensures calm { result ≢ Err CaptureError.Device → reader.new.failures ≡ reader.old.failures }
         ensures device { IsErrOf result CaptureError.Device → reader.new.failures ≡ one_more reader.old.failures }
     {
@@ -185,10 +200,15 @@ impl Capture {
         ensures broken { IsNone self.old.fault → IsErrOf result CaptureError.Device → (self.new.ended ≡ false) × IsPart self.new.format self.new.count self.new.held }
         ensures held { IsNone self.old.fault → is_ready self.old ≡ true → result ≢ Err CaptureError.Device }
         ensures ended { self.old.ended ≡ true → self.new.ended ≡ true }
+        // After the end nothing is read again, and the answer is the same.
+        ensures finished { result ≡ Ok false → IsDone self.new }
+        ensures done { IsDone self.old → (result ≡ Ok false) × (self.new ≡ record self.old { last = None }) × (reader.new ≡ reader.old) }
+        ensures room { length self.new.held ≤ READ_AHEAD }
+        ensures drained { (self.old.ended ≡ true → IsAtEnd (R.remaining reader.old.inner)) → self.new.ended ≡ true → IsAtEnd (R.remaining reader.new.inner) }
         ensures calm { IsNone self.old.fault → result ≢ Err CaptureError.Device → reader.new.failures ≡ reader.old.failures }
         ensures device { IsNone self.old.fault → IsErrOf result CaptureError.Device → reader.new.failures ≡ one_more reader.old.failures }
         // A record's moment has seconds of 32 bits, and its bytes are at most 262,144.
-        ensures record { IfOk result (λ more. more ≡ true → IfSome self.new.last (λ r. (r.moment < 4294967296000000000) × (length r.bytes < 262145))) }
+        ensures record { IfOk result (λ more. more ≡ true → IfSome self.new.last (λ r. (r.moment < MOMENTS_END) × (length r.bytes < 262145))) }
         ensures some { result ≡ Ok true → self.new.last ≢ None }
         ensures kinds { IsNone self.old.fault → IfErr result IsOfRecords }
     {
@@ -217,11 +237,14 @@ impl Capture {
         ensures format { self.new.format ≡ self.old.format }
         ensures counted { result ≡ Ok true → (self.old.count < 4294967296) × (self.new.count ≡ self.old.count + 1) }
         ensures ended { self.new.ended ≡ self.old.ended }
+        ensures finished { result ≡ Ok false → IsDone self.new }
+        ensures done { self.old.held ≡ [] → (result ≡ Ok false) × (self.new ≡ self.old) }
+        ensures room { length self.new.held ≤ READ_AHEAD }
         ensures fault { IfErr result (λ fault. self.new.fault ≡ Some fault) }
         ensures kinds { IfErr result IsOfRecords }
         ensures held { result ≢ Err CaptureError.Device }
         ensures going { OnOk result (self.new.fault ≡ None) }
-        ensures record { IfOk result (λ more. more ≡ true → IfSome self.new.last (λ r. (r.moment < 4294967296000000000) × (length r.bytes < 262145))) }
+        ensures record { IfOk result (λ more. more ≡ true → IfSome self.new.last (λ r. (r.moment < MOMENTS_END) × (length r.bytes < 262145))) }
         ensures some { result ≡ Ok true → self.new.last ≢ None }
     {
         let held = self.buffer.held();

@@ -153,7 +153,7 @@ impl Fractions {
     pub fn moment(self, seconds: u32, fraction: u32) -> u64
         requires { fraction < pcap.in_second self }
         ensures value { result ≡ seconds * 1000000000 + fraction * pcap.nanoseconds self }
-        ensures early { result < 4294967296000000000 }
+        ensures early { result < pcap.MOMENTS_END }
     {
         let nanoseconds = match self {
             Fractions::Microseconds => u64::from(fraction) * 1_000,

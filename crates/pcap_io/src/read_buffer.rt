@@ -2,6 +2,7 @@
 ghost use Rattle.std.specs.Prelude.{◌≡◌, ◌<◌, ◌≤◌, ◌+◌, ◌++◌, [], length, take, drop, true, false, IfOk, OnOk, OnErr};
 ghost use Rattle.std.specs.Io.KnownBytes.{Keeps};
 ghost use Rattle.pcap_io.specs.Counting.{one_more};
+ghost use Rattle.pcap_io.specs.Seen.{READ_AHEAD};
 ghost use Rattle.pcap_io.specs.steps.Ahead as ahead;
 ghost use Rattle.pcap_io.specs.steps.Ahead.{Ahead, Fills};
 
@@ -29,13 +30,14 @@ pub struct ReadBuffer {
 
 impl Model for ReadBuffer {
     ghost use Rattle.std.specs.Prelude.{◌≡◌, ◌≤◌, take, slice_range, length};
-    ghost use Rattle.pcap_io.specs.steps.Ahead.{Ahead, BUFFER_BYTES};
+    ghost use Rattle.pcap_io.specs.Seen.{READ_AHEAD};
+    ghost use Rattle.pcap_io.specs.steps.Ahead.{Ahead};
 
     ghost Value = { Ahead };
 
     ghost view = { λ b. record { taken = take b.start b.bytes.items; held = slice_range b.bytes.items b.start b.end; ended = b.is_ended } };
 
-    ghost invariant = { λ b. (b.start ≤ b.end) × (b.end ≤ length b.bytes.items) × (length b.bytes.items ≡ BUFFER_BYTES) };
+    ghost invariant = { λ b. (b.start ≤ b.end) × (b.end ≤ length b.bytes.items) × (length b.bytes.items ≡ READ_AHEAD) };
 }
 
 impl ReadBuffer {
@@ -69,12 +71,13 @@ impl ReadBuffer {
 
     /// Reads once, behind what is held. What was taken is gone then.
     pub fn fill<R: Read>(&mut self, reader: &mut Counted<R>) -> Result<(), DeviceFailed>
-        requires room { length self.old.held < ahead.BUFFER_BYTES }
+        requires room { length self.old.held < READ_AHEAD }
         requires going { self.old.ended ≡ false }
         ensures ok { OnOk result (Fills self.old self.new (R.remaining reader.old.inner) (R.remaining reader.new.inner)) }
         ensures calm { OnOk result (reader.new.failures ≡ reader.old.failures) }
         ensures err { OnErr result ((self.new.held ≡ self.old.held) × (self.new.ended ≡ false) × Keeps (R.remaining reader.old.inner) (R.remaining reader.new.inner)) }
         ensures device { OnErr result (reader.new.failures ≡ one_more reader.old.failures) }
+        ensures short { length self.new.held ≤ READ_AHEAD }
     {
         self.compact();
         match reader.read(&mut self.bytes[self.end..]) {

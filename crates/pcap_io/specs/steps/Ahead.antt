@@ -8,9 +8,6 @@ pub record Ahead : Type 0 where
   pub held : List ℕ
   pub ended : Bool
 
-abbrev pub BUFFER_BYTES : ℕ
-BUFFER_BYTES = 262160
-
 -- the last of some bytes
 abbrev pub last_of : ℕ → List ℕ → List ℕ
 last_of n bytes = drop (length bytes - n) bytes

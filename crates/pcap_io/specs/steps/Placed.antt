@@ -3,8 +3,8 @@ use Rattle.std.specs.Prelude.{◌<◌, ◌≤◌, ℕ, List, length, Option, Som
 use Rattle.pcap_io.specs.declared.fault.CaptureError.{CaptureError}
 use Rattle.pcap_io.specs.declared.format.LinkType.{LinkType}
 use Rattle.pcap_io.specs.declared.format.Format.{Format}
-use Rattle.pcap_io.specs.Pcap.{Recorded, MOST_RECORDS, MOST_CAPTURED}
-use Rattle.pcap_io.specs.Seen.{Seen}
+use Rattle.pcap_io.specs.Pcap.{Recorded, MOMENTS_END, MOST_RECORDS, MOST_CAPTURED}
+use Rattle.pcap_io.specs.Seen.{Seen, READ_AHEAD}
 use Rattle.pcap_io.specs.steps.Ahead.{Ahead, last_of}
 
 -- the record that was read last: the last bytes that were taken, at the greatest moment
@@ -17,13 +17,10 @@ abbrev pub seen_in : Format → Ahead → ℕ → ℕ → Option CaptureError �
 seen_in format ahead count latest fault last =
     record { format = format; held = ahead.held; ended = ahead.ended; count = count; latest = latest; fault = fault; last = last_in format.link ahead.taken latest last }
 
--- no moment that a record may tell comes as late
-abbrev pub MOMENTS_END : ℕ
-MOMENTS_END = 4294967296000000000
-
 -- what holds of it after every call
 pub record IsPlaced (ahead : Ahead) (count latest : ℕ) (last : Option ℕ) : Type 0 where
   pub few : count ≤ MOST_RECORDS
   pub early : latest < MOMENTS_END
   pub behind : IfSome last (λ n. n ≤ length ahead.taken)
   pub short : IfSome last (λ n. n ≤ MOST_CAPTURED)
+  pub room : length ahead.held ≤ READ_AHEAD

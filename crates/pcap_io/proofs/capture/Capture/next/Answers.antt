@@ -6,7 +6,7 @@ use Rattle.std.proofs.KnownBytes.{Keeps-trans}
 use Rattle.pcap_io.specs.Seen.{Seen, Says, ahead, is_ready, settles, IsPart}
 use Rattle.pcap_io.proofs.Ready.{part_of, not_ready}
 use Rattle.pcap_io.proofs.Steps.{no_last}
-use Rattle.pcap_io.proofs.Coming.{filled, less_room, failed, known, behind, says_from}
+use Rattle.pcap_io.proofs.Coming.{filled, ended_only_at_end, less_room, failed, known, behind, says_from}
 use Rattle.pcap_io.proofs.capture.Capture.next.Goals as goal
 
 pub loop-self-smaller : goal.loop-self-smaller
@@ -31,6 +31,7 @@ loop-self-preserved g c =
       last = rw (no_last inside.format.link inside.buffer.taken inside.latest inside.last (ap (λ (s : Seen). s.last) is ∙ kept.last)) refl;
       whole = Keeps-trans _ _ _ kept.whole (rw (← is) (filled inside.buffer c.fill.new.self _ _ waits.1 c.in-Ok.ensures.ok));
       unread = λ ready. absurd (true≢false (sym ready ∙ sym (ap is_ready (kept.unread ready).0) ∙ sym c.is_ready.ensures ∙ c.loop-self-test.true));
+      drained = λ _. ended_only_at_end _ _ _ _ c.in-Ok.ensures.ok;
       calm = c.in-Ok.ensures.calm ∙ kept.calm;
     }
 
