@@ -1,5 +1,5 @@
 -- What a buffer holds.
-use Rattle.std.proofs.Common.{◌≡◌, ℕ, ◌+◌, ◌-◌, ◌<◌, ◌≤◌, Bool, List, [], ◌++◌, length, take, drop, refl, sym, ap, ◌∙◌, arith, length-drop}
+use Rattle.std.proofs.Common.{◌≡◌, ℕ, ◌+◌, ◌-◌, ◌≤◌, Bool, List, [], ◌++◌, length, take, drop, sym, ap, ◌∙◌, arith, length-drop}
 use Rattle.std.specs.Prelude.{slice_range}
 use Rattle.std.proofs.Math.Seq.{take-add, take-append-add, paste}
 use Rattle.std.proofs.lemmas.List.{length-take, length-take-le, take-take, take-append-le, drop-drop, drop-take, drop-append-le}

@@ -7,7 +7,7 @@ use Rattle.pcap_io.specs.declared.fault.CaptureError.{CaptureError}
 use Rattle.pcap_io.specs.declared.fault.CaptureError.TheVariants.{Refused, Device, Memory}
 use Rattle.pcap_io.specs.declared.format.Format.{Format}
 use Rattle.pcap_io.specs.Pcap.{IsRecord, Ends, Whole, Torn, Malformed as AtMalformed, Over, own_moment}
-use Rattle.pcap_io.specs.Seen.{Seen, Says, Reads, Breaks}
+use Rattle.pcap_io.specs.Seen.{Seen, Says}
 use Rattle.pcap_io.specs.steps.Ahead.{Ahead, Fills}
 
 -- some more were read

@@ -1,10 +1,10 @@
 -- What is held settles what comes next, or is a part of it.
-use Rattle.std.proofs.Common.{◌≡◌, ◌≢◌, ℕ, ◌+◌, ◌<◌, ◌≤◌, Bool, true, false, List, [], ◌∷◌, ◌++◌, length, ◌⊎◌, inl, inr, Option, Some, None, refl, sym, ap, ◌∙◌, arith, length-append}
-use Rattle.std.specs.Prelude.{◌==◌, ◌||◌, nat_lt, not, is_some}
-use Rattle.std.proofs.lemmas.Bool.{true≢false, ltb-false, lt-ltb, le-ltb, eq-eqb, ne_eqb, cases_lt, cases_eq}
+use Rattle.std.proofs.Common.{◌≡◌, ◌≢◌, ℕ, ◌+◌, ◌<◌, ◌≤◌, Bool, true, false, List, [], ◌∷◌, length, ◌⊎◌, inl, inr, Option, Some, None, refl, sym, ◌∙◌, arith}
+use Rattle.std.specs.Prelude.{◌||◌, is_some}
+use Rattle.std.proofs.lemmas.Bool.{true≢false, lt-ltb, le-ltb, eq-eqb, ne_eqb, cases_lt, cases_eq}
 use Rattle.pcap_io.specs.declared.fault.CaptureError.{CaptureError}
 use Rattle.pcap_io.specs.declared.format.Format.{Format}
-use Rattle.pcap_io.specs.Pcap.{IsGood, Ends, Torn, captured_length_in, fraction_in, in_second, MOST_CAPTURED, MOST_RECORDS}
+use Rattle.pcap_io.specs.Pcap.{IsGood, captured_length_in, fraction_in, in_second, MOST_CAPTURED, MOST_RECORDS}
 use Rattle.pcap_io.specs.Seen.{settles, IsPart}
 
 -- a header that no record may have settles it, and so does a whole record

@@ -1,15 +1,13 @@
 -- One record of what is held.
-use Rattle.std.proofs.Common.{◌≡◌, ◌≢◌, ℕ, ◌+◌, ◌-◌, ◌*◌, ◌<◌, ◌≤◌, max, Bool, true, false, List, [], ◌++◌, length, take, drop, ◌⊎◌, inl, inr, Option, Some, None, Result, Ok, Err, refl, sym, ap, subst, ◌∙◌, arith, length-drop, length-append, append_assoc}
-use Rattle.std.specs.Prelude.{◌==◌, ◌&&◌, ◌||◌, nat_lt, not, cond}
-use Rattle.std.proofs.lemmas.Bool.{ltb-true, ltb-false, lt-ltb, le-ltb, eqb-true, eqb-false, eq-eqb, ne_eqb, cases_lt, cases_eq}
+use Rattle.std.proofs.Common.{◌≡◌, ℕ, ◌+◌, ◌-◌, ◌*◌, ◌<◌, ◌≤◌, max, List, ◌++◌, length, take, drop, Option, Some, None, refl, sym, ap, ◌∙◌, arith, length-drop, length-append, append_assoc}
 use Rattle.std.proofs.Math.Seq.{drop-append_seam}
-use Rattle.std.proofs.lemmas.List.{length-take, length-take-le, take-append-drop, take-append-le, drop-append-le, drop-take, drop-drop}
+use Rattle.std.proofs.lemmas.List.{length-take-le, take-append-drop, take-append-le, drop-take, drop-drop}
 use Rattle.byteorder.specs.Numbers.{little_from-take, big_from-take}
 use Rattle.pcap_io.specs.declared.fault.CaptureError.{CaptureError}
 use Rattle.pcap_io.specs.declared.format.Order.{Order}
 use Rattle.pcap_io.specs.declared.format.Order.TheVariants.{LowestFirst, HighestFirst}
 use Rattle.pcap_io.specs.declared.format.Format.{Format}
-use Rattle.pcap_io.specs.Pcap.{Captured, IsRecord, IsGood, frame, own_moment, number_in, nanoseconds, captured_length_in, seconds_in, fraction_in, in_second, MOST_RECORDS}
+use Rattle.pcap_io.specs.Pcap.{Captured, IsRecord, IsGood, frame, own_moment, number_in, nanoseconds, captured_length_in, seconds_in, fraction_in, MOST_RECORDS}
 use Rattle.pcap_io.specs.Seen.{Reads}
 use Rattle.pcap_io.specs.steps.Ahead.{Ahead, last_of}
 use Rattle.pcap_io.specs.declared.format.LinkType.{LinkType}

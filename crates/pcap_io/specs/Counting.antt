@@ -1,5 +1,6 @@
 -- How failed calls are counted.
-use Rattle.std.specs.Prelude.{◌≡◌, ◌+◌, ◌-◌, ◌^◌, ◌++◌, ◌==◌, ◌&&◌, nat_lt, ℕ, List, length, Option, Result, MatchResult, if◌then◌else◌}
+use Rattle.std.specs.Prelude.{◌≡◌, ◌+◌, ◌-◌, ◌^◌, ◌++◌, ◌==◌, ◌&&◌, nat_lt, if◌then◌else◌}
+use Rattle.std.specs.Prelude.{ℕ, List, length, Option, Result, MatchResult}
 use Rattle.std.specs.Io.KnownBytes.{Appends}
 
 -- one more; the greatest number of 64 bits stays
@@ -12,7 +13,9 @@ CountsRead before after r = MatchResult r (λ _. after ≡ before) (λ _. after 
 
 -- a write that fails, or that takes nothing of some bytes, is counted, and no other
 abbrev pub CountsWrite : {E : Type 0} → ℕ → ℕ → Result ℕ E → List ℕ → Type 0
-CountsWrite before after r buf = MatchResult r (λ n. after ≡ (if (n == 0) && nat_lt 0 (length buf) then one_more before else before)) (λ _. after ≡ one_more before)
+CountsWrite before after r buf =
+    MatchResult r (λ n. after ≡ (if (n == 0) && nat_lt 0 (length buf) then one_more before else before))
+    (λ _. after ≡ one_more before)
 
 -- a flush that fails is counted, and no other
 abbrev pub CountsFlush : {A E : Type 0} → ℕ → ℕ → Result A E → Type 0

@@ -1,5 +1,6 @@
 -- Where the packet of a record begins: the headers of LINKTYPE_ETHERNET, LINKTYPE_RAW and LINKTYPE_LINUX_SLL2.
-use Rattle.std.specs.Prelude.{ℕ, ◌%◌, ◌==◌, nat_lt, not, Bool, true, List, length, slice_index, Option, Some, None, Result, Ok, Err, if◌then◌else◌}
+use Rattle.std.specs.Prelude.{ℕ, ◌%◌, ◌==◌, nat_lt, not, Bool, true, if◌then◌else◌}
+use Rattle.std.specs.Prelude.{List, length, slice_index, Option, Some, None, Result, Ok, Err}
 use Rattle.byteorder.specs.Endian.{big_from}
 use Rattle.pcap_io.specs.declared.format.LinkType.{LinkType}
 use Rattle.pcap_io.specs.declared.format.LinkType.TheVariants.{Ethernet, Raw, Sll2}
@@ -23,7 +24,8 @@ is_ipv4 Ethernet bytes = big_from 12 2 bytes == IPV4
 is_ipv4 Raw bytes = true
 is_ipv4 Sll2 bytes = big_from 0 2 bytes == IPV4
 
--- the frame goes to one station: the lowest bit of the first byte, which marks a group's address, is clear; or, as the cooked header tells, it was sent to this host, packet type 0
+-- the frame goes to one station: the lowest bit of the first byte, which marks a group's address, is clear;
+-- or, as the cooked header tells, it was sent to this host, packet type 0
 abbrev pub is_to_station : LinkType → List ℕ → Bool
 is_to_station Ethernet bytes = slice_index bytes 0 % 2 == 0
 is_to_station Raw bytes = true
@@ -35,7 +37,8 @@ interface_in Ethernet bytes = None
 interface_in Raw bytes = None
 interface_in Sll2 bytes = Some (big_from 4 4 bytes)
 
--- where the packet begins and which interface it entered by, as far as the header tells; or the first test of the header that fails
+-- where the packet begins and which interface it entered by, as far as the header tells;
+-- or the first test of the header that fails
 abbrev pub link_of : LinkType → List ℕ → Result Link LinkCause
 link_of link bytes =
     if nat_lt (length bytes) (link_bytes link) then Err causes.Short

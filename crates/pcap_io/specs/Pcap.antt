@@ -1,5 +1,6 @@
 -- A capture: the classic format of libpcap's files (pcap-savefile(5)).
-use Rattle.std.specs.Prelude.{◌≡◌, ◌≢◌, ◌<◌, ◌≤◌, ◌+◌, ◌*◌, ◌%◌, ◌==◌, nat_lt, not, max, ℕ, List, [], ◌∷◌, ◌++◌, length, drop, All, ◌⊎◌, Option, Some, None, Result, Ok, Err, if◌then◌else◌}
+use Rattle.std.specs.Prelude.{◌≡◌, ◌≢◌, ◌<◌, ◌≤◌, ◌+◌, ◌*◌, ◌%◌, ◌==◌, nat_lt, not, max, ℕ, ◌⊎◌, if◌then◌else◌}
+use Rattle.std.specs.Prelude.{List, [], ◌∷◌, ◌++◌, length, drop, All, Option, Some, None, Result, Ok, Err}
 use Rattle.std.specs.List.{flat_map}
 use Rattle.std.specs.Result.{result_err}
 use Rattle.byteorder.specs.Endian.{little_from, big_from}
@@ -43,7 +44,9 @@ NANOSECOND_MAGIC = 2712812621
 
 -- the fractions that a magic number tells
 abbrev pub fractions_of : ℕ → Option Fractions
-fractions_of number = if number == MICROSECOND_MAGIC then Some Microseconds else (if number == NANOSECOND_MAGIC then Some Nanoseconds else None)
+fractions_of number =
+    if number == MICROSECOND_MAGIC then Some Microseconds
+    else (if number == NANOSECOND_MAGIC then Some Nanoseconds else None)
 
 -- the order of the file's numbers, by which the magic number is one, and its fractions
 abbrev pub units_by : Option Fractions → Option Fractions → Option (Order × Fractions)
@@ -52,11 +55,15 @@ units_by None (Some fractions) = Some (HighestFirst, fractions)
 units_by None None = None
 
 abbrev pub units_of : List ℕ → Option (Order × Fractions)
-units_of bytes = units_by (fractions_of (number_in LowestFirst 0 4 bytes)) (fractions_of (number_in HighestFirst 0 4 bytes))
+units_of bytes =
+    units_by (fractions_of (number_in LowestFirst 0 4 bytes)) (fractions_of (number_in HighestFirst 0 4 bytes))
 
 -- LINKTYPE_ETHERNET, LINKTYPE_RAW, LINKTYPE_LINUX_SLL2
 abbrev pub link_type_of : ℕ → Option LinkType
-link_type_of number = if number == 1 then Some Ethernet else (if number == 101 then Some Raw else (if number == 276 then Some Sll2 else None))
+link_type_of number =
+    if number == 1 then Some Ethernet
+    else (if number == 101 then Some Raw
+    else (if number == 276 then Some Sll2 else None))
 
 -- the link type's field has 32 bits, of which the low 16 decide
 abbrev pub link_type_in : Order → List ℕ → Option LinkType
@@ -107,7 +114,8 @@ MOST_CAPTURED = 262144
 
 -- the header is one that a record may have: it isn't over the greatest length, and its fraction is within a second
 abbrev pub IsGood : Format → List ℕ → Type 0
-IsGood format head = (captured_length_in format head ≤ MOST_CAPTURED) × (fraction_in format head < in_second format.fractions)
+IsGood format head =
+    (captured_length_in format head ≤ MOST_CAPTURED) × (fraction_in format head < in_second format.fractions)
 
 pub record IsRecord (format : Format) (r : Captured) : Type 0 where
   pub head_length : length r.head ≡ RECORD_HEADER_BYTES
@@ -141,7 +149,8 @@ abbrev pub Ends : Format → Ending → ℕ → List ℕ → Type 0
 Ends format Whole count rest = rest ≡ []
 Ends format Over count rest = (rest ≢ []) × (count ≡ MOST_RECORDS)
 Ends format Torn count rest = (rest ≢ []) × (count < MOST_RECORDS)
-    × ((length rest < RECORD_HEADER_BYTES) ⊎ (IsGood format rest × (length rest < RECORD_HEADER_BYTES + captured_length_in format rest)))
+    × ((length rest < RECORD_HEADER_BYTES)
+    ⊎ (IsGood format rest × (length rest < RECORD_HEADER_BYTES + captured_length_in format rest)))
 Ends format Malformed count rest = (count < MOST_RECORDS) × (RECORD_HEADER_BYTES ≤ length rest)
     × ((MOST_CAPTURED < captured_length_in format rest) ⊎ (in_second format.fractions ≤ fraction_in format rest))
 
@@ -175,7 +184,8 @@ own_moment format r = seconds_in format r.head * 1000000000 + fraction_in format
 abbrev pub told_after : Format → ℕ → List Captured → List Recorded
 told_after format latest [] = []
 told_after format latest (r ∷ rs) =
-    let moment = max latest (own_moment format r) in record { moment = moment; link = format.link; bytes = r.bytes } ∷ told_after format moment rs
+    let moment = max latest (own_moment format r) in
+    record { moment = moment; link = format.link; bytes = r.bytes } ∷ told_after format moment rs
 
 abbrev pub told : Format → List Captured → List Recorded
 told format records = told_after format 0 records

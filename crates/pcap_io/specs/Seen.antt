@@ -1,15 +1,20 @@
 -- What a capture shows while it is read.
-use Rattle.std.specs.Prelude.{◌≡◌, ◌+◌, ◌<◌, ◌==◌, ◌&&◌, ◌||◌, nat_lt, not, max, ℕ, Bool, true, false, cond, List, [], ◌++◌, length, ◌⊎◌, Option, Some, None, is_some, Result, Ok, Err, IfSome, if◌then◌else◌}
+use Rattle.std.specs.Prelude.{◌≡◌, ◌+◌, ◌<◌, ◌==◌, ◌||◌, nat_lt, not, max, ℕ, Bool, true, false, cond, ◌⊎◌, if◌then◌else◌}
+use Rattle.std.specs.Prelude.{List, [], ◌++◌, length, Option, Some, None, is_some, Result, Ok, Err, IfSome}
 use Rattle.std.specs.Io.KnownBytes.{prepend_known}
-use Rattle.pcap_io.specs.declared.fault.CaptureFault.TheVariants.{TornEnd, Magic, Version, LinkType, Malformed, TooMany}
+use Rattle.pcap_io.specs.declared.fault.CaptureFault.TheVariants.{TornEnd, Magic, Version, LinkType}
+use Rattle.pcap_io.specs.declared.fault.CaptureFault.TheVariants.{Malformed, TooMany}
 use Rattle.pcap_io.specs.declared.fault.CaptureError.{CaptureError}
 use Rattle.pcap_io.specs.declared.fault.CaptureError.TheVariants.{Refused, Device, Memory}
 use Rattle.pcap_io.specs.declared.format.Format.{Format}
 use Rattle.pcap_io.specs.declared.capture.Record.{Record}
-use Rattle.pcap_io.specs.Pcap.{Captured, Recorded, IsRecord, captured_length_in, fraction_in, in_second, frame, own_moment, Ends, header_fault, MOST_CAPTURED, MOST_RECORDS, RECORD_HEADER_BYTES}
+use Rattle.pcap_io.specs.Pcap.{MOST_CAPTURED, MOST_RECORDS, RECORD_HEADER_BYTES, header_fault}
+use Rattle.pcap_io.specs.Pcap.{captured_length_in, fraction_in, in_second}
+use Rattle.pcap_io.specs.Pcap.{Captured, Recorded, IsRecord, frame, own_moment, Ends}
 use Rattle.pcap_io.specs.Pcap as pcap
 
--- the format, the bytes that it holds, whether the reader came to its end, how many records were read and the greatest moment of them, its fault, and the record that was read last
+-- the format, the bytes that it holds, whether the reader came to its end, how many records were read
+-- and the greatest moment of them, its fault, and the record that was read last
 pub record Seen : Type 0 where
   pub format : Format
   pub held : List ℕ
@@ -27,16 +32,19 @@ READ_AHEAD = 262160
 abbrev pub IsDone : Seen → Type 0
 IsDone s = (s.fault ≡ None) × (s.ended ≡ true) × (s.held ≡ [])
 
--- the bytes to come, where they are known: those that the capture holds, and those that the reader has left if it isn't done with it
+-- the bytes to come, where they are known: those that the capture holds,
+-- and those that the reader has left if it isn't done with it
 abbrev pub ahead : Seen → Option (List ℕ) → Option (List ℕ)
 ahead s left = cond s.ended (Some s.held) (prepend_known s.held left)
 
--- after so many records these bytes settle what comes next, whatever follows them: a whole record, a header that no record may have, or a byte too many
+-- after so many records these bytes settle what comes next, whatever follows them:
+-- a whole record, a header that no record may have, or a byte too many
 abbrev pub settles : Format → ℕ → List ℕ → Bool
 settles format count bytes =
     if count == MOST_RECORDS then nat_lt 0 (length bytes)
     else (if nat_lt (length bytes) RECORD_HEADER_BYTES then false
-    else (nat_lt MOST_CAPTURED (captured_length_in format bytes) || not (nat_lt (fraction_in format bytes) (in_second format.fractions)))
+    else (nat_lt MOST_CAPTURED (captured_length_in format bytes)
+    || not (nat_lt (fraction_in format bytes) (in_second format.fractions)))
     || not (nat_lt (length bytes) (RECORD_HEADER_BYTES + captured_length_in format bytes)))
 
 -- what comes next is told without a read: a fault that was told, what is held, or the end
@@ -91,7 +99,8 @@ abbrev pub Says : List ℕ → Option (List ℕ) → Seen → Seen → Result Bo
 Says bytes after old new (Ok true) = Reads bytes after old new
 Says bytes after old new (Ok false) = Ends old.format pcap.Whole old.count bytes × (after ≡ Some [])
 Says bytes after old new (Err (Refused TornEnd)) = Ends old.format pcap.Torn old.count bytes × (after ≡ Some bytes)
-Says bytes after old new (Err (Refused Malformed)) = Ends old.format pcap.Malformed old.count bytes × (after ≡ Some bytes)
+Says bytes after old new (Err (Refused Malformed)) =
+    Ends old.format pcap.Malformed old.count bytes × (after ≡ Some bytes)
 Says bytes after old new (Err (Refused TooMany)) = Ends old.format pcap.Over old.count bytes × (after ≡ Some bytes)
 Says bytes after old new (Err (Refused Magic)) = ⊥
 Says bytes after old new (Err (Refused Version)) = ⊥

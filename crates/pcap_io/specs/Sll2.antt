@@ -1,4 +1,5 @@
--- The capture that is written: pcap-savefile(5) with LINKTYPE_LINUX_SLL2 and nanoseconds, the lowest byte of a number first.
+-- The capture that is written: pcap-savefile(5) with LINKTYPE_LINUX_SLL2 and nanoseconds,
+-- the lowest byte of a number first.
 use Rattle.std.specs.Prelude.{ℕ, ◌+◌, ◌/◌, ◌%◌, ◌^◌, ◌<◌, ◌≤◌, List, [], ◌∷◌, ◌++◌, length}
 use Rattle.std.specs.List.{flat_map}
 use Rattle.byteorder.specs.Endian.{little_bytes, big_bytes}
@@ -18,16 +19,22 @@ pub record IsSent (s : Sent) : Type 0 where
 
 -- magic a1b23c4d, version 2.4, zone 0, sigfigs 0, snaplen 262144, link type 276
 abbrev pub sll2_header : List ℕ
-sll2_header = little_bytes 4 2712812621 ++ little_bytes 2 2 ++ little_bytes 2 4 ++ little_bytes 4 0 ++ little_bytes 4 0 ++ little_bytes 4 262144 ++ little_bytes 4 276
+sll2_header =
+    little_bytes 4 2712812621 ++ little_bytes 2 2 ++ little_bytes 2 4 ++ little_bytes 4 0 ++ little_bytes 4 0
+    ++ little_bytes 4 262144 ++ little_bytes 4 276
 
--- protocol 0800, two reserved bytes, the interface's index, ARPHRD 1, packet type 4 (sent by the box), address length 0 and eight bytes of no address; these numbers have the highest byte first
+-- protocol 0800, two reserved bytes, the interface's index, ARPHRD 1, packet type 4 (sent by the box),
+-- address length 0 and eight bytes of no address; these numbers have the highest byte first
 abbrev pub link_header : ℕ → List ℕ
-link_header interface = big_bytes 2 2048 ++ big_bytes 2 0 ++ big_bytes 4 interface ++ big_bytes 2 1 ++ 4 ∷ 0 ∷ 0 ∷ 0 ∷ 0 ∷ 0 ∷ 0 ∷ 0 ∷ 0 ∷ 0 ∷ []
+link_header interface =
+    big_bytes 2 2048 ++ big_bytes 2 0 ++ big_bytes 4 interface ++ big_bytes 2 1
+    ++ 4 ∷ 0 ∷ 0 ∷ 0 ∷ 0 ∷ 0 ∷ 0 ∷ 0 ∷ 0 ∷ 0 ∷ []
 
 -- seconds, nanoseconds, captured and original length, link header, packet
 abbrev pub sll2_record : Sent → List ℕ
 sll2_record s =
-    little_bytes 4 (s.moment / 1000000000) ++ little_bytes 4 (s.moment % 1000000000) ++ little_bytes 4 (20 + length s.packet) ++ little_bytes 4 (20 + length s.packet)
+    little_bytes 4 (s.moment / 1000000000) ++ little_bytes 4 (s.moment % 1000000000)
+    ++ little_bytes 4 (20 + length s.packet) ++ little_bytes 4 (20 + length s.packet)
     ++ link_header s.interface ++ s.packet
 
 -- the whole text

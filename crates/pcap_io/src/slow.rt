@@ -160,16 +160,16 @@ impl<W: Write> Write for Failing<W> {
     }
 }
 
-/// A writer that counts its calls, flushes too.
+/// A reader or a writer that counts its calls, flushes too.
 #[derive(Drop)]
-pub struct Calls<W> {
-    inner: W,
+pub struct Calls<T> {
+    inner: T,
     calls: u64,
 }
 
-impl<W> Calls<W> {
+impl<T> Calls<T> {
     /// No call yet.
-    pub fn new(inner: W) -> Self
+    pub fn new(inner: T) -> Self
         ensures inner { result.inner ≡ inner }
         ensures calls { result.calls ≡ 0 }
     {
@@ -183,11 +183,24 @@ impl<W> Calls<W> {
         self.calls
     }
 
-    /// The writer itself.
-    pub fn into_inner(self) -> W
+    /// The reader or the writer itself.
+    pub fn into_inner(self) -> T
         ensures { result ≡ self.inner }
     {
         self.inner
+    }
+}
+
+impl<R: Read> Read for Calls<R> {
+    ghost remaining = { λ s. R.remaining s.inner };
+
+    fn read(&mut self, buf: &mut [u8]) -> io::Result<usize>
+        ensures bound { ReadsAtMost result buf.new }
+        ensures bytes { ReadConsumes (R.remaining self.old.inner) (R.remaining self.new.inner) result buf.new }
+        ensures calls { self.new.calls ≡ one_more self.old.calls }
+    {
+        self.calls = self.calls.saturating_add(1);
+        self.inner.read(buf)
     }
 }
 

@@ -15,7 +15,15 @@ last_in link taken latest (Some n) = Some (record { moment = latest; link = link
 -- what it shows
 abbrev pub seen_in : Format → Ahead → ℕ → ℕ → Option CaptureError → Option ℕ → Seen
 seen_in format ahead count latest fault last =
-    record { format = format; held = ahead.held; ended = ahead.ended; count = count; latest = latest; fault = fault; last = last_in format.link ahead.taken latest last }
+    record {
+      format = format;
+      held = ahead.held;
+      ended = ahead.ended;
+      count = count;
+      latest = latest;
+      fault = fault;
+      last = last_in format.link ahead.taken latest last;
+    }
 
 -- what holds of it after every call
 pub record IsPlaced (ahead : Ahead) (count latest : ℕ) (last : Option ℕ) : Type 0 where

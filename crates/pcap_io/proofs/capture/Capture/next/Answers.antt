@@ -1,9 +1,9 @@
-use Rattle.std.proofs.Common.{◌≡◌, ℕ, ◌<◌, ◌≤◌, ◌∙◌, ap, subst, refl, sym, arith, length, cond, true, false, None, Some, List, Option, ◌++◌}
+use Rattle.std.proofs.Common.{◌≡◌, ◌∙◌, ap, subst, refl, sym, cond, Some, ◌++◌}
 use Rattle.std.proofs.lemmas.Bool.{true≢false}
 use Rattle.std.specs.Io.KnownBytes.{Keeps, prepend_known}
 use Rattle.pcap_io.specs.steps.Placed.{seen_in}
 use Rattle.std.proofs.KnownBytes.{Keeps-trans}
-use Rattle.pcap_io.specs.Seen.{Seen, Says, ahead, is_ready, settles, IsPart}
+use Rattle.pcap_io.specs.Seen.{Seen, ahead, is_ready, settles, IsPart}
 use Rattle.pcap_io.proofs.Ready.{part_of, not_ready}
 use Rattle.pcap_io.proofs.Steps.{no_last}
 use Rattle.pcap_io.proofs.Coming.{filled, ended_only_at_end, less_room, failed, known, behind, says_from}

@@ -1,6 +1,5 @@
-use Rattle.std.proofs.Common.{◌≡◌, ◌+◌, ◌*◌, ◌<◌, ◌≤◌, ◌∙◌, max, ap, subst, refl, sym, arith, length, drop, List, ◌++◌}
+use Rattle.std.proofs.Common.{◌≡◌, ◌+◌, ◌*◌, ◌<◌, ◌≤◌, ◌∙◌, max, ap, subst, refl, arith, length}
 use Rattle.pcap_io.specs.Pcap.{captured_length_in, seconds_in, fraction_in, nanoseconds, IsGood, MOST_RECORDS}
-use Rattle.pcap_io.specs.Seen.{Reads}
 use Rattle.pcap_io.proofs.Steps.{reads_one}
 use Rattle.pcap_io.proofs.capture.Capture.step.Goals as goal
 

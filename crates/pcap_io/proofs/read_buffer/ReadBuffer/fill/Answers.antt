@@ -1,9 +1,9 @@
-use Rattle.std.proofs.Common.{◌≡◌, ℕ, ◌+◌, ◌-◌, ◌<◌, ◌≤◌, ◌∙◌, List, [], ◌++◌, length, ap, refl, sym, subst, inl, inr, arith, rules, take, drop}
-use Rattle.std.specs.Prelude.{slice_range, vec_len}
-use Rattle.std.proofs.lemmas.List.{with_items_is, length-take, places}
+use Rattle.std.proofs.Common.{◌≡◌, ℕ, ◌+◌, ◌-◌, ◌≤◌, ◌∙◌, List, ◌++◌, length, ap, refl, inl, inr, arith, rules, take}
+use Rattle.std.specs.Prelude.{slice_range}
+use Rattle.std.proofs.lemmas.List.{with_items_is, places}
 use borrow.Rule.Slice.PartMut.{post_of}
 use Rattle.pcap_io.specs.steps.Ahead.{Ahead}
-use Rattle.pcap_io.proofs.Buffers.{held_length, held_more, at_front}
+use Rattle.pcap_io.proofs.Buffers.{held_more, at_front}
 use Rattle.pcap_io.proofs.read_buffer.ReadBuffer.fill.Goals as goal
 
 pub returns-in-Ok-clause-ok : goal.returns-in-Ok-clause-ok

@@ -1,4 +1,4 @@
-use Rattle.std.proofs.Common.{◌≡◌, ◌+◌, ◌≤◌, ◌∙◌, length, ap, arith, take, drop}
+use Rattle.std.proofs.Common.{◌≡◌, ◌+◌, ◌≤◌, length, ap, arith}
 use Rattle.std.specs.Prelude.{slice_range}
 use Rattle.pcap_io.specs.steps.Ahead.{Ahead}
 use Rattle.pcap_io.proofs.Buffers.{held_length, taken_more}
