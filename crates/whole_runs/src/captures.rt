@@ -1,6 +1,7 @@
 //! Captures as pcap-savefile(5) lays them out, read and written.
 use crate::given::{AT_1_5, HEADER, OUT_AT_1_5, OUT_HEADER, PLAIN, bytes, repeated};
-use pcap_io::{Capture, CaptureError, CaptureFault, Counted, Failing, Leaving, Sink};
+use pcap_io::{Calls, Capture, CaptureError, CaptureFault, Counted, Failing, Leaving, Sink};
+use std::io::{Read, Write};
 use std::process::Abort;
 use std::test::Fail;
 
@@ -130,5 +131,26 @@ fn keeps_what_waits_after_a_put_that_failed(rt: HostRuntime) -> Result<(), Fail>
     let record = bytes(rt.alloc(), &[OUT_AT_1_5, PLAIN])?;
     let wanted = repeated(rt.alloc(), &header, &record, 2_048, b"")?;
     assert!(&rt; writer.into_inner().into_inner().as_slice() == wanted.as_slice());
+    Ok(())
+}
+
+/// Each call is handed on once, whether it fails or not, and only the one that fails is counted.
+#[test]
+fn a_counted_call_is_made_once(rt: HostRuntime) -> Result<(), Fail> {
+    for fails in 0..6usize {
+        let mut writer = Counted::new(Calls::new(Failing::new(Vec::new(rt.alloc()), fails)));
+        let mut reader = Counted::new(Calls::new(Failing::new(&b"some bytes"[..], fails)));
+        for call in 0..6usize {
+            let has_failed = if call % 2 == 0 {
+                writer.write(b"byte").is_err()
+            } else {
+                writer.flush().is_err()
+            };
+            assert!(&rt; has_failed == (call == fails));
+            assert!(&rt; reader.read(&mut [0u8; 3]).is_err() == (call == fails));
+        }
+        assert!(&rt; writer.failures() == 1 && reader.failures() == 1);
+        assert!(&rt; writer.into_inner().calls() == 6 && reader.into_inner().calls() == 6);
+    }
     Ok(())
 }

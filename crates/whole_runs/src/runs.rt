@@ -86,8 +86,8 @@ struct Given {
     report: Vec<u8>,
     /// How many calls failed, of all three.
     failures: [u64; 3],
-    /// How many calls of the two writers there were, flushes too.
-    calls: [u64; 2],
+    /// How many calls of each there were, flushes too.
+    calls: [u64; 3],
 }
 
 fn writer(alloc: Global, working: Working, calls: usize) -> Counted<Calls<Failing<Slow<Vec<u8>>>>> {
@@ -98,7 +98,8 @@ fn writer(alloc: Global, working: Working, calls: usize) -> Counted<Calls<Failin
 /// A run over these texts and this capture.
 fn run_over(alloc: Global, rules: &[u8], plant: &[u8], capture: &[u8], working: Working) -> Given {
     let [reads, sends, reports] = working.calls;
-    let mut reader = Counted::new(Failing::new(Slow::new(capture, working.most), reads));
+    let slow = Slow::new(capture, working.most);
+    let mut reader = Counted::new(Calls::new(Failing::new(slow, reads)));
     let mut sent = writer(alloc, working, sends);
     let mut report = writer(alloc, working, reports);
     let answer = run(
@@ -115,9 +116,10 @@ fn run_over(alloc: Global, rules: &[u8], plant: &[u8], capture: &[u8], working: 
         Err(fault) => (Status::of(Err(&fault)), 0),
     };
     let failures = [reader.failures(), sent.failures(), report.failures()];
+    let reader = reader.into_inner();
     let sent = sent.into_inner();
     let report = report.into_inner();
-    let calls = [sent.calls(), report.calls()];
+    let calls = [reader.calls(), sent.calls(), report.calls()];
     Given {
         status,
         records,
@@ -220,9 +222,9 @@ fn is_told(row: &Row<'_>, given: &Given, sent: &[u8], report: &[u8]) -> bool {
         Some(numbers) => u64::from(numbers[0]),
         None => 0,
     };
-    let calls = row.calls.unwrap_or(given.calls);
+    let [_, sends, reports] = given.calls;
     given.records == records
-        && given.calls == calls
+        && row.calls.unwrap_or([sends, reports]) == [sends, reports]
         && given.failures == [0, 0, 0]
         && given.sent.as_slice() == sent
         && given.report.as_slice() == report
@@ -532,6 +534,16 @@ fn stops<R: Abort + AllocGlobal>(
             is_stopped(&given, whole, failures),
             "call {call} of {device}"
         );
+        // No call is made again after the one that fails, and none twice.
+        let made = if has_failed {
+            u64::from(call) + 1
+        } else {
+            count
+        };
+        assert!(rt;
+            given.calls[device] == made,
+            "calls up to {call} of {device}"
+        );
     }
     Ok(())
 }
@@ -541,10 +553,10 @@ fn each_call_that_fails_stops_the_run(rt: HostRuntime) -> Result<(), Fail> {
     let capture = bytes(rt.alloc(), &[HEADER, AT_1_5, PLAIN])?;
     let calls = [usize::MAX; 3];
     let whole = run_over(rt.alloc(), b"", BOX, &capture, Working { most: 9, calls });
-    let [sends, reports] = whole.calls;
-    // 68 bytes take 8 calls, and the end is seen by one more.
-    for (device, count) in [(0, 9), (1, sends), (2, reports)] {
-        stops(&rt, &capture, &whole, device, count)?;
+    // 68 bytes take 8 reads, and the end is seen by one more.
+    assert!(&rt; whole.calls[0] == 9);
+    for (device, count) in whole.calls.iter().enumerate() {
+        stops(&rt, &capture, &whole, device, *count)?;
     }
     Ok(())
 }
