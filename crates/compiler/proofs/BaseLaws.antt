@@ -57,12 +57,12 @@ module _ (plant : PlantTree) (tables : List TableTree) (table : TableTree) (b : 
   same-policy = ap (λ x. x.policy) tells
 
   -- where the machine stops
-  stops : (f : Facts) (es : List Event) → stop_of code start f es 0 ≡ go_to (exec t (start.cost - 1)) (slice_get t.places.items b.number.chain) [] f es 0
+  stops : (f : Facts) (es : List Event) → stop_of code start f es ≡ go_to (exec t (start.cost - 1)) (slice_get t.places.items b.number.chain) [] f es 0
   stops f es =
       ap (λ n. run_table (slice_get code.tables.items n.table) n.chain (start.cost - 1) f es 0) same-chain
       ∙ ap (λ x. run_table x b.number.chain (start.cost - 1) f es 0) coded
 
-  runs-after : (rules : List (List Statement)) (f : Facts) (es : List Event) (o : After) → (named plant b.number.table table).rules_at b.number.chain ≡ Some rules → Runs (named plant b.number.table table) b.number.chain 1 (at_rule rules) f es o → (stop_of code start f es 0).after ≡ o
+  runs-after : (rules : List (List Statement)) (f : Facts) (es : List Event) (o : After) → (named plant b.number.table table).rules_at b.number.chain ≡ Some rules → Runs (named plant b.number.table table) b.number.chain 1 (at_rule rules) f es o → (stop_of code start f es).after ≡ o
   runs-after rules f es o has run = ap (λ (s : Stop). s.after) (stops f es) ∙ goes-there (named plant b.number.table table) t weight cost depth is ranked b.number.chain (start.cost - 1) rules f es o has (omega arith) shallow run
 
   -- what the rules lead to the machine comes to

@@ -2,4 +2,3 @@ pub mod Joining
 pub mod Tables
 pub mod Guarded
 pub mod Turns
-pub mod Ticks

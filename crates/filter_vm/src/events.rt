@@ -1,5 +1,5 @@
 //! What happens while rules run.
-ghost use Rattle.std.specs.Prelude.{◌≡◌, ◌≤◌, ◌<◌, ◌+◌, ◌^◌, ◌++◌, ◌∷◌, [], IfOk, vec_capacity, length};
+ghost use Rattle.std.specs.Prelude.{◌≡◌, ◌≤◌, ◌<◌, ◌+◌, ◌-◌, ◌^◌, ◌++◌, ◌∷◌, [], IfOk, vec_capacity, length, min};
 ghost use Rattle.filter_vm.specs.Machine.{Told};
 
 use rule_meaning::Event;
@@ -9,12 +9,12 @@ use std::marker::Model;
 /// The most events that the rules of one record can have.
 pub const MOST_EVENTS: usize = 65_536;
 
-/// The events of a record in their order, and how many statements were started. Its room is reserved
-/// once.
+/// The events of a record in their order, and how many statements were started since `new`, for all
+/// records: a count that nothing lowers, and that stays at 2^64 - 1. The room is reserved once.
 #[derive(Drop)]
 pub struct Events {
     list: Vec<Event>,
-    ticks: u32,
+    ticks: u64,
 }
 
 impl Model for Events {
@@ -41,34 +41,32 @@ impl Events {
         &self.list
     }
 
-    /// How many statements were started.
-    pub fn ticks(&self) -> u32
+    /// How many statements were started since `new`, at most 2^64 - 1.
+    pub fn ticks(&self) -> u64
         ensures { result ≡ self.now.ticks }
     {
         self.ticks
     }
 
-    /// No event and no statement, as at first. The room stays.
+    /// No event, as at first. The room and the count stay.
     pub fn clear(&mut self)
-        ensures { self.new ≡ record { events = []; ticks = 0 } }
+        ensures { self.new ≡ record self.old { events = [] } }
     {
         self.list.clear();
-        self.ticks = 0;
     }
 
     /// One more event.
     pub(crate) fn note(&mut self, event: Event)
         requires { length self.old.events < 65536 }
-        ensures { self.new ≡ record { events = self.old.events ++ event ∷ []; ticks = self.old.ticks } }
+        ensures { self.new ≡ record self.old { events = self.old.events ++ event ∷ [] } }
     {
         self.list.push_reserved(event);
     }
 
     /// So many more statements.
     pub(crate) fn tick(&mut self, count: u32)
-        requires { self.old.ticks + count < 2 ^ 32 }
-        ensures { self.new ≡ record { events = self.old.events; ticks = self.old.ticks + count } }
+        ensures { self.new ≡ record self.old { ticks = min (self.old.ticks + count) (2 ^ 64 - 1) } }
     {
-        self.ticks += count;
+        self.ticks = self.ticks.saturating_add(u64::from(count));
     }
 }
