@@ -12,8 +12,9 @@ use Rattle.pcap_io.specs.Pcap.{Recorded}
 use Rattle.story.specs.declared.outcome.Cause.{Cause}
 use Rattle.story.specs.declared.outcome.Cause.TheVariants as causes
 use Rattle.rule_meaning.specs.declared.facts.Interface.{Interface}
-use Rattle.stepping.specs.Next as next
-use Rattle.stepping.specs.Next.{Setup, Arrived, Carries, entered, link_cause, cause_of}
+use Rattle.stepping.specs.Carried as next
+use Rattle.story.specs.Setup.{Setup}
+use Rattle.stepping.specs.Carried.{Arrived, Carries, entered, link_cause, cause_of}
 
 -- the bytes from a place to the end
 from_place : (place : ℕ) (bytes : List ℕ) → take (length bytes - place) (drop place bytes) ≡ drop place bytes

@@ -1,149 +1,194 @@
--- What becomes of a record.
-use Rattle.std.proofs.Common.{◌≡◌, ℕ, true, false, List, [], Option, Some, None, Ok, Err, refl, sym, ap, subst, ◌∙◌}
-use Rattle.ip_headers.specs.Header.{total_len}
-use Rattle.conntrack.specs.declared.belonging.Belonging.{Belonging}
-use Rattle.conntrack.specs.declared.belonging.Belonging.TheVariants.{Nowhere, Ends, Found}
-use Rattle.conntrack.specs.declared.belonging.State.{State}
-use Rattle.conntrack.specs.declared.belonging.State.TheVariants as states
+-- What becomes of a record, by what is answered on its way.
+use Rattle.std.proofs.Common.{◌≡◌, ℕ, Bool, false, List, [], Option, Some, None, Result, Ok, Err, refl, sym, ap, subst, ◌∙◌}
+use Rattle.std.specs.Option.{option_map}
+use Rattle.ip_headers.specs.declared.tuple.Tuple.{Tuple}
+use Rattle.ip_headers.specs.Header.{transport_of}
+use Rattle.ip_headers.specs.Tuple.{tuple_of}
+use Rattle.conntrack.specs.declared.connection.ConnId.{ConnId}
+use Rattle.conntrack.specs.declared.connection.Flags.{Flags}
 use Rattle.conntrack.specs.declared.connection.Held.{Held}
-use Rattle.conntrack.specs.Held.{belongs_in, live_at, state_of}
-use Rattle.conntrack.specs.Recorded.{Count, Uncounted, after_end}
-use Rattle.ip_headers.specs.Tuple.{inverse}
+use Rattle.conntrack.specs.Stories.{does_begin}
 use Rattle.pcap_io.specs.Pcap.{Recorded}
+use Rattle.rule_meaning.specs.declared.facts.Facts.{Facts}
+use Rattle.rule_meaning.specs.declared.facts.Interface.{Interface}
+use Rattle.rule_meaning.specs.declared.facts.Tracking.TheVariants.{Unknown}
+use Rattle.rule_meaning.specs.declared.event.Event.{Event}
+use Rattle.rule_meaning.specs.Hooks.{End, Early}
 use Rattle.story.specs.declared.outcome.Cause.{Cause}
 use Rattle.story.specs.declared.outcome.Cause.TheVariants as causes
 use Rattle.story.specs.declared.outcome.Outcome.{Outcome}
-use Rattle.story.specs.declared.outcome.Outcome.TheVariants.{Passed, Local, Dropped}
-use Rattle.rule_check.specs.Checked.{CheckedTree}
-use Rattle.rule_meaning.specs.declared.facts.Facts.{Facts}
-use Rattle.rule_meaning.specs.declared.facts.Interface.{Interface}
-use Rattle.rule_meaning.specs.declared.facts.Tracking.{Tracking}
-use Rattle.rule_meaning.specs.declared.facts.Tracking.TheVariants.{Unknown, Invalid}
-use Rattle.rule_meaning.specs.declared.event.Event.{Event}
-use Rattle.rule_meaning.specs.Hooks.{End, Early}
-use Rattle.filter_vm.specs.declared.code.Code.{Code}
-use Rattle.stepping.specs.Next.{Setup, Arrived, Carries, Course, Fate, Sighting, Seen, Leads, arriving, counted_by, dropped, interface_facts, packet_facts, refusal, sent_on, settled, settled_as, sought_of, tracking_among, tracking_by, unseen, with_tracking}
-use Rattle.stepping.specs.Stands.{setup_of}
-use Rattle.stepping.specs.declared.fate.Ended.{Ended}
-use Rattle.stepping.specs.declared.parts.Part.TheVariants as parts
-use Rattle.stepping.specs.declared.settling.Led.{Led}
+use Rattle.story.specs.declared.outcome.Outcome.TheVariants.{Dropped}
+use Rattle.story.specs.Setup.{Setup}
+use Rattle.stepping.specs.declared.leading.Bound.{Bound}
+use Rattle.stepping.specs.declared.leading.Bound.TheVariants as bounds
+use Rattle.stepping.specs.declared.leading.Led.{Led}
 use Rattle.stepping.specs.declared.settling.Settled.{Settled}
 use Rattle.stepping.specs.declared.sought.Sought.{Sought}
-use Rattle.stepping.specs.steps.Parts.{goes_on, part_end}
-use Rattle.stepping.specs.steps.Settling.{Settles, after_sighting, begins_so, course_of}
-use Rattle.stepping.specs.steps.Fates.{Fared, FaredIn, Follows, HasFate, IsCodeOf, began, held_after, settled_in}
-use Rattle.stepping.proofs.HookRuns.{on_of, off_of, enters}
+use Rattle.stepping.specs.declared.way.Draft.{Draft}
+use Rattle.stepping.specs.declared.way.Way.{Way}
+use Rattle.stepping.specs.declared.way.Way.TheVariants.{Within, First, Astray}
+use Rattle.stepping.specs.Carried.{Arrived, Carries, arriving, interface_facts, packet_facts, with_tracking}
+use Rattle.stepping.specs.Ways.{Lookup, flags_in, look_up, lookup_of, sought_of, tracking_of, way_of}
+use Rattle.stepping.specs.Courses.{Course, Leads, dropped}
+use Rattle.stepping.specs.LastStep.{Fate, begun_unless, counted_by, refusal, reply_to, settled, settled_as, unseen}
+use Rattle.stepping.specs.Next.{tracked_by}
+use Rattle.stepping.specs.steps.Fates.{Fared, Follows, HasFate, held_after}
+use Rattle.stepping.specs.steps.Leading.{course_of, outcome_of}
+use Rattle.stepping.specs.steps.Passing.{Comes}
+use Rattle.stepping.specs.steps.Settling.{Settles, begun_in, others_in, outcome_in}
+use Rattle.stepping.proofs.Passages.{cause_by, facts_by, off_by, on_by}
+use Rattle.stepping.proofs.LastStep.{after_uncounted, agrees}
 
--- ---- what is held
+-- ---- a fate, and what is held after it
 
--- a packet whose connection isn't looked for changes nothing of what is held
-pub unseen_follows : (now : ℕ) (old new : List Held) (answer : Settled) (events : List Event) (course : Course) → answer ≡ record { outcome = course.outcome; begun = false } → events ≡ course.events → new ≡ old
-    → Follows now old new answer events (unseen course)
-unseen_follows now old new answer events course is happened same =
-    record { outcome = ap (λ (s : Settled). s.outcome) is; happened = happened; begun = ap (λ (s : Settled). s.begun) is; id = record { 0 = 0 }; held = same }
+no_id : ConnId
+no_id = record { 0 = 0 }
 
--- a packet was looked for by this, and these events happened
-record Sees (s : Sought) (happened : List Event) (fate : Fate) : Type 0 where
-  count : Count
-  sighting : fate.sighting ≡ Seen s count
-  told : fate.events ≡ happened
+begins_unseen : (now : ℕ) (lookup : Option Lookup) → false ≡ does_begin (tracked_by now lookup None).what
+begins_unseen now None = refl
+begins_unseen now (Some l) = refl
 
-counted_sees : (state : State) (belonging : Belonging) (refused : Option Cause) (s : Sought) (course : Course) → Sees s course.events (counted_by state belonging refused s course)
-counted_sees states.Invalid belonging refused s course = record { count = _; sighting = refl; told = refl }
-counted_sees states.Established belonging refused s course = record { count = _; sighting = refl; told = refl }
-counted_sees states.New (Found place) refused s course = record { count = _; sighting = refl; told = refl }
-counted_sees states.New (Ends id) None s course = record { count = _; sighting = refl; told = refl }
-counted_sees states.New (Ends id) (Some cause) s course = record { count = _; sighting = refl; told = refl }
-counted_sees states.New Nowhere None s course = record { count = _; sighting = refl; told = refl }
-counted_sees states.New Nowhere (Some cause) s course = record { count = _; sighting = refl; told = refl }
+held_unseen : (now : ℕ) (lookup : Option Lookup) (old : List Held) → old ≡ held_after now no_id lookup None old
+held_unseen now None old = refl
+held_unseen now (Some l) old = refl
 
--- whatever the last step makes of it
-settled_sees : (outcome : Outcome) (live : List Held) (s : Sought) (belonging : Belonging) (course : Course) → Sees s course.events (settled_as outcome live s belonging course)
-settled_sees (Dropped cause) live s belonging course = record { count = Uncounted; sighting = refl; told = refl }
-settled_sees Local live s belonging course = counted_sees (state_of s.tuple.kind belonging) belonging (refusal (inverse s.tuple) (after_end belonging live)) s course
-settled_sees (Passed interface) live s belonging course = counted_sees (state_of s.tuple.kind belonging) belonging (refusal (inverse s.tuple) (after_end belonging live)) s course
+-- what isn't looked up changes nothing of what is held
+pub unseen_follows : (now : ℕ) (lookup : Option Lookup) (old : List Held) (cause : Cause) (events : List Event) → Follows now lookup old old (Dropped cause) false events (unseen (dropped cause events))
+unseen_follows now lookup old cause events =
+    record { ends = refl; happened = refl; begins = begins_unseen now lookup; id = no_id; held = held_unseen now lookup old }
 
-module _ (now : ℕ) (old new : List Held) (answer : Settled) (events : List Event) where
-  -- what was settled among those held follows its fate
-  settled_so : (s : Sought) (led : Led) → Settles now s led (belongs_in old s.tuple s.flags) old new answer → Follows now old new answer events (settled old (Some s) (course_of led events))
-  settled_so s led settles =
-      let belonging = belongs_in old s.tuple s.flags in
-      let sees = settled_sees led.outcome old s belonging (course_of led events) in
-      record {
-        outcome = settles.outcome events;
-        happened = sym sees.told;
-        begun = settles.begun events ∙ ap (begins_so now belonging) sees.sighting ∙ sym (ap (began old now) sees.sighting);
+module _ (now : ℕ) (old : List Held) where
+  abbrev looked : Sought → Option Lookup
+  looked s = Some (look_up old s)
+
+  -- what is looked up and dropped ends a closing connection at most
+  dropped_follows : (sought : Option Sought) (cause : Cause) (events : List Event)
+      → (let lookup = option_map (look_up old) sought in Follows now lookup old (others_in lookup old) (Dropped cause) false events (settled lookup (dropped cause events)))
+  dropped_follows None cause events = record { ends = refl; happened = refl; begins = refl; id = no_id; held = refl }
+  dropped_follows (Some s) cause events = record {
+    ends = refl;
+    happened = refl;
+    begins = refl;
+    id = no_id;
+    held = sym (after_uncounted (look_up old s).belonging no_id _ old);
+  }
+
+  -- what is let through is counted by its way
+  through_counts : (s : Sought) (led : Led) (events : List Event) → settled (looked s) (course_of (Ok led) events) ≡ counted_by (way_of (looked s)) (look_up old s).others (course_of (Ok led) events)
+  through_counts s led events = by_bound led.bound
+    where
+      by_bound : (bound : Bound) → settled_as (outcome_of bound) (way_of (looked s)) (look_up old s).others (course_of (Ok led) events) ≡ counted_by (way_of (looked s)) (look_up old s).others (course_of (Ok led) events)
+      by_bound bounds.Local = refl
+      by_bound (bounds.Passed interface) = refl
+
+  begun_happened : (refused : Option Cause) (draft : Draft) (course : Course) → course.events ≡ (begun_unless refused draft course).events
+  begun_happened None draft course = refl
+  begun_happened (Some cause) draft course = refl
+
+  happened_so : (way : Way) (others : List Held) (course : Course) → course.events ≡ (counted_by way others course).events
+  happened_so (Within place) others course = refl
+  happened_so (First draft) others course = begun_happened (refusal (reply_to draft) others) draft course
+  happened_so Astray others course = refl
+
+  settled_follows : (sought : Option Sought) (flags : Flags) (led : Led) (new : List Held) (answer : Result Settled Cause) (events : List Event)
+      → (let lookup = option_map (look_up old) sought in
+      ((s : Sought) → sought ≡ Some s → s.flags ≡ flags) → Settles now flags led (way_of lookup) (others_in lookup old) new answer → Follows now lookup old new (outcome_in answer) (begun_in answer) events (settled lookup (course_of (Ok led) events)))
+  settled_follows None flags led new answer events has settles =
+      record { ends = settles.outcome events; happened = refl; begins = settles.begun events; id = no_id; held = settles.held events }
+  settled_follows (Some s) flags led new answer events has settles =
+      let course = course_of (Ok led) events in
+      let b = (look_up old s).belonging in
+      let agree = agrees settles.id now s b old course in
+      let is = through_counts s led events in
+      rw is (record {
+        ends = settles.outcome events;
+        happened = happened_so (way_of (looked s)) (look_up old s).others course;
+        begins = settles.begun events ∙ agree.begun;
         id = settles.id;
-        held = settles.held events ∙ ap (λ (g : Sighting). after_sighting now settles.id belonging g old) sees.sighting ∙ sym (ap (λ (g : Sighting). held_after now settles.id g old) sees.sighting);
-      }
-
-  module _ (setup : Setup) (p : List ℕ) (f : Facts) (es : List Event) (led : Led) (known : Facts) (leads : Leads setup p known es (course_of led events)) where
-    -- what is looked for is this
-    fares_by : (o : Option Sought) → sought_of p ≡ o → known ≡ with_tracking (tracking_among old o) f → Follows now old new answer events (settled old o (course_of led events)) → FaredIn setup p now f es old new answer events
-    fares_by o is tracked follows = record {
-      course = course_of led events;
-      leads = subst (λ (o : Option Sought). Leads setup p (with_tracking (tracking_among old o) f) es (course_of led events)) (sym is) (subst (λ (g : Facts). Leads setup p g es (course_of led events)) tracked leads);
-      follows = subst (λ (o : Option Sought). Follows now old new answer events (settled old o (course_of led events))) (sym is) follows;
-    }
-
-    -- a packet without a tuple is invalid
-    pub fares_unseen : sought_of p ≡ None → known ≡ with_tracking Invalid f → answer ≡ record { outcome = led.outcome; begun = false } → new ≡ old → FaredIn setup p now f es old new answer events
-    fares_unseen is tracked ends same = fares_by None is tracked (unseen_follows now old new answer events (course_of led events) ends refl same)
-
-    -- of any other it is known what it belongs to, and what the last step makes of that is its fate
-    pub fares_seen : (s : Sought) (belonging : Belonging) (tracking : Tracking) → sought_of p ≡ Some s → live_at now old ≡ old → belonging ≡ belongs_in (live_at now old) s.tuple s.flags
-        → tracking ≡ tracking_by (state_of s.tuple.kind belonging) belonging → known ≡ with_tracking tracking f → Settles now s led belonging old new answer → FaredIn setup p now f es old new answer events
-    fares_seen s belonging tracking is live belongs tracked with settles =
-        let among : belonging ≡ belongs_in old s.tuple s.flags = belongs ∙ ap (λ (held : List Held). belongs_in held s.tuple s.flags) live in
-        let tracked_so : known ≡ with_tracking (tracking_among old (Some s)) f = with ∙ ap (λ (t : Tracking). with_tracking t f) (tracked ∙ ap (λ (b : Belonging). tracking_by (state_of s.tuple.kind b) b) among) in
-        fares_by (Some s) is tracked_so (settled_so s led (subst (λ (b : Belonging). Settles now s led b old new answer) among settles))
+        held = (rw (← has s refl) at (settles.held events)) ∙ agree.held;
+      })
 
 -- ---- a packet
 
-module _ (checked : CheckedTree) (code : Code) (means : IsCodeOf checked code) where
-  abbrev setup : Setup
-  setup = setup_of checked
+-- what rules may read of it on arrival
+pub arrives_so : (setup : Setup) (a : Arrived) (input : Interface) (f : Facts) → f ≡ record { packet = packet_facts a.packet; input = input; output = None; mark = 0; tracking = Unknown } → input ≡ interface_facts setup.plant a.interface → f ≡ arriving setup a
+arrives_so setup a input f known is = known ∙ ap (λ (i : Interface). let g : Facts = record { packet = packet_facts a.packet; input = i; output = None; mark = 0; tracking = Unknown } in g) is
 
-  module _ (a : Arrived) (input : Interface) (f : Facts) (es : List Event) (early : End) (enters_by : input ≡ interface_facts checked.plant a.interface)
-      (known : f ≡ record { packet = packet_facts a.packet; input = input; output = None; mark = 0; tracking = Unknown }) (first : es ≡ []) (is : early ≡ part_end code parts.Early f es) where
-    has_entered : Early checked.plant checked.rules (arriving setup a) [] early
-    has_entered =
-        let same : arriving setup a ≡ f = sym (known ∙ ap (λ (i : Interface). let g : Facts = record { packet = packet_facts a.packet; input = i; output = None; mark = 0; tracking = Unknown } in g) enters_by) in
-        let to : part_end code parts.Early (arriving setup a) [] ≡ early = ap (λ (g : Facts). part_end code parts.Early g []) same ∙ ap (part_end code parts.Early f) (sym first) ∙ sym is in
-        subst (λ (e : End). Early checked.plant checked.rules (arriving setup a) [] e) to (enters checked code means (arriving setup a) [])
+module _ (setup : Setup) (a : Arrived) (f : Facts) (es : List Event) (known : f ≡ arriving setup a) (first : es ≡ []) where
+  has_entered : (end : End) → Early setup.plant setup.rules f es end → Early setup.plant setup.rules (arriving setup a) [] end
+  has_entered end run = subst (λ (f : Facts). Early setup.plant setup.rules f [] end) known (subst (λ (es : List Event). Early setup.plant setup.rules f es end) first run)
 
-    module _ (now : ℕ) (old new : List Held) (answer : Settled) where
-      -- what the early chains drop isn't looked for
-      pub is_stopped : answer ≡ record { outcome = Dropped causes.Rule; begun = false } → new ≡ old → goes_on early.ending ≡ false → Fared setup a now old new answer early.events
-      is_stopped ends same off = record {
-        fate = unseen (dropped causes.Rule early.events);
-        fares = record { early = early; first = has_entered; stopped = λ stops. refl; goes_on = λ on. absurd (off_of early.ending off on) };
-        follows = unseen_follows now old new answer early.events (dropped causes.Rule early.events) ends refl same;
-      }
+  -- what the early chains drop isn't looked up
+  pub is_dropped : (cause : Cause) (events : List Event) (now : ℕ) (old : List Held) → Comes (Early setup.plant setup.rules) f es (Err cause) events → Fared setup a now old old (Err cause) events
+  is_dropped cause events now old comes =
+      let off = off_by comes.end.ending comes.end.facts cause comes.answered in
+      rw (cause_by comes.end.ending comes.end.facts cause comes.answered, comes.happened) (record {
+        fate = unseen (dropped causes.Rule comes.end.events);
+        fares = record { early = comes.end; first = has_entered comes.end comes.run; stopped = λ stops. refl; goes_on = λ on. absurd (off on) };
+        follows = unseen_follows now (lookup_of old a.packet) old causes.Rule comes.end.events;
+      })
 
-      pub is_let_in : (events : List Event) → goes_on early.ending ≡ true → FaredIn setup a.packet now early.facts early.events old new answer events → Fared setup a now old new answer events
-      is_let_in events on fared = record {
-        fate = settled old (sought_of a.packet) fared.course;
-        fares = record { early = early; first = has_entered; stopped = λ stops. absurd (stops (on_of early.ending on)); goes_on = λ _. record { course = fared.course; leads = fared.leads; is = refl } };
-        follows = fared.follows;
-      }
+  -- what they let through is led, and the last step follows
+  module _ (g : Facts) (between : List Event) (comes : Comes (Early setup.plant setup.rules) f es (Ok g) between) (now : ℕ) (old : List Held) (sought : Option Sought) (is : sought ≡ sought_of a.packet)
+      (way : Way) (way_is : way ≡ way_of (option_map (look_up old) sought)) where
+    abbrev lookup : Option Lookup
+    lookup = option_map (look_up old) sought
+
+    same_lookup : lookup ≡ lookup_of old a.packet
+    same_lookup = ap (option_map (look_up old)) is
+
+    led_so : (course : Course) (new : List Held) (answer : Result Settled Cause) (events : List Event)
+        → Leads setup (with_tracking (tracking_of way) g) between course → Follows now lookup old new (outcome_in answer) (begun_in answer) events (settled lookup course)
+        → Fared setup a now old new answer events
+    led_so course new answer events leads follows =
+        let facts : g ≡ comes.end.facts = facts_by comes.end.ending comes.end.facts g comes.answered in
+        let on = on_by comes.end.ending comes.end.facts g comes.answered in
+        let leads_so : Leads setup (with_tracking (tracking_of (way_of lookup)) comes.end.facts) comes.end.events course = rw (← way_is, ← facts, ← comes.happened) leads in
+        record {
+          fate = settled lookup course;
+          fares = record {
+            early = comes.end;
+            first = has_entered comes.end comes.run;
+            stopped = λ stops. absurd (stops on);
+            goes_on = λ _. record {
+              course = course;
+              leads = subst (λ (l : Option Lookup). Leads setup (with_tracking (tracking_of (way_of l)) comes.end.facts) comes.end.events course) same_lookup leads_so;
+              is = ap (λ (l : Option Lookup). settled l course) same_lookup;
+            };
+          };
+          follows = subst (λ (l : Option Lookup). Follows now l old new (outcome_in answer) (begun_in answer) events (settled lookup course)) same_lookup follows;
+        }
+
+    pub is_stopped : (cause : Cause) (new : List Held) (events : List Event) → Leads setup (with_tracking (tracking_of way) g) between (dropped cause events) → new ≡ others_in lookup old → Fared setup a now old new (Err cause) events
+    is_stopped cause new events leads held = led_so (dropped cause events) new (Err cause) events leads (rw held (dropped_follows now old sought cause events))
+
+    has_flags : (flags : Flags) → flags ≡ flags_in (transport_of a.packet) → (found : Option Tuple) → option_map (λ t. let s : Sought = record { tuple = t; flags = flags_in (transport_of a.packet) } in s) found ≡ sought → (s : Sought) → sought ≡ Some s → s.flags ≡ flags
+    has_flags flags same None none s some = absurd (none_some s (none ∙ some))
+      where
+        none_some : (s : Sought) → None ≡ Some s → ⊥
+        none_some s e = cc
+    has_flags flags same (Some t) found s some = flags_so s (found ∙ some)
+      where
+        flags_so : (s : Sought) → (let one : Sought = record { tuple = t; flags = flags_in (transport_of a.packet) } in Some one) ≡ Some s → s.flags ≡ flags
+        flags_so s e = cc
+
+    pub is_settled : (flags : Flags) (led : Led) (new : List Held) (answer : Result Settled Cause) (events : List Event) → flags ≡ flags_in (transport_of a.packet)
+        → Leads setup (with_tracking (tracking_of way) g) between (course_of (Ok led) events) → Settles now flags led way (others_in lookup old) new answer → Fared setup a now old new answer events
+    is_settled flags led new answer events same leads settles =
+        led_so (course_of (Ok led) events) new answer events leads
+        (settled_follows now old sought flags led new answer events (has_flags flags same (tuple_of a.packet) (sym is)) (subst (λ (w : Way). Settles now flags led w (others_in lookup old) new answer) way_is settles))
 
 -- ---- a record
 
-module _ (setup : Setup) (r : Recorded) (now : ℕ) (old new : List Held) (events : List Event) (packet : List ℕ) where
+module _ (setup : Setup) (r : Recorded) (now : ℕ) (events : List Event) (packet : List ℕ) where
   -- of a record that carries no packet nothing is told, and nothing leaves
-  pub without_packet : (cause : Cause) → Carries setup r (Err cause) → new ≡ old → events ≡ [] → packet ≡ [] → HasFate setup r now old new (record { outcome = Dropped cause; length = 0; begun = false }) events packet
-  without_packet cause carried same quiet none = record {
+  pub without_packet : (cause : Cause) (old : List Held) → Carries setup r (Err cause) → events ≡ [] → packet ≡ [] → HasFate setup r now old old (record { outcome = Dropped cause; length = 0; begun = false }) events packet
+  without_packet cause old carried quiet none = record {
     arrived = Err cause;
     carried = carried;
     fate = unseen (dropped cause []);
     fares = refl;
-    follows = unseen_follows now old new (record { outcome = Dropped cause; begun = false }) events (dropped cause []) refl quiet same;
+    follows = rw quiet (unseen_follows now None old cause []);
     long = refl;
     leaves = none;
   }
-
-  -- of one that carries a packet, what becomes of that
-  pub with_packet : (a : Arrived) (ended : Ended) → Carries setup r (Ok a) → Fared setup a now old new (settled_in ended) events → ended.length ≡ total_len a.packet → packet ≡ sent_on a.packet ended.outcome → HasFate setup r now old new ended events packet
-  with_packet a ended carried fared long leaves =
-      record { arrived = Ok a; carried = carried; fate = fared.fate; fares = fared.fares; follows = fared.follows; long = long; leaves = leaves }

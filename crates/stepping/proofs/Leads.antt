@@ -1,101 +1,116 @@
--- How the rules lead a packet, by what code comes to.
-use Rattle.std.proofs.Common.{◌≡◌, ℕ, ◌-◌, ◌≤◌, ◌<◌, true, false, List, Some, None, sym, ap, subst, ◌∙◌}
+-- How the rules lead a packet, by what is answered on its way.
+use Rattle.std.proofs.Common.{◌≡◌, ℕ, ◌-◌, ◌≤◌, ◌<◌, Bool, true, false, cond, nat_lt, List, Option, Some, None, Result, Ok, Err, refl, sym, ap, subst, ◌∙◌}
+use borrow.Author.Tests.{ltb-false, ltb-true}
 use Rattle.box_file.specs.Box.{PlantTree, is_own, route}
-use Rattle.ip_headers.specs.Header.{destination, ttl}
-use Rattle.story.specs.declared.outcome.Cause.{Cause}
-use Rattle.story.specs.declared.outcome.Cause.TheVariants as causes
-use Rattle.story.specs.declared.outcome.Outcome.{Outcome}
-use Rattle.story.specs.declared.outcome.Outcome.TheVariants.{Passed, Local, Dropped}
-use Rattle.rule_check.specs.Checked.{CheckedTree}
 use Rattle.rule_meaning.specs.declared.facts.Facts.{Facts}
 use Rattle.rule_meaning.specs.declared.facts.Interface.{Interface}
 use Rattle.rule_meaning.specs.declared.event.Event.{Event}
+use Rattle.rule_meaning.specs.declared.event.Ending.{Ending}
 use Rattle.rule_meaning.specs.Hooks.{End}
-use Rattle.filter_vm.specs.declared.code.Code.{Code}
-use Rattle.stepping.specs.Next as next
-use Rattle.stepping.specs.Next.{Setup, Course, Arrives, Delivers, Departs, Leads, LeadsOn, departing, dropped, interface_facts, mark_in, through}
-use Rattle.stepping.specs.Stands.{setup_of}
-use Rattle.stepping.specs.declared.parts.Part.TheVariants as parts
-use Rattle.stepping.specs.declared.settling.Led.{Led}
-use Rattle.stepping.specs.steps.Parts.{goes_on, part_end, arrival_end, departure_end}
-use Rattle.stepping.specs.steps.Settling.{course_of}
-use Rattle.stepping.specs.steps.Fates.{IsCodeOf}
-use Rattle.stepping.proofs.HookRuns.{on_of, off_of, arrives, delivers, departs}
+use Rattle.story.specs.declared.outcome.Cause.{Cause}
+use Rattle.story.specs.declared.outcome.Cause.TheVariants as causes
+use Rattle.story.specs.declared.outcome.Outcome.TheVariants.{Passed, Local}
+use Rattle.story.specs.Setup.{Setup}
+use Rattle.stepping.specs.declared.leading.Bound.{Bound}
+use Rattle.stepping.specs.declared.leading.Bound.TheVariants as bounds
+use Rattle.stepping.specs.declared.leading.Led.{Led}
+use Rattle.stepping.specs.Carried.{departing, interface_facts}
+use Rattle.stepping.specs.Courses as courses
+use Rattle.stepping.specs.Courses.{Arrives, Course, Departs, Leads, LeadsOn, dropped, mark_in, through}
+use Rattle.stepping.specs.steps.Leading.{Leaves, bound_by, bound_of, course_of}
+use Rattle.stepping.specs.steps.Passing.{Comes}
+use Rattle.stepping.proofs.Passages.{cause_by, facts_by, off_by, on_by}
 
--- ---- answers that are passed on
-
--- what a plant answered for an address, by the plant and the address that they are
-pub asked : {A : Type 0} (look : PlantTree → ℕ → A) (plant plant' : PlantTree) (d d' : ℕ) (r b : A) → plant ≡ plant' → d ≡ d' → r ≡ look plant d → r ≡ b → look plant' d' ≡ b
-asked look plant plant' d d' r b e f g h = cc
-
--- what is known on departure
-pub departs_with : (checked : CheckedTree) (plant : PlantTree) (interface : ℕ) (i : Interface) (f g : Facts) → plant ≡ checked.plant → i ≡ interface_facts plant interface
-    → g ≡ record f { output = Some i; packet = record f.packet { ttl = f.packet.ttl - 1 } } → g ≡ departing (setup_of checked) interface f
-departs_with checked plant interface i f g same is known =
+-- what rules may read on departure, by the interface that is told
+pub departs_with : (setup : Setup) (plant : PlantTree) (interface : ℕ) (i : Interface) (f g : Facts) → plant ≡ setup.plant → i ≡ interface_facts plant interface
+    → g ≡ record f { output = Some i; packet = record f.packet { ttl = f.packet.ttl - 1 } } → g ≡ departing setup interface f
+departs_with setup plant interface i f g same is known =
     known ∙ ap (λ (j : Interface). let h : Facts = record f { output = Some j; packet = record f.packet { ttl = f.packet.ttl - 1 } } in h) (is ∙ ap (λ (q : PlantTree). interface_facts q interface) same)
 
-module _ (checked : CheckedTree) (code : Code) (means : IsCodeOf checked code) where
-  abbrev setup : Setup
-  setup = setup_of checked
+pub leaves_by : (setup : Setup) (interface : ℕ) (f g : Facts) (es events : List Event) (answer : Result Facts Cause) → g ≡ departing setup interface f → Comes (Departs setup) g es answer events → Comes (Leaves setup (bounds.Passed interface)) f es answer events
+leaves_by setup interface f g es events answer is comes =
+    record { end = comes.end; run = subst (λ (h : Facts). Departs setup h es comes.end) is comes.run; answered = comes.answered; happened = comes.happened }
 
+module _ (setup : Setup) where
   -- ---- once it has arrived
 
-  module _ (p : List ℕ) (arrival : End) (led : Led) where
-    abbrev IsDropped : Cause → Type 0
-    IsDropped cause = led ≡ record { outcome = Dropped cause; mark = 0 }
+  module _ (ending : Ending) (f : Facts) (es : List Event) where
+    abbrev arrival : End
+    arrival = record { ending = ending; facts = f; events = es }
 
-    abbrev IsThrough : Outcome → End → Type 0
-    IsThrough outcome end = led ≡ record { outcome = outcome; mark = mark_in end.facts.tracking }
+    abbrev own : Bool
+    own = is_own setup.plant f.packet.destination
 
-    abbrev LedOn : List Event → Type 0
-    LedOn events = LeadsOn setup p arrival (course_of led events)
+    abbrev way : Option ℕ
+    way = route setup.plant f.packet.destination
 
-    -- what is answered of one that is dropped is its course, and so of one that goes through
-    as_dropped : (cause : Cause) (events : List Event) → IsDropped cause → LeadsOn setup p arrival (dropped cause events) → LedOn events
-    as_dropped cause events is leads = subst (λ (l : Led). LeadsOn setup p arrival (course_of l events)) (sym is) leads
+    abbrev LedOn : Result Led Cause → List Event → Type 0
+    LedOn answer events = LeadsOn setup arrival (course_of answer events)
 
-    as_through : (outcome : Outcome) (end : End) → IsThrough outcome end → LeadsOn setup p arrival (through outcome end) → LedOn end.events
-    as_through outcome end is leads = subst (λ (l : Led). LeadsOn setup p arrival (course_of l end.events)) (sym is) leads
+    -- where a packet goes, by the tests in turn
+    record IsBound (bound : Bound) : Type 0 where
+      pub leads : (g : Facts) (events : List Event) → Comes (Leaves setup bound) f es (Ok g) events → LedOn (Ok (record { bound = bound; mark = mark_in g.tracking })) events
+      pub drops : (cause : Cause) (events : List Event) → Comes (Leaves setup bound) f es (Err cause) events → LedOn (Err cause) events
 
-    delivers_so : (local : End) → local ≡ part_end code parts.Input arrival.facts arrival.events → Delivers setup arrival.facts arrival.events local
-    delivers_so local is = subst (λ (e : End). Delivers setup arrival.facts arrival.events e) (sym is) (delivers checked code means arrival.facts arrival.events)
+    local : own ≡ true → IsBound bounds.Local
+    local is = record {
+      leads = λ g events comes.
+          let facts : g ≡ comes.end.facts = facts_by comes.end.ending comes.end.facts g comes.answered in
+          rw (facts, comes.happened) (courses.delivered comes.end is comes.run (on_by comes.end.ending comes.end.facts g comes.answered));
+      drops = λ cause events comes.
+          rw (cause_by comes.end.ending comes.end.facts cause comes.answered, comes.happened) (courses.not_delivered comes.end is comes.run (off_by comes.end.ending comes.end.facts cause comes.answered));
+    }
 
-    pub is_delivered : (local : End) → is_own checked.plant (destination p) ≡ true → local ≡ part_end code parts.Input arrival.facts arrival.events → goes_on local.ending ≡ true → IsThrough Local local → LedOn local.events
-    is_delivered local own is on to = as_through Local local to (next.delivered local own (delivers_so local is) (on_of local.ending on))
+    passed : (interface : ℕ) → own ≡ false → way ≡ Some interface → 2 ≤ f.packet.ttl → IsBound (bounds.Passed interface)
+    passed interface is by hops = record {
+      leads = λ g events comes.
+          let facts : g ≡ comes.end.facts = facts_by comes.end.ending comes.end.facts g comes.answered in
+          rw (facts, comes.happened) (courses.leaves interface comes.end is by hops comes.run (on_by comes.end.ending comes.end.facts g comes.answered));
+      drops = λ cause events comes.
+          rw (cause_by comes.end.ending comes.end.facts cause comes.answered, comes.happened) (courses.stays interface comes.end is by hops comes.run (off_by comes.end.ending comes.end.facts cause comes.answered));
+    }
 
-    pub is_not_delivered : (local : End) → is_own checked.plant (destination p) ≡ true → local ≡ part_end code parts.Input arrival.facts arrival.events → goes_on local.ending ≡ false → IsDropped causes.Rule → LedOn local.events
-    is_not_delivered local own is off to = as_dropped causes.Rule local.events to (next.not_delivered local own (delivers_so local is) (off_of local.ending off))
+    -- by what is answered of it
+    abbrev Answers : Result Bound Cause → Type 0
+    Answers (Ok bound) = IsBound bound
+    Answers (Err cause) = LedOn (Err cause) es
 
-    pub is_without_route : is_own checked.plant (destination p) ≡ false → route checked.plant (destination p) ≡ None → IsDropped causes.Route → LedOn arrival.events
-    is_without_route own way to = as_dropped causes.Route arrival.events to (next.without_route own way)
+    by_hops : (interface : ℕ) → own ≡ false → way ≡ Some interface → (b : Bool) → nat_lt f.packet.ttl 2 ≡ b → Answers (cond b (Err causes.Ttl) (Ok (bounds.Passed interface)))
+    by_hops interface is by true low = courses.at_last_hop interface is by (ltb-true f.packet.ttl 2 low)
+    by_hops interface is by false more = passed interface is by (ltb-false f.packet.ttl 2 more)
 
-    pub is_at_last_hop : (interface : ℕ) → is_own checked.plant (destination p) ≡ false → route checked.plant (destination p) ≡ Some interface → ttl p < 2 → IsDropped causes.Ttl → LedOn arrival.events
-    is_at_last_hop interface own way last to = as_dropped causes.Ttl arrival.events to (next.at_last_hop interface own way last)
+    by_way : own ≡ false → (found : Option ℕ) → way ≡ found → Answers (bound_by f.packet.ttl found)
+    by_way is None by = courses.without_route is by
+    by_way is (Some interface) by = by_hops interface is by (nat_lt f.packet.ttl 2) refl
 
-    departs_so : (interface : ℕ) (f : Facts) (departure : End) → f ≡ departing setup interface arrival.facts → departure ≡ departure_end code f arrival.events → Departs setup (departing setup interface arrival.facts) arrival.events departure
-    departs_so interface f departure known is =
-        subst (λ (e : End). Departs setup (departing setup interface arrival.facts) arrival.events e) (sym (is ∙ ap (λ (g : Facts). departure_end code g arrival.events) known)) (departs checked code means (departing setup interface arrival.facts) arrival.events)
+    by_own : (b : Bool) → own ≡ b → Answers (cond b (Ok bounds.Local) (bound_by f.packet.ttl way))
+    by_own true is = local is
+    by_own false is = by_way is way refl
 
-    pub is_kept : (interface : ℕ) (f : Facts) (departure : End) → is_own checked.plant (destination p) ≡ false → route checked.plant (destination p) ≡ Some interface → 2 ≤ ttl p
-        → f ≡ departing setup interface arrival.facts → departure ≡ departure_end code f arrival.events → goes_on departure.ending ≡ false → IsDropped causes.Rule → LedOn departure.events
-    is_kept interface f departure own way more known is off to =
-        as_dropped causes.Rule departure.events to (next.stays interface departure own way more (departs_so interface f departure known is) (off_of departure.ending off))
+    bound_so : (answer : Result Bound Cause) → answer ≡ bound_of setup.plant f.packet → Answers answer
+    bound_so answer is = subst Answers (sym is) (by_own own refl)
 
-    pub is_sent : (interface : ℕ) (f : Facts) (departure : End) → is_own checked.plant (destination p) ≡ false → route checked.plant (destination p) ≡ Some interface → 2 ≤ ttl p
-        → f ≡ departing setup interface arrival.facts → departure ≡ departure_end code f arrival.events → goes_on departure.ending ≡ true → IsThrough (Passed interface) departure → LedOn departure.events
-    is_sent interface f departure own way more known is on to =
-        as_through (Passed interface) departure to (next.leaves interface departure own way more (departs_so interface f departure known is) (on_of departure.ending on))
+    -- a packet that isn't bound anywhere is dropped
+    pub is_unbound : (cause : Cause) → Err cause ≡ bound_of setup.plant f.packet → LedOn (Err cause) es
+    is_unbound cause is = bound_so (Err cause) is
 
-  -- ---- arrival
+    -- one that is bound somewhere is led there, or dropped on its way
+    pub is_led : (bound : Bound) (g : Facts) (events : List Event) → Ok bound ≡ bound_of setup.plant f.packet → Comes (Leaves setup bound) f es (Ok g) events → LedOn (Ok (record { bound = bound; mark = mark_in g.tracking })) events
+    is_led bound g events is comes = (bound_so (Ok bound) is).leads g events comes
 
-  module _ (p : List ℕ) (f : Facts) (es : List Event) (arrival : End) (is : arrival ≡ arrival_end code f es) where
-    has_arrived : Arrives setup f es arrival
-    has_arrived = subst (λ (e : End). Arrives setup f es e) (sym is) (arrives checked code means f es)
+    pub is_stopped : (bound : Bound) (cause : Cause) (events : List Event) → Ok bound ≡ bound_of setup.plant f.packet → Comes (Leaves setup bound) f es (Err cause) events → LedOn (Err cause) events
+    is_stopped bound cause events is comes = (bound_so (Ok bound) is).drops cause events comes
 
-    pub is_stopped : (led : Led) → led ≡ record { outcome = Dropped causes.Rule; mark = 0 } → goes_on arrival.ending ≡ false → Leads setup p f es (course_of led arrival.events)
-    is_stopped led to off =
-        record { arrival = arrival; arrived = has_arrived; by = (λ stops. ap (λ (l : Led). course_of l arrival.events) to, λ on. absurd (off_of arrival.ending off on)) }
+  -- ---- its arrival
 
-    pub is_let_in : (course : Course) → goes_on arrival.ending ≡ true → LeadsOn setup p arrival course → Leads setup p f es course
-    is_let_in course on leads =
-        record { arrival = arrival; arrived = has_arrived; by = (λ stops. absurd (stops (on_of arrival.ending on)), λ _. leads) }
+  module _ (f : Facts) (es : List Event) where
+    pub is_let_in : (g : Facts) (between : List Event) (course : Course) → Comes (Arrives setup) f es (Ok g) between → ((ending : Ending) → LeadsOn setup (record { ending = ending; facts = g; events = between }) course) → Leads setup f es course
+    is_let_in g between course comes leads =
+        let facts : g ≡ comes.end.facts = facts_by comes.end.ending comes.end.facts g comes.answered in
+        let led : LeadsOn setup comes.end course = rw (← facts, ← comes.happened) (leads comes.end.ending) in
+        record { arrival = comes.end; arrived = comes.run; by = (λ stops. absurd (stops (on_by comes.end.ending comes.end.facts g comes.answered)), λ _. led) }
+
+    pub is_kept_out : (cause : Cause) (events : List Event) → Comes (Arrives setup) f es (Err cause) events → Leads setup f es (dropped cause events)
+    is_kept_out cause events comes =
+        let off = off_by comes.end.ending comes.end.facts cause comes.answered in
+        record { arrival = comes.end; arrived = comes.run; by = (λ stops. rw (cause_by comes.end.ending comes.end.facts cause comes.answered, comes.happened) refl, λ on. absurd (off on)) }

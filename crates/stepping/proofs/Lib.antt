@@ -1,9 +1,7 @@
-mod Costs
-mod Orders
-mod HookRuns
+mod Passages
 mod Arrivals
 mod Leads
+mod LastStep
 mod Fates
 mod Standing
 mod Entries
-mod LastStep

@@ -2,9 +2,8 @@
 use Rattle.std.proofs.Common.{◌≡◌, ℕ, ◌+◌, ◌≤◌, Bool, true, false, cond, List, [], ◌∷◌, length, map, Option, Some, None, refl, sym, ap, subst, ◌∙◌, arith}
 use Rattle.std.specs.Prelude.{nat_le, max, IsTrue, Result, Ok, Err, Vec, if◌then◌else◌}
 use Rattle.std.specs.declared.alloc.Global.{Global}
-use Rattle.ip_headers.specs.declared.tuple.Kind.{Kind}
+use Rattle.std.specs.Option.{option_map}
 use Rattle.ip_headers.specs.declared.tuple.Tuple.{Tuple}
-use Rattle.ip_headers.specs.Tuple.{inverse}
 use Rattle.conntrack.specs.declared.belonging.Belonging.{Belonging}
 use Rattle.conntrack.specs.declared.belonging.Belonging.TheVariants.{Nowhere, Ends, Found}
 use Rattle.conntrack.specs.declared.belonging.State.{State}
@@ -12,26 +11,33 @@ use Rattle.conntrack.specs.declared.belonging.State.TheVariants.{Established, Ne
 use Rattle.conntrack.specs.declared.connection.ConnId.{ConnId}
 use Rattle.conntrack.specs.declared.connection.Flags.{Flags}
 use Rattle.conntrack.specs.declared.connection.Held.{Held}
-use Rattle.conntrack.specs.Held.{IsNoneLater, belongs_in, has_distinct_ids, is_live, is_taken, live_at, most_held, nameless, nameless_belonging, state_of}
+use Rattle.conntrack.specs.declared.limits.Limits.{Limits}
+use Rattle.conntrack.specs.Held.{IsNoneLater, belongs_in, first_state, has_distinct_ids, is_live, is_taken, live_at, most_held, nameless, nameless_belonging, nameless_place}
 use Rattle.conntrack.specs.Stories as connections
 use Rattle.conntrack.specs.Stories.{belongs, does_begin, live_list}
 use Rattle.conntrack.specs.Recorded as recorded
 use Rattle.conntrack.specs.Recorded.{Arrival, Count, Uncounted, Counted, after_end, after_packet, entry_at, what_of_packet}
 use Rattle.pcap_io.specs.Pcap.{Recorded}
 use Rattle.rule_meaning.specs.declared.event.Event.{Event}
-use Rattle.rule_meaning.specs.declared.facts.ConnectionState.{ConnectionState}
 use Rattle.rule_meaning.specs.declared.facts.Tracking.{Tracking}
 use Rattle.story.specs.declared.outcome.Cause.{Cause}
 use Rattle.story.specs.declared.outcome.Cause.TheVariants as causes
 use Rattle.story.specs.declared.outcome.Outcome.{Outcome}
 use Rattle.story.specs.declared.outcome.Outcome.TheVariants.{Passed, Local, Dropped}
+use Rattle.story.specs.Setup.{Setup, limits_of}
 use Rattle.story.specs.Story.{Entry, live_in, moment_of, tracked_of}
 use Rattle.filter_vm.specs.Machine as machine
 use Rattle.stepping.specs.declared.fate.Ended.{Ended}
 use Rattle.stepping.specs.declared.sought.Sought.{Sought}
-use Rattle.stepping.specs.Next.{Setup, Arrived, Fate, Sighting, Unseen, Seen, Next, FaresAs, FaresIn, Leads, Course, at_moment, counted_by, entry_of, known_by, leaving, live_at_record, moment_after, refusal, settled, settled_as, sought_of, tracked_by, tracking_among, tracking_by, with_tracking}
+use Rattle.stepping.specs.declared.way.Way.{Way}
+use Rattle.stepping.specs.declared.way.Way.TheVariants.{Within, First, Astray}
+use Rattle.stepping.specs.Carried.{Arrived, with_tracking}
+use Rattle.stepping.specs.Ways.{Lookup, first_way, look_up, lookup_of, sought_of, tracking_of, way_by, way_of}
+use Rattle.stepping.specs.Courses.{Course, Leads}
+use Rattle.stepping.specs.LastStep.{Fate, begun_unless, counted_by, refusal, reply_to, settled, settled_as}
+use Rattle.stepping.specs.Next.{FaresAs, FaresIn, Next, answered, at_moment, entry_of, leaving, live_at_record, moment_after, tracked_by}
 use Rattle.stepping.specs.Stands.{Shown, Stands, Told, newest_of}
-use Rattle.stepping.specs.steps.Fates.{HasFate, IsFresh, began, held_after, newest_in}
+use Rattle.stepping.specs.steps.Fates.{HasFate, IsFresh, held_after, newest_in}
 
 -- ---- what is known of connections
 
@@ -42,67 +48,71 @@ pub record AreAlike : Type 0 where
   pub ended : (held others : List Held) (tuple : Tuple) (flags : Flags) → map nameless held ≡ map nameless others → IsTrue (has_distinct_ids held) → IsTrue (has_distinct_ids others)
       → map nameless (after_end (belongs_in held tuple flags) held) ≡ map nameless (after_end (belongs_in others tuple flags) others)
   pub belonging : (held others : List Held) (tuple : Tuple) (flags : Flags) → map nameless held ≡ map nameless others → nameless_belonging (belongs_in held tuple flags) ≡ nameless_belonging (belongs_in others tuple flags)
-  pub state : (one other : Belonging) (kind : Kind) → nameless_belonging one ≡ nameless_belonging other → state_of kind one ≡ state_of kind other
   pub taken : (held others : List Held) (tuple : Tuple) → map nameless held ≡ map nameless others → is_taken tuple held ≡ is_taken tuple others
   pub number : (held others : List Held) → map nameless held ≡ map nameless others → length held ≡ length others
-  pub live : (held others : List Held) (now : ℕ) → map nameless held ≡ map nameless others → map nameless (live_at now held) ≡ map nameless (live_at now others)
+  pub live : (limits : Limits) (held others : List Held) (now : ℕ) → map nameless held ≡ map nameless others → map nameless (live_at limits now held) ≡ map nameless (live_at limits now others)
 
 -- what a story with one entry more tells, and what a story tells of a later moment
-pub record IsTold : Type 0 where
+pub record IsTold (limits : Limits) : Type 0 where
   pub packet : (story : List connections.Entry) (p : Arrival) (count : Count)
-      → live_list (recorded.entry_of (belongs story p.moment p.tuple p.flags) p count ∷ story) p.moment ≡ after_packet (belongs story p.moment p.tuple p.flags) (record { 0 = length story }) p count (live_list story p.moment)
-  pub none : (story : List connections.Entry) (now : ℕ) → live_list (entry_at now ∷ story) now ≡ live_list story now
-  pub later : (story : List connections.Entry) (now later : ℕ) → now ≤ later → live_list story later ≡ live_at later (live_list story now)
-  pub distinct : (story : List connections.Entry) (now : ℕ) → IsTrue (has_distinct_ids (live_list story now))
+      → live_list limits (recorded.entry_of (belongs limits story p.moment p.tuple p.flags) p count ∷ story) p.moment
+      ≡ after_packet (belongs limits story p.moment p.tuple p.flags) (record { 0 = length story }) p count (live_list limits story p.moment)
+  pub none : (story : List connections.Entry) (now : ℕ) → live_list limits (entry_at now ∷ story) now ≡ live_list limits story now
+  pub later : (story : List connections.Entry) (now later : ℕ) → now ≤ later → live_list limits story later ≡ live_at limits later (live_list limits story now)
+  pub distinct : (story : List connections.Entry) (now : ℕ) → IsTrue (has_distinct_ids (live_list limits story now))
 
 -- ---- what is held, over time
 
 -- what is taken out makes none later
-none_later-live : (now at : ℕ) (held : List Held) → IsNoneLater now held → IsNoneLater now (live_at at held)
-none_later-live now at [] h = tt
-none_later-live now at (x ∷ held) h = kept (is_live at x) (none_later-live now at held h.1)
+none_later-live : (limits : Limits) (now at : ℕ) (held : List Held) → IsNoneLater now held → IsNoneLater now (live_at limits at held)
+none_later-live limits now at [] h = tt
+none_later-live limits now at (x ∷ held) h = kept (is_live limits at x) (none_later-live limits now at held h.1)
   where
-    kept : (b : Bool) → IsNoneLater now (live_at at held) → IsNoneLater now (cond b (x ∷ live_at at held) (live_at at held))
+    kept : (b : Bool) → IsNoneLater now (live_at limits at held) → IsNoneLater now (cond b (x ∷ live_at limits at held) (live_at limits at held))
     kept true k = (h.0, k)
     kept false k = k
 
 -- nor does the time that passes
 pub none_later-aged : ((held : List Held) (now later : ℕ) → now ≤ later → IsNoneLater now held → IsNoneLater later held)
-    → (latest now : ℕ) (old held aged : List Held) → held ≡ old → aged ≡ live_at now held → latest ≤ now → IsNoneLater latest old → IsNoneLater now aged
-none_later-aged law latest now old held aged same is le h = rw (is, same) (none_later-live now now old (law old latest now le h))
+    → (limits : Limits) (latest now : ℕ) (old held aged : List Held) → held ≡ old → aged ≡ live_at limits now held → latest ≤ now → IsNoneLater latest old → IsNoneLater now aged
+none_later-aged law limits latest now old held aged same is le h = rw (is, same) (none_later-live limits now now old (law old latest now le h))
 
--- nor does a packet that is seen
+-- nor does a packet that is looked up
 pub none_later-after : ((held : List Held) (belonging : Belonging) (id : ConnId) (p : Arrival) (count : Count) → IsNoneLater p.moment held → IsNoneLater p.moment (after_packet belonging id p count held))
-    → (now : ℕ) (id : ConnId) (sighting : Sighting) (held : List Held) → IsNoneLater now held → IsNoneLater now (held_after now id sighting held)
-none_later-after law now id Unseen held h = h
-none_later-after law now id (Seen s count) held h = law held (belongs_in held s.tuple s.flags) id (at_moment now s) count h
+    → (now : ℕ) (id : ConnId) (lookup : Option Lookup) (count : Option Count) (held : List Held) → IsNoneLater now held → IsNoneLater now (held_after now id lookup count held)
+none_later-after law now id None count held h = h
+none_later-after law now id (Some l) None held h = h
+none_later-after law now id (Some l) (Some count) held h = law held l.belonging id (at_moment now l.sought) count h
 
 -- ---- what names don't change
 
-known_nameless : (state : ConnectionState) (b : Belonging) → known_by state b ≡ known_by state (nameless_belonging b)
-known_nameless state Nowhere = refl
-known_nameless state (Ends id) = refl
-known_nameless state (Found place) = refl
+-- a way, but for the name of its connection
+abbrev nameless_way : Way → Way
+nameless_way (Within place) = Within (nameless_place place)
+nameless_way (First draft) = First draft
+nameless_way Astray = Astray
+
+first_nameless : (state : State) (t : Tuple) → nameless_way (first_way state t) ≡ first_way state t
+first_nameless New t = refl
+first_nameless Established t = refl
+first_nameless Invalid t = refl
+
+way_nameless : (t : Tuple) (b : Belonging) → nameless_way (way_by t b) ≡ way_by t (nameless_belonging b)
+way_nameless t Nowhere = first_nameless (first_state t.kind) t
+way_nameless t (Ends id) = first_nameless (first_state t.kind) t
+way_nameless t (Found place) = refl
 
 -- what rules may read of a connection
-tracking_nameless : (state : State) (b : Belonging) → tracking_by state b ≡ tracking_by state (nameless_belonging b)
-tracking_nameless Established b = known_nameless _ b
-tracking_nameless New b = known_nameless _ b
-tracking_nameless Invalid b = refl
-
-tracking_alike : (state : State) (b c : Belonging) → nameless_belonging b ≡ nameless_belonging c → tracking_by state b ≡ tracking_by state c
-tracking_alike state b c e = tracking_nameless state b ∙ ap (tracking_by state) e ∙ sym (tracking_nameless state c)
+tracking_nameless : (way : Way) → tracking_of way ≡ tracking_of (nameless_way way)
+tracking_nameless (Within place) = refl
+tracking_nameless (First draft) = refl
+tracking_nameless Astray = refl
 
 -- the last step
-counted_nameless : (state : State) (b : Belonging) (refused : Option Cause) (s : Sought) (course : Course) → counted_by state b refused s course ≡ counted_by state (nameless_belonging b) refused s course
-counted_nameless Invalid b refused s course = refl
-counted_nameless Established b refused s course = refl
-counted_nameless New Nowhere refused s course = refl
-counted_nameless New (Ends id) refused s course = refl
-counted_nameless New (Found place) refused s course = refl
-
-counted_alike : (state : State) (b c : Belonging) (refused : Option Cause) (s : Sought) (course : Course) → nameless_belonging b ≡ nameless_belonging c → counted_by state b refused s course ≡ counted_by state c refused s course
-counted_alike state b c refused s course e = counted_nameless state b refused s course ∙ ap (λ (x : Belonging). counted_by state x refused s course) e ∙ sym (counted_nameless state c refused s course)
+counted_nameless : (way : Way) (others : List Held) (course : Course) → counted_by way others course ≡ counted_by (nameless_way way) others course
+counted_nameless (Within place) others course = refl
+counted_nameless (First draft) others course = refl
+counted_nameless Astray others course = refl
 
 -- whether a connection is begun
 begins_nameless : (b : Belonging) (p : Arrival) (count : Count) → does_begin (what_of_packet b p count) ≡ does_begin (what_of_packet (nameless_belonging b) p count)
@@ -121,73 +131,106 @@ module _ (alike : AreAlike) where
   refusal_same : (reply : Tuple) (held live : List Held) → map nameless held ≡ map nameless live → refusal reply held ≡ refusal reply live
   refusal_same reply held live same = ap (λ (n : ℕ). refused_of n (is_taken reply held)) (alike.number held live same) ∙ ap (refused_of (length live)) (alike.taken held live reply same)
 
-module _ (alike : AreAlike) (held live : List Held) (same : map nameless held ≡ map nameless live) (d : IsTrue (has_distinct_ids held)) (d' : IsTrue (has_distinct_ids live)) where
-  -- what rules may read of it
-  tracking_same : (sought : Option Sought) → tracking_among held sought ≡ tracking_among live sought
-  tracking_same None = refl
-  tracking_same (Some s) =
-      let one = belongs_in held s.tuple s.flags in
-      let other = belongs_in live s.tuple s.flags in
-      let belong : nameless_belonging one ≡ nameless_belonging other = alike.belonging held live s.tuple s.flags same in
-      ap (λ (state : State). tracking_by state one) (alike.state one other s.tuple.kind belong) ∙ tracking_alike (state_of s.tuple.kind other) one other belong
+  counted_beside : (way : Way) (held live : List Held) (course : Course) → map nameless held ≡ map nameless live → counted_by way held course ≡ counted_by way live course
+  counted_beside (Within place) held live course same = refl
+  counted_beside (First draft) held live course same = ap (λ (refused : Option Cause). begun_unless refused draft course) (refusal_same (reply_to draft) held live same)
+  counted_beside Astray held live course same = refl
 
-  -- whether the packet begins a connection
-  began_same : (now : ℕ) (sighting : Sighting) → began held now sighting ≡ does_begin (tracked_by live now sighting).what
-  began_same now Unseen = refl
-  began_same now (Seen s count) =
-      begins_nameless (belongs_in held s.tuple s.flags) (at_moment now s) count
-      ∙ ap (λ (b : Belonging). does_begin (what_of_packet b (at_moment now s) count)) (alike.belonging held live s.tuple s.flags same)
-      ∙ sym (begins_nameless (belongs_in live s.tuple s.flags) (at_moment now s) count)
+module _ (alike : AreAlike) (held live : List Held) (same : map nameless held ≡ map nameless live) (d : IsTrue (has_distinct_ids held)) (d' : IsTrue (has_distinct_ids live)) where
+  module _ (s : Sought) where
+    abbrev one : Lookup
+    one = look_up held s
+
+    abbrev other : Lookup
+    other = look_up live s
+
+    belongs_same : nameless_belonging one.belonging ≡ nameless_belonging other.belonging
+    belongs_same = alike.belonging held live s.tuple s.flags same
+
+    way_same : nameless_way (way_of (Some one)) ≡ nameless_way (way_of (Some other))
+    way_same = way_nameless s.tuple one.belonging ∙ ap (way_by s.tuple) belongs_same ∙ sym (way_nameless s.tuple other.belonging)
+
+    counted_same : (course : Course) → counted_by (way_of (Some one)) one.others course ≡ counted_by (way_of (Some other)) other.others course
+    counted_same course =
+        counted_nameless (way_of (Some one)) one.others course
+        ∙ ap (λ (way : Way). counted_by way one.others course) way_same
+        ∙ sym (counted_nameless (way_of (Some other)) one.others course)
+        ∙ counted_beside alike (way_of (Some other)) one.others other.others course (alike.ended held live s.tuple s.flags same d d')
+
+    settled_as_same : (outcome : Outcome) (course : Course) → settled_as outcome (way_of (Some one)) one.others course ≡ settled_as outcome (way_of (Some other)) other.others course
+    settled_as_same (Dropped cause) course = refl
+    settled_as_same (Passed interface) course = counted_same course
+    settled_as_same Local course = counted_same course
+
+  abbrev in_held : Option Sought → Option Lookup
+  in_held sought = option_map (look_up held) sought
+
+  abbrev in_live : Option Sought → Option Lookup
+  in_live sought = option_map (look_up live) sought
+
+  -- what rules may read of it
+  tracking_same : (sought : Option Sought) → tracking_of (way_of (in_held sought)) ≡ tracking_of (way_of (in_live sought))
+  tracking_same None = refl
+  tracking_same (Some s) = tracking_nameless (way_of (Some (one s))) ∙ ap tracking_of (way_same s) ∙ sym (tracking_nameless (way_of (Some (other s))))
 
   -- what becomes of it
-  counted_same : (s : Sought) (course : Course)
-      → counted_by (state_of s.tuple.kind (belongs_in held s.tuple s.flags)) (belongs_in held s.tuple s.flags) (refusal (inverse s.tuple) (after_end (belongs_in held s.tuple s.flags) held)) s course
-      ≡ counted_by (state_of s.tuple.kind (belongs_in live s.tuple s.flags)) (belongs_in live s.tuple s.flags) (refusal (inverse s.tuple) (after_end (belongs_in live s.tuple s.flags) live)) s course
-  counted_same s course =
-      let one = belongs_in held s.tuple s.flags in
-      let other = belongs_in live s.tuple s.flags in
-      let belong : nameless_belonging one ≡ nameless_belonging other = alike.belonging held live s.tuple s.flags same in
-      let refuse : refusal (inverse s.tuple) (after_end one held) ≡ refusal (inverse s.tuple) (after_end other live) =
-      refusal_same alike (inverse s.tuple) (after_end one held) (after_end other live) (alike.ended held live s.tuple s.flags same d d') in
-      ap (λ (state : State). counted_by state one (refusal (inverse s.tuple) (after_end one held)) s course) (alike.state one other s.tuple.kind belong)
-      ∙ ap (λ (refused : Option Cause). counted_by (state_of s.tuple.kind other) one refused s course) refuse
-      ∙ counted_alike (state_of s.tuple.kind other) one other (refusal (inverse s.tuple) (after_end other live)) s course belong
-
-  settled_as_same : (outcome : Outcome) (s : Sought) (course : Course) → settled_as outcome held s (belongs_in held s.tuple s.flags) course ≡ settled_as outcome live s (belongs_in live s.tuple s.flags) course
-  settled_as_same (Dropped cause) s course = refl
-  settled_as_same (Passed interface) s course = counted_same s course
-  settled_as_same Local s course = counted_same s course
-
-  settled_same : (sought : Option Sought) (course : Course) → settled held sought course ≡ settled live sought course
+  settled_same : (sought : Option Sought) (course : Course) → settled (in_held sought) course ≡ settled (in_live sought) course
   settled_same None course = refl
-  settled_same (Some s) course = settled_as_same course.outcome s course
+  settled_same (Some s) course = settled_as_same s course.outcome course
+
+  -- whether the packet begins a connection
+  began_same : (now : ℕ) (sought : Option Sought) (count : Option Count) → does_begin (tracked_by now (in_held sought) count).what ≡ does_begin (tracked_by now (in_live sought) count).what
+  began_same now None count = refl
+  began_same now (Some s) None = refl
+  began_same now (Some s) (Some count) =
+      begins_nameless (one s).belonging (at_moment now s) count
+      ∙ ap (λ (b : Belonging). does_begin (what_of_packet b (at_moment now s) count)) (belongs_same s)
+      ∙ sym (begins_nameless (other s).belonging (at_moment now s) count)
+
+  pub began_alike : (now : ℕ) (arrived : Result Arrived Cause) (count : Option Count) → does_begin (tracked_by now (answered held arrived) count).what ≡ does_begin (tracked_by now (answered live arrived) count).what
+  began_alike now (Ok a) count = began_same now (sought_of a.packet) count
+  began_alike now (Err cause) count = refl
 
   -- how it fares
-  pub fares_same : (setup : Setup) (arrived : Result Arrived Cause) (fate : Fate) → FaresAs setup held arrived fate → FaresAs setup live arrived fate
+  pub fares_same : (setup : Setup) (arrived : Result Arrived Cause) (fate : Fate) → FaresAs setup (answered held arrived) arrived fate → FaresAs setup (answered live arrived) arrived fate
   fares_same setup (Err cause) fate fares = fares
   fares_same setup (Ok a) fate fares = record {
     early = fares.early;
     first = fares.first;
     stopped = fares.stopped;
-    goes_on = λ on. let in_held : FaresIn setup held a fares.early fate = fares.goes_on on in
+    goes_on = λ on. let before : FaresIn setup (lookup_of held a.packet) fares.early fate = fares.goes_on on in
         record {
-          course = in_held.course;
-          leads = subst (λ (known : Tracking). Leads setup a.packet (with_tracking known fares.early.facts) fares.early.events in_held.course) (tracking_same (sought_of a.packet)) in_held.leads;
-          is = in_held.is ∙ settled_same (sought_of a.packet) in_held.course;
+          course = before.course;
+          leads = subst (λ (known : Tracking). Leads setup (with_tracking known fares.early.facts) fares.early.events before.course) (tracking_same (sought_of a.packet)) before.leads;
+          is = before.is ∙ settled_same (sought_of a.packet) before.course;
         };
   }
 
 -- what is held after a packet is what the story with its entry tells, but for names
-held_same : AreAlike → IsTold → (now : ℕ) (id : ConnId) (sighting : Sighting) (held : List Held) (story : List connections.Entry) → map nameless held ≡ map nameless (live_list story now) → IsTrue (has_distinct_ids held)
-    → map nameless (held_after now id sighting held) ≡ map nameless (live_list (tracked_by (live_list story now) now sighting ∷ story) (tracked_by (live_list story now) now sighting).moment)
-held_same alike told now id Unseen held story same d = same ∙ ap (map nameless) (sym (told.none story now))
-held_same alike told now id (Seen s count) held story same d =
-    alike.packet held (live_list story now) id (record { 0 = length story }) (at_moment now s) count same d (told.distinct story now) ∙ ap (map nameless) (sym (told.packet story (at_moment now s) count))
+module _ (limits : Limits) (alike : AreAlike) (told : IsTold limits) (now : ℕ) (id : ConnId) (held : List Held) (story : List connections.Entry)
+    (same : map nameless held ≡ map nameless (live_list limits story now)) (d : IsTrue (has_distinct_ids held)) where
+  abbrev listed : List Held
+  listed = live_list limits story now
+
+  abbrev Same : Option Lookup → Option Lookup → Option Count → Type 0
+  Same one other count =
+      map nameless (held_after now id one count held) ≡ map nameless (live_list limits (tracked_by now other count ∷ story) (tracked_by now other count).moment)
+
+  held_by : (sought : Option Sought) (count : Option Count) → Same (option_map (look_up held) sought) (option_map (look_up listed) sought) count
+  held_by None count = same ∙ ap (map nameless) (sym (told.none story now))
+  held_by (Some s) None = same ∙ ap (map nameless) (sym (told.none story now))
+  held_by (Some s) (Some count) =
+      alike.packet held listed id (record { 0 = length story }) (at_moment now s) count same d (told.distinct story now) ∙ ap (map nameless) (sym (told.packet story (at_moment now s) count))
+
+  pub held_same : (arrived : Result Arrived Cause) (count : Option Count) → Same (answered held arrived) (answered listed arrived) count
+  held_same (Ok a) count = held_by (sought_of a.packet) count
+  held_same (Err cause) count = same ∙ ap (map nameless) (sym (told.none story now))
 
 -- its entry has the moment that it came at
-moment_same : (live : List Held) (now : ℕ) (sighting : Sighting) → now ≡ (tracked_by live now sighting).moment
-moment_same live now Unseen = refl
-moment_same live now (Seen s count) = refl
+moment_same : (now : ℕ) (lookup : Option Lookup) (count : Option Count) → now ≡ (tracked_by now lookup count).moment
+moment_same now None count = refl
+moment_same now (Some l) None = refl
+moment_same now (Some l) (Some count) = refl
 
 -- ---- an engine
 
@@ -223,14 +266,18 @@ told_is {moment} {moment'} {long} {long'} {events} {events'} {outcome} {outcome'
 abbrev pub told_at : ℕ → Ended → List Event → List ℕ → Told
 told_at now ended events packet = record { moment = now; length = ended.length; events = events; outcome = ended.outcome; packet = packet; begun = ended.begun }
 
-module _ (alike : AreAlike) (told : IsTold) (before after : Shown) (story : List Entry) (r : Recorded) (held : List Held) (ended : Ended) (events : List Event) (packet : List ℕ) where
+module _ (alike : AreAlike) (before after : Shown) (told : IsTold (limits_of before.setup)) (story : List Entry) (r : Recorded) (held : List Held) (ended : Ended) (events : List Event) (packet : List ℕ)
+    (same_setup : after.setup ≡ before.setup) where
+  abbrev limits : Limits
+  limits = limits_of before.setup
+
   -- what is held once all that is dead was taken out is what the story tells of the record's moment, but for names
-  live_same : (now : ℕ) → moment_of story ≤ now → held ≡ live_at now before.held → Stands before story → map nameless held ≡ map nameless (live_list (tracked_of story) now)
+  live_same : (now : ℕ) → moment_of story ≤ now → held ≡ live_at limits now before.held → Stands before story → map nameless held ≡ map nameless (live_list limits (tracked_of story) now)
   live_same now rises is stands =
-      ap (map nameless) is ∙ alike.live before.held (live_in story) now stands.held ∙ ap (map nameless) (sym (told.later (tracked_of story) (moment_of story) now rises))
+      ap (map nameless) is ∙ alike.live limits before.held (live_in before.setup story) now stands.held ∙ ap (map nameless) (sym (told.later (tracked_of story) (moment_of story) now rises))
 
   -- an engine that stands for a story stands, after a record at this moment, for that story and the record's entry
-  stands_at : map nameless held ≡ map nameless (live_at_record story r) → IsTrue (has_distinct_ids held)
+  stands_at : map nameless held ≡ map nameless (live_at_record before.setup story r) → IsTrue (has_distinct_ids held)
       → HasFate before.setup r (moment_after story r) held after.held ended events packet
       → after.records ≡ before.records + 1
       → after.newest ≡ Some (told_at (moment_after story r) ended events packet)
@@ -238,21 +285,24 @@ module _ (alike : AreAlike) (told : IsTold) (before after : Shown) (story : List
       → (e : Entry) × Next before.setup story r e × Stands after (e ∷ story) × (ended.outcome ≡ e.outcome)
   stands_at same d has more newest stands =
       let now = moment_after story r in
-      let live = live_at_record story r in
+      let live = live_at_record before.setup story r in
       let was = stands.records in
-      let follows = has.follows in (
-        entry_of story r has.arrived has.fate,
-        record { arrived = has.arrived; carried = has.carried; fate = has.fate; fares = fares_same alike held live same d (told.distinct (tracked_of story) now) before.setup has.arrived has.fate has.fares; is = refl },
+      let follows = has.follows in
+      let distinct = told.distinct (tracked_of story) now in
+      let lookup = answered live has.arrived in
+      let e = entry_of now lookup has.arrived has.fate in (
+        e,
+        record { arrived = has.arrived; carried = has.carried; lookup = lookup; looked = refl; fate = has.fate; fares = fares_same alike held live same d distinct before.setup has.arrived has.fate has.fares; is = refl },
         record {
           records = omega arith;
-          newest = newest ∙ told_is (moment_same live now has.fate.sighting) has.long follows.happened follows.outcome (has.leaves ∙ ap (leaving has.arrived) follows.outcome) (follows.begun ∙ began_same alike held live same d (told.distinct (tracked_of story) now) now has.fate.sighting);
-          held = ap (map nameless) follows.held ∙ held_same alike told now follows.id has.fate.sighting held (tracked_of story) same d;
+          newest = newest ∙ told_is (moment_same now lookup has.fate.count) has.long follows.happened follows.ends (has.leaves ∙ ap (leaving has.arrived) follows.ends) (follows.begins ∙ began_alike alike held live same d distinct now has.arrived has.fate.count);
+          held = ap (map nameless) follows.held ∙ held_same limits alike told now follows.id held (tracked_of story) same d has.arrived has.fate.count ∙ sym (ap (λ (setup : Setup). map nameless (live_in setup (e ∷ story))) same_setup);
         },
-        follows.outcome,
+        follows.ends,
       )
 
   -- the same by the moment that the engine keeps
-  pub next_stands : (latest now : ℕ) → latest ≡ moment_of story → now ≡ max latest r.moment → held ≡ live_at now before.held → IsTrue (has_distinct_ids held)
+  pub next_stands : (latest now : ℕ) → latest ≡ moment_of story → now ≡ max latest r.moment → held ≡ live_at limits now before.held → IsTrue (has_distinct_ids held)
       → HasFate before.setup r now held after.held ended events packet
       → after.records ≡ before.records + 1
       → after.newest ≡ Some (told_at now ended events packet)
@@ -261,7 +311,7 @@ module _ (alike : AreAlike) (told : IsTold) (before after : Shown) (story : List
   next_stands latest now at is aged d has more newest stands =
       let when : now ≡ moment_after story r = is ∙ ap (λ (m : ℕ). max m r.moment) at in
       let rises : moment_of story ≤ now = omega arith in
-      let same : map nameless held ≡ map nameless (live_at_record story r) = live_same now rises aged stands ∙ ap (λ (m : ℕ). map nameless (live_list (tracked_of story) m)) when in
+      let same : map nameless held ≡ map nameless (live_at_record before.setup story r) = live_same now rises aged stands ∙ ap (λ (m : ℕ). map nameless (live_list limits (tracked_of story) m)) when in
       stands_at same d
       (subst (λ (m : ℕ). HasFate before.setup r m held after.held ended events packet) when has)
       more

@@ -11,7 +11,7 @@ use Rattle.rule_meaning.specs.declared.event.Event.{Event}
 use Rattle.story.specs.declared.outcome.Outcome.{Outcome}
 use Rattle.story.specs.Story.{Entry, live_in, sent_by}
 use Rattle.rule_check.specs.Checked.{CheckedTree}
-use Rattle.stepping.specs.Next.{Setup}
+use Rattle.story.specs.Setup.{Setup}
 
 -- what is shown of an entry: all of it but which connection it touched or ended
 pub record Told : Type 0 where
@@ -23,12 +23,21 @@ pub record Told : Type 0 where
   pub begun : Bool
 
 abbrev pub told : Entry → Told
-told e = record { moment = e.tracked.moment; length = e.length; events = e.events; outcome = e.outcome; packet = e.packet; begun = does_begin e.tracked.what }
+told e = record {
+  moment = e.tracked.moment;
+  length = e.length;
+  events = e.events;
+  outcome = e.outcome;
+  packet = e.packet;
+  begun = does_begin e.tracked.what;
+}
 
--- what an engine shows: what it was set up with, how many records it took, the connections that it holds, and what it tells of the last record, if it took one
+-- what an engine shows: what it was set up with, how many records it took, how many statements of rules it started, the
+-- connections that it holds, and what it tells of the last record, if it took one
 pub record Shown : Type 0 where
   pub setup : Setup
   pub records : ℕ
+  pub ticks : ℕ
   pub held : List Held
   pub newest : Option Told
 
@@ -40,11 +49,12 @@ abbrev pub newest_of : List Entry → Option Told
 newest_of [] = None
 newest_of (e ∷ story) = Some (told e)
 
--- its number of records is the story's, it tells of the newest entry, and it holds exactly the connections that are alive at the story's last moment, in the order in which they were begun, whatever it calls them
+-- its number of records is the story's, it tells of the newest entry, and it holds exactly the connections that are alive
+-- at the story's last moment, in the order in which they were begun, whatever it calls them
 pub record Stands (engine : Shown) (story : List Entry) : Type 0 where
   pub records : engine.records ≡ length story
   pub newest : engine.newest ≡ newest_of story
-  pub held : map nameless engine.held ≡ map nameless (live_in story)
+  pub held : map nameless engine.held ≡ map nameless (live_in engine.setup story)
 
 -- a record as it is told
 abbrev pub told_of : Record → Recorded

@@ -1,3 +1,4 @@
-pub mod Parts
+pub mod Passing
+pub mod Leading
 pub mod Settling
 pub mod Fates

@@ -1,14 +1,13 @@
 //! What a record carries.
-ghost use Rattle.std.specs.Prelude.{◌≡◌, IfOk, IfSome};
-ghost use Rattle.std.specs.Option.{option_map};
-ghost use Rattle.stepping.specs.Next.{Carries, cause_of, entered, interface_facts, link_cause};
-ghost use Rattle.stepping.specs.Stands.{setup_of, told_of};
+ghost use Rattle.std.specs.Prelude.{◌≡◌, IfOk};
+ghost use Rattle.stepping.specs.Carried.{Carries, cause_of, interface_facts, link_cause};
+ghost use Rattle.stepping.specs.Stands.{told_of};
+ghost use Rattle.stepping.specs.steps.Passing.{setup_in};
 ghost use Rattle.stepping.specs.steps.Fates.{arrived_in};
 
-use crate::facts::interface_of;
+use crate::setup::Setup;
 use ip_headers::{HeaderFault, View};
 use pcap_io::{LinkCause, Record};
-use rule_check::Checked;
 use rule_meaning::Interface;
 use story::Cause;
 
@@ -20,42 +19,22 @@ pub struct Incoming<'a> {
 }
 
 /// The packet of a record; or why it carries none: the first that fails of the tests of its link
-/// header, of the interface that it entered by, and of the packet's own header. It entered by
-/// `entering` where the link header tells no interface.
+/// header, of the interface that it entered by, and of the packet's own header.
 #[inline(always)]
-pub fn carried<'a>(
-    checked: &Checked,
-    entering: Interface,
-    record: &Record<'a>,
-) -> Result<Incoming<'a>, Cause>
-    requires enters { entering ≡ interface_facts checked.now.plant checked.now.plant.entering }
-    ensures carries { Carries (setup_of checked.now) (told_of record.now) (arrived_in result) }
-    ensures known { IfOk result (λ incoming. incoming.input ≡ interface_facts checked.now.plant incoming.input.index) }
+pub fn carried<'a>(setup: &Setup, record: &Record<'a>) -> Result<Incoming<'a>, Cause>
+    ensures carries { Carries (setup_in setup.now.hooks) (told_of record.now) (arrived_in result) }
+    ensures known { IfOk result (λ incoming. incoming.input ≡ interface_facts setup.now.hooks.plant incoming.input.index) }
 {
     let link = match record.link() {
         Ok(link) => link,
         Err(cause) => return Err(link_cause(cause)),
     };
-    let Some(input) = entered(checked, entering, link.interface) else {
+    let Some(input) = setup.entered(link.interface) else {
         return Err(Cause::Interface);
     };
     match View::read(&record.bytes[link.packet..]) {
         Ok(view) => Ok(Incoming { input, view }),
         Err(fault) => Err(cause_of(fault)),
-    }
-}
-
-/// The interface that a packet entered by: the one that is told, if the box has it; `entering`
-/// where none is told.
-#[inline(always)]
-fn entered(checked: &Checked, entering: Interface, told: Option<u32>) -> Option<Interface>
-    requires enters { entering ≡ interface_facts checked.now.plant checked.now.plant.entering }
-    ensures index { option_map (λ input. input.index) result ≡ entered (setup_of checked.now) told }
-    ensures known { IfSome result (λ input. input ≡ interface_facts checked.now.plant input.index) }
-{
-    match told {
-        Some(index) => interface_of(checked.plant(), index),
-        None => Some(entering),
     }
 }
 

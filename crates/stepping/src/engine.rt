@@ -1,24 +1,23 @@
 //! One record at a time.
-ghost use Rattle.std.specs.Prelude.{◌≡◌, ◌<◌, ◌+◌, [], ◌∷◌, List, length, map, IsTrue, IfOk, IfSome, OnErr, OnOk};
+ghost use Rattle.std.specs.Prelude.{◌≡◌, ◌<◌, ◌≤◌, ◌+◌, ℕ, [], ◌∷◌, List, length, map, IsTrue, IfOk, IfSome, OnErr, OnOk};
 ghost use Rattle.conntrack.specs.Held.{connection_of};
 ghost use Rattle.pcap_io.specs.Sll2.{IsSent, sent};
 ghost use Rattle.rule_check.specs.WellFormed.{WellFormed};
 ghost use Rattle.story.specs.Story.{Entry, IsNewest, live_in};
-ghost use Rattle.nft_tree.specs.Tree.{tables_of};
+ghost use Rattle.nft_tree.specs.Tree.{TableTree, tables_of};
+ghost use Rattle.rule_paths.specs.Paths.{AreAllCosts, Caller, ruleset_cost};
 ghost use Rattle.stepping.specs.Next.{Next};
 ghost use Rattle.stepping.specs.Stands.{Stands, lent, packet_of, sends_of, setup_of, told_of};
 
-use crate::facts::interface_facts;
 use crate::fate::{Ended, fate, way_of};
-use crate::settling::age_all;
-use compiler::compile;
+use crate::lookup::age_all;
+use crate::setup::Setup;
 use conntrack::laws::{names_aside, none_later, one_entry_more};
-use conntrack::{Connection, Memory, Tracker};
-use filter_vm::{Code, Events};
+use conntrack::{Connection, Limits, Memory, Tracker};
+use hook_runs::Events;
 use nft_tree::Ruleset;
 use pcap_io::{Leaving, Record};
 use rule_check::Checked;
-use rule_meaning::Interface;
 use std::alloc::{AllocError, Global};
 use std::marker::Model;
 use story::Outcome;
@@ -29,11 +28,7 @@ const MOST_PACKET_BYTES: usize = 65_535;
 /// A box with its rules, and what it has to know of the records so far. Connections are kept by `T`.
 #[derive(Drop)]
 pub struct Engine<T: Tracker> {
-    checked: Checked,
-    /// What the rules are as code.
-    code: Code,
-    /// The interface that packets enter by where no link header tells one.
-    entering: Interface,
+    setup: Setup,
     tracker: T,
     records: u64,
     /// The moment of the last record, 0 before one.
@@ -47,14 +42,15 @@ pub struct Engine<T: Tracker> {
 }
 
 impl<T: Tracker> Model for Engine<T> {
-    ghost use Rattle.stepping.specs.Stands.{Shown, setup_of};
+    ghost use Rattle.stepping.specs.Stands.{Shown};
+    ghost use Rattle.stepping.specs.steps.Passing.{setup_in};
     ghost use Rattle.stepping.specs.steps.Fates.{IsReady, newest_in};
 
     ghost Value = { Shown };
 
-    ghost view = { λ e. record { setup = setup_of e.checked; records = e.records; held = T.held e.tracker; newest = newest_in e.ended e.latest e.events e.packet } };
+    ghost view = { λ e. record { setup = setup_in e.setup.hooks; records = e.records; ticks = e.events.ticks; held = T.held e.tracker; newest = newest_in e.ended e.latest e.events e.packet } };
 
-    ghost invariant = { λ e. IsReady e.checked e.code e.entering e.ended e.latest e.packet (T.held e.tracker) };
+    ghost invariant = { λ e. IsReady (setup_in e.setup.hooks) (T.limits e.tracker) e.ended e.latest e.events e.packet (T.held e.tracker) };
 }
 
 impl<T: Tracker> Engine<T> {
@@ -64,16 +60,12 @@ impl<T: Tracker> Engine<T> {
         ensures setup { IfOk result (λ engine. engine.setup ≡ setup_of checked) }
         ensures none { IfOk result (λ engine. Stands engine []) }
     {
-        let code = compile(alloc, &checked)?;
+        let setup = Setup::new(alloc, checked)?;
         let events = Events::new(alloc)?;
-        let plant = checked.plant();
-        let entering = interface_facts(plant, plant.entering());
         let packet = Vec::with_capacity(alloc, MOST_PACKET_BYTES)?;
         Ok(Engine {
-            checked,
-            code,
-            entering,
-            tracker: T::new(alloc),
+            setup,
+            tracker: T::new(alloc, Limits::usual()),
             records: 0,
             latest: 0,
             events,
@@ -83,14 +75,16 @@ impl<T: Tracker> Engine<T> {
     }
 
     /// Takes a record, and tells how it ends. On `Err`, which comes only for want of memory, the
-    /// engine is as it was. A capture's moment has seconds of 32 bits.
+    /// engine is as it was.
     pub fn step(&mut self, record: &Record) -> Result<Outcome, AllocError>
         requires few { self.old.records < 4294967296 }
-        requires early { record.now.moment < 4294967296000000000 }
         // Whatever story the engine stands for, it then stands for that story and the one entry that follows.
         ensures stands { (story : List Entry) → Stands self.old story → IfOk result (λ outcome. (e : Entry) × Next self.old.setup story (told_of record.now) e × Stands self.new (e ∷ story) × (outcome ≡ e.outcome)) }
         ensures setup { self.new.setup ≡ self.old.setup }
         ensures records { OnOk result (self.new.records ≡ self.old.records + 1) }
+        // All runs of rules on the record together start no more statements than the ruleset costs.
+        ensures ticks { (cost : TableTree → Caller → ℕ) → AreAllCosts self.old.setup.rules cost → self.new.ticks ≤ self.old.ticks + ruleset_cost cost self.old.setup.rules }
+        ensures no_fewer { self.old.ticks ≤ self.new.ticks }
         ensures err { OnErr result (self.new ≡ self.old) }
     {
         // What is held is known but for the names that the tracker gives.
@@ -105,10 +99,10 @@ impl<T: Tracker> Engine<T> {
         self.events.clear();
         let now = self.latest.max(record.moment);
         age_all(&mut self.tracker, now);
+        // What its chains cost is known of the ruleset.
+        self.setup.hooks.costs();
         let ended = fate(
-            &self.checked,
-            &self.code,
-            self.entering,
+            &self.setup,
             record,
             now,
             &mut self.tracker,
@@ -146,6 +140,8 @@ impl<T: Tracker> Engine<T> {
     pub fn entry(&self) -> Option<story::Entry<'_>>
         // Whatever story the engine stands for, it is the newest entry of that story.
         ensures newest { (story : List Entry) → Stands self.now story → IsNewest result story }
+        // The chains that one record meets make no more events than a ruleset may cost.
+        ensures few { IfSome result (λ entry. length entry.events.now ≤ 65536) }
     {
         let ended = self.ended?;
         Some(story::Entry {
@@ -159,7 +155,7 @@ impl<T: Tracker> Engine<T> {
 
     /// How many connections are alive at the moment of the last record.
     pub fn live(&self) -> usize
-        ensures { (story : List Entry) → Stands self.now story → result ≡ length (live_in story) }
+        ensures { (story : List Entry) → Stands self.now story → result ≡ length (live_in self.now.setup story) }
     {
         names_aside();
         self.tracker.live()
@@ -168,7 +164,7 @@ impl<T: Tracker> Engine<T> {
     /// The connections that are alive at the moment of the last record, in the order in which they
     /// were begun.
     pub fn connections(&self, alloc: Global) -> Result<Vec<Connection>, AllocError>
-        ensures { (story : List Entry) → Stands self.now story → IfOk result (λ all. all.items ≡ map connection_of (live_in story)) }
+        ensures { (story : List Entry) → Stands self.now story → IfOk result (λ all. all.items ≡ map connection_of (live_in self.now.setup story)) }
     {
         names_aside();
         match self.tracker.list(alloc) {
@@ -181,14 +177,14 @@ impl<T: Tracker> Engine<T> {
     pub fn rules(&self) -> &Ruleset
         ensures { tables_of result.now ≡ self.now.setup.rules }
     {
-        self.checked.tree()
+        self.setup.hooks.checked().tree()
     }
 
     /// What is known of its rules: nothing is wrong with them. It does nothing.
     pub fn judged(&self)
         ensures { WellFormed self.now.setup.rules self.now.setup.plant }
     {
-        self.checked.measured();
+        self.setup.hooks.checked().measured();
     }
 
     /// How many records it took.
@@ -202,6 +198,7 @@ impl<T: Tracker> Engine<T> {
 /// Makes room for the connection that a record may begin.
 fn make_room<T: Tracker>(tracker: &mut T) -> Result<(), AllocError>
     ensures held { T.held tracker.new ≡ T.held tracker.old }
+    ensures limits { T.limits tracker.new ≡ T.limits tracker.old }
     ensures room { OnOk result (IsTrue (T.has_room tracker.new)) }
 {
     match tracker.reserve_one() {

@@ -3,7 +3,7 @@ ghost use Rattle.std.specs.Prelude.{◌≡◌, ◌-◌, Some, None};
 ghost use Rattle.std.specs.Option.{option_map};
 ghost use Rattle.box_file.specs.Box.{name_of};
 ghost use Rattle.rule_meaning.specs.declared.facts.Tracking.TheVariants.{Unknown};
-ghost use Rattle.stepping.specs.Next.{interface_facts, packet_facts, with_tracking};
+ghost use Rattle.stepping.specs.Carried.{interface_facts, packet_facts, with_tracking};
 
 use box_file::Plant;
 use ip_headers::View;

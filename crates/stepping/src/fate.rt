@@ -1,23 +1,27 @@
 //! What becomes of a record.
-ghost use Rattle.std.specs.Prelude.{◌≡◌, ◌≤◌, IsTrue, [], length, vec_capacity, Some};
+ghost use Rattle.std.specs.Prelude.{◌≡◌, ◌≤◌, IsTrue, false, [], length, vec_capacity};
+ghost use Rattle.story.specs.declared.outcome.Outcome.TheVariants as outcomes;
 ghost use Rattle.conntrack.specs.Held.{IsNoneLater, live_at};
-ghost use Rattle.stepping.specs.Next.{interface_facts, sent_on, sought_of};
-ghost use Rattle.stepping.specs.Stands.{setup_of, told_of};
-ghost use Rattle.stepping.specs.steps.Parts.{HasRoom, led_cost};
-ghost use Rattle.stepping.specs.steps.Fates.{Fared, FaredIn, HasFate, IsCodeOf, arrived_of, way_of};
+ghost use Rattle.hook_runs.specs.Parts.{all_cost};
+ghost use Rattle.stepping.specs.Carried.{interface_facts};
+ghost use Rattle.stepping.specs.Next.{sent_on};
+ghost use Rattle.stepping.specs.Stands.{told_of};
+ghost use Rattle.stepping.specs.steps.Fates.{Fared, HasFate, arrived_of, way_of};
+ghost use Rattle.stepping.specs.steps.Leading.{outcome_of};
+ghost use Rattle.stepping.specs.steps.Passing.{Spends, setup_in};
 
 use crate::arrival::{Incoming, carried};
 use crate::facts::{arriving, with_tracking};
-use crate::leading::lead;
-use crate::passing::{enter, goes_on};
-use crate::settling::{Settled, ended, settle};
-use crate::sought::{Sought, sought_of, tracking_of};
-use conntrack::{Moment, Steps, Tracker};
-use filter_vm::{Code, Events};
+use crate::leading::{Bound, lead};
+use crate::lookup::look_up;
+use crate::setup::Setup;
+use crate::settling::{Settled, settle};
+use crate::sought::{flags_in, sought_of};
+use crate::way::tracking_of;
+use conntrack::{Moment, Tracker};
+use hook_runs::{Events, Part};
 use ip_headers::{Change, View, emit};
 use pcap_io::Record;
-use rule_check::Checked;
-use rule_meaning::{Facts, Interface, Tracking};
 use story::{Cause, Outcome};
 
 /// How a record ended.
@@ -34,133 +38,80 @@ pub struct Ended {
 /// dropped for the first test that fails of those that tell whether it carries one. The packet that
 /// leaves, where one does, is left in `packet`, and what happened while the rules ran in `events`.
 pub fn fate<T: Tracker>(
-    checked: &Checked,
-    code: &Code,
-    entering: Interface,
+    setup: &Setup,
     record: &Record,
     now: Moment,
     tracker: &mut T,
     events: &mut Events,
     packet: &mut Vec<u8>,
 ) -> Ended
-    requires means { IsCodeOf checked.now code.now }
-    requires enters { entering ≡ interface_facts checked.now.plant checked.now.plant.entering }
-    requires live { live_at now (T.held tracker.old) ≡ T.held tracker.old }
+    requires live { live_at (T.limits tracker.old) now (T.held tracker.old) ≡ T.held tracker.old }
     requires later { IsNoneLater now (T.held tracker.old) }
     requires ready { IsTrue (T.has_room tracker.old) }
-    requires none { events.old ≡ record { events = []; ticks = 0 } }
+    requires none { events.old.events ≡ [] }
     requires empty { packet.old.items ≡ [] }
     requires room { 65535 ≤ vec_capacity packet.old }
-    ensures fate { HasFate (setup_of checked.now) (told_of record.now) now (T.held tracker.old) (T.held tracker.new) result events.new.events packet.new.items }
+    ensures fate { HasFate (setup_in setup.now.hooks) (told_of record.now) now (T.held tracker.old) (T.held tracker.new) result events.new.events packet.new.items }
+    ensures limits { T.limits tracker.new ≡ T.limits tracker.old }
+    ensures spent { Spends events.old events.new (all_cost setup.now.hooks) }
     ensures small { length packet.new.items ≤ 65535 }
 {
-    match carried(checked, entering, record) {
-        Ok(incoming) => {
-            let settled = fare(checked, code, &incoming, now, tracker, events);
-            send(&incoming.view, settled.outcome, packet);
+    let incoming = match carried(setup, record) {
+        Ok(incoming) => incoming,
+        Err(cause) => return dropped(cause, 0),
+    };
+    let length = incoming.view.total_length();
+    match pass(setup, &incoming, now, tracker, events) {
+        Ok(settled) => {
+            send(&incoming.view, settled.bound, packet);
             Ended {
-                outcome: settled.outcome,
-                length: incoming.view.total_length(),
+                outcome: outcome_of(settled.bound),
+                length,
                 begun: settled.begun,
             }
         }
-        Err(cause) => Ended {
-            outcome: Outcome::Dropped(cause),
-            length: 0,
-            begun: false,
-        },
+        Err(cause) => dropped(cause, length),
     }
 }
 
-/// How a packet ends: the chains on prerouting first that come before its connection is looked for.
+/// Takes a packet through the box: the chains before its look-up, the look-up, the other chains and
+/// its route, and the last step; or tells the cause for which it is dropped.
 #[inline(always)]
-fn fare<T: Tracker>(
-    checked: &Checked,
-    code: &Code,
+fn pass<T: Tracker>(
+    setup: &Setup,
     incoming: &Incoming,
     now: Moment,
     tracker: &mut T,
     events: &mut Events,
-) -> Settled
-    requires means { IsCodeOf checked.now code.now }
-    requires known { incoming.now.input ≡ interface_facts checked.now.plant incoming.now.input.index }
-    requires live { live_at now (T.held tracker.old) ≡ T.held tracker.old }
+) -> Result<Settled, Cause>
+    requires known { incoming.now.input ≡ interface_facts setup.now.hooks.plant incoming.now.input.index }
+    requires live { live_at (T.limits tracker.old) now (T.held tracker.old) ≡ T.held tracker.old }
     requires later { IsNoneLater now (T.held tracker.old) }
     requires ready { IsTrue (T.has_room tracker.old) }
-    requires none { events.old ≡ record { events = []; ticks = 0 } }
-    ensures fared { Fared (setup_of checked.now) (arrived_of incoming.now) now (T.held tracker.old) (T.held tracker.new) result events.new.events }
+    requires none { events.old.events ≡ [] }
+    ensures fared { Fared (setup_in setup.now.hooks) (arrived_of incoming.now) now (T.held tracker.old) (T.held tracker.new) result events.new.events }
+    ensures limits { T.limits tracker.new ≡ T.limits tracker.old }
+    ensures spent { Spends events.old events.new (all_cost setup.now.hooks) }
 {
+    // The parts together cost no more than there is room for.
+    setup.hooks.costs();
     let view = &incoming.view;
-    let early = enter(code, &arriving(view, incoming.input), events);
-    if !goes_on(early.ending) {
-        return ended(Outcome::Dropped(Cause::Rule));
-    }
-    fare_in(checked, code, view, &early.facts, now, tracker, events)
-}
-
-/// How a packet ends that the early chains let through: its connection is looked for.
-#[inline(always)]
-fn fare_in<T: Tracker>(
-    checked: &Checked,
-    code: &Code,
-    view: &View,
-    facts: &Facts,
-    now: Moment,
-    tracker: &mut T,
-    events: &mut Events,
-) -> Settled
-    requires means { IsCodeOf checked.now code.now }
-    requires live { live_at now (T.held tracker.old) ≡ T.held tracker.old }
-    requires later { IsNoneLater now (T.held tracker.old) }
-    requires ready { IsTrue (T.has_room tracker.old) }
-    requires fits { HasRoom events.old (led_cost code.now) }
-    ensures fared { FaredIn (setup_of checked.now) view.now.packet.now now facts.now events.old.events (T.held tracker.old) (T.held tracker.new) result events.new.events }
-{
-    match sought_of(view) {
-        Some(sought) => fare_sought(checked, code, view, facts, &sought, now, tracker, events),
-        None => {
-            let facts = with_tracking(Tracking::Invalid, facts);
-            ended(lead(checked, code, view, &facts, events).outcome)
-        }
-    }
-}
-
-/// How a packet ends whose connection is looked for by this.
-#[inline(always)]
-fn fare_sought<T: Tracker>(
-    checked: &Checked,
-    code: &Code,
-    view: &View,
-    facts: &Facts,
-    sought: &Sought,
-    now: Moment,
-    tracker: &mut T,
-    events: &mut Events,
-) -> Settled
-    requires means { IsCodeOf checked.now code.now }
-    requires is { sought_of view.now.packet.now ≡ Some sought.now }
-    requires live { live_at now (T.held tracker.old) ≡ T.held tracker.old }
-    requires later { IsNoneLater now (T.held tracker.old) }
-    requires ready { IsTrue (T.has_room tracker.old) }
-    requires fits { HasRoom events.old (led_cost code.now) }
-    ensures fared { FaredIn (setup_of checked.now) view.now.packet.now now facts.now events.old.events (T.held tracker.old) (T.held tracker.new) result events.new.events }
-{
-    let mut steps = Steps::new();
-    let belonging = tracker.look(sought.tuple, sought.flags, now, &mut steps);
-    let facts = with_tracking(tracking_of(sought.tuple.kind, belonging), facts);
-    let led = lead(checked, code, view, &facts, events);
-    settle(tracker, sought, now, belonging, &led)
+    let early = setup.run(Part::Early, &arriving(view, incoming.input), events)?;
+    let way = look_up(tracker, sought_of(view), now);
+    let facts = with_tracking(tracking_of(&way), &early);
+    let led = lead(setup, &facts, events)?;
+    settle(tracker, &way, flags_in(view.transport()), &led, now)
 }
 
 /// Leaves the packet as it is sent on, if it is: with its TTL lowered.
 #[inline(always)]
-fn send(view: &View, outcome: Outcome, packet: &mut Vec<u8>)
+fn send(view: &View, bound: Bound, packet: &mut Vec<u8>)
     requires empty { packet.old.items ≡ [] }
     requires room { 65535 ≤ vec_capacity packet.old }
-    ensures sent { packet.new.items ≡ sent_on view.now.packet.now outcome }
+    ensures sent { packet.new.items ≡ sent_on view.now.packet.now (outcome_of bound) }
     ensures small { length packet.new.items ≤ 65535 }
 {
-    let Some(_) = way_of(outcome) else {
+    let Bound::Passed(_) = bound else {
         return;
     };
     let change = Change {
@@ -169,6 +120,28 @@ fn send(view: &View, outcome: Outcome, packet: &mut Vec<u8>)
     let Ok(()) = emit(view, &change, packet) else {
         unreachable!()
     };
+}
+
+/// How a packet ends that goes there.
+#[inline(always)]
+fn outcome_of(bound: Bound) -> Outcome
+    ensures { result ≡ outcome_of bound }
+{
+    match bound {
+        Bound::Local => Outcome::Local,
+        Bound::Passed(interface) => Outcome::Passed(interface),
+    }
+}
+
+/// A record is dropped, whose packet has this length.
+fn dropped(cause: Cause, length: u16) -> Ended
+    ensures { result ≡ record { outcome = outcomes.Dropped cause; length = length; begun = false } }
+{
+    Ended {
+        outcome: Outcome::Dropped(cause),
+        length,
+        begun: false,
+    }
 }
 
 /// The interface that a packet leaves by, if it leaves.

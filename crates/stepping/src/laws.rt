@@ -3,7 +3,8 @@ ghost use Rattle.std.specs.Prelude.{◌≡◌, List};
 ghost use Rattle.pcap_io.specs.Pcap.{Recorded};
 ghost use Rattle.rule_check.specs.WellFormed.{WellFormed};
 ghost use Rattle.story.specs.Story.{Entry};
-ghost use Rattle.stepping.specs.Next.{Next, Setup};
+ghost use Rattle.story.specs.Setup.{Setup};
+ghost use Rattle.stepping.specs.Next.{Next};
 
 use rule_laws::some_outcome;
 use rule_meaning::one_end;

@@ -1,87 +1,113 @@
-//! How the rules lead a packet whose connection was looked for.
-ghost use Rattle.std.specs.Prelude.{◌≡◌, ◌+◌};
-ghost use Rattle.nft_tree.specs.declared.chain.Hook.TheVariants as hooks;
+//! How the rules lead a packet that was looked up.
+ghost use Rattle.std.specs.Prelude.{◌≡◌};
 ghost use Rattle.rule_meaning.specs.declared.event.Ending.{Ending};
-ghost use Rattle.compiler.specs.Compiled.{cost_at};
-ghost use Rattle.story.specs.declared.outcome.Outcome.TheVariants as outcomes;
-ghost use Rattle.stepping.specs.Next.{Leads, LeadsOn, mark_in};
-ghost use Rattle.stepping.specs.Stands.{setup_of};
-ghost use Rattle.stepping.specs.steps.Parts.{HasRoom, led_cost};
-ghost use Rattle.stepping.specs.steps.Fates.{IsCodeOf};
-ghost use Rattle.stepping.specs.steps.Settling.{course_of};
+ghost use Rattle.stepping.specs.Courses.{Arrives, Departs, Leads, LeadsOn};
+ghost use Rattle.stepping.specs.steps.Leading.{Leaves, arrival_cost, bound_of, course_of, led_cost, way_out_cost};
+ghost use Rattle.stepping.specs.steps.Passing.{Comes, HasRoom, Spends, setup_in};
 
 use crate::facts::{departing, interface_facts};
-use crate::passing::{arrive, deliver, depart, goes_on};
-use crate::settling::Led;
-use crate::sought::mark_in;
-use filter_vm::{Code, Events};
-use ip_headers::View;
-use rule_check::Checked;
-use rule_meaning::Facts;
-use story::{Cause, Outcome};
+use crate::setup::Setup;
+use crate::way::mark_in;
+use box_file::Plant;
+use hook_runs::{Events, Part};
+use rule_meaning::{Facts, Packet};
+use story::Cause;
 
-/// Leads a packet through the rules: the chains on prerouting first that come after its connection is
-/// looked for.
-#[inline(always)]
-pub fn lead(checked: &Checked, code: &Code, view: &View, facts: &Facts, events: &mut Events) -> Led
-    requires means { IsCodeOf checked.now code.now }
-    requires fits { HasRoom events.old (led_cost code.now) }
-    ensures leads { Leads (setup_of checked.now) view.now.packet.now facts.now events.old.events (course_of result events.new.events) }
-{
-    let arrival = arrive(code, facts, events);
-    if !goes_on(arrival.ending) {
-        return dropped(Cause::Rule);
-    }
-    lead_on(checked, code, view, &arrival.facts, events)
+/// Where a packet goes that isn't dropped.
+#[derive(Clone, Copy)]
+pub enum Bound {
+    /// To the box itself.
+    Local,
+    /// Out of the box, by the interface of this index.
+    Passed(u32),
 }
 
-/// Leads on a packet that has arrived: it is for the box, without a route, at its last hop, dropped by
-/// a rule, or sent on.
-#[inline(always)]
-fn lead_on(checked: &Checked, code: &Code, view: &View, facts: &Facts, events: &mut Events) -> Led
-    requires means { IsCodeOf checked.now code.now }
-    requires fits { HasRoom events.old (cost_at code.now hooks.Input + cost_at code.now hooks.Forward + cost_at code.now hooks.Postrouting) }
-    ensures leads { (ending : Ending) → LeadsOn (setup_of checked.now) view.now.packet.now (record { ending = ending; facts = facts.now; events = events.old.events }) (course_of result events.new.events) }
-{
-    let plant = checked.plant();
-    if plant.is_own(view.destination()) {
-        let local = deliver(code, facts, events);
-        return if goes_on(local.ending) {
-            through(Outcome::Local, &local.facts)
-        } else {
-            dropped(Cause::Rule)
-        };
-    }
-    let Some(interface) = plant.route(view.destination()) else {
-        return dropped(Cause::Route);
-    };
-    if view.ttl() < 2 {
-        return dropped(Cause::Ttl);
-    }
-    let facts = departing(interface_facts(plant, interface), facts);
-    let departure = depart(code, &facts, events);
-    if !goes_on(departure.ending) {
-        return dropped(Cause::Rule);
-    }
-    through(Outcome::Passed(interface), &departure.facts)
+/// How the rules lead a packet that they let through.
+#[derive(Clone, Copy)]
+pub struct Led {
+    pub bound: Bound,
+    /// The mark that its connection has by then.
+    pub mark: u32,
 }
 
-/// It goes through, with the mark that the rules left on its connection.
-fn through(outcome: Outcome, facts: &Facts) -> Led
-    ensures { result ≡ record { outcome = outcome; mark = mark_in facts.now.tracking } }
+/// Leads a packet through the rules, or tells the cause for which it is dropped.
+#[inline(always)]
+pub fn lead(setup: &Setup, facts: &Facts, events: &mut Events) -> Result<Led, Cause>
+    requires room { HasRoom events.old (led_cost setup.now.hooks.costs) }
+    ensures leads { Leads (setup_in setup.now.hooks) facts.now events.old.events (course_of result events.new.events) }
+    ensures spent { Spends events.old events.new (led_cost setup.now.hooks.costs) }
 {
-    Led {
-        outcome,
+    let facts = arrive(setup, facts, events)?;
+    lead_on(setup, &facts, events)
+}
+
+/// Runs a packet through the chains on prerouting that come after its look-up.
+#[inline(always)]
+fn arrive(setup: &Setup, facts: &Facts, events: &mut Events) -> Result<Facts, Cause>
+    requires room { HasRoom events.old (arrival_cost setup.now.hooks.costs) }
+    ensures comes { Comes (Arrives (setup_in setup.now.hooks)) facts.now events.old.events result events.new.events }
+    ensures spent { Spends events.old events.new (arrival_cost setup.now.hooks.costs) }
+{
+    let facts = setup.run(Part::BeforeDestination, facts, events)?;
+    setup.run(Part::AfterDestination, &facts, events)
+}
+
+/// Leads on a packet that has arrived.
+#[inline(always)]
+fn lead_on(setup: &Setup, facts: &Facts, events: &mut Events) -> Result<Led, Cause>
+    requires room { HasRoom events.old (way_out_cost setup.now.hooks.costs) }
+    ensures leads { (ending : Ending) → LeadsOn (setup_in setup.now.hooks) (record { ending = ending; facts = facts.now; events = events.old.events }) (course_of result events.new.events) }
+    ensures spent { Spends events.old events.new (way_out_cost setup.now.hooks.costs) }
+{
+    let bound = bound_of(setup.plant(), &facts.packet)?;
+    let facts = leave(setup, bound, facts, events)?;
+    Ok(Led {
+        bound,
         mark: mark_in(facts.tracking),
+    })
+}
+
+/// Where a packet goes that has arrived: to the box itself, or by its route, with a hop left.
+#[inline(always)]
+fn bound_of(plant: &Plant, packet: &Packet) -> Result<Bound, Cause>
+    ensures { result ≡ bound_of plant.now packet.now }
+{
+    if plant.is_own(packet.destination) {
+        return Ok(Bound::Local);
+    }
+    let Some(interface) = plant.route(packet.destination) else {
+        return Err(Cause::Route);
+    };
+    if packet.ttl < 2 {
+        return Err(Cause::Ttl);
+    }
+    Ok(Bound::Passed(interface))
+}
+
+/// Runs a packet through the chains on its way: those of input, or those of forward and postrouting.
+#[inline(always)]
+fn leave(setup: &Setup, bound: Bound, facts: &Facts, events: &mut Events) -> Result<Facts, Cause>
+    requires room { HasRoom events.old (way_out_cost setup.now.hooks.costs) }
+    ensures comes { Comes (Leaves (setup_in setup.now.hooks) bound) facts.now events.old.events result events.new.events }
+    ensures spent { Spends events.old events.new (way_out_cost setup.now.hooks.costs) }
+{
+    match bound {
+        Bound::Local => setup.run(Part::Input, facts, events),
+        Bound::Passed(interface) => {
+            let output = interface_facts(setup.plant(), interface);
+            depart(setup, &departing(output, facts), events)
+        }
     }
 }
 
-/// It is dropped.
-fn dropped(cause: Cause) -> Led
-    ensures { result ≡ record { outcome = outcomes.Dropped cause; mark = 0 } }
+/// Runs a packet through the chains on forward and then those on postrouting.
+#[inline(always)]
+fn depart(setup: &Setup, facts: &Facts, events: &mut Events) -> Result<Facts, Cause>
+    requires room { HasRoom events.old (way_out_cost setup.now.hooks.costs) }
+    ensures comes { Comes (Departs (setup_in setup.now.hooks)) facts.now events.old.events result events.new.events }
+    ensures spent { Spends events.old events.new (way_out_cost setup.now.hooks.costs) }
 {
-    Led {
-        outcome: Outcome::Dropped(cause),
-        mark: 0,
-    }
+    let facts = setup.run(Part::Forward, facts, events)?;
+    let facts = setup.run(Part::BeforeSource, &facts, events)?;
+    setup.run(Part::AfterSource, &facts, events)
 }

@@ -7,11 +7,12 @@ mod facts;
 mod fate;
 mod laws;
 mod leading;
-mod parts;
-mod passing;
+mod lookup;
+mod setup;
 mod settling;
 mod sought;
 mod taken;
+mod way;
 
 pub use engine::Engine;
 pub use laws::one_entry;

@@ -1,53 +1,68 @@
--- What the last step of a packet makes of the connections held.
-use Rattle.std.specs.Prelude.{◌≡◌, ℕ, Bool, true, false, List}
-use Rattle.ip_headers.specs.declared.tuple.Kind.{Kind}
-use Rattle.ip_headers.specs.declared.tuple.Kind.TheVariants.{Answer}
-use Rattle.conntrack.specs.declared.belonging.Belonging.{Belonging}
-use Rattle.conntrack.specs.declared.belonging.Belonging.TheVariants.{Nowhere}
+-- What the last step of a packet makes of the connections held, as it is answered.
+use Rattle.std.specs.Prelude.{◌≡◌, ℕ, Bool, true, false, IsTrue, List, [], ◌∷◌, ◌++◌, Option, Some, None, Result, Ok, Err}
 use Rattle.conntrack.specs.declared.connection.ConnId.{ConnId}
+use Rattle.conntrack.specs.declared.connection.Connection.{Connection}
+use Rattle.conntrack.specs.declared.connection.Flags.{Flags}
 use Rattle.conntrack.specs.declared.connection.Held.{Held}
-use Rattle.conntrack.specs.Held.{belongs_in}
-use Rattle.conntrack.specs.Stories.{does_begin}
-use Rattle.conntrack.specs.Recorded.{Count, after_packet, what_of_packet}
+use Rattle.conntrack.specs.Held.{begun_with, has_id, is_taken, touched_at}
+use Rattle.conntrack.specs.Recorded.{Count, Uncounted, Counted}
 use Rattle.rule_meaning.specs.declared.event.Event.{Event}
 use Rattle.story.specs.declared.outcome.Cause.{Cause}
 use Rattle.story.specs.declared.outcome.Outcome.{Outcome}
-use Rattle.story.specs.declared.outcome.Outcome.TheVariants.{Passed, Local, Dropped}
-use Rattle.stepping.specs.declared.settling.Led.{Led}
+use Rattle.story.specs.declared.outcome.Outcome.TheVariants.{Dropped}
+use Rattle.stepping.specs.declared.leading.Led.{Led}
 use Rattle.stepping.specs.declared.settling.Settled.{Settled}
-use Rattle.stepping.specs.declared.sought.Sought.{Sought}
-use Rattle.stepping.specs.Next.{Course, Fate, Sighting, Unseen, Seen, at_moment, settled_as}
+use Rattle.stepping.specs.declared.way.Way.{Way}
+use Rattle.stepping.specs.declared.way.Way.TheVariants.{Within, First, Astray}
+use Rattle.stepping.specs.Ways.{Lookup}
+use Rattle.stepping.specs.LastStep.{Fate, counted_by}
+use Rattle.stepping.specs.steps.Leading.{course_of, outcome_of}
 
-abbrev pub goes_through : Outcome → Bool
-goes_through (Passed interface) = true
-goes_through Local = true
-goes_through (Dropped cause) = false
+-- what a look-up leaves of those held
+abbrev pub others_in : Option Lookup → List Held → List Held
+others_in None held = held
+others_in (Some l) held = l.others
 
-abbrev pub is_answer : Kind → Bool
-is_answer Answer = true
-is_answer _ = false
+-- its connection is held, or its tuple free
+abbrev pub IsOpen : Way → List Held → Type 0
+IsOpen (Within place) held = IsTrue (has_id place.id held)
+IsOpen (First draft) held = is_taken draft.original held ≡ false
+IsOpen Astray held = Unit {0}
 
--- a course with these events
-abbrev pub course_of : Led → List Event → Course
-course_of led events = record { outcome = led.outcome; events = events; mark = led.mark }
+-- ---- what is held after it
 
--- what is held once a packet was seen so that belongs so; a connection that it begins has this name
-abbrev pub after_sighting : ℕ → ConnId → Belonging → Sighting → List Held → List Held
-after_sighting now id belonging Unseen held = held
-after_sighting now id belonging (Seen s count) held = after_packet belonging id (at_moment now s) count held
+-- a packet on this way, with these flags, counts so; a connection that it begins has this name
+abbrev pub counts_in : ConnId → Flags → ℕ → Way → Count → List Held → List Held
+counts_in id flags now way Uncounted held = held
+counts_in id flags now (Within place) (Counted mark reply source dest) held =
+    touched_at place.id place.direction flags mark now held
+counts_in id flags now (First draft) (Counted mark reply source dest) held =
+    let connection : Connection = record { original = draft.original; reply = reply; mark = mark; last = now; source = source; dest = dest } in
+    held ++ begun_with id connection flags ∷ []
+counts_in id flags now Astray (Counted mark reply source dest) held = held
 
--- whether it then began one
-abbrev pub begins_so : ℕ → Belonging → Sighting → Bool
-begins_so now belonging Unseen = false
-begins_so now belonging (Seen s count) = does_begin (what_of_packet belonging (at_moment now s) count)
+abbrev pub held_by : ConnId → Flags → ℕ → Way → Option Count → List Held → List Held
+held_by id flags now way None held = held
+held_by id flags now way (Some count) held = counts_in id flags now way count held
 
--- a packet that belongs so was settled: whatever happened before, its fate is that of the last step, and what is held follows it
-pub record Settles (now : ℕ) (s : Sought) (led : Led) (belonging : Belonging) (old new : List Held) (settled : Settled) : Type 0 where
+-- ---- how it is answered
+
+abbrev pub outcome_in : Result Settled Cause → Outcome
+outcome_in (Ok settled) = outcome_of settled.bound
+outcome_in (Err cause) = Dropped cause
+
+abbrev pub begun_in : Result Settled Cause → Bool
+begun_in (Ok settled) = settled.begun
+begun_in (Err cause) = false
+
+-- whether a packet on this way begins a connection if it counts so
+abbrev pub begins : Way → Option Count → Bool
+begins (First draft) (Some (Counted mark reply source dest)) = true
+begins _ _ = false
+
+-- a packet that the rules led so is settled, whatever happened: it ends as its fate has it, and what is held follows
+pub record Settles (now : ℕ) (flags : Flags) (led : Led) (way : Way) (old new : List Held) (answer : Result Settled Cause) : Type 0 where
   pub id : ConnId
-  pub outcome : (events : List Event) → settled.outcome ≡ (settled_as led.outcome old s belonging (course_of led events)).outcome
-  pub held : (events : List Event) → new ≡ after_sighting now id belonging (settled_as led.outcome old s belonging (course_of led events)).sighting old
-  pub begun : (events : List Event) → settled.begun ≡ begins_so now belonging (settled_as led.outcome old s belonging (course_of led events)).sighting
-
--- the same of one that belongs to none of those held
-abbrev pub Begins : ℕ → Sought → Led → List Held → List Held → Settled → Type 0
-Begins now s led old new settled = Settles now s led Nowhere old new settled
+  pub outcome : (events : List Event) → outcome_in answer ≡ (counted_by way old (course_of (Ok led) events)).outcome
+  pub held : (events : List Event) → new ≡ held_by id flags now way (counted_by way old (course_of (Ok led) events)).count old
+  pub begun : (events : List Event) → begun_in answer ≡ begins way (counted_by way old (course_of (Ok led) events)).count

@@ -1,4 +1,5 @@
-use Rattle.stepping.proofs.Entries.{one_next, one_then, some_next, ends_then}
+use Rattle.stepping.proofs.Entries.{one_next, some_next}
+use Rattle.stepping.proofs.Passages.{one_then, ends_then}
 use Rattle.stepping.proofs.laws.one_entry.Goals as goal
 
 pub returns-clause-some : goal.returns-clause-some

@@ -1,8 +1,9 @@
-use Rattle.stepping.proofs.LastStep.{settles_ended}
+use Rattle.stepping.proofs.LastStep.{settles_astray, settles_within}
 use Rattle.stepping.proofs.settling.settle.Goals as goal
 
-pub begin-requires-clause-later : goal.begin-requires-clause-later
-begin-requires-clause-later g c = rw c.end.ensures.held (c.none_later.ensures.ended _ _ _ c.requires.later)
+pub returns-in-Within-clause-settles : goal.returns-in-Within-clause-settles
+returns-in-Within-clause-settles g c =
+    rw (c.in-Within.is, c.touch.ensures.held) (settles_within c.args.now c.args.flags c.args.led.now (g.T.Tracker.held c.args.tracker.now) c.in-Within.place)
 
-pub returns-in-Ends : goal.returns-in-Ends
-returns-in-Ends g c = record { settles = rw c.in-Ends.is (settles_ended c.args.now c.args.sought.now c.args.led.now c.in-Ends.id (g.T.Tracker.held c.args.tracker.now) _ _ (rw c.end.ensures.held at c.begin.ensures.begins)) }
+pub returns-in-Astray-clause-settles : goal.returns-in-Astray-clause-settles
+returns-in-Astray-clause-settles g c = rw c.in-Astray.is (settles_astray c.args.now c.args.flags c.args.led.now (g.T.Tracker.held c.args.tracker.now))

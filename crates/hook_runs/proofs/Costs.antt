@@ -1,0 +1,38 @@
+-- All parts together cost no more than the code.
+use Rattle.std.proofs.Common.{◌≡◌, ℕ, ◌+◌, ◌≤◌, not, List, ap, arith, ℤ, negsuc}
+use Rattle.std.proofs.lemmas.List.Filters.{sum_by-filter_both}
+use Rattle.rule_check.specs.Checked.{CheckedTree}
+use Rattle.filter_vm.specs.declared.code.Code.{Code}
+use Rattle.filter_vm.specs.declared.code.Start.{Start}
+use Rattle.compiler.specs.Compiled.{total_cost}
+use Rattle.hook_runs.specs.declared.parts.Part.TheVariants as parts
+use Rattle.hook_runs.specs.declared.parts.Parts.{Parts}
+use Rattle.hook_runs.specs.Parts.{all_cost, dstnat, srcnat}
+use Rattle.hook_runs.specs.steps.Starts.{AreParts, after, before, cost_of, filters, is_filter, late, ready, starts_before}
+
+abbrev cost : Start → ℕ
+cost s = s.cost
+
+both_sides : (limit : ℤ) (ss : List Start) → cost_of (before limit ss) + cost_of (after limit ss) ≡ cost_of ss
+both_sides limit = sum_by-filter_both (starts_before limit) (λ s. not (starts_before limit s)) (λ s. refl) cost
+
+some_cost : (ss : List Start) → cost_of (filters ss) ≤ cost_of ss
+some_cost ss = omega (arith, sum_by-filter_both is_filter (λ s. not (is_filter s)) (λ s. refl) cost ss)
+
+pub costs_little : (checked : CheckedTree) (code : Code) (p : Parts) → AreParts code p → all_cost (ready checked p) ≤ total_cost code
+costs_little checked code p are =
+    let early = ap cost_of (are parts.Early) in
+    let before_destination = ap cost_of (are parts.BeforeDestination) in
+    let after_destination = ap cost_of (are parts.AfterDestination) in
+    let input = ap cost_of (are parts.Input) in
+    let forward = ap cost_of (are parts.Forward) in
+    let before_source = ap cost_of (are parts.BeforeSource) in
+    let after_source = ap cost_of (are parts.AfterSource) in
+    let a = both_sides (negsuc 198) (filters code.prerouting.items) in
+    let b = both_sides dstnat (late code) in
+    let c = both_sides srcnat (filters code.postrouting.items) in
+    let d = some_cost code.prerouting.items in
+    let e = some_cost code.input.items in
+    let f = some_cost code.forward.items in
+    let g = some_cost code.postrouting.items in
+    omega (arith, early, before_destination, after_destination, input, forward, before_source, after_source, a, b, c, d, e, f, g)

@@ -1,0 +1,5 @@
+use Rattle.std.proofs.Common.{◌≤◌}
+use Rattle.hook_runs.proofs.runs.HookRuns.costs.Goals as goal
+
+pub returns : goal.returns
+returns c = rw (← c.self.view_is) c.self.invariant.few

@@ -1,0 +1,88 @@
+-- Passages one after another, and how their ends are answered.
+use Rattle.std.proofs.Common.{◌≡◌, Bool, true, false, List, Result, Ok, Err, refl, sym, ap, subst, ◌∙◌}
+use Rattle.rule_meaning.specs.declared.facts.Facts.{Facts}
+use Rattle.rule_meaning.specs.declared.event.Event.{Event}
+use Rattle.rule_meaning.specs.declared.event.Ending.{Ending}
+use Rattle.rule_meaning.specs.declared.event.Ending.TheVariants.{Accepted, Dropped, Translated}
+use Rattle.rule_meaning.specs.Hooks as meaning
+use Rattle.rule_meaning.specs.Hooks.{End, Passage, GoesOn, Stops, Then, Nothing}
+use Rattle.story.specs.declared.outcome.Cause.{Cause}
+use Rattle.story.specs.declared.outcome.Cause.TheVariants as causes
+use Rattle.rule_meaning.specs.Laws.{AtMostOneEnd}
+use Rattle.rule_laws.specs.Ends.{Ends}
+use Rattle.stepping.specs.steps.Passing.{Comes, answer_of}
+
+-- ---- whether a packet goes on
+
+abbrev pub goes_on : Ending → Bool
+goes_on Accepted = true
+goes_on Dropped = false
+goes_on (Translated t) = false
+
+pub on_of : (ending : Ending) → goes_on ending ≡ true → GoesOn ending
+on_of Accepted is = tt
+on_of Dropped is = cc
+on_of (Translated t) is = cc
+
+pub off_of : (ending : Ending) → goes_on ending ≡ false → Stops ending
+off_of Accepted is = cc
+off_of Dropped is = λ on. on
+off_of (Translated t) is = λ on. on
+
+-- an answer tells which
+pub on_by : (ending : Ending) (f g : Facts) → Ok g ≡ answer_of ending f → GoesOn ending
+on_by Accepted f g is = tt
+on_by Dropped f g is = cc
+on_by (Translated t) f g is = cc
+
+pub facts_by : (ending : Ending) (f g : Facts) → Ok g ≡ answer_of ending f → g ≡ f
+facts_by Accepted f g is = cc
+facts_by Dropped f g is = cc
+facts_by (Translated t) f g is = cc
+
+pub off_by : (ending : Ending) (f : Facts) (cause : Cause) → Err cause ≡ answer_of ending f → Stops ending
+off_by Accepted f cause is = cc
+off_by Dropped f cause is = λ on. on
+off_by (Translated t) f cause is = λ on. on
+
+pub cause_by : (ending : Ending) (f : Facts) (cause : Cause) → Err cause ≡ answer_of ending f → cause ≡ causes.Rule
+cause_by Accepted f cause is = cc
+cause_by Dropped f cause is = cc
+cause_by (Translated t) f cause is = cc
+
+-- ---- one after another
+
+module _ (first second : Passage) (f : Facts) (es : List Event) where
+  pub comes_on : (g : Facts) (between events : List Event) (answer : Result Facts Cause) → Comes first f es (Ok g) between → Comes second g between answer events → Comes (Then first second) f es answer events
+  comes_on g between events answer one two =
+      let facts : g ≡ one.end.facts = facts_by one.end.ending one.end.facts g one.answered in
+      let run : second one.end.facts one.end.events two.end = subst (λ (es : List Event). second one.end.facts es two.end) one.happened (subst (λ (f : Facts). second f between two.end) facts two.run) in
+      record { end = two.end; run = meaning.goes_on one.end one.run (on_by one.end.ending one.end.facts g one.answered) run; answered = two.answered; happened = two.happened }
+
+  pub comes_off : (cause : Cause) (events : List Event) → Comes first f es (Err cause) events → Comes (Then first second) f es (Err cause) events
+  comes_off cause events one =
+      record { end = one.end; run = meaning.stops one.run (off_by one.end.ending one.end.facts cause one.answered); answered = one.answered; happened = one.happened }
+
+-- where nothing is done between two, the second follows the first
+pub comes_straight : (first second : Passage) (f : Facts) (es events : List Event) (answer : Result Facts Cause) → Comes (Then first second) f es answer events → Comes (Then first (Then Nothing second)) f es answer events
+comes_straight first second f es events answer both = record { end = both.end; run = straight both.end both.run; answered = both.answered; happened = both.happened }
+  where
+    straight : (end : End) → Then first second f es end → Then first (Then Nothing second) f es end
+    straight end (meaning.goes_on between one on two) = meaning.goes_on between one on (meaning.goes_on (record { ending = Accepted; facts = between.facts; events = between.events }) refl tt two)
+    straight end (meaning.stops one off) = meaning.stops one off
+
+pub one_then : (first second : Passage) → AtMostOneEnd first → AtMostOneEnd second → AtMostOneEnd (Then first second)
+one_then first second one two f es end other (meaning.goes_on m r on s) (meaning.goes_on m' r' on' s') =
+    two m.facts m.events end other s (subst (λ x. second x.facts x.events other) (sym (one f es m m' r r')) s')
+one_then first second one two f es end other (meaning.goes_on m r on s) (meaning.stops r' ends) =
+    absurd (ends (subst (λ x. GoesOn x.ending) (one f es m other r r') on))
+one_then first second one two f es end other (meaning.stops r ends) (meaning.goes_on m r' on s) =
+    absurd (ends (subst (λ x. GoesOn x.ending) (one f es m end r' r) on))
+one_then first second one two f es end other (meaning.stops r ends) (meaning.stops r' ends') = one f es end other r r'
+
+end_by_test : (first second : Passage) → Ends second → (f : Facts) (es : List Event) (m : End) → first f es m → (b : Bool) → goes_on m.ending ≡ b → (end : End) × Then first second f es end
+end_by_test first second two f es m r true is = let q = two m.facts m.events in (q.0, meaning.goes_on m r (on_of m.ending is) q.1)
+end_by_test first second two f es m r false is = (m, meaning.stops r (off_of m.ending is))
+
+pub ends_then : (first second : Passage) → Ends first → Ends second → Ends (Then first second)
+ends_then first second one two f es = let q = one f es in end_by_test first second two f es q.0 q.1 (goes_on q.0.ending) refl

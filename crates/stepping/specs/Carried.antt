@@ -1,0 +1,99 @@
+-- What a record carries: its packet, the interface that it entered by, and what rules may read of it on arrival.
+use Rattle.std.specs.Prelude.{◌≡◌, ℕ, ◌-◌, List, [], drop, Option, Some, None, Result, Ok, Err, unwrap_or}
+use Rattle.std.specs.Option.{option_map}
+use Rattle.box_file.specs.Box.{PlantTree, name_of}
+use Rattle.nft_values.specs.Values.{filled}
+use Rattle.ip_headers.specs.declared.view.HeaderFault.{HeaderFault}
+use Rattle.ip_headers.specs.declared.view.HeaderFault.TheVariants as headers
+use Rattle.ip_headers.specs.Header.{fault_of, packet_of, total_len, protocol, source, destination, ttl, transport_of}
+use Rattle.pcap_io.specs.declared.link.Link.{Link}
+use Rattle.pcap_io.specs.declared.link.LinkCause.{LinkCause}
+use Rattle.pcap_io.specs.declared.link.LinkCause.TheVariants as links
+use Rattle.pcap_io.specs.Links.{link_of}
+use Rattle.pcap_io.specs.Pcap.{Recorded}
+use Rattle.rule_meaning.specs.declared.facts.Facts.{Facts}
+use Rattle.rule_meaning.specs.declared.facts.Packet.{Packet}
+use Rattle.rule_meaning.specs.declared.facts.Interface.{Interface}
+use Rattle.rule_meaning.specs.declared.facts.Tracking.{Tracking}
+use Rattle.rule_meaning.specs.declared.facts.Tracking.TheVariants.{Unknown}
+use Rattle.story.specs.declared.outcome.Cause.{Cause}
+use Rattle.story.specs.declared.outcome.Cause.TheVariants as causes
+use Rattle.story.specs.Setup.{Setup}
+
+-- ---- the packet of a record
+
+-- a packet that entered by the interface of this index
+pub record Arrived : Type 0 where
+  pub interface : ℕ
+  pub packet : List ℕ
+
+abbrev pub link_cause : LinkCause → Cause
+link_cause links.Short = causes.Short
+link_cause links.NotIp = causes.NotIp
+link_cause links.Link = causes.Link
+
+abbrev pub cause_of : HeaderFault → Cause
+cause_of headers.Short = causes.Short
+cause_of headers.Version = causes.Version
+cause_of headers.HeaderLength = causes.HeaderLength
+cause_of headers.Length = causes.Length
+cause_of headers.Truncated = causes.Truncated
+cause_of headers.Checksum = causes.Checksum
+cause_of headers.Fragment = causes.Fragment
+cause_of headers.Transport = causes.Transport
+
+-- the interface that a packet enters by: the one that its link header tells, if the box has it; where none is told,
+-- the one that the box file names
+abbrev pub entered : Setup → Option ℕ → Option ℕ
+entered setup None = Some setup.plant.entering
+entered setup (Some index) = option_map (λ name. index) (name_of setup.plant index)
+
+-- a record carries this packet, or none for this cause: its link header, the interface that it entered by, and the
+-- packet's own header (RFC 791) are tested in this order, and the first test that fails is the cause
+pub data Carries (setup : Setup) (r : Recorded) : Result Arrived Cause → Type 0 where
+  no_link : (cause : LinkCause) → link_of r.link r.bytes ≡ Err cause → Carries setup r (Err (link_cause cause))
+  no_interface : (link : Link) → link_of r.link r.bytes ≡ Ok link → entered setup link.interface ≡ None
+      → Carries setup r (Err causes.Interface)
+  no_header : (link : Link) (index : ℕ) (fault : HeaderFault) → link_of r.link r.bytes ≡ Ok link
+      → entered setup link.interface ≡ Some index → fault_of (drop link.packet r.bytes) ≡ Some fault
+      → Carries setup r (Err (cause_of fault))
+  carries : (link : Link) (index : ℕ) → link_of r.link r.bytes ≡ Ok link
+      → entered setup link.interface ≡ Some index → fault_of (drop link.packet r.bytes) ≡ None
+      → Carries setup r (Ok (record { interface = index; packet = packet_of (drop link.packet r.bytes) }))
+
+-- ---- what rules may read of it
+
+abbrev pub packet_facts : List ℕ → Packet
+packet_facts p = record {
+  source = source p;
+  destination = destination p;
+  protocol = protocol p;
+  ttl = ttl p;
+  length = total_len p;
+  transport = transport_of p;
+}
+
+-- an interface of the box, its name filled with zeros
+abbrev pub interface_facts : PlantTree → ℕ → Interface
+interface_facts plant index = record { index = index; name = filled 0 (unwrap_or (name_of plant index) []) }
+
+-- on arrival: nothing is known of its way or its connection, and its mark is 0
+abbrev pub arriving : Setup → Arrived → Facts
+arriving setup a = record {
+  packet = packet_facts a.packet;
+  input = interface_facts setup.plant a.interface;
+  output = None;
+  mark = 0;
+  tracking = Unknown;
+}
+
+-- once its connection was looked up
+abbrev pub with_tracking : Tracking → Facts → Facts
+with_tracking known f = record f { tracking = known }
+
+-- when it is sent on: by this interface, with its TTL lowered (RFC 1812, 5.3.1)
+abbrev pub departing : Setup → ℕ → Facts → Facts
+departing setup interface f = record f {
+  output = Some (interface_facts setup.plant interface);
+  packet = record f.packet { ttl = f.packet.ttl - 1 };
+}

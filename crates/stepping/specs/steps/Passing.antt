@@ -1,0 +1,41 @@
+-- How chains are passed, as it is answered.
+use Rattle.std.specs.Prelude.{◌≡◌, ℕ, ◌+◌, ◌≤◌, List, length, Result, Ok, Err}
+use Rattle.rule_meaning.specs.declared.facts.Facts.{Facts}
+use Rattle.rule_meaning.specs.declared.event.Event.{Event}
+use Rattle.rule_meaning.specs.declared.event.Ending.{Ending}
+use Rattle.rule_meaning.specs.declared.event.Ending.TheVariants.{Accepted, Dropped, Translated}
+use Rattle.rule_meaning.specs.Hooks.{Passage, End}
+use Rattle.filter_vm.specs.Machine.{Told}
+use Rattle.hook_runs.specs.Parts.{CostedTree}
+use Rattle.story.specs.declared.outcome.Cause.{Cause}
+use Rattle.story.specs.declared.outcome.Cause.TheVariants as causes
+use Rattle.story.specs.Setup.{Setup}
+
+-- what a box was set up with whose chains are ready to run
+abbrev pub setup_in : CostedTree → Setup
+setup_in runs = record { rules = runs.rules; plant = runs.plant }
+
+-- what rules may read of a packet that goes on; else a rule or a policy drops it
+abbrev pub answer_of : Ending → Facts → Result Facts Cause
+answer_of Accepted f = Ok f
+answer_of Dropped f = Err causes.Rule
+answer_of (Translated t) f = Err causes.Rule
+
+-- a passage comes to an end that is answered so, with these events
+pub record Comes (passage : Passage) (f : Facts) (es : List Event) (answer : Result Facts Cause) (events : List Event) : Type 0 where
+  pub end : End
+  pub run : passage f es end
+  pub answered : answer ≡ answer_of end.ending end.facts
+  pub happened : events ≡ end.events
+
+-- ---- what it costs
+
+-- there is room for so many events more
+abbrev pub HasRoom : Told → ℕ → Type 0
+HasRoom told cost = length told.events + cost ≤ 65536
+
+-- so many events came at most, and so many statements were started
+pub record Spends (before after : Told) (cost : ℕ) : Type 0 where
+  pub events : length after.events ≤ length before.events + cost
+  pub no_fewer : before.ticks ≤ after.ticks
+  pub ticks : after.ticks ≤ before.ticks + cost
