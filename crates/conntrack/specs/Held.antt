@@ -73,7 +73,14 @@ touched direction flags mark now h = record {
 
 -- as it is listed
 abbrev pub connection_of : Held → Connection
-connection_of h = record { original = h.original; reply = h.reply; mark = h.mark; last = h.last; source = h.source; dest = h.dest }
+connection_of h = record {
+  original = h.original;
+  reply = h.reply;
+  mark = h.mark;
+  last = h.last;
+  source = h.source;
+  dest = h.dest;
+}
 
 -- what is left of it once it is held no longer
 abbrev pub aged_of : Held → Aged
@@ -128,7 +135,8 @@ are_apart [] = true
 are_apart (h ∷ held) = not (is_taken h.original held || is_taken h.reply held) && are_apart held
 
 abbrev pub touched_at : ConnId → Direction → Flags → ℕ → ℕ → List Held → List Held
-touched_at id direction flags mark now held = map (λ h. if same_id id h then touched direction flags mark now h else h) held
+touched_at id direction flags mark now held =
+    map (λ h. if same_id id h then touched direction flags mark now h else h) held
 
 abbrev pub without : ConnId → List Held → List Held
 without id held = filter (λ h. not (same_id id h)) held
@@ -144,7 +152,14 @@ most_held = 65536
 -- ---- what a packet belongs to
 
 abbrev pub place_of : Held → Direction → Place
-place_of h direction = record { id = h.id; direction = direction; original = h.original; reply = h.reply; mark = h.mark; replied = h.replied }
+place_of h direction = record {
+  id = h.id;
+  direction = direction;
+  original = h.original;
+  reply = h.reply;
+  mark = h.mark;
+  replied = h.replied;
+}
 
 abbrev pub of_original : List Held → Tuple → Option Held
 of_original held tuple = find (λ h. same_tuple h.original tuple) held
@@ -164,7 +179,14 @@ abbrev pub belongs_in : List Held → Tuple → Flags → Belonging
 belongs_in held tuple flags = belonging_by flags (of_original held tuple) (of_reply held tuple)
 
 abbrev pub nameless_place : Place → Place
-nameless_place p = record { id = record { 0 = 0 }; direction = p.direction; original = p.original; reply = p.reply; mark = p.mark; replied = p.replied }
+nameless_place p = record {
+  id = record { 0 = 0 };
+  direction = p.direction;
+  original = p.original;
+  reply = p.reply;
+  mark = p.mark;
+  replied = p.replied;
+}
 
 abbrev pub nameless_belonging : Belonging → Belonging
 nameless_belonging Nowhere = Nowhere

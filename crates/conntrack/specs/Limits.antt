@@ -2,9 +2,9 @@
 use Rattle.std.specs.Prelude.{refl}
 use Rattle.conntrack.specs.declared.limits.Limits.{Limits}
 
--- the least that the RFCs allow, in seconds: two hours and four minutes for an established connection of TCP, four
--- minutes for one that opens or closes (RFC 5382, REQ-5); five minutes for UDP, which RFC 4787, REQ-5 recommends; one
--- minute for an echo (RFC 5508, REQ-2); ten minutes for other protocols (own)
+-- in seconds: two hours and four minutes for an established connection of TCP and four minutes for one that opens or
+-- closes, the least of RFC 5382, REQ-5; five minutes for UDP, as RFC 4787, REQ-5 recommends; one minute for an echo,
+-- the least of RFC 5508, REQ-2; ten minutes for other protocols (own)
 abbrev pub usual_limits : Limits
 usual_limits = record {
   established = 7440;

@@ -15,7 +15,12 @@ no_flags = record { syn = false; ack = false; fin = false; rst = false }
 
 -- FIN is the lowest bit, then come SYN, RST, PSH and ACK (RFC 9293, section 3.1)
 abbrev pub flags_of : ℕ → Flags
-flags_of bits = record { syn = bits / 2 % 2 == 1; ack = bits / 16 % 2 == 1; fin = bits % 2 == 1; rst = bits / 4 % 2 == 1 }
+flags_of bits = record {
+  syn = bits / 2 % 2 == 1;
+  ack = bits / 16 % 2 == 1;
+  fin = bits % 2 == 1;
+  rst = bits / 4 % 2 == 1;
+}
 
 -- those seen before, and a packet's where it counts
 abbrev pub seen_more : Bool → Flags → Flags → Flags

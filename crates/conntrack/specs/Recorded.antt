@@ -34,12 +34,20 @@ after_end other held = held
 abbrev pub with_begun : ConnId → Arrival → Count → List Held → List Held
 with_begun id p Uncounted held = held
 with_begun id p (Counted mark reply source dest) held =
-    let connection : Connection = record { original = p.tuple; reply = reply; mark = mark; last = p.moment; source = source; dest = dest } in
+    let connection : Connection = record {
+      original = p.tuple;
+      reply = reply;
+      mark = mark;
+      last = p.moment;
+      source = source;
+      dest = dest;
+    } in
     held ++ begun_with id connection p.flags ∷ []
 
 abbrev pub after_packet : Belonging → ConnId → Arrival → Count → List Held → List Held
 after_packet (Found place) id p Uncounted held = held
-after_packet (Found place) id p (Counted mark reply source dest) held = touched_at place.id place.direction p.flags mark p.moment held
+after_packet (Found place) id p (Counted mark reply source dest) held =
+    touched_at place.id place.direction p.flags mark p.moment held
 after_packet Nowhere id p count held = with_begun id p count held
 after_packet (Ends ended) id p count held = with_begun id p count (without ended held)
 

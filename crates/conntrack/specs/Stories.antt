@@ -56,7 +56,10 @@ does_touch c (Touches k direction) = c == k
 -- newest first
 abbrev pub entries_of : ℕ → List Entry → List Entry
 entries_of c [] = []
-entries_of c (e ∷ story) = if length story == c then e ∷ [] else (if does_touch c e.what then e ∷ entries_of c story else entries_of c story)
+entries_of c (e ∷ story) =
+    if length story == c then e ∷ []
+    else (if does_touch c e.what then e ∷ entries_of c story
+    else entries_of c story)
 
 abbrev pub is_that : ℕ → Option ℕ → Bool
 is_that c None = false
@@ -67,7 +70,7 @@ abbrev pub is_ended : ℕ → List Entry → Bool
 is_ended c [] = false
 is_ended c (e ∷ story) = if length story == c then false else (is_that c e.ended || is_ended c story)
 
--- what stands where a beginning is asked for and there is none: numbers of entries that began nothing are never asked
+-- what stands where a beginning is asked for and there is none; nothing asks by the number of an entry that began none
 abbrev pub no_beginning : Beginning
 no_beginning = record { original = no_tuple; reply = no_tuple; source = None; dest = None }
 
@@ -77,7 +80,7 @@ begun Nothing = no_beginning
 begun (Begins beginning) = beginning
 begun (Touches k direction) = no_beginning
 
--- what it was begun with, by its first entry
+-- what connection c was begun with, by its first entry
 abbrev pub beginning_of : ℕ → List Entry → Beginning
 beginning_of c [] = no_beginning
 beginning_of c (e ∷ story) = if length story == c then begun e.what else beginning_of c story
@@ -149,7 +152,8 @@ begun_in (e ∷ story) = begun_in story ++ number_if_begins (length story) e.wha
 
 -- those alive at a moment, in the order in which they were begun
 abbrev pub live_list : Limits → List Entry → ℕ → List Held
-live_list limits story now = map (λ c. connection_in c story) (filter (λ c. is_alive limits c story now) (begun_in story))
+live_list limits story now =
+    map (λ c. connection_in c story) (filter (λ c. is_alive limits c story now) (begun_in story))
 
 -- what a packet with this tuple and these flags belongs to at a moment
 abbrev pub belongs : Limits → List Entry → ℕ → Tuple → Flags → Belonging

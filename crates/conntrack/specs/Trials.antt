@@ -1,5 +1,5 @@
 -- The stories of the trials. A is 192.168.1.10, B is 198.51.100.7.
-use Rattle.std.specs.Prelude.{ℕ, List, [], ◌∷◌, map, Some, None}
+use Rattle.std.specs.Prelude.{ℕ, List, [], ◌∷◌, map, Some, None, refl}
 use Rattle.ip_headers.specs.declared.tuple.Kind.{Kind}
 use Rattle.ip_headers.specs.declared.tuple.Kind.TheVariants.{Tcp, Udp}
 use Rattle.ip_headers.specs.declared.tuple.Tuple.{Tuple}
@@ -7,9 +7,10 @@ use Rattle.ip_headers.specs.Tuple.{inverse}
 use Rattle.conntrack.specs.declared.connection.Direction.{Direction}
 use Rattle.conntrack.specs.declared.connection.Direction.TheVariants.{Original, Reply}
 use Rattle.conntrack.specs.declared.connection.Flags.{Flags}
+use Rattle.conntrack.specs.declared.limits.Limits.{Limits}
 use Rattle.conntrack.specs.Phases.{flags_of, no_flags, seconds}
 use Rattle.conntrack.specs.Limits.{usual_limits}
-use Rattle.conntrack.specs.Stories.{Beginning, Entry, Nothing, Begins, Touches, live_list}
+use Rattle.conntrack.specs.Stories.{Entry, What, Nothing, Begins, Touches, live_list}
 
 -- ---- tuples
 
@@ -46,45 +47,62 @@ rst_ack = flags_of 20
 
 -- ---- entries, with mark 0
 
+abbrev pub entry : ℕ → Flags → What → Entry
+entry moment flags what = record { moment = moment; flags = flags; mark = 0; what = what; ended = None }
+
 -- nothing is translated
-abbrev pub begun_with : Tuple → Tuple → Beginning
-begun_with original reply = record { original = original; reply = reply; source = None; dest = None }
+abbrev pub untranslated : Tuple → Tuple → What
+untranslated original reply = Begins (record { original = original; reply = reply; source = None; dest = None })
 
 abbrev pub begins : Tuple → ℕ → Flags → Entry
-begins tuple moment flags = record { moment = moment; flags = flags; mark = 0; what = Begins (begun_with tuple (inverse tuple)); ended = None }
+begins tuple moment flags = entry moment flags (untranslated tuple (inverse tuple))
 
 abbrev pub sends : Direction → ℕ → Flags → Entry
-sends direction moment flags = record { moment = moment; flags = flags; mark = 0; what = Touches 0 direction; ended = None }
+sends direction moment flags = entry moment flags (Touches 0 direction)
 
 abbrev pub is_dropped : ℕ → Flags → Entry
-is_dropped moment flags = record { moment = moment; flags = flags; mark = 0; what = Nothing; ended = None }
+is_dropped moment flags = entry moment flags Nothing
 
 -- the packet ends the first connection and begins another
 abbrev pub begins_anew : Tuple → ℕ → Entry
-begins_anew tuple moment = record { moment = moment; flags = syn; mark = 0; what = Begins (begun_with tuple (inverse tuple)); ended = Some 0 }
+begins_anew tuple moment = record (begins tuple moment syn) { ended = Some 0 }
 
 -- its reply tuple is its original tuple
 abbrev pub begins_as_one : Tuple → Entry
-begins_as_one tuple = record { moment = 0; flags = no_flags; mark = 0; what = Begins (begun_with tuple tuple); ended = None }
+begins_as_one tuple = entry 0 no_flags (untranslated tuple tuple)
 
 -- ---- stories, newest first
 
--- A and B ask at 0 s and 1 s
-abbrev pub both_asked : List Entry
-both_asked = sends Reply (seconds 1) syn ∷ begins web 0 syn ∷ []
+-- A sends SYN at 0 s
+abbrev pub opening : List Entry
+opening = begins web 0 syn ∷ []
 
--- and answer at 2 s and 3 s
+-- and B at 1 s
+abbrev pub crossed : List Entry
+crossed = sends Reply (seconds 1) syn ∷ opening
+
+-- each sends SYN and ACK at 2 s and 3 s
 abbrev pub opened : List Entry
-opened = sends Reply (seconds 3) syn_ack ∷ sends Original (seconds 2) syn_ack ∷ both_asked
+opened = sends Reply (seconds 3) syn_ack ∷ sends Original (seconds 2) syn_ack ∷ crossed
 
+-- B resets at 1 s
+abbrev pub refused : List Entry
+refused = sends Reply (seconds 1) rst_ack ∷ opening
+
+-- A sends a datagram of UDP at 0 s
 abbrev pub asked : List Entry
 asked = begins question 0 no_flags ∷ []
 
-abbrev pub refused : List Entry
-refused = sends Reply (seconds 1) rst_ack ∷ begins web 0 syn ∷ []
-
 -- ---- what they tell
 
--- the numbers of the connections that are alive, by the usual limits
+-- the numbers of the connections that are alive
+abbrev pub alive_by : Limits → ℕ → List Entry → List ℕ
+alive_by limits now story = map (λ h. h.id.0) (live_list limits story now)
+
+-- by the usual limits
 abbrev pub alive_at : ℕ → List Entry → List ℕ
-alive_at now story = map (λ h. h.id.0) (live_list usual_limits story now)
+alive_at = alive_by usual_limits
+
+-- limits that tell all kinds and phases apart
+abbrev pub short_limits : Limits
+short_limits = record { established = 5; transitory = 4; udp = 3; ask = 2; other = 1; positive = refl }

@@ -26,4 +26,5 @@ abbrev pub same_endpoint : Endpoint → Endpoint → Bool
 same_endpoint a b = a.address == b.address && a.port == b.port
 
 abbrev pub same_tuple : Tuple → Tuple → Bool
-same_tuple a b = same_kind a.kind b.kind && (same_endpoint a.source b.source && same_endpoint a.destination b.destination)
+same_tuple a b =
+    same_kind a.kind b.kind && (same_endpoint a.source b.source && same_endpoint a.destination b.destination)

@@ -31,7 +31,7 @@ pub enum Direction {
     Reply,
 }
 
-/// How far a connection of TCP is (RFC 9293, section 3.3.2).
+/// How far a connection of TCP is (RFC 9293, sections 3.5 and 3.6).
 #[derive(Clone, Copy, Debug, PartialEq, Eq)]
 pub enum Phase {
     /// Not each end has sent SYN and ACK.

@@ -51,13 +51,7 @@ fn find_reply(conns: &[Held], limits: Limits, tuple: Tuple, now: Moment) -> Opti
 
 /// What a packet belongs to among those that are live.
 #[tactic(auto, using(crate::proofs::Lists::find_filter_rules))]
-fn look_in(
-    conns: &[Held],
-    limits: Limits,
-    tuple: Tuple,
-    flags: Flags,
-    now: Moment,
-) -> Belonging
+fn look_in(conns: &[Held], limits: Limits, tuple: Tuple, flags: Flags, now: Moment) -> Belonging
     ensures { result ≡ belongs_in (live_at limits now conns.now) tuple flags }
 {
     match find_original(conns, limits, tuple, now) {
@@ -122,7 +116,10 @@ fn take_out(conns: &mut Vec<Held>, id: ConnId)
 fn find_dead(conns: &[Held], limits: Limits, now: Moment) -> Option<Held>
     ensures { result ≡ find (λ h. not (is_live limits now h)) conns.now }
 {
-    conns.iter().find(|held| !held.is_live(limits, now)).copied()
+    conns
+        .iter()
+        .find(|held| !held.is_live(limits, now))
+        .copied()
 }
 
 /// The connection of that name.

@@ -10,13 +10,15 @@ ghost use Rattle.conntrack.specs.Phases.{no_flags, seconds};
 ghost use Rattle.conntrack.specs.Limits.{usual_limits};
 ghost use Rattle.conntrack.specs.Held.{state_of};
 ghost use Rattle.conntrack.specs.Stories.{belongs, phase};
-ghost use Rattle.conntrack.specs.Trials.{alive_at, asked, begins, begins_anew, begins_as_one, both_asked, fin_ack, from_a, is_dropped, opened, plain_ack, question, refused, sends, syn, syn_ack, web};
+ghost use Rattle.conntrack.specs.Trials.{alive_at, alive_by, asked, begins, begins_anew, begins_as_one, crossed, fin_ack, from_a, is_dropped, opened, opening, plain_ack, question, refused, sends, short_limits, syn, syn_ack, web};
 
-/// Both ends ask at once (RFC 9293, section 3.5): it is established once each has answered, and then
-/// lives for 7440 seconds.
+/// Both ends send SYN at once (RFC 9293, section 3.5): the connection is established once each has
+/// sent ACK too, and then lives for 7440 seconds; so far it lives for 240.
 pub fn simultaneous_open()
-    ensures asked { phase 0 both_asked ≡ phases.Opening }
-    ensures half { phase 0 (sends ways.Original (seconds 2) syn_ack ∷ both_asked) ≡ phases.Opening }
+    ensures opening { alive_at (seconds 240 - 1) opening ≡ 0 ∷ [] }
+    ensures opening_at_limit { alive_at (seconds 240) opening ≡ [] }
+    ensures crossed { phase 0 crossed ≡ phases.Opening }
+    ensures half { phase 0 (sends ways.Original (seconds 2) syn_ack ∷ crossed) ≡ phases.Opening }
     ensures answered { phase 0 opened ≡ phases.Established }
     ensures within { alive_at (seconds 7443 - 1) opened ≡ 0 ∷ [] }
     ensures at_limit { alive_at (seconds 7443) opened ≡ [] }
@@ -45,7 +47,7 @@ pub fn reset_then_syn()
 
 /// One FIN leaves a connection established, FIN from both ends closes it, and then it lives for 240
 /// seconds.
-pub fn leave_taken()
+pub fn fin_from_both()
     ensures one { phase 0 (sends ways.Original (seconds 10) fin_ack ∷ opened) ≡ phases.Established }
     ensures both { phase 0 (sends ways.Reply (seconds 11) fin_ack ∷ sends ways.Original (seconds 10) fin_ack ∷ opened) ≡ phases.Closing }
     ensures within { alive_at (seconds 251 - 1) (sends ways.Reply (seconds 11) fin_ack ∷ sends ways.Original (seconds 10) fin_ack ∷ opened) ≡ 0 ∷ [] }
@@ -60,6 +62,23 @@ pub fn other_kinds()
     ensures other_answer { state_of kinds.Answer (belongs usual_limits (begins (from_a kinds.Ask 7 0) 0 no_flags ∷ []) 0 (inverse (from_a kinds.Ask 8 0)) no_flags) ≡ states.Invalid }
     ensures other { alive_at (seconds 600 - 1) (begins (from_a (kinds.Other 47) 0 0) 0 no_flags ∷ []) ≡ 0 ∷ [] }
     ensures other_at_limit { alive_at (seconds 600) (begins (from_a (kinds.Other 47) 0 0) 0 no_flags ∷ []) ≡ [] }
+{}
+
+/// Each kind and phase lives for its own limit, here of 5, 4, 3, 2 and 1 seconds; opening and closing
+/// share one.
+pub fn limits_as_set()
+    ensures established { alive_by short_limits (seconds 8 - 1) opened ≡ 0 ∷ [] }
+    ensures established_over { alive_by short_limits (seconds 8) opened ≡ [] }
+    ensures opening { alive_by short_limits (seconds 4 - 1) opening ≡ 0 ∷ [] }
+    ensures opening_over { alive_by short_limits (seconds 4) opening ≡ [] }
+    ensures closing { alive_by short_limits (seconds 5 - 1) refused ≡ 0 ∷ [] }
+    ensures closing_over { alive_by short_limits (seconds 5) refused ≡ [] }
+    ensures udp { alive_by short_limits (seconds 3 - 1) asked ≡ 0 ∷ [] }
+    ensures udp_over { alive_by short_limits (seconds 3) asked ≡ [] }
+    ensures ask { alive_by short_limits (seconds 2 - 1) (begins (from_a kinds.Ask 7 0) 0 no_flags ∷ []) ≡ 0 ∷ [] }
+    ensures ask_over { alive_by short_limits (seconds 2) (begins (from_a kinds.Ask 7 0) 0 no_flags ∷ []) ≡ [] }
+    ensures other { alive_by short_limits (seconds 1 - 1) (begins (from_a (kinds.Other 47) 0 0) 0 no_flags ∷ []) ≡ 0 ∷ [] }
+    ensures other_over { alive_by short_limits (seconds 1) (begins (from_a (kinds.Other 47) 0 0) 0 no_flags ∷ []) ≡ [] }
 {}
 
 /// A port of UDP isn't one of TCP, and a connection whose two tuples are one is met in direction

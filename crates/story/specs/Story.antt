@@ -16,8 +16,8 @@ use Rattle.story.specs.Setup.{Setup, limits_of}
 pub record Entry : Type 0 where
   -- what is recorded of it as far as connections go, its moment among that
   pub tracked : connections.Entry
-  -- the tuple of its packet as received, by which its connection was looked up; none where it wasn't looked up, or where
-  -- the packet has no tuple
+  -- the tuple of its packet as received, by which its connection was looked up; none where it wasn't looked up, or
+  -- where the packet has no tuple
   pub sought : Option Tuple
   -- whether ports were named when a port was chosen for the connection that its packet began; none where none was
   -- chosen afresh, as always while nothing is translated
