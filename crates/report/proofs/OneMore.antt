@@ -53,13 +53,13 @@ same_counts : (size size' : ℕ) (es es' : List Event) (ts : Tallies) → size �
 same_counts size size' es es' ts hs he = rw (hs, he)
 
 -- a report that knows this of a story, and of one entry more as much as is told of it
-pub reports_more : (old known : Known) (rules : List TableTree) (trace : Bool) (story : List Entry) (told : Text) (e : Entry) (entry : lent.Entry) (sent kept : ℕ) (lost : List ℕ) (begins : ℕ) (ts : Tallies) (notes : List Note)
+pub reports_more : (old known : Known) (rules : List TableTree) (trace : Bool) (story : List Entry) (told : Text) (e : Entry) (entry : lent.Entry) (sent kept : ℕ) (lost : List ℕ) (begins : ℕ) (ts : Tallies) (notes : List Note) (room : ℕ)
     → old ≡ known → Reports known rules trace story told → IsEntry e story entry
     → AllWithin ((old.records + 1) * 2 ^ 64) ((old.records + 1) * 2 ^ 80) old.tallies → known.records < 2 ^ 32 → length entry.events.now < 2 ^ 64 → entry.length < 2 ^ 16
     → sent ≡ more_if (is_passed entry.outcome) old.passed → kept ≡ more_if (is_local entry.outcome) old.local → ((cause : Cause) → slice_index lost (place cause) ≡ more_if (is_dropped_for cause entry.outcome) (drops_of old cause))
     → begins ≡ more_if entry.begun old.begun → ts ≡ counted_all entry.length entry.events.now old.tallies → notes ≡ old.notes ++ noted old.traces entry.number entry.events.now entry.outcome
-    → Reports (record { records = old.records + 1; passed = sent; local = kept; dropped = lost; begun = begins; tallies = ts; traces = old.traces; notes = notes }) rules trace (e ∷ story) told
-reports_more old known rules trace story told e entry sent kept lost begins ts notes same stood is within known_few events_few small sent_is kept_is lost_is begins_is ts_is notes_is =
+    → Reports (record { records = old.records + 1; passed = sent; local = kept; dropped = lost; begun = begins; tallies = ts; traces = old.traces; notes = notes; room = room }) rules trace (e ∷ story) told
+reports_more old known rules trace story told e entry sent kept lost begins ts notes room same stood is within known_few events_few small sent_is kept_is lost_is begins_is ts_is notes_is =
     let r : Reports old rules trace story told = subst (λ k. Reports k rules trace story told) (sym same) stood in
     let few : old.records < 2 ^ 32 = omega (arith, known_few, ap (λ (k : Known). k.records) same) in
     let several : length e.events < 2 ^ 64 = rw (← is.events) events_few in

@@ -50,7 +50,8 @@ named t c = family_word t.family ++ and_word t.name ++ and_word c.name
 
 -- the chain of these numbers, with its table
 abbrev pub chain_at : List TableTree → ℕ → ℕ → Option (TableTree × ChainTree)
-chain_at rules table chain = option_and_then (λ t. option_map (λ c. (t, c)) (slice_get (chains_of t) chain)) (slice_get rules table)
+chain_at rules table chain =
+    option_and_then (λ t. option_map (λ c. (t, c)) (slice_get (chains_of t) chain)) (slice_get rules table)
 
 -- a line on the chain of these numbers; none where there is no such chain
 abbrev pub on_chain : List TableTree → ℕ → ℕ → (TableTree → ChainTree → Text) → Text
@@ -64,11 +65,14 @@ prefix_in (Some (tree.log (Some prefix))) = and_word prefix
 prefix_in _ = []
 
 abbrev pub statement_at : ChainTree → Place → Option Statement
-statement_at c place = option_and_then (λ r. numbered_from_one r.statements place.statement) (numbered_from_one c.rules place.rule.rule)
+statement_at c place =
+    option_and_then (λ r. numbered_from_one r.statements place.statement) (numbered_from_one c.rules place.rule.rule)
 
 -- `log N FAMILY TABLE CHAIN RULE`, and the prefix where there is one
 abbrev pub log_line : ℕ → Place → TableTree → ChainTree → Text
-log_line n place t c = codes "log" ++ and_number n ++ and_word (named t c) ++ and_number place.rule.rule ++ prefix_in (statement_at c place) ++ end
+log_line n place t c =
+    codes "log" ++ and_number n ++ and_word (named t c) ++ and_number place.rule.rule
+    ++ prefix_in (statement_at c place) ++ end
 
 -- the name of the chain of this number in the table
 abbrev pub target : TableTree → ℕ → Text
@@ -91,7 +95,9 @@ decision_words t (decisions.Translate translation) = translation_word translatio
 
 -- `trace N FAMILY TABLE CHAIN RULE VERDICT`
 abbrev pub decision_line : ℕ → ℕ → Decision → TableTree → ChainTree → Text
-decision_line n rule decision t c = codes "trace" ++ and_number n ++ and_word (named t c) ++ and_number rule ++ and_word (decision_words t decision) ++ end
+decision_line n rule decision t c =
+    codes "trace" ++ and_number n ++ and_word (named t c) ++ and_number rule
+    ++ and_word (decision_words t decision) ++ end
 
 abbrev pub policy_word : Policy → Text
 policy_word policies.Accept = codes "accept"
@@ -99,13 +105,16 @@ policy_word policies.Drop = codes "drop"
 
 -- `trace N FAMILY TABLE CHAIN policy POLICY`
 abbrev pub policy_line : ℕ → Policy → TableTree → ChainTree → Text
-policy_line n policy t c = codes "trace" ++ and_number n ++ and_word (named t c) ++ codes " policy" ++ and_word (policy_word policy) ++ end
+policy_line n policy t c =
+    codes "trace" ++ and_number n ++ and_word (named t c) ++ codes " policy" ++ and_word (policy_word policy) ++ end
 
 -- what is told of an event of entry n: what is logged; and what was decided, where it is traced
 abbrev pub event_line : List TableTree → Bool → ℕ → Event → Text
 event_line rules trace n (events.Logged place) = on_chain rules place.rule.table place.rule.chain (log_line n place)
-event_line rules trace n (events.Took rule decision) = cond trace (on_chain rules rule.table rule.chain (decision_line n rule.rule decision)) []
-event_line rules trace n (events.Closed chain policy) = cond trace (on_chain rules chain.table chain.chain (policy_line n policy)) []
+event_line rules trace n (events.Took rule decision) =
+    cond trace (on_chain rules rule.table rule.chain (decision_line n rule.rule decision)) []
+event_line rules trace n (events.Closed chain policy) =
+    cond trace (on_chain rules chain.table chain.chain (policy_line n policy)) []
 event_line rules trace n (events.Counted place) = []
 event_line rules trace n (events.Marked field value) = []
 
@@ -116,7 +125,8 @@ outcome_word (Dropped cause) = word cause
 
 -- `trace N outcome OUTCOME`, last of an entry
 abbrev pub outcome_line : Bool → ℕ → Outcome → Text
-outcome_line trace n outcome = cond trace (codes "trace" ++ and_number n ++ codes " outcome" ++ and_word (outcome_word outcome) ++ end) []
+outcome_line trace n outcome =
+    cond trace (codes "trace" ++ and_number n ++ codes " outcome" ++ and_word (outcome_word outcome) ++ end) []
 
 -- what is told of entry n
 abbrev pub lines_of : List TableTree → Bool → ℕ → Entry → Text
@@ -130,7 +140,9 @@ entry_lines rules trace (e ∷ story) = entry_lines rules trace story ++ lines_o
 -- ---- lines of counters
 
 abbrev pub same_place : Place → Place → Bool
-same_place a b = ((a.rule.table == b.rule.table) && (a.rule.chain == b.rule.chain)) && ((a.rule.rule == b.rule.rule) && (a.statement == b.statement))
+same_place a b =
+    ((a.rule.table == b.rule.table) && (a.rule.chain == b.rule.chain))
+    && ((a.rule.rule == b.rule.rule) && (a.statement == b.statement))
 
 abbrev pub is_counted_at : Place → Event → Bool
 is_counted_at place (events.Counted other) = same_place other place
@@ -147,11 +159,13 @@ packets place story = sum_by (counts_at place) story
 abbrev pub bytes : Place → List Entry → ℕ
 bytes place story = sum_by (λ e. counts_at place e * e.length) story
 
--- `counter FAMILY TABLE CHAIN RULE K packets P bytes B`, on top of where it starts; K tells which counter of its rule it is, from 1
+-- `counter FAMILY TABLE CHAIN RULE K packets P bytes B`, on top of where it starts;
+-- K tells which counter of its rule it is, from 1
 abbrev pub counter_line : List Entry → TableTree → ChainTree → Place → ℕ → CounterStart → Text
 counter_line story t c place k start =
     codes "counter" ++ and_word (named t c) ++ and_number place.rule.rule ++ and_number k
-    ++ codes " packets" ++ and_number (start.packets + packets place story) ++ codes " bytes" ++ and_number (start.bytes + bytes place story) ++ end
+    ++ codes " packets" ++ and_number (start.packets + packets place story)
+    ++ codes " bytes" ++ and_number (start.bytes + bytes place story) ++ end
 
 -- those of the statements of a rule from the one of this place on, the next counter being the rule's kth
 abbrev pub next_place : Place → Place
@@ -168,17 +182,22 @@ next_number k (Some start) = k + 1
 
 abbrev pub statement_lines : List Entry → TableTree → ChainTree → Place → ℕ → List Statement → Text
 statement_lines story t c place k [] = []
-statement_lines story t c place k (s ∷ ss) = line_if_counter story t c place k (counter_in s) ++ statement_lines story t c (next_place place) (next_number k (counter_in s)) ss
+statement_lines story t c place k (s ∷ ss) =
+    line_if_counter story t c place k (counter_in s)
+    ++ statement_lines story t c (next_place place) (next_number k (counter_in s)) ss
 
 -- those of the rules of a chain from the one of this number on; of the chains of a table; of the tables of a ruleset
 abbrev pub rule_lines : List Entry → TableTree → ChainTree → ℕ → ℕ → ℕ → List RuleTree → Text
 rule_lines story t c table chain n [] = []
 rule_lines story t c table chain n (r ∷ rs) =
-    statement_lines story t c (record { rule = record { table = table; chain = chain; rule = n }; statement = 1 }) 1 r.statements ++ rule_lines story t c table chain (n + 1) rs
+    statement_lines story t c
+    (record { rule = record { table = table; chain = chain; rule = n }; statement = 1 }) 1 r.statements
+    ++ rule_lines story t c table chain (n + 1) rs
 
 abbrev pub chain_lines : List Entry → TableTree → ℕ → ℕ → List ChainTree → Text
 chain_lines story t table chain [] = []
-chain_lines story t table chain (c ∷ cs) = rule_lines story t c table chain 1 c.rules ++ chain_lines story t table (chain + 1) cs
+chain_lines story t table chain (c ∷ cs) =
+    rule_lines story t c table chain 1 c.rules ++ chain_lines story t table (chain + 1) cs
 
 abbrev pub table_lines : List Entry → ℕ → List TableTree → Text
 table_lines story table [] = []
@@ -215,7 +234,8 @@ begun story = count_by (λ e. does_begin e.tracked.what) story
 abbrev pub drop_line : (Cause → ℕ) → Cause → Text
 drop_line lost cause = line (codes "drop" ++ and_word (word cause)) (lost cause)
 
--- the totals of so many records, of which these were sent on, kept by the box, and lost by each cause; and of so many connections that were begun, of which these live
+-- the totals of so many records, of which these were sent on, kept by the box, and lost by each cause; and of so many
+-- connections that were begun, of which these live
 abbrev pub number_lines : ℕ → ℕ → ℕ → (Cause → ℕ) → ℕ → ℕ → Bool → Text
 number_lines records sent kept lost beginnings live torn =
     line (codes "records") records
@@ -227,7 +247,8 @@ number_lines records sent kept lost beginnings live torn =
     ++ line (codes "torn") (bit torn)
 
 abbrev pub totals : List Entry → ℕ → Bool → Text
-totals story live torn = number_lines (length story) (passed story) (local story) (λ cause. dropped cause story) (begun story) live torn
+totals story live torn =
+    number_lines (length story) (passed story) (local story) (λ cause. dropped cause story) (begun story) live torn
 
 -- ---- the whole
 

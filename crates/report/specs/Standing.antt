@@ -36,7 +36,9 @@ tally_at tallies at =
     (option_and_then (λ c. numbered_from_one c at.rule.rule)
     (option_and_then (λ t. slice_get t at.rule.chain) (slice_get tallies at.rule.table)))
 
--- its numbers: of all records, of those that passed and that were for the box, of those dropped, by the cause's place, and of those that began a connection; what each statement stands at; whether it traces; and what was noted and not yet written
+-- its numbers: of all records, of those that passed and that were for the box, of those dropped, by the cause's place,
+-- and of those that began a connection; what each statement stands at; whether it traces; what was noted and not yet
+-- written; and how many notes more need no memory
 pub record Known : Type 0 where
   pub records : ℕ
   pub passed : ℕ
@@ -46,32 +48,41 @@ pub record Known : Type 0 where
   pub tallies : Tallies
   pub traces : Bool
   pub notes : List Note
+  pub room : ℕ
 
 abbrev pub drops_of : Known → Cause → ℕ
 drops_of report cause = slice_index report.dropped (place cause)
 
 -- the counter that stands at a place, by where it starts
 abbrev pub counter_at : List TableTree → Place → Option CounterStart
-counter_at rules at = option_and_then (λ r. option_and_then counter_in (numbered_from_one r.statements at.statement)) (rule_numbered rules at.rule)
+counter_at rules at =
+    option_and_then (λ r. option_and_then counter_in (numbered_from_one r.statements at.statement))
+    (rule_numbered rules at.rule)
 
 -- where a counter stands after a story
 abbrev pub tally_of : CounterStart → Place → List Entry → Tally
-tally_of start at story = record { packets = start.packets + packets at story; bytes = start.bytes + bytes at story }
+tally_of start at story =
+    record { packets = start.packets + packets at story; bytes = start.bytes + bytes at story }
 
 -- what is told of a note
 abbrev pub note_line : List TableTree → Note → Text
 note_line rules (notes.Logged number at) = on_chain rules at.rule.table at.rule.chain (log_line number at)
-note_line rules (notes.Took number rule decision) = on_chain rules rule.table rule.chain (decision_line number rule.rule decision)
-note_line rules (notes.Closed number chain policy) = on_chain rules chain.table chain.chain (policy_line number policy)
+note_line rules (notes.Took number rule decision) =
+    on_chain rules rule.table rule.chain (decision_line number rule.rule decision)
+note_line rules (notes.Closed number chain policy) =
+    on_chain rules chain.table chain.chain (policy_line number policy)
 note_line rules (notes.Ended number outcome) = outcome_line true number outcome
 
--- a report stands for a story over these rules, of which this text was written already: its numbers are the story's, and what it noted is the rest of the text
-pub record Reports (report : Known) (rules : List TableTree) (trace : Bool) (story : List Entry) (told : Text) : Type 0 where
+-- a report stands for a story over these rules, of which this text was written already: its numbers are the story's,
+-- and what it noted is the rest of the text
+pub record Reports (report : Known) (rules : List TableTree) (trace : Bool) (story : List Entry) (told : Text)
+    : Type 0 where
   pub records : report.records ≡ length story
   pub passed_are : report.passed ≡ passed story
   pub local_are : report.local ≡ local story
   pub dropped_are : (cause : Cause) → drops_of report cause ≡ dropped cause story
   pub begun_are : report.begun ≡ begun story
-  pub tallies_are : (at : Place) (start : CounterStart) → counter_at rules at ≡ Some start → tally_at report.tallies at ≡ Some (tally_of start at story)
+  pub tallies_are : (at : Place) (start : CounterStart)
+    → counter_at rules at ≡ Some start → tally_at report.tallies at ≡ Some (tally_of start at story)
   pub traces_so : report.traces ≡ trace
   pub rest : told ++ flat_map (note_line rules) report.notes ≡ entry_lines rules trace story

@@ -11,4 +11,4 @@ mod report;
 mod tallies;
 mod total_lines;
 
-pub use report::Report;
+pub use report::{FIRST_ROOM, MOST_NOTES, Report};

@@ -1,5 +1,5 @@
 //! What is noted of entries until it is written.
-ghost use Rattle.std.specs.Prelude.{◌≡◌, ◌<◌, ◌≤◌, ◌+◌, ◌++◌, ◌∷◌, [], length, vec_len, vec_capacity};
+ghost use Rattle.std.specs.Prelude.{◌≡◌, ◌≤◌, ◌+◌, ◌++◌, length, vec_len, vec_capacity};
 ghost use Rattle.report.specs.steps.Noting.{noted, noted_event};
 
 use nft_tree::{Policy, RuleNo};
@@ -36,23 +36,16 @@ impl Note {
 /// Notes what is told of an entry; there is room for a note of each event and of how it ended.
 pub fn note_entry(notes: &mut Vec<Note>, entry: &Entry, trace: bool)
     requires { vec_len notes.old + (length entry.now.events.now + 1) ≤ vec_capacity notes.old }
-    ensures { notes.new.items ≡ notes.old.items ++ noted trace entry.now.number entry.now.events.now entry.now.outcome }
+    ensures items { notes.new.items ≡ notes.old.items ++ noted trace entry.now.number entry.now.events.now entry.now.outcome }
+    ensures few { vec_len notes.new ≤ vec_len notes.old + (length entry.now.events.now + 1) }
+    ensures capacity { vec_capacity notes.new ≡ vec_capacity notes.old }
 {
     for event in entry.events {
         if let Some(note) = Note::of(entry.number, *event, trace) {
-            append(notes, note);
+            notes.push_reserved(note);
         }
     }
     if trace {
-        append(notes, Note::Ended(entry.number, entry.outcome));
+        notes.push_reserved(Note::Ended(entry.number, entry.outcome));
     }
-}
-
-/// Appends where there is room, so that nothing is allocated.
-fn append(notes: &mut Vec<Note>, note: Note)
-    requires { vec_len notes.old < vec_capacity notes.old }
-    ensures items { notes.new.items ≡ notes.old.items ++ note ∷ [] }
-    ensures capacity { vec_capacity notes.old ≤ vec_capacity notes.new }
-{
-    notes.push(note).unwrap();
 }

@@ -1,5 +1,5 @@
 //! The report of a run.
-ghost use Rattle.std.specs.Prelude.{◌≡◌, ◌<◌, ◌+◌, ◌++◌, [], ◌∷◌, Bool, List, length, true, IfOk, OnErr, OnOk};
+ghost use Rattle.std.specs.Prelude.{◌≡◌, ◌<◌, ◌≤◌, ◌+◌, ◌++◌, [], ◌∷◌, Bool, List, length, true, IfOk, IsOk, OnErr, OnOk};
 ghost use Rattle.pcap_io.specs.Counting.{one_more};
 ghost use Rattle.nft_tree.specs.Tree.{Text, TableTree, tables_of};
 ghost use Rattle.story.specs.Story.{Entry, IsEntry};
@@ -22,9 +22,12 @@ use std::io::Write;
 use std::marker::Model;
 use story::Outcome;
 
-/// How many notes have room from the start: more than a caller that drains now and then lets wait,
-/// together with those of one entry of 65,536 events.
-const ROOM_FOR_NOTES: usize = 70_000;
+/// How many notes one record may give: one for each of 65,536 events, and one of how it ended.
+pub const MOST_NOTES: usize = 65_537;
+
+/// How many notes have room from the start: those of one record beside what waits for a caller that
+/// drains now and then.
+pub const FIRST_ROOM: usize = 70_000;
 
 /// What became of the records so far: numbers, and what isn't written yet of what was noted. It
 /// doesn't grow with the records that were written.
@@ -42,12 +45,13 @@ pub struct Report {
 }
 
 impl Model for Report {
+    ghost use Rattle.std.specs.Prelude.{◌-◌, vec_capacity, vec_len};
     ghost use Rattle.report.specs.Standing.{Known};
     ghost use Rattle.report.specs.steps.Bounds.{IsBounded};
 
     ghost Value = { Known };
 
-    ghost view = { λ r. record { records = r.records; passed = r.passed; local = r.local; dropped = r.dropped; begun = r.begun; tallies = r.tallies; traces = r.traces; notes = r.notes.items } };
+    ghost view = { λ r. record { records = r.records; passed = r.passed; local = r.local; dropped = r.dropped; begun = r.begun; tallies = r.tallies; traces = r.traces; notes = r.notes.items; room = vec_capacity r.notes - vec_len r.notes } };
 
     ghost invariant = { λ r. IsBounded r.records r.passed r.local r.dropped r.begun r.tallies };
 }
@@ -56,10 +60,11 @@ impl Report {
     /// Before the first record, over these rules: each counter stands where it starts. With `trace`
     /// each decision and how each record ends is told too.
     pub fn new(alloc: Global, rules: &Ruleset, trace: bool) -> Result<Self, AllocError>
-        ensures { IfOk result (λ report. Reports report (tables_of rules.now) trace [] []) }
+        ensures fresh { IfOk result (λ report. Reports report (tables_of rules.now) trace [] []) }
+        ensures room { IfOk result (λ report. report.room ≡ FIRST_ROOM) }
     {
         let tallies = RulesetTallies::new(alloc, rules)?;
-        let notes = Vec::with_capacity(alloc, ROOM_FOR_NOTES)?;
+        let notes = Vec::with_capacity(alloc, FIRST_ROOM)?;
         Ok(Report {
             records: 0,
             passed: 0,
@@ -72,13 +77,28 @@ impl Report {
         })
     }
 
+    /// Makes room for the notes of one record of at most 65,536 events, so that `note` needs no
+    /// memory for it. `Err` comes only for want of memory, and not where there is room already.
+    pub fn reserve(&mut self) -> Result<(), AllocError>
+        ensures ok { OnOk result (MOST_NOTES ≤ self.new.room) }
+        ensures same { self.new ≡ record self.old { room = self.new.room } }
+        ensures grows { self.old.room ≤ self.new.room }
+        ensures succeeds { MOST_NOTES ≤ self.old.room → IsOk result }
+        ensures err { OnErr result (self.new ≡ self.old) }
+    {
+        self.notes.reserve(MOST_NOTES)
+    }
+
     /// Notes how one more record ended, and what happened on the way; the rules are those of `new`.
-    /// On `Err`, which comes only for want of memory, the report is as it was.
+    /// On `Err`, which comes only for want of memory where room is short, the report is as it was.
     pub fn note(&mut self, entry: &story::Entry) -> Result<(), AllocError>
         requires few { self.old.records < 4294967296 }
         // Whatever story it stands for, it then stands for that story with the entry.
         ensures noted { (rules : List TableTree) (trace : Bool) (story : List Entry) (told : Text) (e : Entry) → Reports self.old rules trace story told → IsEntry e story entry.now → OnOk result (Reports self.new rules trace (e ∷ story) told) }
         ensures records { OnOk result (self.new.records ≡ self.old.records + 1) }
+        ensures room { length entry.now.events.now + 1 ≤ self.old.room → IsOk result }
+        ensures waits { length self.new.notes ≤ length self.old.notes + length entry.now.events.now + 1 }
+        ensures left { self.old.room + length self.old.notes ≤ self.new.room + length self.new.notes }
         ensures err { OnErr result (self.new ≡ self.old) }
     {
         self.notes.reserve(entry.events.len() + 1)?;
@@ -122,6 +142,7 @@ impl Report {
             → OnErr result (TellsPart (W.contents writer.old.inner) (W.contents writer.new.inner) told (entry_lines (tables_of rules.now) trace story)) }
         ensures none { self.old.notes ≡ [] → writer.new ≡ writer.old }
         ensures empty { OnOk result (self.new.notes ≡ []) }
+        ensures room { OnOk result (self.new.room ≡ self.old.room + length self.old.notes) }
         ensures records { self.new.records ≡ self.old.records }
         ensures err { OnErr result (self.new ≡ self.old) }
         ensures calm { OnOk result (writer.new.failures ≡ writer.old.failures) }

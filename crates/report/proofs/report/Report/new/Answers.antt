@@ -12,8 +12,8 @@ invariant_of-result c = record {
   tallies_fit = fresh_fits _ c.in_ok-tallies.ensures.fits;
 }
 
-pub returns : goal.returns
-returns c = record {
+pub returns-clause-fresh : goal.returns-clause-fresh
+returns-clause-fresh c = record {
   records = refl;
   passed_are = refl;
   local_are = refl;
