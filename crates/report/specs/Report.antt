@@ -25,6 +25,7 @@ use Rattle.story.specs.declared.outcome.Outcome.{Outcome}
 use Rattle.story.specs.declared.outcome.Outcome.TheVariants.{Passed, Local, Dropped}
 use Rattle.story.specs.Outcomes.{causes, word, is_passed, is_local, is_dropped_for}
 use Rattle.conntrack.specs.Stories.{does_begin}
+use Rattle.story.specs.Setup.{Setup}
 use Rattle.story.specs.Story.{Entry, live_in}
 
 -- ---- words
@@ -257,5 +258,6 @@ abbrev pub closing_lines : List TableTree → List Entry → ℕ → Bool → Te
 closing_lines rules story live torn = counter_lines rules story ++ totals story live torn
 
 -- the connections that live at the moment of the last record are counted
-abbrev pub report_text : List TableTree → Bool → List Entry → Bool → Text
-report_text rules trace story torn = entry_lines rules trace story ++ closing_lines rules story (length (live_in story)) torn
+abbrev pub report_text : Setup → Bool → List Entry → Bool → Text
+report_text setup trace story torn =
+    entry_lines setup.rules trace story ++ closing_lines setup.rules story (length (live_in setup story)) torn
