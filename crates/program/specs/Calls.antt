@@ -4,6 +4,7 @@ use Rattle.std.specs.declared.io.Error.{Error}
 use Rattle.clap.specs.declared.error.kind.ErrorKind.{ErrorKind}
 use Rattle.engine.specs.declared.fault.RunFault.{RunFault}
 use Rattle.engine.specs.declared.judging.Counts.{Counts}
+use Rattle.program.specs.declared.identity.FileIdentity.{FileIdentity}
 use Rattle.program.specs.declared.status.Status.{Status}
 
 -- the bytes of a path
@@ -18,11 +19,12 @@ pub data Call (Input Output : Type 0) : Type 0 where
   read : Text → Result (List ℕ) Error → Call Input Output
   -- a file opened for reading
   open_input : Text → Result Input Error → Call Input Output
-  -- whether two paths lead to one file
-  compare : Text → Text → Result Bool Error → Call Input Output
+  -- which file a path leads to
+  identify : Text → Result FileIdentity Error → Call Input Output
   -- a file created, or emptied, and opened for writing
   create : Text → Result Output Error → Call Input Output
-  -- a ruleset's text, a box file's text, a capture and the capture that leaves, before and after, and whether each decision is told: whether the end is torn
+  -- a ruleset's text, a box file's text, a capture and the capture that leaves, before and after, and whether each
+  -- decision is told: whether the end is torn
   run : Text → Text → Input → Input → Output → Output → Bool → Result Bool RunFault → Call Input Output
   -- a ruleset's text and a box file's text: how many tables, chains and rules it has
   judge : Text → Text → Result Counts RunFault → Call Input Output

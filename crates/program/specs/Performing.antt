@@ -9,7 +9,7 @@ use Rattle.command_line.specs.declared.task.Texts.{Texts}
 use Rattle.program.specs.Calls.{Call, Text, words, explain, tell}
 use Rattle.program.specs.Examining.{Examines}
 use Rattle.program.specs.Replaying.{Replays}
-use Rattle.program.specs.Status.{code_of, has_line, of_error}
+use Rattle.program.specs.Status.{code_of, has_line, of_error, of_words_error}
 use Rattle.program.specs.declared.status.Status.{Status}
 use Rattle.program.specs.declared.status.Status.TheVariants.{Success, Usage, Memory}
 
@@ -26,7 +26,8 @@ Explains kind (explain k (Ok _) ∷ []) status = (k ≡ kind) × (status ≡ sho
 Explains kind (explain k (Err error) ∷ []) status = (k ≡ kind) × (status ≡ of_error error)
 Explains _ _ _ = ⊥
 
--- the words ask for a run or for a check, or they are no task; words of the right form are none only where there was no room to grow
+-- the words ask for a run or for a check, or they are no task; words of the right form are none only where there was
+-- no room to grow
 abbrev pub Acts : {I O : Type 0} → List Text → List (Call I O) → Status → Type 0
 Acts given calls status =
     ((task : ReplayTask) × Asks given (Run task) × Replays task calls status)
@@ -35,7 +36,7 @@ Acts given calls status =
 
 -- the words are had, and then it is done what they ask for
 abbrev pub Does : {I O : Type 0} → List (Call I O) → Status → Type 0
-Does (words (Err error) ∷ []) status = status ≡ of_error error
+Does (words (Err error) ∷ []) status = status ≡ of_words_error error
 Does (words (Ok given) ∷ calls) status = Acts given calls status
 Does _ _ = ⊥
 

@@ -3,11 +3,11 @@ use Rattle.std.specs.Prelude.{ℕ, Bool, true, false}
 use Rattle.std.specs.IoError.{error_kind}
 use Rattle.std.specs.declared.io.Error.{Error}
 use Rattle.std.specs.declared.io.ErrorKind.{ErrorKind}
-use Rattle.std.specs.declared.io.ErrorKind.TheVariants.{OutOfMemory}
+use Rattle.std.specs.declared.io.ErrorKind.TheVariants.{OutOfMemory, InvalidData}
 use Rattle.engine.specs.declared.fault.RunFault.{RunFault}
 use Rattle.engine.specs.declared.fault.RunFault.TheVariants as faults
 use Rattle.program.specs.declared.status.Status.{Status}
-use Rattle.program.specs.declared.status.Status.TheVariants.{Success, Rules, Usage, SameFile, Box, Capture, Device, Memory, Torn}
+use Rattle.program.specs.declared.status.Status.TheVariants.{Success, Rules, Usage, NotText, SameFile, Box, Capture, Device, Memory, Torn}
 
 abbrev pub of_fault : RunFault → Status
 of_fault (faults.Rules fault) = Rules fault
@@ -29,6 +29,14 @@ of_kind _ = Device
 abbrev pub of_error : Error → Status
 of_error e = of_kind (error_kind e)
 
+-- the words can't be had: one isn't UTF-8, or the call of the system that gives them fails
+abbrev pub of_words_kind : ErrorKind → Status
+of_words_kind InvalidData = NotText
+of_words_kind kind = of_kind kind
+
+abbrev pub of_words_error : Error → Status
+of_words_error e = of_words_kind (error_kind e)
+
 -- there is a line for it: all but success, and usage, of which clap tells
 abbrev pub has_line : Status → Bool
 has_line Success = false
@@ -39,6 +47,7 @@ abbrev pub code_of : Status → ℕ
 code_of Success = 0
 code_of (Rules fault) = 1
 code_of Usage = 2
+code_of NotText = 2
 code_of SameFile = 2
 code_of (Box fault) = 3
 code_of (Capture fault) = 4

@@ -1,4 +1,5 @@
 //! What stands around the program.
+use crate::identity::FileIdentity;
 use crate::status::Status;
 use clap::Error;
 use engine::{Counts, RunFault};
@@ -15,7 +16,7 @@ pub trait Host {
     ghost use Rattle.std.specs.Prelude.{◌≡◌};
     ghost use Rattle.std.specs.Result.{result_map_both};
     ghost use Rattle.clap.specs.Values.{kind_of};
-    ghost use Rattle.program.specs.Calls.{Call, words, read, open_input, compare, create, run, judge, announce, tell, explain, texts_of, bytes_of};
+    ghost use Rattle.program.specs.Calls.{Call, words, read, open_input, identify, create, run, judge, announce, tell, explain, texts_of, bytes_of};
 
     /// A capture open for reading.
     type Input: Drop;
@@ -27,6 +28,9 @@ pub trait Host {
     ghost happens: { Self → Call Self.Input Self.Output → Self → Type 0 };
 
     /// The process's words, of which the first is the program's name.
+    ///
+    /// # Errors
+    /// `InvalidData` where one isn't UTF-8.
     fn words(&mut self) -> io::Result<Vec<String>>
         ensures { happens self.old (words (texts_of result)) self.new };
 
@@ -38,9 +42,12 @@ pub trait Host {
     fn open(&mut self, path: &str) -> io::Result<Self::Input>
         ensures { happens self.old (open_input path.now result) self.new };
 
-    /// Whether both paths lead to one file; a path that leads nowhere yet is no file.
-    fn is_same_file(&mut self, path: &str, other: &str) -> io::Result<bool>
-        ensures { happens self.old (compare path.now other.now result) self.new };
+    /// Which file a path leads to, through links.
+    ///
+    /// # Errors
+    /// `NotFound` where it leads nowhere yet.
+    fn identify(&mut self, path: &str) -> io::Result<FileIdentity>
+        ensures { happens self.old (identify path.now result) self.new };
 
     /// Creates a file, or empties it, and opens it for writing.
     fn create(&mut self, path: &str) -> io::Result<Self::Output>

@@ -3,6 +3,7 @@
 
 mod examining;
 mod host;
+mod identity;
 mod performing;
 mod replaying;
 mod status;
@@ -10,6 +11,7 @@ mod system;
 
 pub use examining::examine;
 pub use host::Host;
+pub use identity::FileIdentity;
 pub use performing::perform;
 pub use replaying::replay;
 pub use status::Status;

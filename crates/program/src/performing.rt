@@ -31,7 +31,7 @@ fn act<H: Host>(alloc: Global, host: &mut H) -> Status
 {
     let words = match host.words() {
         Ok(words) => words,
-        Err(error) => return Status::of_io(&error),
+        Err(error) => return Status::of_words(&error),
     };
     match slices_of(alloc, &words) {
         Ok(slices) => act_on(alloc, host, &slices),

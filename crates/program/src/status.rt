@@ -1,7 +1,7 @@
 //! What the program ends with.
 ghost use Rattle.std.specs.Prelude.{◌≡◌, MatchResult};
 ghost use Rattle.std.specs.IoError.{error_kind};
-ghost use Rattle.program.specs.Status.{of_end, of_error, of_fault, has_line, code_of};
+ghost use Rattle.program.specs.Status.{of_end, of_error, of_fault, of_words_error, has_line, code_of};
 
 use box_file::BoxFault;
 use engine::{RulesFault, RunFault};
@@ -15,7 +15,9 @@ pub enum Status {
     Rules(RulesFault),
     /// The words aren't understood; `clap` tells why.
     Usage,
-    /// OUT leads to the same file as RULES, BOX or IN.
+    /// A word isn't UTF-8.
+    NotText,
+    /// OUT leads to the same regular file as RULES, BOX, IN or standard output.
     SameFile,
     Box(BoxFault),
     Capture(CaptureFault),
@@ -51,6 +53,16 @@ impl Status {
         }
     }
 
+    /// The status where the process's words can't be had.
+    pub fn of_words(error: &io::Error) -> Status
+        ensures { result ≡ of_words_error error.now }
+    {
+        match error.kind() {
+            io::ErrorKind::InvalidData => Status::NotText,
+            _ => Status::of_io(error),
+        }
+    }
+
     /// Whether the program prints a line for it.
     pub fn has_line(self) -> bool
         ensures { result ≡ has_line self }
@@ -65,7 +77,7 @@ impl Status {
         match self {
             Status::Success => 0,
             Status::Rules(_) => 1,
-            Status::Usage | Status::SameFile => 2,
+            Status::Usage | Status::NotText | Status::SameFile => 2,
             Status::Box(_) => 3,
             Status::Capture(_) => 4,
             Status::Device => 5,
@@ -104,9 +116,10 @@ impl fmt::Display for Status {
             Status::Success => f.write_str("nftrun: done"),
             Status::Rules(fault) => write!(f, "nftrun: rules {fault}"),
             Status::Usage => f.write_str("nftrun: usage"),
-            Status::SameFile => {
-                f.write_str("nftrun: usage: OUT is the same file as RULES, BOX or IN")
-            }
+            Status::NotText => f.write_str("nftrun: usage: a word isn't UTF-8"),
+            Status::SameFile => f.write_str(
+                "nftrun: usage: OUT is the same file as RULES, BOX, IN or standard output",
+            ),
             Status::Box(fault) => write!(f, "nftrun: box {fault}"),
             Status::Capture(fault) => write!(f, "nftrun: capture {fault}"),
             Status::Device => f.write_str("nftrun: device"),

@@ -1,5 +1,6 @@
 //! The system's own files and outputs, and the run and the judgement over them.
 use crate::host::Host;
+use crate::identity::FileIdentity;
 use crate::performing::perform;
 use crate::status::Status;
 use clap::Error;
@@ -39,15 +40,14 @@ impl<R: Env + Files + Print + Eprint + AllocGlobal> Host for System<'_, R> {
         Ok(Counted::new(fs::open(self.rt, path)?))
     }
 
-    // One inode of one device: also where a link, hard or symbolic, leads to it.
-    fn is_same_file(&mut self, path: &str, other: &str) -> io::Result<bool> {
-        let first = match fs::metadata(self.rt, path) {
-            Ok(found) => found,
-            Err(error) if error.kind() == io::ErrorKind::NotFound => return Ok(false),
-            Err(error) => return Err(error),
-        };
-        let second = fs::metadata(self.rt, other)?;
-        Ok(first.dev() == second.dev() && first.ino() == second.ino())
+    // It goes through links, symbolic ones too.
+    fn identify(&mut self, path: &str) -> io::Result<FileIdentity> {
+        let found = fs::metadata(self.rt, path)?;
+        Ok(FileIdentity {
+            is_regular: found.is_file(),
+            device: found.dev(),
+            inode: found.ino(),
+        })
     }
 
     fn create(&mut self, path: &str) -> io::Result<Self::Output> {

@@ -5,7 +5,7 @@ use Rattle.program.specs.Performing.{Acts}
 use Rattle.program.proofs.performing.act.Goals as goal
 
 pub returns-in-Err : goal.returns-in-Err
-returns-in-Err g c = (words _ ∷ [], (_, c.in-Err.ensures, refl), c.of_io.ensures)
+returns-in-Err g c = (words _ ∷ [], (_, c.in-Err.ensures, refl), c.of_words.ensures)
 
 pub returns-in-Ok-slices_of : goal.returns-in-Ok-slices_of
 returns-in-Ok-slices_of g c =
