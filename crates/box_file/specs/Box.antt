@@ -1,5 +1,7 @@
 -- What a box file says: interfaces with their addresses, routes, the entering interface.
-use Rattle.std.specs.Prelude.{◌≡◌, ℕ, ◌-◌, ◌/◌, ◌%◌, ◌^◌, ◌<◌, ◌==◌, ◌&&◌, ◌||◌, not, nat_lt, Bool, true, false, List, [], ◌∷◌, length, map, filter, find, max, ◌⊎◌, Option, Some, None, unwrap_or, if◌then◌else◌, IsTrue, codes}
+use Rattle.std.specs.Prelude.{◌≡◌, ℕ, ◌-◌, ◌/◌, ◌%◌, ◌^◌, ◌<◌, ◌==◌, ◌&&◌, ◌||◌, not, nat_lt, Bool, true, false, List}
+use Rattle.std.specs.Prelude.{[], ◌∷◌, length, map, filter, find, max, ◌⊎◌, Option, Some, None, unwrap_or}
+use Rattle.std.specs.Prelude.{if◌then◌else◌, IsTrue, codes}
 use Rattle.std.specs.List.{filter_map, list_any, list_all}
 use Rattle.std.specs.Option.{option_map}
 use Rattle.std.specs.Char.{is_ascii_alphanumeric}
@@ -46,7 +48,8 @@ IsName n = (0 < length n) × (length n < 16) × IsTrue (list_all is_name_byte n)
 
 -- what a line may say
 abbrev pub IsLine : Line → Type 0
-IsLine (interface_line i) = (0 < i.index) × (i.index < 2147483648) × IsName i.name × (i.address < 2 ^ 32) × (0 < i.prefix) × (i.prefix < 33)
+IsLine (interface_line i) =
+    (0 < i.index) × (i.index < 2147483648) × IsName i.name × (i.address < 2 ^ 32) × (0 < i.prefix) × (i.prefix < 33)
 -- the host bits of a route are zero
 IsLine (route_line r) = (r.address < 2 ^ 32) × (r.prefix < 33) × (r.address % 2 ^ (32 - r.prefix) ≡ 0) × IsName r.name
 IsLine (default_line n) = IsName n
@@ -124,15 +127,19 @@ is_misformed defaults = not (length defaults == 1)
 
 -- some index has two names, some name two indexes, an address stands twice, or a route's prefix
 abbrev pub is_repeated : List Interface → List NamedRoute → Bool
-is_repeated interfaces routes = some_two two_names interfaces || some_two two_indexes interfaces || some_two same_address interfaces || some_two same_prefix routes
+is_repeated interfaces routes =
+    some_two two_names interfaces || some_two two_indexes interfaces || some_two same_address interfaces
+    || some_two same_prefix routes
 
 -- a route or the default names no interface
 abbrev pub has_unknown : List Interface → List NamedRoute → List (List ℕ) → Bool
-has_unknown interfaces routes defaults = list_any (λ r. is_unknown interfaces r.name) routes || list_any (is_unknown interfaces) defaults
+has_unknown interfaces routes defaults =
+    list_any (λ r. is_unknown interfaces r.name) routes || list_any (is_unknown interfaces) defaults
 
 -- over 1,048,576 bytes, 64 interface lines or 1024 route lines
 abbrev pub is_too_large : List ℕ → List Interface → List NamedRoute → Bool
-is_too_large text interfaces routes = nat_lt 1048576 (length text) || nat_lt 64 (length interfaces) || nat_lt 1024 (length routes)
+is_too_large text interfaces routes =
+    nat_lt 1048576 (length text) || nat_lt 64 (length interfaces) || nat_lt 1024 (length routes)
 
 -- whether a text of these lines has the fault
 abbrev pub is_wrong : List ℕ → List Line → BoxFault → Bool
@@ -147,7 +154,9 @@ least text lines = find (is_wrong text lines) (Form ∷ Repeated ∷ UnknownName
 
 -- a text is refused for this fault: it is no lines, or the least that is wrong with them
 abbrev pub HasBoxFault : List ℕ → BoxFault → Type 0
-HasBoxFault text fault = (((lines : List Line) → Reads text lines → ⊥) × (fault ≡ Form)) ⊎ ((lines : List Line) × Reads text lines × (least text lines ≡ Some fault))
+HasBoxFault text fault =
+    (((lines : List Line) → Reads text lines → ⊥) × (fault ≡ Form))
+    ⊎ ((lines : List Line) × Reads text lines × (least text lines ≡ Some fault))
 
 -- an error is the text's fault, or none of the text's
 abbrev pub IsBoxRefusal : List ℕ → BoxError → Type 0
@@ -181,7 +190,8 @@ known_index interfaces n = unwrap_or (index_of interfaces n) 0
 -- an interface's line is also a route to its prefix, at its place in the text
 abbrev pub route_to : List Interface → Line → Option RouteTo
 route_to interfaces (interface_line i) = Some (record { address = i.address; prefix = i.prefix; interface = i.index })
-route_to interfaces (route_line r) = Some (record { address = r.address; prefix = r.prefix; interface = known_index interfaces r.name })
+route_to interfaces (route_line r) =
+    Some (record { address = r.address; prefix = r.prefix; interface = known_index interfaces r.name })
 route_to interfaces (default_line n) = None
 
 -- the index of the interface that the first default names

@@ -37,7 +37,8 @@ lines_of = parts_of is_newline
 
 -- an address as it is written: four numbers with a dot between each two, the highest byte first
 abbrev pub dotted : ℕ → List ℕ
-dotted a = decimal (a / 16777216) ++ 46 ∷ decimal (a / 65536 % 256) ++ 46 ∷ decimal (a / 256 % 256) ++ 46 ∷ decimal (a % 256)
+dotted a =
+    decimal (a / 16777216) ++ 46 ∷ decimal (a / 65536 % 256) ++ 46 ∷ decimal (a / 256 % 256) ++ 46 ∷ decimal (a % 256)
 
 -- an address, a slash, the length of a prefix
 abbrev pub dotted_prefix : ℕ → ℕ → List ℕ

@@ -25,7 +25,8 @@ pub record IsDepth (g : Graph) (c depth : ℕ) : Type 0 where
 abbrev pub LeadsOn : Graph → List Bool → ℕ → Type 0
 LeadsOn g marked c = Reaches (Calls g) (λ b. get_or marked b false ≡ true) c
 
--- what holds of a judged graph: `costs` is right of whatever solves the equations of costs, and `has_costs` solves them
+-- what holds of a judged graph: `costs` is right of whatever solves the equations of costs, and `has_costs` solves
+-- them
 pub record IsJudged (g : Graph) (j : Judged) : Type 0 where
   pub acyclic : HasCycle (Calls g) → ⊥
   pub order : IsOrder (targets_of g) j.order.items

@@ -28,7 +28,8 @@ without_trace (word ∷ rest) = if bytes_eq word (codes "--") then word ∷ rest
 abbrev pub texts_of : Paths → List Text
 texts_of p = p.rules.now ∷ p.plant.now ∷ p.input.now ∷ p.output.now ∷ []
 
--- the words ask for this task: they are the program's name, and `run`, the flag where the run is traced, and the four paths, or `check` and the two
+-- the words ask for this task: they are the program's name, and `run`, the flag where the run is traced, and the four
+-- paths, or `check` and the two
 abbrev pub Asks : List Text → Task → Type 0
 Asks (program ∷ name ∷ rest) (Run task) =
     (name ≡ codes "run") × (task.trace ≡ has_trace rest) × (operands (without_trace rest) ≡ texts_of task.paths)

@@ -1,5 +1,6 @@
 -- The connections that are held, as a list in order of beginning, and what is asked of it.
-use Rattle.std.specs.Prelude.{◌≤◌, ◌+◌, ◌-◌, ℕ, Bool, true, false, not, ◌&&◌, ◌||◌, ◌==◌, nat_lt, if◌then◌else◌, List, [], ◌∷◌, map, filter, Option, Some, None}
+use Rattle.std.specs.Prelude.{◌≤◌, ◌+◌, ◌-◌, ℕ, Bool, true, false, not, ◌&&◌, ◌||◌, ◌==◌, nat_lt, if◌then◌else◌, List}
+use Rattle.std.specs.Prelude.{[], ◌∷◌, map, filter, Option, Some, None}
 use Rattle.std.specs.List.{find, list_any}
 use Rattle.std.specs.Option.{option_map}
 use Rattle.ip_headers.specs.declared.tuple.Kind.{Kind}
@@ -167,10 +168,12 @@ of_original held tuple = find (λ h. same_tuple h.original tuple) held
 abbrev pub of_reply : List Held → Tuple → Option Held
 of_reply held tuple = find (λ h. same_tuple h.reply tuple) held
 
--- to the one whose original tuple it has, else to the one whose reply tuple it has. A lone SYN in direction original on
+-- to the one whose original tuple it has, else to the one whose reply tuple it has. A lone SYN in direction original
+-- on
 -- a closing connection ends that one, to begin it anew, and belongs to none
 abbrev pub belonging_by : Flags → Option Held → Option Held → Belonging
-belonging_by flags (Some h) other = if is_lone_syn flags && is_closing h then Ends h.id else Found (place_of h Original)
+belonging_by flags (Some h) other =
+    if is_lone_syn flags && is_closing h then Ends h.id else Found (place_of h Original)
 belonging_by flags None (Some h) = Found (place_of h Reply)
 belonging_by flags None None = Nowhere
 

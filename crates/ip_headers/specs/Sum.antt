@@ -7,7 +7,8 @@ words_sum [] = 0
 words_sum (high ∷ []) = high * 256
 words_sum (high ∷ low ∷ rest) = high * 256 + low + words_sum rest
 
--- carries out of the top come back in at the bottom: the number from 1 to 65535 that is congruent modulo 65535, and 0 for 0
+-- carries out of the top come back in at the bottom: the number from 1 to 65535 that is congruent modulo 65535, and 0
+-- for 0
 abbrev pub folded : ℕ → ℕ
 folded n = if n == 0 then 0 else (n - 1) % 65535 + 1
 

@@ -1,5 +1,6 @@
 -- What the payload of a packet is as TCP (RFC 9293, section 3.1), UDP (RFC 768) or ICMP (RFC 792).
-use Rattle.std.specs.Prelude.{ℕ, ◌*◌, ◌/◌, ◌==◌, ◌||◌, nat_lt, Bool, false, List, length, Option, Some, None, if◌then◌else◌}
+use Rattle.std.specs.Prelude.{ℕ, ◌*◌, ◌/◌, ◌==◌, ◌||◌, nat_lt, Bool, false, List, length, Option, Some, None}
+use Rattle.std.specs.Prelude.{if◌then◌else◌}
 use Rattle.ip_headers.specs.declared.transport.Transport.{Transport}
 use Rattle.ip_headers.specs.declared.transport.Transport.TheVariants.{Tcp, Udp, Icmp, Other}
 use Rattle.ip_headers.specs.Bytes.{byte_at, word_at}
@@ -37,11 +38,13 @@ identifier payload = word_at payload 4
 
 -- fewer than the 20 bytes of a header without options, or an offset that is less than they are or beyond the end
 abbrev pub tcp_is_wrong : List ℕ → Bool
-tcp_is_wrong payload = nat_lt (length payload) 20 || nat_lt (data_offset payload) 5 || nat_lt (length payload) (data_offset payload * 4)
+tcp_is_wrong payload =
+    nat_lt (length payload) 20 || nat_lt (data_offset payload) 5 || nat_lt (length payload) (data_offset payload * 4)
 
 -- fewer than the 8 bytes of a header, or a length that is less than they are or beyond the end
 abbrev pub udp_is_wrong : List ℕ → Bool
-udp_is_wrong payload = nat_lt (length payload) 8 || nat_lt (udp_length payload) 8 || nat_lt (length payload) (udp_length payload)
+udp_is_wrong payload =
+    nat_lt (length payload) 8 || nat_lt (udp_length payload) 8 || nat_lt (length payload) (udp_length payload)
 
 -- fewer than the 8 bytes that begin every message
 abbrev pub icmp_is_wrong : List ℕ → Bool

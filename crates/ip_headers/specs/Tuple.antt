@@ -1,6 +1,8 @@
--- Between which endpoints a packet goes, as a translator tells packets apart: addresses and ports (RFC 4787 for UDP, RFC 5382
+-- Between which endpoints a packet goes, as a translator tells packets apart: addresses and ports (RFC 4787 for UDP,
+-- RFC 5382
 -- for TCP), and the identifiers of ICMP queries in place of ports (RFC 5508).
-use Rattle.std.specs.Prelude.{ℕ, ◌+◌, ◌%◌, ◌==◌, ◌&&◌, ◌||◌, nat_le, Bool, List, length, drop, Option, Some, None, if◌then◌else◌}
+use Rattle.std.specs.Prelude.{ℕ, ◌+◌, ◌%◌, ◌==◌, ◌&&◌, ◌||◌, nat_le, Bool, List, length, drop, Option, Some, None}
+use Rattle.std.specs.Prelude.{if◌then◌else◌}
 use Rattle.std.specs.Option.{option_map}
 use Rattle.ip_headers.specs.declared.tuple.Kind.{Kind}
 use Rattle.ip_headers.specs.declared.tuple.Kind.TheVariants.{Tcp, Udp, Ask, Answer, Other}
@@ -82,7 +84,9 @@ inner_of packet = drop 8 (payload_of packet)
 -- version 4, a header of at least 20 bytes, offset 0 (the low 13 bits of its word), and 8 bytes past the header;
 -- its own total length, its checksum and MF aren't looked at
 abbrev pub is_readable : List ℕ → Bool
-is_readable inner = version inner == 4 && nat_le 20 (header_len inner) && flags_and_offset inner % 8192 == 0 && nat_le (header_len inner + 8) (length inner)
+is_readable inner =
+    version inner == 4 && nat_le 20 (header_len inner) && flags_and_offset inner % 8192 == 0
+    && nat_le (header_len inner + 8) (length inner)
 
 -- its tuple, if it can be read and has one
 abbrev pub inner_tuple : List ℕ → Option Tuple

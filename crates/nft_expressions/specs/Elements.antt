@@ -5,9 +5,12 @@ use Rattle.nft_lexer.specs.declared.token.Mark.TheVariants.{OpenBrace, CloseBrac
 use Rattle.nft_lexer.specs.Sign as signs
 use Rattle.nft_lexer.specs.Sign.{Sign, mark}
 use Rattle.nft_tree.specs.Tree as tree
-use Rattle.nft_tree.specs.Tree.{Text, ValueTree, RangeTree, KeyTree, ElementTree, DataTree, PairTree, VerdictTree, SetRefTree, MapRefTree}
+use Rattle.nft_tree.specs.Tree.{Text, ValueTree, RangeTree, KeyTree, ElementTree, DataTree, PairTree, VerdictTree}
+use Rattle.nft_tree.specs.Tree.{SetRefTree, MapRefTree}
 use Rattle.token_reader.specs.Repeats.{NoneOf, without_newlines}
-use Rattle.token_reader.specs.Grammar.{Grammar, Separated, line, this_mark, any_word, any_number, any_address, any_string, keyword, sign, a_word, a_number, an_address, a_string, one_of, maybe, many, made, passing, ◌⨾◌, ◌▹◌, ◌◃◌, ◌∣◌}
+use Rattle.token_reader.specs.Grammar.{Grammar, Separated, line, this_mark, any_word, any_number, any_address}
+use Rattle.token_reader.specs.Grammar.{any_string, keyword, sign, a_word, a_number, an_address, a_string, one_of}
+use Rattle.token_reader.specs.Grammar.{maybe, many, made, passing, ◌⨾◌, ◌▹◌, ◌◃◌, ◌∣◌}
 use Rattle.nft_expressions.specs.steps.Reading.{value_at, range_at, key_at, up_to_brace_at}
 
 -- value = NUM | ADDR | WORD | STRING
@@ -18,14 +21,28 @@ sign_of (tree.word w) = signs.word w
 sign_of (tree.string s) = signs.string s
 
 abbrev pub value : Grammar ValueTree
-value = record { spells = λ v from to. from ≡ sign_of v ∷ to; read = value_at; first = any_number ∷ any_address ∷ any_word ∷ any_string ∷ []; follow = []; empty = false }
+value = record {
+  spells = λ v from to. from ≡ sign_of v ∷ to;
+  read = value_at;
+  first = any_number ∷ any_address ∷ any_word ∷ any_string ∷ [];
+  follow = [];
+  empty = false;
+}
 
 -- one = value | value "-" value | ADDR "/" NUM
 abbrev pub ranges : Grammar RangeTree
-ranges = made tree.one value ∣ made (λ x. tree.between x.0 x.1) (value ⨾ sign Minus ▹ value) ∣ made (λ x. tree.prefix x.0 x.1) (an_address ⨾ sign Slash ▹ a_number)
+ranges =
+    made tree.one value ∣ made (λ x. tree.between x.0 x.1) (value ⨾ sign Minus ▹ value) ∣ made
+    (λ x. tree.prefix x.0 x.1) (an_address ⨾ sign Slash ▹ a_number)
 
 unfoldable pub range : Grammar RangeTree
-range = record { spells = ranges.spells; read = range_at; first = value.first; follow = this_mark Minus ∷ this_mark Slash ∷ []; empty = false }
+range = record {
+  spells = ranges.spells;
+  read = range_at;
+  first = value.first;
+  follow = this_mark Minus ∷ this_mark Slash ∷ [];
+  empty = false;
+}
 
 -- no mark stands here that would go on with a range
 abbrev pub EndsRange : List Sign → Type 0
@@ -40,7 +57,13 @@ abbrev pub keys : Grammar KeyTree
 keys = made tree.single range ∣ made (λ x. tree.joined (x.0 ∷ x.1.0 ∷ x.1.1)) (value ⨾ next_value ⨾ many next_value)
 
 unfoldable pub key : Grammar KeyTree
-key = record { spells = keys.spells; read = key_at; first = value.first; follow = this_mark Dot ∷ this_mark Minus ∷ this_mark Slash ∷ []; empty = false }
+key = record {
+  spells = keys.spells;
+  read = key_at;
+  first = value.first;
+  follow = this_mark Dot ∷ this_mark Minus ∷ this_mark Slash ∷ [];
+  empty = false;
+}
 
 -- ["comment" STRING]
 unfoldable pub comment : Grammar (Option Text)
@@ -55,13 +78,19 @@ element = made (λ x. record { key = x.0; comment = x.1 }) (key ⨾ comment)
 
 -- verdict = "accept" | "drop" | "continue" | "return" | ("jump" | "goto") NAME
 abbrev pub decisions : List (Text × VerdictTree)
-decisions = (codes "accept", tree.accept) ∷ (codes "drop", tree.drop) ∷ (codes "continue", tree.continue) ∷ (codes "return", tree.return) ∷ []
+decisions =
+    (codes "accept", tree.accept) ∷ (codes "drop", tree.drop) ∷ (codes "continue", tree.continue) ∷
+    (codes "return", tree.return) ∷ []
 
 unfoldable pub verdict : Grammar VerdictTree
-verdict = one_of decisions ∣ made tree.jump (keyword (codes "jump") ▹ a_word) ∣ made tree.goto (keyword (codes "goto") ▹ a_word)
+verdict =
+    one_of decisions ∣ made tree.jump (keyword (codes "jump") ▹ a_word) ∣ made tree.goto
+    (keyword (codes "goto") ▹ a_word)
 
 abbrev pub is_verdict_word : Text → Bool
-is_verdict_word w = bytes_eq w (codes "accept") || bytes_eq w (codes "drop") || bytes_eq w (codes "continue") || bytes_eq w (codes "return") || bytes_eq w (codes "jump") || bytes_eq w (codes "goto")
+is_verdict_word w =
+    bytes_eq w (codes "accept") || bytes_eq w (codes "drop") || bytes_eq w (codes "continue")
+    || bytes_eq w (codes "return") || bytes_eq w (codes "jump") || bytes_eq w (codes "goto")
 
 -- a word that is data of a map is no word of a verdict
 abbrev pub is_data_value : ValueTree → Bool
@@ -91,7 +120,8 @@ pub record ListedUpTo {A : Type 0} (p : Grammar A) (xs : List A) (from to : List
   pub listed : Listed p xs (without_newlines inner) []
 
 abbrev pub up_to_brace : {A : Type 0} → Grammar A → Grammar (List A)
-up_to_brace p = record { spells = ListedUpTo p; read = up_to_brace_at p.read; first = line ∷ p.first; follow = []; empty = false }
+up_to_brace p =
+    record { spells = ListedUpTo p; read = up_to_brace_at p.read; first = line ∷ p.first; follow = []; empty = false }
 
 -- elems and pairs, with the brace after them
 unfoldable pub elements : Grammar (List ElementTree)

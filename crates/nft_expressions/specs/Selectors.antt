@@ -12,16 +12,20 @@ use Rattle.token_reader.specs.Grammar.{Grammar, keyword, sign, one_of, separated
 -- words, and the selectors that they name
 abbrev pub in_ip : List (List ℕ × Selector)
 in_ip =
-    (codes "saddr", kinds.IpSource) ∷ (codes "daddr", kinds.IpDestination) ∷ (codes "protocol", kinds.IpProtocol) ∷ (codes "ttl", kinds.IpTtl)
+    (codes "saddr", kinds.IpSource) ∷ (codes "daddr", kinds.IpDestination) ∷ (codes "protocol", kinds.IpProtocol) ∷
+    (codes "ttl", kinds.IpTtl)
     ∷ (codes "length", kinds.IpLength) ∷ []
 
 abbrev pub in_meta : List (List ℕ × Selector)
 in_meta =
-    (codes "l4proto", kinds.MetaProtocol) ∷ (codes "length", kinds.MetaLength) ∷ (codes "mark", kinds.MetaMark) ∷ (codes "nfproto", kinds.MetaFamily)
-    ∷ (codes "iifname", kinds.InputName) ∷ (codes "oifname", kinds.OutputName) ∷ (codes "iif", kinds.InputIndex) ∷ (codes "oif", kinds.OutputIndex) ∷ []
+    (codes "l4proto", kinds.MetaProtocol) ∷ (codes "length", kinds.MetaLength) ∷ (codes "mark", kinds.MetaMark) ∷
+    (codes "nfproto", kinds.MetaFamily)
+    ∷ (codes "iifname", kinds.InputName) ∷ (codes "oifname", kinds.OutputName) ∷ (codes "iif", kinds.InputIndex) ∷
+    (codes "oif", kinds.OutputIndex) ∷ []
 
 abbrev pub in_tcp : List (List ℕ × Selector)
-in_tcp = (codes "sport", kinds.TcpSource) ∷ (codes "dport", kinds.TcpDestination) ∷ (codes "flags", kinds.TcpFlags) ∷ []
+in_tcp =
+    (codes "sport", kinds.TcpSource) ∷ (codes "dport", kinds.TcpDestination) ∷ (codes "flags", kinds.TcpFlags) ∷ []
 
 abbrev pub in_udp : List (List ℕ × Selector)
 in_udp = (codes "sport", kinds.UdpSource) ∷ (codes "dport", kinds.UdpDestination) ∷ []
@@ -33,11 +37,13 @@ abbrev pub in_icmp : List (List ℕ × Selector)
 in_icmp = (codes "type", kinds.IcmpType) ∷ []
 
 abbrev pub in_ct : List (List ℕ × Selector)
-in_ct = (codes "mark", kinds.CtMark) ∷ (codes "state", kinds.CtState) ∷ (codes "direction", kinds.CtDirection) ∷ (codes "status", kinds.CtStatus) ∷ []
+in_ct = (codes "mark", kinds.CtMark) ∷ (codes "state", kinds.CtState) ∷ (codes "direction", kinds.CtDirection) ∷
+    (codes "status", kinds.CtStatus) ∷ []
 
 -- those that stand without `meta`, too
 abbrev pub alone : List (List ℕ × Selector)
-alone = (codes "iifname", kinds.InputName) ∷ (codes "oifname", kinds.OutputName) ∷ (codes "iif", kinds.InputIndex) ∷ (codes "oif", kinds.OutputIndex) ∷ []
+alone = (codes "iifname", kinds.InputName) ∷ (codes "oifname", kinds.OutputName) ∷ (codes "iif", kinds.InputIndex) ∷
+    (codes "oif", kinds.OutputIndex) ∷ []
 
 -- anysel
 unfoldable pub selector : Grammar Selector

@@ -1,11 +1,16 @@
--- How a text is cut into tokens: from left to right, always the longest that stands there (nft(8), "Lexical conventions").
-use Rattle.std.specs.Prelude.{◌≡◌, ◌≢◌, ℕ, ◌+◌, ◌/◌, ◌%◌, ◌<◌, ◌≤◌, ◌^◌, ◌==◌, ◌||◌, not, List, [], ◌∷◌, ◌++◌, length, count_by, Bool, IsTrue, ◌⊎◌, codes, slice_index}
+-- How a text is cut into tokens: from left to right, always the longest that stands there (nft(8), "Lexical
+-- conventions").
+use Rattle.std.specs.Prelude.{◌≡◌, ◌≢◌, ℕ, ◌+◌, ◌/◌, ◌%◌, ◌<◌, ◌≤◌, ◌^◌, ◌==◌, ◌||◌, not, List, [], ◌∷◌, ◌++◌, length}
+use Rattle.std.specs.Prelude.{count_by, Bool, IsTrue, ◌⊎◌, codes, slice_index}
 use Rattle.std.specs.List.{list_all}
 use Rattle.std.specs.Char.{is_ascii_digit, is_ascii_hexdigit, is_ascii_alphanumeric, is_ascii_alphabetic}
 use Rattle.std.specs.Fmt.{decimal}
 use Rattle.std.specs.Str.Parse.{digits_value}
 use Rattle.nft_lexer.specs.declared.token.Mark.{Mark}
-use Rattle.nft_lexer.specs.declared.token.Mark.TheVariants.{OpenBrace, CloseBrace, OpenParenthesis, CloseParenthesis, Comma, Semicolon, Colon, Dot, Slash, Minus, Plus, Equals, At, Ampersand, Bar, EqualTo, NotEqualTo, AtMost, AtLeast, Below, Above}
+use Rattle.nft_lexer.specs.declared.token.Mark.TheVariants.{OpenBrace, CloseBrace, OpenParenthesis, CloseParenthesis}
+use Rattle.nft_lexer.specs.declared.token.Mark.TheVariants.{Comma, Semicolon, Colon, Dot, Slash, Minus, Plus, Equals}
+use Rattle.nft_lexer.specs.declared.token.Mark.TheVariants.{At, Ampersand, Bar, EqualTo, NotEqualTo, AtMost, AtLeast}
+use Rattle.nft_lexer.specs.declared.token.Mark.TheVariants.{Below, Above}
 use Rattle.nft_lexer.specs.declared.fault.LexFault.{LexFault}
 use Rattle.nft_lexer.specs.declared.fault.LexFault.TheVariants.{Byte, OpenString, Number, TooLong}
 use Rattle.nft_lexer.specs.Sign.{newline, mark, word, number, address, string, Spelled}
@@ -92,7 +97,8 @@ SpellsPart (name w) bytes = (bytes ≡ w) × IsWord w
 SpellsPart (digits n) bytes = (bytes ≡ n) × IsDigits n
 -- `0x` and hexadecimal digits
 SpellsPart (hexadecimal n) bytes = (bytes ≡ 48 ∷ 120 ∷ n) × IsHexadecimal n
-SpellsPart (dotted a b c d) bytes = (bytes ≡ a ++ 46 ∷ b ++ 46 ∷ c ++ 46 ∷ d) × IsDigits a × IsDigits b × IsDigits c × IsDigits d
+SpellsPart (dotted a b c d) bytes =
+    (bytes ≡ a ++ 46 ∷ b ++ 46 ∷ c ++ 46 ∷ d) × IsDigits a × IsDigits b × IsDigits c × IsDigits d
 SpellsPart (quoted s) bytes = (bytes ≡ 34 ∷ s ++ 34 ∷ []) × IsTrue (list_all stands_in_string s)
 SpellsPart (sole m) bytes = bytes ≡ mark_text m
 
@@ -100,7 +106,8 @@ SpellsPart (sole m) bytes = bytes ≡ mark_text m
 pub record IsPartAt (p : Part) (bytes from to : List ℕ) : Type 0 where
   pub joined : from ≡ bytes ++ to
   pub spelled : SpellsPart p bytes
-  pub longest : (q : Part) (others rest : List ℕ) → SpellsPart q others → from ≡ others ++ rest → length others ≤ length bytes
+  pub longest : (q : Part) (others rest : List ℕ) → SpellsPart q others → from ≡ others ++ rest
+      → length others ≤ length bytes
 
 -- ---- tokens
 
@@ -110,7 +117,9 @@ IsSoundDecimal ds = (1 < length ds → slice_index ds 0 ≢ 48) × (digits_value
 
 -- the groups are those of the address: numbers from 0 to 255 with no leading zero
 abbrev pub AreGroups : List ℕ → List ℕ → List ℕ → List ℕ → ℕ → Type 0
-AreGroups a b c d n = (n < 2 ^ 32) × (a ≡ decimal (n / 16777216)) × (b ≡ decimal (n / 65536 % 256)) × (c ≡ decimal (n / 256 % 256)) × (d ≡ decimal (n % 256))
+AreGroups a b c d n =
+    (n < 2 ^ 32) × (a ≡ decimal (n / 16777216)) × (b ≡ decimal (n / 65536 % 256)) × (c ≡ decimal (n / 256 % 256))
+    × (d ≡ decimal (n % 256))
 
 -- the token that a piece with these bytes is, if it is one: blanks and comments are none
 abbrev pub Means : Part → List ℕ → List Spelled → Type 0
@@ -119,9 +128,12 @@ Means joined_line bytes tokens = tokens ≡ []
 Means (comment c) bytes tokens = tokens ≡ []
 Means line_end bytes tokens = tokens ≡ record { sign = newline; text = bytes } ∷ []
 Means (name w) bytes tokens = tokens ≡ record { sign = word w; text = bytes } ∷ []
-Means (digits n) bytes tokens = IsSoundDecimal n × (tokens ≡ record { sign = number (digits_value 10 n); text = bytes } ∷ [])
-Means (hexadecimal n) bytes tokens = (digits_value 16 n < 2 ^ 64) × (tokens ≡ record { sign = number (digits_value 16 n); text = bytes } ∷ [])
-Means (dotted a b c d) bytes tokens = (n : ℕ) × AreGroups a b c d n × (tokens ≡ record { sign = address n; text = bytes } ∷ [])
+Means (digits n) bytes tokens =
+    IsSoundDecimal n × (tokens ≡ record { sign = number (digits_value 10 n); text = bytes } ∷ [])
+Means (hexadecimal n) bytes tokens =
+    (digits_value 16 n < 2 ^ 64) × (tokens ≡ record { sign = number (digits_value 16 n); text = bytes } ∷ [])
+Means (dotted a b c d) bytes tokens =
+    (n : ℕ) × AreGroups a b c d n × (tokens ≡ record { sign = address n; text = bytes } ∷ [])
 Means (quoted s) bytes tokens = tokens ≡ record { sign = string s; text = bytes } ∷ []
 Means (sole m) bytes tokens = tokens ≡ record { sign = mark m; text = bytes } ∷ []
 
@@ -129,7 +141,8 @@ Means (sole m) bytes tokens = tokens ≡ record { sign = mark m; text = bytes } 
 abbrev pub CutsInto : List Part → List ℕ → List ℕ → List Spelled → Type 0
 CutsInto [] from to tokens = (from ≡ to) × (tokens ≡ [])
 CutsInto (p ∷ ps) from to tokens =
-    (bytes mid : List ℕ) × (front others : List Spelled) × IsPartAt p bytes from mid × Means p bytes front × (tokens ≡ front ++ others) × CutsInto ps mid to others
+    (bytes mid : List ℕ) × (front others : List Spelled) × IsPartAt p bytes from mid × Means p bytes front
+    × (tokens ≡ front ++ others) × CutsInto ps mid to others
 
 abbrev pub MOST_BYTES : ℕ
 MOST_BYTES = 1048576
@@ -146,13 +159,15 @@ pub record IsCut (text : List ℕ) (tokens : List Spelled) : Type 0 where
 abbrev pub BeginsNone : List ℕ → Type 0
 BeginsNone rest = (q : Part) (others after : List ℕ) → SpellsPart q others → rest ≡ others ++ after → ⊥
 
--- what stands here is a fault: a quote without its end on its line, another byte that begins no piece, or the longest piece is a number or an address of which there is no token
+-- what stands here is a fault: a quote without its end on its line, another byte that begins no piece, or the longest
+-- piece is a number or an address of which there is no token
 abbrev pub IsFaultAt : List ℕ → ℕ → LexFault → Type 0
 IsFaultAt [] line fault = ⊥
 IsFaultAt (b ∷ bs) line fault =
     ((b ≢ 34) × BeginsNone (b ∷ bs) × (fault ≡ Byte line))
     ⊎ (((b ≡ 34) × BeginsNone (b ∷ bs) × (fault ≡ OpenString line))
-    ⊎ ((p : Part) × (bytes after : List ℕ) × IsPartAt p bytes (b ∷ bs) after × ((tokens : List Spelled) → Means p bytes tokens → ⊥) × (fault ≡ Number line)))
+    ⊎ ((p : Part) × (bytes after : List ℕ) × IsPartAt p bytes (b ∷ bs) after
+    × ((tokens : List Spelled) → Means p bytes tokens → ⊥) × (fault ≡ Number line)))
 
 -- the line of what follows these bytes, from 1
 abbrev pub line_after : List ℕ → ℕ

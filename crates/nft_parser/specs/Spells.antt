@@ -15,7 +15,8 @@ Spells tree text = (tokens : List Spelled) × IsCut text tokens × SpellsRuleset
 -- the text is cut into tokens that spell no tree, and one of their words is left out of the language, or none
 abbrev pub SpellsNone : Bool → List ℕ → Type 0
 SpellsNone left_out text =
-    (tokens : List Spelled) × IsCut text tokens × ((tree : List TableTree) → SpellsRuleset tree (signs_of tokens) → ⊥) × (has_left_out (signs_of tokens) ≡ left_out)
+    (tokens : List Spelled) × IsCut text tokens × ((tree : List TableTree) → SpellsRuleset tree (signs_of tokens) → ⊥)
+    × (has_left_out (signs_of tokens) ≡ left_out)
 
 -- why the text is no ruleset: the first fault of its tokens, or else that they spell no tree
 abbrev pub HasTextFault : List ℕ → TextFault → Type 0

@@ -13,7 +13,8 @@ use Rattle.nft_tree.specs.declared.statement.BitField.TheVariants.{State, Status
 use Rattle.nft_tree.specs.declared.statement.BitTest.TheVariants as tests
 use Rattle.nft_tree.specs.Tree as tree
 use Rattle.nft_tree.specs.Tree.{Text, ValueTree, RangeTree, FlagTree, flag_word, flag_number, MatchTree}
-use Rattle.token_reader.specs.Grammar.{Grammar, ◌⨾◌, ◌▹◌, ◌◃◌, ◌∣◌, a_number, a_word, made, maybe, named, one_of, passing, separated, sign}
+use Rattle.token_reader.specs.Grammar.{Grammar, ◌⨾◌, ◌▹◌, ◌◃◌, ◌∣◌, a_number, a_word, made, maybe, named, one_of}
+use Rattle.token_reader.specs.Grammar.{passing, separated, sign}
 use Rattle.token_reader.specs.steps.Reading.{◌>>=◌, all_at, with_front}
 use Rattle.nft_expressions.specs.Selectors.{is_word_for, selector, selectors}
 use Rattle.nft_expressions.specs.Elements.{range, set_ref}
@@ -46,7 +47,8 @@ is_range_for s (tree.prefix a n) = true
 
 -- [op] one: none is `==`
 unfoldable pub comparison : Selector → Grammar MatchTree
-comparison s = made (λ x. tree.compare s (unwrap_or x.0 operators.Equal) x.1) (maybe operator ⨾ passing (is_range_for s) range)
+comparison s =
+    made (λ x. tree.compare s (unwrap_or x.0 operators.Equal) x.1) (maybe operator ⨾ passing (is_range_for s) range)
 
 -- WORD {"," WORD}
 unfoldable pub words : Grammar (List Text)
@@ -54,7 +56,9 @@ words = separated (sign marks.Comma) a_word
 
 -- bits = ["==" | "!="] WORD {"," WORD}
 unfoldable pub bits : BitField → Selector → Grammar MatchTree
-bits field s = made (λ x. tree.bits field (unwrap_or (option_map (λ equal. cond equal tests.Exactly tests.None) x.0) tests.Any) x.1) (maybe equality ⨾ passing (list_all (is_word_for s)) words)
+bits field s =
+    made (λ x. tree.bits field (unwrap_or (option_map (λ equal. cond equal tests.Exactly tests.None) x.0) tests.Any)
+    x.1) (maybe equality ⨾ passing (list_all (is_word_for s)) words)
 
 abbrev pub is_flag : FlagTree → Bool
 is_flag (flag_word w) = is_word_for TcpFlags w
@@ -105,11 +109,16 @@ direct ss = one_of []
 unfoldable pub set_test : List Selector → Grammar MatchTree
 set_test ss = made (λ x. cond (unwrap_or x.0 true) (tree.is_in ss x.1) (tree.not_in ss x.1)) (maybe equality ⨾ set_ref)
 
--- match = keys ["==" | "!="] setref | sel [op] one | "ct" ("state" | "status") bits | "tcp" "flags" (["==" | "!="] flags ["/" flags] | "&" pflags ("==" | "!=") pflags)
+-- match = keys ["==" | "!="] setref | sel [op] one | "ct" ("state" | "status") bits | "tcp" "flags" (["==" | "!="]
+-- flags ["/" flags] | "&" pflags ("==" | "!=") pflags)
 unfoldable pub matching : Grammar MatchTree
 matching = record {
-  spells = λ m from to. (ss : List Selector) × (mid : List Sign) × selectors.spells ss from mid × (set_test ss ∣ direct ss).spells m mid to;
-  read = λ ts. selector.read ts >>= λ s. let keys = with_front (s.0 ∷ []) (all_at (sign marks.Dot ▹ selector).read s.1) in (set_test keys.0 ∣ direct keys.0).read keys.1;
+  spells =
+      λ m from to. (ss : List Selector) × (mid : List Sign) × selectors.spells ss from mid
+      × (set_test ss ∣ direct ss).spells m mid to;
+  read = λ ts. selector.read ts >>= λ s.
+      let keys = with_front (s.0 ∷ []) (all_at (sign marks.Dot ▹ selector).read s.1) in
+      (set_test keys.0 ∣ direct keys.0).read keys.1;
   first = selectors.first;
   follow = words.follow ++ ((flag_list ∣ masked).follow ++ (range.follow ++ set_ref.first));
   empty = false;

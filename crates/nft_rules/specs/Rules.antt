@@ -12,7 +12,8 @@ use Rattle.nft_tree.specs.declared.nat.PortRange.TheVariants.{One, Between}
 use Rattle.nft_tree.specs.Tree as tree
 use Rattle.nft_tree.specs.Tree.{LookTree, OperandTree, NatTree, Statement, RuleTree}
 use Rattle.token_reader.specs.Repeats.{stops}
-use Rattle.token_reader.specs.Grammar.{Grammar, keyword, sign, a_number, an_address, a_string, maybe, many, made, named, ◌⨾◌, ◌▹◌, ◌∣◌}
+use Rattle.token_reader.specs.Grammar.{Grammar, keyword, sign, a_number, an_address, a_string, maybe, many, made}
+use Rattle.token_reader.specs.Grammar.{named, ◌⨾◌, ◌▹◌, ◌∣◌}
 use Rattle.token_reader.specs.steps.Reading.{◌>>=◌}
 use Rattle.nft_expressions.specs.Selectors.{selector}
 use Rattle.nft_expressions.specs.Elements.{comment, verdict, map_ref}
@@ -32,7 +33,8 @@ mark_field s = None
 unfoldable pub operand : Grammar OperandTree
 operand =
     made tree.constant a_number
-    ∣ named (λ x. unwrap_or (option_map (λ m. Some (tree.looked_up (record { selector = x.0; map = m }))) x.1) (option_map tree.mark_of (mark_field x.0))) (selector ⨾ maybe (keyword (codes "map") ▹ map_ref))
+    ∣ named (λ x. unwrap_or (option_map (λ m. Some (tree.looked_up (record { selector = x.0; map = m }))) x.1)
+    (option_map tree.mark_of (mark_field x.0))) (selector ⨾ maybe (keyword (codes "map") ▹ map_ref))
 
 -- ports = NUM ["-" NUM]
 unfoldable pub ports : Grammar PortRange
@@ -44,18 +46,23 @@ to_word = keyword (codes "to") ∣ keyword (codes "ip") ▹ keyword (codes "to")
 
 -- ADDR [":" port] | look
 abbrev pub target : {A B : Type 0} → (ℕ → Option A → B) → (LookTree → B) → Grammar A → Grammar B
-target at_address looked port = made (λ x. at_address x.0 x.1) (an_address ⨾ maybe (sign Colon ▹ port)) ∣ made looked look
+target at_address looked port =
+    made (λ x. at_address x.0 x.1) (an_address ⨾ maybe (sign Colon ▹ port)) ∣ made looked look
 
 unfoldable pub nat : Grammar NatTree
 nat =
     made tree.source (keyword (codes "snat") ▹ to_word ▹ target tree.source_address tree.source_look ports)
-    ∣ made tree.destination (keyword (codes "dnat") ▹ to_word ▹ target tree.destination_address tree.destination_look a_number)
+    ∣ made tree.destination (keyword (codes "dnat") ▹ to_word ▹ target tree.destination_address tree.destination_look
+    a_number)
     ∣ made tree.masquerade (keyword (codes "masquerade") ▹ maybe (keyword (codes "to") ▹ sign Colon ▹ ports))
     ∣ made tree.redirect (keyword (codes "redirect") ▹ maybe (keyword (codes "to") ▹ sign Colon ▹ a_number))
 
 -- "counter" ["packets" NUM "bytes" NUM]
 unfoldable pub counter : Grammar Statement
-counter = made tree.counter (keyword (codes "counter") ▹ maybe (made (λ x. record { packets = x.0; bytes = x.1 }) (keyword (codes "packets") ▹ a_number ⨾ keyword (codes "bytes") ▹ a_number)))
+counter =
+    made tree.counter (keyword (codes "counter") ▹ maybe
+    (made (λ x. record { packets = x.0; bytes = x.1 })
+    (keyword (codes "packets") ▹ a_number ⨾ keyword (codes "bytes") ▹ a_number)))
 
 -- "log" ["prefix" STRING]
 unfoldable pub log : Grammar Statement
@@ -63,14 +70,17 @@ log = made tree.log (keyword (codes "log") ▹ maybe (keyword (codes "prefix") �
 
 -- ("meta" | "ct") "mark" "set" operand
 unfoldable pub set_mark : Grammar Statement
-set_mark = named (λ x. option_map (λ m. tree.set_mark m x.1) (mark_field x.0)) (selector ⨾ keyword (codes "set") ▹ operand)
+set_mark =
+    named (λ x. option_map (λ m. tree.set_mark m x.1) (mark_field x.0)) (selector ⨾ keyword (codes "set") ▹ operand)
 
 -- anysel "vmap" mapref
 unfoldable pub verdict_map : Grammar Statement
 verdict_map = made (λ x. tree.verdict_map x.0 x.1) (selector ⨾ keyword (codes "vmap") ▹ map_ref)
 
 unfoldable pub statement : Grammar Statement
-statement = counter ∣ log ∣ made tree.verdict verdict ∣ made tree.nat nat ∣ set_mark ∣ verdict_map ∣ made tree.matching matching
+statement =
+    counter ∣ log ∣ made tree.verdict verdict ∣ made tree.nat nat ∣ set_mark ∣ verdict_map ∣ made tree.matching
+    matching
 
 -- rule = stmt {stmt} ["comment" STRING]
 unfoldable pub rule : Grammar RuleTree
@@ -88,4 +98,11 @@ abbrev pub SpellsEndedRule : RuleTree → List Sign → List Sign → Type 0
 SpellsEndedRule r from to = SpellsRule r from to × Stops to
 
 unfoldable pub ended_rule : Grammar RuleTree
-ended_rule = record { spells = SpellsEndedRule; read = λ ts. rule.read ts >>= λ r. cond (stops r.1) (Some r) None; first = rule.first; follow = []; empty = false }
+ended_rule =
+    record {
+      spells = SpellsEndedRule;
+      read = λ ts. rule.read ts >>= λ r. cond (stops r.1) (Some r) None;
+      first = rule.first;
+      follow = [];
+      empty = false;
+    }

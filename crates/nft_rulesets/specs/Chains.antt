@@ -14,7 +14,8 @@ use Rattle.nft_tree.specs.declared.chain.PriorityName.TheVariants as priority_na
 use Rattle.nft_tree.specs.declared.chain.OffsetSign.TheVariants.{Plus, Minus}
 use Rattle.nft_tree.specs.declared.chain.Policy.TheVariants as policies
 use Rattle.nft_tree.specs.Tree.{Text, RuleTree, HeadTree, ChainTree}
-use Rattle.token_reader.specs.Grammar.{Grammar, keyword, sign, a_word, a_number, a_string, ends, some_ends, maybe, many, made, one_of, lines, ◌⨾◌, ◌▹◌, ◌◃◌, ◌∣◌}
+use Rattle.token_reader.specs.Grammar.{Grammar, keyword, sign, a_word, a_number, a_string, ends, some_ends, maybe}
+use Rattle.token_reader.specs.Grammar.{many, made, one_of, lines, ◌⨾◌, ◌▹◌, ◌◃◌, ◌∣◌}
 use Rattle.nft_rules.specs.Rules.{ended_rule}
 
 -- "comment" STRING
@@ -27,12 +28,14 @@ note = comment ◃ some_ends
 
 abbrev pub hook_names : List (Text × Hook)
 hook_names =
-    (codes "prerouting", hooks.Prerouting) ∷ (codes "input", hooks.Input) ∷ (codes "forward", hooks.Forward) ∷ (codes "output", hooks.Output)
+    (codes "prerouting", hooks.Prerouting) ∷ (codes "input", hooks.Input) ∷ (codes "forward", hooks.Forward) ∷
+    (codes "output", hooks.Output)
     ∷ (codes "postrouting", hooks.Postrouting) ∷ []
 
 abbrev pub places : List (Text × PriorityName)
 places =
-    (codes "raw", priority_names.Raw) ∷ (codes "mangle", priority_names.Mangle) ∷ (codes "dstnat", priority_names.DstNat) ∷ (codes "filter", priority_names.Filter)
+    (codes "raw", priority_names.Raw) ∷ (codes "mangle", priority_names.Mangle) ∷
+    (codes "dstnat", priority_names.DstNat) ∷ (codes "filter", priority_names.Filter)
     ∷ (codes "security", priority_names.Security) ∷ (codes "srcnat", priority_names.SrcNat) ∷ []
 
 -- ("+" | "-") NUM
@@ -45,16 +48,22 @@ named_priority (name, Some by) = Offset name by.0 by.1
 
 -- prio = ["-"] NUM | pname [("+" | "-") NUM]
 unfoldable pub priority : Grammar Priority
-priority = made (Number Plus) a_number ∣ made (Number Minus) (sign marks.Minus ▹ a_number) ∣ made named_priority (one_of places ⨾ maybe offset)
+priority =
+    made (Number Plus) a_number ∣ made (Number Minus) (sign marks.Minus ▹ a_number) ∣ made named_priority
+    (one_of places ⨾ maybe offset)
 
 -- "policy" ("accept" | "drop") end {end}
 unfoldable pub policy : Grammar Policy
-policy = keyword (codes "policy") ▹ one_of ((codes "accept", policies.Accept) ∷ (codes "drop", policies.Drop) ∷ []) ◃ some_ends
+policy =
+    keyword (codes "policy") ▹ one_of ((codes "accept", policies.Accept) ∷ (codes "drop", policies.Drop) ∷ []) ◃
+    some_ends
 
 -- head = "type" ("filter" | "nat") "hook" hook "priority" prio end {end} ["policy" ..], and the notes after it
 unfoldable pub head : Grammar HeadTree
 head = made (λ x. record { kind = x.0; hook = x.1.0; priority = x.1.1.0; policy = x.1.1.1.0; notes = x.1.1.1.1 }) (
-    keyword (codes "type") ▹ one_of ((codes "filter", chain_kinds.Filter) ∷ (codes "nat", chain_kinds.Nat) ∷ []) ⨾ keyword (codes "hook") ▹ one_of hook_names ⨾ keyword (codes "priority") ▹ priority ⨾ some_ends ▹ maybe policy ⨾ many note)
+    keyword (codes "type") ▹ one_of ((codes "filter", chain_kinds.Filter) ∷ (codes "nat", chain_kinds.Nat) ∷ [])
+    ⨾ keyword (codes "hook") ▹ one_of hook_names ⨾ keyword (codes "priority") ▹ priority
+    ⨾ some_ends ▹ maybe policy ⨾ many note)
 
 -- [rule {end {end} rule} {end}]
 unfoldable pub rules : Grammar (List RuleTree)
@@ -64,4 +73,5 @@ rules = made (λ rs. unwrap_or rs []) (maybe (lines ended_rule))
 unfoldable pub chain : Grammar ChainTree
 chain =
     made (λ x. record { name = x.0; notes = x.1.0; head = x.1.1.0; rules = x.1.1.1 })
-    (keyword (codes "chain") ▹ a_word ⨾ sign marks.OpenBrace ▹ ends ▹ many note ⨾ maybe head ⨾ rules ◃ sign marks.CloseBrace)
+    (keyword (codes "chain") ▹ a_word ⨾ sign marks.OpenBrace ▹ ends ▹ many note ⨾ maybe head
+    ⨾ rules ◃ sign marks.CloseBrace)

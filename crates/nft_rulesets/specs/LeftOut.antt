@@ -9,11 +9,16 @@ use Rattle.nft_tree.specs.Tree.{Text}
 -- words of nft(8) that this profile leaves out
 abbrev pub left_out : List Text
 left_out =
-    codes "define" ∷ codes "undefine" ∷ codes "redefine" ∷ codes "include" ∷ codes "add" ∷ codes "create" ∷ codes "insert" ∷ codes "replace" ∷ codes "delete"
-    ∷ codes "destroy" ∷ codes "list" ∷ codes "reset" ∷ codes "rename" ∷ codes "monitor" ∷ codes "ip6" ∷ codes "icmpv6" ∷ codes "arp" ∷ codes "bridge" ∷ codes "netdev"
-    ∷ codes "ether" ∷ codes "vlan" ∷ codes "reject" ∷ codes "limit" ∷ codes "quota" ∷ codes "queue" ∷ codes "dup" ∷ codes "fwd" ∷ codes "tproxy" ∷ codes "synproxy"
-    ∷ codes "flowtable" ∷ codes "flow" ∷ codes "helper" ∷ codes "expectation" ∷ codes "timeout" ∷ codes "expires" ∷ codes "dynamic" ∷ codes "gc-interval" ∷ codes "numgen"
-    ∷ codes "jhash" ∷ codes "symhash" ∷ codes "fib" ∷ codes "rt" ∷ codes "socket" ∷ codes "osf" ∷ codes "random" ∷ codes "fully-random" ∷ codes "persistent" ∷ codes "dscp" ∷ []
+    codes "define" ∷ codes "undefine" ∷ codes "redefine" ∷ codes "include" ∷ codes "add" ∷ codes "create" ∷
+    codes "insert" ∷ codes "replace" ∷ codes "delete"
+    ∷ codes "destroy" ∷ codes "list" ∷ codes "reset" ∷ codes "rename" ∷ codes "monitor" ∷ codes "ip6" ∷
+    codes "icmpv6" ∷ codes "arp" ∷ codes "bridge" ∷ codes "netdev"
+    ∷ codes "ether" ∷ codes "vlan" ∷ codes "reject" ∷ codes "limit" ∷ codes "quota" ∷ codes "queue" ∷ codes "dup" ∷
+    codes "fwd" ∷ codes "tproxy" ∷ codes "synproxy"
+    ∷ codes "flowtable" ∷ codes "flow" ∷ codes "helper" ∷ codes "expectation" ∷ codes "timeout" ∷ codes "expires" ∷
+    codes "dynamic" ∷ codes "gc-interval" ∷ codes "numgen"
+    ∷ codes "jhash" ∷ codes "symhash" ∷ codes "fib" ∷ codes "rt" ∷ codes "socket" ∷ codes "osf" ∷ codes "random" ∷
+    codes "fully-random" ∷ codes "persistent" ∷ codes "dscp" ∷ []
 
 abbrev pub is_left_out : Sign → Bool
 is_left_out (signs.word w) = list_any (bytes_eq w) left_out

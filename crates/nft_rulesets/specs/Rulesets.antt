@@ -7,7 +7,8 @@ use Rattle.nft_tree.specs.declared.ruleset.Family.{Family}
 use Rattle.nft_tree.specs.declared.ruleset.Family.TheVariants.{Ip, Inet}
 use Rattle.nft_tree.specs.Tree as tree
 use Rattle.nft_tree.specs.Tree.{Text, ItemTree, TableTree}
-use Rattle.token_reader.specs.Grammar.{Grammar, keyword, sign, a_word, any_word, ends, some_ends, maybe, many, made, one_of, ◌⨾◌, ◌▹◌, ◌◃◌, ◌∣◌}
+use Rattle.token_reader.specs.Grammar.{Grammar, keyword, sign, a_word, any_word, ends, some_ends, maybe, many, made}
+use Rattle.token_reader.specs.Grammar.{one_of, ◌⨾◌, ◌▹◌, ◌◃◌, ◌∣◌}
 use Rattle.nft_rulesets.specs.Sets.{named_set, named_map}
 use Rattle.nft_rulesets.specs.Chains.{comment, chain}
 

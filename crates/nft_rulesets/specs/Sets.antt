@@ -1,5 +1,6 @@
 -- What spells a set or a map with a name (nft(8), "Sets", "Maps").
-use Rattle.std.specs.Prelude.{ℕ, List, [], ◌∷◌, Option, Some, None, option_map, option_and_then, Bool, true, false, cond, codes}
+use Rattle.std.specs.Prelude.{ℕ, List, [], ◌∷◌, Option, Some, None, option_map, option_and_then, Bool, true, false}
+use Rattle.std.specs.Prelude.{cond, codes}
 use Rattle.std.specs.Str.{bytes_eq}
 use Rattle.nft_lexer.specs.declared.token.Mark.TheVariants.{Dot, Comma, Colon, Equals, OpenBrace, CloseBrace}
 use Rattle.nft_tree.specs.declared.selector.ValueType.{ValueType}
@@ -14,7 +15,8 @@ use Rattle.nft_tree.specs.declared.set.SelectorOrVerdict.TheVariants as selector
 use Rattle.nft_tree.specs.Tree as tree
 use Rattle.nft_tree.specs.Tree.{Text, SetTypeTree, SetTree, MapTree}
 use Rattle.nft_tree.specs.Words.{type_named}
-use Rattle.token_reader.specs.Grammar.{Grammar, keyword, sign, a_word, a_number, a_string, ends, made, named, one_of, separated, lines, ◌⨾◌, ◌▹◌, ◌◃◌, ◌∣◌}
+use Rattle.token_reader.specs.Grammar.{Grammar, keyword, sign, a_word, a_number, a_string, ends, made, named, one_of}
+use Rattle.token_reader.specs.Grammar.{separated, lines, ◌⨾◌, ◌▹◌, ◌◃◌, ◌∣◌}
 use Rattle.nft_expressions.specs.Selectors.{selector, selectors}
 use Rattle.nft_expressions.specs.Elements as lists
 
@@ -59,15 +61,20 @@ value_types = separated (sign Dot) value_type
 
 -- "type" TYPE {"." TYPE} | "typeof" keys
 unfoldable pub set_type : Grammar SetTypeTree
-set_type = keyword (codes "type") ▹ made tree.types value_types ∣ keyword (codes "typeof") ▹ made tree.selectors selectors
+set_type =
+    keyword (codes "type") ▹ made tree.types value_types ∣ keyword (codes "typeof") ▹ made tree.selectors selectors
 
 -- TYPE | "verdict"
 unfoldable pub data_type : Grammar TypeOrVerdict
-data_type = named (λ w. cond (bytes_eq w (codes "verdict")) (Some types_or_verdicts.Verdict) (option_map types_or_verdicts.Type (type_named w))) a_word
+data_type =
+    named (λ w. cond (bytes_eq w (codes "verdict")) (Some types_or_verdicts.Verdict)
+    (option_map types_or_verdicts.Type (type_named w))) a_word
 
 -- anysel | "verdict"
 unfoldable pub data_selector : Grammar SelectorOrVerdict
-data_selector = made selectors_or_verdicts.Selector selector ∣ made (λ u. selectors_or_verdicts.Verdict) (keyword (codes "verdict"))
+data_selector =
+    made selectors_or_verdicts.Selector selector ∣ made (λ u. selectors_or_verdicts.Verdict)
+    (keyword (codes "verdict"))
 
 -- "type" TYPE ":" (TYPE | "verdict") | "typeof" anysel ":" (anysel | "verdict")
 unfoldable pub map_type : Grammar MapType
@@ -77,7 +84,9 @@ map_type =
 
 -- "flags" sflag {"," sflag}
 unfoldable pub set_flags : Grammar (List SetFlag)
-set_flags = keyword (codes "flags") ▹ separated (sign Comma) (one_of ((codes "constant", Constant) ∷ (codes "interval", Interval) ∷ []))
+set_flags =
+    keyword (codes "flags") ▹ separated (sign Comma)
+    (one_of ((codes "constant", Constant) ∷ (codes "interval", Interval) ∷ []))
 
 -- a field but the key
 unfoldable pub other_field : {K E : Type 0} → Grammar E → Grammar (Field K E)
@@ -98,11 +107,13 @@ block k e = a_word ⨾ named gathered (sign OpenBrace ▹ ends ▹ lines (any_fi
 
 -- what they make, where a key is among them
 abbrev pub set_of : Text × Gathered SetTypeTree (List tree.ElementTree) → Option SetTree
-set_of (name, (Some k, fs, n, merge, text, es)) = Some (record { name = name; key = k; flags = fs; size = n; auto_merge = merge; comment = text; elements = es })
+set_of (name, (Some k, fs, n, merge, text, es)) =
+    Some (record { name = name; key = k; flags = fs; size = n; auto_merge = merge; comment = text; elements = es })
 set_of _ = None
 
 abbrev pub map_of : Text × Gathered MapType (List tree.PairTree) → Option MapTree
-map_of (name, (Some k, fs, n, merge, text, es)) = Some (record { name = name; types = k; flags = fs; size = n; auto_merge = merge; comment = text; elements = es })
+map_of (name, (Some k, fs, n, merge, text, es)) =
+    Some (record { name = name; types = k; flags = fs; size = n; auto_merge = merge; comment = text; elements = es })
 map_of _ = None
 
 -- set = "set" NAME "{" .. "}"

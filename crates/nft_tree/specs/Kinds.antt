@@ -1,4 +1,5 @@
--- What counts of a type where two are compared: its name, or its width where it has none (nft(8), "Data types", "typeof").
+-- What counts of a type where two are compared: its name, or its width where it has none (nft(8), "Data types",
+-- "typeof").
 use Rattle.std.specs.Prelude.{ℕ, List, map, Option, Some, None}
 use Rattle.nft_tree.specs.declared.selector.ValueType.{ValueType}
 use Rattle.nft_tree.specs.declared.selector.Selector.{Selector}

@@ -47,10 +47,12 @@ numbered_from_one xs (suc n) = slice_get xs n
 
 -- the chain that holds the rule
 abbrev pub chain_numbered : List TableTree → RuleNo → Option ChainTree
-chain_numbered tables number = option_and_then (λ t. slice_get (chains_of t) number.chain) (slice_get tables number.table)
+chain_numbered tables number =
+    option_and_then (λ t. slice_get (chains_of t) number.chain) (slice_get tables number.table)
 
 abbrev pub rule_numbered : List TableTree → RuleNo → Option RuleTree
-rule_numbered tables number = option_and_then (λ c. numbered_from_one c.rules number.rule) (chain_numbered tables number)
+rule_numbered tables number =
+    option_and_then (λ c. numbered_from_one c.rules number.rule) (chain_numbered tables number)
 
 -- ---- counters
 

@@ -238,7 +238,8 @@ data_tree (datas.Verdict v) = to_verdict (verdict_tree v)
 data_tree (datas.Value v) = to_value (value_tree v)
 
 abbrev pub pair_tree : Pair → PairTree
-pair_tree p = record { key = range_tree p.key; comment = option_map (λ c. c.items) p.comment; value = data_tree p.value }
+pair_tree p =
+    record { key = range_tree p.key; comment = option_map (λ c. c.items) p.comment; value = data_tree p.value }
 
 abbrev pub set_ref_tree : SetRef → SetRefTree
 set_ref_tree (set_refs.Named name) = named_set name.items
@@ -268,7 +269,8 @@ match_tree (matches.Bits field test words) = bits field test (map (λ w. w.items
 match_tree (matches.AnyFlag fs) = any_flag (map flag_tree fs.items)
 match_tree (matches.ExactFlags fs) = exact_flags (map flag_tree fs.items)
 match_tree (matches.MaskedFlags m) = masked_flags (map flag_tree m.wanted.items) (map flag_tree m.mask.items)
-match_tree (matches.MaskedFlagsUnequal m) = masked_flags_unequal (map flag_tree m.wanted.items) (map flag_tree m.mask.items)
+match_tree (matches.MaskedFlagsUnequal m) =
+    masked_flags_unequal (map flag_tree m.wanted.items) (map flag_tree m.mask.items)
 
 abbrev pub source_tree : SourceTarget → SourceTree
 source_tree (sources.Address a ports) = source_address a ports
@@ -297,20 +299,53 @@ abbrev pub rule_tree : Rule → RuleTree
 rule_tree r = record { statements = map statement r.statements.items; comment = option_map (λ c. c.items) r.comment }
 
 abbrev pub head_tree : Head → HeadTree
-head_tree h = record { kind = h.kind; hook = h.hook; priority = h.priority; policy = h.policy; notes = map (λ n. n.items) h.notes.items }
+head_tree h =
+    record {
+      kind = h.kind;
+      hook = h.hook;
+      priority = h.priority;
+      policy = h.policy;
+      notes = map (λ n. n.items) h.notes.items;
+    }
 
 abbrev pub chain_tree : Chain → ChainTree
-chain_tree c = record { name = c.name.items; notes = map (λ n. n.items) c.notes.items; head = option_map head_tree c.head; rules = map rule_tree c.rules.items }
+chain_tree c =
+    record {
+      name = c.name.items;
+      notes = map (λ n. n.items) c.notes.items;
+      head = option_map head_tree c.head;
+      rules = map rule_tree c.rules.items;
+    }
 
 abbrev pub set_type_tree : SetType → SetTypeTree
 set_type_tree (set_types.Types ts) = types ts.items
 set_type_tree (set_types.Selectors ss) = selectors ss.items
 
 abbrev pub set_tree : SetDecl → SetTree
-set_tree s = record { name = s.name.items; key = set_type_tree s.key; flags = option_map (λ f. f.items) s.flags; size = s.size; auto_merge = s.auto_merge; comment = option_map (λ c. c.items) s.comment; elements = option_map (λ es. map element_tree es.items) s.elements }
+set_tree s =
+    record {
+      name = s.name.items;
+      key = set_type_tree s.key;
+      flags = option_map (λ f. f.items) s.flags;
+      size = s.size;
+      auto_merge = s.auto_merge;
+      comment = option_map (λ c. c.items) s.comment;
+      elements =
+          option_map (λ es. map element_tree es.items) s.elements;
+    }
 
 abbrev pub map_tree : MapDecl → MapTree
-map_tree m = record { name = m.name.items; types = m.types; flags = option_map (λ f. f.items) m.flags; size = m.size; auto_merge = m.auto_merge; comment = option_map (λ c. c.items) m.comment; elements = option_map (λ ps. map pair_tree ps.items) m.elements }
+map_tree m =
+    record {
+      name = m.name.items;
+      types = m.types;
+      flags = option_map (λ f. f.items) m.flags;
+      size = m.size;
+      auto_merge = m.auto_merge;
+      comment = option_map (λ c. c.items) m.comment;
+      elements =
+          option_map (λ ps. map pair_tree ps.items) m.elements;
+    }
 
 abbrev pub item_tree : Item → ItemTree
 item_tree (items.Comment c) = comment c.items

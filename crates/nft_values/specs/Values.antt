@@ -1,5 +1,7 @@
 -- The values of each type, and the numbers that they stand for (nft(8), "Data types").
-use Rattle.std.specs.Prelude.{ℕ, ◌+◌, ◌*◌, ◌-◌, ◌/◌, ◌^◌, ◌==◌, ◌&&◌, ◌||◌, not, nat_lt, nat_le, Bool, true, false, List, [], ◌∷◌, ◌++◌, length, take, replicate, Option, Some, None, unwrap_or, cond, is_some}
+use Rattle.std.specs.Prelude.{ℕ, ◌+◌, ◌*◌, ◌-◌, ◌/◌, ◌^◌, ◌==◌, ◌&&◌, ◌||◌, not, nat_lt, nat_le, Bool, true, false}
+use Rattle.std.specs.Prelude.{List, [], ◌∷◌, ◌++◌, length, take, replicate, Option, Some, None, unwrap_or, cond}
+use Rattle.std.specs.Prelude.{is_some}
 use Rattle.std.specs.List.{list_all}
 use Rattle.std.specs.Option.{option_map}
 use Rattle.nft_tree.specs.Tree as tree
@@ -116,17 +118,20 @@ value_span plant k (tree.string s) = text_span plant k s
 
 -- the addresses that agree with the address in the first bits
 abbrev pub prefix_span : ℕ → ℕ → Span
-prefix_span a n = record { low = a / 2 ^ (32 - n) * 2 ^ (32 - n); high = a / 2 ^ (32 - n) * 2 ^ (32 - n) + 2 ^ (32 - n) - 1 }
+prefix_span a n =
+    record { low = a / 2 ^ (32 - n) * 2 ^ (32 - n); high = a / 2 ^ (32 - n) * 2 ^ (32 - n) + 2 ^ (32 - n) - 1 }
 
 abbrev pub range_span : PlantTree → Kind → RangeTree → Span
 range_span plant k (tree.one v) = value_span plant k v
-range_span plant k (tree.between low high) = record { low = (value_span plant k low).low; high = (value_span plant k high).high }
+range_span plant k (tree.between low high) =
+    record { low = (value_span plant k low).low; high = (value_span plant k high).high }
 range_span plant k (tree.prefix a n) = prefix_span a n
 
 -- a value; two values of which the second isn't the lower one; a prefix of at most 32 bits of an address
 abbrev pub is_range : PlantTree → Kind → RangeTree → Bool
 is_range plant k (tree.one v) = is_value k v
-is_range plant k (tree.between low high) = is_value k low && is_value k high && nat_le (value_span plant k low).low (value_span plant k high).high
+is_range plant k (tree.between low high) =
+    is_value k low && is_value k high && nat_le (value_span plant k low).low (value_span plant k high).high
 is_range plant k (tree.prefix a n) = is_address k && nat_le n 32
 
 abbrev pub is_range_on_box : PlantTree → Kind → RangeTree → Bool

@@ -1,6 +1,7 @@
 -- What a capture shows while it is read.
 use Rattle.std.specs.Prelude.{◌≡◌, ◌+◌, ◌<◌, ◌==◌, ◌||◌, nat_lt, not, max, ℕ, ◌⊎◌, if◌then◌else◌}
-use Rattle.std.specs.Prelude.{Bool, true, false, cond, List, [], ◌++◌, length, Option, Some, None, is_some, Result, Ok, Err, IfSome}
+use Rattle.std.specs.Prelude.{Bool, true, false, cond, List, [], ◌++◌, length, Option, Some, None, is_some, Result, Ok}
+use Rattle.std.specs.Prelude.{Err, IfSome}
 use Rattle.std.specs.Io.KnownBytes.{prepend_known}
 use Rattle.pcap_io.specs.declared.fault.CaptureFault.TheVariants.{TornEnd, Magic, Version, LinkType}
 use Rattle.pcap_io.specs.declared.fault.CaptureFault.TheVariants.{Malformed, TooMany}

@@ -7,7 +7,8 @@ use Rattle.std.specs.declared.io.ErrorKind.TheVariants.{OutOfMemory, InvalidData
 use Rattle.engine.specs.declared.fault.RunFault.{RunFault}
 use Rattle.engine.specs.declared.fault.RunFault.TheVariants as faults
 use Rattle.program.specs.declared.status.Status.{Status}
-use Rattle.program.specs.declared.status.Status.TheVariants.{Success, Rules, Usage, NotText, SameFile, Box, Capture, Device, Memory, Torn}
+use Rattle.program.specs.declared.status.Status.TheVariants.{Success, Rules, Usage, NotText, SameFile, Box, Capture}
+use Rattle.program.specs.declared.status.Status.TheVariants.{Device, Memory, Torn}
 
 abbrev pub of_fault : RunFault → Status
 of_fault (faults.Rules fault) = Rules fault

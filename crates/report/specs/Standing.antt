@@ -14,7 +14,8 @@ use Rattle.story.specs.Story.{Entry}
 use Rattle.report.specs.declared.tallies.Tally.{Tally}
 use Rattle.report.specs.declared.notes.Note.{Note}
 use Rattle.report.specs.declared.notes.Note.TheVariants as notes
-use Rattle.report.specs.Report.{passed, local, dropped, begun, packets, bytes, entry_lines, on_chain, log_line, decision_line, policy_line, outcome_line}
+use Rattle.report.specs.Report.{passed, local, dropped, begun, packets, bytes, entry_lines, on_chain, log_line}
+use Rattle.report.specs.Report.{decision_line, policy_line, outcome_line}
 
 -- a writer's known bytes grow so that what was told so far becomes this text
 abbrev pub Tells : Option Text → Option Text → Text → Text → Type 0
@@ -83,6 +84,6 @@ pub record Reports (report : Known) (rules : List TableTree) (trace : Bool) (sto
   pub dropped_are : (cause : Cause) → drops_of report cause ≡ dropped cause story
   pub begun_are : report.begun ≡ begun story
   pub tallies_are : (at : Place) (start : CounterStart)
-    → counter_at rules at ≡ Some start → tally_at report.tallies at ≡ Some (tally_of start at story)
+      → counter_at rules at ≡ Some start → tally_at report.tallies at ≡ Some (tally_of start at story)
   pub traces_so : report.traces ≡ trace
   pub rest : told ++ flat_map (note_line rules) report.notes ≡ entry_lines rules trace story

@@ -26,7 +26,8 @@ is_without_nat hooks.Postrouting = false
 -- type nat on input or forward, or with a priority of at most -200
 abbrev pub head_is_misplaced : Option HeadTree → Bool
 head_is_misplaced None = false
-head_is_misplaced (Some h) = is_nat h.kind && (is_without_nat h.hook || int_le (priority_number h.priority) (negsuc 199))
+head_is_misplaced (Some h) =
+    is_nat h.kind && (is_without_nat h.hook || int_le (priority_number h.priority) (negsuc 199))
 
 abbrev pub item_is_misplaced : ItemTree → Bool
 item_is_misplaced (tree.chain c) = head_is_misplaced c.head

@@ -50,7 +50,8 @@ abbrev pub rows : List (Vec ℕ Global) → List (List ℕ)
 rows vecs = map (λ row. row.items) vecs
 
 -- nothing is wrong with a ruleset on a box, these are its costs and depths, and all its tables have costs
-pub record IsChecked (tables : List TableTree) (plant : PlantTree) (its_costs its_depths : List (Vec ℕ Global)) : Type 0 where
+pub record IsChecked (tables : List TableTree) (plant : PlantTree)
+    (its_costs its_depths : List (Vec ℕ Global)) : Type 0 where
   pub fine : WellFormed tables plant
   pub costs : AreRulesetCosts tables (rows its_costs)
   pub depths : AreRulesetDepths tables (rows its_depths)

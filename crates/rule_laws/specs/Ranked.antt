@@ -19,12 +19,15 @@ module _ {S : Type 0} (p : Program S) where
     pub in_chain : Contains rules rule
     pub in_rule : Contains rule s
 
-  -- each statement weighs 1 and what it leads to at least, a chain costs what its statements weigh, a jump goes one deeper
+  -- each statement weighs 1 and what it leads to at least, a chain costs what its statements weigh, a jump goes one
+  -- deeper
   pub record IsRanked (weight : S → ℕ) (cost depth : ℕ → ℕ) : Type 0 where
     pub some : (s : S) → 1 ≤ weight s
     pub sums : (c : ℕ) (rules : List (List S)) → p.rules_at c ≡ Some rules → sum_by (sum_by weight) rules ≤ cost c
-    pub jumps : (c d : ℕ) (s : S) (at_place : Place) (f : Facts) → StandsIn c s → p.said at_place s f ≡ give (Jump d) → (cost d + 1 ≤ weight s) × (depth d + 1 ≤ depth c)
-    pub gotos : (c d : ℕ) (s : S) (at_place : Place) (f : Facts) → StandsIn c s → p.said at_place s f ≡ give (Goto d) → (cost d + 1 ≤ weight s) × (depth d ≤ depth c)
+    pub jumps : (c d : ℕ) (s : S) (at_place : Place) (f : Facts) → StandsIn c s → p.said at_place s f ≡ give (Jump d)
+        → (cost d + 1 ≤ weight s) × (depth d + 1 ≤ depth c)
+    pub gotos : (c d : ℕ) (s : S) (at_place : Place) (f : Facts) → StandsIn c s → p.said at_place s f ≡ give (Goto d)
+        → (cost d + 1 ≤ weight s) × (depth d ≤ depth c)
 
 -- what a statement weighs, where chains and maps cost this: 1 and the greatest of what it calls
 abbrev pub weight_by : (Caller → ℕ) → Statement → ℕ

@@ -84,4 +84,5 @@ abbrev pub MOST_ELEMENTS : ℕ
 MOST_ELEMENTS = 65536
 
 abbrev pub too_large : List TableTree → Bool
-too_large tables = nat_lt MOST_RULES (rule_count tables) || nat_lt MOST_ELEMENTS (element_count tables) || some_start_too_high tables
+too_large tables =
+    nat_lt MOST_RULES (rule_count tables) || nat_lt MOST_ELEMENTS (element_count tables) || some_start_too_high tables

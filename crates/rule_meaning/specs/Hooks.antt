@@ -1,5 +1,7 @@
--- How a packet passes a hook: its base chains in order of priority (nft(8), "Chains"), each with its policy, and the translation step among them.
-use Rattle.std.specs.Prelude.{◌≡◌, ℕ, suc, ℤ, pos, negsuc, int_lt, not, ◌&&◌, Bool, true, false, List, [], ◌∷◌, ◌++◌, filter, Option, Some, None, slice_get, unwrap_or}
+-- How a packet passes a hook: its base chains in order of priority (nft(8), "Chains"), each with its policy, and the
+-- translation step among them.
+use Rattle.std.specs.Prelude.{◌≡◌, ℕ, suc, ℤ, pos, negsuc, int_lt, not, ◌&&◌, Bool, true, false, List, [], ◌∷◌, ◌++◌}
+use Rattle.std.specs.Prelude.{filter, Option, Some, None, slice_get, unwrap_or}
 use Rattle.std.specs.List.Sorted.{IsSortedBy, IsStableBy}
 use Rattle.nft_tree.specs.declared.chain.ChainKind.{ChainKind}
 use Rattle.nft_tree.specs.declared.chain.ChainKind.TheVariants as kinds
@@ -99,7 +101,8 @@ policy_ending policies.Drop = Dropped
 
 -- a packet that comes to the end of a base chain meets the policy
 abbrev pub closed : ChainNo → Policy → After → End
-closed number policy (at_end f es) = record { ending = policy_ending policy; facts = f; events = es ++ Closed number policy ∷ [] }
+closed number policy (at_end f es) =
+    record { ending = policy_ending policy; facts = f; events = es ++ Closed number policy ∷ [] }
 closed number policy (over ending f es) = record { ending = ending; facts = f; events = es }
 
 -- a relation between what rules may read and the events before, and how it ends
@@ -107,7 +110,8 @@ abbrev pub Passage : Type 1
 Passage = Facts → List Event → End → Type 0
 
 -- the packet runs through a base chain of the ruleset
-pub record RunsBase (plant : PlantTree) (tables : List TableTree) (b : Base) (f : Facts) (es : List Event) (end : End) : Type 0 where
+pub record RunsBase (plant : PlantTree) (tables : List TableTree) (b : Base) (f : Facts) (es : List Event)
+    (end : End) : Type 0 where
   pub table : TableTree
   pub stands : slice_get tables b.number.table ≡ Some table
   pub rules : List (List Statement)
@@ -132,7 +136,8 @@ Nothing f es end = end ≡ record { ending = Accepted; facts = f; events = es }
 
 -- the second follows where the first goes on
 pub data Then (first second : Passage) (f : Facts) (es : List Event) (end : End) : Type 0 where
-  goes_on : (between : End) → first f es between → GoesOn between.ending → second between.facts between.events end → Then first second f es end
+  goes_on : (between : End) → first f es between → GoesOn between.ending → second between.facts between.events end
+      → Then first second f es end
   stops : first f es end → Stops end.ending → Then first second f es end
 
 -- base chains in turn: an accept ends one of them, a drop or a translation all
@@ -141,7 +146,8 @@ InTurn plant tables [] = Nothing
 InTurn plant tables (b ∷ bs) = Then (RunsBase plant tables b) (InTurn plant tables bs)
 
 -- all base chains that pass the test, in order of priority and of text
-pub record Chains (plant : PlantTree) (tables : List TableTree) (test : Base → Bool) (f : Facts) (es : List Event) (end : End) : Type 0 where
+pub record Chains (plant : PlantTree) (tables : List TableTree) (test : Base → Bool) (f : Facts) (es : List Event)
+    (end : End) : Type 0 where
   pub order : List Base
   pub in_order : InOrder (filter test (bases_of tables)) order
   pub run : InTurn plant tables order f es end
@@ -155,13 +161,17 @@ is_early b = filters_at hooks.Prerouting b && is_below (negsuc 198) b
 abbrev pub Early : PlantTree → List TableTree → Passage
 Early plant tables = Chains plant tables is_early
 
--- the filter chains of a hook on both sides of its translation step, which stands at this priority, before the chains of the same; a step that translates hands on the packet as translated: it ends accepted
+-- the filter chains of a hook on both sides of its translation step, which stands at this priority, before the chains
+-- of the same; a step that translates hands on the packet as translated: it ends accepted
 abbrev pub Around : PlantTree → List TableTree → (Base → Bool) → ℤ → Passage → Passage
-Around plant tables test limit step = Then (Chains plant tables (λ b. test b && is_below limit b)) (Then step (Chains plant tables (λ b. test b && not (is_below limit b))))
+Around plant tables test limit step =
+    Then (Chains plant tables (λ b. test b && is_below limit b))
+    (Then step (Chains plant tables (λ b. test b && not (is_below limit b))))
 
 -- the destination is translated at dstnat, -100
 abbrev pub Prerouting : PlantTree → List TableTree → Passage → Passage
-Prerouting plant tables step = Around plant tables (λ b. filters_at hooks.Prerouting b && not (is_early b)) (negsuc 99) step
+Prerouting plant tables step =
+    Around plant tables (λ b. filters_at hooks.Prerouting b && not (is_early b)) (negsuc 99) step
 
 abbrev pub Input : PlantTree → List TableTree → Passage
 Input plant tables = Chains plant tables (filters_at hooks.Input)

@@ -18,10 +18,13 @@ use Rattle.rule_meaning.specs.Hooks.{End, Passage}
 -- ---- at most one
 
 abbrev pub AtMostOneRun : {S : Type 0} → Program S → Type 0
-AtMostOneRun {S} p = (c n : ℕ) (l : Left S) (f : Facts) (es : List Event) (o other : After) → Runs p c n l f es o → Runs p c n l f es other → o ≡ other
+AtMostOneRun {S} p =
+    (c n : ℕ) (l : Left S) (f : Facts) (es : List Event) (o other : After) → Runs p c n l f es o
+    → Runs p c n l f es other → o ≡ other
 
 abbrev pub AtMostOneEnd : Passage → Type 0
-AtMostOneEnd passage = (f : Facts) (es : List Event) (end other : End) → passage f es end → passage f es other → end ≡ other
+AtMostOneEnd passage =
+    (f : Facts) (es : List Event) (end other : End) → passage f es end → passage f es other → end ≡ other
 
 -- a step that ends in one way, or doesn't
 abbrev pub step_of : (Facts → List Event → Option End) → Passage
@@ -51,7 +54,8 @@ reached_behind rest f es (note e g) = rest g (es ++ e ∷ [])
 reached_behind rest f es fail = None
 reached_behind rest f es (give d) = None
 
--- what rules may read and all events behind statements of rule n of chain c, the first of them of this number; nothing where one of them fails or decides
+-- what rules may read and all events behind statements of rule n of chain c, the first of them of this number; nothing
+-- where one of them fails or decides
 abbrev pub through : {S : Type 0} → Program S → ℕ → ℕ → ℕ → List S → Facts → List Event → Reached
 through p c n k [] f es = Some (f, es)
 through p c n k (s ∷ ss) f es = reached_behind (through p c n (k + 1) ss) f es (p.said (place p c n k) s f)
@@ -59,20 +63,29 @@ through p c n k (s ∷ ss) f es = reached_behind (through p c n (k + 1) ss) f es
 -- ---- runs that come to the same
 
 -- what is left of chains leads to the same, from facts and events of its own each
-abbrev pub LeadsAlike : {S : Type 0} (p : Program S) → (c n : ℕ) → Left S → Facts → List Event → (m : ℕ) → Left S → Facts → List Event → Type 0
+abbrev pub LeadsAlike : {S : Type 0} (p : Program S) → (c n : ℕ) → Left S → Facts → List Event → (m : ℕ) → Left S
+    → Facts → List Event → Type 0
 LeadsAlike p c n l f es m k g later = (o : After) → Runs p c n l f es o ↔ Runs p c m k g later o
 
 -- a jump to a chain without rules leaves nothing but its event
 abbrev pub EmptyJump : Program Statement → Type 0
-EmptyJump p = (c n k t : ℕ) (s : Statement) (ss : List Statement) (rs : List (List Statement)) (f : Facts) (es : List Event) → p.said (place p c n k) s f ≡ give (Jump t) → p.rules_at t ≡ Some []
+EmptyJump p =
+    (c n k t : ℕ) (s : Statement) (ss : List Statement) (rs : List (List Statement)) (f : Facts) (es : List Event)
+    → p.said (place p c n k) s f ≡ give (Jump t) → p.rules_at t ≡ Some []
     → LeadsAlike p c n (in_rule k (s ∷ ss) rs) f es (n + 1) (at_rule rs) f (taking p es c n (Jump t))
 
 -- a counter behind statements through which a packet comes counts it, at its place, behind all that they noted
 abbrev pub CounterSees : PlantTree → ℕ → TableTree → Type 0
-CounterSees plant number t = (c n k : ℕ) (before after : List Statement) (start : Option CounterStart) (rs : List (List Statement)) (f g : Facts) (es later : List Event) → through (named plant number t) c n k before f es ≡ Some (g, later)
-    → LeadsAlike (named plant number t) c n (in_rule k (before ++ tree.counter start ∷ after) rs) f es n (in_rule (k + length before + 1) after rs) g (later ++ Counted (place (named plant number t) c n (k + length before)) ∷ [])
+CounterSees plant number t =
+    (c n k : ℕ) (before after : List Statement) (start : Option CounterStart) (rs : List (List Statement))
+    (f g : Facts) (es later : List Event) → through (named plant number t) c n k before f es ≡ Some (g, later)
+    → LeadsAlike (named plant number t) c n (in_rule k (before ++ tree.counter start ∷ after) rs) f es n
+    (in_rule (k + length before + 1) after rs) g
+    (later ++ Counted (place (named plant number t) c n (k + length before)) ∷ [])
 
 -- behind statements through which it doesn't come nothing is seen of it
 abbrev pub NothingBehind : PlantTree → ℕ → TableTree → Type 0
-NothingBehind plant number t = (c n k : ℕ) (before after : List Statement) (rs : List (List Statement)) (f : Facts) (es : List Event) → through (named plant number t) c n k before f es ≡ None
+NothingBehind plant number t =
+    (c n k : ℕ) (before after : List Statement) (rs : List (List Statement)) (f : Facts) (es : List Event)
+    → through (named plant number t) c n k before f es ≡ None
     → LeadsAlike (named plant number t) c n (in_rule k (before ++ after) rs) f es n (in_rule k before rs) f es

@@ -1,5 +1,7 @@
--- When a match holds of a packet, operator by operator (nft(8), "Expressions", "TCP header expression", "Conntrack expressions"). One whose selector reads nothing never holds.
-use Rattle.std.specs.Prelude.{ℕ, ◌==◌, nat_lt, nat_le, bit_and, bit_or, not, Bool, false, List, fold, map, Option, Some, None, unwrap_or}
+-- When a match holds of a packet, operator by operator (nft(8), "Expressions", "TCP header expression", "Conntrack
+-- expressions"). One whose selector reads nothing never holds.
+use Rattle.std.specs.Prelude.{ℕ, ◌==◌, nat_lt, nat_le, bit_and, bit_or, not, Bool, false, List, fold, map, Option}
+use Rattle.std.specs.Prelude.{Some, None, unwrap_or}
 use Rattle.nft_tree.specs.declared.selector.Selector.{Selector}
 use Rattle.nft_tree.specs.declared.selector.Selector.TheVariants as selectors
 use Rattle.nft_tree.specs.declared.selector.ValueType.{ValueType}
@@ -80,9 +82,12 @@ abbrev pub holds : Scope → MatchTree → Facts → Bool
 holds scope (tree.compare s o r) f = tests (value s f) (compares_with o (numbers_of scope.plant (selector_kind s) r))
 holds scope (tree.is_in ss set) f = tests (joined_value ss f) (set_has scope ss set)
 holds scope (tree.not_in ss set) f = tests (joined_value ss f) (λ n. not (set_has scope ss set n))
-holds scope (tree.bits field test words) f = tests (value (bit_selector field) f) (bits_pass test (bits_of field words))
+holds scope (tree.bits field test words) f =
+    tests (value (bit_selector field) f) (bits_pass test (bits_of field words))
 holds scope (tree.any_flag fs) f = tests (value selectors.TcpFlags f) (λ n. not (bit_and n (flags_of fs) == 0))
 holds scope (tree.exact_flags fs) f = tests (value selectors.TcpFlags f) (λ n. n == flags_of fs)
 -- of the mask's flags those wanted are set, and no other
-holds scope (tree.masked_flags wanted mask) f = tests (value selectors.TcpFlags f) (λ n. bit_and n (flags_of mask) == flags_of wanted)
-holds scope (tree.masked_flags_unequal wanted mask) f = tests (value selectors.TcpFlags f) (λ n. not (bit_and n (flags_of mask) == flags_of wanted))
+holds scope (tree.masked_flags wanted mask) f =
+    tests (value selectors.TcpFlags f) (λ n. bit_and n (flags_of mask) == flags_of wanted)
+holds scope (tree.masked_flags_unequal wanted mask) f =
+    tests (value selectors.TcpFlags f) (λ n. not (bit_and n (flags_of mask) == flags_of wanted))

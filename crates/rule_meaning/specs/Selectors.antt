@@ -92,7 +92,8 @@ value selectors.CtStatus f = of_connection status_bits f.tracking
 
 -- ---- joined selectors
 
--- numbers side by side behind a first one, each of so many bits, the first one highest; nothing where one of them is nothing
+-- numbers side by side behind a first one, each of so many bits, the first one highest; nothing where one of them is
+-- nothing
 abbrev pub join : ℕ → List (ℕ × Option ℕ) → Option ℕ
 join high [] = Some high
 join high (part ∷ parts) = option_and_then (λ n. join (high * 2 ^ part.0 + n) parts) part.1

@@ -5,7 +5,8 @@ use Rattle.std.specs.Option.{option_map, option_and_then, option_or}
 use Rattle.nft_tree.specs.declared.selector.Selector.{Selector}
 use Rattle.nft_tree.specs.declared.kind.Kind.{Kind}
 use Rattle.nft_tree.specs.Tree as tree
-use Rattle.nft_tree.specs.Tree.{VerdictTree, ValueTree, RangeTree, KeyTree, ElementTree, DataTree, PairTree, SetRefTree, MapRefTree, SetTree, MapTree, TableTree}
+use Rattle.nft_tree.specs.Tree.{VerdictTree, ValueTree, RangeTree, KeyTree, ElementTree, DataTree, PairTree}
+use Rattle.nft_tree.specs.Tree.{SetRefTree, MapRefTree, SetTree, MapTree, TableTree}
 use Rattle.nft_tree.specs.Kinds.{selector_kind, key_kinds, map_key_kind}
 use Rattle.box_file.specs.Box.{PlantTree}
 use Rattle.nft_values.specs.Values.{Span, one_number, kind_width, numbers_of}

@@ -11,7 +11,8 @@ use Rattle.nft_tree.specs.declared.statement.MarkField.TheVariants as marks
 use Rattle.nft_tree.specs.declared.nat.PortRange.{PortRange}
 use Rattle.nft_tree.specs.declared.nat.PortRange.TheVariants as port_ranges
 use Rattle.nft_tree.specs.Tree as tree
-use Rattle.nft_tree.specs.Tree.{Text, VerdictTree, LookTree, OperandTree, SourceTree, DestinationTree, NatTree, MatchTree, Statement, TableTree}
+use Rattle.nft_tree.specs.Tree.{Text, VerdictTree, LookTree, OperandTree, SourceTree, DestinationTree, NatTree}
+use Rattle.nft_tree.specs.Tree.{MatchTree, Statement, TableTree}
 use Rattle.nft_tree.specs.Parts.{chains_of}
 use Rattle.rule_names.specs.Names.{place_in, chain_names}
 use Rattle.rule_meaning.specs.declared.facts.Facts.{Facts}
@@ -80,7 +81,8 @@ operand_number scope (tree.looked_up l) f = look_number scope types.Mark l f
 
 -- the connection's mark is written where there is a connection; where there is none nothing is done
 abbrev pub writes_connection : Facts → Tracking → ℕ → Saying
-writes_connection f (tracking.Known c) n = note (events.Marked marks.Ct n) (record f { tracking = tracking.Known (record c { mark = n }) })
+writes_connection f (tracking.Known c) n =
+    note (events.Marked marks.Ct n) (record f { tracking = tracking.Known (record c { mark = n }) })
 writes_connection f _ n = pass
 
 abbrev pub writes : MarkField → Facts → ℕ → Saying
@@ -95,11 +97,13 @@ ports_of (port_ranges.Between low high) = record { low = low; high = high }
 
 abbrev pub source_of : Scope → SourceTree → Facts → Option Translation
 source_of scope (tree.source_address a ports) f = Some (translations.Source a (option_map ports_of ports))
-source_of scope (tree.source_look l) f = option_map (λ a. translations.Source a None) (look_number scope types.Address l f)
+source_of scope (tree.source_look l) f =
+    option_map (λ a. translations.Source a None) (look_number scope types.Address l f)
 
 abbrev pub destination_of : Scope → DestinationTree → Facts → Option Translation
 destination_of scope (tree.destination_address a port) f = Some (translations.Destination a port)
-destination_of scope (tree.destination_look l) f = option_map (λ a. translations.Destination a None) (look_number scope types.Address l f)
+destination_of scope (tree.destination_look l) f =
+    option_map (λ a. translations.Destination a None) (look_number scope types.Address l f)
 
 abbrev pub translation_of : Scope → NatTree → Facts → Option Translation
 translation_of scope (tree.source s) f = source_of scope s f
@@ -114,6 +118,7 @@ says scope place (tree.matching m) f = passes_if (holds scope m f)
 says scope place (tree.counter start) f = note (events.Counted place) f
 says scope place (tree.log text) f = note (events.Logged place) f
 says scope place (tree.set_mark field operand) f = with_value (writes field f) (operand_number scope operand f)
-says scope place (tree.verdict_map s m) f = with_value (λ v. give (decision_of scope.table v)) (looked_up data_verdict scope s m f)
+says scope place (tree.verdict_map s m) f =
+    with_value (λ v. give (decision_of scope.table v)) (looked_up data_verdict scope s m f)
 says scope place (tree.verdict v) f = give (decision_of scope.table v)
 says scope place (tree.nat n) f = with_value (λ t. give (decisions.Translate t)) (translation_of scope n f)

@@ -1,12 +1,14 @@
 -- Names of tables, chains, sets and maps, and where a ruleset uses them (nft(8), "Tables", "Chains", "Sets", "Maps").
-use Rattle.std.specs.Prelude.{◌≡◌, ℕ, suc, ◌<◌, ◌&&◌, cond, Bool, true, false, not, List, [], ◌∷◌, length, get_or, map, filter, find, flat_map, Contains, Option, Some, None, is_some}
+use Rattle.std.specs.Prelude.{◌≡◌, ℕ, suc, ◌<◌, ◌&&◌, cond, Bool, true, false, not, List, [], ◌∷◌, length, get_or, map}
+use Rattle.std.specs.Prelude.{filter, find, flat_map, Contains, Option, Some, None, is_some}
 use Rattle.std.specs.List.{filter_map, list_any}
 use Rattle.std.specs.Option.{option_map}
 use Rattle.std.specs.Str.{bytes_eq}
 use Rattle.nft_tree.specs.declared.ruleset.Family.{Family}
 use Rattle.nft_tree.specs.declared.ruleset.Family.TheVariants as families
 use Rattle.nft_tree.specs.Tree as tree
-use Rattle.nft_tree.specs.Tree.{Text, VerdictTree, DataTree, PairTree, MapRefTree, SetRefTree, MatchTree, OperandTree, NatTree, Statement, RuleTree, ChainTree, SetTree, MapTree, ItemTree, TableTree}
+use Rattle.nft_tree.specs.Tree.{Text, VerdictTree, DataTree, PairTree, MapRefTree, SetRefTree, MatchTree, OperandTree}
+use Rattle.nft_tree.specs.Tree.{NatTree, Statement, RuleTree, ChainTree, SetTree, MapTree, ItemTree, TableTree}
 use Rattle.nft_tree.specs.Parts.{chains_of, sets_of, maps_of}
 
 -- ---- N01: names that stand twice

@@ -6,7 +6,8 @@ use Rattle.nft_tree.specs.Parts.{chains_of}
 use Rattle.rule_names.specs.Names.{chain_names}
 use Rattle.chain_graph.specs.Graph.{Call, IsPath, jumps}
 use Rattle.chain_graph.specs.Known.{stopped}
-use Rattle.rule_paths.specs.Paths.{Caller, a_chain, CallsOf, AreCosts, AreAllCosts, Cycles, TooDeep, TooCostly, MisplacedNat}
+use Rattle.rule_paths.specs.Paths.{Caller, a_chain, CallsOf, AreCosts, AreAllCosts, Cycles, TooDeep, TooCostly}
+use Rattle.rule_paths.specs.Paths.{MisplacedNat}
 use Rattle.rule_paths.specs.declared.judging.Findings.{Findings}
 
 -- no path from the caller has more jumps, as far as 64-bit numbers go, and one has as many
@@ -39,6 +40,8 @@ pub record AreFindings (tables : List TableTree) (found : Findings) : Type 0 whe
   pub nat : IsTrue found.misplaces_nat ↔ MisplacedNat tables
   pub has_costs : (cost : TableTree → Caller → ℕ) × AreAllCosts tables cost
   pub costs_long : length found.costs.items ≡ length tables
-  pub costs : (i : ℕ) (t : TableTree) → i < length tables → t ≡ get_or tables i t → AreChainCosts t (numbers_at found.costs.items i)
+  pub costs : (i : ℕ) (t : TableTree) → i < length tables → t ≡ get_or tables i t
+      → AreChainCosts t (numbers_at found.costs.items i)
   pub depths_long : length found.depths.items ≡ length tables
-  pub depths : (i : ℕ) (t : TableTree) → i < length tables → t ≡ get_or tables i t → AreChainDepths t (numbers_at found.depths.items i)
+  pub depths : (i : ℕ) (t : TableTree) → i < length tables → t ≡ get_or tables i t
+      → AreChainDepths t (numbers_at found.depths.items i)

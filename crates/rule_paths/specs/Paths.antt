@@ -1,12 +1,15 @@
--- Where jumps and gotos lead: cycles, depth, cost, and the chains that NAT statements may stand in (nft(8), "Verdict statement", "NAT statements").
-use Rattle.std.specs.Prelude.{◌≡◌, ℕ, ◌+◌, ◌<◌, Bool, true, false, List, [], ◌∷◌, map, sum_by, flat_map, Contains, Option, Some, None}
+-- Where jumps and gotos lead: cycles, depth, cost, and the chains that NAT statements may stand in (nft(8), "Verdict
+-- statement", "NAT statements").
+use Rattle.std.specs.Prelude.{◌≡◌, ℕ, ◌+◌, ◌<◌, Bool, true, false, List, [], ◌∷◌, map, sum_by, flat_map, Contains}
+use Rattle.std.specs.Prelude.{Option, Some, None}
 use Rattle.std.specs.List.{list_any}
 use Rattle.nft_tree.specs.declared.chain.ChainKind.{ChainKind}
 use Rattle.nft_tree.specs.declared.chain.ChainKind.TheVariants as kinds
 use Rattle.nft_tree.specs.declared.chain.Hook.{Hook}
 use Rattle.nft_tree.specs.declared.chain.Hook.TheVariants as hooks
 use Rattle.nft_tree.specs.Tree as tree
-use Rattle.nft_tree.specs.Tree.{Text, VerdictTree, DataTree, PairTree, Statement, RuleTree, HeadTree, ChainTree, MapTree, TableTree}
+use Rattle.nft_tree.specs.Tree.{Text, VerdictTree, DataTree, PairTree, Statement, RuleTree, HeadTree, ChainTree}
+use Rattle.nft_tree.specs.Tree.{MapTree, TableTree}
 use Rattle.nft_tree.specs.Parts.{chains_of}
 use Rattle.rule_names.specs.Names.{chain_named, chain_names, map_named, some_of}
 use Rattle.chain_graph.specs.Graph as graph
@@ -84,7 +87,8 @@ pub record TooDeep (tables : List TableTree) : Type 0 where
 
 -- ---- N06
 
--- the costs of the chains and maps of a table: a chain costs, for each statement, 1 and what it leads to, a map the greatest of its targets
+-- the costs of the chains and maps of a table: a chain costs, for each statement, 1 and what it leads to, a map the
+-- greatest of its targets
 abbrev pub AreCosts : TableTree → (Caller → ℕ) → Type 0
 AreCosts t cost = (caller : Caller) → cost caller ≡ node_cost cost (node_of t caller)
 
@@ -156,5 +160,7 @@ pub record Misplaces (test : Statement → Bool) (may : ChainKind → Hook → B
 
 -- snat or masquerade, dnat or redirect in a chain that is, or is reached from, a base chain where it has no place
 pub data MisplacedNat (tables : List TableTree) : Type 0 where
-  misplaced_source : (t : TableTree) → Contains tables t → Misplaces translates_source may_translate_source t → MisplacedNat tables
-  misplaced_destination : (t : TableTree) → Contains tables t → Misplaces translates_destination may_translate_destination t → MisplacedNat tables
+  misplaced_source : (t : TableTree) → Contains tables t → Misplaces translates_source may_translate_source t
+      → MisplacedNat tables
+  misplaced_destination : (t : TableTree) → Contains tables t
+      → Misplaces translates_destination may_translate_destination t → MisplacedNat tables

@@ -45,10 +45,14 @@ translated t f es = record { ending = endings.Translated t; facts = f; events = 
 
 -- `MATCH drop`, beside items: the packet is dropped; it isn't
 abbrev pub DropsBeside : List ItemTree → MatchTree → Facts → Type 0
-DropsBeside items m f = Forward box (one_table (forwards policies.Accept ((tree.matching m ∷ drop ∷ []) ∷ []) ∷ items)) f [] (dropped f (took 0 1 decisions.Drop ∷ []))
+DropsBeside items m f =
+    Forward box (one_table (forwards policies.Accept ((tree.matching m ∷ drop ∷ []) ∷ []) ∷ items)) f []
+    (dropped f (took 0 1 decisions.Drop ∷ []))
 
 abbrev pub SparesBeside : List ItemTree → MatchTree → Facts → Type 0
-SparesBeside items m f = Forward box (one_table (forwards policies.Accept ((tree.matching m ∷ drop ∷ []) ∷ []) ∷ items)) f [] (accepted f (closed 0 policies.Accept ∷ []))
+SparesBeside items m f =
+    Forward box (one_table (forwards policies.Accept ((tree.matching m ∷ drop ∷ []) ∷ []) ∷ items)) f []
+    (accepted f (closed 0 policies.Accept ∷ []))
 
 abbrev pub Drops : MatchTree → Facts → Type 0
 Drops = DropsBeside []

@@ -13,7 +13,8 @@ use Rattle.nft_tree.specs.declared.set.MapType.TheVariants as map_types
 use Rattle.nft_tree.specs.declared.set.TypeOrVerdict.TheVariants as verdicts
 use Rattle.nft_tree.specs.declared.selector.ValueType.TheVariants as types
 use Rattle.nft_tree.specs.Tree as tree
-use Rattle.nft_tree.specs.Tree.{Text, RangeTree, ElementTree, DataTree, PairTree, MatchTree, Statement, RuleTree, ItemTree, TableTree}
+use Rattle.nft_tree.specs.Tree.{Text, RangeTree, ElementTree, DataTree, PairTree, MatchTree, Statement, RuleTree}
+use Rattle.nft_tree.specs.Tree.{ItemTree, TableTree}
 use Rattle.box_file.specs.Box.{PlantTree}
 use Rattle.ip_headers.specs.declared.transport.Transport.{Transport}
 use Rattle.ip_headers.specs.declared.transport.Transport.TheVariants as transports
@@ -33,7 +34,9 @@ ip a b c d = ((a * 256 + b) * 256 + c) * 256 + d
 -- interface 2 lan 192.168.1.1/24, interface 3 wan 203.0.113.1/24, route 0.0.0.0/0 wan, default lan
 abbrev pub box : PlantTree
 box = record {
-  interfaces = record { index = 2; name = codes "lan"; address = ip 192 168 1 1; prefix = 24 } ∷ record { index = 3; name = codes "wan"; address = ip 203 0 113 1; prefix = 24 } ∷ [];
+  interfaces =
+      record { index = 2; name = codes "lan"; address = ip 192 168 1 1; prefix = 24 } ∷
+      record { index = 3; name = codes "wan"; address = ip 203 0 113 1; prefix = 24 } ∷ [];
   routes = record { address = 0; prefix = 0; interface = 3 } ∷ [];
   entering = 2;
 }
@@ -48,12 +51,27 @@ abbrev pub wan : Interface
 wan = record { index = 3; name = 7823726 * 2 ^ 104 }
 
 abbrev pub begun : Connection
-begun = record { state = states.New; direction = directions.Original; mark = 0; seen_reply = false; source_translated = false; destination_translated = false }
+begun = record {
+  state = states.New;
+  direction = directions.Original;
+  mark = 0;
+  seen_reply = false;
+  source_translated = false;
+  destination_translated = false;
+}
 
 -- UDP from 192.168.1.10, port 5000, on lan, to 198.51.100.7, port 53, on wan, of 28 bytes, without data
 abbrev pub plain : Facts
 plain = record {
-  packet = record { source = ip 192 168 1 10; destination = ip 198 51 100 7; protocol = 17; ttl = 63; length = 28; transport = transports.Udp 5000 53 };
+  packet =
+      record {
+        source = ip 192 168 1 10;
+        destination = ip 198 51 100 7;
+        protocol = 17;
+        ttl = 63;
+        length = 28;
+        transport = transports.Udp 5000 53;
+      };
   input = lan;
   output = Some wan;
   mark = 0;
@@ -62,7 +80,8 @@ plain = record {
 
 -- the same with another load
 abbrev pub carrying : ℕ → Transport → Facts
-carrying protocol transport = record plain { packet = record plain.packet { protocol = protocol; transport = transport } }
+carrying protocol transport =
+    record plain { packet = record plain.packet { protocol = protocol; transport = transport } }
 
 abbrev pub tcp : ℕ → ℕ → Facts
 tcp port flags = carrying 6 (transports.Tcp 40000 port flags)
@@ -130,7 +149,14 @@ abbrev pub chain : Text → List (List Statement) → ItemTree
 chain name rules = tree.chain (record { name = name; notes = []; head = None; rules = rules_of rules })
 
 abbrev pub base : Text → ChainKind → Hook → Priority → Option Policy → List (List Statement) → ItemTree
-base name kind hook priority policy rules = tree.chain (record { name = name; notes = []; head = Some (record { kind = kind; hook = hook; priority = priority; policy = policy; notes = [] }); rules = rules_of rules })
+base name kind hook priority policy rules =
+    tree.chain (record {
+      name = name;
+      notes = [];
+      head = Some (record { kind = kind; hook = hook; priority = priority; policy = policy; notes = [] });
+      rules =
+          rules_of rules;
+    })
 
 abbrev pub at : ℕ → Priority
 at n = priorities.Number signs.Plus n
@@ -147,11 +173,29 @@ abbrev pub translates : Text → Hook → ℕ → List (List Statement) → Item
 translates name hook n = base name kinds.Nat hook (at n) None
 
 abbrev pub addresses_set : Text → List RangeTree → ItemTree
-addresses_set name ranges = tree.set (record { name = name; key = tree.types (types.Address ∷ []); flags = None; size = None; auto_merge = false; comment = None; elements = Some (map element ranges) })
+addresses_set name ranges =
+    tree.set (record {
+      name = name;
+      key = tree.types (types.Address ∷ []);
+      flags = None;
+      size = None;
+      auto_merge = false;
+      comment = None;
+      elements = Some (map element ranges);
+    })
 
 -- type inet_service : verdict
 abbrev pub port_map : Text → List PairTree → ItemTree
-port_map name pairs = tree.map_item (record { name = name; types = map_types.Types types.Service verdicts.Verdict; flags = None; size = None; auto_merge = false; comment = None; elements = Some pairs })
+port_map name pairs =
+    tree.map_item (record {
+      name = name;
+      types = map_types.Types types.Service verdicts.Verdict;
+      flags = None;
+      size = None;
+      auto_merge = false;
+      comment = None;
+      elements = Some pairs;
+    })
 
 abbrev pub table : Text → List ItemTree → TableTree
 table name items = record { family = Ip; name = name; items = items }

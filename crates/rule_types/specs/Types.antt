@@ -1,5 +1,7 @@
--- Which types fit where: keys to selectors, data to statements, orders and ranges to types (nft(8), "Sets", "Maps", "Expressions").
-use Rattle.std.specs.Prelude.{ℕ, ◌==◌, ◌&&◌, ◌||◌, not, nat_lt, Bool, true, false, List, [], ◌∷◌, length, map, sum_by, Option, Some, None, is_some}
+-- Which types fit where: keys to selectors, data to statements, orders and ranges to types (nft(8), "Sets", "Maps",
+-- "Expressions").
+use Rattle.std.specs.Prelude.{ℕ, ◌==◌, ◌&&◌, ◌||◌, not, nat_lt, Bool, true, false, List, [], ◌∷◌, length, map, sum_by}
+use Rattle.std.specs.Prelude.{Option, Some, None, is_some}
 use Rattle.std.specs.List.{list_any}
 use Rattle.nft_tree.specs.declared.selector.Selector.{Selector}
 use Rattle.nft_tree.specs.declared.selector.ValueType.{ValueType}
@@ -9,7 +11,8 @@ use Rattle.nft_tree.specs.declared.kind.Kind.TheVariants.{Named, Unnamed}
 use Rattle.nft_tree.specs.declared.statement.Operator.{Operator}
 use Rattle.nft_tree.specs.declared.statement.Operator.TheVariants as operators
 use Rattle.nft_tree.specs.Tree as tree
-use Rattle.nft_tree.specs.Tree.{RangeTree, KeyTree, DataTree, PairTree, SetRefTree, MapRefTree, MatchTree, Statement, RuleTree, SetTree, MapTree, ItemTree, TableTree}
+use Rattle.nft_tree.specs.Tree.{RangeTree, KeyTree, DataTree, PairTree, SetRefTree, MapRefTree, MatchTree, Statement}
+use Rattle.nft_tree.specs.Tree.{RuleTree, SetTree, MapTree, ItemTree, TableTree}
 use Rattle.nft_tree.specs.Words.{type_width}
 use Rattle.nft_tree.specs.Kinds.{selector_kind, key_kinds, map_key_kind, map_data_kind}
 use Rattle.rule_names.specs.Names.{set_named, map_named, some_of}
@@ -92,7 +95,8 @@ is_single (tree.prefix a n) = false
 
 -- an order against a range or a prefix, or of a type without order; a range of a type that has none
 abbrev pub compare_misfits : Selector → Operator → RangeTree → Bool
-compare_misfits s o r = (is_order o && not (is_single r && is_ordered (selector_kind s))) || range_misfits (selector_kind s) r
+compare_misfits s o r =
+    (is_order o && not (is_single r && is_ordered (selector_kind s))) || range_misfits (selector_kind s) r
 
 -- ---- elements of sets
 
@@ -103,7 +107,8 @@ key_misfits kinds (tree.single r) = true
 key_misfits kinds (tree.joined vs) = not (length vs == length kinds)
 
 abbrev pub set_misfits : SetTree → Bool
-set_misfits s = is_too_wide (key_kinds s.key) || list_any (λ e. key_misfits (key_kinds s.key) e.key) (some_of s.elements)
+set_misfits s =
+    is_too_wide (key_kinds s.key) || list_any (λ e. key_misfits (key_kinds s.key) e.key) (some_of s.elements)
 
 -- a set of other types than the selectors
 abbrev pub named_set_misfits : List Kind → Option SetTree → Option MapTree → Bool
@@ -148,12 +153,14 @@ same_data (Some a) None = false
 
 -- a map of another key type than the selector's, or of other data than is wanted
 abbrev pub named_map_misfits : Kind → Option Kind → Option SetTree → Option MapTree → Bool
-named_map_misfits key wanted s (Some m) = not (same_kind key (map_key_kind m.types) && same_data wanted (map_data_kind m.types))
+named_map_misfits key wanted s (Some m) =
+    not (same_kind key (map_key_kind m.types) && same_data wanted (map_data_kind m.types))
 -- a set where a map is wanted
 named_map_misfits key wanted s None = is_some s
 
 abbrev pub map_ref_misfits : TableTree → Selector → Option Kind → MapRefTree → Bool
-map_ref_misfits t s wanted (tree.named_map name) = named_map_misfits (selector_kind s) wanted (set_named t name) (map_named t name)
+map_ref_misfits t s wanted (tree.named_map name) =
+    named_map_misfits (selector_kind s) wanted (set_named t name) (map_named t name)
 map_ref_misfits t s wanted (tree.pairs ps) = list_any (pair_misfits (selector_kind s) wanted) ps
 
 -- ---- statements
@@ -163,8 +170,10 @@ abbrev pub statement_misfits : TableTree → Statement → Bool
 statement_misfits t (tree.matching m) = match_misfits t m
 statement_misfits t (tree.verdict_map s m) = map_ref_misfits t s None m
 statement_misfits t (tree.set_mark f (tree.looked_up l)) = map_ref_misfits t l.selector (Some (Named types.Mark)) l.map
-statement_misfits t (tree.nat (tree.source (tree.source_look l))) = map_ref_misfits t l.selector (Some (Named types.Address)) l.map
-statement_misfits t (tree.nat (tree.destination (tree.destination_look l))) = map_ref_misfits t l.selector (Some (Named types.Address)) l.map
+statement_misfits t (tree.nat (tree.source (tree.source_look l))) =
+    map_ref_misfits t l.selector (Some (Named types.Address)) l.map
+statement_misfits t (tree.nat (tree.destination (tree.destination_look l))) =
+    map_ref_misfits t l.selector (Some (Named types.Address)) l.map
 statement_misfits t _ = false
 
 abbrev pub rule_misfits : TableTree → RuleTree → Bool

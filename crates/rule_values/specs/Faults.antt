@@ -1,5 +1,7 @@
--- Values that aren't of their types, that aren't on the box, and elements of a map that contradict each other (nft(8), "Data types", "Maps").
-use Rattle.std.specs.Prelude.{ℕ, pos, negsuc, ◌^◌, ◌==◌, ◌&&◌, ◌||◌, not, nat_lt, nat_le, int_lt, Bool, true, false, length, Option, Some, None}
+-- Values that aren't of their types, that aren't on the box, and elements of a map that contradict each other (nft(8),
+-- "Data types", "Maps").
+use Rattle.std.specs.Prelude.{ℕ, pos, negsuc, ◌^◌, ◌==◌, ◌&&◌, ◌||◌, not, nat_lt, nat_le, int_lt, Bool, true, false}
+use Rattle.std.specs.Prelude.{length, Option, Some, None}
 use Rattle.std.specs.List.{list_any, filter_map}
 use Rattle.std.specs.Option.{option_map}
 use Rattle.std.specs.Str.{bytes_eq}
@@ -8,7 +10,9 @@ use Rattle.nft_tree.specs.declared.nat.PortRange.{PortRange}
 use Rattle.nft_tree.specs.declared.nat.PortRange.TheVariants as ports
 use Rattle.nft_tree.specs.declared.chain.Priority.{Priority}
 use Rattle.nft_tree.specs.Tree as tree
-use Rattle.nft_tree.specs.Tree.{Text, ValueTree, VerdictTree, DataTree, PairTree, FlagTree, MatchTree, SourceTree, DestinationTree, NatTree, Statement, RuleTree, HeadTree, ChainTree, ItemTree, TableTree}
+use Rattle.nft_tree.specs.Tree.{Text, ValueTree, VerdictTree, DataTree, PairTree, FlagTree, MatchTree, SourceTree}
+use Rattle.nft_tree.specs.Tree.{DestinationTree, NatTree, Statement, RuleTree, HeadTree, ChainTree, ItemTree}
+use Rattle.nft_tree.specs.Tree.{TableTree}
 use Rattle.nft_tree.specs.Priorities.{priority_number}
 use Rattle.box_file.specs.Box.{PlantTree, some_two}
 use Rattle.nft_values.specs.Values.{Span, is_range, is_range_on_box, numbers_of}
@@ -74,7 +78,9 @@ abbrev pub priority_is_wrong : Priority → Bool
 priority_is_wrong p = int_lt (priority_number p) (negsuc 2147483647) || int_lt (pos 2147483647) (priority_number p)
 
 abbrev pub chain_is_wrong : ChainTree → Bool
-chain_is_wrong c = if_some (λ h. priority_is_wrong h.priority) c.head || list_any (λ r. list_any statement_is_wrong r.statements) c.rules
+chain_is_wrong c =
+    if_some (λ h. priority_is_wrong h.priority) c.head
+    || list_any (λ r. list_any statement_is_wrong r.statements) c.rules
 
 abbrev pub item_is_wrong : ItemTree → Bool
 item_is_wrong (tree.chain c) = chain_is_wrong c

@@ -5,7 +5,8 @@ use Rattle.nft_tree.specs.declared.selector.ValueType.TheVariants as types
 use Rattle.nft_tree.specs.declared.kind.Kind.{Kind}
 use Rattle.nft_tree.specs.declared.kind.Kind.TheVariants.{Named}
 use Rattle.nft_tree.specs.Tree as tree
-use Rattle.nft_tree.specs.Tree.{ValueTree, RangeTree, KeyTree, ElementTree, DataTree, PairTree, SetRefTree, MapRefTree, MatchTree, Statement, RuleTree, SetTree, MapTree, ItemTree, TableTree}
+use Rattle.nft_tree.specs.Tree.{ValueTree, RangeTree, KeyTree, ElementTree, DataTree, PairTree, SetRefTree, MapRefTree}
+use Rattle.nft_tree.specs.Tree.{MatchTree, Statement, RuleTree, SetTree, MapTree, ItemTree, TableTree}
 use Rattle.nft_tree.specs.Kinds.{selector_kind, key_kinds, map_key_kind, map_data_kind}
 
 abbrev pub some_of : {A : Type 0} → Option (List A) → List A
@@ -32,8 +33,10 @@ anonymous_map s wanted (tree.pairs ps) = record { key = selector_kind s; value =
 abbrev pub statement_maps : Statement → List TypedMap
 statement_maps (tree.verdict_map s m) = anonymous_map s None m
 statement_maps (tree.set_mark f (tree.looked_up l)) = anonymous_map l.selector (Some (Named types.Mark)) l.map
-statement_maps (tree.nat (tree.source (tree.source_look l))) = anonymous_map l.selector (Some (Named types.Address)) l.map
-statement_maps (tree.nat (tree.destination (tree.destination_look l))) = anonymous_map l.selector (Some (Named types.Address)) l.map
+statement_maps (tree.nat (tree.source (tree.source_look l))) =
+    anonymous_map l.selector (Some (Named types.Address)) l.map
+statement_maps (tree.nat (tree.destination (tree.destination_look l))) =
+    anonymous_map l.selector (Some (Named types.Address)) l.map
 statement_maps _ = []
 
 abbrev pub rule_maps : RuleTree → List TypedMap

@@ -1,6 +1,8 @@
 -- Texts by their tokens, and the trees that they mean.
 use Rattle.std.specs.Prelude.{List, [], ◌∷◌, Some, None, codes, true, false}
-use Rattle.nft_lexer.specs.declared.token.Mark.TheVariants.{OpenBrace, CloseBrace, OpenParenthesis, CloseParenthesis, Comma, Semicolon, Colon, Dot, Slash, Minus, Plus, Equals, At, Ampersand, Bar, EqualTo, NotEqualTo, AtLeast}
+use Rattle.nft_lexer.specs.declared.token.Mark.TheVariants.{OpenBrace, CloseBrace, OpenParenthesis, CloseParenthesis}
+use Rattle.nft_lexer.specs.declared.token.Mark.TheVariants.{Comma, Semicolon, Colon, Dot, Slash, Minus, Plus, Equals}
+use Rattle.nft_lexer.specs.declared.token.Mark.TheVariants.{At, Ampersand, Bar, EqualTo, NotEqualTo, AtLeast}
 use Rattle.nft_lexer.specs.Sign.{Sign, newline, mark, word, number, address, string}
 use Rattle.nft_tree.specs.declared.chain.Hook.{Hook}
 use Rattle.nft_tree.specs.declared.chain.Policy.{Policy}
@@ -24,7 +26,8 @@ use Rattle.nft_tree.specs.declared.statement.Operator.TheVariants as operators
 use Rattle.nft_tree.specs.declared.statement.BitField.TheVariants as bit_fields
 use Rattle.nft_tree.specs.declared.statement.BitTest.TheVariants as bit_tests
 use Rattle.nft_tree.specs.Tree as tree
-use Rattle.nft_tree.specs.Tree.{Text, ValueTree, RangeTree, VerdictTree, ElementTree, PairTree, SetRefTree, Statement, RuleTree, SetTree, MapTree, HeadTree, ChainTree, TableTree}
+use Rattle.nft_tree.specs.Tree.{Text, ValueTree, RangeTree, VerdictTree, ElementTree, PairTree, SetRefTree, Statement}
+use Rattle.nft_tree.specs.Tree.{RuleTree, SetTree, MapTree, HeadTree, ChainTree, TableTree}
 
 -- a rule with no comment
 abbrev pub uncommented : List Statement → RuleTree
@@ -188,7 +191,8 @@ to_name_server_tokens rest =
 abbrev pub to_name_server : RuleTree
 to_name_server = uncommented (
     tree.matching (tree.is_in (selectors.IpDestination ∷ selectors.UdpDestination ∷ [])
-    (tree.elements (record { key = tree.joined (tree.address 0xC6336407 ∷ tree.number 53 ∷ []); comment = None } ∷ [])))
+    (tree.elements (record { key = tree.joined (tree.address 0xC6336407 ∷ tree.number 53 ∷ []); comment = None } ∷
+    [])))
     ∷ tree.verdict tree.accept ∷ [])
 
 -- oifname "wan" masquerade
@@ -196,7 +200,8 @@ abbrev pub masqueraded_tokens : List Sign → List Sign
 masqueraded_tokens rest = word (codes "oifname") ∷ string (codes "wan") ∷ word (codes "masquerade") ∷ rest
 
 abbrev pub masqueraded : RuleTree
-masqueraded = uncommented (equals selectors.OutputName (tree.string (codes "wan")) ∷ tree.nat (tree.masquerade None) ∷ [])
+masqueraded =
+    uncommented (equals selectors.OutputName (tree.string (codes "wan")) ∷ tree.nat (tree.masquerade None) ∷ [])
 
 -- snat to 203.0.113.1:1024-1025
 abbrev pub translated_source_tokens : List Sign → List Sign
@@ -205,7 +210,8 @@ translated_source_tokens rest =
     ∷ number 1025 ∷ rest
 
 abbrev pub translated_source : RuleTree
-translated_source = uncommented (tree.nat (tree.source (tree.source_address 0xCB007101 (Some (port_ranges.Between 1024 1025)))) ∷ [])
+translated_source =
+    uncommented (tree.nat (tree.source (tree.source_address 0xCB007101 (Some (port_ranges.Between 1024 1025)))) ∷ [])
 
 -- meta mark set ct mark
 abbrev pub mark_from_connection_tokens : List Sign → List Sign
@@ -328,7 +334,8 @@ abbrev pub guest_elements : List ElementTree
 guest_elements =
     record { key = tree.joined (tree.address 0x0A000001 ∷ tree.number 22 ∷ []); comment = Some (codes "first") } ∷ []
 
--- set guests { typeof ip saddr . tcp dport; flags constant, interval; size 10; comment "by port"; elements = { 10.0.0.1 . 22 comment "first", }; }
+-- set guests { typeof ip saddr . tcp dport; flags constant, interval; size 10; comment "by port"; elements = {
+-- 10.0.0.1 . 22 comment "first", }; }
 abbrev pub guests_tokens : List Sign → List Sign
 guests_tokens rest =
     word (codes "set") ∷ word (codes "guests") ∷ mark OpenBrace ∷ word (codes "typeof") ∷ word (codes "ip")
@@ -353,7 +360,11 @@ guests = record {
 -- "lo" : goto b, eth0 : drop
 abbrev pub interface_pairs : List PairTree
 interface_pairs =
-    record { key = tree.one (tree.string (codes "lo")); comment = None; value = tree.to_verdict (tree.goto (codes "b")) }
+    record {
+      key = tree.one (tree.string (codes "lo"));
+      comment = None;
+      value = tree.to_verdict (tree.goto (codes "b"));
+    }
     ∷ judged (codes "eth0") tree.drop
     ∷ []
 
@@ -399,7 +410,8 @@ watch = record {
   rules =
       uncommented (tree.verdict (tree.jump (codes "b")) ∷ [])
       ∷ uncommented (
-      tree.matching (tree.compare selectors.IpSource operators.Equal (tree.between (tree.address 0x0A000001) (tree.address 0x0A000009)))
+      tree.matching (tree.compare selectors.IpSource operators.Equal
+      (tree.between (tree.address 0x0A000001) (tree.address 0x0A000009)))
       ∷ tree.verdict tree.drop
       ∷ [])
       ∷ [];
@@ -529,7 +541,11 @@ filter_listing =
 -- 80 comment "front" : 10.0.0.1, 443 : 10.0.0.2
 abbrev pub web_servers : List PairTree
 web_servers =
-    record { key = tree.one (tree.number 80); comment = Some (codes "front"); value = tree.to_value (tree.address 0x0A000001) }
+    record {
+      key = tree.one (tree.number 80);
+      comment = Some (codes "front");
+      value = tree.to_value (tree.address 0x0A000001);
+    }
     ∷ record { key = tree.one (tree.number 443); comment = None; value = tree.to_value (tree.address 0x0A000002) }
     ∷ []
 

@@ -5,7 +5,8 @@ use Rattle.rule_meaning.specs.declared.facts.Facts.{Facts}
 use Rattle.rule_meaning.specs.declared.facts.Tracking.{Tracking}
 use Rattle.rule_meaning.specs.declared.facts.Tracking.TheVariants.{Unknown, Invalid, Known}
 use Rattle.rule_meaning.specs.declared.event.Event.{Event}
-use Rattle.rule_meaning.specs.Hooks.{Passage, End, GoesOn, Stops, Then, Nothing, Prerouting, Input, Forward, Postrouting}
+use Rattle.rule_meaning.specs.Hooks.{Passage, End, GoesOn, Stops, Then, Nothing, Prerouting, Input, Forward}
+use Rattle.rule_meaning.specs.Hooks.{Postrouting}
 use Rattle.story.specs.declared.outcome.Cause.{Cause}
 use Rattle.story.specs.declared.outcome.Cause.TheVariants as causes
 use Rattle.story.specs.declared.outcome.Outcome.{Outcome}
@@ -85,7 +86,8 @@ pub data LeadsOn (setup : Setup) (arrival : End) : Course → Type 0 where
 -- what a rule or a policy doesn't let in is dropped; else it is led on
 abbrev pub LeadsBy : Setup → End → Course → Type 0
 LeadsBy setup arrival course =
-    (Stops arrival.ending → course ≡ dropped causes.Rule arrival.events) × (GoesOn arrival.ending → LeadsOn setup arrival course)
+    (Stops arrival.ending → course ≡ dropped causes.Rule arrival.events)
+    × (GoesOn arrival.ending → LeadsOn setup arrival course)
 
 -- a packet of which rules may read this, after these events
 pub record Leads (setup : Setup) (f : Facts) (es : List Event) (course : Course) : Type 0 where

@@ -103,7 +103,8 @@ entry_of now lookup carried fate = record {
   packet = leaving carried fate.outcome;
 }
 
--- this is the entry of the record after those of the story: each answer that it rests on is judged by its own relation,
+-- this is the entry of the record after those of the story: each answer that it rests on is judged by its own
+-- relation,
 -- and what is asked of connections is answered by the list of all entries before
 pub record Next (setup : Setup) (story : List Entry) (r : Recorded) (e : Entry) : Type 0 where
   -- the packet that the record carries, or why it carries none

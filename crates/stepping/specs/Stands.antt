@@ -32,7 +32,8 @@ told e = record {
   begun = does_begin e.tracked.what;
 }
 
--- what an engine shows: what it was set up with, how many records it took, how many statements of rules it started, the
+-- what an engine shows: what it was set up with, how many records it took, how many statements of rules it started,
+-- the
 -- connections that it holds, and what it tells of the last record, if it took one
 pub record Shown : Type 0 where
   pub setup : Setup
@@ -49,7 +50,8 @@ abbrev pub newest_of : List Entry → Option Told
 newest_of [] = None
 newest_of (e ∷ story) = Some (told e)
 
--- its number of records is the story's, it tells of the newest entry, and it holds exactly the connections that are alive
+-- its number of records is the story's, it tells of the newest entry, and it holds exactly the connections that are
+-- alive
 -- at the story's last moment, in the order in which they were begun, whatever it calls them
 pub record Stands (engine : Shown) (story : List Entry) : Type 0 where
   pub records : engine.records ≡ length story

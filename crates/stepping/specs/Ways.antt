@@ -39,7 +39,8 @@ flags_in _ = no_flags
 
 -- what a packet's connection is looked up by, if it has a tuple
 abbrev pub sought_of : List ℕ → Option Sought
-sought_of p = option_map (λ t. let s : Sought = record { tuple = t; flags = flags_in (transport_of p) } in s) (tuple_of p)
+sought_of p =
+    option_map (λ t. let s : Sought = record { tuple = t; flags = flags_in (transport_of p) } in s) (tuple_of p)
 
 -- ---- the look-up, made once
 
@@ -87,7 +88,8 @@ direction_of sides.Reply = directions.Reply
 abbrev pub is_answered : Place → Bool
 is_answered place = is_reply place.direction || place.replied
 
--- of the connection that it belongs to: in direction original its packets leave with the inverse of the reply tuple, so
+-- of the connection that it belongs to: in direction original its packets leave with the inverse of the reply tuple,
+-- so
 -- an end is translated where that differs from the one received
 abbrev pub known_of : ConnectionState → Place → Tracking
 known_of state place = Known (record {

@@ -1,13 +1,17 @@
 -- How records end, in the report's words.
 use Rattle.std.specs.Prelude.{ℕ, ◌==◌, Bool, true, false, List, [], ◌∷◌, codes}
 use Rattle.story.specs.declared.outcome.Cause.{Cause}
-use Rattle.story.specs.declared.outcome.Cause.TheVariants.{Link, Interface, NotIp, Short, Version, HeaderLength, Length, Truncated, Checksum, Fragment, Transport, Rule, Route, Ttl, NoPort, Full, Clash}
+use Rattle.story.specs.declared.outcome.Cause.TheVariants.{Link, Interface, NotIp, Short, Version, HeaderLength}
+use Rattle.story.specs.declared.outcome.Cause.TheVariants.{Length, Truncated, Checksum, Fragment, Transport, Rule}
+use Rattle.story.specs.declared.outcome.Cause.TheVariants.{Route, Ttl, NoPort, Full, Clash}
 use Rattle.story.specs.declared.outcome.Outcome.{Outcome}
 use Rattle.story.specs.declared.outcome.Outcome.TheVariants.{Passed, Local, Dropped}
 
 -- the causes in the order of the report
 abbrev pub causes : List Cause
-causes = Link ∷ Interface ∷ NotIp ∷ Short ∷ Version ∷ HeaderLength ∷ Length ∷ Truncated ∷ Checksum ∷ Fragment ∷ Transport ∷ Rule ∷ Route ∷ Ttl ∷ NoPort ∷ Full ∷ Clash ∷ []
+causes =
+    Link ∷ Interface ∷ NotIp ∷ Short ∷ Version ∷ HeaderLength ∷ Length ∷ Truncated ∷ Checksum ∷ Fragment ∷ Transport ∷
+    Rule ∷ Route ∷ Ttl ∷ NoPort ∷ Full ∷ Clash ∷ []
 
 abbrev pub word : Cause → List ℕ
 word Link = codes "link"

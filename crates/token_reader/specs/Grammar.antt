@@ -1,4 +1,5 @@
--- Grammars on tokens: a production says what spells a part, as its EBNF does. How it is read (`specs/steps/How.antt`) comes with it, and nobody has to believe that.
+-- Grammars on tokens: a production says what spells a part, as its EBNF does. How it is read (`specs/steps/How.antt`)
+-- comes with it, and nobody has to believe that.
 use Rattle.std.specs.Prelude.{◌≡◌, ℕ, List, [], ◌∷◌, Bool, ◌⊎◌, Option, Some, None, IsTrue}
 use Rattle.nft_lexer.specs.declared.token.Mark.{Mark}
 use Rattle.nft_lexer.specs.Sign as signs
@@ -7,7 +8,8 @@ use Rattle.token_reader.specs.Repeats.{Many, Ends, SomeEnds}
 use Rattle.token_reader.specs.steps.Reading.{word_at, number_at, address_at, string_at}
 use Rattle.token_reader.specs.steps.How as how
 use Rattle.token_reader.specs.steps.How.{How}
-pub use Rattle.token_reader.specs.steps.Fronts.{Front, line, this_mark, this_word, any_word, any_number, any_address, any_string, is_front, stands}
+pub use Rattle.token_reader.specs.steps.Fronts.{Front, line, this_mark, this_word, any_word, any_number, any_address}
+pub use Rattle.token_reader.specs.steps.Fronts.{any_string, is_front, stands}
 pub use Rattle.token_reader.specs.steps.How.{ends_front, when}
 
 -- a production for parts of A
@@ -60,14 +62,17 @@ infixr 5 ◌◃◌
 infixr 4 ◌∣◌
 -- one after the other
 abbrev pub ◌⨾◌ : {A B : Type 0} → Grammar A → Grammar B → Grammar (A × B)
-p ⨾ q = spelled (λ x from to. (mid : List Sign) × p.spells x.0 from mid × q.spells x.1 mid to) (how.then_both (way p) (way q))
+p ⨾ q = spelled (λ x from to. (mid : List Sign) × p.spells x.0 from mid × q.spells x.1 mid to)
+    (how.then_both (way p) (way q))
 
 -- the same, where the first part, or the second, says nothing
 abbrev pub ◌▹◌ : {B : Type 0} → Grammar Unit → Grammar B → Grammar B
-p ▹ q = spelled (λ y from to. (mid : List Sign) × p.spells tt from mid × q.spells y mid to) (how.then_second (way p) (way q))
+p ▹ q = spelled (λ y from to. (mid : List Sign) × p.spells tt from mid × q.spells y mid to)
+    (how.then_second (way p) (way q))
 
 abbrev pub ◌◃◌ : {A : Type 0} → Grammar A → Grammar Unit → Grammar A
-p ◃ q = spelled (λ x from to. (mid : List Sign) × p.spells x from mid × q.spells tt mid to) (how.then_first (way p) (way q))
+p ◃ q = spelled (λ x from to. (mid : List Sign) × p.spells x from mid × q.spells tt mid to)
+    (how.then_first (way p) (way q))
 
 -- the one or the other
 abbrev pub ◌∣◌ : {A : Type 0} → Grammar A → Grammar A → Grammar A

@@ -13,16 +13,20 @@ abbrev pub IsAfter : List Token → ℕ → ℕ → Type 0
 IsAfter tokens at end = (at < end) × (end ≤ length tokens)
 
 -- it gives what reading from left to right gives, and the place after it
-abbrev pub IsRead : {X A : Type 0} → (X → A) → (List Sign → Option (A × List Sign)) → List Token → ℕ → Option (X × ℕ) → Type 0
-IsRead view read tokens at o = (option_map (λ x. (view x.0, ahead tokens x.1)) o ≡ read (ahead tokens at)) × IfSome o (λ x. IsAfter tokens at x.1)
+abbrev pub IsRead : {X A : Type 0} → (X → A) → (List Sign → Option (A × List Sign)) → List Token → ℕ → Option (X × ℕ)
+    → Type 0
+IsRead view read tokens at o =
+    (option_map (λ x. (view x.0, ahead tokens x.1)) o ≡ read (ahead tokens at)) × IfSome o (λ x. IsAfter tokens at x.1)
 
 -- whatever stands behind
 abbrev pub Anything : List Sign → Type 0
 Anything ts = Unit
 
 -- it gives the one part that is spelled here where this holds of what stands behind, and none where none is spelled
-pub record Reads {X A : Type 0} (p : Grammar A) (Behind : List Sign → Type 0) (view : X → A) (tokens : List Token) (at : ℕ) (o : Option (X × ℕ)) : Type 0 where
+pub record Reads {X A : Type 0} (p : Grammar A) (Behind : List Sign → Type 0) (view : X → A) (tokens : List Token)
+    (at : ℕ) (o : Option (X × ℕ)) : Type 0 where
   -- what is read is spelled here
   pub found : IfSome o (λ x. p.spells (view x.0) (ahead tokens at) (ahead tokens x.1))
   -- what is spelled here is read
-  pub only : (a : A) (to : List Sign) → p.spells a (ahead tokens at) to → Behind to → IsSomeAnd o (λ x. (view x.0 ≡ a) × (ahead tokens x.1 ≡ to))
+  pub only : (a : A) (to : List Sign) → p.spells a (ahead tokens at) to → Behind to
+      → IsSomeAnd o (λ x. (view x.0 ≡ a) × (ahead tokens x.1 ≡ to))

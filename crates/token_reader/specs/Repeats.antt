@@ -1,4 +1,5 @@
--- Tokens one after the other. `P x from to` says that the tokens `from` begin with a spelling of x, and that `to` follows it.
+-- Tokens one after the other. `P x from to` says that the tokens `from` begin with a spelling of x, and that `to`
+-- follows it.
 use Rattle.std.specs.Prelude.{◌≡◌, ℕ, zero, suc, List, [], ◌∷◌, ◌⊎◌, Bool, true, false}
 use Rattle.nft_lexer.specs.declared.token.Mark.TheVariants.{Semicolon, CloseBrace}
 use Rattle.nft_lexer.specs.Sign.{Sign, newline, mark, word, number, address, string}
