@@ -8,28 +8,33 @@ use engine::{Counts, RulesFault, RunFault};
 use nft_lexer::LexFault;
 use nft_parser::TextFault;
 use pcap_io::CaptureFault;
-use program::{Host, Status, perform};
+use program::{FileIdentity, Host, Status, perform};
 use rule_check::CheckFault;
 use std::alloc::Global;
 use std::io;
 use std::process::Abort;
 use std::test::Fail;
 
-const SAME_FILE: &str = "nftrun: usage: OUT is the same file as RULES, BOX or IN";
+const SAME_FILE: &str = "nftrun: usage: OUT is the same file as RULES, BOX, IN or standard output";
+
+const TOLD_SAME_FILE: &str =
+    "tell nftrun: usage: OUT is the same file as RULES, BOX, IN or standard output\n";
 
 const RUN: &[&str] = &["nftrun", "run", "rules", "box", "in", "out"];
 
 const CHECK: &[&str] = &["nftrun", "check", "rules", "box"];
 
 /// The calls of a run that succeeds.
-const CALLS: [&str; 9] = [
+const CALLS: [&str; 11] = [
     "words\n",
     "read rules\n",
     "read box\n",
     "open in\n",
-    "compare out rules\n",
-    "compare out box\n",
-    "compare out in\n",
+    "identify out\n",
+    "identify rules\n",
+    "identify box\n",
+    "identify in\n",
+    "identify /dev/stdout\n",
     "create out\n",
     "run rules box\n",
 ];
@@ -40,8 +45,10 @@ struct Row {
     words: &'static [&'static str],
     /// Which call fails, counted from 0, and of which kind its error is.
     failing: Option<(usize, io::ErrorKind)>,
-    /// The path that leads to the same file as OUT.
+    /// The path that leads to the same file as OUT,
     same: &'static str,
+    /// and whether that is a regular file.
+    is_regular: bool,
     outcome: Result<bool, RunFault>,
     judged: Result<Counts, RunFault>,
     /// It makes the first so many calls of a run,
@@ -57,13 +64,14 @@ const DONE: Row = Row {
     words: RUN,
     failing: None,
     same: "",
+    is_regular: true,
     outcome: Ok(false),
     judged: Ok(Counts {
         tables: 1,
         chains: 2,
         rules: 3,
     }),
-    count: 9,
+    count: 11,
     last: "",
     code: 0,
 };
@@ -125,9 +133,14 @@ impl Host for Recorder {
         self.note(&[b"open ", path.as_bytes()])
     }
 
-    fn is_same_file(&mut self, path: &str, other: &str) -> io::Result<bool> {
-        self.note(&[b"compare ", path.as_bytes(), b" ", other.as_bytes()])?;
-        Ok(other == self.row.same)
+    fn identify(&mut self, path: &str) -> io::Result<FileIdentity> {
+        self.note(&[b"identify ", path.as_bytes()])?;
+        let is_out = path == "out" || path == self.row.same;
+        Ok(FileIdentity {
+            is_regular: self.row.is_regular,
+            device: 1,
+            inode: if is_out { 2 } else { 3 },
+        })
     }
 
     fn create(&mut self, path: &str) -> io::Result<()> {
@@ -199,13 +212,14 @@ fn ends<R: Abort + AllocGlobal>(rt: &R, row: Row) -> Result<(), Fail> {
 }
 
 /// A run; one that tells each decision; one with a torn end; one that would write over a file that
-/// it reads; a fault of a run; a line that can't be told, which changes nothing; words that are no
+/// it reads, or over the report; one whose files are devices; one whose OUT isn't there, and one whose
+/// standard output isn't; words that can't be read; a fault of a run; a line that can't be told, which changes nothing; words that are no
 /// task, and help. A check; one that refuses; a box that can't be read; a line that can't be printed.
-const ROWS: [Row; 15] = [
+const ROWS: [Row; 20] = [
     DONE,
     Row {
         words: &["nftrun", "run", "--trace", "rules", "box", "in", "out"],
-        count: 8,
+        count: 10,
         last: "run rules box traced\n",
         ..DONE
     },
@@ -236,22 +250,51 @@ const ROWS: [Row; 15] = [
     },
     Row {
         same: "rules",
-        count: 5,
-        last: "tell nftrun: usage: OUT is the same file as RULES, BOX or IN\n",
+        count: 6,
+        last: TOLD_SAME_FILE,
         code: 2,
         ..DONE
     },
     Row {
         same: "box",
-        count: 6,
-        last: "tell nftrun: usage: OUT is the same file as RULES, BOX or IN\n",
+        count: 7,
+        last: TOLD_SAME_FILE,
         code: 2,
         ..DONE
     },
     Row {
         same: "in",
-        count: 7,
-        last: "tell nftrun: usage: OUT is the same file as RULES, BOX or IN\n",
+        count: 8,
+        last: TOLD_SAME_FILE,
+        code: 2,
+        ..DONE
+    },
+    Row {
+        same: "/dev/stdout",
+        count: 9,
+        last: TOLD_SAME_FILE,
+        code: 2,
+        ..DONE
+    },
+    Row {
+        same: "in",
+        is_regular: false,
+        ..DONE
+    },
+    Row {
+        failing: Some((4, io::ErrorKind::NotFound)),
+        count: 5,
+        last: "create out\nrun rules box\n",
+        ..DONE
+    },
+    Row {
+        failing: Some((8, io::ErrorKind::NotFound)),
+        ..DONE
+    },
+    Row {
+        failing: Some((0, io::ErrorKind::InvalidData)),
+        count: 1,
+        last: "tell nftrun: usage: a word isn't UTF-8\n",
         code: 2,
         ..DONE
     },
@@ -262,7 +305,7 @@ const ROWS: [Row; 15] = [
         ..DONE
     },
     Row {
-        failing: Some((9, io::ErrorKind::BrokenPipe)),
+        failing: Some((11, io::ErrorKind::BrokenPipe)),
         outcome: Err(RunFault::Device),
         last: "tell nftrun: device\n",
         code: 5,
@@ -301,7 +344,7 @@ fn the_program_makes_these_calls(rt: HostRuntime) -> Result<(), Fail> {
 
 #[test]
 fn no_call_follows_one_that_failed(rt: HostRuntime) -> Result<(), Fail> {
-    for call in 0..9 {
+    for call in 0..11 {
         for (kind, last, code) in [
             (io::ErrorKind::PermissionDenied, "tell nftrun: device\n", 5),
             (io::ErrorKind::OutOfMemory, "tell nftrun: memory\n", 6),
@@ -402,7 +445,7 @@ fn words_ask_for_a_task_or_are_refused(rt: HostRuntime) -> Result<(), Fail> {
 }
 
 /// Each status, the line that the program can print, and the exit status.
-const STATUSES: [(Status, &str, u8); 24] = [
+const STATUSES: [(Status, &str, u8); 25] = [
     (Status::Success, "nftrun: done", 0),
     (
         Status::Rules(RulesFault::Text(TextFault::Cutting(LexFault::Byte { line: 1 }))),
@@ -445,6 +488,7 @@ const STATUSES: [(Status, &str, u8); 24] = [
         1,
     ),
     (Status::Usage, "nftrun: usage", 2),
+    (Status::NotText, "nftrun: usage: a word isn't UTF-8", 2),
     (Status::SameFile, SAME_FILE, 2),
     (Status::Box(BoxFault::Form), "nftrun: box B1", 3),
     (Status::Box(BoxFault::Repeated), "nftrun: box B2", 3),
