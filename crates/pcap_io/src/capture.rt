@@ -135,8 +135,8 @@ impl Capture {
         ensures memory { IsErrOf result CaptureError.Memory → reader.new ≡ reader.old }
         ensures room { IfOk result (λ c. length c.held ≤ READ_AHEAD) }
         ensures drained { IfOk result (λ c. c.ended ≡ true → IsAtEnd (R.remaining reader.new.inner)) }
-        // Whatever the error, no more was read than the buffer holds.
-        ensures read { OnErr result ((part : List ℕ) × Consumes (R.remaining reader.old.inner) (R.remaining reader.new.inner) part × (length part ≤ READ_AHEAD)) }
+        // Whatever the answer, no more was read than the buffer holds.
+        ensures read { (part : List ℕ) × Consumes (R.remaining reader.old.inner) (R.remaining reader.new.inner) part × (length part ≤ READ_AHEAD) }
         ensures calm { result ≢ Err CaptureError.Device → reader.new.failures ≡ reader.old.failures }
         ensures device { IsErrOf result CaptureError.Device → reader.new.failures ≡ one_more reader.old.failures }
     {
@@ -203,6 +203,8 @@ impl Capture {
         // After the end nothing is read again, and the answer is the same.
         ensures finished { result ≡ Ok false → IsDone self.new }
         ensures done { IsDone self.old → (result ≡ Ok false) × (self.new ≡ record self.old { last = None }) × (reader.new ≡ reader.old) }
+        ensures torn { IsErrOf result (CaptureError.Refused CaptureFault.TornEnd) → IsNone self.old.fault → self.new.ended ≡ true }
+        ensures read { (part : List ℕ) × Consumes (R.remaining reader.old.inner) (R.remaining reader.new.inner) part }
         ensures room { length self.new.held ≤ READ_AHEAD }
         ensures drained { (self.old.ended ≡ true → IsAtEnd (R.remaining reader.old.inner)) → self.new.ended ≡ true → IsAtEnd (R.remaining reader.new.inner) }
         ensures calm { IsNone self.old.fault → result ≢ Err CaptureError.Device → reader.new.failures ≡ reader.old.failures }
@@ -238,6 +240,7 @@ impl Capture {
         ensures counted { result ≡ Ok true → (self.old.count < 4294967296) × (self.new.count ≡ self.old.count + 1) }
         ensures ended { self.new.ended ≡ self.old.ended }
         ensures finished { result ≡ Ok false → IsDone self.new }
+        ensures torn { IsErrOf result (CaptureError.Refused CaptureFault.TornEnd) → self.new.ended ≡ true }
         ensures done { self.old.held ≡ [] → (result ≡ Ok false) × (self.new ≡ self.old) }
         ensures room { length self.new.held ≤ READ_AHEAD }
         ensures fault { IfErr result (λ fault. self.new.fault ≡ Some fault) }

@@ -2,7 +2,7 @@ use Rattle.std.proofs.Common.{◌≡◌, ◌∙◌, ap, subst, refl, sym, cond, 
 use Rattle.std.proofs.lemmas.Bool.{true≢false}
 use Rattle.std.specs.Io.KnownBytes.{Keeps, prepend_known}
 use Rattle.pcap_io.specs.steps.Placed.{seen_in}
-use Rattle.std.proofs.KnownBytes.{Keeps-trans}
+use Rattle.std.proofs.KnownBytes.{Consumes-trans, Keeps-trans}
 use Rattle.pcap_io.specs.Seen.{Seen, ahead, is_ready, settles, IsPart}
 use Rattle.pcap_io.proofs.Ready.{part_of, not_ready}
 use Rattle.pcap_io.proofs.Steps.{no_last}
@@ -32,6 +32,7 @@ loop-self-preserved g c =
       whole = Keeps-trans _ _ _ kept.whole (rw (← is) (filled inside.buffer c.fill.new.self _ _ waits.1 c.in-Ok.ensures.ok));
       unread = λ ready. absurd (true≢false (sym ready ∙ sym (ap is_ready (kept.unread ready).0) ∙ sym c.is_ready.ensures ∙ c.loop-self-test.true));
       drained = λ _. ended_only_at_end _ _ _ _ c.in-Ok.ensures.ok;
+      read = (kept.read.0 ++ c.in-Ok.ensures.ok.more, Consumes-trans _ _ _ _ _ kept.read.1 c.in-Ok.ensures.ok.consumed);
       calm = c.in-Ok.ensures.calm ∙ kept.calm;
     }
 
