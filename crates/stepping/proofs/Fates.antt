@@ -1,5 +1,5 @@
 -- What becomes of a record, by what is answered on its way.
-use Rattle.std.proofs.Common.{◌≡◌, ℕ, Bool, false, List, [], Option, Some, None, Result, Ok, Err, refl, sym, ap, subst, ◌∙◌}
+use Rattle.std.proofs.Common.{◌≡◌, ℕ, false, List, [], Option, Some, None, Result, Ok, Err, refl, sym, ap, subst, ◌∙◌}
 use Rattle.std.specs.Option.{option_map}
 use Rattle.ip_headers.specs.declared.tuple.Tuple.{Tuple}
 use Rattle.ip_headers.specs.Header.{transport_of}
@@ -16,7 +16,6 @@ use Rattle.rule_meaning.specs.declared.event.Event.{Event}
 use Rattle.rule_meaning.specs.Hooks.{End, Early}
 use Rattle.story.specs.declared.outcome.Cause.{Cause}
 use Rattle.story.specs.declared.outcome.Cause.TheVariants as causes
-use Rattle.story.specs.declared.outcome.Outcome.{Outcome}
 use Rattle.story.specs.declared.outcome.Outcome.TheVariants.{Dropped}
 use Rattle.story.specs.Setup.{Setup}
 use Rattle.stepping.specs.declared.leading.Bound.{Bound}
@@ -30,7 +29,7 @@ use Rattle.stepping.specs.declared.way.Way.TheVariants.{Within, First, Astray}
 use Rattle.stepping.specs.Carried.{Arrived, Carries, arriving, interface_facts, packet_facts, with_tracking}
 use Rattle.stepping.specs.Ways.{Lookup, flags_in, look_up, lookup_of, sought_of, tracking_of, way_of}
 use Rattle.stepping.specs.Courses.{Course, Leads, dropped}
-use Rattle.stepping.specs.LastStep.{Fate, begun_unless, counted_by, refusal, reply_to, settled, settled_as, unseen}
+use Rattle.stepping.specs.LastStep.{begun_unless, counted_by, refusal, reply_to, settled, settled_as, unseen}
 use Rattle.stepping.specs.Next.{tracked_by}
 use Rattle.stepping.specs.steps.Fates.{Fared, Follows, HasFate, held_after}
 use Rattle.stepping.specs.steps.Leading.{course_of, outcome_of}

@@ -1,5 +1,5 @@
 -- How the rules lead a packet, by what is answered on its way.
-use Rattle.std.proofs.Common.{◌≡◌, ℕ, ◌-◌, ◌≤◌, ◌<◌, Bool, true, false, cond, nat_lt, List, Option, Some, None, Result, Ok, Err, refl, sym, ap, subst, ◌∙◌}
+use Rattle.std.proofs.Common.{◌≡◌, ℕ, ◌-◌, ◌≤◌, Bool, true, false, cond, nat_lt, List, Option, Some, None, Result, Ok, Err, refl, sym, ap, subst, ◌∙◌}
 use borrow.Author.Tests.{ltb-false, ltb-true}
 use Rattle.box_file.specs.Box.{PlantTree, is_own, route}
 use Rattle.rule_meaning.specs.declared.facts.Facts.{Facts}
@@ -9,7 +9,6 @@ use Rattle.rule_meaning.specs.declared.event.Ending.{Ending}
 use Rattle.rule_meaning.specs.Hooks.{End}
 use Rattle.story.specs.declared.outcome.Cause.{Cause}
 use Rattle.story.specs.declared.outcome.Cause.TheVariants as causes
-use Rattle.story.specs.declared.outcome.Outcome.TheVariants.{Passed, Local}
 use Rattle.story.specs.Setup.{Setup}
 use Rattle.stepping.specs.declared.leading.Bound.{Bound}
 use Rattle.stepping.specs.declared.leading.Bound.TheVariants as bounds

@@ -1,5 +1,5 @@
 -- The last step of a packet: whether it counts as one of its connection, or begins one.
-use Rattle.std.specs.Prelude.{ℕ, Bool, nat_le, if◌then◌else◌, List, length, Option, Some, None}
+use Rattle.std.specs.Prelude.{Bool, nat_le, if◌then◌else◌, List, length, Option, Some, None}
 use Rattle.ip_headers.specs.declared.tuple.Tuple.{Tuple}
 use Rattle.ip_headers.specs.Tuple.{inverse}
 use Rattle.conntrack.specs.declared.connection.Held.{Held}

@@ -1,5 +1,5 @@
 -- What is known of a packet's connection, among those that are alive.
-use Rattle.std.specs.Prelude.{ℕ, Bool, true, false, not, ◌||◌, if◌then◌else◌, List, Option, Some, None}
+use Rattle.std.specs.Prelude.{ℕ, Bool, false, not, ◌||◌, if◌then◌else◌, List, Option, Some, None}
 use Rattle.std.specs.Option.{option_map}
 use Rattle.ip_headers.specs.declared.transport.Transport.{Transport}
 use Rattle.ip_headers.specs.declared.transport.Transport.TheVariants as transports
@@ -26,7 +26,6 @@ use Rattle.rule_meaning.specs.declared.facts.Direction.TheVariants as directions
 use Rattle.rule_meaning.specs.declared.facts.Tracking.{Tracking}
 use Rattle.rule_meaning.specs.declared.facts.Tracking.TheVariants.{Invalid, Known}
 use Rattle.stepping.specs.declared.sought.Sought.{Sought}
-use Rattle.stepping.specs.declared.way.Draft.{Draft}
 use Rattle.stepping.specs.declared.way.Way.{Way}
 use Rattle.stepping.specs.declared.way.Way.TheVariants.{Within, First, Astray}
 

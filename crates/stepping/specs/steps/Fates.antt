@@ -1,5 +1,5 @@
 -- What becomes of a record, before it has its place in a story.
-use Rattle.std.specs.Prelude.{◌≡◌, ℕ, ◌<◌, ◌≤◌, Bool, false, List, [], length, Option, Some, None, Result, Ok, Err, Vec}
+use Rattle.std.specs.Prelude.{◌≡◌, ℕ, ◌<◌, ◌≤◌, Bool, List, [], length, Option, Some, None, Result, Ok, Err, Vec}
 use Rattle.std.specs.declared.alloc.Global.{Global}
 use Rattle.conntrack.specs.declared.connection.ConnId.{ConnId}
 use Rattle.conntrack.specs.declared.connection.Held.{Held}

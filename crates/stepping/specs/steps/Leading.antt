@@ -1,5 +1,5 @@
 -- How the rules lead a packet, as it is answered.
-use Rattle.std.specs.Prelude.{ℕ, ◌+◌, Bool, nat_lt, if◌then◌else◌, List, Option, Some, None, Result, Ok, Err}
+use Rattle.std.specs.Prelude.{ℕ, ◌+◌, nat_lt, if◌then◌else◌, List, Option, Some, None, Result, Ok, Err}
 use Rattle.box_file.specs.Box.{PlantTree, is_own, route}
 use Rattle.rule_meaning.specs.declared.facts.Packet.{Packet}
 use Rattle.rule_meaning.specs.declared.event.Event.{Event}

@@ -15,7 +15,7 @@ use Rattle.stepping.specs.declared.settling.Settled.{Settled}
 use Rattle.stepping.specs.declared.way.Way.{Way}
 use Rattle.stepping.specs.declared.way.Way.TheVariants.{Within, First, Astray}
 use Rattle.stepping.specs.Ways.{Lookup}
-use Rattle.stepping.specs.LastStep.{Fate, counted_by}
+use Rattle.stepping.specs.LastStep.{counted_by}
 use Rattle.stepping.specs.steps.Leading.{course_of, outcome_of}
 
 -- what a look-up leaves of those held

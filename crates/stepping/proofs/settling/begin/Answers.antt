@@ -1,5 +1,4 @@
 use Rattle.std.proofs.Common.{refl}
-use Rattle.stepping.specs.LastStep.{reply_to}
 use Rattle.stepping.proofs.LastStep.{refused_clash, refused_full, settles_refused}
 use Rattle.stepping.proofs.settling.begin.Goals as goal
 
