@@ -15,7 +15,7 @@ use Rattle.filter_vm.specs.declared.code.Start.{Start}
 use Rattle.filter_vm.specs.declared.code.TableCode.{TableCode}
 use Rattle.filter_vm.specs.Machine.{starts_of}
 use Rattle.compiler.specs.Compiled.{RunsAlike}
-use Rattle.compiler.specs.steps.Placed.{IsTableCode}
+use Rattle.compiler.specs.Placed.{IsTableCode}
 use Rattle.rule_laws.specs.Ranked.{IsRanked}
 use Rattle.compiler.proofs.BaseLaws.{runs_alike}
 

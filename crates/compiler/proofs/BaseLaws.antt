@@ -12,7 +12,7 @@ use Rattle.filter_vm.specs.declared.code.Start.{Start}
 use Rattle.filter_vm.specs.declared.code.TableCode.{TableCode}
 use Rattle.filter_vm.specs.Machine.{Stop, exec, go_to, run_table, stop_of, end_of}
 use Rattle.compiler.specs.Compiled.{told, told_of}
-use Rattle.compiler.specs.steps.Placed.{IsCode, RulesAt, IsTableCode}
+use Rattle.compiler.specs.Placed.{IsCode, RulesAt, IsTableCode}
 use Rattle.rule_laws.specs.Ranked.{IsRanked}
 use Rattle.compiler.proofs.DoesLaws.{Does, finish-last}
 use Rattle.compiler.proofs.PlacedLaws.{rules-in}

@@ -1,33 +1,32 @@
 -- The code of each table with what its chains cost and how deep they jump: enough for each of its starts.
-use Rattle.std.proofs.Common.{◌≡◌, ◌⊎◌, ℕ, ◌+◌, ◌<◌, ◌≤◌, List, [], length, get_or, map, Some, None, sym, ap, ◌∙◌, subst, inl, inr, arith}
+use Rattle.std.proofs.Common.{◌≡◌, ◌⊎◌, ℕ, ◌+◌, ◌<◌, ◌≤◌, List, [], ◌∷◌, length, get_or, map, Some, None, refl, sym, ap, ap₂, ◌∙◌, subst, inl, inr, arith}
 use Rattle.std.specs.Prelude.{filter, All, Contains, slice_get, slice_index}
 use Rattle.std.specs.Option.{option_map}
 use Rattle.std.proofs.lemmas.List.{length-map}
-use Rattle.std.proofs.lemmas.List.Elements.{All-filter, Contains-get_or}
+use Rattle.std.proofs.lemmas.List.Elements.{All-filter, All-head, All-tail, Contains-get_or}
 use Rattle.std.proofs.lemmas.List.Sorted.{All-permutation}
 use Rattle.std.proofs.lemmas.List.Sums.{get_or-le-sum_by}
 use Rattle.std.proofs.lemmas.Option.{slice_get-get_or, slice_get-map, slice_get_cases, slice_get_within, get_or_from_slice_get}
 use Rattle.nft_tree.specs.declared.chain.Hook.{Hook}
-use Rattle.nft_tree.specs.declared.chain.Hook.TheVariants as hooks
 use Rattle.nft_tree.specs.Tree.{TableTree}
 use Rattle.nft_tree.specs.Parts.{chains_of}
 use Rattle.chain_graph.proofs.ListLaws.{Contains-map}
-use Rattle.rule_paths.specs.Paths.{Caller, a_chain, AreCosts}
+use Rattle.rule_paths.specs.Paths.{Caller, a_chain, AreCosts, AreAllCosts}
 use Rattle.rule_paths.specs.Findings.{AreChainDepths}
 use Rattle.rule_paths.proofs.ReadLaws.{cost-at}
 use Rattle.rule_check.specs.Checked.{CheckedTree, AreRulesetCosts, AreRulesetDepths, ruleset_sum}
 use Rattle.rule_meaning.specs.Runs.{named}
-use Rattle.rule_meaning.specs.Hooks.{bases_of}
+use Rattle.rule_meaning.specs.Hooks.{Base, bases_of}
 use Rattle.rule_laws.specs.Ranked.{IsRanked, weight_by, chain_cost_by, cost_of}
 use Rattle.filter_vm.specs.declared.code.Code.{Code}
 use Rattle.filter_vm.specs.declared.code.Start.{Start}
 use Rattle.filter_vm.specs.Machine.{starts_of}
 use Rattle.compiler.specs.declared.base.BaseChain.{BaseChain}
-use Rattle.compiler.specs.Compiled.{told, told_of, cost_at, total_cost}
+use Rattle.compiler.specs.Compiled.{told, told_of, cost_in, start_cost}
 use Rattle.compiler.specs.steps.Bases.{base, runs_at, CostsIn}
 use Rattle.compiler.specs.steps.Whole.{IsWhole}
 use Rattle.compiler.proofs.AlikeLaws.{base-stands, CodedTable}
-use Rattle.compiler.proofs.WholeLaws.{costs_little}
+use Rattle.compiler.proofs.TotalLaws.{bases_total}
 
 -- ---- a start and its base chain
 
@@ -62,53 +61,67 @@ start-of P order starts start are costs all here = by_place (slice_get_cases ord
     }
     by_place (inr past) = let lt = here.1 in absurd (omega (arith, lt, past.0, long))
 
--- ---- what a start costs
-
-hook-le : (code : Code) (hook : Hook) → cost_at code hook ≤ total_cost code
-hook-le code hooks.Prerouting = omega arith
-hook-le code hooks.Input = omega arith
-hook-le code hooks.Forward = omega arith
-hook-le code hooks.Output = omega arith
-hook-le code hooks.Postrouting = omega arith
-
-start-le : (code : Code) (hook : Hook) (start : Start) → Contains (starts_of code hook) start → start.cost ≤ total_cost code
-start-le code hook start here =
-    let part = get_or-le-sum_by (λ (s : Start). s.cost) (starts_of code hook) here.0 start here.1 in
-    let is : (get_or (starts_of code hook) here.0 start).cost ≡ start.cost = ap (λ (s : Start). s.cost) here.2 in
-    omega (arith, part, is, hook-le code hook)
+costs-shown : (P : BaseChain → Type 0) (cost : Base → ℕ) → ((b : BaseChain) → P b → b.cost ≡ cost (base b)) → (bases : List BaseChain) → All P bases → map (λ b. b.cost) bases ≡ map cost (map base bases)
+costs-shown P cost is [] all = refl
+costs-shown P cost is (b ∷ bases) all = ap₂ ◌∷◌ (is b (All-head P b bases all)) (costs-shown P cost is bases (All-tail P b bases all))
 
 -- ---- the code of each table
 
 module _ (checked : CheckedTree) (code : Code) (whole : IsWhole checked code) (costs : List (List ℕ)) (are : AreRulesetCosts checked.rules costs) (small : ruleset_sum checked.rules costs ≤ 65536) where
-  -- the base chain stands in the ruleset, and costs 1 more than its rules
+  -- the base chain stands in the ruleset, and costs 1 more than its rules, which is little
   abbrev IsCosted : BaseChain → Type 0
-  IsCosted b = Contains (bases_of checked.rules) (base b) × CostsIn costs b.number b.cost
+  IsCosted b = Contains (bases_of checked.rules) (base b) × CostsIn costs b.number b.cost × (b.cost ≤ 65536)
 
   all-costed : All IsCosted whole.bases
-  all-costed k d lt = (
-    subst (λ bs. Contains bs (base (get_or whole.bases k d))) whole.text (Contains-map base whole.bases (get_or whole.bases k d) (Contains-get_or whole.bases k d lt)),
-    whole.costs costs are k d lt,
-  )
+  all-costed k d lt =
+      let part = get_or-le-sum_by (λ (b : BaseChain). b.cost) whole.bases k d lt in
+      let total = bases_total checked.rules costs whole.bases are whole.text (whole.costs costs are) in (
+        subst (λ bs. Contains bs (base (get_or whole.bases k d))) whole.text (Contains-map base whole.bases (get_or whole.bases k d) (Contains-get_or whole.bases k d lt)),
+        whole.costs costs are k d lt,
+        omega (arith, part, total, small),
+      )
+
+  in-order : (hook : Hook) → All IsCosted (whole.ordered hook).order
+  in-order hook =
+      let o = whole.ordered hook in
+      All-permutation IsCosted (filter (runs_at hook) whole.bases) o.order o.moved (All-filter (runs_at hook) IsCosted whole.bases all-costed)
 
   costed : (hook : Hook) (start : Start) → Contains (starts_of code hook) start → StartOf IsCosted start
   costed hook start here =
       let o = whole.ordered hook in
-      start-of IsCosted o.order (starts_of code hook) start o.starts_are o.costs_are (All-permutation IsCosted (filter (runs_at hook) whole.bases) o.order o.moved (All-filter (runs_at hook) IsCosted whole.bases all-costed)) here
+      start-of IsCosted o.order (starts_of code hook) start o.starts_are o.costs_are (in-order hook) here
+
+  -- by any costs of its table it costs 1 more than its chain
+  table-cost : (b : BaseChain) → IsCosted b → (t : TableTree) → slice_get checked.rules b.number.table ≡ Some t → (cost : Caller → ℕ) → AreCosts t cost → b.cost ≡ 1 + chain_cost_by t cost b.number.chain
+  table-cost b is t at cost is_cost =
+      let s = base-stands checked.rules (base b) is.0 in
+      let same : s.table ≡ t = same-some _ _ (sym s.stands ∙ at) in
+      let stands : slice_get (chains_of t) b.number.chain ≡ Some s.chain = ap (λ x. slice_get (chains_of x) b.number.chain) (sym same) ∙ s.has in
+      let told = cost-at t (get_or costs b.number.table []) (are.are b.number.table t at) cost is_cost b.number.chain s.chain (slice_get_within (chains_of t) b.number.chain s.chain stands) (sym (get_or_from_slice_get (chains_of t) b.number.chain s.chain s.chain stands)) in
+      let its : chain_cost_by t cost b.number.chain ≡ cost (a_chain s.chain.name) = ap (cost_of cost) stands in
+      let one = is.1 in
+      let little = is.2 in
+      omega (arith, told, its, one, little)
+
+  base-cost : (cost : TableTree → Caller → ℕ) → AreAllCosts checked.rules cost → (b : BaseChain) → IsCosted b → b.cost ≡ start_cost checked.rules cost (base b)
+  base-cost cost all b is =
+      let s = base-stands checked.rules (base b) is.0 in
+      let within = slice_get_within checked.rules b.number.table s.table s.stands in
+      let here : Contains checked.rules s.table = (b.number.table, within, get_or_from_slice_get checked.rules b.number.table s.table s.table s.stands) in
+      table-cost b is s.table s.stands (cost s.table) (all s.table here) ∙ sym (ap (λ t. cost_in cost t b.number.chain) s.stands)
+
+  pub starts-cost : (hook : Hook) (cost : TableTree → Caller → ℕ) → AreAllCosts checked.rules cost → map (λ s. s.cost) (starts_of code hook) ≡ map (start_cost checked.rules cost) (map base (whole.ordered hook).order)
+  starts-cost hook cost all = (whole.ordered hook).costs_are ∙ costs-shown IsCosted (start_cost checked.rules cost) (base-cost cost all) (whole.ordered hook).order (in-order hook)
 
   enough : (number : ℕ) (t : TableTree) → slice_get checked.rules number ≡ Some t → (cost : Caller → ℕ) → AreCosts t cost → (hook : Hook) (start : Start) → Contains (starts_of code hook) start → start.chain.table ≡ number → chain_cost_by t cost start.chain.chain + 1 ≤ start.cost
   enough number t at cost is_cost hook start here is_number =
       let s = costed hook start here in
       let n : start.chain ≡ s.chain.number = ap (λ x. x.chain) s.tells in
-      let b = base-stands checked.rules (base s.chain) s.has.0 in
-      let table : s.chain.number.table ≡ number = ap (λ x. x.table) (sym n) ∙ is_number in
-      let same : b.table ≡ t = same-some _ _ (sym b.stands ∙ ap (slice_get checked.rules) table ∙ at) in
-      let stands : slice_get (chains_of t) s.chain.number.chain ≡ Some b.chain = ap (λ x. slice_get (chains_of x) s.chain.number.chain) (sym same) ∙ b.has in
-      let row = are.are number t at in
-      let told = cost-at t (get_or costs number []) row cost is_cost s.chain.number.chain b.chain (slice_get_within (chains_of t) s.chain.number.chain b.chain stands) (sym (get_or_from_slice_get (chains_of t) s.chain.number.chain b.chain b.chain stands)) in
-      let one : start.cost ≡ slice_index (get_or costs number []) s.chain.number.chain + 1 = s.costs ∙ s.has.1 ∙ ap (λ k. slice_index (get_or costs k []) s.chain.number.chain + 1) table in
-      let its : chain_cost_by t cost start.chain.chain ≡ cost (a_chain b.chain.name) = ap (λ x. chain_cost_by t cost x.chain) n ∙ ap (cost_of cost) stands in
-      let little = costs_little checked costs are small code whole in
-      omega (arith, told, one, its, little, start-le code hook start here)
+      let table : number ≡ s.chain.number.table = sym is_number ∙ ap (λ x. x.table) n in
+      let one = table-cost s.chain s.has t (sym (ap (slice_get checked.rules) table) ∙ at) cost is_cost in
+      let its : chain_cost_by t cost start.chain.chain ≡ chain_cost_by t cost s.chain.number.chain = ap (λ x. chain_cost_by t cost x.chain) n in
+      let as_much = s.costs in
+      omega (arith, one, its, as_much)
 
   pub coded : (depths : List (List ℕ)) → AreRulesetDepths checked.rules depths → ((i j : ℕ) → slice_index (get_or depths i []) j ≤ 16)
       → ((number : ℕ) (t : TableTree) → slice_get checked.rules number ≡ Some t → (cost : Caller → ℕ) → AreCosts t cost → (deep : List ℕ) → AreChainDepths t deep → IsRanked (named checked.plant number t) (weight_by cost) (chain_cost_by t cost) (λ c. slice_index deep c))

@@ -3,6 +3,7 @@ pub mod TableLaws
 pub mod StartLaws
 pub mod OrderLaws
 pub mod TotalLaws
+pub mod FewLaws
 pub mod WholeLaws
 pub mod DoesLaws
 pub mod PlacedLaws

@@ -1,5 +1,5 @@
 -- The starts of a hook are its base chains, in order of priority and of text.
-use Rattle.std.proofs.Common.{◌≡◌, ◌+◌, Bool, true, false, not, ◌&&◌, cond, List, [], ◌∷◌, map, refl, sym, ap, ap₂, ◌∙◌, arith, ℤ, Less, Equal, Greater}
+use Rattle.std.proofs.Common.{◌≡◌, ℕ, ◌+◌, Bool, true, false, not, ◌&&◌, cond, List, [], ◌∷◌, map, refl, sym, ap, ap₂, ◌∙◌, arith, ℤ, Less, Equal, Greater}
 use Rattle.std.specs.Prelude.{filter, int_lt}
 use Rattle.std.specs.List.{list_any}
 use Rattle.std.specs.List.Sorted.{IsPermutation, IsSortedBy, IsStableBy, ties}
@@ -10,10 +10,11 @@ use Rattle.std.proofs.lemmas.List.Folds.{Any-from_list_any}
 use Rattle.std.proofs.lemmas.List.Sorted.{list_any-IsPermutation}
 use Rattle.nft_tree.specs.declared.chain.Hook.{Hook}
 use Rattle.nft_tree.specs.Tree.{TableTree}
+use Rattle.rule_paths.specs.Paths.{Caller, AreAllCosts}
 use Rattle.rule_meaning.specs.Hooks.{Base, bases_of, priority, runs_before, stands_at}
 use Rattle.filter_vm.specs.declared.code.Start.{Start}
 use Rattle.compiler.specs.declared.base.BaseChain.{BaseChain}
-use Rattle.compiler.specs.Compiled.{HasStarts}
+use Rattle.compiler.specs.Compiled.{HasStarts, start_cost}
 use Rattle.compiler.specs.steps.Bases.{base, runs_at, Ordered}
 use Rattle.compiler.proofs.AddLaws.{none_first, none_later}
 use Rattle.compiler.proofs.StartLaws.{filter_alike}
@@ -73,8 +74,9 @@ module _ (b : Base) (xs ys : List BaseChain) (moved : IsPermutation xs ys) (stab
 
 -- ---- the starts of a hook
 
-pub has_starts : (tables : List TableTree) (hook : Hook) (bases : List BaseChain) (starts : List Start) → map base bases ≡ bases_of tables → Ordered hook bases starts → HasStarts tables hook starts
-has_starts tables hook bases starts text o =
+pub has_starts : (tables : List TableTree) (hook : Hook) (bases : List BaseChain) (starts : List Start) → map base bases ≡ bases_of tables → (o : Ordered hook bases starts)
+    → ((cost : TableTree → Caller → ℕ) → AreAllCosts tables cost → map (λ s. s.cost) starts ≡ map (start_cost tables cost) (map base o.order)) → HasStarts tables hook starts
+has_starts tables hook bases starts text o costs =
     let at_hook : map base (filter (runs_at hook) bases) ≡ filter (stands_at hook) (bases_of tables) = filter_shown base (stands_at hook) bases ∙ ap (filter (stands_at hook)) text in
     record {
       order = map base o.order;
@@ -83,4 +85,5 @@ has_starts tables hook bases starts text o =
         stable = λ b. stays b (filter (runs_at hook) bases) o.order o.moved o.stable ∙ ap (filter (ties runs_before b)) at_hook;
       };
       are = o.starts_are;
+      costs = costs;
     }

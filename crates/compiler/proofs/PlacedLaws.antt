@@ -8,7 +8,7 @@ use Rattle.rule_meaning.specs.Runs.{Program, Left, at_rule, in_rule, After, rule
 use Rattle.filter_vm.specs.declared.code.TableCode.{TableCode}
 use Rattle.filter_vm.specs.declared.code.Instruction.{Instruction}
 use Rattle.filter_vm.specs.Machine.{statement_at, action_says, act}
-use Rattle.compiler.specs.steps.Placed.{StandsFor, StatementsAt, RulesAt}
+use Rattle.compiler.specs.Placed.{StandsFor, StatementsAt, RulesAt}
 use Rattle.rule_laws.specs.Ranked.{StandsIn}
 use Rattle.compiler.proofs.DoesLaws.{Does, does-same, does-step}
 

@@ -9,7 +9,7 @@ use Rattle.rule_meaning.specs.Statements.{Saying, give}
 use Rattle.rule_meaning.specs.Runs.{Program, Left, at_rule, in_rule, After, rule_no, place, taking, Runs, chain_ends, next_rule, rule_ends, passes, fails, notes, accepts, drops, translates, continues, returns, jumps, jumps_away, goes}
 use Rattle.filter_vm.specs.declared.code.TableCode.{TableCode}
 use Rattle.filter_vm.specs.Machine.{Going, Stop, act}
-use Rattle.compiler.specs.steps.Placed.{RulesAt, IsCode}
+use Rattle.compiler.specs.Placed.{RulesAt, IsCode}
 use Rattle.rule_laws.specs.Ranked.{StandsIn, IsRanked}
 use Rattle.compiler.proofs.DoesLaws.{Does, does-more, does-same, does-now, does-over, does-then, does-end, goes_to, calls, finish}
 use Rattle.compiler.proofs.PlacedLaws.{weighs, LeftIn, LeftAt, rules-in, does-statement}

@@ -15,8 +15,8 @@ use Rattle.rule_values.specs.Faults.{if_some, item_is_wrong, priority_is_wrong}
 use Rattle.rule_meaning.specs.Runs.{Program, named}
 use Rattle.filter_vm.specs.declared.code.TableCode.{TableCode}
 use Rattle.lowering.specs.Lowered.{Extends}
-use Rattle.compiler.specs.steps.Placed.{RulesAt, IsTableCode}
-use Rattle.compiler.specs.steps.Adding.{Grows, Adds, AreTableCodes, rule_is_wrong}
+use Rattle.compiler.specs.Placed.{RulesAt, IsTableCode, AreTableCodes}
+use Rattle.compiler.specs.steps.Adding.{Grows, Adds, rule_is_wrong}
 use Rattle.compiler.proofs.AddLaws.{keeps_push, slice_get-push, extends_itself, grows_itself, grows_on, none_first, none_later}
 
 -- ---- what is wrong with no item is wrong with no chain

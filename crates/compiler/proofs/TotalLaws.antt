@@ -97,9 +97,14 @@ tables_cost costs k (t ∷ ts) (row ∷ rows) long same each =
 
 -- ---- all starts
 
-pub in_total : (tables : List TableTree) (costs : List (List ℕ)) (bases : List BaseChain) (code : Code) → AreRulesetCosts tables costs → map base bases ≡ bases_of tables → All (λ (b : BaseChain). CostsIn costs b.number b.cost) bases
-    → ((hook : Hook) → Ordered hook bases (starts_of code hook)) → total_cost code ≡ ruleset_sum tables costs
-in_total tables costs bases code are text all ordered =
-    let sums : total_cost code ≡ at_all bases = omega (arith, started hooks.Prerouting bases code.prerouting.items (ordered hooks.Prerouting), started hooks.Input bases code.input.items (ordered hooks.Input), started hooks.Forward bases code.forward.items (ordered hooks.Forward), started hooks.Output bases code.output.items (ordered hooks.Output), started hooks.Postrouting bases code.postrouting.items (ordered hooks.Postrouting)) in
-    sums ∙ all_hooks bases ∙ sum_shown costs bases all ∙ ap (sum_by (costed costs)) text
+-- the base chains of a ruleset cost what its tables cost
+pub bases_total : (tables : List TableTree) (costs : List (List ℕ)) (bases : List BaseChain) → AreRulesetCosts tables costs → map base bases ≡ bases_of tables → All (λ (b : BaseChain). CostsIn costs b.number b.cost) bases → sum_by (λ (b : BaseChain). b.cost) bases ≡ ruleset_sum tables costs
+bases_total tables costs bases are text all =
+    sum_shown costs bases all ∙ ap (sum_by (costed costs)) text
     ∙ tables_cost costs 0 tables costs are.long (λ i. let n : i ≡ 0 + i = omega arith in ap (λ m. get_or costs m []) n) (λ i t is. costs-long t (get_or costs i []) (are.are i t is))
+
+-- and all starts what the base chains cost
+pub starts_total : (bases : List BaseChain) (code : Code) → ((hook : Hook) → Ordered hook bases (starts_of code hook)) → total_cost code ≡ sum_by (λ (b : BaseChain). b.cost) bases
+starts_total bases code ordered =
+    let sums : total_cost code ≡ at_all bases = omega (arith, started hooks.Prerouting bases code.prerouting.items (ordered hooks.Prerouting), started hooks.Input bases code.input.items (ordered hooks.Input), started hooks.Forward bases code.forward.items (ordered hooks.Forward), started hooks.Output bases code.output.items (ordered hooks.Output), started hooks.Postrouting bases code.postrouting.items (ordered hooks.Postrouting)) in
+    sums ∙ all_hooks bases

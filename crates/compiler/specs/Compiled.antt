@@ -1,10 +1,13 @@
 -- When code does what a ruleset means.
-use Rattle.std.specs.Prelude.{◌≡◌, ◌↔◌, ℕ, ◌+◌, ℤ, not, Bool, List, map, filter, sum_by, Contains}
+use Rattle.std.specs.Prelude.{◌≡◌, ◌↔◌, ℕ, ◌+◌, ℤ, not, Bool, Option, Some, None}
+use Rattle.std.specs.Prelude.{List, map, filter, slice_get, sum_by, Contains}
 use Rattle.nft_tree.specs.declared.chain.Hook.{Hook}
 use Rattle.nft_tree.specs.declared.chain.Hook.TheVariants as hooks
 use Rattle.nft_tree.specs.declared.chain.Policy.{Policy}
 use Rattle.nft_tree.specs.Tree.{TableTree}
+use Rattle.rule_paths.specs.Paths.{Caller, AreAllCosts}
 use Rattle.rule_check.specs.Checked.{CheckedTree}
+use Rattle.rule_laws.specs.Ranked.{chain_cost_by}
 use Rattle.rule_meaning.specs.declared.facts.Facts.{Facts}
 use Rattle.rule_meaning.specs.declared.event.ChainNo.{ChainNo}
 use Rattle.rule_meaning.specs.declared.event.Event.{Event}
@@ -22,30 +25,53 @@ pub record Told : Type 0 where
   pub priority : ℤ
   pub is_nat : Bool
 
+-- what the code tells
 abbrev pub told : Start → Told
 told s = record { chain = s.chain; policy = s.policy; priority = s.priority; is_nat = s.is_nat }
 
+-- what the ruleset tells: without a policy a base chain accepts (nft(8), "Chains")
 abbrev pub told_of : Base → Told
-told_of b = record { chain = b.number; policy = policy_of b.head; priority = priority b; is_nat = not (is_filter b.head.kind) }
+told_of b = record {
+  chain = b.number;
+  policy = policy_of b.head;
+  priority = priority b;
+  is_nat = not (is_filter b.head.kind);
+}
 
--- the starts are the base chains of the hook, in order of priority and of text
+-- 1, and what the chain of this number costs in the table
+abbrev pub cost_in : (TableTree → Caller → ℕ) → Option TableTree → ℕ → ℕ
+cost_in cost None chain = 0
+cost_in cost (Some t) chain = 1 + chain_cost_by t (cost t) chain
+
+-- what a base chain of a ruleset costs, 1 more than its rules
+abbrev pub start_cost : List TableTree → (TableTree → Caller → ℕ) → Base → ℕ
+start_cost tables cost b = cost_in cost (slice_get tables b.number.table) b.number.chain
+
+-- the starts are the base chains of the hook, in order of priority and of text, each at its cost
 pub record HasStarts (tables : List TableTree) (hook : Hook) (starts : List Start) : Type 0 where
   pub order : List Base
   pub in_order : InOrder (filter (stands_at hook) (bases_of tables)) order
   pub are : map told starts ≡ map told_of order
+  pub costs : (cost : TableTree → Caller → ℕ) → AreAllCosts tables cost
+      → map (λ s. s.cost) starts ≡ map (start_cost tables cost) order
 
 -- ---- runs
 
 -- from each start code comes to that end, with those events, to which the rules of its base chain lead
 abbrev pub RunsAlike : CheckedTree → Code → Type 0
-RunsAlike checked code = (hook : Hook) (start : Start) (b : Base) → Contains (starts_of code hook) start → Contains (bases_of checked.rules) b → told start ≡ told_of b
-    → (f : Facts) (es : List Event) (end : End) → RunsBase checked.plant checked.rules b f es end ↔ (end ≡ end_of code start f es)
+RunsAlike checked code = (hook : Hook) (start : Start) (b : Base)
+    → Contains (starts_of code hook) start → Contains (bases_of checked.rules) b → told start ≡ told_of b
+    → (f : Facts) (es : List Event) (end : End)
+    → RunsBase checked.plant checked.rules b f es end ↔ (end ≡ end_of code start f es)
 
 -- ---- cost
 
+-- the starts of a hook together
 abbrev pub cost_at : Code → Hook → ℕ
 cost_at code hook = sum_by (λ s. s.cost) (starts_of code hook)
 
 -- all starts together
 abbrev pub total_cost : Code → ℕ
-total_cost code = cost_at code hooks.Prerouting + cost_at code hooks.Input + cost_at code hooks.Forward + cost_at code hooks.Output + cost_at code hooks.Postrouting
+total_cost code =
+    cost_at code hooks.Prerouting + cost_at code hooks.Input + cost_at code hooks.Forward
+    + cost_at code hooks.Output + cost_at code hooks.Postrouting

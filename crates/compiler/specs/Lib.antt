@@ -1,2 +1,3 @@
 pub mod Compiled
+pub mod Placed
 pub mod steps

@@ -1,4 +1,3 @@
-pub mod Placed
 pub mod Adding
 pub mod Bases
 pub mod Whole

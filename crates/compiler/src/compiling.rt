@@ -1,9 +1,12 @@
 //! A ruleset as code.
-ghost use Rattle.std.specs.Prelude.{◌≤◌, IfOk};
+ghost use Rattle.std.specs.Prelude.{◌≡◌, ◌≤◌, ℕ, IfOk};
 ghost use Rattle.nft_tree.specs.declared.chain.Hook.{Hook};
+ghost use Rattle.nft_tree.specs.Tree.{TableTree};
+ghost use Rattle.rule_paths.specs.Paths.{AreAllCosts, Caller, ruleset_cost};
 ghost use Rattle.rule_check.specs.WellFormed.{WellFormed};
 ghost use Rattle.filter_vm.specs.Machine.{starts_of};
 ghost use Rattle.compiler.specs.Compiled.{HasStarts, RunsAlike, total_cost};
+ghost use Rattle.compiler.specs.Placed.{AreTableCodes};
 ghost use Rattle.compiler.specs.steps.Whole.{IsWhole};
 
 use crate::starts::{base_chains, starts_at};
@@ -38,7 +41,8 @@ fn whole(alloc: Global, checked: &Checked) -> Result<Code, AllocError>
 
 /// The code of a checked ruleset: its starts are the base chains of each hook, in the order in which
 /// they run, and for every base chain, whatever rules may read of a packet, events and outcome are
-/// those of its rules and its policy.
+/// those of its rules and its policy. It has a step for each statement, and each start costs what
+/// `check` counts for its base chain.
 ///
 /// # Errors
 ///
@@ -46,6 +50,9 @@ fn whole(alloc: Global, checked: &Checked) -> Result<Code, AllocError>
 pub fn compile(alloc: Global, checked: &Checked) -> Result<Code, AllocError>
     ensures starts { IfOk result (λ code. (hook : Hook) → HasStarts checked.now.rules hook (starts_of code hook)) }
     ensures runs { IfOk result (λ code. RunsAlike checked.now code) }
+    ensures steps { IfOk result (λ code. AreTableCodes checked.now.plant checked.now.rules code.tables.items) }
+    ensures total { IfOk result (λ code. (cost : TableTree → Caller → ℕ) → AreAllCosts checked.now.rules cost
+        → total_cost code ≡ ruleset_cost cost checked.now.rules) }
     ensures cost { IfOk result (λ code. total_cost code ≤ 65536) }
 {
     // What is known of checked rulesets; none of the three does anything.

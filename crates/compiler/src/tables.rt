@@ -4,8 +4,7 @@ ghost use Rattle.std.specs.List.{list_any};
 ghost use Rattle.nft_tree.specs.Tree.{chain_tree};
 ghost use Rattle.rule_types.specs.Types.{table_misfits};
 ghost use Rattle.rule_values.specs.Faults.{has_wrong_value, item_is_wrong};
-ghost use Rattle.compiler.specs.steps.Placed.{IsTableCode};
-ghost use Rattle.compiler.specs.steps.Adding.{AreTableCodes};
+ghost use Rattle.compiler.specs.Placed.{AreTableCodes, IsTableCode};
 
 use crate::rules::{add_rules, short};
 use box_file::Plant;

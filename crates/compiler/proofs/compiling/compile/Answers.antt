@@ -1,21 +1,39 @@
-use Rattle.std.proofs.Common.{◌≤◌}
+use Rattle.std.proofs.Common.{◌≡◌, ◌≤◌, ℕ}
 use Rattle.nft_tree.specs.declared.chain.Hook.{Hook}
+use Rattle.nft_tree.specs.Tree.{TableTree}
+use Rattle.rule_paths.specs.Paths.{Caller, AreAllCosts, ruleset_cost}
 use Rattle.filter_vm.specs.declared.code.Code.{Code}
 use Rattle.filter_vm.specs.Machine.{starts_of}
 use Rattle.compiler.specs.Compiled.{HasStarts, RunsAlike, total_cost}
+use Rattle.compiler.specs.Placed.{AreTableCodes}
 use Rattle.compiler.specs.steps.Whole.{IsWhole}
 use Rattle.compiler.proofs.AlikeLaws.{all_alike}
 use Rattle.compiler.proofs.CodedLaws.{coded}
-use Rattle.compiler.proofs.WholeLaws.{if_ok, hooks_have_starts, costs_little}
+use Rattle.compiler.proofs.WholeLaws.{if_ok, hooks_have_starts, costs_little, costs_as_much}
 use Rattle.compiler.proofs.compiling.compile.Goals as goal
 
 pub returns-clause-starts : goal.returns-clause-starts
-returns-clause-starts c = if_ok (IsWhole c.args.checked.now) (λ code. (hook : Hook) → HasStarts c.args.checked.now.rules hook (starts_of code hook)) (hooks_have_starts c.args.checked.now) c.whole.result c.whole.ensures
+returns-clause-starts c =
+    let checked = c.args.checked.now in
+    let some = c.measured.ensures.some in
+    if_ok (IsWhole checked) (λ code. (hook : Hook) → HasStarts checked.rules hook (starts_of code hook)) (hooks_have_starts checked some.0 some.1 (c.measured.ensures.total some.0 some.1)) c.whole.result c.whole.ensures
+
+pub returns-clause-steps : goal.returns-clause-steps
+returns-clause-steps c =
+    let checked = c.args.checked.now in
+    if_ok (IsWhole checked) (λ code. AreTableCodes checked.plant checked.rules code.tables.items) (λ code whole. whole.tables) c.whole.result c.whole.ensures
+
+pub returns-clause-total : goal.returns-clause-total
+returns-clause-total c =
+    let checked = c.args.checked.now in
+    let some = c.measured.ensures.some in
+    if_ok (IsWhole checked) (λ code. (cost : TableTree → Caller → ℕ) → AreAllCosts checked.rules cost → total_cost code ≡ ruleset_cost cost checked.rules) (costs_as_much checked some.0 some.1 (c.measured.ensures.total some.0 some.1)) c.whole.result c.whole.ensures
 
 pub returns-clause-cost : goal.returns-clause-cost
 returns-clause-cost c =
+    let checked = c.args.checked.now in
     let some = c.measured.ensures.some in
-    if_ok (IsWhole c.args.checked.now) (λ code. total_cost code ≤ 65536) (costs_little c.args.checked.now some.0 some.1 (c.measured.ensures.total some.0 some.1)) c.whole.result c.whole.ensures
+    if_ok (IsWhole checked) (λ code. total_cost code ≤ 65536) (costs_little checked some.0 some.1 (c.measured.ensures.total some.0 some.1)) c.whole.result c.whole.ensures
 
 pub returns-clause-runs : goal.returns-clause-runs
 returns-clause-runs c =

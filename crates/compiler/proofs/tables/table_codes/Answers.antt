@@ -3,7 +3,7 @@ use Rattle.std.specs.List.{list_any}
 use Rattle.nft_tree.specs.Tree.{TableTree}
 use Rattle.rule_types.specs.Types.{table_misfits}
 use Rattle.rule_values.specs.Faults.{has_wrong_value}
-use Rattle.compiler.specs.steps.Placed.{IsTableCode}
+use Rattle.compiler.specs.Placed.{IsTableCode}
 use Rattle.compiler.proofs.AddLaws.{first_of, nothing_left, none_later}
 use Rattle.compiler.proofs.TableLaws.{tables_more, tables_all}
 use Rattle.compiler.proofs.tables.table_codes.Goals as goal
