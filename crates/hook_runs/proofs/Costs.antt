@@ -1,5 +1,5 @@
 -- All parts together cost no more than the code.
-use Rattle.std.proofs.Common.{◌≡◌, ℕ, ◌+◌, ◌≤◌, not, List, ap, arith, ℤ, negsuc}
+use Rattle.std.proofs.Common.{◌≡◌, ℕ, ◌+◌, ◌≤◌, not, List, refl, ap, arith, ℤ, negsuc}
 use Rattle.std.proofs.lemmas.List.Filters.{sum_by-filter_both}
 use Rattle.rule_check.specs.Checked.{CheckedTree}
 use Rattle.filter_vm.specs.declared.code.Code.{Code}

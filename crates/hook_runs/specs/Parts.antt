@@ -7,10 +7,11 @@ use Rattle.rule_meaning.specs.Hooks.{Base, filters_at, is_below, is_early}
 use Rattle.hook_runs.specs.declared.parts.Part.{Part}
 use Rattle.hook_runs.specs.declared.parts.Part.TheVariants as parts
 
--- the priority at which destinations are translated, and that at which sources are (nft(8), "Standard priority names")
+-- the priority at which destinations are translated (nft(8), "Standard priority names": dstnat, -100)
 abbrev pub dstnat : ℤ
 dstnat = negsuc 99
 
+-- the priority at which sources are translated (likewise: srcnat, 100)
 abbrev pub srcnat : ℤ
 srcnat = pos 100
 

@@ -62,8 +62,8 @@ impl HookRuns {
         &self.checked
     }
 
-    /// What is known of the costs of its parts: together they leave room for all events of a record.
-    /// It does nothing.
+    /// What is known of the costs of its parts: one after another they fit into the events of a
+    /// record. It does nothing.
     pub fn costs(&self)
         ensures { all_cost self.now ≤ 65536 }
     {
@@ -71,8 +71,8 @@ impl HookRuns {
     }
 
     /// Runs a packet through the base chains of a part, one after another, until one doesn't accept
-    /// it. Behind each the packet has the marks that its rules wrote. A part costs at most so many
-    /// events and as many started statements.
+    /// it. What rules may read at the end has the marks that they wrote. No more events happen, and
+    /// no more statements are started, than the part costs.
     #[inline]
     pub fn run(&self, part: Part, facts: &Facts, events: &mut Events) -> Outcome
         requires room { length events.old.events + part_cost self.now part ≤ 65536 }
