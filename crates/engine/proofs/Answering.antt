@@ -1,5 +1,5 @@
--- Two texts and a capture have a meaning, or a refusal.
-use Rattle.std.proofs.Common.{◌≡◌, ◌⊎◌, ℕ, true, false, Bool, List, [], length, Some, refl, inl, inr}
+-- Two texts and a capture have a meaning, or a refusal; and two texts are judged, or refused.
+use Rattle.std.proofs.Common.{◌≡◌, ◌⊎◌, ◌^◌, ◌-◌, ℕ, min, true, false, Bool, List, [], length, Some, refl, inl, inr}
 use Rattle.nft_tree.specs.Tree.{TableTree}
 use Rattle.nft_parser.specs.declared.fault.TextFault.{TextFault}
 use Rattle.nft_parser.specs.declared.fault.TextFault.TheVariants.{LeftOut}
@@ -18,14 +18,21 @@ use Rattle.engine.specs.declared.fault.RulesFault.TheVariants.{Text, Check}
 use Rattle.engine.specs.declared.fault.RunFault.{RunFault}
 use Rattle.engine.specs.declared.fault.RunFault.TheVariants.{Rules, Box, Capture}
 use Rattle.engine.specs.Meaning.{Accepted, Meaning, ending_of}
-use Rattle.engine.specs.Refusals.{IsRefusal, Refuses, Spelled}
+use Rattle.engine.specs.Refusals.{IsOfTexts, IsRefusal, Refuses, Spelled}
+use Rattle.engine.specs.Judged.{Judged, Misjudged}
+use Rattle.engine.specs.declared.judging.Counts.{Counts}
+use Rattle.rule_limits.specs.Limits.{chain_count, rule_count}
 use Rattle.engine.proofs.Stories.{SomeEntry, some_story}
 
--- what the readers of the texts and of the capture, and the rules, promise
-pub record Answers : Type 0 where
+-- what the readers of the texts promise
+pub record TextAnswers : Type 0 where
   pub text : (text : List ℕ) → ((tables : List TableTree) × Spells tables text) ⊎ ((fault : TextFault) × HasTextFault text fault)
   pub plant : (text : List ℕ) → ((p : PlantTree) × IsBox text p) ⊎ ((fault : BoxFault) × HasBoxFault text fault)
   pub check : (tables : List TableTree) (p : PlantTree) → WellFormed tables p ⊎ ((fault : CheckFault) × Least fault tables p)
+
+-- and with them the reader of the capture, and the rules
+pub record Answers : Type 0 where
+  pub texts : TextAnswers
   pub reading : (bytes : List ℕ) → ((fault : CaptureFault) × (header_fault bytes ≡ Some fault)) ⊎ ((records : List Captured) × (ending : Ending) × Pcap bytes records ending)
   pub entry : SomeEntry
 
@@ -41,7 +48,7 @@ meant answers rules box capture trace accepted records torn read =
       length records,
       torn,
       capture_text s.0,
-      report_text accepted.setup.rules trace s.0 torn,
+      report_text accepted.setup trace s.0 torn,
       record { accepted = accepted; records = records; read = read; counted = refl; story = s.0; grows = s.1; captured = refl; reported = refl },
     )
 
@@ -73,11 +80,36 @@ judged answers rules box capture trace texts (inr found) = inr (Rules (Check fou
 
 -- by the texts
 pub answered : Answers → (rules box capture : List ℕ) (trace : Bool) → Answer rules box capture trace
-answered answers rules box capture trace = by_text (answers.text rules) (answers.plant box)
+answered answers rules box capture trace = by_text (answers.texts.text rules) (answers.texts.plant box)
   where
     by_text : ((tables : List TableTree) × Spells tables rules) ⊎ ((fault : TextFault) × HasTextFault rules fault) → ((p : PlantTree) × IsBox box p) ⊎ ((fault : BoxFault) × HasBoxFault box fault) → Answer rules box capture trace
     by_text (inr h) other = inr (Rules (Text h.0), tt, inl h.1)
     by_text (inl s) (inr h) = inr (Box h.0, tt, (s.0, s.1, h.1))
     by_text (inl s) (inl p) =
         let texts : Spelled rules box = record { tables = s.0; spelled = s.1; plant = p.0; read = p.1 } in
-        judged answers rules box capture trace texts (answers.check s.0 p.0)
+        judged answers rules box capture trace texts (answers.texts.check s.0 p.0)
+
+-- ---- judging
+
+abbrev pub Judgement : List ℕ → List ℕ → Type 0
+Judgement rules box = ((counts : Counts) × Judged rules box counts) ⊎ ((fault : RunFault) × IsOfTexts fault × Misjudged rules box fault)
+
+-- by what is wrong with the ruleset
+counted : (rules box : List ℕ) (texts : Spelled rules box) → WellFormed texts.tables texts.plant ⊎ ((fault : CheckFault) × Least fault texts.tables texts.plant) → Judgement rules box
+counted rules box texts (inl well) =
+    inl (
+      record { tables = length texts.tables; chains = min (chain_count texts.tables) (2 ^ 64 - 1); rules = min (rule_count texts.tables) (2 ^ 64 - 1) },
+      record { texts = texts; well_formed = well; all_tables = refl; all_chains = refl; all_rules = refl },
+    )
+counted rules box texts (inr found) = inr (Rules (Check found.0), tt, (texts, found.1))
+
+-- by the texts
+pub judgement : TextAnswers → (rules box : List ℕ) → Judgement rules box
+judgement answers rules box = by_text (answers.text rules) (answers.plant box)
+  where
+    by_text : ((tables : List TableTree) × Spells tables rules) ⊎ ((fault : TextFault) × HasTextFault rules fault) → ((p : PlantTree) × IsBox box p) ⊎ ((fault : BoxFault) × HasBoxFault box fault) → Judgement rules box
+    by_text (inr h) other = inr (Rules (Text h.0), tt, h.1)
+    by_text (inl s) (inr h) = inr (Box h.0, tt, (s.0, s.1, h.1))
+    by_text (inl s) (inl p) =
+        let texts : Spelled rules box = record { tables = s.0; spelled = s.1; plant = p.0; read = p.1 } in
+        counted rules box texts (answers.check s.0 p.0)

@@ -1,3 +1,4 @@
+mod Known
 mod Writes
 mod Stories
 mod Telling

@@ -1,28 +1,31 @@
 -- A run, from what its parts did.
 use Rattle.std.proofs.Common.{◌≡◌, ◌≢◌, ◌<◌, ◌≤◌, ◌++◌, ◌⊎◌, ℕ, true, false, Bool, List, [], take, drop, length, Option, Some, None, IfSome, Result, Ok, Err, IfOk, IfErr, refl, sym, ap, subst, ◌∙◌, inl, inr, arith, append_assoc, take-append-drop, length-take-le}
-use Rattle.std.specs.List.{flat_map}
-use Rattle.std.specs.Io.KnownBytes.{Consumes}
-use Rattle.std.proofs.Math.Seq.{drop-append_seam}
+use Rattle.std.specs.Io.KnownBytes.{Consumes, IsAtEnd}
 use Rattle.nft_tree.specs.Tree.{TableTree}
 use Rattle.nft_parser.specs.Spells.{Spells}
 use Rattle.box_file.specs.Box.{PlantTree, IsBox}
 use Rattle.pcap_io.specs.declared.format.Format.{Format}
+use Rattle.pcap_io.specs.declared.fault.CaptureFault.{CaptureFault}
 use Rattle.pcap_io.specs.declared.fault.CaptureFault.TheVariants as captures
-use Rattle.pcap_io.specs.Pcap.{Captured, Pcap, Ending, Ends, format_of, frame, told, HEADER_BYTES}
+use Rattle.pcap_io.specs.Pcap.{Captured, Pcap, Ending, Ends, format_of, header_fault, told, HEADER_BYTES}
+use Rattle.pcap_io.specs.Seen.{Seen, READ_AHEAD, ahead}
 use Rattle.pcap_io.specs.Counting.{one_more}
 use Rattle.story.specs.Story.{Entry, capture_text}
 use Rattle.report.specs.Report.{report_text}
 use Rattle.rule_check.specs.Checked.{CheckedTree}
 use Rattle.stepping.specs.Stands.{setup_of}
-use Rattle.stepping.specs.Next.{Setup, Grows}
+use Rattle.story.specs.Setup.{Setup}
+use Rattle.stepping.specs.Next.{Grows}
 use Rattle.engine.specs.declared.fault.RunFault.{RunFault}
 use Rattle.engine.specs.declared.fault.RunFault.TheVariants.{Rules, Box, Capture, Device, Memory}
 use Rattle.engine.specs.Meaning.{Accepted, ending_of, Meaning, Wrote}
 use Rattle.engine.specs.Refusals.{Refuses, IsEarly, IsOfTexts}
-use Rattle.engine.specs.Left.{Began, CutOff, Devices, Left, Untouched}
+use Rattle.engine.specs.Left.{Devices, Left, SoFar, Unbegun, Unopened, Untouched}
 use Rattle.engine.specs.steps.Inputs.{IsOfInputs, Takes}
-use Rattle.engine.specs.steps.Replayed.{Cut, Follows, Halted, Start}
+use Rattle.engine.specs.steps.Replayed.{Reached, Start, coming}
 use Rattle.engine.specs.steps.Written.{Told, Held, SaysWithin, IsWithin, start_of}
+use Rattle.engine.proofs.Known.{known, nothing}
+use Rattle.engine.proofs.Replays.{ahead_is}
 use Rattle.engine.proofs.Stories.{OneEntry, one_story}
 
 -- ---- what follows under a result
@@ -90,45 +93,51 @@ one_meaning_of one rules box capture trace count others torn sign sent other_sen
       m.counted ∙ ap length same.0 ∙ sym n.counted,
       signs,
       m.captured ∙ ap capture_text stories ∙ sym n.captured,
-      m.reported ∙ ap (λ (s : Setup). report_text s.rules trace m.story torn) setups ∙ ap (λ s. report_text n.accepted.setup.rules trace s torn) stories
-          ∙ ap (report_text n.accepted.setup.rules trace n.story) signs ∙ sym n.reported,
+      m.reported ∙ ap (λ (s : Setup). report_text s trace m.story torn) setups ∙ ap (λ s. report_text n.accepted.setup trace s torn) stories
+          ∙ ap (report_text n.accepted.setup trace n.story) signs ∙ sym n.reported,
     )
 
 -- ---- after the header
 
 -- the bytes after the header of an accepted input are to come
 abbrev pub Opened : Option (List ℕ) → Option (List ℕ) → Format → Type 0
-Opened input ahead format = IfSome input (λ bytes. (HEADER_BYTES ≤ length bytes) × (format_of bytes ≡ Ok format) × (ahead ≡ Some (drop HEADER_BYTES bytes)))
+Opened input to_come format = IfSome input (λ bytes. (HEADER_BYTES ≤ length bytes) × (format_of bytes ≡ Ok format) × (to_come ≡ Some (drop HEADER_BYTES bytes)))
 
-known : (ahead : Option (List ℕ)) (rest : List ℕ) (P : List ℕ → Type 0) → ahead ≡ Some rest → IfSome ahead P → P rest
-known ahead rest P e h = let Q : Option (List ℕ) → Type 0 = λ o. IfSome o P in subst Q e h
+-- what is to come is what the capture tells, where the reader is at its end with it
+pub opened : (input : Option (List ℕ)) (s : Seen) (unread : Option (List ℕ)) (part : List ℕ) → Consumes input unread part → (s.ended ≡ true → IsAtEnd unread)
+    → IfSome input (λ bytes. (HEADER_BYTES ≤ length bytes) × (format_of bytes ≡ Ok s.format) × (ahead s unread ≡ Some (drop HEADER_BYTES bytes))) → Opened input (coming s unread) s.format
+opened None s unread part takes at_end h = tt
+opened (Some bytes) s None part takes at_end h = absurd takes
+opened (Some bytes) s (Some left) part takes at_end h = (h.0, h.1, sym (ahead_is s (Some left) left refl at_end) ∙ h.2)
 
 -- the reading of a capture whose header is accepted
-reading : (setup : Setup) (format : Format) (bytes rest : List ℕ) (story : List Entry) (ending : Ending) (f : Follows setup format (drop HEADER_BYTES bytes) rest story) → format_of bytes ≡ Ok format
-    → Ends format ending (length f.records) rest → Pcap bytes f.records ending
-reading setup format bytes rest story ending f header ends = record { format = format; accepted = header; rest = rest; whole = f.joined; each = f.each; not_over = f.not_over; ends = ends }
+reading : (setup : Setup) (format : Format) (bytes : List ℕ) (unread : Option (List ℕ)) (ending : Ending) (at : Reached setup format (drop HEADER_BYTES bytes) unread) → format_of bytes ≡ Ok format
+    → Ends format ending (length at.follows.records) (at.ahead ++ at.left) → Pcap bytes at.follows.records ending
+reading setup format bytes unread ending at header ends =
+    record { format = format; accepted = header; rest = at.ahead ++ at.left; whole = at.follows.joined; each = at.follows.each; not_over = at.follows.not_over; ends = ends }
 
-pub wrote : Single → (rules box : List ℕ) (accepted : Accepted rules box) (start : Start) (format : Format) (input ahead w r : Option (List ℕ)) (count : ℕ) (torn : Bool) → start.setup ≡ accepted.setup
-    → Opened input ahead format → IfSome ahead (λ bytes. Told start format bytes count torn w r)
+pub wrote : Single → (rules box : List ℕ) (accepted : Accepted rules box) (start : Start) (format : Format) (input to_come unread w r : Option (List ℕ)) (count : ℕ) (torn : Bool) → start.setup ≡ accepted.setup
+    → Opened input to_come format → IfSome to_come (λ bytes. Told start format bytes count torn unread w r)
     → IfSome input (λ bytes. Wrote rules box bytes start.trace count torn start.sent w start.report r)
 unfolding reading
-wrote one rules box accepted start format None ahead w r count torn same opened done = tt
-wrote one rules box accepted start format (Some bytes) ahead w r count torn same opened done =
-    let t : Told start format (drop HEADER_BYTES bytes) count torn w r = known ahead (drop HEADER_BYTES bytes) (λ bytes. Told start format bytes count torn w r) opened.2 done in
-    let meaning : Meaning rules box bytes start.trace count torn (capture_text t.story) (report_text start.setup.rules start.trace t.story torn) =
+wrote one rules box accepted start format None to_come unread w r count torn same opened done = tt
+wrote one rules box accepted start format (Some bytes) to_come unread w r count torn same opened done =
+    let t : Told start format (drop HEADER_BYTES bytes) count torn unread w r = known to_come (drop HEADER_BYTES bytes) (λ bytes. Told start format bytes count torn unread w r) opened.2 done in
+    let story : List Entry = t.reached.story in
+    let meaning : Meaning rules box bytes start.trace count torn (capture_text story) (report_text start.setup start.trace story torn) =
     record {
       accepted = accepted;
-      records = t.follows.records;
-      read = reading start.setup format bytes t.rest t.story (ending_of torn) t.follows opened.1 t.ends;
+      records = t.reached.follows.records;
+      read = reading start.setup format bytes unread (ending_of torn) t.reached opened.1 t.ends;
       counted = t.counted;
-      story = t.story;
-      grows = subst (λ (s : Setup). Grows s [] (told format t.follows.records) t.story) same t.follows.grows;
+      story = story;
+      grows = subst (λ (s : Setup). Grows s [] (told format t.reached.follows.records) story) same t.reached.follows.grows;
       captured = refl;
-      reported = ap (λ (s : Setup). report_text s.rules start.trace t.story torn) same;
+      reported = ap (λ (s : Setup). report_text s start.trace story torn) same;
     } in
     record {
-      sent = capture_text t.story;
-      report = report_text start.setup.rules start.trace t.story torn;
+      sent = capture_text story;
+      report = report_text start.setup start.trace story torn;
       meaning = meaning;
       only = λ others sign other_sent other_report m. one_meaning_of one rules box bytes start.trace others count sign torn other_sent _ other_report _ m meaning;
       appends = t.finished.all_sent;
@@ -136,128 +145,138 @@ wrote one rules box accepted start format (Some bytes) ahead w r count torn same
     }
 
 -- a fault within the records is a refusal of the capture, or none
-pub refuses_within : (rules box : List ℕ) (accepted : Accepted rules box) (setup : Setup) (trace : Bool) (format : Format) (input ahead : Option (List ℕ)) (old new : Devices) (fault : RunFault) → Opened input ahead format → IsWithin fault
-    → IfSome ahead (λ bytes. SaysWithin setup trace format bytes old new fault) → Refuses rules box input fault
-refuses_within rules box accepted setup trace format None ahead old new (Capture fault) opened within says = (accepted, tt)
-refuses_within rules box accepted setup trace format (Some bytes) ahead old new (Capture fault) opened within says =
-    let h : Held (start_of setup trace old) format (drop HEADER_BYTES bytes) fault new.sent new.report =
-    known ahead (drop HEADER_BYTES bytes) (λ bytes. Held (start_of setup trace old) format bytes fault new.sent new.report) opened.2 says in
-    (accepted, inr (h.follows.records, h.ending, reading setup format bytes h.rest h.story h.ending h.follows opened.1 h.ends, h.refused))
-refuses_within rules box accepted setup trace format input ahead old new (Rules fault) opened within says = absurd within
-refuses_within rules box accepted setup trace format input ahead old new (Box fault) opened within says = absurd within
-refuses_within rules box accepted setup trace format input ahead old new Device opened within says = tt
-refuses_within rules box accepted setup trace format input ahead old new Memory opened within says = tt
+pub refuses_within : (rules box : List ℕ) (accepted : Accepted rules box) (setup : Setup) (trace : Bool) (format : Format) (input to_come : Option (List ℕ)) (old new : Devices) (fault : RunFault) → Opened input to_come format → IsWithin fault
+    → IfSome to_come (λ bytes. SaysWithin setup trace format bytes old new fault) → Refuses rules box input fault
+refuses_within rules box accepted setup trace format None to_come old new (Capture fault) opened within says = (accepted, tt)
+refuses_within rules box accepted setup trace format (Some bytes) to_come old new (Capture fault) opened within says =
+    let s = known to_come (drop HEADER_BYTES bytes) (λ bytes. SaysWithin setup trace format bytes old new (Capture fault)) opened.2 says in
+    let h : Held (start_of setup trace old) format (drop HEADER_BYTES bytes) fault new.unread new.sent new.report = s.0 in
+    (accepted, inr (h.reached.follows.records, h.ending, reading setup format bytes new.unread h.ending h.reached opened.1 h.ends, h.refused))
+refuses_within rules box accepted setup trace format input to_come old new (Rules fault) opened within says = absurd within
+refuses_within rules box accepted setup trace format input to_come old new (Box fault) opened within says = absurd within
+refuses_within rules box accepted setup trace format input to_come old new Device opened within says = tt
+refuses_within rules box accepted setup trace format input to_come old new Memory opened within says = tt
 
 -- ---- what is left
 
-began : (rules box bytes : List ℕ) (trace : Bool) (accepted : Accepted rules box) (format : Format) (old new : Devices) → format_of bytes ≡ Ok format
-    → Halted (start_of accepted.setup trace old) format (drop HEADER_BYTES bytes) new.sent new.report → new.reads_failed ≡ old.reads_failed → Began rules box bytes trace old new
-began rules box bytes trace accepted format old new header h calm =
+so_far : (rules box bytes : List ℕ) (accepted : Accepted rules box) (format : Format) (new : Devices) → format_of bytes ≡ Ok format → Reached accepted.setup format (drop HEADER_BYTES bytes) new.unread → SoFar rules box bytes new
+so_far rules box bytes accepted format new header at =
     record {
       accepted = accepted;
-      records = h.follows.records;
-      begins = record { format = format; accepted = header; more = h.rest; joined = h.follows.joined; each = h.follows.each; not_over = h.follows.not_over };
-      story = h.story;
-      grows = h.follows.grows;
-      sent = h.part.part_sent;
-      report = h.part.part_lines;
-      all_read = calm;
+      format = format;
+      header = header;
+      records = at.follows.records;
+      ahead = at.ahead;
+      left = at.left;
+      joined = at.follows.joined;
+      unread = at.is_left;
+      each = at.follows.each;
+      not_over = at.follows.not_over;
+      story = at.story;
+      grows = at.follows.grows;
     }
 
--- the header of a file alone tells its format
-abbrev pub HeaderAlone : Type 0
-HeaderAlone = (bytes more : List ℕ) → HEADER_BYTES ≤ length bytes → format_of (bytes ++ more) ≡ format_of bytes
+-- once the capture is opened, before which no read failed
+abbrev opened_of : Devices → Option (List ℕ) → ℕ → Devices
+opened_of old unread failed = record { unread = unread; sent = old.sent; report = old.report; reads_failed = failed; sends_failed = old.sends_failed; reports_failed = old.reports_failed }
 
-drop_front : (front rest : List ℕ) (n : ℕ) → length front ≡ n → drop n (front ++ rest) ≡ rest
-drop_front front rest n e = subst (λ (k : ℕ). drop k (front ++ rest) ≡ rest) e (drop-append_seam front rest)
-
--- what was read before a read that failed
-cut_off : HeaderAlone → (rules box bytes : List ℕ) (trace : Bool) (accepted : Accepted rules box) (format : Format) (old new : Devices) → HEADER_BYTES ≤ length bytes → format_of bytes ≡ Ok format
-    → Cut (start_of accepted.setup trace old) format (drop HEADER_BYTES bytes) new.unread new.sent new.report → new.reads_failed ≡ one_more old.reads_failed → CutOff rules box bytes trace old new
-cut_off alone rules box bytes trace accepted format old new long header c failed =
-    let front : List ℕ = take HEADER_BYTES bytes in
-    let records : List ℕ = flat_map frame c.follows.records in
-    let whole : bytes ≡ front ++ drop HEADER_BYTES bytes = sym (take-append-drop HEADER_BYTES bytes) in
-    let long_front : length front ≡ HEADER_BYTES = length-take-le HEADER_BYTES bytes long in
-    let enough : HEADER_BYTES ≤ length front = omega (arith, long_front) in
-    let same : format_of (front ++ (records ++ c.held)) ≡ format_of bytes =
-    alone front (records ++ c.held) enough ∙ sym (alone front (drop HEADER_BYTES bytes) enough) ∙ ap format_of (sym whole) in
-    record {
-      accepted = accepted;
-      part = front ++ (records ++ c.held);
-      left = c.left;
-      unread = c.is_left;
-      joined = whole ∙ ap (λ xs. front ++ xs) (c.follows.joined ∙ sym (append_assoc records c.held c.left)) ∙ sym (append_assoc front (records ++ c.held) c.left);
-      records = c.follows.records;
-      torn = c.torn;
-      read = record {
-        format = format;
-        accepted = same ∙ header;
-        rest = c.held;
-        whole = drop_front front (records ++ c.held) HEADER_BYTES long_front;
-        each = c.follows.each;
-        not_over = c.follows.not_over;
-        ends = c.ends;
-      };
-      story = c.story;
-      grows = c.follows.grows;
-      sent = c.all.all_sent;
-      report = c.all.all_lines;
-      failed = failed;
-    }
-
-pub left_within : HeaderAlone → (rules box : List ℕ) (trace : Bool) (accepted : Accepted rules box) (format : Format) (input ahead : Option (List ℕ)) (old new : Devices) (fault : RunFault) → Opened input ahead format → IsWithin fault
-    → IfSome ahead (λ bytes. SaysWithin accepted.setup trace format bytes old new fault) → IfSome input (λ bytes. Left rules box bytes trace old new fault)
-unfolding reading
-left_within alone rules box trace accepted format None ahead old new fault opened within says = tt
-left_within alone rules box trace accepted format (Some bytes) ahead old new (Rules fault) opened within says = absurd within
-left_within alone rules box trace accepted format (Some bytes) ahead old new (Box fault) opened within says = absurd within
-left_within alone rules box trace accepted format (Some bytes) ahead old new (Capture fault) opened within says =
-    let h : Held (start_of accepted.setup trace old) format (drop HEADER_BYTES bytes) fault new.sent new.report =
-    known ahead (drop HEADER_BYTES bytes) (λ bytes. Held (start_of accepted.setup trace old) format bytes fault new.sent new.report) opened.2 says in
+left_within : (rules box : List ℕ) (trace : Bool) (accepted : Accepted rules box) (format : Format) (bytes : List ℕ) (old new : Devices) (unread : Option (List ℕ)) (failed : ℕ) (fault : RunFault) → format_of bytes ≡ Ok format → IsWithin fault
+    → failed ≡ old.reads_failed → (new.unread ≡ unread → Untouched old new → new.reads_failed ≡ old.reads_failed → Unbegun bytes old new)
+    → SaysWithin accepted.setup trace format (drop HEADER_BYTES bytes) (opened_of old unread failed) new fault → Left rules box bytes trace old new fault
+unfolding so_far
+left_within rules box trace accepted format bytes old new unread failed (Rules fault) header within before none says = absurd within
+left_within rules box trace accepted format bytes old new unread failed (Box fault) header within before none says = absurd within
+left_within rules box trace accepted format bytes old new unread failed (Capture fault) header within before none (h, calm) =
     inr (record {
-      accepted = accepted;
-      records = h.follows.records;
+      so_far = so_far rules box bytes accepted format new header h.reached;
+      few = h.few;
       ending = h.ending;
-      read = reading accepted.setup format bytes h.rest h.story h.ending h.follows opened.1 h.ends;
+      ends = h.ends;
       refused = h.refused;
-      story = h.story;
-      grows = h.follows.grows;
       sent = h.all.all_sent;
       report = h.all.all_lines;
+      all_read = calm ∙ before;
     })
-left_within alone rules box trace accepted format (Some bytes) ahead old new Device opened within says =
-    by_device (known ahead (drop HEADER_BYTES bytes) (λ bytes. SaysWithin accepted.setup trace format bytes old new Device) opened.2 says)
-  where
-    by_device : SaysWithin accepted.setup trace format (drop HEADER_BYTES bytes) old new Device → Left rules box bytes trace old new Device
-    by_device (inl (inl (c, failed))) = inr (inl (cut_off alone rules box bytes trace accepted format old new opened.0 opened.1 c failed))
-    by_device (inl (inr (h, calm))) = inr (inr (inl (began rules box bytes trace accepted format old new opened.1 h calm)))
-    by_device (inr (u, failed)) =
-        inr (inr (inr (record {
-          accepted = accepted;
-          records = u.follows.records;
-          torn = u.torn;
-          read = reading accepted.setup format bytes u.rest u.story (ending_of u.torn) u.follows opened.1 u.ends;
-          story = u.story;
-          grows = u.follows.grows;
-          sent = u.unfinished.all_sent;
-          report = u.unfinished.part_lines;
-          failed = failed;
-        })))
-left_within alone rules box trace accepted format (Some bytes) ahead old new Memory opened within says =
-    let h : Halted (start_of accepted.setup trace old) format (drop HEADER_BYTES bytes) new.sent new.report × (new.reads_failed ≡ old.reads_failed) =
-    known ahead (drop HEADER_BYTES bytes) (λ bytes. SaysWithin accepted.setup trace format bytes old new Memory) opened.2 says in
-    inr (began rules box bytes trace accepted format old new opened.1 h.0 h.1)
+left_within rules box trace accepted format bytes old new unread failed Device header within before none (inl (inl (c, fails))) =
+    inr (inl (record {
+      so_far = so_far rules box bytes accepted format new header c.reached;
+      few = c.few;
+      torn = c.torn;
+      ends = c.ends;
+      sent = c.all.all_sent;
+      report = c.all.all_lines;
+      failed = fails ∙ ap one_more before;
+    }))
+left_within rules box trace accepted format bytes old new unread failed Device header within before none (inl (inr (h, calm))) =
+    inr (inr (inl (record {
+      so_far = so_far rules box bytes accepted format new header h.reached;
+      few = h.few;
+      sent = h.part.part_sent;
+      report = h.part.part_lines;
+      all_read = calm ∙ before;
+    })))
+left_within rules box trace accepted format bytes old new unread failed Device header within before none (inr (u, fails)) =
+    inr (inr (inr (record {
+      so_far = so_far rules box bytes accepted format new header u.reached;
+      few = u.few;
+      torn = u.torn;
+      ends = u.ends;
+      sent = u.unfinished.all_sent;
+      report = u.unfinished.part_lines;
+      failed = fails;
+    })))
+left_within rules box trace accepted format bytes old new unread failed Memory header within before none (inl (l, calm)) =
+    inr (record {
+      so_far = so_far rules box bytes accepted format new header l.reached;
+      untaken = l.untaken;
+      is_record = l.is_record;
+      more = l.more;
+      read = l.read;
+      few = l.few;
+      sent = l.all.all_sent;
+      report = l.all.all_lines;
+      all_read = calm ∙ before;
+    })
+left_within rules box trace accepted format bytes old new unread failed Memory header within before none (inr (same, kept, calm)) = inl (none same kept (calm ∙ before))
+
+-- ---- before the first record
+
+-- what a reader gave and has left
+unbegun : (bytes part : List ℕ) (old new : Devices) (unread : Option (List ℕ)) → new.unread ≡ unread → Consumes (Some bytes) unread part → length part ≤ READ_AHEAD → Untouched old new
+    → new.reads_failed ≡ old.reads_failed → Unbegun bytes old new
+unbegun bytes part old new None e takes few kept calm = absurd takes
+unbegun bytes part old new (Some left) e takes few kept calm = record { part = part; left = left; unread = e; joined = takes; few = few; untouched = kept; all_read = calm }
 
 -- a read failed before the header was there
-pub left_unopened : (rules box : List ℕ) (trace : Bool) (input : Option (List ℕ)) (old new : Devices) (part : List ℕ) → Consumes input new.unread part → length part < HEADER_BYTES → Untouched old new
+pub left_unopened : (rules box : List ℕ) (accepted : Accepted rules box) (trace : Bool) (input : Option (List ℕ)) (old new : Devices) (part : List ℕ) → Consumes input new.unread part → length part < HEADER_BYTES → Untouched old new
     → new.reads_failed ≡ one_more old.reads_failed → IfSome input (λ bytes. Left rules box bytes trace old new Device)
-left_unopened rules box trace None old new part consumes short kept failed = tt
-left_unopened rules box trace (Some bytes) old new part consumes short kept failed = by_rest new.unread refl consumes
+left_unopened rules box accepted trace None old new part takes short kept failed = tt
+left_unopened rules box accepted trace (Some bytes) old new part takes short kept failed = by_rest new.unread refl takes
   where
     by_rest : (rest : Option (List ℕ)) → new.unread ≡ rest → Consumes (Some bytes) rest part → Left rules box bytes trace old new Device
     by_rest None e h = absurd h
-    by_rest (Some left) e h = inl (record { part = part; left = left; unread = e; joined = h; short = short; untouched = kept; failed = failed })
+    by_rest (Some left) e h = inl (record { accepted = accepted; part = part; left = left; unread = e; joined = h; short = short; untouched = kept; failed = failed })
+
+-- the header is refused
+pub left_unread : (rules box : List ℕ) (trace : Bool) (input : Option (List ℕ)) (old new : Devices) (part : List ℕ) (fault : CaptureFault) → Consumes input new.unread part → length part ≤ READ_AHEAD → Untouched old new
+    → new.reads_failed ≡ old.reads_failed → IfSome input (λ bytes. header_fault bytes ≡ Some fault) → IfSome input (λ bytes. Left rules box bytes trace old new (Capture fault))
+left_unread rules box trace None old new part fault takes few kept calm refused = tt
+left_unread rules box trace (Some bytes) old new part fault takes few kept calm refused = inl (refused, unbegun bytes part old new new.unread refl takes few kept calm)
+
+-- there was no room before anything was written
+pub left_untouched : (rules box : List ℕ) (trace : Bool) (input : Option (List ℕ)) (old new : Devices) (part : List ℕ) → Consumes input new.unread part → length part ≤ READ_AHEAD → Untouched old new
+    → new.reads_failed ≡ old.reads_failed → IfSome input (λ bytes. Left rules box bytes trace old new Memory)
+left_untouched rules box trace None old new part takes few kept calm = tt
+left_untouched rules box trace (Some bytes) old new part takes few kept calm = inl (unbegun bytes part old new new.unread refl takes few kept calm)
+
+-- a fault of the texts, or want of room beside them: nothing was read
+pub left_of_texts : (rules box : List ℕ) (trace : Bool) (input : Option (List ℕ)) (old new : Devices) (fault : RunFault) → Consumes input new.unread [] → Untouched old new → new.reads_failed ≡ old.reads_failed → IsOfInputs fault
+    → IfSome input (λ bytes. Left rules box bytes trace old new fault)
+left_of_texts rules box trace input old new (Rules fault) takes kept calm of = nothing input (λ bytes. Left rules box bytes trace old new (Rules fault)) (λ bytes. kept)
+left_of_texts rules box trace input old new (Box fault) takes kept calm of = nothing input (λ bytes. Left rules box bytes trace old new (Box fault)) (λ bytes. kept)
+left_of_texts rules box trace input old new Memory takes kept calm of = left_untouched rules box trace input old new [] takes (omega arith) kept calm
+left_of_texts rules box trace input old new (Capture fault) takes kept calm of = absurd of
+left_of_texts rules box trace input old new Device takes kept calm of = absurd of
 
 -- and it wasn't told early
 pub not_early : (fault : RunFault) (P : Type 0) → IsWithin fault → IsEarly fault → P
@@ -279,20 +298,6 @@ not_of_texts (Box fault) P within of = absurd within
 not_of_texts Device P within of = absurd of
 not_of_texts Memory P within of = absurd of
 
--- ---- before the header
-
-pub nothing : (input : Option (List ℕ)) (P : List ℕ → Type 0) → ((bytes : List ℕ) → P bytes) → IfSome input P
-nothing None P h = tt
-nothing (Some bytes) P h = h bytes
-
--- nothing was written yet
-pub left_of_texts : (rules box bytes : List ℕ) (trace : Bool) (old new : Devices) (fault : RunFault) → Untouched old new → IsOfInputs fault → Left rules box bytes trace old new fault
-left_of_texts rules box bytes trace old new (Rules fault) kept of = kept
-left_of_texts rules box bytes trace old new (Box fault) kept of = kept
-left_of_texts rules box bytes trace old new Memory kept of = inl kept
-left_of_texts rules box bytes trace old new (Capture fault) kept of = absurd of
-left_of_texts rules box bytes trace old new Device kept of = absurd of
-
 -- a text's fault isn't one of a device
 pub of_inputs : (fault : RunFault) → IsOfInputs fault → fault ≢ Device
 of_inputs (Rules fault) of e = cc
@@ -307,44 +312,22 @@ of_inputs Device of e = absurd of
 same_as : (rules box : List ℕ) (checked : CheckedTree) (setup : Setup) (t : Takes rules box checked) → setup ≡ setup_of checked → setup ≡ t.accepted.setup
 same_as rules box checked setup t e = e ∙ sym t.same
 
-pub wrote_all : Single → (rules box : List ℕ) (checked : CheckedTree) (start : Start) (format : Format) (input ahead w r : Option (List ℕ)) (count : ℕ) (torn : Bool)
-    → Takes rules box checked → start.setup ≡ setup_of checked → Opened input ahead format → IfSome ahead (λ bytes. Told start format bytes count torn w r)
+pub wrote_all : Single → (rules box : List ℕ) (checked : CheckedTree) (start : Start) (format : Format) (input to_come unread w r : Option (List ℕ)) (count : ℕ) (torn : Bool)
+    → Takes rules box checked → start.setup ≡ setup_of checked → Opened input to_come format → IfSome to_come (λ bytes. Told start format bytes count torn unread w r)
     → IfSome input (λ bytes. Wrote rules box bytes start.trace count torn start.sent w start.report r)
-wrote_all one rules box checked start format input ahead w r count torn t e opened done =
-    wrote one rules box t.accepted start format input ahead w r count torn (same_as rules box checked start.setup t e) opened done
+wrote_all one rules box checked start format input to_come unread w r count torn t e opened done =
+    wrote one rules box t.accepted start format input to_come unread w r count torn (same_as rules box checked start.setup t e) opened done
 
-pub refuses_all : (rules box : List ℕ) (checked : CheckedTree) (setup : Setup) (trace : Bool) (format : Format) (input ahead : Option (List ℕ)) (old new : Devices) (fault : RunFault)
-    → Takes rules box checked → Opened input ahead format → IsWithin fault → IfSome ahead (λ bytes. SaysWithin setup trace format bytes old new fault) → Refuses rules box input fault
-refuses_all rules box checked setup trace format input ahead old new fault t opened within says = refuses_within rules box t.accepted setup trace format input ahead old new fault opened within says
+pub refuses_all : (rules box : List ℕ) (checked : CheckedTree) (setup : Setup) (trace : Bool) (format : Format) (input to_come : Option (List ℕ)) (old new : Devices) (fault : RunFault)
+    → Takes rules box checked → Opened input to_come format → IsWithin fault → IfSome to_come (λ bytes. SaysWithin setup trace format bytes old new fault) → Refuses rules box input fault
+refuses_all rules box checked setup trace format input to_come old new fault t opened within says = refuses_within rules box t.accepted setup trace format input to_come old new fault opened within says
 
--- once the capture is opened, before which no read failed
-abbrev opened_of : Devices → Option (List ℕ) → ℕ → Devices
-opened_of old unread failed = record { unread = unread; sent = old.sent; report = old.report; reads_failed = failed; sends_failed = old.sends_failed; reports_failed = old.reports_failed }
-
-since_opened : (setup : Setup) (trace : Bool) (format : Format) (bytes : List ℕ) (old new : Devices) (unread : Option (List ℕ)) (failed : ℕ) (fault : RunFault) → failed ≡ old.reads_failed
-    → SaysWithin setup trace format bytes (opened_of old unread failed) new fault → SaysWithin setup trace format bytes old new fault
-since_opened setup trace format bytes old new unread failed (Capture fault) e says = says
-since_opened setup trace format bytes old new unread failed Device e (inl (inl (c, f))) = inl (inl (c, f ∙ ap one_more e))
-since_opened setup trace format bytes old new unread failed Device e (inl (inr (h, k))) = inl (inr (h, k ∙ e))
-since_opened setup trace format bytes old new unread failed Device e (inr u) = inr u
-since_opened setup trace format bytes old new unread failed Memory e (h, k) = (h, k ∙ e)
-since_opened setup trace format bytes old new unread failed (Rules fault) e says = absurd says
-since_opened setup trace format bytes old new unread failed (Box fault) e says = absurd says
-
-each_known : (a : Option (List ℕ)) (P Q : List ℕ → Type 0) → ((bytes : List ℕ) → P bytes → Q bytes) → IfSome a P → IfSome a Q
-each_known None P Q f h = tt
-each_known (Some bytes) P Q f h = f bytes h
-
-pub left_all : HeaderAlone → (rules box : List ℕ) (trace : Bool) (checked : CheckedTree) (setup : Setup) (format : Format) (input ahead : Option (List ℕ)) (old new : Devices) (unread : Option (List ℕ)) (failed : ℕ) (fault : RunFault)
-    → failed ≡ old.reads_failed → Takes rules box checked → setup ≡ setup_of checked → Opened input ahead format → IsWithin fault
-    → IfSome ahead (λ bytes. SaysWithin setup trace format bytes (opened_of old unread failed) new fault) → IfSome input (λ bytes. Left rules box bytes trace old new fault)
-left_all alone rules box trace checked setup format input ahead old new unread failed fault calm t e opened within says =
-    left_within alone rules box trace t.accepted format input ahead old new fault opened within
-    (subst (λ (s : Setup). IfSome ahead (λ bytes. SaysWithin s trace format bytes old new fault)) (same_as rules box checked setup t e)
-    (each_known ahead (λ bytes. SaysWithin setup trace format bytes (opened_of old unread failed) new fault) (λ bytes. SaysWithin setup trace format bytes old new fault)
-    (λ bytes. since_opened setup trace format bytes old new unread failed fault calm) says))
-
--- there was no room before anything was written
-pub left_untouched : (rules box : List ℕ) (trace : Bool) (input : Option (List ℕ)) (old new : Devices) → Untouched old new → IfSome input (λ bytes. Left rules box bytes trace old new Memory)
-left_untouched rules box trace None old new kept = tt
-left_untouched rules box trace (Some bytes) old new kept = inl kept
+pub left_all : (rules box : List ℕ) (trace : Bool) (checked : CheckedTree) (setup : Setup) (format : Format) (input to_come : Option (List ℕ)) (old new : Devices) (unread : Option (List ℕ)) (failed : ℕ) (part : List ℕ) (fault : RunFault)
+    → failed ≡ old.reads_failed → Consumes input unread part → length part ≤ READ_AHEAD → Takes rules box checked → setup ≡ setup_of checked → Opened input to_come format → IsWithin fault
+    → IfSome to_come (λ bytes. SaysWithin setup trace format bytes (opened_of old unread failed) new fault) → IfSome input (λ bytes. Left rules box bytes trace old new fault)
+left_all rules box trace checked setup format None to_come old new unread failed part fault before takes few t e opened within says = tt
+left_all rules box trace checked setup format (Some bytes) to_come old new unread failed part fault before takes few t e opened within says =
+    left_within rules box trace t.accepted format bytes old new unread failed fault opened.1 within before
+    (λ same kept all_read. unbegun bytes part old new unread same takes few kept all_read)
+    (subst (λ (s : Setup). SaysWithin s trace format (drop HEADER_BYTES bytes) (opened_of old unread failed) new fault) (same_as rules box checked setup t e)
+    (known to_come (drop HEADER_BYTES bytes) (λ bytes. SaysWithin setup trace format bytes (opened_of old unread failed) new fault) opened.2 says))

@@ -1,5 +1,5 @@
--- Two texts and a capture are refused for one fault at most, and then they mean nothing.
-use Rattle.std.proofs.Common.{◌≡◌, ℕ, true, false, Bool, List, Some, sym, ap, subst, ◌∙◌, inl, inr}
+-- Two texts and a capture are refused for one fault at most, and then they mean nothing; and two texts are judged in one way at most.
+use Rattle.std.proofs.Common.{◌≡◌, ◌^◌, ◌-◌, ℕ, length, min, true, false, Bool, List, Some, sym, ap, subst, ◌∙◌, inl, inr}
 use Rattle.std.specs.Result.{result_err}
 use Rattle.nft_tree.specs.Tree.{TableTree}
 use Rattle.nft_parser.specs.declared.fault.TextFault.{TextFault}
@@ -11,12 +11,15 @@ use Rattle.pcap_io.specs.Pcap.{Captured, Pcap, Ending, header_fault}
 use Rattle.stepping.specs.Taken.{takes}
 use Rattle.rule_check.specs.declared.fault.CheckFault.{CheckFault}
 use Rattle.rule_check.specs.WellFormed.{Least, WellFormed}
+use Rattle.rule_limits.specs.Limits.{chain_count, rule_count}
+use Rattle.engine.specs.declared.judging.Counts.{Counts}
 use Rattle.engine.specs.declared.fault.RulesFault.{RulesFault}
 use Rattle.engine.specs.declared.fault.RulesFault.TheVariants.{Text, Check}
 use Rattle.engine.specs.declared.fault.RunFault.{RunFault}
 use Rattle.engine.specs.declared.fault.RunFault.TheVariants.{Rules, Box, Capture, Device, Memory}
 use Rattle.engine.specs.Meaning.{Accepted, Meaning, ending_of}
-use Rattle.engine.specs.Refusals.{IsFaulty, IsRefused, IsRefusal, Refuses, RefusesRules, Spelled, fault_at}
+use Rattle.engine.specs.Refusals.{IsFaulty, IsOfTexts, IsRefused, IsRefusal, Refuses, RefusesRules, Spelled, fault_at}
+use Rattle.engine.specs.Judged.{Judged, Misjudged}
 use Rattle.engine.proofs.Meanings.{OneBox, OneReading, OneTree}
 
 -- what the readers of the texts and of the capture promise
@@ -154,3 +157,37 @@ refused_for_one laws rules box capture (Box fault) other is is' h k = box_only l
 refused_for_one laws rules box capture (Capture fault) other is is' h k = capture_only laws rules box capture fault other h.0 h.1 is' k
 refused_for_one laws rules box capture Device other is is' h k = absurd is
 refused_for_one laws rules box capture Memory other is is' h k = absurd is
+
+-- ---- judging
+
+-- texts that are judged have one count of tables, chains and rules
+pub judged_once : Laws → (rules box : List ℕ) (counts other : Counts) → Judged rules box counts → Judged rules box other → counts ≡ other
+judged_once laws rules box counts other j k =
+    let same : j.texts.tables ≡ k.texts.tables = same_tables laws rules box j.texts k.texts in
+    ap (λ n. record { tables = n; chains = counts.chains; rules = counts.rules }) (j.all_tables ∙ ap length same ∙ sym k.all_tables)
+    ∙ ap (λ n. record { tables = other.tables; chains = n; rules = counts.rules }) (j.all_chains ∙ ap (λ ts. min (chain_count ts) (2 ^ 64 - 1)) same ∙ sym k.all_chains)
+    ∙ ap (λ n. record { tables = other.tables; chains = other.chains; rules = n }) (j.all_rules ∙ ap (λ ts. min (rule_count ts) (2 ^ 64 - 1)) same ∙ sym k.all_rules)
+
+-- and no fault
+pub judged_or_faulty : Laws → (rules box : List ℕ) (counts : Counts) (fault : RunFault) → IsOfTexts fault → Judged rules box counts → Misjudged rules box fault → ⊥
+judged_or_faulty laws rules box counts (Rules fault) is j h = not_faulty laws rules box fault j.texts j.well_formed h
+judged_or_faulty laws rules box counts (Box fault) is j h = laws.sound_box box j.texts.plant fault j.texts.read h.2
+judged_or_faulty laws rules box counts (Capture fault) is j h = is
+judged_or_faulty laws rules box counts Device is j h = is
+judged_or_faulty laws rules box counts Memory is j h = is
+
+-- of which there is one at most
+pub misjudged_once : Laws → (rules box : List ℕ) (fault other : RunFault) → IsOfTexts fault → IsOfTexts other → Misjudged rules box fault → Misjudged rules box other → fault ≡ other
+misjudged_once laws rules box (Rules f) (Rules g) is is' h k = ap Rules (one_faulty laws rules box f g h k)
+misjudged_once laws rules box (Rules f) (Box g) is is' h k = absurd (faulty_or_box laws rules box f g k.0 h k.1 k.2)
+misjudged_once laws rules box (Box f) (Rules g) is is' h k = absurd (faulty_or_box laws rules box g f h.0 k h.1 h.2)
+misjudged_once laws rules box (Box f) (Box g) is is' h k = ap Box (laws.one_box_fault box f g h.2 k.2)
+misjudged_once laws rules box (Capture f) other is is' h k = absurd is
+misjudged_once laws rules box Device other is is' h k = absurd is
+misjudged_once laws rules box Memory other is is' h k = absurd is
+misjudged_once laws rules box (Rules f) (Capture g) is is' h k = absurd is'
+misjudged_once laws rules box (Rules f) Device is is' h k = absurd is'
+misjudged_once laws rules box (Rules f) Memory is is' h k = absurd is'
+misjudged_once laws rules box (Box f) (Capture g) is is' h k = absurd is'
+misjudged_once laws rules box (Box f) Device is is' h k = absurd is'
+misjudged_once laws rules box (Box f) Memory is is' h k = absurd is'

@@ -1,8 +1,8 @@
 -- The records of a capture, one after another.
 use Rattle.std.proofs.Common.{◌≡◌, ◌≤◌, ◌<◌, ◌⊎◌, ℕ, zero, suc, max, Bool, true, false, List, [], ◌∷◌, ◌++◌, length, All, Option, Some, None, IfSome, Result, Ok, Err, refl, sym, ap, subst, ◌∙◌, arith, append_assoc, append-nil, length-append, inl, inr}
-use Rattle.std.specs.Prelude.{slice_index_or, IsErrOf}
+use Rattle.std.specs.Prelude.{cond, slice_index_or}
 use Rattle.std.specs.List.{flat_map}
-use Rattle.std.specs.Io.KnownBytes.{prepend_known}
+use Rattle.std.specs.Io.KnownBytes.{Consumes, IsAtEnd}
 use Rattle.std.proofs.lemmas.Grind.{flat_map-append}
 use Rattle.std.proofs.lemmas.List.Elements.{All-append}
 use Rattle.std.proofs.lemmas.Option.{same_Some}
@@ -11,21 +11,26 @@ use Rattle.pcap_io.specs.declared.fault.CaptureFault.{CaptureFault}
 use Rattle.pcap_io.specs.declared.fault.CaptureFault.TheVariants as captures
 use Rattle.pcap_io.specs.declared.fault.CaptureError.TheVariants.{Refused, Device}
 use Rattle.pcap_io.specs.Pcap.{Captured, Recorded, IsRecord, Ending, Whole, Torn, Malformed, Over, Ends, frame, stream_of, told, own_moment, MOST_RECORDS}
-use Rattle.pcap_io.specs.Seen.{Seen, Breaks, IsOfRecords, IsPart, Reads, Says, ahead}
+use Rattle.pcap_io.specs.Seen.{Seen, Breaks, IsOfRecords, IsPart, Reads, Says, READ_AHEAD, ahead}
 use Rattle.pcap_io.specs.Counting.{one_more}
 use Rattle.story.specs.Story.{Entry}
-use Rattle.stepping.specs.Next.{Setup, Next, Grows}
+use Rattle.story.specs.Setup.{Setup}
+use Rattle.stepping.specs.Next.{Next, Grows}
 use Rattle.engine.specs.declared.fault.RunFault.{RunFault}
 use Rattle.engine.specs.declared.fault.RunFault.TheVariants as faults
 use Rattle.engine.specs.declared.replay.Replay.{Replay}
 use Rattle.engine.specs.Meaning.{ending_of}
-use Rattle.engine.specs.steps.Replayed.{AllTold, Broke, Cut, Follows, Halted, Interrupts, IsStop, PartTold, Plays, Replayed, Start, Took, ending_at}
+use Rattle.engine.specs.steps.Written.{torn_at}
+use Rattle.engine.specs.steps.Replayed.{AllTold, Broke, Cut, Follows, Halted, Interrupts, IsStop, Lacks, PartTold, Plays, Reached, Replayed, Start, Took, coming, ending_at}
+use Rattle.engine.proofs.Known.{known, said_so}
 use Rattle.engine.proofs.Stories.{grows_more, latest_after, latest_more, told_more}
 
--- these records were taken, and these bytes are to come
+-- these records were taken, and the reader has these bytes left behind those that are held
 pub record Carried (replay : Replay) (start : Start) (format : Format) (bytes : List ℕ) (unread w r : Option (List ℕ)) : Type 0 where
   pub rest : List ℕ
-  pub left : ahead replay.records unread ≡ Some rest
+  pub left : List ℕ
+  pub is_left : unread ≡ Some left
+  pub rest_is : rest ≡ replay.records.held ++ left
   pub story : List Entry
   pub follows : Follows start.setup format bytes rest story
   pub counted : replay.records.count ≡ length follows.records
@@ -34,21 +39,64 @@ pub record Carried (replay : Replay) (start : Start) (format : Format) (bytes : 
 
 -- before the first record
 pub begun : (replay : Replay) (start : Start) (unread w r : Option (List ℕ)) → replay.records.count ≡ 0 → replay.records.latest ≡ 0 → Plays replay start [] w r
-    → IfSome (ahead replay.records unread) (λ bytes. Carried replay start replay.records.format bytes unread w r)
-begun replay start unread w r none early p = known_or (ahead replay.records unread) refl
+    → IfSome (coming replay.records unread) (λ bytes. Carried replay start replay.records.format bytes unread w r)
+begun replay start None w r none early p = tt
+begun replay start (Some left) w r none early p =
+    record {
+      rest = replay.records.held ++ left;
+      left = left;
+      is_left = refl;
+      rest_is = refl;
+      story = [];
+      follows = record { records = []; joined = refl; each = λ k d lt. absurd (omega (arith, lt)); not_over = omega arith; grows = refl };
+      counted = none;
+      latest_is = early;
+      plays = p;
+    }
+
+-- ---- what the reader has left
+
+-- behind what is held, where none is left at its end
+ahead_by : (ended : Bool) (held left : List ℕ) → (ended ≡ true → left ≡ []) → cond ended (Some held) (Some (held ++ left)) ≡ Some (held ++ left)
+ahead_by true held left at_end = rw (at_end refl) (ap Some (sym (append-nil held)))
+ahead_by false held left at_end = refl
+
+pub ahead_is : (s : Seen) (unread : Option (List ℕ)) (left : List ℕ) → unread ≡ Some left → (s.ended ≡ true → IsAtEnd unread) → ahead s unread ≡ Some (s.held ++ left)
+ahead_is s unread left is at_end = rw is (ahead_by s.ended s.held left (λ e. subst IsAtEnd is (at_end e)))
+
+-- what a call of the capture says of the bytes to come
+said : (replay : Replay) (start : Start) (format : Format) (bytes : List ℕ) (unread w r : Option (List ℕ)) (c : Carried replay start format bytes unread w r) (P : List ℕ → Type 0)
+    → (replay.records.ended ≡ true → IsAtEnd unread) → IfSome (ahead replay.records unread) P → P c.rest
+said replay start format bytes unread w r c P at_end h = known (ahead replay.records unread) c.rest P (ahead_is replay.records unread c.left c.is_left at_end ∙ ap Some (sym c.rest_is)) h
+
+-- what it left then
+record Left (s : Seen) (after : Option (List ℕ)) (rest : List ℕ) : Type 0 where
+  pub left : List ℕ
+  pub is_left : after ≡ Some left
+  pub joined : rest ≡ s.held ++ left
+
+still_left : (s : Seen) (before after : Option (List ℕ)) (left part rest : List ℕ) → before ≡ Some left → Consumes before after part → (s.ended ≡ true → IsAtEnd after) → ahead s after ≡ Some rest → Left s after rest
+still_left s before after left part rest is takes at_end e = by_left after (subst (λ (b : Option (List ℕ)). Consumes b after part) is takes) at_end e
   where
-    known_or : (a : Option (List ℕ)) → ahead replay.records unread ≡ a → IfSome a (λ bytes. Carried replay start replay.records.format bytes unread w r)
-    known_or None e = tt
-    known_or (Some bytes) e =
-        record {
-          rest = bytes;
-          left = e;
-          story = [];
-          follows = record { records = []; joined = refl; each = λ k d lt. absurd (omega (arith, lt)); not_over = omega arith; grows = refl };
-          counted = none;
-          latest_is = early;
-          plays = p;
-        }
+    by_left : (after : Option (List ℕ)) → Consumes (Some left) after part → (s.ended ≡ true → IsAtEnd after) → ahead s after ≡ Some rest → Left s after rest
+    by_left None takes at_end e = absurd takes
+    by_left (Some l) takes at_end e = record { left = l; is_left = refl; joined = same_Some _ _ (sym e ∙ ahead_is s (Some l) l refl at_end) }
+
+-- with other bytes behind the records
+abbrev moved : (setup : Setup) (format : Format) (bytes rest after : List ℕ) (story : List Entry) → rest ≡ after → Follows setup format bytes rest story → Follows setup format bytes after story
+moved setup format bytes rest after story e f =
+    record { records = f.records; joined = f.joined ∙ ap (stream_of f.records) e; each = f.each; not_over = f.not_over; grows = f.grows }
+
+-- so far these records
+abbrev reached : (replay : Replay) (start : Start) (format : Format) (bytes : List ℕ) (unread w r : Option (List ℕ)) → Carried replay start format bytes unread w r → Reached start.setup format bytes unread
+reached replay start format bytes unread w r c =
+    record {
+      ahead = replay.records.held;
+      left = c.left;
+      is_left = c.is_left;
+      story = c.story;
+      follows = moved start.setup format bytes c.rest (replay.records.held ++ c.left) c.story c.rest_is c.follows;
+    }
 
 stream_more : (records : List Captured) (last : Captured) (rest : List ℕ) → stream_of (records ++ last ∷ []) rest ≡ stream_of records (frame last ++ rest)
 stream_more records last rest =
@@ -62,9 +110,6 @@ each_more format records last each is = All-append (IsRecord format) records (la
     one zero d lt = is
     one (suc k) d lt = absurd (omega (arith, lt))
 
-pub known : {A : Type 0} (o : Option A) (x : A) (P : A → Type 0) → o ≡ Some x → IfSome o P → P x
-known {A} o x P e h = let Q : Option A → Type 0 = λ o. IfSome o P in subst Q e h
-
 -- ---- more records
 
 -- it told what it had to tell
@@ -74,7 +119,9 @@ kept_up replay replay' start format None unread w w' r r' same plays c = tt
 kept_up replay replay' start format (Some bytes) unread w w' r r' same plays c =
     record {
       rest = c.rest;
-      left = ap (λ (s : Seen). ahead s unread) same ∙ c.left;
+      left = c.left;
+      is_left = c.is_left;
+      rest_is = c.rest_is ∙ ap (λ (s : Seen). s.held ++ c.left) (sym same);
       story = c.story;
       follows = c.follows;
       counted = ap (λ (s : Seen). s.count) same ∙ c.counted;
@@ -83,18 +130,28 @@ kept_up replay replay' start format (Some bytes) unread w w' r r' same plays c =
     }
 
 -- what is known of one more record
-record Further (start : Start) (format : Format) (bytes : List ℕ) (after : Option (List ℕ)) (new : Seen) (taken : Recorded) (story : List Entry) : Type 0 where
+record Further (start : Start) (format : Format) (bytes before : List ℕ) (after : Option (List ℕ)) (new : Seen) (taken : Recorded) (story : List Entry) : Type 0 where
+  captured : Captured
+  is_record : IsRecord format captured
   rest : List ℕ
-  left : after ≡ Some rest
+  joined : before ≡ frame captured ++ rest
+  left : Left new after rest
   last_is : new.last ≡ Some taken
   follows : (e : Entry) → Next start.setup story taken e → Follows start.setup format bytes rest (e ∷ story)
   counted : (e : Entry) (n : Next start.setup story taken e) → new.count ≡ length (follows e n).records
   latest_is : (e : Entry) (n : Next start.setup story taken e) → new.latest ≡ latest_after format 0 (follows e n).records
 
+-- what a call of `next` says of the reader
+pub record Fetched (old new : Seen) (before after : Option (List ℕ)) : Type 0 where
+  pub at_end : old.ended ≡ true → IsAtEnd before
+  pub takes : (part : List ℕ) × Consumes before after part
+  pub drained : new.ended ≡ true → IsAtEnd after
+
 further : (replay : Replay) (new : Seen) (start : Start) (format : Format) (bytes : List ℕ) (unread after w r : Option (List ℕ)) (c : Carried replay start format bytes unread w r) → replay.records.format ≡ format
-    → IfSome (ahead replay.records unread) (λ bytes. Says bytes (ahead new after) replay.records new (Ok true)) → (taken : Recorded) × Further start format bytes (ahead new after) new taken c.story
-further replay new start format bytes unread after w r c same says =
-    let reads : Reads c.rest (ahead new after) replay.records new = known (ahead replay.records unread) c.rest (λ rest. Says rest (ahead new after) replay.records new (Ok true)) c.left says in
+    → Fetched replay.records new unread after → IfSome (ahead replay.records unread) (λ bytes. Says bytes (ahead new after) replay.records new (Ok true))
+    → (taken : Recorded) × Further start format bytes c.rest after new taken c.story
+further replay new start format bytes unread after w r c same fetched says =
+    let reads : Reads c.rest (ahead new after) replay.records new = said replay start format bytes unread w r c (λ rest. Says rest (ahead new after) replay.records new (Ok true)) fetched.at_end says in
     let is : IsRecord format reads.captured = subst (λ (f : Format). IsRecord f reads.captured) same reads.is_record in
     let latest_now : new.latest ≡ max replay.records.latest (own_moment format reads.captured) = reads.latest_is ∙ ap (λ f. max replay.records.latest (own_moment f reads.captured)) same in
     let taken : Recorded = record { moment = new.latest; link = replay.records.format.link; bytes = reads.captured.bytes } in
@@ -105,8 +162,11 @@ further replay new start format bytes unread after w r c same says =
     let count_now : new.count ≡ length (c.follows.records ++ reads.captured ∷ []) = let e = c.counted in let f = reads.counted in omega (arith, e, f, length-append c.follows.records (reads.captured ∷ [])) in (
       taken,
       record {
+        captured = reads.captured;
+        is_record = is;
         rest = reads.rest;
-        left = reads.left;
+        joined = reads.joined;
+        left = still_left new unread after c.left fetched.takes.0 reads.rest c.is_left fetched.takes.1 fetched.drained reads.left;
         last_is = reads.last_is;
         follows = λ e n. record {
           records = c.follows.records ++ reads.captured ∷ [];
@@ -129,17 +189,19 @@ still_plays replay new start story w r p = record { same = p.same; stands = p.st
 
 -- one more record was taken
 pub more : (replay replay' : Replay) (new : Seen) (start : Start) (format : Format) (a unread after w w' r : Option (List ℕ)) → IfSome a (λ bytes. Carried replay start format bytes unread w r) → replay.records.format ≡ format
-    → IfSome (ahead replay.records unread) (λ bytes. Says bytes (ahead new after) replay.records new (Ok true))
+    → Fetched replay.records new unread after → IfSome (ahead replay.records unread) (λ bytes. Says bytes (ahead new after) replay.records new (Ok true))
     → ((story : List Entry) → Plays (read_on replay new) start story w r → IfSome new.last (λ taken. Took replay' start story taken w' r)) → replay'.records ≡ new
     → IfSome a (λ bytes. Carried replay' start format bytes after w' r)
-more replay replay' new start format None unread after w w' r c same says takes is = tt
-more replay replay' new start format (Some bytes) unread after w w' r c same says takes is =
-    let f = further replay new start format bytes unread after w r c same says in
+more replay replay' new start format None unread after w w' r c same fetched says takes is = tt
+more replay replay' new start format (Some bytes) unread after w w' r c same fetched says takes is =
+    let f = further replay new start format bytes unread after w r c same fetched says in
     let t : Took replay' start c.story f.0 w' r =
     known new.last f.0 (λ taken. Took replay' start c.story taken w' r) f.1.last_is (takes c.story (still_plays replay new start c.story w r c.plays)) in
     record {
       rest = f.1.rest;
-      left = ap (λ (s : Seen). ahead s after) is ∙ f.1.left;
+      left = f.1.left.left;
+      is_left = f.1.left.is_left;
+      rest_is = f.1.left.joined ∙ ap (λ (s : Seen). s.held ++ f.1.left.left) (sym is);
       story = t.entry ∷ c.story;
       follows = f.1.follows t.entry t.next;
       counted = ap (λ (s : Seen). s.count) is ∙ f.1.counted t.entry t.next;
@@ -150,91 +212,125 @@ more replay replay' new start format (Some bytes) unread after w w' r c same say
 -- ---- it stops
 
 -- where what was read of the records was told in part
-pub halted : (replay : Replay) (start : Start) (format : Format) (a unread w w' r r' : Option (List ℕ)) → IfSome a (λ bytes. Carried replay start format bytes unread w r)
-    → ((story : List Entry) → Plays replay start story w r → PartTold start story w' r') → IfSome a (λ bytes. Halted start format bytes w' r')
-halted replay start format None unread w w' r r' c part = tt
-halted replay start format (Some bytes) unread w w' r r' c part = record { rest = c.rest; story = c.story; follows = c.follows; part = part c.story c.plays }
+pub halted : (replay : Replay) (start : Start) (format : Format) (a unread w w' r r' : Option (List ℕ)) → IfSome a (λ bytes. Carried replay start format bytes unread w r) → length replay.records.held ≤ READ_AHEAD
+    → ((story : List Entry) → Plays replay start story w r → PartTold start story w' r') → IfSome a (λ bytes. Halted start format bytes unread w' r')
+halted replay start format None unread w w' r r' c few part = tt
+halted replay start format (Some bytes) unread w w' r r' c few part = record { reached = reached replay start format bytes unread w r c; few = few; part = part c.story c.plays }
 
 -- at a record
-pub halted_at : (replay : Replay) (new : Seen) (start : Start) (format : Format) (a unread after w w' r : Option (List ℕ)) → IfSome a (λ bytes. Carried replay start format bytes unread w r) → replay.records.format ≡ format
-    → IfSome (ahead replay.records unread) (λ bytes. Says bytes (ahead new after) replay.records new (Ok true))
-    → ((story : List Entry) → Plays (read_on replay new) start story w r → IfSome new.last (λ taken. Broke start story taken w' r))
-    → IfSome a (λ bytes. Halted start format bytes w' r)
-halted_at replay new start format None unread after w w' r c same says breaks = tt
-halted_at replay new start format (Some bytes) unread after w w' r c same says breaks =
-    let f = further replay new start format bytes unread after w r c same says in
-    let b : Broke start c.story f.0 w' r =
-    known new.last f.0 (λ taken. Broke start c.story taken w' r) f.1.last_is (breaks c.story (still_plays replay new start c.story w r c.plays)) in
-    record { rest = f.1.rest; story = b.entry ∷ c.story; follows = f.1.follows b.entry b.next; part = b.part }
+pub halted_at : (replay : Replay) (new : Seen) (start : Start) (format : Format) (a unread after w w' r r' : Option (List ℕ)) → IfSome a (λ bytes. Carried replay start format bytes unread w r) → replay.records.format ≡ format
+    → Fetched replay.records new unread after → length new.held ≤ READ_AHEAD → IfSome (ahead replay.records unread) (λ bytes. Says bytes (ahead new after) replay.records new (Ok true))
+    → ((story : List Entry) → Plays (read_on replay new) start story w r → IfSome new.last (λ taken. Broke start story taken w' r'))
+    → IfSome a (λ bytes. Halted start format bytes after w' r')
+halted_at replay new start format None unread after w w' r r' c same fetched few says breaks = tt
+halted_at replay new start format (Some bytes) unread after w w' r r' c same fetched few says breaks =
+    let f = further replay new start format bytes unread after w r c same fetched says in
+    let b : Broke start c.story f.0 w' r' =
+    known new.last f.0 (λ taken. Broke start c.story taken w' r') f.1.last_is (breaks c.story (still_plays replay new start c.story w r c.plays)) in
+    record {
+      reached = record {
+        ahead = new.held;
+        left = f.1.left.left;
+        is_left = f.1.left.is_left;
+        story = b.entry ∷ c.story;
+        follows = moved start.setup format bytes f.1.rest (new.held ++ f.1.left.left) (b.entry ∷ c.story) f.1.left.joined (f.1.follows b.entry b.next);
+      };
+      few = few;
+      part = b.part;
+    }
+
+-- at a record that there was no room to take, before which all was told
+pub lacks : (replay : Replay) (new : Seen) (start : Start) (format : Format) (a unread after w w' r r' : Option (List ℕ)) → IfSome a (λ bytes. Carried replay start format bytes unread w r) → replay.records.format ≡ format
+    → Fetched replay.records new unread after → length new.held ≤ READ_AHEAD → IfSome (ahead replay.records unread) (λ bytes. Says bytes (ahead new after) replay.records new (Ok true))
+    → ((story : List Entry) → Plays (read_on replay new) start story w r → AllTold start story w' r')
+    → IfSome a (λ bytes. Lacks start format bytes after w' r')
+lacks replay new start format None unread after w w' r r' c same fetched few says all = tt
+lacks replay new start format (Some bytes) unread after w w' r r' c same fetched few says all =
+    let f = further replay new start format bytes unread after w r c same fetched says in
+    record {
+      reached = record {
+        ahead = frame f.1.captured ++ new.held;
+        left = f.1.left.left;
+        is_left = f.1.left.is_left;
+        story = c.story;
+        follows = moved start.setup format bytes c.rest ((frame f.1.captured ++ new.held) ++ f.1.left.left) c.story
+            (f.1.joined ∙ ap (λ xs. frame f.1.captured ++ xs) f.1.left.joined ∙ sym (append_assoc (frame f.1.captured) new.held f.1.left.left)) c.follows;
+      };
+      untaken = f.1.captured;
+      is_record = f.1.is_record;
+      more = new.held;
+      read = refl;
+      few = few;
+      all = all c.story (still_plays replay new start c.story w r c.plays);
+    }
 
 -- at a read that fails, before which all was told
-left_of : (held bytes : List ℕ) (unread : Option (List ℕ)) → prepend_known held unread ≡ Some bytes → (left : List ℕ) × (unread ≡ Some left) × (bytes ≡ held ++ left)
-left_of held bytes None e = cc
-left_of held bytes (Some left) e = (left, refl, sym (same_Some _ _ e))
-
 part_ends : (format : Format) (count : ℕ) (held : List ℕ) → IsPart format count held → (torn : Bool) × Ends format (ending_of torn) count held
 part_ends format count held (inl whole) = (false, whole)
 part_ends format count held (inr torn) = (true, torn)
 
-open_ahead : (s : Seen) (unread : Option (List ℕ)) → s.ended ≡ false → ahead s unread ≡ prepend_known s.held unread
-open_ahead s unread e = rw e refl
-
 pub cut : (replay replay' : Replay) (new : Seen) (start : Start) (format : Format) (a unread after w w' r r' : Option (List ℕ)) → IfSome a (λ bytes. Carried replay start format bytes unread w r) → replay'.records ≡ replay.records
-    → replay'.records.format ≡ format → IfSome (ahead replay'.records unread) (λ bytes. Says bytes (ahead new after) replay'.records new (Err Device)) → new.format ≡ replay'.records.format → new.count ≡ replay'.records.count
-    → ((story : List Entry) → Plays replay start story w r → AllTold start story w' r')
+    → replay'.records.format ≡ format → Fetched replay'.records new unread after → length new.held ≤ READ_AHEAD → IfSome (ahead replay'.records unread) (λ bytes. Says bytes (ahead new after) replay'.records new (Err Device)) → new.format ≡ replay'.records.format
+    → new.count ≡ replay'.records.count → ((story : List Entry) → Plays replay start story w r → AllTold start story w' r')
     → IfSome a (λ bytes. Cut start format bytes after w' r')
-cut replay replay' new start format None unread after w w' r r' c is same says kept count all = tt
-cut replay replay' new start format (Some bytes) unread after w w' r r' c is same says kept count all =
+cut replay replay' new start format None unread after w w' r r' c is same fetched few says kept count all = tt
+cut replay replay' new start format (Some bytes) unread after w w' r r' c is same fetched few says kept count all =
     let b : Breaks c.rest (ahead new after) new =
-    known (ahead replay'.records unread) c.rest (λ rest. Says rest (ahead new after) replay'.records new (Err Device)) (ap (λ (s : Seen). ahead s unread) is ∙ c.left) says in
-    let l = left_of new.held c.rest after (sym (open_ahead new after b.open_end) ∙ b.lost_none) in
+    known (ahead replay'.records unread) c.rest (λ rest. Says rest (ahead new after) replay'.records new (Err Device))
+    (ahead_is replay'.records unread c.left c.is_left fetched.at_end ∙ ap Some (ap (λ (s : Seen). s.held ++ c.left) is ∙ sym c.rest_is)) says in
+    let l = still_left new unread after c.left fetched.takes.0 c.rest c.is_left fetched.takes.1 fetched.drained b.lost_none in
     let part : IsPart format (length c.follows.records) new.held =
     subst (λ (n : ℕ). IsPart format n new.held) (count ∙ ap (λ (s : Seen). s.count) is ∙ c.counted) (subst (λ (f : Format). IsPart f new.count new.held) (kept ∙ same) b.part) in
     let ends = part_ends format (length c.follows.records) new.held part in
     record {
-      held = new.held;
-      left = l.0;
-      is_left = l.1;
-      story = c.story;
-      follows = record {
-        records = c.follows.records;
-        joined = c.follows.joined ∙ ap (stream_of c.follows.records) l.2;
-        each = c.follows.each;
-        not_over = c.follows.not_over;
-        grows = c.follows.grows;
+      reached = record {
+        ahead = new.held;
+        left = l.left;
+        is_left = l.is_left;
+        story = c.story;
+        follows = moved start.setup format bytes c.rest (new.held ++ l.left) c.story l.joined c.follows;
       };
+      few = few;
       torn = ends.0;
       ends = ends.1;
       all = all c.story c.plays;
     }
 
 -- where the bytes to come are no further record
-replayed : (replay : Replay) (new : Seen) (start : Start) (format : Format) (ending : Ending) (a unread w r : Option (List ℕ)) → IfSome a (λ bytes. Carried replay start format bytes unread w r)
-    → IfSome (ahead replay.records unread) (λ rest. Ends format ending replay.records.count rest) → IfSome a (λ bytes. Replayed (read_on replay new) start format bytes ending w r)
-replayed replay new start format ending None unread w r c ends = tt
-replayed replay new start format ending (Some bytes) unread w r c ends =
+replayed : (replay : Replay) (new : Seen) (start : Start) (format : Format) (ending : Ending) (a unread after w r : Option (List ℕ)) → IfSome a (λ bytes. Carried replay start format bytes unread w r)
+    → Fetched replay.records new unread after → length new.held ≤ READ_AHEAD
+    → IfSome (ahead replay.records unread) (λ rest. Ends format ending replay.records.count rest × (ahead new after ≡ Some rest)) → IfSome a (λ bytes. Replayed (read_on replay new) start format bytes ending after w r)
+replayed replay new start format ending None unread after w r c fetched few says = tt
+replayed replay new start format ending (Some bytes) unread after w r c fetched few says =
+    let s : Ends format ending replay.records.count c.rest × (ahead new after ≡ Some c.rest) =
+    said replay start format bytes unread w r c (λ rest. Ends format ending replay.records.count rest × (ahead new after ≡ Some rest)) fetched.at_end says in
+    let l = still_left new unread after c.left fetched.takes.0 c.rest c.is_left fetched.takes.1 fetched.drained s.1 in
     record {
-      rest = c.rest;
-      story = c.story;
-      follows = c.follows;
-      ends = subst (λ (n : ℕ). Ends format ending n c.rest) c.counted (known (ahead replay.records unread) c.rest (λ rest. Ends format ending replay.records.count rest) c.left ends);
+      reached = record {
+        ahead = new.held;
+        left = l.left;
+        is_left = l.is_left;
+        story = c.story;
+        follows = moved start.setup format bytes c.rest (new.held ++ l.left) c.story l.joined c.follows;
+      };
+      few = few;
+      ends = subst (Ends format ending (length c.follows.records)) l.joined (subst (λ (n : ℕ). Ends format ending n c.rest) c.counted s.0);
       plays = still_plays replay new start c.story w r c.plays;
     }
 
-same_ends : (ahead : Option (List ℕ)) (f g : Format) (ending : Ending) (count : ℕ) → f ≡ g → IfSome ahead (λ bytes. Ends f ending count bytes) → IfSome ahead (λ bytes. Ends g ending count bytes)
-same_ends ahead f g ending count e h = subst (λ (x : Format). IfSome ahead (λ bytes. Ends x ending count bytes)) e h
-
--- what is said first
-front : (a : Option (List ℕ)) (P Q : List ℕ → Type 0) → IfSome a (λ bytes. P bytes × Q bytes) → IfSome a P
-front None P Q h = tt
-front (Some bytes) P Q h = h.0
+-- in the format that is known
+in_format : (f g : Format) (ending : Ending) (count : ℕ) (o after : Option (List ℕ)) → f ≡ g → IfSome o (λ bytes. Ends f ending count bytes × (after ≡ Some bytes)) → IfSome o (λ bytes. Ends g ending count bytes × (after ≡ Some bytes))
+in_format f g ending count o after e h = subst (λ (x : Format). IfSome o (λ bytes. Ends x ending count bytes × (after ≡ Some bytes))) e h
 
 -- at the end of the bytes
 pub ended : (replay : Replay) (new : Seen) (start : Start) (format : Format) (a unread after w r : Option (List ℕ)) → IfSome a (λ bytes. Carried replay start format bytes unread w r) → replay.records.format ≡ format
-    → IfSome (ahead replay.records unread) (λ bytes. Says bytes after replay.records new (Ok false)) → IfSome a (λ bytes. Replayed (read_on replay new) start format bytes (ending_at None) w r)
-ended replay new start format a unread after w r c same says =
-    replayed replay new start format Whole a unread w r c
-    (same_ends (ahead replay.records unread) replay.records.format format Whole replay.records.count same (front (ahead replay.records unread) (Ends replay.records.format Whole replay.records.count) (λ bytes. after ≡ Some []) says))
+    → Fetched replay.records new unread after → length new.held ≤ READ_AHEAD
+    → IfSome (ahead replay.records unread) (λ bytes. Says bytes (ahead new after) replay.records new (Ok false)) → IfSome a (λ bytes. Replayed (read_on replay new) start format bytes (ending_at None) after w r)
+ended replay new start format a unread after w r c same fetched few says =
+    replayed replay new start format Whole a unread after w r c fetched few
+    (in_format replay.records.format format Whole replay.records.count (ahead replay.records unread) (ahead new after) same
+    (said_so (ahead replay.records unread) (λ bytes. Ends replay.records.format Whole replay.records.count bytes × (ahead new after ≡ Some []))
+    (λ bytes. Ends replay.records.format Whole replay.records.count bytes × (ahead new after ≡ Some bytes)) (λ bytes h. (h.0, h.1 ∙ ap Some (sym h.0))) says))
 
 pub stops : (fault : CaptureFault) → IsOfRecords (Refused fault) → IsStop (Some fault)
 stops captures.TornEnd is = tt
@@ -246,20 +342,26 @@ stops captures.LinkType is = absurd is
 
 -- at a fault of the records
 pub refused : (replay : Replay) (new : Seen) (start : Start) (format : Format) (fault : CaptureFault) (a unread after w r : Option (List ℕ)) → IsOfRecords (Refused fault)
-    → IfSome a (λ bytes. Carried replay start format bytes unread w r) → replay.records.format ≡ format
-    → IfSome (ahead replay.records unread) (λ bytes. Says bytes after replay.records new (Err (Refused fault))) → IfSome a (λ bytes. Replayed (read_on replay new) start format bytes (ending_at (Some fault)) w r)
-refused replay new start format captures.TornEnd a unread after w r is c same says =
-    replayed replay new start format Torn a unread w r c
-    (same_ends (ahead replay.records unread) replay.records.format format Torn replay.records.count same (front (ahead replay.records unread) (Ends replay.records.format Torn replay.records.count) (λ bytes. after ≡ Some bytes) says))
-refused replay new start format captures.Malformed a unread after w r is c same says =
-    replayed replay new start format Malformed a unread w r c
-    (same_ends (ahead replay.records unread) replay.records.format format Malformed replay.records.count same (front (ahead replay.records unread) (Ends replay.records.format Malformed replay.records.count) (λ bytes. after ≡ Some bytes) says))
-refused replay new start format captures.TooMany a unread after w r is c same says =
-    replayed replay new start format Over a unread w r c
-    (same_ends (ahead replay.records unread) replay.records.format format Over replay.records.count same (front (ahead replay.records unread) (Ends replay.records.format Over replay.records.count) (λ bytes. after ≡ Some bytes) says))
-refused replay new start format captures.Magic a unread after w r is c same says = absurd is
-refused replay new start format captures.Version a unread after w r is c same says = absurd is
-refused replay new start format captures.LinkType a unread after w r is c same says = absurd is
+    → IfSome a (λ bytes. Carried replay start format bytes unread w r) → replay.records.format ≡ format → Fetched replay.records new unread after → length new.held ≤ READ_AHEAD
+    → IfSome (ahead replay.records unread) (λ bytes. Says bytes (ahead new after) replay.records new (Err (Refused fault))) → IfSome a (λ bytes. Replayed (read_on replay new) start format bytes (ending_at (Some fault)) after w r)
+refused replay new start format captures.TornEnd a unread after w r is c same fetched few says =
+    replayed replay new start format Torn a unread after w r c fetched few (in_format replay.records.format format Torn replay.records.count (ahead replay.records unread) (ahead new after) same says)
+refused replay new start format captures.Malformed a unread after w r is c same fetched few says =
+    replayed replay new start format Malformed a unread after w r c fetched few (in_format replay.records.format format Malformed replay.records.count (ahead replay.records unread) (ahead new after) same says)
+refused replay new start format captures.TooMany a unread after w r is c same fetched few says =
+    replayed replay new start format Over a unread after w r c fetched few (in_format replay.records.format format Over replay.records.count (ahead replay.records unread) (ahead new after) same says)
+refused replay new start format captures.Magic a unread after w r is c same fetched few says = absurd is
+refused replay new start format captures.Version a unread after w r is c same fetched few says = absurd is
+refused replay new start format captures.LinkType a unread after w r is c same fetched few says = absurd is
+
+-- what is no fault of a run is a torn end
+pub torn_only : (fault : CaptureFault) (torn : Bool) → torn_at (Some fault) ≡ Ok torn → fault ≡ captures.TornEnd
+torn_only captures.TornEnd torn e = refl
+torn_only captures.Malformed torn e = cc
+torn_only captures.TooMany torn e = cc
+torn_only captures.Magic torn e = cc
+torn_only captures.Version torn e = cc
+torn_only captures.LinkType torn e = cc
 
 -- ---- by the fault
 
@@ -270,24 +372,14 @@ not_ready false h = refl
 -- a read failed
 pub interrupts_cut : (start : Start) (format : Format) (a unread w r : Option (List ℕ)) (before after : ℕ) → after ≡ one_more before → IfSome a (λ bytes. Cut start format bytes unread w r)
     → IfSome a (λ bytes. Interrupts start format bytes unread w r before after faults.Device)
-interrupts_cut start format None unread w r before after failed h = tt
-interrupts_cut start format (Some bytes) unread w r before after failed h = inl (h, failed)
+interrupts_cut start format a unread w r before after failed h = said_so a (λ bytes. Cut start format bytes unread w r) (λ bytes. Interrupts start format bytes unread w r before after faults.Device) (λ bytes c. inl (c, failed)) h
 
 -- a writer failed
-pub interrupts_halted : (start : Start) (format : Format) (a unread w r : Option (List ℕ)) (before after : ℕ) → after ≡ before → IfSome a (λ bytes. Halted start format bytes w r)
+pub interrupts_halted : (start : Start) (format : Format) (a unread w r : Option (List ℕ)) (before after : ℕ) → after ≡ before → IfSome a (λ bytes. Halted start format bytes unread w r)
     → IfSome a (λ bytes. Interrupts start format bytes unread w r before after faults.Device)
-interrupts_halted start format None unread w r before after calm h = tt
-interrupts_halted start format (Some bytes) unread w r before after calm h = inr (h, calm)
+interrupts_halted start format a unread w r before after calm h = said_so a (λ bytes. Halted start format bytes unread w r) (λ bytes. Interrupts start format bytes unread w r before after faults.Device) (λ bytes c. inr (c, calm)) h
 
--- one did, or there was no room
-pub interrupts : {T : Type 0} (start : Start) (format : Format) (a unread w r : Option (List ℕ)) (before after : ℕ) (fault : RunFault) → IsErrOf {T = T} (Err fault) faults.Device ⊎ IsErrOf {T = T} (Err fault) faults.Memory → after ≡ before
-    → IfSome a (λ bytes. Halted start format bytes w r) → IfSome a (λ bytes. Interrupts start format bytes unread w r before after fault)
-interrupts start format None unread w r before after fault is calm h = tt
-interrupts start format (Some bytes) unread w r before after faults.Device is calm h = inr (h, calm)
-interrupts start format (Some bytes) unread w r before after faults.Memory is calm h = (h, calm)
-interrupts start format (Some bytes) unread w r before after (faults.Rules fault) (inl e) calm h = cc
-interrupts start format (Some bytes) unread w r before after (faults.Rules fault) (inr e) calm h = cc
-interrupts start format (Some bytes) unread w r before after (faults.Box fault) (inl e) calm h = cc
-interrupts start format (Some bytes) unread w r before after (faults.Box fault) (inr e) calm h = cc
-interrupts start format (Some bytes) unread w r before after (faults.Capture fault) (inl e) calm h = cc
-interrupts start format (Some bytes) unread w r before after (faults.Capture fault) (inr e) calm h = cc
+-- there was no room for a record
+pub interrupts_lacks : (start : Start) (format : Format) (a unread w r : Option (List ℕ)) (before after : ℕ) → after ≡ before → IfSome a (λ bytes. Lacks start format bytes unread w r)
+    → IfSome a (λ bytes. Interrupts start format bytes unread w r before after faults.Memory)
+interrupts_lacks start format a unread w r before after calm h = said_so a (λ bytes. Lacks start format bytes unread w r) (λ bytes. Interrupts start format bytes unread w r before after faults.Memory) (λ bytes c. (c, calm)) h

@@ -7,7 +7,8 @@ use Rattle.pcap_io.specs.Pcap.{Captured, Recorded, own_moment, told_after, told}
 use Rattle.pcap_io.specs.Sll2.{sll2_header, sll2_record}
 use Rattle.story.specs.Story.{Entry, capture_text, in_order, sends}
 use Rattle.rule_check.specs.WellFormed.{WellFormed}
-use Rattle.stepping.specs.Next.{Setup, Next, Grows}
+use Rattle.story.specs.Setup.{Setup}
+use Rattle.stepping.specs.Next.{Next, Grows}
 use Rattle.engine.specs.steps.Replayed.{sent_records}
 
 -- each record has one entry after those of a story, where nothing is wrong with the rules

@@ -1,8 +1,8 @@
 -- What is told of a story, and what waits to be told.
 use Rattle.std.proofs.Common.{◌≡◌, ℕ, Bool, List, [], ◌∷◌, ◌++◌, length, Option, Some, None, IfSome, refl, sym, ap, subst, ◌∙◌, append-nil}
 use Rattle.std.specs.List.{flat_map}
-use Rattle.std.specs.Io.KnownBytes.{Appends}
-use Rattle.std.proofs.KnownBytes.{Appends-trans}
+use Rattle.std.specs.Io.KnownBytes.{Appends, Keeps}
+use Rattle.std.proofs.KnownBytes.{Appends-kept, Appends-trans}
 use Rattle.pcap_io.specs.Pcap.{Recorded}
 use Rattle.pcap_io.specs.Sll2.{Sent, sll2_record}
 use Rattle.pcap_io.specs.Counting.{AppendsPart}
@@ -13,7 +13,8 @@ use Rattle.story.specs.declared.outcome.Outcome.{Outcome}
 use Rattle.story.specs.Story.{Entry, IsEntry, IsNewest, capture_text, live_in, sends}
 use Rattle.report.specs.Report.{closing_lines, entry_lines, lines_of}
 use Rattle.report.specs.Standing.{Known, Reports, Tells, TellsPart, note_line}
-use Rattle.stepping.specs.Next.{Setup, Next}
+use Rattle.story.specs.Setup.{Setup}
+use Rattle.stepping.specs.Next.{Next}
 use Rattle.stepping.specs.Stands.{Shown, Stands, sends_of}
 use Rattle.engine.specs.declared.replay.Replay.{Replay}
 use Rattle.engine.specs.steps.Replayed.{AllTold, Broke, PartTold, Plays, Start, Took}
@@ -47,6 +48,20 @@ drained : (P : List TableTree → Bool → List Entry → List ℕ → Type 0) (
 drained P replay start story rules w r p e drains =
     subst (λ (rs : List TableTree). Reports replay.numbers rs start.trace story p.lines → P rs start.trace story p.lines) (rules_are replay start story rules w r p e) (drains start.trace story p.lines) p.reports
 
+-- what it stands for doesn't speak of its room
+with_room : (k : Known) (room : ℕ) (rules : List TableTree) (trace : Bool) (story : List Entry) (told : List ℕ) → Reports k rules trace story told → Reports (record k { room = room }) rules trace story told
+with_room k room rules trace story told h =
+    record {
+      records = h.records;
+      passed_are = h.passed_are;
+      local_are = h.local_are;
+      dropped_are = h.dropped_are;
+      begun_are = h.begun_are;
+      tallies_are = h.tallies_are;
+      traces_so = h.traces_so;
+      rest = h.rest;
+    }
+
 -- ---- all that waits is told
 
 -- the sink's writer failed
@@ -63,6 +78,18 @@ part_undrained replay start story rules w w' r r' p e sent drains =
       part_lines = lines_part start.report r r' p.lines (entry_lines start.setup.rules start.trace story) p.tells
           (drained (λ rules trace story lines. TellsPart r r' lines (entry_lines rules trace story)) replay start story rules w r p e drains);
     }
+
+-- what was told is a beginning
+pub part_told : (start : Start) (story : List Entry) (w w' r r' : Option (List ℕ)) → AllTold start story w r → Keeps w w' → Keeps r r' → PartTold start story w' r'
+part_told start story w w' r r' all kept kept' =
+    record {
+      part_sent = part_whole start.sent w' (capture_text story) (Appends-kept start.sent w w' (capture_text story) all.all_sent kept);
+      part_lines = part_whole start.report r' (entry_lines start.setup.rules start.trace story) (Appends-kept start.report r r' (entry_lines start.setup.rules start.trace story) all.all_lines kept');
+    }
+
+pub still_told : (start : Start) (story : List Entry) (w r r' : Option (List ℕ)) → AllTold start story w r → Keeps r r' → AllTold start story w r'
+still_told start story w r r' all kept =
+    record { all_sent = all.all_sent; all_lines = Appends-kept start.report r r' (entry_lines start.setup.rules start.trace story) all.all_lines kept }
 
 -- neither did
 pub all_drained : (replay : Replay) (start : Start) (story : List Entry) (rules : List TableTree) (numbers : Known) (sink : Waiting) (w w' r r' : Option (List ℕ)) → Plays replay start story w r → rules ≡ replay.engine.setup.rules
@@ -88,31 +115,44 @@ all_drained replay start story rules numbers sink w w' r r' p e sent empty drain
 -- ---- after the last record
 
 -- so many connections live as the engine tells
-pub finished : (replay : Replay) (start : Start) (story : List Entry) (rules : List TableTree) (live : ℕ) (torn : Bool) (w r r' : Option (List ℕ)) → Plays replay start story w r → AllTold start story w r → rules ≡ replay.engine.setup.rules
-    → live ≡ length (live_in story)
+pub finished : (replay : Replay) (start : Start) (story : List Entry) (rules : List TableTree) (live : ℕ) (torn : Bool) (w w' r r' : Option (List ℕ)) → Plays replay start story w r → Appends w w' replay.sink.waiting → rules ≡ replay.engine.setup.rules
+    → live ≡ length (live_in replay.engine.setup story)
     → ((trace : Bool) (story : List Entry) (lines : List ℕ) → Reports replay.numbers rules trace story lines → Tells r r' lines (entry_lines rules trace story ++ closing_lines rules story live torn))
-    → Finished start story torn w r'
-finished replay start story rules live torn w r r' p all e lives says =
+    → Finished start story torn w' r'
+finished replay start story rules live torn w w' r r' p sent e lives says =
     record {
-      all_sent = all.all_sent;
-      all_lines = subst (λ (n : ℕ). Appends start.report r' (entry_lines start.setup.rules start.trace story ++ closing_lines start.setup.rules story n torn)) lives
+      all_sent = gets_all [] replay.sink.waiting start.sent w w' (capture_text story) p.gets sent;
+      all_lines = subst (λ (n : ℕ). Appends start.report r' (entry_lines start.setup.rules start.trace story ++ closing_lines start.setup.rules story n torn)) (lives ∙ ap (λ (s : Setup). length (live_in s story)) p.same)
           (lines_all start.report r r' p.lines (entry_lines start.setup.rules start.trace story ++ closing_lines start.setup.rules story live torn) p.tells
           (drained (λ rules trace story lines. Tells r r' lines (entry_lines rules trace story ++ closing_lines rules story live torn)) replay start story rules w r p e says));
     }
 
-pub unfinished : (replay : Replay) (start : Start) (story : List Entry) (rules : List TableTree) (live : ℕ) (torn : Bool) (w r r' : Option (List ℕ)) → Plays replay start story w r → AllTold start story w r → rules ≡ replay.engine.setup.rules
-    → live ≡ length (live_in story)
+pub unfinished : (replay : Replay) (start : Start) (story : List Entry) (rules : List TableTree) (live : ℕ) (torn : Bool) (w w' r r' : Option (List ℕ)) → Plays replay start story w r → Appends w w' replay.sink.waiting → rules ≡ replay.engine.setup.rules
+    → live ≡ length (live_in replay.engine.setup story)
     → ((trace : Bool) (story : List Entry) (lines : List ℕ) → Reports replay.numbers rules trace story lines → TellsPart r r' lines (entry_lines rules trace story ++ closing_lines rules story live torn))
-    → Unfinished start story torn w r'
-unfinished replay start story rules live torn w r r' p all e lives says =
+    → Unfinished start story torn w' r'
+unfinished replay start story rules live torn w w' r r' p sent e lives says =
     record {
-      all_sent = all.all_sent;
-      part_lines = subst (λ (n : ℕ). AppendsPart start.report r' (entry_lines start.setup.rules start.trace story ++ closing_lines start.setup.rules story n torn)) lives
+      all_sent = gets_all [] replay.sink.waiting start.sent w w' (capture_text story) p.gets sent;
+      part_lines = subst (λ (n : ℕ). AppendsPart start.report r' (entry_lines start.setup.rules start.trace story ++ closing_lines start.setup.rules story n torn)) (lives ∙ ap (λ (s : Setup). length (live_in s story)) p.same)
           (lines_part start.report r r' p.lines (entry_lines start.setup.rules start.trace story ++ closing_lines start.setup.rules story live torn) p.tells
           (drained (λ rules trace story lines. TellsPart r r' lines (entry_lines rules trace story ++ closing_lines rules story live torn)) replay start story rules w r p e says));
     }
 
 -- ---- one record
+
+-- with more room for its notes it stands for the same story
+pub roomier : (replay : Replay) (engine : Shown) (numbers : Known) (start : Start) (story : List Entry) (w r : Option (List ℕ)) → engine ≡ replay.engine → numbers ≡ record replay.numbers { room = numbers.room } → Plays replay start story w r
+    → Plays (replay_of engine numbers replay replay.sink) start story w r
+roomier replay engine numbers start story w r is_engine is p =
+    record {
+      same = ap (λ (e : Shown). e.setup) is_engine ∙ p.same;
+      stands = subst (λ (e : Shown). Stands e story) (sym is_engine) p.stands;
+      gets = p.gets;
+      lines = p.lines;
+      reports = subst (λ (k : Known). Reports k start.setup.rules start.trace story p.lines) (sym is) (with_room replay.numbers numbers.room start.setup.rules start.trace story p.lines p.reports);
+      tells = p.tells;
+    }
 
 -- what is said of a record that was read
 pub at_record : (last : Option Recorded) (taken : Recorded) (P : Recorded → Type 0) → Some taken ≡ last → P taken → IfSome last P
@@ -137,18 +177,34 @@ sends_one s xs e = sym (append-nil (sll2_record s)) ∙ ap (flat_map sll2_record
 lends : (engine : Shown) (story : List Entry) (e : Entry) (xs : List Sent) → Stands engine (e ∷ story) → xs ≡ sends_of engine.newest → xs ≡ sends e
 lends engine story e xs s is = is ∙ ap sends_of s.newest
 
--- it wasn't taken, or not noted
+-- a beginning of what a story gives is one of what it gives with one entry more
+pub part_more : (start : Start) (story : List Entry) (e : Entry) (w r : Option (List ℕ)) → PartTold start story w r → PartTold start (e ∷ story) w r
+part_more start story e w r p =
+    record {
+      part_sent = part_same start.sent w (capture_text story ++ flat_map sll2_record (sends e)) (capture_text (e ∷ story)) (part_first start.sent w (capture_text story) (flat_map sll2_record (sends e)) p.part_sent)
+          (sym (captured_more story e));
+      part_lines = part_first start.report r (entry_lines start.setup.rules start.trace story) (lines_of start.setup.rules start.trace (length (e ∷ story)) e) p.part_lines;
+    }
+
+-- it wasn't taken
 pub broke_before : (replay : Replay) (start : Start) (story : List Entry) (taken : Recorded) (w r : Option (List ℕ)) → Plays replay start story w r → ((e : Entry) × Next replay.engine.setup story taken e) → Broke start story taken w r
 broke_before replay start story taken w r p (e, n) =
     record {
       entry = e;
       next = next_as replay start story taken e w r p n;
-      part = record {
-        part_sent = part_same start.sent w (capture_text story ++ flat_map sll2_record (sends e)) (capture_text (e ∷ story))
-            (part_first start.sent w (capture_text story) (flat_map sll2_record (sends e)) (gets_so_far [] replay.sink.waiting start.sent w (capture_text story) p.gets)) (sym (captured_more story e));
-        part_lines = lines_before replay start story e w r p;
-      };
+      part = part_more start story e w r (record { part_sent = gets_so_far [] replay.sink.waiting start.sent w (capture_text story) p.gets; part_lines = lines_so_far replay start story w r p });
     }
+
+pub broke_unread : (replay : Replay) (start : Start) (story : List Entry) (last : Option Recorded) (w r : Option (List ℕ)) → Plays replay start story w r → ((taken : Recorded) → (e : Entry) × Next replay.engine.setup story taken e)
+    → IfSome last (λ taken. Broke start story taken w r)
+broke_unread replay start story None w r p entries = tt
+broke_unread replay start story (Some taken) w r p entries = broke_before replay start story taken w r p (entries taken)
+
+-- it wasn't taken, and what the story gives was told in part
+pub broke_telling : (start : Start) (story : List Entry) (last : Option Recorded) (w w' r r' : Option (List ℕ)) → IfSome last (λ taken. Broke start story taken w r) → PartTold start story w' r'
+    → IfSome last (λ taken. Broke start story taken w' r')
+broke_telling start story None w w' r r' b part = tt
+broke_telling start story (Some taken) w w' r r' b part = record { entry = b.entry; next = b.next; part = part_more start story b.entry w' r' part }
 
 -- its packet wasn't all written
 pub broke_sending : (replay : Replay) (start : Start) (story : List Entry) (taken : Recorded) (engine : Shown) (outcome : Outcome) (s : Sent) (w w' r : Option (List ℕ)) → Plays replay start story w r

@@ -1,25 +1,29 @@
 -- The two texts of a capture whose header is accepted, by how its records stop.
-use Rattle.std.proofs.Common.{◌≡◌, ◌⊎◌, ℕ, Bool, true, false, List, [], ◌∷◌, ◌++◌, length, Option, Some, None, IfSome, Result, Ok, Err, IfErr, refl, sym, ap, subst, ◌∙◌, arith, append-nil, inl, inr}
+use Rattle.std.proofs.Common.{◌≡◌, ◌≤◌, ◌⊎◌, ℕ, Bool, true, false, List, [], ◌∷◌, ◌++◌, length, Option, Some, None, IfSome, Result, Ok, Err, IfErr, refl, sym, ap, subst, ◌∙◌, arith, append-nil, inl, inr}
 use Rattle.std.specs.Prelude.{IsErrOf}
 use Rattle.pcap_io.specs.declared.format.Format.{Format}
 use Rattle.pcap_io.specs.declared.fault.CaptureFault.{CaptureFault}
 use Rattle.pcap_io.specs.declared.fault.CaptureFault.TheVariants as captures
 use Rattle.pcap_io.specs.Pcap.{Ending, Ends}
-use Rattle.pcap_io.specs.Seen.{Seen, ahead}
+use Rattle.pcap_io.specs.Seen.{Seen, READ_AHEAD}
 use Rattle.pcap_io.specs.Sll2.{sll2_header}
 use Rattle.pcap_io.specs.Counting.{AppendsPart, one_more}
 use Rattle.story.specs.Story.{Entry, capture_text}
-use Rattle.stepping.specs.Next.{Setup}
+use Rattle.story.specs.Setup.{Setup}
 use Rattle.engine.specs.declared.fault.RunFault.{RunFault}
 use Rattle.engine.specs.declared.fault.RunFault.TheVariants.{Rules, Box, Capture, Device, Memory}
+use Rattle.pcap_io.specs.declared.counted.Counted.{Counted}
+use Rattle.std.specs.Io.KnownBytes.{Keeps}
+use Rattle.std.proofs.KnownBytes.{Keeps-refl}
 use Rattle.engine.specs.declared.replay.Replay.{Replay}
 use Rattle.engine.specs.Meaning.{ending_of}
 use Rattle.engine.specs.Refusals.{fault_at}
-use Rattle.engine.specs.Left.{Devices}
-use Rattle.engine.specs.steps.Replayed.{AllTold, Follows, Halted, Interrupts, IsStop, PartTold, Plays, Replayed, Start, ending_at}
-use Rattle.engine.specs.steps.Written.{Ended, Finished, Held, IsWithin, SaysWithin, Told, Unfinished, Untold, start_of, torn_at}
+use Rattle.engine.specs.Left.{Devices, Untouched}
+use Rattle.engine.specs.steps.Replayed.{AllTold, Halted, Interrupts, IsStop, PartTold, Plays, Replayed, Start, coming, ending_at}
+use Rattle.engine.specs.steps.Written.{Ended, Finished, Held, IsWithin, SaysWithin, Told, Unchanged, Unfinished, Untold, start_of, torn_at}
 use Rattle.engine.proofs.Stories.{story_length}
 use Rattle.engine.proofs.Writes.{part_none, part_same}
+use Rattle.engine.proofs.Known.{nothing, said_so}
 
 -- ---- how the records stop
 
@@ -50,6 +54,11 @@ ended_stop start story stop w r before after (Rules fault) e all = absurd (from_
 ended_stop start story stop w r before after (Box fault) e all = absurd (from_stop stop (Box fault) IsCapture e (torn_capture stop))
 ended_stop start story stop w r before after Device e all = absurd (from_stop stop Device IsCapture e (torn_capture stop))
 ended_stop start story stop w r before after Memory e all = absurd (from_stop stop Memory IsCapture e (torn_capture stop))
+
+pub ended_device : (start : Start) (story : List Entry) (stop : Option CaptureFault) (torn : Bool) (w r : Option (List ℕ)) (before after : ℕ) → torn_at stop ≡ Ok torn → PartTold start story w r ⊎ (Unfinished start story torn w r × (after ≡ one_more before))
+    → Ended start story stop w r before after Device
+ended_device start story stop torn w r before after e (inl part) = inl part
+ended_device start story stop torn w r before after e (inr (u, failed)) = inr (torn, e, u, failed)
 
 within_stop : (stop : Option CaptureFault) → IsStop stop → IfErr (torn_at stop) IsWithin
 within_stop None is = tt
@@ -96,13 +105,19 @@ ending_torn (Some captures.LinkType) torn e = cc
 -- ---- before the first record
 
 -- nothing but a beginning of the header was written
-pub halted_open : (start : Start) (format : Format) (a w r : Option (List ℕ)) → start.report ≡ r → AppendsPart start.sent w sll2_header → IfSome a (λ bytes. Halted start format bytes w r)
-halted_open start format None w r same part = tt
-halted_open start format (Some bytes) w r same part =
+pub halted_open : (start : Start) (s : Seen) (unread w r : Option (List ℕ)) → length s.held ≤ READ_AHEAD → start.report ≡ r → AppendsPart start.sent w sll2_header
+    → IfSome (coming s unread) (λ bytes. Halted start s.format bytes unread w r)
+halted_open start s None w r few same part = tt
+halted_open start s (Some left) w r few same part =
     record {
-      rest = bytes;
-      story = [];
-      follows = record { records = []; joined = refl; each = λ k d lt. absurd (omega (arith, lt)); not_over = omega arith; grows = refl };
+      reached = record {
+        ahead = s.held;
+        left = left;
+        is_left = refl;
+        story = [];
+        follows = record { records = []; joined = refl; each = λ k d lt. absurd (omega (arith, lt)); not_over = omega arith; grows = refl };
+      };
+      few = few;
       part = record {
         part_sent = part_same start.sent w sll2_header (capture_text []) part (sym (append-nil sll2_header));
         part_lines = subst (λ (x : Option (List ℕ)). AppendsPart start.report x []) same (part_none start.report []);
@@ -110,8 +125,8 @@ halted_open start format (Some bytes) w r same part =
     }
 
 -- what is said of the bytes to come is said of the capture that was opened
-pub as_opened : (now opened : Seen) (unread : Option (List ℕ)) (P : Format → List ℕ → Type 0) → now ≡ opened → IfSome (ahead now unread) (P now.format) → IfSome (ahead opened unread) (P opened.format)
-as_opened now opened unread P e h = subst (λ (s : Seen). IfSome (ahead s unread) (P s.format)) e h
+pub as_opened : (now opened : Seen) (unread : Option (List ℕ)) (P : Format → List ℕ → Type 0) → now ≡ opened → IfSome (coming now unread) (P now.format) → IfSome (coming opened unread) (P opened.format)
+as_opened now opened unread P e h = subst (λ (s : Seen). IfSome (coming s unread) (P s.format)) e h
 
 -- ---- by the fault
 
@@ -123,59 +138,76 @@ pub says_interrupted : (setup : Setup) (trace : Bool) (format : Format) (a : Opt
     → IfSome a (λ bytes. Interrupts (start_of setup trace old) format bytes new.unread new.sent new.report old.reads_failed new.reads_failed fault) → IfSome a (λ bytes. SaysWithin setup trace format bytes old new fault)
 says_interrupted setup trace format None old new fault h = tt
 says_interrupted setup trace format (Some bytes) old new Device h = inl h
-says_interrupted setup trace format (Some bytes) old new Memory h = h
+says_interrupted setup trace format (Some bytes) old new Memory h = inl h
 says_interrupted setup trace format (Some bytes) old new (Rules fault) h = absurd h
 says_interrupted setup trace format (Some bytes) old new (Box fault) h = absurd h
 says_interrupted setup trace format (Some bytes) old new (Capture fault) h = absurd h
+
+-- writers that are as they were hold what they held
+pub untouched : {W : Type 0} (contents : W → Option (List ℕ)) (old new : Counted W) (r : Option (List ℕ)) → new ≡ old → Keeps (contents old.inner) (contents new.inner) × Keeps r r
+untouched {W = W} contents old new r e = (subst (λ (x : Counted W). Keeps (contents old.inner) (contents x.inner)) (sym e) (Keeps-refl (contents old.inner)), Keeps-refl r)
+
+-- before the first record: a beginning of the header was written, or there was no room
+pub says_begun : {T : Type 0} (setup : Setup) (trace : Bool) (s : Seen) (old new : Devices) (fault : RunFault) → IsErrOf {T = T} (Err fault) Device ⊎ IsErrOf {T = T} (Err fault) Memory → length s.held ≤ READ_AHEAD
+    → new.unread ≡ old.unread → new.reads_failed ≡ old.reads_failed → old.report ≡ new.report → AppendsPart old.sent new.sent sll2_header → (fault ≡ Memory → Untouched old new)
+    → IfSome (coming s old.unread) (λ bytes. SaysWithin setup trace s.format bytes old new fault)
+says_begun setup trace s old new Device is few same calm kept part none =
+    said_so (coming s old.unread) (λ bytes. Halted (start_of setup trace old) s.format bytes old.unread new.sent new.report) (λ bytes. SaysWithin setup trace s.format bytes old new Device)
+    (λ bytes h. inl (inr (subst (λ (u : Option (List ℕ)). Halted (start_of setup trace old) s.format bytes u new.sent new.report) (sym same) h, calm))) (halted_open (start_of setup trace old) s old.unread new.sent new.report few kept part)
+says_begun setup trace s old new Memory is few same calm kept part none = nothing (coming s old.unread) (λ bytes. SaysWithin setup trace s.format bytes old new Memory) (λ bytes. inr (same, none refl, calm))
+says_begun setup trace s old new (Rules fault) (inl e) few same calm kept part none = cc
+says_begun setup trace s old new (Rules fault) (inr e) few same calm kept part none = cc
+says_begun setup trace s old new (Box fault) (inl e) few same calm kept part none = cc
+says_begun setup trace s old new (Box fault) (inr e) few same calm kept part none = cc
+says_begun setup trace s old new (Capture fault) (inl e) few same calm kept part none = cc
+says_begun setup trace s old new (Capture fault) (inr e) few same calm kept part none = cc
 
 -- a fault after the last record
 pub says_ended : (replay : Replay) (setup : Setup) (trace : Bool) (format : Format) (a w r : Option (List ℕ)) (stop : Option CaptureFault) (old new : Devices) (before : ℕ) (fault : RunFault) → IsStop stop
     → (fault ≡ Device) ⊎ (torn_at stop ≡ Err fault) → new.reads_failed ≡ old.reads_failed → before ≡ old.reports_failed
     → ((story : List Entry) → Plays replay (start_of setup trace old) story w r → Ended (start_of setup trace old) story stop new.sent new.report before new.reports_failed fault)
-    → IfSome a (λ bytes. Replayed replay (start_of setup trace old) format bytes (ending_at stop) w r) → IfSome a (λ bytes. SaysWithin setup trace format bytes old new fault)
+    → IfSome a (λ bytes. Replayed replay (start_of setup trace old) format bytes (ending_at stop) new.unread w r) → IfSome a (λ bytes. SaysWithin setup trace format bytes old new fault)
 says_ended replay setup trace format None w r stop old new before fault is why calm same ends i = tt
-says_ended replay setup trace format (Some bytes) w r stop old new before (Rules fault) is why calm same ends i = absurd (ends i.story i.plays)
-says_ended replay setup trace format (Some bytes) w r stop old new before (Box fault) is why calm same ends i = absurd (ends i.story i.plays)
-says_ended replay setup trace format (Some bytes) w r stop old new before Memory is why calm same ends i = absurd (ends i.story i.plays)
+says_ended replay setup trace format (Some bytes) w r stop old new before (Rules fault) is why calm same ends i = absurd (ends i.reached.story i.plays)
+says_ended replay setup trace format (Some bytes) w r stop old new before (Box fault) is why calm same ends i = absurd (ends i.reached.story i.plays)
+says_ended replay setup trace format (Some bytes) w r stop old new before Memory is why calm same ends i = absurd (ends i.reached.story i.plays)
 says_ended replay setup trace format (Some bytes) w r stop old new before (Capture fault) is why calm same ends i =
-    let e = ends i.story i.plays in
-    record {
-      rest = i.rest;
-      story = i.story;
-      follows = i.follows;
-      ending = ending_at stop;
-      refused = from_stop stop (Capture fault) (Stops stop) e.0 (refused_stop stop is);
-      ends = i.ends;
-      all = e.1;
-    }
-says_ended replay setup trace format (Some bytes) w r stop old new before Device is why calm same ends i = by_call (ends i.story i.plays)
+    let e = ends i.reached.story i.plays in (
+      record {
+        reached = i.reached;
+        few = i.few;
+        ending = ending_at stop;
+        refused = from_stop stop (Capture fault) (Stops stop) e.0 (refused_stop stop is);
+        ends = i.ends;
+        all = e.1;
+      },
+      calm,
+    )
+says_ended replay setup trace format (Some bytes) w r stop old new before Device is why calm same ends i = by_call (ends i.reached.story i.plays)
   where
-    by_call : Ended (start_of setup trace old) i.story stop new.sent new.report before new.reports_failed Device → SaysWithin setup trace format bytes old new Device
-    by_call (inl part) = inl (inr (record { rest = i.rest; story = i.story; follows = i.follows; part = part }, calm))
+    by_call : Ended (start_of setup trace old) i.reached.story stop new.sent new.report before new.reports_failed Device → SaysWithin setup trace format bytes old new Device
+    by_call (inl part) = inl (inr (record { reached = i.reached; few = i.few; part = part }, calm))
     by_call (inr u) =
         inr (
           record {
-            rest = i.rest;
-            story = i.story;
-            follows = i.follows;
+            reached = i.reached;
+            few = i.few;
             torn = u.0;
-            ends = subst (λ (x : Ending). Ends format x (length i.follows.records) i.rest) (ending_torn stop u.0 u.1) i.ends;
+            ends = subst (λ (x : Ending). Ends format x (length i.reached.follows.records) (i.reached.ahead ++ i.reached.left)) (ending_torn stop u.0 u.1) i.ends;
             unfinished = u.2;
           },
           u.3 ∙ ap one_more same,
         )
 
 -- all is done
-pub told_all : (replay : Replay) (start : Start) (format : Format) (a w w' r r' : Option (List ℕ)) (stop : Option CaptureFault) (torn : Bool) (count : ℕ) → torn_at stop ≡ Ok torn → count ≡ replay.numbers.records
+pub told_all : (replay : Replay) (start : Start) (format : Format) (a unread w w' r r' : Option (List ℕ)) (stop : Option CaptureFault) (torn : Bool) (count : ℕ) → torn_at stop ≡ Ok torn → count ≡ replay.numbers.records
     → ((story : List Entry) → Plays replay start story w r → Finished start story torn w' r')
-    → IfSome a (λ bytes. Replayed replay start format bytes (ending_at stop) w r) → IfSome a (λ bytes. Told start format bytes count torn w' r')
-told_all replay start format None w w' r r' stop torn count is counted finishes i = tt
-told_all replay start format (Some bytes) w w' r r' stop torn count is counted finishes i =
+    → IfSome a (λ bytes. Replayed replay start format bytes (ending_at stop) unread w r) → IfSome a (λ bytes. Told start format bytes count torn unread w' r')
+told_all replay start format None unread w w' r r' stop torn count is counted finishes i = tt
+told_all replay start format (Some bytes) unread w w' r r' stop torn count is counted finishes i =
     record {
-      rest = i.rest;
-      story = i.story;
-      follows = i.follows;
-      ends = subst (λ (x : Ending). Ends format x (length i.follows.records) i.rest) (ending_torn stop torn is) i.ends;
-      counted = counted ∙ i.plays.reports.records ∙ story_length start.setup format i.follows.records i.story i.follows.grows;
-      finished = finishes i.story i.plays;
+      reached = i.reached;
+      ends = subst (λ (x : Ending). Ends format x (length i.reached.follows.records) (i.reached.ahead ++ i.reached.left)) (ending_torn stop torn is) i.ends;
+      counted = counted ∙ i.plays.reports.records ∙ story_length start.setup format i.reached.follows.records i.reached.story i.reached.follows.grows;
+      finished = finishes i.reached.story i.plays;
     }

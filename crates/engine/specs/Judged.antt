@@ -7,7 +7,8 @@ use Rattle.engine.specs.declared.fault.RunFault.{RunFault}
 use Rattle.engine.specs.declared.fault.RunFault.TheVariants.{Rules, Box, Capture, Device, Memory}
 use Rattle.engine.specs.Refusals.{IsFaulty, RefusesBox, Spelled}
 
--- the texts spell a ruleset and a box, nothing is wrong with the ruleset on the box, and it has so many tables, chains and rules, as far as 64 bits count
+-- the texts spell a ruleset and a box, nothing is wrong with the ruleset on the box, and it has so many tables, chains
+-- and rules, as far as 64 bits count
 pub record Judged (rules box : List ℕ) (counts : Counts) : Type 0 where
   pub texts : Spelled rules box
   pub well_formed : WellFormed texts.tables texts.plant

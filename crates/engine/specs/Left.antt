@@ -1,9 +1,11 @@
--- What the writers hold after a fault, and how the calls that failed are counted.
+-- What the reader and the writers hold after a fault, and how the calls that failed are counted.
 use Rattle.std.specs.Prelude.{◌≡◌, ◌<◌, ◌≤◌, ◌++◌, ℕ, Bool, List, [], length, drop, All, Option, ◌⊎◌, Some, Ok}
 use Rattle.std.specs.Io.KnownBytes.{Appends, Keeps}
 use Rattle.pcap_io.specs.declared.format.Format.{Format}
 use Rattle.pcap_io.specs.declared.fault.CaptureFault.{CaptureFault}
-use Rattle.pcap_io.specs.Pcap.{Captured, IsRecord, Pcap, Ending, format_of, header_fault, stream_of, told, HEADER_BYTES, MOST_RECORDS}
+use Rattle.pcap_io.specs.Pcap.{Captured, IsRecord, Ending, Ends, format_of, frame, header_fault, stream_of, told}
+use Rattle.pcap_io.specs.Pcap.{HEADER_BYTES, MOST_RECORDS}
+use Rattle.pcap_io.specs.Seen.{READ_AHEAD}
 use Rattle.pcap_io.specs.Counting.{AppendsPart, one_more}
 use Rattle.story.specs.Story.{Entry, capture_text}
 use Rattle.report.specs.Report.{entry_lines, report_text}
@@ -26,8 +28,11 @@ pub record Devices : Type 0 where
 abbrev pub Untouched : Devices → Devices → Type 0
 Untouched old new = Keeps old.sent new.sent × Keeps old.report new.report
 
+-- ---- before the first record
+
 -- a read failed before the capture's header was there
-pub record Unopened (capture : List ℕ) (old new : Devices) : Type 0 where
+pub record Unopened (rules box capture : List ℕ) (old new : Devices) : Type 0 where
+  pub accepted : Accepted rules box
   pub part : List ℕ
   pub left : List ℕ
   pub unread : new.unread ≡ Some left
@@ -36,77 +41,112 @@ pub record Unopened (capture : List ℕ) (old new : Devices) : Type 0 where
   pub untouched : Untouched old new
   pub failed : new.reads_failed ≡ one_more old.reads_failed
 
--- these are whole records after the header, and then more
-pub record Begins (capture : List ℕ) (records : List Captured) : Type 0 where
-  pub format : Format
-  pub accepted : format_of capture ≡ Ok format
-  pub more : List ℕ
-  pub joined : drop HEADER_BYTES capture ≡ stream_of records more
-  pub each : All (IsRecord format) records
-  pub not_over : length records ≤ MOST_RECORDS
-
--- each writer got a beginning of its text for the whole records taken so far, and the report has no line of what comes after the last; no read failed
-pub record Began (rules box capture : List ℕ) (trace : Bool) (old new : Devices) : Type 0 where
-  pub accepted : Accepted rules box
-  pub records : List Captured
-  pub begins : Begins capture records
-  pub story : List Entry
-  pub grows : Grows accepted.setup [] (told begins.format records) story
-  pub sent : AppendsPart old.sent new.sent (capture_text story)
-  pub report : AppendsPart old.report new.report (entry_lines accepted.setup.rules trace story)
-  pub all_read : new.reads_failed ≡ old.reads_failed
-
--- a read failed among the records: what was read before is a capture with a torn end or without, and both writers got all that its records give, but for what comes after the last
-pub record CutOff (rules box capture : List ℕ) (trace : Bool) (old new : Devices) : Type 0 where
-  pub accepted : Accepted rules box
+-- no record was read, though some bytes may have been read ahead; no read failed, and nothing was written
+pub record Unbegun (capture : List ℕ) (old new : Devices) : Type 0 where
   pub part : List ℕ
   pub left : List ℕ
   pub unread : new.unread ≡ Some left
   pub joined : capture ≡ part ++ left
+  pub few : length part ≤ READ_AHEAD
+  pub untouched : Untouched old new
+  pub all_read : new.reads_failed ≡ old.reads_failed
+
+-- ---- within the records
+
+-- the texts and the capture's header are accepted; of what follows it these records were taken and make this story,
+-- these bytes were read ahead of them, and the reader has the rest left
+pub record SoFar (rules box capture : List ℕ) (new : Devices) : Type 0 where
+  pub accepted : Accepted rules box
+  pub format : Format
+  pub header : format_of capture ≡ Ok format
   pub records : List Captured
-  pub torn : Bool
-  pub read : Pcap part records (ending_of torn)
+  pub ahead : List ℕ
+  pub left : List ℕ
+  pub joined : drop HEADER_BYTES capture ≡ stream_of records (ahead ++ left)
+  pub unread : new.unread ≡ Some left
+  pub each : All (IsRecord format) records
+  pub not_over : length records ≤ MOST_RECORDS
   pub story : List Entry
-  pub grows : Grows accepted.setup [] (told read.format records) story
-  pub sent : Appends old.sent new.sent (capture_text story)
-  pub report : Appends old.report new.report (entry_lines accepted.setup.rules trace story)
+  pub grows : Grows accepted.setup [] (told format records) story
+
+-- each writer got a beginning of its text for the records taken so far, and the report has no line of what comes after
+-- the last; no read failed
+pub record Began (rules box capture : List ℕ) (trace : Bool) (old new : Devices) : Type 0 where
+  pub so_far : SoFar rules box capture new
+  pub few : length so_far.ahead ≤ READ_AHEAD
+  pub sent : AppendsPart old.sent new.sent (capture_text so_far.story)
+  pub report : AppendsPart old.report new.report (entry_lines so_far.accepted.setup.rules trace so_far.story)
+  pub all_read : new.reads_failed ≡ old.reads_failed
+
+-- a read failed among the records: what was read before is a capture with a torn end or without, and both writers got
+-- all that its records give, but for what comes after the last
+pub record CutOff (rules box capture : List ℕ) (trace : Bool) (old new : Devices) : Type 0 where
+  pub so_far : SoFar rules box capture new
+  pub few : length so_far.ahead ≤ READ_AHEAD
+  pub torn : Bool
+  pub ends : Ends so_far.format (ending_of torn) (length so_far.records) so_far.ahead
+  pub sent : Appends old.sent new.sent (capture_text so_far.story)
+  pub report : Appends old.report new.report (entry_lines so_far.accepted.setup.rules trace so_far.story)
   pub failed : new.reads_failed ≡ one_more old.reads_failed
 
--- a record was refused: both writers got all that the records before it give, but for what comes after the last
-pub record Stopped (rules box capture : List ℕ) (trace : Bool) (fault : CaptureFault) (old new : Devices) : Type 0 where
-  pub accepted : Accepted rules box
-  pub records : List Captured
-  pub ending : Ending
-  pub read : Pcap capture records ending
-  pub refused : fault_at ending ≡ Some fault
-  pub story : List Entry
-  pub grows : Grows accepted.setup [] (told read.format records) story
-  pub sent : Appends old.sent new.sent (capture_text story)
-  pub report : Appends old.report new.report (entry_lines accepted.setup.rules trace story)
+-- there was no room to take a record that was read: both writers got all that the records before it give, but for what
+-- comes after the last; no read failed
+pub record Lacked (rules box capture : List ℕ) (trace : Bool) (old new : Devices) : Type 0 where
+  pub so_far : SoFar rules box capture new
+  pub untaken : Captured
+  pub is_record : IsRecord so_far.format untaken
+  pub more : List ℕ
+  pub read : so_far.ahead ≡ frame untaken ++ more
+  pub few : length more ≤ READ_AHEAD
+  pub sent : Appends old.sent new.sent (capture_text so_far.story)
+  pub report : Appends old.report new.report (entry_lines so_far.accepted.setup.rules trace so_far.story)
+  pub all_read : new.reads_failed ≡ old.reads_failed
 
--- all records were done, and a call of the report's writer failed: the capture's writer got all of its text, the report's a beginning
+-- a record was refused: both writers got all that the records before it give, but for what comes after the last
+pub record Stopped (rules box capture : List ℕ) (trace : Bool) (fault : CaptureFault) (old new : Devices)
+    : Type 0 where
+  pub so_far : SoFar rules box capture new
+  pub few : length so_far.ahead ≤ READ_AHEAD
+  pub ending : Ending
+  pub ends : Ends so_far.format ending (length so_far.records) (so_far.ahead ++ so_far.left)
+  pub refused : fault_at ending ≡ Some fault
+  pub sent : Appends old.sent new.sent (capture_text so_far.story)
+  pub report : Appends old.report new.report (entry_lines so_far.accepted.setup.rules trace so_far.story)
+  pub all_read : new.reads_failed ≡ old.reads_failed
+
+-- all records were done, and a call of the report's writer failed: the capture's writer got all of its text, the
+-- report's a beginning
 pub record Unreported (rules box capture : List ℕ) (trace : Bool) (old new : Devices) : Type 0 where
-  pub accepted : Accepted rules box
-  pub records : List Captured
+  pub so_far : SoFar rules box capture new
+  pub few : length so_far.ahead ≤ READ_AHEAD
   pub torn : Bool
-  pub read : Pcap capture records (ending_of torn)
-  pub story : List Entry
-  pub grows : Grows accepted.setup [] (told read.format records) story
-  pub sent : Appends old.sent new.sent (capture_text story)
-  pub report : AppendsPart old.report new.report (report_text accepted.setup.rules trace story torn)
+  pub ends : Ends so_far.format (ending_of torn) (length so_far.records) (so_far.ahead ++ so_far.left)
+  pub sent : Appends old.sent new.sent (capture_text so_far.story)
+  pub report : AppendsPart old.report new.report (report_text so_far.accepted.setup trace so_far.story torn)
   pub failed : new.reports_failed ≡ one_more old.reports_failed
 
--- what a run leaves: before the capture's header is accepted nothing is written
+-- ---- by the fault
+
+-- a read failed, or a write; once all records are done a write of the report leaves more than a beginning of the rest
+abbrev pub LeftByDevice : List ℕ → List ℕ → List ℕ → Bool → Devices → Devices → Type 0
+LeftByDevice rules box capture trace old new =
+    Unopened rules box capture old new
+    ⊎ (CutOff rules box capture trace old new
+    ⊎ (Began rules box capture trace old new ⊎ Unreported rules box capture trace old new))
+
+-- what a run leaves: before the capture's header is accepted nothing is written, nor for want of room before a record
 abbrev pub Left : List ℕ → List ℕ → List ℕ → Bool → Devices → Devices → RunFault → Type 0
 Left rules box capture trace old new (Rules fault) = Untouched old new
 Left rules box capture trace old new (Box fault) = Untouched old new
-Left rules box capture trace old new (Capture fault) = ((header_fault capture ≡ Some fault) × Untouched old new) ⊎ Stopped rules box capture trace fault old new
-Left rules box capture trace old new Device = Unopened capture old new ⊎ (CutOff rules box capture trace old new ⊎ (Began rules box capture trace old new ⊎ Unreported rules box capture trace old new))
-Left rules box capture trace old new Memory = Untouched old new ⊎ Began rules box capture trace old new
+Left rules box capture trace old new (Capture fault) =
+    ((header_fault capture ≡ Some fault) × Unbegun capture old new) ⊎ Stopped rules box capture trace fault old new
+Left rules box capture trace old new Device = LeftByDevice rules box capture trace old new
+Left rules box capture trace old new Memory = Unbegun capture old new ⊎ Lacked rules box capture trace old new
 
 -- ---- failed calls
 
 -- of three counts just one rose, by one
 abbrev pub OneFailed : (a a' b b' c c' : ℕ) → Type 0
 OneFailed a a' b b' c c' =
-    ((a' ≡ one_more a) × (b' ≡ b) × (c' ≡ c)) ⊎ (((a' ≡ a) × (b' ≡ one_more b) × (c' ≡ c)) ⊎ ((a' ≡ a) × (b' ≡ b) × (c' ≡ one_more c)))
+    ((a' ≡ one_more a) × (b' ≡ b) × (c' ≡ c))
+    ⊎ (((a' ≡ a) × (b' ≡ one_more b) × (c' ≡ c)) ⊎ ((a' ≡ a) × (b' ≡ b) × (c' ≡ one_more c)))

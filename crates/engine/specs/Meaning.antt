@@ -6,7 +6,8 @@ use Rattle.box_file.specs.Box.{IsBox}
 use Rattle.pcap_io.specs.Pcap.{Captured, Pcap, Ending, Whole, Torn, told}
 use Rattle.story.specs.Story.{Entry, capture_text}
 use Rattle.report.specs.Report.{report_text}
-use Rattle.stepping.specs.Next.{Setup, Grows}
+use Rattle.story.specs.Setup.{Setup}
+use Rattle.stepping.specs.Next.{Grows}
 use Rattle.stepping.specs.Taken.{takes}
 use Rattle.rule_check.specs.WellFormed.{WellFormed}
 
@@ -22,9 +23,10 @@ abbrev pub ending_of : Bool → Ending
 ending_of true = Torn
 ending_of false = Whole
 
--- accepted texts and an accepted capture of so many records, with a torn end or none, mean this capture and this report:
--- those of the story whose every entry is the next of the entries before it
-pub record Meaning (rules box capture : List ℕ) (trace : Bool) (count : ℕ) (torn : Bool) (sent report : List ℕ) : Type 0 where
+-- accepted texts and an accepted capture of so many records, with a torn end or none, mean this capture and this
+-- report: those of the story whose every entry is the next of the entries before it
+pub record Meaning (rules box capture : List ℕ) (trace : Bool) (count : ℕ) (torn : Bool) (sent report : List ℕ)
+    : Type 0 where
   pub accepted : Accepted rules box
   pub records : List Captured
   pub read : Pcap capture records (ending_of torn)
@@ -32,14 +34,16 @@ pub record Meaning (rules box capture : List ℕ) (trace : Bool) (count : ℕ) (
   pub story : List Entry
   pub grows : Grows accepted.setup [] (told read.format records) story
   pub captured : sent ≡ capture_text story
-  pub reported : report ≡ report_text accepted.setup.rules trace story torn
+  pub reported : report ≡ report_text accepted.setup trace story torn
 
 -- the writers got the two texts of the meaning, and there is no other meaning
-pub record Wrote (rules box capture : List ℕ) (trace : Bool) (count : ℕ) (torn : Bool) (old new old_report new_report : Option (List ℕ)) : Type 0 where
+pub record Wrote (rules box capture : List ℕ) (trace : Bool) (count : ℕ) (torn : Bool)
+    (old new old_report new_report : Option (List ℕ)) : Type 0 where
   pub sent : List ℕ
   pub report : List ℕ
   pub meaning : Meaning rules box capture trace count torn sent report
-  pub only : (others : ℕ) (sign : Bool) (capture_text report_text : List ℕ) → Meaning rules box capture trace others sign capture_text report_text
+  pub only : (others : ℕ) (sign : Bool) (capture_text report_text : List ℕ)
+      → Meaning rules box capture trace others sign capture_text report_text
       → (others ≡ count) × (sign ≡ torn) × (capture_text ≡ sent) × (report_text ≡ report)
   pub appends : Appends old new sent
   pub tells : Appends old_report new_report report

@@ -23,14 +23,17 @@ pub record Spelled (rules box : List ℕ) : Type 0 where
   pub plant : PlantTree
   pub read : IsBox box plant
 
--- the ruleset is refused for the fault of its text; or, where the box file is accepted, for the least that is wrong with its tree on the box
+-- the ruleset is refused for the fault of its text; or, where the box file is accepted, for the least that is wrong
+-- with its tree on the box
 abbrev pub IsFaulty : List ℕ → List ℕ → RulesFault → Type 0
 IsFaulty rules box (Text fault) = HasTextFault rules fault
 IsFaulty rules box (Check fault) = (texts : Spelled rules box) × Least fault texts.tables texts.plant
 
 -- nothing is wrong with it, and runs don't take a form of it yet
 abbrev pub IsLeftOut : List ℕ → List ℕ → RulesFault → Type 0
-IsLeftOut rules box fault = (fault ≡ Text LeftOut) × (texts : Spelled rules box) × WellFormed texts.tables texts.plant × (takes texts.tables ≡ false)
+IsLeftOut rules box fault =
+    (fault ≡ Text LeftOut) × (texts : Spelled rules box) × WellFormed texts.tables texts.plant
+    × (takes texts.tables ≡ false)
 
 -- a run refuses the ruleset
 abbrev pub RefusesRules : List ℕ → List ℕ → RulesFault → Type 0
@@ -49,7 +52,8 @@ fault_at Over = Some captures.TooMany
 
 -- a capture is refused within its records
 abbrev pub IsRefusedWithin : List ℕ → CaptureFault → Type 0
-IsRefusedWithin capture fault = (records : List Captured) × (ending : Ending) × Pcap capture records ending × (fault_at ending ≡ Some fault)
+IsRefusedWithin capture fault =
+    (records : List Captured) × (ending : Ending) × Pcap capture records ending × (fault_at ending ≡ Some fault)
 
 -- a capture is refused at its header, or within its records
 abbrev pub IsRefused : List ℕ → CaptureFault → Type 0
@@ -78,6 +82,19 @@ IsOfTexts (Box fault) = Unit {0}
 IsOfTexts (Capture fault) = ⊥
 IsOfTexts Device = ⊥
 IsOfTexts Memory = ⊥
+
+-- a fault of a record of the capture
+abbrev pub IsOfRecord : RunFault → Type 0
+IsOfRecord (Capture captures.Malformed) = Unit {0}
+IsOfRecord (Capture captures.TooMany) = Unit {0}
+IsOfRecord (Capture captures.TornEnd) = ⊥
+IsOfRecord (Capture captures.Magic) = ⊥
+IsOfRecord (Capture captures.Version) = ⊥
+IsOfRecord (Capture captures.LinkType) = ⊥
+IsOfRecord (Rules fault) = ⊥
+IsOfRecord (Box fault) = ⊥
+IsOfRecord Device = ⊥
+IsOfRecord Memory = ⊥
 
 -- a fault that is told before the capture's header is accepted
 abbrev pub IsEarly : RunFault → Type 0

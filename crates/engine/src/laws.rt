@@ -1,9 +1,12 @@
 //! Laws of the meaning, each as the contract of a function that does nothing: two texts and a
-//! capture have one meaning, or one refusal, and never both.
+//! capture have one meaning, or one refusal, and never both; and two texts have one judgement, or
+//! one fault, and never both.
 ghost use Rattle.std.specs.Prelude.{◌≡◌, ◌⊎◌, List, ℕ, Bool, Some};
 ghost use Rattle.engine.specs.declared.fault.RunFault.{RunFault};
+ghost use Rattle.engine.specs.declared.judging.Counts.{Counts};
+ghost use Rattle.engine.specs.Judged.{Judged, Misjudged};
 ghost use Rattle.engine.specs.Meaning.{Meaning};
-ghost use Rattle.engine.specs.Refusals.{IsRefusal, Refuses};
+ghost use Rattle.engine.specs.Refusals.{IsOfTexts, IsRefusal, Refuses};
 
 use box_file::{one_box, some_box};
 use nft_parser::{one_fault, one_tree};
@@ -59,4 +62,27 @@ pub fn some_answer()
     some_judgement();
     some_reading();
     one_entry();
+}
+
+/// Two texts are judged in one way at most: by one count of tables, chains and rules, or one fault,
+/// and never both.
+pub fn one_judging()
+    ensures counts { (rules box : List ℕ) (counts other : Counts) → Judged rules box counts → Judged rules box other → counts ≡ other }
+    ensures fault { (rules box : List ℕ) (fault other : RunFault) → IsOfTexts fault → IsOfTexts other → Misjudged rules box fault → Misjudged rules box other → fault ≡ other }
+    ensures apart { (rules box : List ℕ) (counts : Counts) (fault : RunFault) → IsOfTexts fault → Judged rules box counts → Misjudged rules box fault → ⊥ }
+{
+    one_tree();
+    one_fault();
+    one_judgement();
+    one_box();
+    one_reading();
+}
+
+/// Two texts are judged, or refused for a fault.
+pub fn some_judging()
+    ensures { (rules box : List ℕ) → ((counts : Counts) × Judged rules box counts) ⊎ ((fault : RunFault) × IsOfTexts fault × Misjudged rules box fault) }
+{
+    nft_parser::some_answer();
+    some_box();
+    some_judgement();
 }

@@ -10,5 +10,5 @@ mod runs;
 
 pub use fault::{RulesFault, RunFault};
 pub use judging::{Counts, judge};
-pub use laws::{no_meaning, one_meaning, one_refusal, some_answer};
+pub use laws::{no_meaning, one_judging, one_meaning, one_refusal, some_answer, some_judging};
 pub use runs::{Summary, run};

@@ -1,14 +1,15 @@
 //! The records of a capture, one after another.
-ghost use Rattle.std.specs.Prelude.{◌≡◌, ◌≢◌, ◌<◌, ◌+◌, ◌⊎◌, [], Bool, List, ℕ, Option, true, false, Ok, Err, None, IfOk, IfErr, IfSome, IsErrOf, OnOk, OnErr, length};
+ghost use Rattle.std.specs.Prelude.{◌≡◌, ◌≢◌, ◌<◌, ◌≤◌, ◌+◌, ◌⊎◌, [], Bool, List, ℕ, Option, true, false, Ok, Err, None, IfOk, IfErr, IfSome, IsErrOf, OnOk, OnErr, length};
+ghost use Rattle.std.specs.Io.KnownBytes.{IsAtEnd};
 ghost use Rattle.pcap_io.specs.Counting.{AppendsPart, one_more};
-ghost use Rattle.pcap_io.specs.Seen.{ahead, is_ready};
+ghost use Rattle.pcap_io.specs.Seen.{READ_AHEAD, is_ready};
 ghost use Rattle.pcap_io.specs.Sll2.{sll2_header};
 ghost use Rattle.stepping.specs.Stands.{Stands};
 ghost use Rattle.story.specs.Story.{Entry};
 ghost use Rattle.engine.specs.declared.fault.RunFault.{RunFault};
 ghost use Rattle.engine.specs.Left.{OneFailed};
-ghost use Rattle.engine.specs.steps.Replayed.{AllTold, Broke, Interrupts, IsStop, OneOfTwo, PartTold, Plays, Replayed, Start, Took, ending_at};
-ghost use Rattle.engine.specs.steps.Written.{Ended, Finished, torn_at};
+ghost use Rattle.engine.specs.steps.Replayed.{AllTold, Broke, Interrupts, IsStop, OneOfTwo, PartTold, Plays, Replayed, Start, Took, coming, ending_at};
+ghost use Rattle.engine.specs.steps.Written.{Ended, Finished, Unfinished, torn_at};
 
 use crate::fault::RunFault;
 use conntrack::ListTracker;
@@ -46,6 +47,7 @@ impl Replay {
         ensures kinds { OnErr result (IsErrOf result RunFault.Device ⊎ IsErrOf result RunFault.Memory) }
         ensures calm { result ≢ Err RunFault.Device → sent.new.failures ≡ sent.old.failures }
         ensures device { IsErrOf result RunFault.Device → sent.new.failures ≡ one_more sent.old.failures }
+        ensures memory { IsErrOf result RunFault.Memory → sent.new ≡ sent.old }
     {
         let numbers = Report::new(alloc, engine.rules(), trace)?;
         let sink = match Sink::open(alloc, sent) {
@@ -63,7 +65,8 @@ impl Replay {
 
     /// Takes the records until none is left to read, writes the packets that leave, and tells what
     /// is done before each read. Answers the fault of the capture that the records stop at, none at
-    /// their end. `Err` is `Device` or `Memory`.
+    /// their end. `Err` is `Device`; or `Memory` where there was no room to take a record, and then
+    /// what was done before it is written and flushed.
     pub(crate) fn play<R: Read, W: Write, W2: Write>(
         &mut self,
         capture: &mut Counted<R>,
@@ -73,13 +76,17 @@ impl Replay {
         requires fresh { (self.old.records.fault ≡ None) × (self.old.records.count ≡ 0) × (self.old.records.latest ≡ 0) }
         requires none { self.old.numbers.records ≡ 0 }
         requires stands { Stands self.old.engine [] }
+        requires few { length self.old.records.held ≤ READ_AHEAD }
+        requires drained { self.old.records.ended ≡ true → IsAtEnd (R.remaining capture.old.inner) }
         ensures ok { (start : Start) → Plays self.old start [] (W.contents sent.old.inner) (W2.contents report.old.inner)
-            → IfOk result (λ stop. IfSome (ahead self.old.records (R.remaining capture.old.inner)) (λ bytes.
-            Replayed self.new start self.old.records.format bytes (ending_at stop) (W.contents sent.new.inner) (W2.contents report.new.inner))) }
+            → IfOk result (λ stop. IfSome (coming self.old.records (R.remaining capture.old.inner)) (λ bytes.
+            Replayed self.new start self.old.records.format bytes (ending_at stop) (R.remaining capture.new.inner) (W.contents sent.new.inner) (W2.contents report.new.inner))) }
         ensures stop { IfOk result IsStop }
+        ensures drained { IfOk result (λ stop. (torn : Bool) → torn_at stop ≡ Ok torn → IsAtEnd (R.remaining capture.new.inner)) }
         ensures interrupted { (start : Start) → Plays self.old start [] (W.contents sent.old.inner) (W2.contents report.old.inner)
-            → IfErr result (λ fault. IfSome (ahead self.old.records (R.remaining capture.old.inner)) (λ bytes.
+            → IfErr result (λ fault. IfSome (coming self.old.records (R.remaining capture.old.inner)) (λ bytes.
             Interrupts start self.old.records.format bytes (R.remaining capture.new.inner) (W.contents sent.new.inner) (W2.contents report.new.inner) capture.old.failures capture.new.failures fault)) }
+        ensures flushed { IsErrOf result RunFault.Memory → (sent.new.is_flushed ≡ true) × (report.new.is_flushed ≡ true) }
         ensures kinds { OnErr result (IsErrOf result RunFault.Device ⊎ IsErrOf result RunFault.Memory) }
         ensures calm { result ≢ Err RunFault.Device → (capture.new.failures ≡ capture.old.failures) × (sent.new.failures ≡ sent.old.failures) × (report.new.failures ≡ report.old.failures) }
         ensures device { IsErrOf result RunFault.Device → OneFailed capture.old.failures capture.new.failures sent.old.failures sent.new.failures report.old.failures report.new.failures }
@@ -93,7 +100,11 @@ impl Replay {
                 Err(CaptureError::Device) => return Err(RunFault::Device),
                 Err(CaptureError::Memory) => return Err(RunFault::Memory),
             }
-            self.take(sent)?;
+            let is_taken = self.take(sent)?;
+            if !is_taken {
+                self.close(sent, report)?;
+                return Err(RunFault::Memory);
+            }
         }
     }
 
@@ -140,38 +151,93 @@ impl Replay {
         Ok(())
     }
 
+    /// Writes what waits of the packets and the lines of what is noted, and flushes both writers.
+    fn close<W: Write, W2: Write>(
+        &mut self,
+        sent: &mut Counted<W>,
+        report: &mut Counted<W2>,
+    ) -> Result<(), DeviceFailed>
+        ensures ok { (start : Start) (story : List Entry) → Plays self.old start story (W.contents sent.old.inner) (W2.contents report.old.inner)
+            → OnOk result (AllTold start story (W.contents sent.new.inner) (W2.contents report.new.inner)) }
+        ensures part { (start : Start) (story : List Entry) → Plays self.old start story (W.contents sent.old.inner) (W2.contents report.old.inner)
+            → OnErr result (PartTold start story (W.contents sent.new.inner) (W2.contents report.new.inner)) }
+        ensures flushed { OnOk result ((sent.new.is_flushed ≡ true) × (report.new.is_flushed ≡ true)) }
+        ensures records { self.new.numbers.records ≡ self.old.numbers.records }
+        ensures calm { OnOk result ((sent.new.failures ≡ sent.old.failures) × (report.new.failures ≡ report.old.failures)) }
+        ensures device { OnErr result (OneOfTwo sent.old.failures sent.new.failures report.old.failures report.new.failures) }
+    {
+        self.sink.finish(sent)?;
+        self.numbers.drain(self.engine.rules(), report)?;
+        match report.flush() {
+            Ok(()) => Ok(()),
+            Err(_) => Err(DeviceFailed),
+        }
+    }
+
     /// Takes the record that was read last, notes it, and puts the packet that it sends on, if it
-    /// does.
-    fn take<W: Write>(&mut self, sent: &mut Counted<W>) -> Result<(), RunFault>
+    /// does. False where there was no room to take it: then all is as it was.
+    fn take<W: Write>(&mut self, sent: &mut Counted<W>) -> Result<bool, DeviceFailed>
         requires read { self.old.records.last ≢ None }
-        requires early { IfSome self.old.records.last (λ taken. taken.moment < 4294967296000000000) }
         requires few { (self.old.engine.records < 4294967296) × (self.old.numbers.records < 4294967296) }
         requires stands { (story : List Entry) × Stands self.old.engine story }
         ensures ok { (start : Start) (story : List Entry) (report : Option (List ℕ)) → Plays self.old start story (W.contents sent.old.inner) report
-            → OnOk result (IfSome self.old.records.last (λ taken. Took self.new start story taken (W.contents sent.new.inner) report)) }
+            → result ≡ Ok true → IfSome self.old.records.last (λ taken. Took self.new start story taken (W.contents sent.new.inner) report) }
+        ensures kept { (start : Start) (story : List Entry) (report : Option (List ℕ)) → Plays self.old start story (W.contents sent.old.inner) report
+            → result ≡ Ok false → Plays self.new start story (W.contents sent.new.inner) report }
         ensures broken { (start : Start) (story : List Entry) (report : Option (List ℕ)) → Plays self.old start story (W.contents sent.old.inner) report
-            → OnErr result (IfSome self.old.records.last (λ taken. Broke start story taken (W.contents sent.new.inner) report)) }
-        ensures stands { OnOk result ((story : List Entry) × Stands self.new.engine story) }
-        ensures counted { OnOk result ((self.new.engine.records ≡ self.old.engine.records + 1) × (self.new.numbers.records ≡ self.old.numbers.records + 1)) }
+            → result ≢ Ok true → IfSome self.old.records.last (λ taken. Broke start story taken (W.contents sent.new.inner) report) }
+        ensures stands { result ≡ Ok true → (story : List Entry) × Stands self.new.engine story }
+        ensures counted { result ≡ Ok true → (self.new.engine.records ≡ self.old.engine.records + 1) × (self.new.numbers.records ≡ self.old.numbers.records + 1) }
         ensures same { self.new.records ≡ self.old.records }
-        ensures kinds { OnErr result (IsErrOf result RunFault.Device ⊎ IsErrOf result RunFault.Memory) }
-        ensures calm { result ≢ Err RunFault.Device → sent.new.failures ≡ sent.old.failures }
-        ensures device { IsErrOf result RunFault.Device → sent.new.failures ≡ one_more sent.old.failures }
+        ensures calm { OnOk result (sent.new.failures ≡ sent.old.failures) }
+        ensures device { OnErr result (sent.new.failures ≡ one_more sent.old.failures) }
     {
         // A record that can't be taken has an entry too.
         one_entry();
         self.engine.judged();
+        // All growth first, so that what follows can't fail for want of memory.
+        let Ok(()) = self.numbers.reserve() else {
+            return Ok(false);
+        };
         let Some(record) = self.records.record() else {
             unreachable!()
         };
-        self.engine.step(&record)?;
+        let Ok(_) = self.engine.step(&record) else {
+            return Ok(false);
+        };
         let Some(entry) = self.engine.entry() else {
             unreachable!()
         };
-        self.numbers.note(&entry)?;
+        let Ok(()) = self.numbers.note(&entry) else {
+            unreachable!()
+        };
         if let Some(leaving) = self.engine.leaving() {
             self.sink.put(sent, &leaving)?;
         }
+        Ok(true)
+    }
+
+    /// Writes what is left of both texts, the lines that come after the last record too, and flushes
+    /// both writers.
+    fn conclude<W: Write, W2: Write>(
+        &mut self,
+        torn: bool,
+        sent: &mut Counted<W>,
+        report: &mut Counted<W2>,
+    ) -> Result<(), DeviceFailed>
+        ensures ok { (start : Start) (story : List Entry) → Plays self.old start story (W.contents sent.old.inner) (W2.contents report.old.inner)
+            → OnOk result (Finished start story torn (W.contents sent.new.inner) (W2.contents report.new.inner)) }
+        ensures part { (start : Start) (story : List Entry) → Plays self.old start story (W.contents sent.old.inner) (W2.contents report.old.inner)
+            → OnErr result (PartTold start story (W.contents sent.new.inner) (W2.contents report.new.inner)
+            ⊎ (Unfinished start story torn (W.contents sent.new.inner) (W2.contents report.new.inner) × (report.new.failures ≡ one_more report.old.failures))) }
+        ensures flushed { OnOk result ((sent.new.is_flushed ≡ true) × (report.new.is_flushed ≡ true)) }
+        ensures records { self.new.numbers.records ≡ self.old.numbers.records }
+        ensures calm { OnOk result ((sent.new.failures ≡ sent.old.failures) × (report.new.failures ≡ report.old.failures)) }
+        ensures device { OnErr result (OneOfTwo sent.old.failures sent.new.failures report.old.failures report.new.failures) }
+    {
+        self.sink.finish(sent)?;
+        let live = self.engine.live() as u64;
+        self.numbers.lines(self.engine.rules(), live, torn, report)?;
         Ok(())
     }
 
@@ -187,7 +253,7 @@ impl Replay {
         ensures torn { IfOk result (λ torn. torn_at stop ≡ Ok torn) }
         ensures ok { (start : Start) (story : List Entry) → Plays self.old start story (W.contents sent.old.inner) (W2.contents report.old.inner)
             → IfOk result (λ torn. Finished start story torn (W.contents sent.new.inner) (W2.contents report.new.inner)) }
-        ensures flushed { OnOk result ((sent.new.is_flushed ≡ true) × (report.new.is_flushed ≡ true)) }
+        ensures flushed { result ≢ Err RunFault.Device → (sent.new.is_flushed ≡ true) × (report.new.is_flushed ≡ true) }
         ensures ended { (start : Start) (story : List Entry) → Plays self.old start story (W.contents sent.old.inner) (W2.contents report.old.inner)
             → IfErr result (Ended start story stop (W.contents sent.new.inner) (W2.contents report.new.inner) report.old.failures report.new.failures) }
         ensures kinds { IfErr result (λ fault. (fault ≡ RunFault.Device) ⊎ (torn_at stop ≡ Err fault)) }
@@ -195,12 +261,16 @@ impl Replay {
         ensures calm { result ≢ Err RunFault.Device → (sent.new.failures ≡ sent.old.failures) × (report.new.failures ≡ report.old.failures) }
         ensures device { IsErrOf result RunFault.Device → OneOfTwo sent.old.failures sent.new.failures report.old.failures report.new.failures }
     {
-        self.sink.finish(sent)?;
-        self.numbers.drain(self.engine.rules(), report)?;
-        let torn = torn_at(stop)?;
-        let live = self.engine.live() as u64;
-        self.numbers.lines(self.engine.rules(), live, torn, report)?;
-        Ok(torn)
+        match torn_at(stop) {
+            Ok(torn) => {
+                self.conclude(torn, sent, report)?;
+                Ok(torn)
+            }
+            Err(fault) => {
+                self.close(sent, report)?;
+                Err(fault)
+            }
+        }
     }
 
     /// How many records were taken.

@@ -1,11 +1,13 @@
 //! A whole run.
-ghost use Rattle.std.specs.Prelude.{◌≡◌, ◌≢◌, [], List, true, Err, None, IfOk, IfErr, IfSome, OnOk, IsErrOf};
-ghost use Rattle.pcap_io.specs.Seen.{ahead};
+ghost use Rattle.std.specs.Prelude.{◌≡◌, ◌≢◌, ◌≤◌, ◌⊎◌, [], List, length, true, Err, None, IfOk, IfErr, IfSome, OnOk, IsErrOf};
+ghost use Rattle.std.specs.Io.KnownBytes.{IsAtEnd};
+ghost use Rattle.pcap_io.specs.Seen.{READ_AHEAD};
 ghost use Rattle.stepping.specs.Stands.{Stands};
 ghost use Rattle.engine.specs.declared.fault.RunFault.{RunFault};
 ghost use Rattle.engine.specs.Meaning.{Wrote};
-ghost use Rattle.engine.specs.Refusals.{Refuses, IsOfTexts, IsEarly};
+ghost use Rattle.engine.specs.Refusals.{Refuses, IsOfRecord, IsOfTexts, IsEarly};
 ghost use Rattle.engine.specs.Left.{Left, OneFailed};
+ghost use Rattle.engine.specs.steps.Replayed.{coming};
 ghost use Rattle.engine.specs.steps.Written.{IsWithin, SaysWithin, Told};
 
 use crate::fault::RunFault;
@@ -14,7 +16,7 @@ use crate::replay::Replay;
 use box_file::one_box;
 use conntrack::ListTracker;
 use nft_parser::one_tree;
-use pcap_io::{Capture, CaptureError, Counted, header_alone, one_reading};
+use pcap_io::{Capture, CaptureError, Counted, one_reading};
 use std::alloc::Global;
 use std::io::{Read, Write};
 use stepping::{Engine, one_entry};
@@ -36,11 +38,14 @@ pub struct Summary {
 /// Before the texts are accepted nothing is read of the capture, and before its header is accepted
 /// nothing is written. A torn end of the capture is no fault: the whole records before it are
 /// done, and the summary tells it. Before the capture is read further, all that the records so far
-/// give is written. `Device` is told where a read or a write failed, which isn't tried again, and
-/// `Memory` where there was no room to grow; then, and where a record is refused, each writer holds
-/// a beginning of its text, and the report has none of the lines that come after the last record
-/// unless it was its own writer that failed. With `trace` the report tells each decision, and how
-/// each record ends.
+/// give is written, and no more is read ahead than one buffer holds.
+///
+/// Where a record is refused, or there was no room to take it (`Memory`), all that the records
+/// before it give is written and flushed; where there was no room before the first record, nothing
+/// is written. `Device` is told where a read or a write failed, which isn't tried again; then each
+/// writer holds a beginning of its text. The report has none of the lines that come after the last
+/// record, unless all went well or it was its own writer that failed after it. With `trace` the
+/// report tells each decision, and how each record ends.
 pub fn run<R: Read, W: Write, W2: Write>(
     alloc: Global,
     rules: &[u8],
@@ -53,15 +58,19 @@ pub fn run<R: Read, W: Write, W2: Write>(
     // Byte for byte what the rules give: the meaning holds of what was written, and of no other pair of texts.
     ensures meaning { IfOk result (λ summary. IfSome (R.remaining capture.old.inner) (λ input.
         Wrote rules.now plant.now input trace summary.records summary.torn (W.contents sent.old.inner) (W.contents sent.new.inner) (W2.contents report.old.inner) (W2.contents report.new.inner))) }
-    // Nothing that was written is still held back.
+    // The reader has come to its end.
+    ensures drained { OnOk result (IsAtEnd (R.remaining capture.new.inner)) }
+    // Nothing that was written is still held back, nor at a record that is refused or that there was no room for.
     ensures flushed { OnOk result ((sent.new.is_flushed ≡ true) × (report.new.is_flushed ≡ true)) }
+    ensures refused { IfErr result (λ fault. IsOfRecord fault → (sent.new.is_flushed ≡ true) × (report.new.is_flushed ≡ true)) }
+    ensures memory { IsErrOf result RunFault.Memory → ((sent.new ≡ sent.old) × (report.new ≡ report.old)) ⊎ ((sent.new.is_flushed ≡ true) × (report.new.is_flushed ≡ true)) }
     // A refusal is the one that the texts and the capture have.
     ensures refusals { IfErr result (λ fault. Refuses rules.now plant.now (R.remaining capture.old.inner) fault) }
     // Where a text is refused nothing was read of the capture.
     ensures unread { IfErr result (λ fault. IsOfTexts fault → capture.new ≡ capture.old) }
     // Before the capture's header is accepted nothing is written.
     ensures early { IfErr result (λ fault. IsEarly fault → (sent.new ≡ sent.old) × (report.new ≡ report.old)) }
-    // After a fault each writer holds a beginning of the text of the whole records read, and all that these give where a read fails or a record is refused.
+    // After a fault each writer holds a beginning of the text of the whole records read, and all that these give where a read fails, or a record is refused or not taken for want of room; and the reader was read no further than one buffer holds.
     ensures left { IfErr result (λ fault. IfSome (R.remaining capture.old.inner) (λ input.
         Left rules.now plant.now input trace
         (record { unread = R.remaining capture.old.inner; sent = W.contents sent.old.inner; report = W2.contents report.old.inner; reads_failed = capture.old.failures; sends_failed = sent.old.failures; reports_failed = report.old.failures })
@@ -82,7 +91,6 @@ pub fn run<R: Read, W: Write, W2: Write>(
     one_box();
     one_reading();
     one_entry();
-    header_alone();
     let engine = Engine::new(alloc, checked)?;
     write_texts(alloc, engine, records, trace, capture, sent, report)
 }
@@ -99,12 +107,17 @@ fn write_texts<R: Read, W: Write, W2: Write>(
 ) -> Result<Summary, RunFault>
     requires fresh { (records.fault ≡ None) × (records.count ≡ 0) × (records.latest ≡ 0) }
     requires stands { Stands engine [] }
-    ensures ok { IfOk result (λ summary. IfSome (ahead records (R.remaining capture.old.inner)) (λ bytes.
+    requires few { length records.held ≤ READ_AHEAD }
+    requires drained { records.ended ≡ true → IsAtEnd (R.remaining capture.old.inner) }
+    ensures ok { IfOk result (λ summary. IfSome (coming records (R.remaining capture.old.inner)) (λ bytes.
         Told (record { setup = engine.setup; trace = trace; sent = W.contents sent.old.inner; report = W2.contents report.old.inner })
-        records.format bytes summary.records summary.torn (W.contents sent.new.inner) (W2.contents report.new.inner))) }
+        records.format bytes summary.records summary.torn (R.remaining capture.new.inner) (W.contents sent.new.inner) (W2.contents report.new.inner))) }
+    ensures drained { OnOk result (IsAtEnd (R.remaining capture.new.inner)) }
     ensures flushed { OnOk result ((sent.new.is_flushed ≡ true) × (report.new.is_flushed ≡ true)) }
+    ensures refused { IfErr result (λ fault. IsOfRecord fault → (sent.new.is_flushed ≡ true) × (report.new.is_flushed ≡ true)) }
+    ensures memory { IsErrOf result RunFault.Memory → ((sent.new ≡ sent.old) × (report.new ≡ report.old)) ⊎ ((sent.new.is_flushed ≡ true) × (report.new.is_flushed ≡ true)) }
     ensures within { IfErr result IsWithin }
-    ensures left { IfErr result (λ fault. IfSome (ahead records (R.remaining capture.old.inner)) (λ bytes.
+    ensures left { IfErr result (λ fault. IfSome (coming records (R.remaining capture.old.inner)) (λ bytes.
         SaysWithin engine.setup trace records.format bytes
         (record { unread = R.remaining capture.old.inner; sent = W.contents sent.old.inner; report = W2.contents report.old.inner; reads_failed = capture.old.failures; sends_failed = sent.old.failures; reports_failed = report.old.failures })
         (record { unread = R.remaining capture.new.inner; sent = W.contents sent.new.inner; report = W2.contents report.new.inner; reads_failed = capture.new.failures; sends_failed = sent.new.failures; reports_failed = report.new.failures }) fault)) }

@@ -1,18 +1,20 @@
 -- What taking the records of a capture gives.
 use Rattle.std.specs.Prelude.{◌≡◌, ◌≤◌, ℕ, Bool, List, [], ◌∷◌, ◌++◌, length, All, ◌⊎◌, Option, Some, None}
 use Rattle.std.specs.List.{flat_map}
-use Rattle.std.specs.Io.KnownBytes.{Appends}
+use Rattle.std.specs.Io.KnownBytes.{Appends, prepend_known}
 use Rattle.pcap_io.specs.declared.format.Format.{Format}
 use Rattle.pcap_io.specs.declared.fault.CaptureFault.{CaptureFault}
 use Rattle.pcap_io.specs.declared.fault.CaptureFault.TheVariants as captures
-use Rattle.pcap_io.specs.Pcap.{Captured, Recorded, IsRecord, Ending, Whole, Torn, Malformed, Over, Ends, stream_of, told, MOST_RECORDS}
+use Rattle.pcap_io.specs.Pcap.{Captured, Recorded, IsRecord, Ending, Whole, Torn, Malformed, Over, Ends, frame, stream_of, told, MOST_RECORDS}
+use Rattle.pcap_io.specs.Seen.{Seen, READ_AHEAD}
 use Rattle.pcap_io.specs.Sll2.{sll2_record}
 use Rattle.pcap_io.specs.Counting.{AppendsPart, one_more}
 use Rattle.pcap_io.specs.Waiting.{Gets}
 use Rattle.story.specs.Story.{Entry, capture_text, in_order, sends}
 use Rattle.report.specs.Report.{entry_lines}
 use Rattle.report.specs.Standing.{Reports}
-use Rattle.stepping.specs.Next.{Setup, Next, Grows}
+use Rattle.story.specs.Setup.{Setup}
+use Rattle.stepping.specs.Next.{Next, Grows}
 use Rattle.stepping.specs.Stands.{Stands}
 use Rattle.engine.specs.declared.fault.RunFault.{RunFault}
 use Rattle.engine.specs.declared.fault.RunFault.TheVariants.{Rules, Box, Capture, Device, Memory}
@@ -87,6 +89,10 @@ pub record Broke (start : Start) (story : List Entry) (taken : Recorded) (w r : 
 
 -- ---- all records
 
+-- the bytes to come: those that the capture holds, and those that the reader has left
+abbrev pub coming : Seen → Option (List ℕ) → Option (List ℕ)
+coming s unread = prepend_known s.held unread
+
 -- these bytes begin with records by which this story grew, and then these follow
 pub record Follows (setup : Setup) (format : Format) (bytes after : List ℕ) (story : List Entry) : Type 0 where
   pub records : List Captured
@@ -95,39 +101,54 @@ pub record Follows (setup : Setup) (format : Format) (bytes after : List ℕ) (s
   pub not_over : length records ≤ MOST_RECORDS
   pub grows : Grows setup [] (told format records) story
 
--- these bytes are records that were taken, and stop so
-pub record Replayed (replay : Replay) (start : Start) (format : Format) (bytes : List ℕ) (ending : Ending) (w r : Option (List ℕ)) : Type 0 where
-  pub rest : List ℕ
-  pub story : List Entry
-  pub follows : Follows start.setup format bytes rest story
-  pub ends : Ends format ending (length follows.records) rest
-  pub plays : Plays replay start story w r
-
--- these bytes begin with records that were taken, and the writers got a beginning of what they give
-pub record Halted (start : Start) (format : Format) (bytes : List ℕ) (w r : Option (List ℕ)) : Type 0 where
-  pub rest : List ℕ
-  pub story : List Entry
-  pub follows : Follows start.setup format bytes rest story
-  pub part : PartTold start story w r
-
--- these bytes are records that were taken, some that were read after them and are no further record, and those that the reader has left; and the writers got all that the records give
-pub record Cut (start : Start) (format : Format) (bytes : List ℕ) (unread w r : Option (List ℕ)) : Type 0 where
-  pub held : List ℕ
+-- these bytes begin with records by which a story grew; then some were read ahead, and the reader has the rest left
+pub record Reached (setup : Setup) (format : Format) (bytes : List ℕ) (unread : Option (List ℕ)) : Type 0 where
+  pub ahead : List ℕ
   pub left : List ℕ
   pub is_left : unread ≡ Some left
   pub story : List Entry
-  pub follows : Follows start.setup format bytes (held ++ left) story
+  pub follows : Follows setup format bytes (ahead ++ left) story
+
+-- these bytes are records that were taken, and stop so
+pub record Replayed (replay : Replay) (start : Start) (format : Format) (bytes : List ℕ) (ending : Ending)
+    (unread w r : Option (List ℕ)) : Type 0 where
+  pub reached : Reached start.setup format bytes unread
+  pub few : length reached.ahead ≤ READ_AHEAD
+  pub ends : Ends format ending (length reached.follows.records) (reached.ahead ++ reached.left)
+  pub plays : Plays replay start reached.story w r
+
+-- these bytes begin with records that were read, and the writers got a beginning of what they give
+pub record Halted (start : Start) (format : Format) (bytes : List ℕ) (unread w r : Option (List ℕ)) : Type 0 where
+  pub reached : Reached start.setup format bytes unread
+  pub few : length reached.ahead ≤ READ_AHEAD
+  pub part : PartTold start reached.story w r
+
+-- these bytes begin with records that were taken, and what was read after them is no further record; and the writers got all that the records give
+pub record Cut (start : Start) (format : Format) (bytes : List ℕ) (unread w r : Option (List ℕ)) : Type 0 where
+  pub reached : Reached start.setup format bytes unread
+  pub few : length reached.ahead ≤ READ_AHEAD
   pub torn : Bool
-  pub ends : Ends format (ending_of torn) (length follows.records) held
-  pub all : AllTold start story w r
+  pub ends : Ends format (ending_of torn) (length reached.follows.records) reached.ahead
+  pub all : AllTold start reached.story w r
+
+-- these bytes begin with records that were taken, and one that was read and not taken; and the writers got all that the records before it give
+pub record Lacks (start : Start) (format : Format) (bytes : List ℕ) (unread w r : Option (List ℕ)) : Type 0 where
+  pub reached : Reached start.setup format bytes unread
+  pub untaken : Captured
+  pub is_record : IsRecord format untaken
+  pub more : List ℕ
+  pub read : reached.ahead ≡ frame untaken ++ more
+  pub few : length more ≤ READ_AHEAD
+  pub all : AllTold start reached.story w r
 
 -- what a fault among the records says of the bytes, of the writers, and of the reads that failed
 abbrev pub Interrupts : Start → Format → List ℕ → Option (List ℕ) → Option (List ℕ) → Option (List ℕ) → ℕ → ℕ → RunFault → Type 0
 Interrupts start format bytes unread w r before after (Rules fault) = ⊥
 Interrupts start format bytes unread w r before after (Box fault) = ⊥
 Interrupts start format bytes unread w r before after (Capture fault) = ⊥
-Interrupts start format bytes unread w r before after Device = (Cut start format bytes unread w r × (after ≡ one_more before)) ⊎ (Halted start format bytes w r × (after ≡ before))
-Interrupts start format bytes unread w r before after Memory = Halted start format bytes w r × (after ≡ before)
+Interrupts start format bytes unread w r before after Device =
+    (Cut start format bytes unread w r × (after ≡ one_more before)) ⊎ (Halted start format bytes unread w r × (after ≡ before))
+Interrupts start format bytes unread w r before after Memory = Lacks start format bytes unread w r × (after ≡ before)
 
 -- ---- calls that failed
 

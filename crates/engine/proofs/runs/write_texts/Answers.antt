@@ -3,18 +3,16 @@ use Rattle.std.proofs.lemmas.Result.{err_from_is_err_and}
 use Rattle.engine.specs.Left.{Devices}
 use Rattle.engine.specs.steps.Replayed.{Interrupts, Replayed, Start, ending_at}
 use Rattle.engine.specs.steps.Written.{start_of}
-use Rattle.engine.proofs.Replays.{interrupts}
-use Rattle.engine.proofs.Texts.{as_opened, fault_as, halted_open, says_ended, says_interrupted, told_all, within_end}
+use Rattle.engine.proofs.Texts.{as_opened, fault_as, says_begun, says_ended, says_interrupted, told_all, untouched, within_end}
 use Rattle.engine.proofs.runs.write_texts.Goals as goal
 
 pub returns-in_err-replay-clause-left : goal.returns-in_err-replay-clause-left
 returns-in_err-replay-clause-left g c =
     let old : Devices = record { unread = g.R.Read.remaining c.args.capture.now.inner; sent = g.W.Write.contents c.args.sent.now.inner; report = g.W2.Write.contents c.args.report.now.inner; reads_failed = c.args.capture.now.failures; sends_failed = c.args.sent.now.failures; reports_failed = c.args.report.now.failures } in
     let new : Devices = record { unread = g.R.Read.remaining c.args.capture.now.inner; sent = g.W.Write.contents c.new.new.sent.inner; report = g.W2.Write.contents c.args.report.now.inner; reads_failed = c.args.capture.now.failures; sends_failed = c.new.new.sent.failures; reports_failed = c.args.report.now.failures } in
-    let start : Start = start_of c.args.engine.setup c.args.trace old in
     let q = err_from_is_err_and c.from_residual.result c.from_residual.ensures.1 in
-    rw q.1 (rw q.2 (says_interrupted _ _ _ _ old new c.in_err-replay.field-0.0 (interrupts start _ _ _ _ _ c.args.capture.now.failures _ c.in_err-replay.field-0.0 c.in_err-replay.ensures.kinds refl
-    (halted_open start _ _ _ _ refl c.in_err-replay.ensures.part))))
+    rw q.1 (rw q.2 (says_begun c.args.engine.setup c.args.trace c.args.records old new c.in_err-replay.field-0.0 c.in_err-replay.ensures.kinds c.requires.few refl refl refl c.in_err-replay.ensures.part
+    (λ e. untouched (g.W.Write.contents) c.args.sent.now c.new.new.sent _ (c.in_err-replay.ensures.memory (ap Err e)))))
 
 pub returns-in_err-stop-clause-left : goal.returns-in_err-stop-clause-left
 returns-in_err-stop-clause-left g c =
@@ -37,7 +35,7 @@ returns-in_err-torn-clause-left g c =
     rw q.1 (rw q.2 (says_ended c.play.new.self _ _ _ _ (g.W.Write.contents c.play.new.sent.inner) (g.W2.Write.contents c.play.new.report.inner) c.in_ok-stop.stop old new c.play.new.report.failures c.in_err-torn.field-0.0
     c.in_ok-stop.ensures.stop c.in_err-torn.ensures.kinds calm.0 calm.2 (λ story s. c.in_err-torn.ensures.ended start story s)
     (as_opened c.in_ok-replay.replay.records c.args.records _
-    (λ format bytes. Replayed c.play.new.self start format bytes (ending_at c.in_ok-stop.stop) (g.W.Write.contents c.play.new.sent.inner) (g.W2.Write.contents c.play.new.report.inner))
+    (λ format bytes. Replayed c.play.new.self start format bytes (ending_at c.in_ok-stop.stop) (g.R.Read.remaining c.play.new.capture.inner) (g.W.Write.contents c.play.new.sent.inner) (g.W2.Write.contents c.play.new.report.inner))
     c.in_ok-replay.ensures.same.1 (c.in_ok-stop.ensures.ok start (c.in_ok-replay.ensures.plays start.report)))))
 
 pub returns-in_err-torn-clause-calm : goal.returns-in_err-torn-clause-calm
@@ -51,11 +49,14 @@ returns-in_err-torn-clause-calm g c = λ other.
 pub returns-clause-ok : goal.returns-clause-ok
 returns-clause-ok g c =
     let start : Start = record { setup = c.args.engine.setup; trace = c.args.trace; sent = g.W.Write.contents c.args.sent.now.inner; report = g.W2.Write.contents c.args.report.now.inner } in
-    told_all c.play.new.self start _ _ (g.W.Write.contents c.play.new.sent.inner) _ (g.W2.Write.contents c.play.new.report.inner) _ c.in_ok-stop.stop c.in_ok-torn.torn _ c.in_ok-torn.ensures.torn (c.records.ensures ∙ c.finish.ensures.records)
+    told_all c.play.new.self start _ _ _ (g.W.Write.contents c.play.new.sent.inner) _ (g.W2.Write.contents c.play.new.report.inner) _ c.in_ok-stop.stop c.in_ok-torn.torn _ c.in_ok-torn.ensures.torn (c.records.ensures ∙ c.finish.ensures.records)
     (λ story s. c.in_ok-torn.ensures.ok start story s)
     (as_opened c.in_ok-replay.replay.records c.args.records _
-    (λ format bytes. Replayed c.play.new.self start format bytes (ending_at c.in_ok-stop.stop) (g.W.Write.contents c.play.new.sent.inner) (g.W2.Write.contents c.play.new.report.inner))
+    (λ format bytes. Replayed c.play.new.self start format bytes (ending_at c.in_ok-stop.stop) (g.R.Read.remaining c.play.new.capture.inner) (g.W.Write.contents c.play.new.sent.inner) (g.W2.Write.contents c.play.new.report.inner))
     c.in_ok-replay.ensures.same.1 (c.in_ok-stop.ensures.ok start (c.in_ok-replay.ensures.plays start.report)))
+
+pub returns-clause-drained : goal.returns-clause-drained
+returns-clause-drained g c = c.in_ok-stop.ensures.drained c.in_ok-torn.torn c.in_ok-torn.ensures.torn
 
 pub returns-in_err-stop-clause-calm : goal.returns-in_err-stop-clause-calm
 returns-in_err-stop-clause-calm g c = λ other.

@@ -1,9 +1,10 @@
 -- the records so far were taken, what they give is written or waits, and no call failed
-use Rattle.std.proofs.Common.{◌≡◌, ◌-◌, None, IfSome, List, []}
-use Rattle.pcap_io.specs.Seen.{ahead}
+use Rattle.std.proofs.Common.{◌≡◌, ◌≤◌, ◌-◌, true, None, IfSome, List, [], length}
+use Rattle.std.specs.Io.KnownBytes.{IsAtEnd}
+use Rattle.pcap_io.specs.Seen.{READ_AHEAD}
 use Rattle.story.specs.Story.{Entry}
 use Rattle.stepping.specs.Stands.{Stands}
-use Rattle.engine.specs.steps.Replayed.{Plays, Start}
+use Rattle.engine.specs.steps.Replayed.{Plays, Start, coming}
 use Rattle.engine.proofs.Replays.{Carried}
 use Rattle.engine.proofs.replay.Replay.play.Given as goal
 
@@ -16,9 +17,11 @@ invariant-each g l = record {
   read_calm : l.capture.failures ≡ l.fn.capture.failures;
   write_calm : l.sent.failures ≡ l.fn.sent.failures;
   tell_calm : l.report.failures ≡ l.fn.report.failures;
+  few : length l.self.records.held ≤ READ_AHEAD;
+  drained : l.self.records.ended ≡ true → IsAtEnd (g.R.Read.remaining l.capture.inner);
   stands : (story : List Entry) × Stands l.self.engine story;
   carried : (start : Start) → Plays l.fn.self start [] (g.W.Write.contents l.fn.sent.inner) (g.W2.Write.contents l.fn.report.inner)
-      → IfSome (ahead l.fn.self.records (g.R.Read.remaining l.fn.capture.inner)) (λ bytes.
+      → IfSome (coming l.fn.self.records (g.R.Read.remaining l.fn.capture.inner)) (λ bytes.
       Carried l.self start l.fn.self.records.format bytes (g.R.Read.remaining l.capture.inner) (g.W.Write.contents l.sent.inner) (g.W2.Write.contents l.report.inner));
 }
 
