@@ -5,8 +5,6 @@ use Rattle.std.proofs.lemmas.Bool.{false≢true}
 use Rattle.std.proofs.lemmas.List.Elements.{All-head, All-tail, All-contains, All-contains_itself, All-filter, All-weaker, filter_agree}
 use Rattle.nft_tree.specs.declared.chain.Hook.{Hook}
 use Rattle.nft_tree.specs.declared.chain.Hook.TheVariants as hooks
-use Rattle.nft_tree.specs.Tree.{TableTree}
-use Rattle.box_file.specs.Box.{PlantTree}
 use Rattle.rule_check.specs.Checked.{CheckedTree}
 use Rattle.rule_meaning.specs.declared.facts.Facts.{Facts}
 use Rattle.rule_meaning.specs.declared.event.Event.{Event}

@@ -1,7 +1,5 @@
 -- Base chains as starts of code: which run in which part, what they come to one after another, and what they cost.
 use Rattle.std.specs.Prelude.{◌≡◌, ℕ, ◌≤◌, ℤ, int_lt, negsuc, not, Bool, true, false, cond, List, [], ◌∷◌, filter, sum_by}
-use Rattle.nft_tree.specs.Tree.{TableTree}
-use Rattle.box_file.specs.Box.{PlantTree}
 use Rattle.rule_check.specs.Checked.{CheckedTree}
 use Rattle.rule_meaning.specs.declared.facts.Facts.{Facts}
 use Rattle.rule_meaning.specs.declared.event.Event.{Event}

@@ -1,4 +1,3 @@
-use Rattle.std.proofs.Common.{◌≤◌}
 use Rattle.hook_runs.proofs.runs.HookRuns.costs.Goals as goal
 
 pub returns : goal.returns
