@@ -17,7 +17,7 @@ use Rattle.std.specs.Io.KnownBytes.{Keeps}
 use Rattle.std.proofs.KnownBytes.{Keeps-refl}
 use Rattle.engine.specs.declared.replay.Replay.{Replay}
 use Rattle.engine.specs.Meaning.{ending_of}
-use Rattle.engine.specs.Refusals.{fault_at}
+use Rattle.engine.specs.Refusals.{IsOfRecord, fault_at}
 use Rattle.engine.specs.Left.{Devices, Untouched}
 use Rattle.engine.specs.steps.Replayed.{AllTold, Halted, Interrupts, IsStop, PartTold, Plays, Replayed, Start, coming, ending_at}
 use Rattle.engine.specs.steps.Written.{Ended, Finished, Held, IsWithin, SaysWithin, Told, Unchanged, Unfinished, Untold, start_of, torn_at}
@@ -133,6 +133,33 @@ as_opened now opened unread P e h = subst (λ (s : Seen). IfSome (coming s unrea
 -- one fault, whatever is told where there is none
 pub fault_as : {T U : Type 0} (fault other : RunFault) → IsErrOf {T = T} (Err fault) other → IsErrOf {T = U} (Err fault) other
 fault_as fault other e = let same : fault ≡ other = cc in ap Err same
+
+-- a fault by which the records were left before their end comes within them, and no record is refused for it
+pub interrupted_within : {T : Type 0} (fault : RunFault) → IsErrOf {T = T} (Err fault) Device ⊎ IsErrOf {T = T} (Err fault) Memory → IsWithin fault
+interrupted_within Device is = tt
+interrupted_within Memory is = tt
+interrupted_within (Rules fault) (inl e) = cc
+interrupted_within (Rules fault) (inr e) = cc
+interrupted_within (Box fault) (inl e) = cc
+interrupted_within (Box fault) (inr e) = cc
+interrupted_within (Capture fault) (inl e) = cc
+interrupted_within (Capture fault) (inr e) = cc
+
+pub interrupted_by_none : {T : Type 0} (fault : RunFault) → IsErrOf {T = T} (Err fault) Device ⊎ IsErrOf {T = T} (Err fault) Memory → IsOfRecord fault → ⊥
+interrupted_by_none Device is refused = refused
+interrupted_by_none Memory is refused = refused
+interrupted_by_none (Rules fault) is refused = refused
+interrupted_by_none (Box fault) is refused = refused
+interrupted_by_none (Capture fault) (inl e) refused = cc
+interrupted_by_none (Capture fault) (inr e) refused = cc
+
+-- a record that is refused is no device that failed
+pub refused_by_none : {T : Type 0} (fault : RunFault) → IsOfRecord fault → IsErrOf {T = T} (Err fault) Device → ⊥
+refused_by_none Device refused e = refused
+refused_by_none Memory refused e = refused
+refused_by_none (Rules fault) refused e = refused
+refused_by_none (Box fault) refused e = refused
+refused_by_none (Capture fault) refused e = cc
 
 pub says_interrupted : (setup : Setup) (trace : Bool) (format : Format) (a : Option (List ℕ)) (old new : Devices) (fault : RunFault)
     → IfSome a (λ bytes. Interrupts (start_of setup trace old) format bytes new.unread new.sent new.report old.reads_failed new.reads_failed fault) → IfSome a (λ bytes. SaysWithin setup trace format bytes old new fault)

@@ -3,7 +3,7 @@ use Rattle.std.proofs.lemmas.Result.{err_from_is_err_and}
 use Rattle.engine.specs.Left.{Devices}
 use Rattle.engine.specs.steps.Replayed.{Interrupts, Replayed, Start, ending_at}
 use Rattle.engine.specs.steps.Written.{start_of}
-use Rattle.engine.proofs.Texts.{as_opened, fault_as, says_begun, says_ended, says_interrupted, told_all, untouched, within_end}
+use Rattle.engine.proofs.Texts.{as_opened, fault_as, interrupted_by_none, interrupted_within, refused_by_none, says_begun, says_ended, says_interrupted, told_all, untouched, within_end}
 use Rattle.engine.proofs.runs.write_texts.Goals as goal
 
 pub returns-in_err-replay-clause-left : goal.returns-in_err-replay-clause-left
@@ -69,3 +69,18 @@ pub returns-in_err-torn-clause-within : goal.returns-in_err-torn-clause-within
 returns-in_err-torn-clause-within g c =
     let q = err_from_is_err_and c.from_residual-in_err-torn.result c.from_residual-in_err-torn.ensures.1 in
     rw q.1 (rw q.2 (within_end c.in_ok-stop.stop c.in_err-torn.field-0.0 c.in_ok-stop.ensures.stop c.in_err-torn.ensures.kinds))
+
+pub returns-in_err-stop-clause-within : goal.returns-in_err-stop-clause-within
+returns-in_err-stop-clause-within g c =
+    let q = err_from_is_err_and c.from_residual-in_err-stop.result c.from_residual-in_err-stop.ensures.1 in
+    rw q.1 (rw q.2 (interrupted_within c.in_err-stop.field-0.0 c.in_err-stop.ensures.kinds))
+
+pub returns-in_err-stop-clause-refused : goal.returns-in_err-stop-clause-refused
+returns-in_err-stop-clause-refused g c =
+    let q = err_from_is_err_and c.from_residual-in_err-stop.result c.from_residual-in_err-stop.ensures.1 in
+    rw q.1 (rw q.2 (λ refused. absurd (interrupted_by_none c.in_err-stop.field-0.0 c.in_err-stop.ensures.kinds refused)))
+
+pub returns-in_err-torn-clause-refused : goal.returns-in_err-torn-clause-refused
+returns-in_err-torn-clause-refused g c =
+    let q = err_from_is_err_and c.from_residual-in_err-torn.result c.from_residual-in_err-torn.ensures.1 in
+    rw q.1 (rw q.2 (λ refused. c.in_err-torn.ensures.flushed (refused_by_none c.in_err-torn.field-0.0 refused)))
