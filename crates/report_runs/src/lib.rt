@@ -8,6 +8,4 @@ mod kinds;
 #[cfg(test)]
 mod lines;
 #[cfg(test)]
-mod sizes;
-#[cfg(test)]
 mod stops;
