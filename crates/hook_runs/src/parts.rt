@@ -37,6 +37,7 @@ pub(crate) struct Parts {
 
 impl Parts {
     /// Those of a part.
+    #[inline(always)]
     pub(crate) fn starts(&self, part: Part) -> &[Start]
         ensures { result.now ≡ starts_in self.now part }
     {

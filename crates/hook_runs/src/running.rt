@@ -3,7 +3,7 @@ ghost use Rattle.std.specs.Prelude.{◌≡◌, ◌≤◌, ◌+◌, length};
 ghost use Rattle.hook_runs.specs.steps.Starts.{cost_of, goes_on, in_turn};
 
 use filter_vm::{Code, Events, Start, run_in_place};
-use rule_meaning::{Ending, Facts, Outcome};
+use rule_meaning::{Ending, Facts};
 
 /// Whether a packet goes on from a base chain that ends so.
 #[inline(always)]
@@ -13,35 +13,29 @@ fn goes_on(ending: Ending) -> bool
     matches!(ending, Ending::Accepted)
 }
 
-/// Runs a packet through base chains, one after another, until one doesn't accept it.
-#[inline]
+/// Runs a packet through base chains, one after another, until one doesn't accept it. What rules may
+/// read of it is changed in place.
+#[inline(always)]
 pub(crate) fn run_in_turn(
     code: &Code,
     starts: &[Start],
-    facts: &Facts,
+    facts: &mut Facts,
     events: &mut Events,
-) -> Outcome
+) -> Ending
     requires room { length events.old.events + cost_of starts.now ≤ 65536 }
-    ensures end { record { ending = result.ending; facts = result.facts; events = events.new.events }
-        ≡ in_turn code.now starts.now facts.now events.old.events }
+    ensures end { record { ending = result; facts = facts.new; events = events.new.events }
+        ≡ in_turn code.now starts.now facts.old events.old.events }
     ensures events { length events.new.events ≤ length events.old.events + cost_of starts.now }
     ensures rise { events.old.ticks ≤ events.new.ticks }
     ensures ticks { events.new.ticks ≤ events.old.ticks + cost_of starts.now }
 {
     // The count's type bounds it.
     let _ = events.ticks();
-    let mut known = *facts;
     for start in starts {
-        let ending = run_in_place(code, *start, &mut known, events);
+        let ending = run_in_place(code, *start, facts, events);
         if !goes_on(ending) {
-            return Outcome {
-                ending,
-                facts: known,
-            };
+            return ending;
         }
     }
-    Outcome {
-        ending: Ending::Accepted,
-        facts: known,
-    }
+    Ending::Accepted
 }

@@ -11,7 +11,7 @@ use crate::sorting::parts_of;
 use compiler::compile;
 use filter_vm::{Code, Events};
 use rule_check::Checked;
-use rule_meaning::{Facts, Outcome};
+use rule_meaning::{Ending, Facts};
 use std::alloc::{AllocError, Global};
 use std::marker::Model;
 
@@ -71,13 +71,13 @@ impl HookRuns {
     }
 
     /// Runs a packet through the base chains of a part, one after another, until one doesn't accept
-    /// it. What rules may read at the end has the marks that they wrote. No more events happen, and
-    /// no more statements are started, than the part costs.
-    #[inline]
-    pub fn run(&self, part: Part, facts: &Facts, events: &mut Events) -> Outcome
+    /// it. What rules may read is changed in place: at the end it has the marks that they wrote. No
+    /// more events happen, and no more statements are started, than the part costs.
+    #[inline(always)]
+    pub fn run(&self, part: Part, facts: &mut Facts, events: &mut Events) -> Ending
         requires room { length events.old.events + part_cost self.now part ≤ 65536 }
-        ensures end { Chains self.now.plant self.now.rules (bases_in part) facts.now events.old.events
-            (record { ending = result.ending; facts = result.facts; events = events.new.events }) }
+        ensures end { Chains self.now.plant self.now.rules (bases_in part) facts.old events.old.events
+            (record { ending = result; facts = facts.new; events = events.new.events }) }
         ensures events { length events.new.events ≤ length events.old.events + part_cost self.now part }
         ensures ticks { (events.old.ticks ≤ events.new.ticks)
             × (events.new.ticks ≤ events.old.ticks + part_cost self.now part) }

@@ -162,6 +162,7 @@ impl Capture {
 
     /// Whether the next call of `next` reads nothing: what it answers is held already, or the
     /// reader has come to its end.
+    #[inline(always)]
     pub fn is_ready(&self) -> bool
         ensures { result ≡ is_ready self.now }
     {

@@ -35,7 +35,7 @@ use Rattle.stepping.specs.steps.Fates.{Fared, Follows, HasFate, held_after}
 use Rattle.stepping.specs.steps.Leading.{course_of, outcome_of}
 use Rattle.stepping.specs.steps.Passing.{Comes}
 use Rattle.stepping.specs.steps.Settling.{Settles, begun_in, others_in, outcome_in}
-use Rattle.stepping.proofs.Passages.{cause_by, facts_by, off_by, on_by}
+use Rattle.stepping.proofs.Passages.{cause_by, off_by, on_by}
 use Rattle.stepping.proofs.LastStep.{after_uncounted, agrees}
 
 -- ---- a fate, and what is held after it
@@ -118,17 +118,17 @@ module _ (setup : Setup) (a : Arrived) (f : Facts) (es : List Event) (known : f 
   has_entered end run = subst (λ (f : Facts). Early setup.plant setup.rules f [] end) known (subst (λ (es : List Event). Early setup.plant setup.rules f es end) first run)
 
   -- what the early chains drop isn't looked up
-  pub is_dropped : (cause : Cause) (events : List Event) (now : ℕ) (old : List Held) → Comes (Early setup.plant setup.rules) f es (Err cause) events → Fared setup a now old old (Err cause) events
-  is_dropped cause events now old comes =
-      let off = off_by comes.end.ending comes.end.facts cause comes.answered in
-      rw (cause_by comes.end.ending comes.end.facts cause comes.answered, comes.happened) (record {
+  pub is_dropped : (cause : Cause) (g : Facts) (events : List Event) (now : ℕ) (old : List Held) → Comes (Early setup.plant setup.rules) f es (Err cause) g events → Fared setup a now old old (Err cause) events
+  is_dropped cause g events now old comes =
+      let off = off_by comes.end.ending cause comes.answered in
+      rw (cause_by comes.end.ending cause comes.answered, comes.happened) (record {
         fate = unseen (dropped causes.Rule comes.end.events);
         fares = record { early = comes.end; first = has_entered comes.end comes.run; stopped = λ stops. refl; goes_on = λ on. absurd (off on) };
         follows = unseen_follows now (lookup_of old a.packet) old causes.Rule comes.end.events;
       })
 
   -- what they let through is led, and the last step follows
-  module _ (g : Facts) (between : List Event) (comes : Comes (Early setup.plant setup.rules) f es (Ok g) between) (now : ℕ) (old : List Held) (sought : Option Sought) (is : sought ≡ sought_of a.packet)
+  module _ (g : Facts) (between : List Event) (comes : Comes (Early setup.plant setup.rules) f es (Ok tt) g between) (now : ℕ) (old : List Held) (sought : Option Sought) (is : sought ≡ sought_of a.packet)
       (way : Way) (way_is : way ≡ way_of (option_map (look_up old) sought)) where
     abbrev lookup : Option Lookup
     lookup = option_map (look_up old) sought
@@ -140,9 +140,8 @@ module _ (setup : Setup) (a : Arrived) (f : Facts) (es : List Event) (known : f 
         → Leads setup (with_tracking (tracking_of way) g) between course → Follows now lookup old new (outcome_in answer) (begun_in answer) events (settled lookup course)
         → Fared setup a now old new answer events
     led_so course new answer events leads follows =
-        let facts : g ≡ comes.end.facts = facts_by comes.end.ending comes.end.facts g comes.answered in
-        let on = on_by comes.end.ending comes.end.facts g comes.answered in
-        let leads_so : Leads setup (with_tracking (tracking_of (way_of lookup)) comes.end.facts) comes.end.events course = rw (← way_is, ← facts, ← comes.happened) leads in
+        let on = on_by comes.end.ending comes.answered in
+        let leads_so : Leads setup (with_tracking (tracking_of (way_of lookup)) comes.end.facts) comes.end.events course = rw (← way_is, ← comes.left, ← comes.happened) leads in
         record {
           fate = settled lookup course;
           fares = record {

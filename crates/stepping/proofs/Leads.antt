@@ -1,5 +1,6 @@
 -- How the rules lead a packet, by what is answered on its way.
 use Rattle.std.proofs.Common.{◌≡◌, ℕ, ◌-◌, ◌≤◌, Bool, true, false, cond, nat_lt, List, Option, Some, None, Result, Ok, Err, refl, sym, ap, subst, ◌∙◌}
+use Rattle.std.specs.Prelude.{⊤}
 use borrow.Author.Tests.{ltb-false, ltb-true}
 use Rattle.box_file.specs.Box.{PlantTree, is_own, route}
 use Rattle.rule_meaning.specs.declared.facts.Facts.{Facts}
@@ -18,7 +19,7 @@ use Rattle.stepping.specs.Courses as courses
 use Rattle.stepping.specs.Courses.{Arrives, Course, Departs, Leads, LeadsOn, dropped, mark_in, through}
 use Rattle.stepping.specs.steps.Leading.{Leaves, bound_by, bound_of, course_of}
 use Rattle.stepping.specs.steps.Passing.{Comes}
-use Rattle.stepping.proofs.Passages.{cause_by, facts_by, off_by, on_by}
+use Rattle.stepping.proofs.Passages.{cause_by, off_by, on_by}
 
 -- what rules may read on departure, by the interface that is told
 pub departs_with : (setup : Setup) (plant : PlantTree) (interface : ℕ) (i : Interface) (f g : Facts) → plant ≡ setup.plant → i ≡ interface_facts plant interface
@@ -26,9 +27,9 @@ pub departs_with : (setup : Setup) (plant : PlantTree) (interface : ℕ) (i : In
 departs_with setup plant interface i f g same is known =
     known ∙ ap (λ (j : Interface). let h : Facts = record f { output = Some j; packet = record f.packet { ttl = f.packet.ttl - 1 } } in h) (is ∙ ap (λ (q : PlantTree). interface_facts q interface) same)
 
-pub leaves_by : (setup : Setup) (interface : ℕ) (f g : Facts) (es events : List Event) (answer : Result Facts Cause) → g ≡ departing setup interface f → Comes (Departs setup) g es answer events → Comes (Leaves setup (bounds.Passed interface)) f es answer events
-leaves_by setup interface f g es events answer is comes =
-    record { end = comes.end; run = subst (λ (h : Facts). Departs setup h es comes.end) is comes.run; answered = comes.answered; happened = comes.happened }
+pub leaves_by : (setup : Setup) (interface : ℕ) (f g : Facts) (es : List Event) (h : Facts) (events : List Event) (answer : Result ⊤ Cause) → g ≡ departing setup interface f → Comes (Departs setup) g es answer h events → Comes (Leaves setup (bounds.Passed interface)) f es answer h events
+leaves_by setup interface f g es h events answer is comes =
+    record { end = comes.end; run = subst (λ (k : Facts). Departs setup k es comes.end) is comes.run; answered = comes.answered; left = comes.left; happened = comes.happened }
 
 module _ (setup : Setup) where
   -- ---- once it has arrived
@@ -48,25 +49,23 @@ module _ (setup : Setup) where
 
     -- where a packet goes, by the tests in turn
     record IsBound (bound : Bound) : Type 0 where
-      pub leads : (g : Facts) (events : List Event) → Comes (Leaves setup bound) f es (Ok g) events → LedOn (Ok (record { bound = bound; mark = mark_in g.tracking })) events
-      pub drops : (cause : Cause) (events : List Event) → Comes (Leaves setup bound) f es (Err cause) events → LedOn (Err cause) events
+      pub leads : (g : Facts) (events : List Event) → Comes (Leaves setup bound) f es (Ok tt) g events → LedOn (Ok (record { bound = bound; mark = mark_in g.tracking })) events
+      pub drops : (cause : Cause) (g : Facts) (events : List Event) → Comes (Leaves setup bound) f es (Err cause) g events → LedOn (Err cause) events
 
     local : own ≡ true → IsBound bounds.Local
     local is = record {
       leads = λ g events comes.
-          let facts : g ≡ comes.end.facts = facts_by comes.end.ending comes.end.facts g comes.answered in
-          rw (facts, comes.happened) (courses.delivered comes.end is comes.run (on_by comes.end.ending comes.end.facts g comes.answered));
-      drops = λ cause events comes.
-          rw (cause_by comes.end.ending comes.end.facts cause comes.answered, comes.happened) (courses.not_delivered comes.end is comes.run (off_by comes.end.ending comes.end.facts cause comes.answered));
+          rw (comes.left, comes.happened) (courses.delivered comes.end is comes.run (on_by comes.end.ending comes.answered));
+      drops = λ cause g events comes.
+          rw (cause_by comes.end.ending cause comes.answered, comes.happened) (courses.not_delivered comes.end is comes.run (off_by comes.end.ending cause comes.answered));
     }
 
     passed : (interface : ℕ) → own ≡ false → way ≡ Some interface → 2 ≤ f.packet.ttl → IsBound (bounds.Passed interface)
     passed interface is by hops = record {
       leads = λ g events comes.
-          let facts : g ≡ comes.end.facts = facts_by comes.end.ending comes.end.facts g comes.answered in
-          rw (facts, comes.happened) (courses.leaves interface comes.end is by hops comes.run (on_by comes.end.ending comes.end.facts g comes.answered));
-      drops = λ cause events comes.
-          rw (cause_by comes.end.ending comes.end.facts cause comes.answered, comes.happened) (courses.stays interface comes.end is by hops comes.run (off_by comes.end.ending comes.end.facts cause comes.answered));
+          rw (comes.left, comes.happened) (courses.leaves interface comes.end is by hops comes.run (on_by comes.end.ending comes.answered));
+      drops = λ cause g events comes.
+          rw (cause_by comes.end.ending cause comes.answered, comes.happened) (courses.stays interface comes.end is by hops comes.run (off_by comes.end.ending cause comes.answered));
     }
 
     -- by what is answered of it
@@ -94,22 +93,21 @@ module _ (setup : Setup) where
     is_unbound cause is = bound_so (Err cause) is
 
     -- one that is bound somewhere is led there, or dropped on its way
-    pub is_led : (bound : Bound) (g : Facts) (events : List Event) → Ok bound ≡ bound_of setup.plant f.packet → Comes (Leaves setup bound) f es (Ok g) events → LedOn (Ok (record { bound = bound; mark = mark_in g.tracking })) events
+    pub is_led : (bound : Bound) (g : Facts) (events : List Event) → Ok bound ≡ bound_of setup.plant f.packet → Comes (Leaves setup bound) f es (Ok tt) g events → LedOn (Ok (record { bound = bound; mark = mark_in g.tracking })) events
     is_led bound g events is comes = (bound_so (Ok bound) is).leads g events comes
 
-    pub is_stopped : (bound : Bound) (cause : Cause) (events : List Event) → Ok bound ≡ bound_of setup.plant f.packet → Comes (Leaves setup bound) f es (Err cause) events → LedOn (Err cause) events
-    is_stopped bound cause events is comes = (bound_so (Ok bound) is).drops cause events comes
+    pub is_stopped : (bound : Bound) (cause : Cause) (g : Facts) (events : List Event) → Ok bound ≡ bound_of setup.plant f.packet → Comes (Leaves setup bound) f es (Err cause) g events → LedOn (Err cause) events
+    is_stopped bound cause g events is comes = (bound_so (Ok bound) is).drops cause g events comes
 
   -- ---- its arrival
 
   module _ (f : Facts) (es : List Event) where
-    pub is_let_in : (g : Facts) (between : List Event) (course : Course) → Comes (Arrives setup) f es (Ok g) between → ((ending : Ending) → LeadsOn setup (record { ending = ending; facts = g; events = between }) course) → Leads setup f es course
+    pub is_let_in : (g : Facts) (between : List Event) (course : Course) → Comes (Arrives setup) f es (Ok tt) g between → ((ending : Ending) → LeadsOn setup (record { ending = ending; facts = g; events = between }) course) → Leads setup f es course
     is_let_in g between course comes leads =
-        let facts : g ≡ comes.end.facts = facts_by comes.end.ending comes.end.facts g comes.answered in
-        let led : LeadsOn setup comes.end course = rw (← facts, ← comes.happened) (leads comes.end.ending) in
-        record { arrival = comes.end; arrived = comes.run; by = (λ stops. absurd (stops (on_by comes.end.ending comes.end.facts g comes.answered)), λ _. led) }
+        let led : LeadsOn setup comes.end course = rw (← comes.left, ← comes.happened) (leads comes.end.ending) in
+        record { arrival = comes.end; arrived = comes.run; by = (λ stops. absurd (stops (on_by comes.end.ending comes.answered)), λ _. led) }
 
-    pub is_kept_out : (cause : Cause) (events : List Event) → Comes (Arrives setup) f es (Err cause) events → Leads setup f es (dropped cause events)
-    is_kept_out cause events comes =
-        let off = off_by comes.end.ending comes.end.facts cause comes.answered in
-        record { arrival = comes.end; arrived = comes.run; by = (λ stops. rw (cause_by comes.end.ending comes.end.facts cause comes.answered, comes.happened) refl, λ on. absurd (off on)) }
+    pub is_kept_out : (cause : Cause) (g : Facts) (events : List Event) → Comes (Arrives setup) f es (Err cause) g events → Leads setup f es (dropped cause events)
+    is_kept_out cause g events comes =
+        let off = off_by comes.end.ending cause comes.answered in
+        record { arrival = comes.end; arrived = comes.run; by = (λ stops. rw (cause_by comes.end.ending cause comes.answered, comes.happened) refl, λ on. absurd (off on)) }

@@ -1,5 +1,6 @@
 -- Passages one after another, and how their ends are answered.
 use Rattle.std.proofs.Common.{◌≡◌, Bool, true, false, List, Result, Ok, Err, refl, sym, subst}
+use Rattle.std.specs.Prelude.{⊤}
 use Rattle.rule_meaning.specs.declared.facts.Facts.{Facts}
 use Rattle.rule_meaning.specs.declared.event.Event.{Event}
 use Rattle.rule_meaning.specs.declared.event.Ending.{Ending}
@@ -30,42 +31,36 @@ off_of Dropped is = λ on. on
 off_of (Translated t) is = λ on. on
 
 -- an answer tells which
-pub on_by : (ending : Ending) (f g : Facts) → Ok g ≡ answer_of ending f → GoesOn ending
-on_by Accepted f g is = tt
-on_by Dropped f g is = cc
-on_by (Translated t) f g is = cc
+pub on_by : (ending : Ending) → Ok tt ≡ answer_of ending → GoesOn ending
+on_by Accepted is = tt
+on_by Dropped is = cc
+on_by (Translated t) is = cc
 
-pub facts_by : (ending : Ending) (f g : Facts) → Ok g ≡ answer_of ending f → g ≡ f
-facts_by Accepted f g is = cc
-facts_by Dropped f g is = cc
-facts_by (Translated t) f g is = cc
+pub off_by : (ending : Ending) (cause : Cause) → Err cause ≡ answer_of ending → Stops ending
+off_by Accepted cause is = cc
+off_by Dropped cause is = λ on. on
+off_by (Translated t) cause is = λ on. on
 
-pub off_by : (ending : Ending) (f : Facts) (cause : Cause) → Err cause ≡ answer_of ending f → Stops ending
-off_by Accepted f cause is = cc
-off_by Dropped f cause is = λ on. on
-off_by (Translated t) f cause is = λ on. on
-
-pub cause_by : (ending : Ending) (f : Facts) (cause : Cause) → Err cause ≡ answer_of ending f → cause ≡ causes.Rule
-cause_by Accepted f cause is = cc
-cause_by Dropped f cause is = cc
-cause_by (Translated t) f cause is = cc
+pub cause_by : (ending : Ending) (cause : Cause) → Err cause ≡ answer_of ending → cause ≡ causes.Rule
+cause_by Accepted cause is = cc
+cause_by Dropped cause is = cc
+cause_by (Translated t) cause is = cc
 
 -- ---- one after another
 
 module _ (first second : Passage) (f : Facts) (es : List Event) where
-  pub comes_on : (g : Facts) (between events : List Event) (answer : Result Facts Cause) → Comes first f es (Ok g) between → Comes second g between answer events → Comes (Then first second) f es answer events
-  comes_on g between events answer one two =
-      let facts : g ≡ one.end.facts = facts_by one.end.ending one.end.facts g one.answered in
-      let run : second one.end.facts one.end.events two.end = subst (λ (es : List Event). second one.end.facts es two.end) one.happened (subst (λ (f : Facts). second f between two.end) facts two.run) in
-      record { end = two.end; run = meaning.goes_on one.end one.run (on_by one.end.ending one.end.facts g one.answered) run; answered = two.answered; happened = two.happened }
+  pub comes_on : (g : Facts) (between : List Event) (h : Facts) (events : List Event) (answer : Result ⊤ Cause) → Comes first f es (Ok tt) g between → Comes second g between answer h events → Comes (Then first second) f es answer h events
+  comes_on g between h events answer one two =
+      let run : second one.end.facts one.end.events two.end = subst (λ (es : List Event). second one.end.facts es two.end) one.happened (subst (λ (f : Facts). second f between two.end) one.left two.run) in
+      record { end = two.end; run = meaning.goes_on one.end one.run (on_by one.end.ending one.answered) run; answered = two.answered; left = two.left; happened = two.happened }
 
-  pub comes_off : (cause : Cause) (events : List Event) → Comes first f es (Err cause) events → Comes (Then first second) f es (Err cause) events
-  comes_off cause events one =
-      record { end = one.end; run = meaning.stops one.run (off_by one.end.ending one.end.facts cause one.answered); answered = one.answered; happened = one.happened }
+  pub comes_off : (cause : Cause) (h : Facts) (events : List Event) → Comes first f es (Err cause) h events → Comes (Then first second) f es (Err cause) h events
+  comes_off cause h events one =
+      record { end = one.end; run = meaning.stops one.run (off_by one.end.ending cause one.answered); answered = one.answered; left = one.left; happened = one.happened }
 
 -- where nothing is done between two, the second follows the first
-pub comes_straight : (first second : Passage) (f : Facts) (es events : List Event) (answer : Result Facts Cause) → Comes (Then first second) f es answer events → Comes (Then first (Then Nothing second)) f es answer events
-comes_straight first second f es events answer both = record { end = both.end; run = straight both.end both.run; answered = both.answered; happened = both.happened }
+pub comes_straight : (first second : Passage) (f : Facts) (es : List Event) (h : Facts) (events : List Event) (answer : Result ⊤ Cause) → Comes (Then first second) f es answer h events → Comes (Then first (Then Nothing second)) f es answer h events
+comes_straight first second f es h events answer both = record { end = both.end; run = straight both.end both.run; answered = both.answered; left = both.left; happened = both.happened }
   where
     straight : (end : End) → Then first second f es end → Then first (Then Nothing second) f es end
     straight end (meaning.goes_on between one on two) = meaning.goes_on between one on (meaning.goes_on (record { ending = Accepted; facts = between.facts; events = between.events }) refl tt two)

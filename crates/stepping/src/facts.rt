@@ -48,27 +48,21 @@ pub fn arriving(view: &View, input: Interface) -> Facts
     }
 }
 
-/// Once its connection was looked for.
+/// Its connection was looked for.
 #[inline(always)]
-pub fn with_tracking(tracking: Tracking, facts: &Facts) -> Facts
-    ensures { result ≡ with_tracking tracking facts.now }
+pub fn note_tracking(facts: &mut Facts, tracking: Tracking)
+    ensures { facts.new ≡ with_tracking tracking facts.old }
 {
-    Facts { tracking, ..*facts }
+    facts.tracking = tracking;
 }
 
-/// When it is sent on: the way is known, and the TTL is one lower (RFC 1812, section 5.3.1).
+/// It is sent on: the way is known, and the TTL is one lower (RFC 1812, section 5.3.1).
 #[inline(always)]
-pub fn departing(output: Interface, facts: &Facts) -> Facts
-    ensures { result ≡ record facts.now { output = Some output; packet = record facts.now.packet { ttl = facts.now.packet.ttl - 1 } } }
+pub fn note_departure(facts: &mut Facts, output: Interface)
+    ensures { facts.new ≡ record facts.old { output = Some output; packet = record facts.old.packet { ttl = facts.old.packet.ttl - 1 } } }
 {
-    Facts {
-        output: Some(output),
-        packet: Packet {
-            ttl: facts.packet.ttl.saturating_sub(1),
-            ..facts.packet
-        },
-        ..*facts
-    }
+    facts.output = Some(output);
+    facts.packet.ttl = facts.packet.ttl.saturating_sub(1);
 }
 
 /// The fields of its headers.

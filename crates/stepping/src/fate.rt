@@ -11,7 +11,7 @@ ghost use Rattle.stepping.specs.steps.Leading.{outcome_of};
 ghost use Rattle.stepping.specs.steps.Passing.{Spends, setup_in};
 
 use crate::arrival::{Incoming, carried};
-use crate::facts::{arriving, with_tracking};
+use crate::facts::{arriving, note_tracking};
 use crate::leading::{Bound, lead};
 use crate::lookup::look_up;
 use crate::settling::{Settled, settle};
@@ -96,10 +96,11 @@ fn pass<T: Tracker>(
     // The parts together cost no more than there is room for.
     setup.hooks.costs();
     let view = &incoming.view;
-    let early = setup.run(Part::Early, &arriving(view, incoming.input), events)?;
+    let mut facts = arriving(view, incoming.input);
+    setup.run(Part::Early, &mut facts, events)?;
     let way = look_up(tracker, sought_of(view), now);
-    let facts = with_tracking(tracking_of(&way), &early);
-    let led = lead(setup, &facts, events)?;
+    note_tracking(&mut facts, tracking_of(&way));
+    let led = lead(setup, &mut facts, events)?;
     settle(tracker, &way, flags_in(view.transport()), &led, now)
 }
 

@@ -5,7 +5,7 @@ ghost use Rattle.stepping.specs.Courses.{Arrives, Departs, Leads, LeadsOn};
 ghost use Rattle.stepping.specs.steps.Leading.{Leaves, arrival_cost, bound_of, course_of, led_cost, way_out_cost};
 ghost use Rattle.stepping.specs.steps.Passing.{Comes, HasRoom, Spends, setup_in};
 
-use crate::facts::{departing, interface_facts};
+use crate::facts::{interface_facts, note_departure};
 use crate::setup::Setup;
 use crate::way::mark_in;
 use box_file::Plant;
@@ -32,35 +32,35 @@ pub struct Led {
 
 /// Leads a packet through the rules, or tells the cause for which it is dropped.
 #[inline(always)]
-pub fn lead(setup: &Setup, facts: &Facts, events: &mut Events) -> Result<Led, Cause>
+pub fn lead(setup: &Setup, facts: &mut Facts, events: &mut Events) -> Result<Led, Cause>
     requires room { HasRoom events.old (led_cost setup.now.hooks.costs) }
-    ensures leads { Leads (setup_in setup.now.hooks) facts.now events.old.events (course_of result events.new.events) }
+    ensures leads { Leads (setup_in setup.now.hooks) facts.old events.old.events (course_of result events.new.events) }
     ensures spent { Spends events.old events.new (led_cost setup.now.hooks.costs) }
 {
-    let facts = arrive(setup, facts, events)?;
-    lead_on(setup, &facts, events)
+    arrive(setup, facts, events)?;
+    lead_on(setup, facts, events)
 }
 
 /// Runs a packet through the chains on prerouting that come after its look-up.
 #[inline(always)]
-fn arrive(setup: &Setup, facts: &Facts, events: &mut Events) -> Result<Facts, Cause>
+fn arrive(setup: &Setup, facts: &mut Facts, events: &mut Events) -> Result<(), Cause>
     requires room { HasRoom events.old (arrival_cost setup.now.hooks.costs) }
-    ensures comes { Comes (Arrives (setup_in setup.now.hooks)) facts.now events.old.events result events.new.events }
+    ensures comes { Comes (Arrives (setup_in setup.now.hooks)) facts.old events.old.events result facts.new events.new.events }
     ensures spent { Spends events.old events.new (arrival_cost setup.now.hooks.costs) }
 {
-    let facts = setup.run(Part::BeforeDestination, facts, events)?;
-    setup.run(Part::AfterDestination, &facts, events)
+    setup.run(Part::BeforeDestination, facts, events)?;
+    setup.run(Part::AfterDestination, facts, events)
 }
 
 /// Leads on a packet that has arrived.
 #[inline(always)]
-fn lead_on(setup: &Setup, facts: &Facts, events: &mut Events) -> Result<Led, Cause>
+fn lead_on(setup: &Setup, facts: &mut Facts, events: &mut Events) -> Result<Led, Cause>
     requires room { HasRoom events.old (way_out_cost setup.now.hooks.costs) }
-    ensures leads { (ending : Ending) → LeadsOn (setup_in setup.now.hooks) (record { ending = ending; facts = facts.now; events = events.old.events }) (course_of result events.new.events) }
+    ensures leads { (ending : Ending) → LeadsOn (setup_in setup.now.hooks) (record { ending = ending; facts = facts.old; events = events.old.events }) (course_of result events.new.events) }
     ensures spent { Spends events.old events.new (way_out_cost setup.now.hooks.costs) }
 {
     let bound = bound_of(setup.plant(), &facts.packet)?;
-    let facts = leave(setup, bound, facts, events)?;
+    leave(setup, bound, facts, events)?;
     Ok(Led {
         bound,
         mark: mark_in(facts.tracking),
@@ -86,28 +86,29 @@ fn bound_of(plant: &Plant, packet: &Packet) -> Result<Bound, Cause>
 
 /// Runs a packet through the chains on its way: those of input, or those of forward and postrouting.
 #[inline(always)]
-fn leave(setup: &Setup, bound: Bound, facts: &Facts, events: &mut Events) -> Result<Facts, Cause>
+fn leave(setup: &Setup, bound: Bound, facts: &mut Facts, events: &mut Events) -> Result<(), Cause>
     requires room { HasRoom events.old (way_out_cost setup.now.hooks.costs) }
-    ensures comes { Comes (Leaves (setup_in setup.now.hooks) bound) facts.now events.old.events result events.new.events }
+    ensures comes { Comes (Leaves (setup_in setup.now.hooks) bound) facts.old events.old.events result facts.new events.new.events }
     ensures spent { Spends events.old events.new (way_out_cost setup.now.hooks.costs) }
 {
     match bound {
         Bound::Local => setup.run(Part::Input, facts, events),
         Bound::Passed(interface) => {
             let output = interface_facts(setup.plant(), interface);
-            depart(setup, &departing(output, facts), events)
+            note_departure(facts, output);
+            depart(setup, facts, events)
         }
     }
 }
 
 /// Runs a packet through the chains on forward and then those on postrouting.
 #[inline(always)]
-fn depart(setup: &Setup, facts: &Facts, events: &mut Events) -> Result<Facts, Cause>
+fn depart(setup: &Setup, facts: &mut Facts, events: &mut Events) -> Result<(), Cause>
     requires room { HasRoom events.old (way_out_cost setup.now.hooks.costs) }
-    ensures comes { Comes (Departs (setup_in setup.now.hooks)) facts.now events.old.events result events.new.events }
+    ensures comes { Comes (Departs (setup_in setup.now.hooks)) facts.old events.old.events result facts.new events.new.events }
     ensures spent { Spends events.old events.new (way_out_cost setup.now.hooks.costs) }
 {
-    let facts = setup.run(Part::Forward, facts, events)?;
-    let facts = setup.run(Part::BeforeSource, &facts, events)?;
-    setup.run(Part::AfterSource, &facts, events)
+    setup.run(Part::Forward, facts, events)?;
+    setup.run(Part::BeforeSource, facts, events)?;
+    setup.run(Part::AfterSource, facts, events)
 }

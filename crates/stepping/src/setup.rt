@@ -13,7 +13,7 @@ use crate::facts::{interface_facts, interface_of};
 use box_file::Plant;
 use hook_runs::{Events, HookRuns, Part};
 use rule_check::Checked;
-use rule_meaning::{Ending, Facts, Interface, Outcome};
+use rule_meaning::{Ending, Facts, Interface};
 use std::alloc::{AllocError, Global};
 use story::Cause;
 
@@ -58,26 +58,25 @@ impl Setup {
         }
     }
 
-    /// Runs a packet through the chains of a part: what rules may read of it then, or that a rule or a
-    /// policy drops it.
+    /// Runs a packet through the chains of a part, which change in place what rules may read of it; or
+    /// tells that a rule or a policy drops it.
     #[inline(always)]
-    pub fn run(&self, part: Part, facts: &Facts, events: &mut Events) -> Result<Facts, Cause>
+    pub fn run(&self, part: Part, facts: &mut Facts, events: &mut Events) -> Result<(), Cause>
         requires room { HasRoom events.old (part_cost self.now.hooks part) }
-        ensures comes { Comes (Chains self.now.hooks.plant self.now.hooks.rules (bases_in part)) facts.now events.old.events result events.new.events }
+        ensures comes { Comes (Chains self.now.hooks.plant self.now.hooks.rules (bases_in part)) facts.old events.old.events result facts.new events.new.events }
         ensures spent { Spends events.old events.new (part_cost self.now.hooks part) }
     {
-        let outcome = self.hooks.run(part, facts, events);
-        go_on(&outcome)
+        go_on(self.hooks.run(part, facts, events))
     }
 }
 
-/// What rules may read where a packet goes on from the chains that ended so.
+/// Whether a packet goes on from the chains that ended so.
 #[inline(always)]
-fn go_on(outcome: &Outcome) -> Result<Facts, Cause>
-    ensures { result ≡ answer_of outcome.now.ending outcome.now.facts }
+fn go_on(ending: Ending) -> Result<(), Cause>
+    ensures { result ≡ answer_of ending }
 {
-    match outcome.ending {
-        Ending::Accepted => Ok(outcome.facts),
+    match ending {
+        Ending::Accepted => Ok(()),
         Ending::Dropped | Ending::Translated(_) => Err(Cause::Rule),
     }
 }

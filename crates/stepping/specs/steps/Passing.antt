@@ -1,5 +1,5 @@
 -- How chains are passed, as it is answered.
-use Rattle.std.specs.Prelude.{◌≡◌, ℕ, ◌+◌, ◌≤◌, List, length, Result, Ok, Err}
+use Rattle.std.specs.Prelude.{◌≡◌, ℕ, ◌+◌, ◌≤◌, List, length, Result, Ok, Err, ⊤}
 use Rattle.rule_meaning.specs.declared.facts.Facts.{Facts}
 use Rattle.rule_meaning.specs.declared.event.Event.{Event}
 use Rattle.rule_meaning.specs.declared.event.Ending.{Ending}
@@ -15,17 +15,18 @@ use Rattle.story.specs.Setup.{Setup}
 abbrev pub setup_in : CostedTree → Setup
 setup_in runs = record { rules = runs.rules; plant = runs.plant }
 
--- what rules may read of a packet that goes on; else a rule or a policy drops it
-abbrev pub answer_of : Ending → Facts → Result Facts Cause
-answer_of Accepted f = Ok f
-answer_of Dropped f = Err causes.Rule
-answer_of (Translated t) f = Err causes.Rule
+-- a packet goes on, or a rule or a policy drops it
+abbrev pub answer_of : Ending → Result ⊤ Cause
+answer_of Accepted = Ok tt
+answer_of Dropped = Err causes.Rule
+answer_of (Translated t) = Err causes.Rule
 
--- a passage comes to an end that is answered so, with these events
-pub record Comes (passage : Passage) (f : Facts) (es : List Event) (answer : Result Facts Cause) (events : List Event) : Type 0 where
+-- a passage comes to an end that is answered so, with these facts and events
+pub record Comes (passage : Passage) (f : Facts) (es : List Event) (answer : Result ⊤ Cause) (facts : Facts) (events : List Event) : Type 0 where
   pub end : End
   pub run : passage f es end
-  pub answered : answer ≡ answer_of end.ending end.facts
+  pub answered : answer ≡ answer_of end.ending
+  pub left : facts ≡ end.facts
   pub happened : events ≡ end.events
 
 -- ---- what it costs

@@ -5,7 +5,7 @@ use Rattle.hook_runs.proofs.running.run_in_turn.Given as goal
 -- the rest comes to what the whole comes to, and what is spent leaves room for the rest
 abbrev pub invariant-loop-start : goal.invariant-loop-start
 invariant-loop-start l = record {
-  same : in_turn l.code (drop l.start-index l.starts) l.known l.events.events ≡ in_turn l.code l.starts l.fn.facts l.fn.events.events;
+  same : in_turn l.code (drop l.start-index l.starts) l.facts l.events.events ≡ in_turn l.code l.starts l.fn.facts l.fn.events.events;
   told : length l.events.events + cost_of (drop l.start-index l.starts) ≤ length l.fn.events.events + cost_of l.starts;
   rise : l.fn.events.ticks ≤ l.events.ticks;
   bound : l.events.ticks < 2 ^ 64;

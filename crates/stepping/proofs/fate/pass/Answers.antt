@@ -4,31 +4,31 @@ use Rattle.stepping.specs.steps.Passing.{setup_in}
 use Rattle.stepping.proofs.Fates.{arrives_so, is_dropped, is_settled, is_stopped}
 use Rattle.stepping.proofs.fate.pass.Goals as goal
 
-pub returns-in_err-early-clause-fared : goal.returns-in_err-early-clause-fared
-returns-in_err-early-clause-fared g c =
+pub returns-in_err-run-clause-fared : goal.returns-in_err-run-clause-fared
+returns-in_err-run-clause-fared g c =
     let q = err_from_is_err_and c.from_residual.result c.from_residual.ensures.1 in
     let setup = setup_in c.args.setup.now.hooks in
     let a = arrived_of c.args.incoming.now in
-    let known = arrives_so setup a c.args.incoming.now.input c.arriving.result c.arriving.ensures c.requires.known in
-    rw (q.1, q.2) (is_dropped setup a c.arriving.result c.args.events.now.events known c.requires.none _ _ c.args.now (g.T.Tracker.held c.args.tracker.now) c.in_err-early.ensures.comes)
+    let known = arrives_so setup a c.args.incoming.now.input c.arriving-facts.result c.arriving-facts.ensures c.requires.known in
+    rw (q.1, q.2) (is_dropped setup a c.arriving-facts.result c.args.events.now.events known c.requires.none _ _ _ c.args.now (g.T.Tracker.held c.args.tracker.now) c.in_err-run.ensures.comes)
 
 pub returns-in_err-led-clause-fared : goal.returns-in_err-led-clause-fared
 returns-in_err-led-clause-fared g c =
     let q = err_from_is_err_and c.from_residual-in_err-led.result c.from_residual-in_err-led.ensures.1 in
     let setup = setup_in c.args.setup.now.hooks in
     let a = arrived_of c.args.incoming.now in
-    let known = arrives_so setup a c.args.incoming.now.input c.arriving.result c.arriving.ensures c.requires.known in
-    let leads = rw (c.with_tracking-facts.ensures, c.tracking_of.ensures) at c.in_err-led.ensures.leads in
-    rw (q.1, q.2) (is_stopped setup a c.arriving.result c.args.events.now.events known c.requires.none c.in_ok-early.early _ c.in_ok-early.ensures.comes c.args.now (g.T.Tracker.held c.args.tracker.now)
+    let known = arrives_so setup a c.args.incoming.now.input c.arriving-facts.result c.arriving-facts.ensures c.requires.known in
+    let leads = rw (c.note_tracking.ensures, c.tracking_of.ensures) at c.in_err-led.ensures.leads in
+    rw (q.1, q.2) (is_stopped setup a c.arriving-facts.result c.args.events.now.events known c.requires.none c.run.new.facts _ c.in_ok-run.ensures.comes c.args.now (g.T.Tracker.held c.args.tracker.now)
     c.sought_of.result c.sought_of.ensures c.look_up-way.result c.look_up-way.ensures.way _ _ _ leads c.look_up-way.ensures.held)
 
 pub returns-clause-fared : goal.returns-clause-fared
 returns-clause-fared g c =
     let setup = setup_in c.args.setup.now.hooks in
     let a = arrived_of c.args.incoming.now in
-    let known = arrives_so setup a c.args.incoming.now.input c.arriving.result c.arriving.ensures c.requires.known in
-    let leads = rw (c.with_tracking-facts.ensures, c.tracking_of.ensures) at c.in_ok-led.ensures.leads in
+    let known = arrives_so setup a c.args.incoming.now.input c.arriving-facts.result c.arriving-facts.ensures c.requires.known in
+    let leads = rw (c.note_tracking.ensures, c.tracking_of.ensures) at c.in_ok-led.ensures.leads in
     let settles = rw c.look_up-way.ensures.held at c.settle.ensures.settles in
     let flags = rw c.transport.ensures at c.flags_in.ensures in
-    is_settled setup a c.arriving.result c.args.events.now.events known c.requires.none c.in_ok-early.early _ c.in_ok-early.ensures.comes c.args.now (g.T.Tracker.held c.args.tracker.now)
+    is_settled setup a c.arriving-facts.result c.args.events.now.events known c.requires.none c.run.new.facts _ c.in_ok-run.ensures.comes c.args.now (g.T.Tracker.held c.args.tracker.now)
     c.sought_of.result c.sought_of.ensures c.look_up-way.result c.look_up-way.ensures.way c.flags_in.result c.in_ok-led.led _ _ _ flags leads settles

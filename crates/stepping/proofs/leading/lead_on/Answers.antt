@@ -12,13 +12,13 @@ returns-in_err-bound-clause-leads c = λ ending.
     let is = c.in_err-bound.ensures ∙ ap (λ (plant : PlantTree). bound_of plant c.args.facts.now.packet) c.plant.ensures in
     rw (q.1, q.2) (is_unbound (setup_in c.args.setup.now.hooks) ending c.args.facts.now c.args.events.now.events _ is)
 
-pub returns-in_err-facts-clause-leads : goal.returns-in_err-facts-clause-leads
-returns-in_err-facts-clause-leads c = λ ending.
-    let q = err_from_is_err_and c.from_residual-in_err-facts.result c.from_residual-in_err-facts.ensures.1 in
+pub returns-in_err-leave-clause-leads : goal.returns-in_err-leave-clause-leads
+returns-in_err-leave-clause-leads c = λ ending.
+    let q = err_from_is_err_and c.from_residual-in_err-leave.result c.from_residual-in_err-leave.ensures.1 in
     let is = c.in_ok-bound.ensures ∙ ap (λ (plant : PlantTree). bound_of plant c.args.facts.now.packet) c.plant.ensures in
-    rw (q.1, q.2) (is_stopped (setup_in c.args.setup.now.hooks) ending c.args.facts.now c.args.events.now.events c.in_ok-bound.bound _ _ is c.in_err-facts.ensures.comes)
+    rw (q.1, q.2) (is_stopped (setup_in c.args.setup.now.hooks) ending c.args.facts.now c.args.events.now.events c.in_ok-bound.bound _ _ _ is c.in_err-leave.ensures.comes)
 
 pub returns-clause-leads : goal.returns-clause-leads
 returns-clause-leads c = λ ending.
     let is = c.in_ok-bound.ensures ∙ ap (λ (plant : PlantTree). bound_of plant c.args.facts.now.packet) c.plant.ensures in
-    rw c.mark_in.ensures (is_led (setup_in c.args.setup.now.hooks) ending c.args.facts.now c.args.events.now.events c.in_ok-bound.bound c.in_ok-facts.facts _ is c.in_ok-facts.ensures.comes)
+    rw c.mark_in.ensures (is_led (setup_in c.args.setup.now.hooks) ending c.args.facts.now c.args.events.now.events c.in_ok-bound.bound c.leave.new.facts _ is c.in_ok-leave.ensures.comes)

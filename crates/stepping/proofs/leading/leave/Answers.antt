@@ -5,5 +5,5 @@ use Rattle.stepping.proofs.leading.leave.Goals as goal
 pub returns-in-Passed-clause-comes : goal.returns-in-Passed-clause-comes
 returns-in-Passed-clause-comes c =
     let setup = setup_in c.args.setup.now.hooks in
-    let known = departs_with setup _ c.in-Passed.interface _ c.args.facts.now _ c.plant.ensures c.interface_facts-output.ensures c.departing.ensures in
-    rw c.in-Passed.is (leaves_by setup c.in-Passed.interface c.args.facts.now _ c.args.events.now.events _ _ known c.depart.ensures.comes)
+    let known = departs_with setup _ c.in-Passed.interface _ c.args.facts.now _ c.plant.ensures c.interface_facts-output.ensures c.note_departure.ensures in
+    rw c.in-Passed.is (leaves_by setup c.in-Passed.interface c.args.facts.now _ c.args.events.now.events _ _ _ known c.depart.ensures.comes)
