@@ -1,0 +1,9 @@
+pub mod BitLaws
+pub mod CountLaws
+pub mod RowLaws
+pub mod WordLaws
+pub mod FindLaws
+pub mod MaskLaws
+pub mod SpanLaws
+pub mod ChoiceLaws
+pub mod SuitLaws

@@ -1,0 +1,4 @@
+pub mod Candidates
+pub mod Taken
+pub mod Trials
+pub mod steps

@@ -1,0 +1,4 @@
+-- What private functions give on the way: nothing that a public contract cites.
+pub mod Bits
+pub mod First
+pub mod Spans

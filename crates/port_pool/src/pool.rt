@@ -1,0 +1,136 @@
+//! The numbers that are taken at an external address, and the choice of the next.
+#![tactic(auto, unfolding(crate::specs::Taken::is_taken, crate::specs::Taken::order_of))]
+
+ghost use Rattle.std.specs.Prelude.{◌≡◌, ◌↔◌, ℕ, All, Bool, true, false, not, Some, None, Contains, IfOk, IsOk, IfSome, IfNone, find, if◌then◌else◌, ◌==◌};
+ghost use Rattle.std.specs.Bool.{OnTrue, OnFalse};
+ghost use Rattle.port_pool.specs.Candidates.{candidates, ports_of};
+
+use crate::order::Order;
+use crate::range::Range;
+use crate::row::Row;
+use crate::span::{Span, ports_span};
+use std::alloc::{AllocError, Global};
+
+/// The numbers of one external address, for one kind of traffic.
+#[derive(Drop)]
+pub struct Pool {
+    numbers: Numbers,
+}
+
+/// What the numbers are, and which are taken.
+#[derive(Drop)]
+enum Numbers {
+    Ports(Row),
+    Identifiers(Row),
+    /// Whether 0 is taken, which is the only one.
+    Zero(bool),
+}
+
+impl Pool {
+    ghost use Rattle.port_pool.specs.Taken.{is_taken, order_of};
+
+    /// A pool of which nothing is taken. One of `Order::Zero` takes no memory.
+    ///
+    /// # Errors
+    ///
+    /// Where there is no room.
+    pub fn new(alloc: Global, order: Order) -> Result<Pool, AllocError>
+        ensures order { IfOk result (λ pool. order_of pool ≡ order) }
+        ensures empty { IfOk result (λ pool. (p : ℕ) → is_taken pool p ≡ false) }
+        ensures zero { order ≡ Order.Zero → IsOk result }
+    {
+        let numbers = match order {
+            Order::Ports => Numbers::Ports(Row::new(alloc)?),
+            Order::Identifiers => Numbers::Identifiers(Row::new(alloc)?),
+            Order::Zero => Numbers::Zero(false),
+        };
+        Ok(Pool { numbers })
+    }
+
+    /// Whether the number is taken.
+    pub fn is_taken(&self, p: u16) -> bool
+        ensures { result ≡ is_taken self.now p }
+    {
+        match &self.numbers {
+            Numbers::Ports(row) => row.has(p),
+            Numbers::Identifiers(row) => row.has(p),
+            Numbers::Zero(taken) => *taken && p == 0,
+        }
+    }
+
+    /// Whether none is taken. It looks at no number.
+    pub fn is_unused(&self) -> bool
+        ensures unused { OnTrue result ((p : ℕ) → is_taken self.now p ≡ false) }
+        ensures used { OnFalse result ((p : ℕ) × (is_taken self.now p ≡ true)) }
+    {
+        match &self.numbers {
+            Numbers::Ports(row) => row.is_clear(),
+            Numbers::Identifiers(row) => row.is_clear(),
+            Numbers::Zero(taken) => !*taken,
+        }
+    }
+
+    /// The number that stands for `s`: the first of its candidates that isn't taken. `None` where
+    /// all of them are. It takes nothing.
+    pub fn choose(&self, s: u16, range: Option<Range>) -> Option<u16>
+        ensures first { result ≡ find (λ p. not (is_taken self.now p))
+            (candidates (order_of self.now) s range) }
+
+        // What follows from it. What is chosen may be taken.
+        ensures free { IfSome result (λ p. is_taken self.now p ≡ false) }
+        ensures number { IfSome result (λ p. order_of self.now ≡ Order.Zero → p ≡ 0) }
+
+        // There is none exactly where each candidate is taken.
+        ensures none { (result ≡ None) ↔ All (λ p. is_taken self.now p ≡ true)
+            (candidates (order_of self.now) s range) }
+
+        // A number that is free stands for itself.
+        ensures port { order_of self.now ≡ Order.Ports → Contains (ports_of range) s
+            → is_taken self.now s ≡ false → result ≡ Some s }
+        ensures identifier { order_of self.now ≡ Order.Identifiers → is_taken self.now s ≡ false
+            → result ≡ Some s }
+    {
+        self.first_candidate(s, range)
+    }
+
+    /// The first of the candidates for `s` that isn't taken.
+    fn first_candidate(&self, s: u16, range: Option<Range>) -> Option<u16>
+        ensures { result ≡ find (λ p. not (is_taken self.now p))
+            (candidates (order_of self.now) s range) }
+    {
+        match &self.numbers {
+            Numbers::Ports(row) => row.first_from(s, ports_span(s, range)),
+            Numbers::Identifiers(row) => row.first_from(s, Span::ALL),
+            Numbers::Zero(taken) => (!*taken).then_some(0),
+        }
+    }
+
+    /// Takes a number.
+    pub fn take(&mut self, p: u16)
+        requires free { is_taken self.old p ≡ false }
+        requires number { order_of self.old ≡ Order.Zero → p ≡ 0 }
+        ensures order { order_of self.new ≡ order_of self.old }
+        ensures taken { (q : ℕ) → is_taken self.new q
+            ≡ (if q == p then true else is_taken self.old q) }
+    {
+        match &mut self.numbers {
+            Numbers::Ports(row) => row.set(p),
+            Numbers::Identifiers(row) => row.set(p),
+            Numbers::Zero(taken) => *taken = true,
+        }
+    }
+
+    /// Gives a number back.
+    pub fn give(&mut self, p: u16)
+        requires { is_taken self.old p ≡ true }
+        ensures order { order_of self.new ≡ order_of self.old }
+        ensures taken { (q : ℕ) → is_taken self.new q
+            ≡ (if q == p then false else is_taken self.old q) }
+    {
+        match &mut self.numbers {
+            Numbers::Ports(row) => row.clear(p),
+            Numbers::Identifiers(row) => row.clear(p),
+            Numbers::Zero(taken) => *taken = false,
+        }
+    }
+}
