@@ -3,5 +3,6 @@ pub mod Bytes
 pub mod Transport
 pub mod Header
 pub mod Tuple
+pub mod Same
 pub mod Rewritten
 pub mod steps

@@ -9,7 +9,7 @@ use crate::transport::{ICMP, TCP, UDP};
 use byteorder::{BigEndian, ByteOrder};
 
 /// An address and a port (RFC 4787, section 4.1). Where there is no port it is 0.
-#[derive(Clone, Copy, Debug, PartialEq, Eq)]
+#[derive(Clone, Copy, Debug, PartialEq, Eq, Hash)]
 pub struct Endpoint {
     /// The address, its first group the highest byte.
     pub address: u32,
@@ -18,7 +18,7 @@ pub struct Endpoint {
 }
 
 /// What goes between two endpoints: ports of one kind say nothing of those of another.
-#[derive(Clone, Copy, Debug, PartialEq, Eq)]
+#[derive(Clone, Copy, Debug, PartialEq, Eq, Hash)]
 pub enum Kind {
     /// TCP.
     Tcp,
@@ -33,7 +33,7 @@ pub enum Kind {
 }
 
 /// A packet's kind, and the endpoints that it goes from and to.
-#[derive(Clone, Copy, Debug, PartialEq, Eq)]
+#[derive(Clone, Copy, Debug, PartialEq, Eq, Hash)]
 pub struct Tuple {
     /// What goes between the endpoints.
     pub kind: Kind,
@@ -44,7 +44,7 @@ pub struct Tuple {
 }
 
 /// An internal endpoint and the external one that stands for it outside (RFC 4787, section 4.1).
-#[derive(Clone, Copy, Debug, PartialEq, Eq)]
+#[derive(Clone, Copy, Debug, PartialEq, Eq, Hash)]
 pub struct Mapping {
     /// What goes between the endpoints.
     pub kind: Kind,

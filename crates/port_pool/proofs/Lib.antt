@@ -7,3 +7,4 @@ pub mod MaskLaws
 pub mod SpanLaws
 pub mod ChoiceLaws
 pub mod SuitLaws
+pub mod UnusedLaws

@@ -11,7 +11,9 @@ mod range;
 mod row;
 mod span;
 pub mod trials;
+mod unused;
 
 pub use order::Order;
 pub use pool::Pool;
 pub use range::Range;
+pub use unused::first;

@@ -1,7 +1,7 @@
 //! The numbers that are taken at an external address, and the choice of the next.
 #![tactic(auto, unfolding(crate::specs::Taken::is_taken, crate::specs::Taken::order_of))]
 
-ghost use Rattle.std.specs.Prelude.{◌≡◌, ◌↔◌, ℕ, All, Bool, true, false, not, Some, None, Contains, IfOk, IsOk, IfSome, IfNone, find, if◌then◌else◌, ◌==◌};
+ghost use Rattle.std.specs.Prelude.{◌≡◌, ◌≢◌, ◌↔◌, ℕ, All, Bool, true, false, not, Some, None, Contains, IfOk, IsOk, IfSome, IfNone, find, if◌then◌else◌, ◌==◌};
 ghost use Rattle.std.specs.Bool.{OnTrue, OnFalse};
 ghost use Rattle.port_pool.specs.Candidates.{candidates, ports_of};
 
@@ -132,5 +132,25 @@ impl Pool {
             Numbers::Identifiers(row) => row.clear(p),
             Numbers::Zero(taken) => *taken = false,
         }
+    }
+
+    /// The same row, with what is taken of it, for numbers of another order.
+    pub fn with_order(self, order: Order) -> Pool
+        requires row { order_of self ≢ Order.Zero }
+        requires order { order ≢ Order.Zero }
+        ensures order { order_of result ≡ order }
+        ensures taken { (p : ℕ) → is_taken result p ≡ is_taken self p }
+    {
+        let Pool { numbers } = self;
+        let row = match numbers {
+            Numbers::Ports(row) | Numbers::Identifiers(row) => row,
+            Numbers::Zero(_) => unreachable!(),
+        };
+        let numbers = match order {
+            Order::Ports => Numbers::Ports(row),
+            Order::Identifiers => Numbers::Identifiers(row),
+            Order::Zero => unreachable!(),
+        };
+        Pool { numbers }
     }
 }

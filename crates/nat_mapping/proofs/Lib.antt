@@ -1,0 +1,13 @@
+pub mod Equal
+pub mod Same
+pub mod Sets
+pub mod WhichKinds
+pub mod Bits
+pub mod Lists
+pub mod OneMore
+pub mod Alike
+pub mod Answers
+pub mod Changes
+pub mod Entries
+pub mod Whole
+pub mod Places

@@ -1,0 +1,158 @@
+-- A mapping more: what is one to one stays so.
+use Rattle.std.specs.Prelude.{◌==◌}
+use Rattle.std.proofs.Common.{◌≡◌, ℕ, Bool, true, false, not, List, [], ◌∷◌, Option, Some, None, ◌⊎◌, inl, inr, is_some, refl, sym, ap, subst, ◌∙◌}
+use Rattle.std.specs.List.{find, Contains}
+use Rattle.std.specs.Option.{option_map}
+use Rattle.std.proofs.lemmas.Bool.{cases_Bool, cond-true, cond-false, eqb-true, eq-eqb, and_parts, and_from}
+use Rattle.std.proofs.lemmas.Option.{none-some, same_Some}
+use Rattle.ip_headers.specs.declared.tuple.Kind.{Kind}
+use Rattle.ip_headers.specs.declared.tuple.Endpoint.{Endpoint}
+use Rattle.ip_headers.specs.declared.tuple.Mapping.{Mapping}
+use Rattle.port_pool.specs.declared.range.Range.{Range}
+use Rattle.port_pool.specs.Candidates.{candidates}
+use Rattle.nat_mapping.specs.Mappings.{is_outside, is_from, inbound_of, port_of, is_port_held, fresh_port, source_of, or_else, order_of, IsOneToOne}
+use Rattle.nat_mapping.proofs.Equal.{kind_test, endpoint_test}
+use Rattle.nat_mapping.proofs.Lists.{found_among, none_such, contains_cases}
+
+some_of_map : {X Y : Type 0} (f : X → Y) (o : Option X) (y : Y) → option_map f o ≡ Some y → (x : X) × (o ≡ Some x) × (f x ≡ y)
+some_of_map f None y h = absurd (none-some y h)
+some_of_map f (Some x) y h = (x, refl, same_Some (f x) y h)
+
+none_of_map : {X Y : Type 0} (f : X → Y) (o : Option X) → option_map f o ≡ None → o ≡ None
+none_of_map f None h = refl
+none_of_map f (Some x) h = absurd (none-some (f x) (sym h))
+
+not_some : {X : Type 0} (o : Option X) → not (is_some o) ≡ true → o ≡ None
+not_some None h = refl
+not_some (Some x) h = cc
+
+-- what is found passes
+found_passes : (p : ℕ → Bool) (xs : List ℕ) (x : ℕ) → find p xs ≡ Some x → p x ≡ true
+found_passes p [] x h = absurd (none-some x h)
+found_passes p (y ∷ xs) x h =
+    elim (cases_Bool (p y)) [
+      | inl t ↦
+          let same : y ≡ x = same_Some y x (sym (cond-true (p y) (Some y) (find p xs) t) ∙ h) in
+          let P : ℕ → Type 0 = λ k. p k ≡ true in subst P same t
+      | inr f ↦ found_passes p xs x (sym (cond-false (p y) (Some y) (find p xs) f) ∙ h)
+    ]
+
+-- a part of what is one to one is so
+pub one_to_one-within : (some all : List Mapping) → ((m : Mapping) → Contains some m → Contains all m) → IsOneToOne all → IsOneToOne some
+one_to_one-within some all within one = record {
+  one_internal = λ m n x y k e. one.one_internal m n (within m x) (within n y) k e;
+  one_port = λ m n x y k i e. one.one_port m n (within m x) (within n y) k i e;
+}
+
+module _ (held : List Mapping) (one : IsOneToOne held) where
+  -- it has the internal endpoint of those with its external one, and the port of those with its internal one at its address
+  record Suits (m : Mapping) : Type 0 where
+    pub one_internal : (n : Mapping) → Contains held n → n.kind ≡ m.kind → n.external ≡ m.external → n.internal ≡ m.internal
+    pub one_port : (n : Mapping) → Contains held n → n.kind ≡ m.kind → n.internal ≡ m.internal → n.external.address ≡ m.external.address → n.external.port ≡ m.external.port
+
+  one_to_one-cons : (m : Mapping) → Suits m → IsOneToOne (m ∷ held)
+  one_to_one-cons m suits = record { one_internal = internals; one_port = ports }
+    where
+      internals : (a b : Mapping) → Contains (m ∷ held) a → Contains (m ∷ held) b → a.kind ≡ b.kind → a.external ≡ b.external → a.internal ≡ b.internal
+      internals a b x y = cases (contains_cases a m held x) (contains_cases b m held y)
+        where
+          cases : (a ≡ m) ⊎ Contains held a → (b ≡ m) ⊎ Contains held b → a.kind ≡ b.kind → a.external ≡ b.external → a.internal ≡ b.internal
+          cases (inr x) (inr y) k e = one.one_internal a b x y k e
+          cases (inr x) (inl q) k e = suits.one_internal a x (k ∙ ap (λ z. z.kind) q) (e ∙ ap (λ z. z.external) q) ∙ ap (λ z. z.internal) (sym q)
+          cases (inl p) (inr y) k e = sym (suits.one_internal b y (sym k ∙ ap (λ z. z.kind) p) (sym e ∙ ap (λ z. z.external) p) ∙ ap (λ z. z.internal) (sym p))
+          cases (inl p) (inl q) k e = ap (λ z. z.internal) (p ∙ sym q)
+
+      ports : (a b : Mapping) → Contains (m ∷ held) a → Contains (m ∷ held) b → a.kind ≡ b.kind → a.internal ≡ b.internal → a.external.address ≡ b.external.address → a.external.port ≡ b.external.port
+      ports a b x y = cases (contains_cases a m held x) (contains_cases b m held y)
+        where
+          cases : (a ≡ m) ⊎ Contains held a → (b ≡ m) ⊎ Contains held b → a.kind ≡ b.kind → a.internal ≡ b.internal → a.external.address ≡ b.external.address → a.external.port ≡ b.external.port
+          cases (inr x) (inr y) k i e = one.one_port a b x y k i e
+          cases (inr x) (inl q) k i e = suits.one_port a x (k ∙ ap (λ z. z.kind) q) (i ∙ ap (λ z. z.internal) q) (e ∙ ap (λ z. z.external.address) q) ∙ ap (λ z. z.external.port) (sym q)
+          cases (inl p) (inr y) k i e = sym (suits.one_port b y (sym k ∙ ap (λ z. z.kind) p) (sym i ∙ ap (λ z. z.internal) p) (sym e ∙ ap (λ z. z.external.address) p) ∙ ap (λ z. z.external.port) (sym p))
+          cases (inl p) (inl q) k i e = ap (λ z. z.external.port) (p ∙ sym q)
+
+  -- ---- the one that a source gets
+
+  module _ (kind : Kind) (internal : Endpoint) (address : ℕ) (range : Option Range) (port : ℕ) where
+    abbrev gotten : Mapping
+    gotten = record { kind = kind; internal = internal; external = record { address = address; port = port } }
+
+    -- one that is there already
+    from_there : (n : Mapping) → Contains held n → n ≡ gotten → Suits gotten
+    from_there n among is = record {
+      one_internal = λ a x k e. one.one_internal a n x among (k ∙ ap (λ z. z.kind) (sym is)) (e ∙ ap (λ z. z.external) (sym is)) ∙ ap (λ z. z.internal) is;
+      one_port = λ a x k i e. one.one_port a n x among (k ∙ ap (λ z. z.kind) (sym is)) (i ∙ ap (λ z. z.internal) (sym is)) (e ∙ ap (λ z. z.external.address) (sym is)) ∙ ap (λ z. z.external.port) is;
+    }
+
+    reused : port_of kind internal address held ≡ Some port → Suits gotten
+    unfolding port_of
+    reused h =
+        let found = some_of_map (λ (m : Mapping). m.external.port) (find (is_from kind internal address) held) port h in
+        let n = found.0 in
+        let r = found_among (is_from kind internal address) held n found.1 in
+        let parts = and_parts _ _ r.1 in
+        let ends = and_parts _ _ parts.1 in
+        let k : n.kind ≡ kind = kind_test.exact _ _ parts.0 in
+        let i : n.internal ≡ internal = endpoint_test.exact _ _ ends.0 in
+        let a : n.external.address ≡ address = eqb-true _ _ ends.1 in
+        let p : n.external.port ≡ port = found.2 in
+        from_there n r.0 (equal n k i a p)
+      where
+        equal : (n : Mapping) → n.kind ≡ kind → n.internal ≡ internal → n.external.address ≡ address → n.external.port ≡ port → n ≡ gotten
+        equal n k i a p =
+            let e : n.external ≡ gotten.external = ap (λ x. let w : Endpoint = record { address = x; port = n.external.port } in w) a ∙ ap (λ x. let w : Endpoint = record { address = address; port = x } in w) p in
+            ap (λ x. let w : Mapping = record { kind = x; internal = n.internal; external = n.external } in w) k
+            ∙ ap (λ x. let w : Mapping = record { kind = kind; internal = x; external = n.external } in w) i
+            ∙ ap (λ x. let w : Mapping = record { kind = kind; internal = internal; external = x } in w) e
+
+    -- a port that none has, for an internal endpoint that has none there
+    chosen : port_of kind internal address held ≡ None → inbound_of kind (record { address = address; port = port }) held ≡ None → Suits gotten
+    unfolding port_of inbound_of
+    chosen h g =
+        let none_from = none_of_map (λ (m : Mapping). m.external.port) (find (is_from kind internal address) held) h in
+        let none_there = none_of_map (λ (m : Mapping). m.internal) (find (is_outside kind (record { address = address; port = port })) held) g in
+        record {
+          one_internal = λ n among k e. absurd (none_such (is_outside kind (record { address = address; port = port })) held n none_there among (stands n k e));
+          one_port = λ n among k i e. absurd (none_such (is_from kind internal address) held n none_from among (maps n k i e));
+        }
+      where
+        stands : (n : Mapping) → n.kind ≡ kind → n.external ≡ gotten.external → is_outside kind (record { address = address; port = port }) n ≡ true
+        stands n k e = rw (k, e) (and_from _ _ (kind_test.same kind) (endpoint_test.same gotten.external))
+
+        maps : (n : Mapping) → n.kind ≡ kind → n.internal ≡ internal → n.external.address ≡ address → is_from kind internal address n ≡ true
+        maps n k i a = rw (k, i, a) (and_from _ _ (kind_test.same kind) (and_from _ _ (endpoint_test.same internal) (eq-eqb address address refl)))
+
+    pub source_one_to_one : source_of kind internal address range held ≡ Some port → IsOneToOne (gotten ∷ held)
+    source_one_to_one h = one_to_one-cons gotten (by_port (port_of kind internal address held) refl h)
+      where
+        by_port : (o : Option ℕ) → port_of kind internal address held ≡ o → or_else o (fresh_port kind internal address range held) ≡ Some port → Suits gotten
+        by_port (Some p) e k = reused (e ∙ k)
+        by_port None e k =
+            let passes = found_passes (λ p. not (is_port_held kind address held p)) (candidates (order_of kind) internal.port range) port k in
+            chosen e (not_some (inbound_of kind (record { address = address; port = port }) held) passes)
+
+-- ---- the one by which a destination is found
+
+module _ (held : List Mapping) (kind : Kind) (internal external : Endpoint) where
+  abbrev found : Mapping
+  found = record { kind = kind; internal = internal; external = external }
+
+  -- it is there
+  pub inbound_among : inbound_of kind external held ≡ Some internal → Contains held found
+  unfolding inbound_of
+  inbound_among h =
+      let some = some_of_map (λ (m : Mapping). m.internal) (find (is_outside kind external) held) internal h in
+      let n = some.0 in
+      let r = found_among (is_outside kind external) held n some.1 in
+      let parts = and_parts _ _ r.1 in
+      let k : n.kind ≡ kind = kind_test.exact _ _ parts.0 in
+      let e : n.external ≡ external = endpoint_test.exact _ _ parts.1 in
+      let i : n.internal ≡ internal = some.2 in
+      let P : Mapping → Type 0 = λ z. Contains held z in
+      subst P (equal n k i e) r.0
+    where
+      equal : (n : Mapping) → n.kind ≡ kind → n.internal ≡ internal → n.external ≡ external → n ≡ found
+      equal n k i e =
+          ap (λ x. let w : Mapping = record { kind = x; internal = n.internal; external = n.external } in w) k
+          ∙ ap (λ x. let w : Mapping = record { kind = kind; internal = x; external = n.external } in w) i
+          ∙ ap (λ x. let w : Mapping = record { kind = kind; internal = internal; external = x } in w) e

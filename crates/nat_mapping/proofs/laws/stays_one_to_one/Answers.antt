@@ -1,0 +1,8 @@
+use Rattle.nat_mapping.proofs.OneMore.{one_to_one-within, source_one_to_one}
+use Rattle.nat_mapping.proofs.laws.stays_one_to_one.Goals as goal
+
+pub returns-clause-source : goal.returns-clause-source
+returns-clause-source c held kind internal address range port one h = source_one_to_one held one kind internal address range port h
+
+pub returns-clause-within : goal.returns-clause-within
+returns-clause-within c some all within one = one_to_one-within some all within one

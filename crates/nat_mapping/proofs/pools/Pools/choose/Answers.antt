@@ -1,0 +1,28 @@
+use Rattle.std.proofs.Common.{◌≡◌, not, Some, None, Bool, subst, sym, ◌∙◌, ap, Option}
+use Rattle.std.specs.List.{find}
+use Rattle.std.specs.HashMap.{get}
+use Rattle.port_pool.specs.declared.order.Order.{Order}
+use Rattle.port_pool.specs.declared.pool.Pool.{Pool}
+use Rattle.port_pool.specs.Candidates.{candidates}
+use Rattle.port_pool.specs.Taken.{is_taken, order_of as pool_order}
+use Rattle.nat_mapping.specs.declared.keys.PoolKey.{PoolKey}
+use Rattle.nat_mapping.specs.Mappings.{order_of}
+use Rattle.nat_mapping.specs.steps.Ports.{is_taken_by, order_by}
+use Rattle.nat_mapping.proofs.Same.{pool_fun}
+use Rattle.nat_mapping.proofs.pools.Pools.choose.Goals as goal
+
+pub returns-in-Some : goal.returns-in-Some
+returns-in-Some c =
+    let Q : (PoolKey → PoolKey → Bool) → Type 0 = λ eq. Some c.in-Some.pool.now ≡ get eq c.args.self.now.pools c.args.key in
+    let is = subst Q pool_fun c.in-Some.ensures.value in
+    let order : pool_order c.in-Some.pool.now ≡ order_of c.args.key.kind = c.requires.used.order c.args.key (pool_order c.in-Some.pool.now) (ap order_by (sym is)) in
+    c.choose.ensures.first
+    ∙ ap (λ (o : Order). find (λ p. not (is_taken c.in-Some.pool.now p)) (candidates o c.args.port c.args.range)) order
+    ∙ ap (λ (o : Option Pool). find (λ p. not (is_taken_by o p)) (candidates (order_of c.args.key.kind) c.args.port c.args.range)) is
+
+pub returns-in-None : goal.returns-in-None
+returns-in-None c =
+    let Q : (PoolKey → PoolKey → Bool) → Type 0 = λ eq. None ≡ get eq c.args.self.now.pools c.args.key in
+    c.first.ensures
+    ∙ ap (λ (o : Order). find (λ p. not (is_taken_by None p)) (candidates o c.args.port c.args.range)) c.order.ensures
+    ∙ ap (λ (o : Option Pool). find (λ p. not (is_taken_by o p)) (candidates (order_of c.args.key.kind) c.args.port c.args.range)) (subst Q pool_fun c.in-None.ensures.value)

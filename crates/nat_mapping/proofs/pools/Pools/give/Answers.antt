@@ -1,0 +1,58 @@
+use Rattle.std.proofs.Common.{◌≡◌, ◌≢◌, ℕ, Bool, true, false, None, Some, subst, sym, ◌∙◌, ap}
+use Rattle.std.specs.Bool.{OnTrue, OnFalse}
+use Rattle.std.specs.HashMap.{get}
+use Rattle.port_pool.specs.declared.order.Order.{Order}
+use Rattle.port_pool.specs.declared.order.Order.TheVariants.{Zero}
+use Rattle.port_pool.specs.Taken.{order_of as pool_order}
+use Rattle.nat_mapping.specs.declared.keys.PoolKey.{PoolKey}
+use Rattle.nat_mapping.specs.Mappings.{order_of}
+use Rattle.nat_mapping.specs.steps.Keys.{has_pool, same_pool}
+use Rattle.nat_mapping.specs.steps.Ports.{is_taken_by, order_by}
+use Rattle.nat_mapping.specs.steps.Pooled.{orders_in, taken_in}
+use Rattle.nat_mapping.proofs.Equal.{pool_test}
+use Rattle.nat_mapping.proofs.WhichKinds.{row_order}
+use Rattle.nat_mapping.proofs.Sets.{sets_by}
+use Rattle.nat_mapping.proofs.Bits.{end_free, used_ended, used_kept}
+use Rattle.nat_mapping.proofs.pools.Pools.give.Goals as goal
+
+pub keep-requires-clause-spare : goal.keep-requires-clause-spare
+keep-requires-clause-spare c =
+    let key = c.args.key in
+    let P : Bool → Type 0 = λ b. OnTrue b ((p : ℕ) → is_taken_by (get same_pool c.give_at.new.pools key) p ≡ false) in
+    let unused : (p : ℕ) → is_taken_by (get same_pool c.give_at.new.pools key) p ≡ false = subst P c.if-give_at.true c.give_at.ensures.unused in
+    let is : get same_pool c.give_at.new.pools key ≡ Some c.in-Some.pool = sym c.end.ensures.value ∙ c.in-Some.is in
+    let row : has_pool key.kind ≡ true = sym c.has_pool.ensures ∙ c.if-not-has_pool.false in
+    let order : pool_order c.in-Some.pool ≡ order_of key.kind = c.requires.pooled.used.order key (pool_order c.in-Some.pool) (sym (c.give_at.ensures.orders key) ∙ ap order_by is) in
+    let R : Order → Type 0 = λ o. o ≢ Zero in
+    record { unused = λ p. ap (λ o. is_taken_by o p) (sym is) ∙ unused p; row = subst R (sym order) (row_order key.kind row) }
+
+pub returns-in-Some-clause-pooled : goal.returns-in-Some-clause-pooled
+returns-in-Some-clause-pooled c =
+    let key = c.args.key in
+    let mid = get same_pool c.give_at.new.pools in
+    let new = get same_pool c.end.new.pools in
+    let P : Bool → Type 0 = λ b. OnTrue b ((p : ℕ) → is_taken_by (get same_pool c.give_at.new.pools key) p ≡ false) in
+    let unused : (p : ℕ) → is_taken_by (get same_pool c.give_at.new.pools key) p ≡ false = subst P c.if-give_at.true c.give_at.ensures.unused in
+    let sets = sets_by same_pool pool_test mid new key None c.end.ensures.pools in
+    record {
+      unique = c.end.ensures.unique;
+      used = used_ended (orders_in c.args.self.now) (λ q. order_by (new q)) (taken_in c.args.self.now) (λ q p. is_taken_by (new q) p) key c.args.port c.requires.pooled.used
+          (record { at = ap order_by sets.at; off = λ q apart. ap order_by (sets.off q apart) ∙ c.give_at.ensures.orders q })
+          (λ q p. end_free mid new key unused sets q p ∙ c.give_at.ensures.taken q p);
+      spares = c.keep.ensures.spares;
+      few = c.keep.ensures.few;
+    }
+
+pub returns-else-give_at-clause-pooled : goal.returns-else-give_at-clause-pooled
+returns-else-give_at-clause-pooled c =
+    let key = c.args.key in
+    let mid = get same_pool c.give_at.new.pools in
+    let P : Bool → Type 0 = λ b. OnFalse b ((p : ℕ) × (is_taken_by (get same_pool c.give_at.new.pools key) p ≡ true)) in
+    let some : (p : ℕ) × (is_taken_by (get same_pool c.give_at.new.pools key) p ≡ true) = subst P c.if-give_at.false c.give_at.ensures.used in
+    record {
+      unique = c.give_at.ensures.unique;
+      used = used_kept (orders_in c.args.self.now) (λ q. order_by (mid q)) (taken_in c.args.self.now) (λ q p. is_taken_by (mid q) p) key c.args.port c.requires.pooled.used
+          c.give_at.ensures.orders c.give_at.ensures.taken some;
+      spares = c.requires.pooled.spares;
+      few = c.requires.pooled.few;
+    }

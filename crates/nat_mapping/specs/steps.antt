@@ -1,0 +1,5 @@
+-- What private functions give on the way: nothing that a public contract cites.
+pub mod Keys
+pub mod Ports
+pub mod Pooled
+pub mod Kept

@@ -1,0 +1,50 @@
+-- What mappings are found by.
+use Rattle.std.specs.Prelude.{ℕ, Bool, true, false, ◌==◌, ◌&&◌}
+use Rattle.ip_headers.specs.declared.tuple.Kind.{Kind}
+use Rattle.ip_headers.specs.declared.tuple.Kind.TheVariants.{Tcp, Udp, Ask, Answer, Other}
+use Rattle.ip_headers.specs.declared.tuple.Endpoint.{Endpoint}
+use Rattle.ip_headers.specs.declared.tuple.Mapping.{Mapping}
+use Rattle.ip_headers.specs.Same.{same_kind, same_endpoint}
+use Rattle.nat_mapping.specs.declared.keys.SourceKey.{SourceKey}
+use Rattle.nat_mapping.specs.declared.keys.InboundKey.{InboundKey}
+use Rattle.nat_mapping.specs.declared.keys.PoolKey.{PoolKey}
+use Rattle.nat_mapping.specs.declared.keys.Holding.{Holding}
+
+abbrev pub source_key_of : Mapping → SourceKey
+source_key_of m = record { kind = m.kind; internal = m.internal; address = m.external.address }
+
+abbrev pub inbound_key_of : Mapping → InboundKey
+inbound_key_of m = record { kind = m.kind; external = m.external }
+
+abbrev pub pool_key_of : Mapping → PoolKey
+pool_key_of m = record { kind = m.kind; address = m.external.address }
+
+abbrev pub same_source : SourceKey → SourceKey → Bool
+same_source a b = same_kind a.kind b.kind && (same_endpoint a.internal b.internal && a.address == b.address)
+
+abbrev pub same_inbound : InboundKey → InboundKey → Bool
+same_inbound a b = same_kind a.kind b.kind && same_endpoint a.external b.external
+
+abbrev pub same_pool : PoolKey → PoolKey → Bool
+same_pool a b = same_kind a.kind b.kind && a.address == b.address
+
+-- whether a kind has pools: not where 0 stands for every port
+abbrev pub has_pool : Kind → Bool
+has_pool Tcp = true
+has_pool Udp = true
+has_pool Ask = true
+has_pool Answer = true
+has_pool (Other number) = false
+
+-- the mapping that is held under a key
+abbrev pub mapping_at : SourceKey → Holding → Mapping
+mapping_at key holding =
+    record { kind = key.kind; internal = key.internal; external = record { address = key.address; port = holding.port } }
+
+-- where an external endpoint of a pool is found
+abbrev pub inbound_at : PoolKey → ℕ → InboundKey
+inbound_at key port = record { kind = key.kind; external = record { address = key.address; port = port } }
+
+-- where the mapping of an external endpoint to an internal one is found
+abbrev pub source_at : InboundKey → Endpoint → SourceKey
+source_at key internal = record { kind = key.kind; internal = internal; address = key.external.address }

@@ -1,0 +1,19 @@
+-- What there is of a pool, if there is one.
+use Rattle.std.specs.Prelude.{◌≡◌, ◌≢◌, ℕ, Bool, false, Option, Some, None}
+use Rattle.std.specs.Option.{option_map}
+use Rattle.port_pool.specs.declared.order.Order.{Order}
+use Rattle.port_pool.specs.declared.order.Order.TheVariants.{Zero}
+use Rattle.port_pool.specs.declared.pool.Pool.{Pool}
+use Rattle.port_pool.specs.Taken.{is_taken, order_of}
+
+abbrev pub is_taken_by : Option Pool → ℕ → Bool
+is_taken_by None port = false
+is_taken_by (Some pool) port = is_taken pool port
+
+abbrev pub order_by : Option Pool → Option Order
+order_by pool = option_map order_of pool
+
+-- none of its ports is taken, and it has a row of them
+pub record IsSpare (pool : Pool) : Type 0 where
+  pub unused : (port : ℕ) → is_taken pool port ≡ false
+  pub row : order_of pool ≢ Zero

@@ -1,0 +1,266 @@
+//! The mappings that are held.
+ghost use Rattle.std.specs.Prelude.{◌≡◌, ◌+◌, ◌<◌, ◌≤◌, ◌↔◌, ℕ, not, List, [], ◌∷◌, Contains, Some, None, is_some, IsOk, IfOk, OnOk, OnErr};
+ghost use Rattle.std.specs.List.{find};
+ghost use Rattle.std.specs.HashMap.{get};
+ghost use Rattle.ip_headers.specs.declared.tuple.Mapping.{Mapping as Mapped};
+ghost use Rattle.port_pool.specs.Candidates.{candidates};
+ghost use Rattle.nat_mapping.specs.Mappings.{HoldsSame, IsOneToOne, holders_of, inbound_of, order_of, places_of, source_of};
+ghost use Rattle.nat_mapping.specs.steps.Keys.{inbound_at, same_inbound};
+ghost use Rattle.nat_mapping.specs.steps.Kept.{ArePorts};
+ghost use Rattle.nat_mapping.specs.steps.Pooled.{taken_in, IsPooled};
+
+use crate::keys::{
+    Holding, InboundKey, PoolKey, SourceKey, has_pool, inbound_key, pool_key, source_key,
+};
+use crate::pools::Pools;
+use crate::tables::{
+    change_source, drop_inbound, drop_source, find_inbound, find_source, put_inbound, put_source,
+};
+use ip_headers::{Endpoint, Kind, Mapping};
+use port_pool::Range;
+use std::alloc::Global;
+use std::collections::HashMap;
+use std::marker::Model;
+use thiserror::Error;
+
+/// There was no room to grow.
+#[derive(Clone, Copy, Debug, PartialEq, Eq, Error)]
+#[error("memory")]
+pub struct Memory;
+
+/// Why an internal endpoint gets no port.
+#[derive(Clone, Copy, Debug, PartialEq, Eq, Error)]
+pub enum MapError {
+    /// It has none yet, and all candidates are held.
+    #[error("M1")]
+    NoPort,
+}
+
+/// The mappings that are held, each by one holder or more. Each call's time is the same however many
+/// are held.
+#[derive(Drop)]
+pub struct Mappings {
+    sources: HashMap<SourceKey, Holding>,
+    inbounds: HashMap<InboundKey, Endpoint>,
+    pools: Pools,
+}
+
+impl Model for Mappings {
+    ghost use Rattle.std.specs.Prelude.{min};
+    ghost use Rattle.std.specs.HashMap.{spare};
+    ghost use Rattle.nat_mapping.specs.Holdings.{Holdings};
+    ghost use Rattle.nat_mapping.specs.steps.Pooled.{pool_count, pool_room};
+    ghost use Rattle.nat_mapping.specs.steps.Kept.{held_by, IsKept};
+
+    ghost Value = { Holdings };
+
+    ghost view = { λ t. record {
+      held = held_by t.sources.entries;
+      room = min (spare t.sources) (min (spare t.inbounds) (pool_room t.pools));
+      pools = pool_count t.pools;
+    } };
+
+    ghost invariant = { λ t. IsKept t.sources t.inbounds t.pools };
+}
+
+impl Mappings {
+    /// Nothing is held. It takes no memory.
+    pub fn new(alloc: Global) -> Self
+        ensures held { result.held ≡ [] }
+        ensures pools { result.pools ≡ 0 }
+    {
+        Self {
+            sources: HashMap::new(alloc),
+            inbounds: HashMap::new(alloc),
+            pools: Pools::new(alloc),
+        }
+    }
+
+    /// The port that an internal endpoint gets at an external address: the one that it has there, and
+    /// else the first candidate that is free there. It takes no memory and holds nothing.
+    ///
+    /// # Errors
+    ///
+    /// `NoPort` where it has none there and all candidates are held.
+    pub fn source(
+        &self,
+        kind: Kind,
+        internal: Endpoint,
+        address: u32,
+        range: Option<Range>,
+    ) -> Result<u16, MapError>
+        // Of whatever list stands for what is held.
+        ensures ok { (held : List Mapped) → HoldsSame held self.now.held
+            → IfOk result (λ port. source_of kind internal address range held ≡ Some port) }
+        ensures no_port { (held : List Mapped) → HoldsSame held self.now.held
+            → (result ≡ Err MapError.NoPort) ↔ (source_of kind internal address range held ≡ None) }
+    {
+        let key = SourceKey {
+            kind,
+            internal,
+            address,
+        };
+        match find_source(&self.sources, key) {
+            Some(holding) => Ok(holding.port),
+            None => fresh_port(&self.inbounds, &self.pools, key, range).ok_or(MapError::NoPort),
+        }
+    }
+
+    /// The internal endpoint behind an external one.
+    pub fn inbound(&self, kind: Kind, external: Endpoint) -> Option<Endpoint>
+        ensures value { (held : List Mapped) → HoldsSame held self.now.held
+            → result ≡ inbound_of kind external held }
+
+        // What is held is one to one.
+        ensures one_to_one { (held : List Mapped) → HoldsSame held self.now.held → IsOneToOne held }
+    {
+        find_inbound(&self.inbounds, InboundKey { kind, external })
+    }
+
+    /// How many pools of ports it keeps, each with a row of 8 KB: one for each kind and external
+    /// address at which a mapping is held, and at most two for the next ones.
+    pub fn pools(&self) -> usize
+        ensures value { result ≡ self.now.pools }
+        ensures bounded { (held : List Mapped) → HoldsSame held self.now.held → result ≤ places_of held + 2 }
+    {
+        self.pools.count()
+    }
+
+    /// Room for the two mappings of one connection, each at an external address of its own.
+    ///
+    /// # Errors
+    ///
+    /// Where there is no memory; what is held stays.
+    pub fn reserve_one(&mut self) -> Result<(), Memory>
+        ensures held { HoldsSame self.old.held self.new.held }
+        ensures ok { OnOk result (2 ≤ self.new.room) }
+        ensures room { self.old.room ≤ self.new.room }
+        ensures succeeds { 2 ≤ self.old.room → IsOk result }
+    {
+        self.reserve(2)
+    }
+
+    fn reserve(&mut self, mappings: usize) -> Result<(), Memory>
+        requires { mappings ≤ 2 }
+        ensures held { HoldsSame self.old.held self.new.held }
+        ensures ok { OnOk result (mappings ≤ self.new.room) }
+        ensures room { self.old.room ≤ self.new.room }
+        ensures succeeds { mappings ≤ self.old.room → IsOk result }
+    {
+        if self.sources.reserve(mappings).is_err() {
+            return Err(Memory);
+        }
+        if self.inbounds.reserve(mappings).is_err() {
+            return Err(Memory);
+        }
+        match self.pools.reserve(mappings) {
+            Ok(()) => Ok(()),
+            Err(_) => Err(Memory),
+        }
+    }
+
+    /// One holder more of a mapping.
+    ///
+    /// # Errors
+    ///
+    /// Where there is no room and no memory; what is held stays.
+    pub fn hold(&mut self, m: Mapping) -> Result<(), Memory>
+        requires one_to_one { IsOneToOne (m ∷ self.old.held) }
+        requires few { holders_of m self.old.held < usize.MAX }
+        ensures ok { OnOk result (HoldsSame (m ∷ self.old.held) self.new.held) }
+        ensures err { OnErr result (HoldsSame self.old.held self.new.held) }
+        ensures succeeds { 0 < self.old.room → IsOk result }
+        ensures room { self.old.room ≤ self.new.room + 1 }
+    {
+        self.reserve(1)?;
+        self.add(m);
+        Ok(())
+    }
+
+    /// One holder more of a mapping that there is room for.
+    fn add(&mut self, m: Mapping)
+        requires one_to_one { IsOneToOne (m ∷ self.old.held) }
+        requires few { holders_of m self.old.held < usize.MAX }
+        requires room { 0 < self.old.room }
+        ensures held { HoldsSame (m ∷ self.old.held) self.new.held }
+        ensures room { self.old.room ≤ self.new.room + 1 }
+    {
+        let key = source_key(m);
+        match find_source(&self.sources, key) {
+            Some(holding) => {
+                let more = Holding {
+                    port: holding.port,
+                    holders: holding.holders + 1,
+                };
+                change_source(&mut self.sources, key, more);
+            }
+            None => {
+                put_source(&mut self.sources, key, Holding::first(m.external.port));
+                put_inbound(&mut self.inbounds, inbound_key(m), m.internal);
+                self.pools.take(pool_key(m), m.external.port);
+            }
+        }
+    }
+
+    /// One holder fewer of a mapping. With the last one its port is free.
+    pub fn release(&mut self, m: Mapping)
+        requires { Contains self.old.held m }
+        ensures held { HoldsSame self.old.held (m ∷ self.new.held) }
+        ensures room { self.old.room ≤ self.new.room }
+    {
+        let key = source_key(m);
+        match find_source(&self.sources, key) {
+            None => unreachable!(),
+            Some(holding) => {
+                if holding.holders > 1 {
+                    let fewer = Holding {
+                        port: holding.port,
+                        holders: holding.holders - 1,
+                    };
+                    change_source(&mut self.sources, key, fewer);
+                } else {
+                    drop_source(&mut self.sources, key);
+                    drop_inbound(&mut self.inbounds, inbound_key(m));
+                    self.pools.give(pool_key(m), m.external.port);
+                }
+            }
+        }
+    }
+}
+
+/// The first candidate for an internal endpoint behind which none stands at the external address.
+fn fresh_port(
+    inbounds: &HashMap<InboundKey, Endpoint>,
+    pools: &Pools,
+    key: SourceKey,
+    range: Option<Range>,
+) -> Option<u16>
+    requires pooled { IsPooled pools.now }
+    requires ports { ArePorts (get same_inbound inbounds.now) (taken_in pools.now) }
+    ensures { result ≡ find (λ p. not (is_some (get same_inbound inbounds.now
+        (inbound_at (record { kind = key.kind; address = key.address }) p))))
+        (candidates (order_of key.kind) key.internal.port range) }
+{
+    let pool = PoolKey {
+        kind: key.kind,
+        address: key.address,
+    };
+    if has_pool(key.kind) {
+        return pools.choose(pool, key.internal.port, range);
+    }
+    // A kind without ports has one mapping at an external address.
+    let external = Endpoint {
+        address: key.address,
+        port: 0,
+    };
+    match find_inbound(
+        inbounds,
+        InboundKey {
+            kind: key.kind,
+            external,
+        },
+    ) {
+        Some(_) => None,
+        None => Some(0),
+    }
+}

@@ -1,0 +1,223 @@
+//! The pools of ports of all external addresses.
+ghost use Rattle.std.specs.Prelude.{◌≡◌, ◌≢◌, ◌+◌, ◌<◌, ◌≤◌, ℕ, All, not, true, false, ◌==◌, ◌&&◌, if◌then◌else◌, Some, None, OnOk, IsOk, is_some, cond, vec_len};
+ghost use Rattle.std.specs.Bool.{OnFalse, OnTrue};
+ghost use Rattle.std.specs.List.{find};
+ghost use Rattle.std.specs.HashMap.{get, spare, IsUnique};
+ghost use Rattle.port_pool.specs.Candidates.{candidates};
+ghost use Rattle.nat_mapping.specs.declared.keys.PoolKey.{PoolKey as Key};
+ghost use Rattle.nat_mapping.specs.Mappings.{order_of};
+ghost use Rattle.nat_mapping.specs.steps.Keys.{has_pool, same_pool};
+ghost use Rattle.nat_mapping.specs.steps.Ports.{is_taken_by, order_by, IsSpare};
+
+use crate::keys::{PoolKey, has_pool, order};
+use port_pool::{Order, Pool, Range, first};
+use std::alloc::{AllocError, Global};
+use std::collections::HashMap;
+
+/// So many emptied pools are kept for the next addresses: as many as one connection may begin.
+pub(crate) const SPARES: usize = 2;
+
+/// A pool for each kind and external address of which a port is taken, and a few for the next ones.
+/// A kind without ports has none.
+#[derive(Drop)]
+pub(crate) struct Pools {
+    pools: HashMap<PoolKey, Pool>,
+    spares: Vec<Pool>,
+    alloc: Global,
+}
+
+impl Pools {
+    ghost use Rattle.nat_mapping.specs.steps.Pooled.{pool_count, pool_room, taken_in, IsPooled};
+
+    /// All ports are free.
+    pub(crate) fn new(alloc: Global) -> Self
+        ensures taken { (key : Key) (port : ℕ) → taken_in result key port ≡ false }
+        ensures pooled { IsPooled result }
+        ensures none { pool_count result ≡ 0 }
+    {
+        Self {
+            pools: HashMap::new(alloc),
+            spares: Vec::new(alloc),
+            alloc,
+        }
+    }
+
+    /// How many pools there are, the spare ones included.
+    pub(crate) fn count(&self) -> usize
+        requires { IsPooled self.now }
+        ensures { result ≡ pool_count self.now }
+    {
+        self.pools.len() + self.spares.len()
+    }
+
+    /// The first candidate that is free.
+    pub(crate) fn choose(&self, key: PoolKey, port: u16, range: Option<Range>) -> Option<u16>
+        requires { IsPooled self.now }
+        ensures { result ≡ find (λ p. not (taken_in self.now key p)) (candidates (order_of key.kind) port range) }
+    {
+        match self.pools.get(&key) {
+            Some(pool) => pool.choose(port, range),
+            None => first(order(key.kind), port, range),
+        }
+    }
+
+    /// Room for so many that begin a pool, at most as many as are kept.
+    pub(crate) fn reserve(&mut self, pools: usize) -> Result<(), AllocError>
+        requires pools { pools ≤ SPARES }
+        requires pooled { IsPooled self.old }
+        ensures pooled { IsPooled self.new }
+        ensures taken { (key : Key) (port : ℕ) → taken_in self.new key port ≡ taken_in self.old key port }
+        ensures room { pool_room self.old ≤ pool_room self.new }
+        ensures ok { OnOk result (pools ≤ pool_room self.new) }
+        ensures succeeds { pools ≤ pool_room self.old → IsOk result }
+    {
+        self.pools.reserve(pools)?;
+        stock(&mut self.spares, self.alloc, pools)
+    }
+
+    /// A port is taken.
+    pub(crate) fn take(&mut self, key: PoolKey, port: u16)
+        requires room { 0 < pool_room self.old }
+        requires free { has_pool key.kind ≡ true → taken_in self.old key port ≡ false }
+        requires pooled { IsPooled self.old }
+        ensures pooled { IsPooled self.new }
+        ensures taken { (q : Key) (p : ℕ) → has_pool q.kind ≡ true → taken_in self.new q p ≡ (if same_pool key q && p == port then true else taken_in self.old q p) }
+        ensures room { pool_room self.old ≤ pool_room self.new + 1 }
+    {
+        if !has_pool(key.kind) {
+            return;
+        }
+        if take_at(&mut self.pools, key, port) {
+            return;
+        }
+        match self.spares.pop() {
+            None => unreachable!(),
+            Some(pool) => begin(&mut self.pools, key, begun(pool, order(key.kind), port)),
+        }
+    }
+
+    /// A port is free again. A pool of which no port is taken is given up.
+    pub(crate) fn give(&mut self, key: PoolKey, port: u16)
+        requires taken { has_pool key.kind ≡ true → taken_in self.old key port ≡ true }
+        requires pooled { IsPooled self.old }
+        ensures pooled { IsPooled self.new }
+        ensures taken { (q : Key) (p : ℕ) → has_pool q.kind ≡ true → taken_in self.new q p ≡ (if same_pool key q && p == port then false else taken_in self.old q p) }
+        ensures room { pool_room self.old ≤ pool_room self.new }
+    {
+        if !has_pool(key.kind) {
+            return;
+        }
+        if give_at(&mut self.pools, key, port) {
+            if let Some(pool) = end(&mut self.pools, key) {
+                keep(&mut self.spares, pool);
+            }
+        }
+    }
+}
+
+/// Takes a port of a pool, if there is that pool.
+fn take_at(pools: &mut HashMap<PoolKey, Pool>, key: PoolKey, port: u16) -> bool
+    requires free { is_taken_by (get same_pool pools.old key) port ≡ false }
+    requires row { order_by (get same_pool pools.old key) ≢ Some Order.Zero }
+    ensures found { result ≡ is_some (get same_pool pools.old key) }
+    ensures taken { result ≡ true → (q : Key) (p : ℕ) → is_taken_by (get same_pool pools.new q) p ≡ (if same_pool key q && p == port then true else is_taken_by (get same_pool pools.old q) p) }
+    ensures orders { (q : Key) → order_by (get same_pool pools.new q) ≡ order_by (get same_pool pools.old q) }
+    ensures absent { result ≡ false → (q : Key) → get same_pool pools.new q ≡ get same_pool pools.old q }
+    ensures spare { spare pools.new ≡ spare pools.old }
+    ensures unique { IsUnique same_pool pools.new }
+{
+    match pools.get_mut(&key) {
+        Some(pool) => {
+            pool.take(port);
+            true
+        }
+        None => false,
+    }
+}
+
+/// Gives a port back to its pool, and tells whether no port of that pool is taken any more.
+fn give_at(pools: &mut HashMap<PoolKey, Pool>, key: PoolKey, port: u16) -> bool
+    requires { is_taken_by (get same_pool pools.old key) port ≡ true }
+    ensures taken { (q : Key) (p : ℕ) → is_taken_by (get same_pool pools.new q) p ≡ (if same_pool key q && p == port then false else is_taken_by (get same_pool pools.old q) p) }
+    ensures orders { (q : Key) → order_by (get same_pool pools.new q) ≡ order_by (get same_pool pools.old q) }
+    ensures unused { OnTrue result ((p : ℕ) → is_taken_by (get same_pool pools.new key) p ≡ false) }
+    ensures used { OnFalse result ((p : ℕ) × (is_taken_by (get same_pool pools.new key) p ≡ true)) }
+    ensures spare { spare pools.new ≡ spare pools.old }
+    ensures unique { IsUnique same_pool pools.new }
+{
+    match pools.get_mut(&key) {
+        Some(pool) => {
+            pool.give(port);
+            pool.is_unused()
+        }
+        None => unreachable!(),
+    }
+}
+
+/// A spare pool, put to use: one port of it is taken.
+fn begun(pool: Pool, order: Order, port: u16) -> Pool
+    requires spare { IsSpare pool }
+    requires row { order ≢ Order.Zero }
+    ensures order { order_by (Some result) ≡ Some order }
+    ensures taken { (p : ℕ) → is_taken_by (Some result) p ≡ (p == port) }
+{
+    let mut pool = pool.with_order(order);
+    pool.take(port);
+    pool
+}
+
+/// Puts a pool where there is none.
+fn begin(pools: &mut HashMap<PoolKey, Pool>, key: PoolKey, pool: Pool)
+    requires { 0 < spare pools.old }
+    ensures pools { (q : Key) → get same_pool pools.new q ≡ cond (same_pool key q) (Some pool) (get same_pool pools.old q) }
+    ensures spare { spare pools.old ≤ spare pools.new + 1 }
+    ensures unique { IsUnique same_pool pools.new }
+{
+    match pools.insert(key, pool) {
+        Ok(_) => (),
+        Err(_) => unreachable!(),
+    }
+}
+
+/// Takes a pool out.
+fn end(pools: &mut HashMap<PoolKey, Pool>, key: PoolKey) -> Option<Pool>
+    ensures value { result ≡ get same_pool pools.old key }
+    ensures pools { (q : Key) → get same_pool pools.new q ≡ cond (same_pool key q) None (get same_pool pools.old q) }
+    ensures spare { spare pools.old ≤ spare pools.new }
+    ensures unique { IsUnique same_pool pools.new }
+{
+    pools.remove(&key)
+}
+
+/// Makes so many pools ready.
+fn stock(spares: &mut Vec<Pool>, alloc: Global, pools: usize) -> Result<(), AllocError>
+    requires pools { pools ≤ SPARES }
+    requires few { vec_len spares.old ≤ SPARES }
+    requires spares { All IsSpare spares.old.items }
+    ensures few { vec_len spares.new ≤ SPARES }
+    ensures spares { All IsSpare spares.new.items }
+    ensures kept { vec_len spares.old ≤ vec_len spares.new }
+    ensures ok { OnOk result (pools ≤ vec_len spares.new) }
+    ensures succeeds { pools ≤ vec_len spares.old → IsOk result }
+{
+    while spares.len() < pools {
+        let pool = Pool::new(alloc, Order::Ports)?;
+        spares.push(pool)?;
+    }
+    Ok(())
+}
+
+/// Keeps a pool for the next address, if not enough are kept and there is room in the list.
+fn keep(spares: &mut Vec<Pool>, pool: Pool)
+    requires few { vec_len spares.old ≤ SPARES }
+    requires spares { All IsSpare spares.old.items }
+    requires spare { IsSpare pool }
+    ensures few { vec_len spares.new ≤ SPARES }
+    ensures spares { All IsSpare spares.new.items }
+    ensures kept { vec_len spares.old ≤ vec_len spares.new }
+{
+    if spares.len() < SPARES {
+        // Without memory for the list it is let go.
+        let _ = spares.push(pool);
+    }
+}

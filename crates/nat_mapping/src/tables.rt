@@ -1,0 +1,93 @@
+//! The two tables of mappings, and what changes at one key.
+ghost use Rattle.std.specs.Prelude.{◌≡◌, ◌+◌, ◌<◌, ◌≤◌, IsSome, Some, None, cond};
+ghost use Rattle.std.specs.HashMap.{get, spare, IsUnique};
+ghost use Rattle.nat_mapping.specs.declared.keys.SourceKey.{SourceKey as ByInternal};
+ghost use Rattle.nat_mapping.specs.declared.keys.InboundKey.{InboundKey as ByExternal};
+ghost use Rattle.nat_mapping.specs.steps.Keys.{same_inbound, same_source};
+
+use crate::keys::{Holding, InboundKey, SourceKey};
+use ip_headers::Endpoint;
+use std::collections::HashMap;
+
+/// How a mapping is held.
+pub(crate) fn find_source(sources: &HashMap<SourceKey, Holding>, key: SourceKey) -> Option<Holding>
+    ensures { result ≡ get same_source sources.now key }
+{
+    sources.get(&key).copied()
+}
+
+/// Which internal endpoint stands behind an external one.
+pub(crate) fn find_inbound(
+    inbounds: &HashMap<InboundKey, Endpoint>,
+    key: InboundKey,
+) -> Option<Endpoint>
+    ensures { result ≡ get same_inbound inbounds.now key }
+{
+    inbounds.get(&key).copied()
+}
+
+/// Changes how a mapping is held.
+pub(crate) fn change_source(
+    sources: &mut HashMap<SourceKey, Holding>,
+    key: SourceKey,
+    holding: Holding,
+)
+    requires { IsSome (get same_source sources.old key) }
+    ensures values { (q : ByInternal) → get same_source sources.new q ≡ cond (same_source key q) (Some holding) (get same_source sources.old q) }
+    ensures spare { spare sources.new ≡ spare sources.old }
+    ensures unique { IsUnique same_source sources.new }
+{
+    if let Some(place) = sources.get_mut(&key) {
+        *place = holding;
+    }
+}
+
+/// Begins a mapping.
+pub(crate) fn put_source(
+    sources: &mut HashMap<SourceKey, Holding>,
+    key: SourceKey,
+    holding: Holding,
+)
+    requires { 0 < spare sources.old }
+    ensures values { (q : ByInternal) → get same_source sources.new q ≡ cond (same_source key q) (Some holding) (get same_source sources.old q) }
+    ensures spare { spare sources.old ≤ spare sources.new + 1 }
+    ensures unique { IsUnique same_source sources.new }
+{
+    match sources.insert(key, holding) {
+        Ok(_) => (),
+        Err(_) => unreachable!(),
+    }
+}
+
+/// Ends a mapping.
+pub(crate) fn drop_source(sources: &mut HashMap<SourceKey, Holding>, key: SourceKey)
+    ensures values { (q : ByInternal) → get same_source sources.new q ≡ cond (same_source key q) None (get same_source sources.old q) }
+    ensures spare { spare sources.old ≤ spare sources.new }
+    ensures unique { IsUnique same_source sources.new }
+{
+    sources.remove(&key);
+}
+
+/// Lets an internal endpoint stand behind an external one.
+pub(crate) fn put_inbound(
+    inbounds: &mut HashMap<InboundKey, Endpoint>,
+    key: InboundKey,
+    internal: Endpoint,
+)
+    requires { 0 < spare inbounds.old }
+    ensures values { (q : ByExternal) → get same_inbound inbounds.new q ≡ cond (same_inbound key q) (Some internal) (get same_inbound inbounds.old q) }
+    ensures spare { spare inbounds.old ≤ spare inbounds.new + 1 }
+{
+    match inbounds.insert(key, internal) {
+        Ok(_) => (),
+        Err(_) => unreachable!(),
+    }
+}
+
+/// Lets none stand behind it.
+pub(crate) fn drop_inbound(inbounds: &mut HashMap<InboundKey, Endpoint>, key: InboundKey)
+    ensures values { (q : ByExternal) → get same_inbound inbounds.new q ≡ cond (same_inbound key q) None (get same_inbound inbounds.old q) }
+    ensures spare { spare inbounds.old ≤ spare inbounds.new }
+{
+    inbounds.remove(&key);
+}
