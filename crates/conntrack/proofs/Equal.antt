@@ -6,7 +6,7 @@ use Rattle.ip_headers.specs.declared.tuple.Kind.{Kind}
 use Rattle.ip_headers.specs.declared.tuple.Kind.TheVariants.{Tcp, Udp, Ask, Answer, Other}
 use Rattle.ip_headers.specs.declared.tuple.Endpoint.{Endpoint}
 use Rattle.ip_headers.specs.declared.tuple.Tuple.{Tuple}
-use Rattle.conntrack.specs.Tuples.{same_kind, same_endpoint, same_tuple}
+use Rattle.ip_headers.specs.Same.{same_kind, same_endpoint, same_tuple}
 
 same_kind-sym : (a b : Kind) → same_kind a b ≡ same_kind b a
 same_kind-sym Tcp Tcp = refl

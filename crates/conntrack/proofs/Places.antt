@@ -12,7 +12,7 @@ use Rattle.conntrack.specs.declared.connection.Direction.TheVariants.{Original, 
 use Rattle.conntrack.specs.declared.belonging.Belonging.{Belonging}
 use Rattle.conntrack.specs.declared.belonging.Belonging.TheVariants.{Nowhere, Ends, Found}
 use Rattle.conntrack.specs.Held.{has_id, same_id, has_distinct_ids, touched, touched_at, without, nameless, belonging_by, belongs_in, of_original, of_reply, place_of, is_taken, are_apart}
-use Rattle.conntrack.specs.Tuples.{same_tuple}
+use Rattle.ip_headers.specs.Same.{same_tuple}
 use Rattle.conntrack.specs.Phases.{is_lone_syn, is_closing}
 use Rattle.std.specs.Option.{option_map}
 use Rattle.conntrack.proofs.Lists.{list_any_either, list_any_found}

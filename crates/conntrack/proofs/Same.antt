@@ -7,7 +7,7 @@ use Rattle.conntrack.specs.declared.connection.ConnId.{ConnId}
 use Rattle.ip_headers.specs.declared.tuple.Tuple.{Tuple}
 use Rattle.conntrack.specs.declared.connection.Flags.{Flags}
 use Rattle.conntrack.specs.Held.{nameless, nameless_belonging, nameless_place, belonging_by, belongs_in, of_original, of_reply, is_taken, is_incoming, place_of, live_at}
-use Rattle.conntrack.specs.Tuples.{same_tuple}
+use Rattle.ip_headers.specs.Same.{same_tuple}
 use Rattle.conntrack.specs.Phases.{is_lone_syn, is_closing}
 use Rattle.conntrack.specs.declared.belonging.Belonging.TheVariants.{Ends, Found}
 use Rattle.conntrack.specs.declared.connection.Direction.TheVariants.{Original}

@@ -19,7 +19,7 @@ use Rattle.conntrack.specs.declared.belonging.Belonging.TheVariants.{Nowhere, En
 use Rattle.conntrack.specs.declared.belonging.Place.{Place}
 use Rattle.conntrack.specs.declared.belonging.State.{State}
 use Rattle.conntrack.specs.declared.belonging.State.TheVariants.{Established, New, Invalid}
-use Rattle.conntrack.specs.Tuples.{same_tuple}
+use Rattle.ip_headers.specs.Same.{same_tuple}
 use Rattle.conntrack.specs.Phases.{no_flags, seen_more, is_lone_syn, is_closing, phase_of, limit_by}
 
 -- ---- directions

@@ -1,30 +1,10 @@
--- When two tuples are one.
-use Rattle.std.specs.Prelude.{Bool, true, false, ◌==◌, ◌&&◌}
-use Rattle.ip_headers.specs.declared.tuple.Kind.{Kind}
-use Rattle.ip_headers.specs.declared.tuple.Kind.TheVariants.{Tcp, Udp, Ask, Answer, Other}
-use Rattle.ip_headers.specs.declared.tuple.Endpoint.{Endpoint}
+-- What stands where a tuple is asked for and there is none.
+use Rattle.ip_headers.specs.declared.tuple.Kind.TheVariants.{Udp}
 use Rattle.ip_headers.specs.declared.tuple.Tuple.{Tuple}
 
--- what stands where a tuple is asked for and there is none
 abbrev pub no_tuple : Tuple
 no_tuple = record {
   kind = Udp;
   source = record { address = 0; port = 0 };
   destination = record { address = 0; port = 0 };
 }
-
--- ports of one kind say nothing of those of another: an identifier isn't a port
-abbrev pub same_kind : Kind → Kind → Bool
-same_kind Tcp Tcp = true
-same_kind Udp Udp = true
-same_kind Ask Ask = true
-same_kind Answer Answer = true
-same_kind (Other a) (Other b) = a == b
-same_kind a b = false
-
-abbrev pub same_endpoint : Endpoint → Endpoint → Bool
-same_endpoint a b = a.address == b.address && a.port == b.port
-
-abbrev pub same_tuple : Tuple → Tuple → Bool
-same_tuple a b =
-    same_kind a.kind b.kind && (same_endpoint a.source b.source && same_endpoint a.destination b.destination)

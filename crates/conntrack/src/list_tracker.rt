@@ -1,7 +1,7 @@
 //! A plain list of connections.
 ghost use Rattle.std.specs.Prelude.{◌≡◌, ◌+◌, ◌<◌, ◌≤◌, ◌^◌, ◌&&◌, ◌||◌, not, true, false, ℕ, [], Option, None, Some, IsTrue, IfOk, OnOk, OnErr, IfSome, IfNone, ◌-◌, nat_lt, vec_len, vec_capacity, filter, if◌then◌else◌, length};
 ghost use Rattle.std.specs.List.{find, list_any};
-ghost use Rattle.conntrack.specs.Tuples.{same_tuple};
+ghost use Rattle.ip_headers.specs.Same.{same_tuple};
 ghost use Rattle.conntrack.specs.steps.Names.{has_ids_below};
 ghost use Rattle.conntrack.specs.Held.{are_apart, belongs_in, has_distinct_ids, has_id, is_incoming, is_live, is_taken, live_at, of_original, of_reply, same_id, touched, touched_at, without};
 

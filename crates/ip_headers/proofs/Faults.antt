@@ -7,6 +7,7 @@ use Rattle.ip_headers.specs.declared.view.HeaderFault.{HeaderFault}
 use Rattle.ip_headers.specs.declared.view.HeaderFault.TheVariants.{Short, Version, HeaderLength, Length, Truncated, Checksum, Fragment, Transport}
 use Rattle.ip_headers.specs.Sum.{ones_sum_of}
 use Rattle.ip_headers.specs.Transport.{transport_is_wrong}
+use Rattle.ip_headers.specs.Passing.{Passes, PassesHeader}
 use Rattle.ip_headers.specs.steps.Ends.{has_ports}
 use Rattle.ip_headers.specs.Header.{header, header_len, total_len, version, protocol, is_fragment, fault_of, packet_of, payload_of}
 
@@ -31,19 +32,6 @@ last_is false false false false true f g true none = cc
 last_is false false false false false true g true none = cc
 last_is false false false false false false true true none = cc
 last_is false false false false false false false true none = cc
-
--- every test but the last two
-pub record PassesHeader (p : List ℕ) : Type 0 where
-  pub long : 20 ≤ header_len p
-  pub head : header_len p ≤ total_len p
-  pub whole : total_len p ≤ length p
-  pub four : version p ≡ 4
-  pub sum : ones_sum_of (header p) ≡ 65535
-
-pub record Passes (p : List ℕ) : Type 0 where
-  pub head : PassesHeader p
-  pub unbroken : is_fragment p ≡ false
-  pub carried : transport_is_wrong (protocol p) (payload_of p) ≡ false
 
 pub passes : (p : List ℕ) → fault_of p ≡ None → Passes p
 passes p none = record {

@@ -1,5 +1,5 @@
 -- What bytes are as a packet of IPv4 (RFC 791, section 3.1).
-use Rattle.std.specs.Prelude.{ℕ, ◌*◌, ◌/◌, ◌%◌, ◌==◌, nat_lt, not, Bool, List, length, take, drop, Option, Some, None}
+use Rattle.std.specs.Prelude.{ℕ, ◌+◌, ◌*◌, ◌/◌, ◌%◌, ◌==◌, nat_lt, not, Bool, List, length, take, drop, Option, Some, None}
 use Rattle.std.specs.Prelude.{if◌then◌else◌}
 use Rattle.ip_headers.specs.declared.view.HeaderFault.{HeaderFault}
 use Rattle.ip_headers.specs.declared.view.HeaderFault.TheVariants.{Short, Version, HeaderLength, Length, Truncated}
@@ -50,6 +50,17 @@ packet_of bytes = take (total_len bytes) bytes
 -- what follows the header
 abbrev pub payload_of : List ℕ → List ℕ
 payload_of bytes = drop (header_len bytes) (packet_of bytes)
+
+-- ---- of a datagram that begins at a place of a packet: at 0 the packet itself
+
+abbrev pub protocol_at : ℕ → List ℕ → ℕ
+protocol_at start bytes = protocol (drop start bytes)
+
+-- where what it carries begins
+abbrev pub payload_at : ℕ → List ℕ → ℕ
+payload_at start bytes = start + header_len (drop start bytes)
+
+-- ---- the tests
 
 -- MF is set or the offset isn't 0: all but the two highest bits
 abbrev pub is_fragment : List ℕ → Bool

@@ -1,13 +1,14 @@
-//! IPv4 packets read in place, the Internet checksum, and packets as they are sent on.
+//! IPv4 packets read in place, their fields lent for writing, and the Internet checksum.
 #![tactic(auto)]
 
-mod rewrite;
+pub mod laws;
+mod parts;
 mod sum;
 mod transport;
 mod tuple;
 mod view;
 
-pub use rewrite::{Change, emit};
+pub use parts::PartsMut;
 pub use sum::ones_sum;
 pub use transport::Transport;
 pub use tuple::{Endpoint, Kind, Mapping, Tuple};

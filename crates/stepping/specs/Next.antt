@@ -3,7 +3,8 @@ use Rattle.std.specs.Prelude.{◌≡◌, ℕ, ◌-◌, max, List, [], ◌∷◌,
 use Rattle.std.specs.Option.{option_and_then, option_map}
 use Rattle.ip_headers.specs.declared.tuple.Tuple.{Tuple}
 use Rattle.ip_headers.specs.Header.{total_len, ttl}
-use Rattle.ip_headers.specs.Rewritten.{with_ttl}
+use Rattle.rewrite.specs.declared.change.Change.{Change}
+use Rattle.rewrite.specs.Rewritten.{rewritten}
 use Rattle.conntrack.specs.declared.connection.Held.{Held}
 use Rattle.conntrack.specs.Stories.{live_list}
 use Rattle.conntrack.specs.Stories as connections
@@ -56,9 +57,13 @@ abbrev pub length_of : Result Arrived Cause → ℕ
 length_of (Ok a) = total_len a.packet
 length_of (Err cause) = 0
 
+-- what is to be other in a packet that is sent on: its TTL is lowered
+abbrev pub change_of : List ℕ → Change
+change_of p = record { source = None; destination = None; numbers = None; ttl = Some (ttl p - 1) }
+
 -- the packet as it is sent on
 abbrev pub sent_on : List ℕ → Outcome → List ℕ
-sent_on p (Passed interface) = with_ttl p (ttl p - 1)
+sent_on p (Passed interface) = rewritten p (change_of p)
 sent_on p Local = []
 sent_on p (Dropped cause) = []
 

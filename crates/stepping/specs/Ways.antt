@@ -15,7 +15,7 @@ use Rattle.conntrack.specs.declared.connection.Direction.{Direction}
 use Rattle.conntrack.specs.declared.connection.Direction.TheVariants as sides
 use Rattle.conntrack.specs.declared.connection.Flags.{Flags}
 use Rattle.conntrack.specs.declared.connection.Held.{Held}
-use Rattle.conntrack.specs.Tuples.{same_endpoint}
+use Rattle.ip_headers.specs.Same.{same_endpoint}
 use Rattle.conntrack.specs.Phases.{flags_of, no_flags}
 use Rattle.conntrack.specs.Held.{belongs_in, first_state, is_reply}
 use Rattle.conntrack.specs.Recorded.{after_end}

@@ -20,8 +20,9 @@ use crate::sought::{flags_in, sought_of};
 use crate::way::tracking_of;
 use conntrack::{Moment, Tracker};
 use hook_runs::{Events, Part};
-use ip_headers::{Change, View, emit};
+use ip_headers::View;
 use pcap_io::Record;
+use rewrite::{Change, emit};
 use story::{Cause, Outcome};
 
 /// How a record ended.
@@ -116,6 +117,9 @@ fn send(view: &View, bound: Bound, packet: &mut Vec<u8>)
         return;
     };
     let change = Change {
+        source: None,
+        destination: None,
+        numbers: None,
         ttl: Some(view.ttl().saturating_sub(1)),
     };
     let Ok(()) = emit(view, &change, packet) else {

@@ -1,6 +1,6 @@
-//! Packets read in place and sent on.
-use crate::given::{PLAIN, PLAIN_OUT, bytes};
-use ip_headers::{Change, Endpoint, HeaderFault, Kind, Transport, Tuple, View, emit, ones_sum};
+//! Packets read in place.
+use crate::given::{PLAIN, bytes};
+use ip_headers::{Endpoint, HeaderFault, Kind, Transport, Tuple, View, ones_sum};
 use std::alloc::Global;
 use std::test::Fail;
 
@@ -21,17 +21,13 @@ fn sums(rt: HostRuntime) {
 }
 
 #[test]
-fn reads_and_sends_on(rt: HostRuntime) -> Result<(), Fail> {
+fn reads_in_place(rt: HostRuntime) -> Result<(), Fail> {
     let packet = bytes(rt.alloc(), &[PLAIN])?;
     let view = View::read(&packet)?;
     let found = (view.source(), view.destination(), view.ttl());
     assert_eq!(rt; found, (0xc0a8_010a, 0xc633_6407, 64));
-    let mut out = bytes(rt.alloc(), &["aa"])?;
-    out.extend_from_slice(view.payload)?;
-    emit(&view, &Change { ttl: Some(63) }, &mut out)?;
-    emit(&view, &Change { ttl: None }, &mut out)?;
-    let wanted = bytes(rt.alloc(), &["aa", "1388003500080000", PLAIN_OUT, PLAIN])?;
-    assert_eq!(rt; out.as_slice(), wanted.as_slice());
+    let wanted = bytes(rt.alloc(), &["1388003500080000"])?;
+    assert_eq!(rt; view.payload, wanted.as_slice());
     Ok(())
 }
 

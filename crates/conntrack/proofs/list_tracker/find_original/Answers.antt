@@ -3,7 +3,7 @@ use Rattle.std.proofs.lemmas.Iterator.{YieldsList-from_slice}
 use Rattle.std.proofs.lemmas.Iterator.Search.{find_from_yields_List}
 use Rattle.conntrack.specs.declared.connection.Held.{Held}
 use Rattle.conntrack.specs.Held.{is_live}
-use Rattle.conntrack.specs.Tuples.{same_tuple}
+use Rattle.ip_headers.specs.Same.{same_tuple}
 use Rattle.conntrack.proofs.list_tracker.find_original.Goals as goal
 
 pub returns : goal.returns

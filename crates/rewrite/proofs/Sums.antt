@@ -1,19 +1,32 @@
 -- What a write does to a sum of words.
-use Rattle.std.proofs.Common.{◌≡◌, ℕ, zero, suc, ◌+◌, ◌/◌, ◌%◌, ◌<◌, ◌≤◌, List, [], ◌∷◌, length, get_or, set, take, Bool, true, false, ap, ◌∙◌, arith}
+use Rattle.std.proofs.Common.{◌≡◌, ℕ, zero, suc, ◌+◌, ◌*◌, ◌/◌, ◌%◌, ◌<◌, ◌≤◌, List, [], ◌∷◌, ◌++◌, length, get_or, set, Bool, true, false, refl, arith}
 use mathlib.Core.Bool.{not}
-use Rattle.std.proofs.Math.Seq.{take-set-lt}
 use Rattle.std.proofs.lemmas.Grind.{common_steps}
 use Rattle.ip_headers.specs.Sum.{words_sum, ones_sum_of}
-use Rattle.ip_headers.specs.Bytes.{word_at}
-use Rattle.ip_headers.specs.Rewritten.{corrected, with_word}
-use Rattle.ip_headers.proofs.Sums.{placed, at_place, placed_is}
+use Rattle.ip_headers.specs.Bytes.{word_at, number_at, with_word, with_number}
+
+-- the place of one byte in its word
+abbrev pub at_place : Bool → ℕ → ℕ
+at_place true x = x * 256
+at_place false x = x
+
+-- the sum of bytes of which the first is a high or a low byte
+abbrev pub placed : Bool → List ℕ → ℕ
+placed high [] = 0
+placed true (x ∷ xs) = x * 256 + placed false xs
+placed false (x ∷ xs) = x + placed true xs
+
+placed_is : (xs : List ℕ) → placed true xs ≡ words_sum xs
+placed_is [] = refl
+placed_is (x ∷ []) = omega arith
+placed_is (x ∷ y ∷ xs) = omega (arith, placed_is xs)
 
 -- whether the byte at a place is a high one
 abbrev pub high_at : Bool → ℕ → Bool
 high_at high zero = high
 high_at high (suc i) = high_at (not high) i
 
-pub placed-set : (high : Bool) (xs : List ℕ) (i v : ℕ) → i < length xs → placed high (set xs i v) + at_place (high_at high i) (get_or xs i 0) ≡ placed high xs + at_place (high_at high i) v
+placed-set : (high : Bool) (xs : List ℕ) (i v : ℕ) → i < length xs → placed high (set xs i v) + at_place (high_at high i) (get_or xs i 0) ≡ placed high xs + at_place (high_at high i) v
 placed-set high [] i v lt = absurd (omega arith)
 placed-set true (x ∷ xs) zero v lt = omega arith
 placed-set false (x ∷ xs) zero v lt = omega arith
@@ -31,13 +44,11 @@ words_sum-word xs i w lt high low =
     let same : get_or (set xs i (w / 256)) (i + 1) 0 ≡ get_or xs (i + 1) 0 = grind (arith, common_steps) in
     omega (arith, one, two, same)
 
--- a word that is written inside the header, seen from the header
-pub take-word : (xs : List ℕ) (n at_byte w : ℕ) → at_byte + 1 < n → take n (with_word xs at_byte w) ≡ with_word (take n xs) at_byte w
-take-word xs n at_byte w lt = take-set-lt n (set xs at_byte (w / 256)) (at_byte + 1) (w % 256) lt ∙ ap (λ l. set l (at_byte + 1) (w % 256)) (take-set-lt n xs at_byte (w / 256) (omega arith))
-
--- the checksum corrected for one word keeps the sum
-pub kept : (before after checksum old new : ℕ) → after + checksum + old ≡ before + corrected checksum old new + new → after % 65535 ≡ before % 65535
-kept before after checksum old new e = omega arith
+-- what is appended to whole words
+pub words_sum-append : (xs ys : List ℕ) → length xs % 2 ≡ 0 → words_sum (xs ++ ys) ≡ words_sum xs + words_sum ys
+words_sum-append [] ys even = omega arith
+words_sum-append (x ∷ []) ys even = absurd (omega (arith, even))
+words_sum-append (x ∷ y ∷ xs) ys even = omega (arith, words_sum-append xs ys (omega (arith, even)))
 
 first_counts : (xs : List ℕ) → get_or xs 0 0 ≤ words_sum xs
 first_counts [] = omega arith

@@ -1,0 +1,165 @@
+//! The fields of a packet, lent for writing.
+ghost use Rattle.std.specs.Prelude.{◌≡◌, ◌+◌, ◌<◌, ◌≤◌, length, slice_set};
+ghost use Rattle.ip_headers.specs.Bytes.{with_number, with_word};
+ghost use Rattle.ip_headers.specs.Header.{payload_at};
+
+/// The fields of a datagram, lent for writing: each call changes the bytes of its field and no other.
+///
+/// The datagram may begin anywhere in the bytes: at 0 it is the packet itself. No call corrects a
+/// checksum for another.
+#[derive(Drop)]
+pub struct PartsMut<'a> {
+    packet: &'a mut [u8],
+    // Where the datagram begins, and where what it carries begins.
+    start: usize,
+    payload: usize,
+}
+
+impl<'a> PartsMut<'a> {
+    /// The fields of the datagram that begins at `start`. Where what it carries begins is read once,
+    /// here, from its IHL.
+    pub fn new(packet: &'a mut [u8], start: usize) -> PartsMut<'a>
+        requires { start < length packet.old }
+        ensures same_reference { result.packet.ghost_name ≡ packet.entry.ghost_name }
+        ensures bytes { result.packet.now ≡ packet.old }
+        ensures start { result.start ≡ start }
+        ensures payload { result.payload ≡ payload_at start packet.old }
+    {
+        // IHL counts words of four bytes.
+        let payload = start + (packet[start] % 16) as usize * 4;
+        PartsMut {
+            packet,
+            start,
+            payload,
+        }
+    }
+
+    /// Writes the time to live.
+    pub fn set_ttl(&mut self, ttl: u8)
+        requires { self.old.start + 9 ≤ length self.old.packet.now }
+        ensures same_reference { self.new.packet.ghost_name ≡ self.old.packet.ghost_name }
+        ensures bytes { self.new.packet.now ≡ slice_set self.old.packet.now (self.old.start + 8) ttl }
+        ensures start { self.new.start ≡ self.old.start }
+        ensures payload { self.new.payload ≡ self.old.payload }
+    {
+        self.packet[self.start + 8] = ttl;
+    }
+
+    /// Writes the header's checksum.
+    pub fn set_header_checksum(&mut self, checksum: u16)
+        requires { self.old.start + 12 ≤ length self.old.packet.now }
+        ensures same_reference { self.new.packet.ghost_name ≡ self.old.packet.ghost_name }
+        ensures bytes { self.new.packet.now ≡ with_word self.old.packet.now (self.old.start + 10) checksum }
+        ensures start { self.new.start ≡ self.old.start }
+        ensures payload { self.new.payload ≡ self.old.payload }
+    {
+        put_word(self.packet, self.start + 10, checksum);
+    }
+
+    /// Writes the source address.
+    pub fn set_source(&mut self, address: u32)
+        requires { self.old.start + 16 ≤ length self.old.packet.now }
+        ensures same_reference { self.new.packet.ghost_name ≡ self.old.packet.ghost_name }
+        ensures bytes { self.new.packet.now ≡ with_number self.old.packet.now (self.old.start + 12) address }
+        ensures start { self.new.start ≡ self.old.start }
+        ensures payload { self.new.payload ≡ self.old.payload }
+    {
+        put_number(self.packet, self.start + 12, address);
+    }
+
+    /// Writes the destination address.
+    pub fn set_destination(&mut self, address: u32)
+        requires { self.old.start + 20 ≤ length self.old.packet.now }
+        ensures same_reference { self.new.packet.ghost_name ≡ self.old.packet.ghost_name }
+        ensures bytes { self.new.packet.now ≡ with_number self.old.packet.now (self.old.start + 16) address }
+        ensures start { self.new.start ≡ self.old.start }
+        ensures payload { self.new.payload ≡ self.old.payload }
+    {
+        put_number(self.packet, self.start + 16, address);
+    }
+
+    /// Writes the source port of TCP or UDP.
+    pub fn set_source_port(&mut self, port: u16)
+        requires { self.old.payload + 2 ≤ length self.old.packet.now }
+        ensures same_reference { self.new.packet.ghost_name ≡ self.old.packet.ghost_name }
+        ensures bytes { self.new.packet.now ≡ with_word self.old.packet.now self.old.payload port }
+        ensures start { self.new.start ≡ self.old.start }
+        ensures payload { self.new.payload ≡ self.old.payload }
+    {
+        put_word(self.packet, self.payload, port);
+    }
+
+    /// Writes the destination port of TCP or UDP.
+    pub fn set_destination_port(&mut self, port: u16)
+        requires { self.old.payload + 4 ≤ length self.old.packet.now }
+        ensures same_reference { self.new.packet.ghost_name ≡ self.old.packet.ghost_name }
+        ensures bytes { self.new.packet.now ≡ with_word self.old.packet.now (self.old.payload + 2) port }
+        ensures start { self.new.start ≡ self.old.start }
+        ensures payload { self.new.payload ≡ self.old.payload }
+    {
+        put_word(self.packet, self.payload + 2, port);
+    }
+
+    /// Writes the identifier of an ICMP query.
+    pub fn set_identifier(&mut self, identifier: u16)
+        requires { self.old.payload + 6 ≤ length self.old.packet.now }
+        ensures same_reference { self.new.packet.ghost_name ≡ self.old.packet.ghost_name }
+        ensures bytes { self.new.packet.now ≡ with_word self.old.packet.now (self.old.payload + 4) identifier }
+        ensures start { self.new.start ≡ self.old.start }
+        ensures payload { self.new.payload ≡ self.old.payload }
+    {
+        put_word(self.packet, self.payload + 4, identifier);
+    }
+
+    /// Writes the checksum of a segment of TCP.
+    pub fn set_tcp_checksum(&mut self, checksum: u16)
+        requires { self.old.payload + 18 ≤ length self.old.packet.now }
+        ensures same_reference { self.new.packet.ghost_name ≡ self.old.packet.ghost_name }
+        ensures bytes { self.new.packet.now ≡ with_word self.old.packet.now (self.old.payload + 16) checksum }
+        ensures start { self.new.start ≡ self.old.start }
+        ensures payload { self.new.payload ≡ self.old.payload }
+    {
+        put_word(self.packet, self.payload + 16, checksum);
+    }
+
+    /// Writes the checksum of a datagram of UDP.
+    pub fn set_udp_checksum(&mut self, checksum: u16)
+        requires { self.old.payload + 8 ≤ length self.old.packet.now }
+        ensures same_reference { self.new.packet.ghost_name ≡ self.old.packet.ghost_name }
+        ensures bytes { self.new.packet.now ≡ with_word self.old.packet.now (self.old.payload + 6) checksum }
+        ensures start { self.new.start ≡ self.old.start }
+        ensures payload { self.new.payload ≡ self.old.payload }
+    {
+        put_word(self.packet, self.payload + 6, checksum);
+    }
+
+    /// Writes the checksum of a message of ICMP.
+    pub fn set_icmp_checksum(&mut self, checksum: u16)
+        requires { self.old.payload + 4 ≤ length self.old.packet.now }
+        ensures same_reference { self.new.packet.ghost_name ≡ self.old.packet.ghost_name }
+        ensures bytes { self.new.packet.now ≡ with_word self.old.packet.now (self.old.payload + 2) checksum }
+        ensures start { self.new.start ≡ self.old.start }
+        ensures payload { self.new.payload ≡ self.old.payload }
+    {
+        put_word(self.packet, self.payload + 2, checksum);
+    }
+}
+
+// Writes a word, the high byte first.
+fn put_word(bytes: &mut [u8], place: usize, word: u16)
+    requires { place + 2 ≤ length bytes.old }
+    ensures { bytes.new ≡ with_word bytes.old place word }
+{
+    let [high, low] = word.to_be_bytes();
+    bytes[place] = high;
+    bytes[place + 1] = low;
+}
+
+// Writes a number of two words, the high one first.
+fn put_number(bytes: &mut [u8], place: usize, number: u32)
+    requires { place + 4 ≤ length bytes.old }
+    ensures { bytes.new ≡ with_number bytes.old place number }
+{
+    put_word(bytes, place, (number / 65536) as u16);
+    put_word(bytes, place + 2, (number % 65536) as u16);
+}

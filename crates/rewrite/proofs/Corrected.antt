@@ -1,0 +1,63 @@
+-- A checksum corrected for the words that changed alone is corrected for all bytes under it.
+use Rattle.std.proofs.Common.{◌≡◌, ℕ, ◌+◌, ◌-◌, ◌%◌, List, [], ◌∷◌, Bool, true, false, refl, sym, ap, ◌∙◌, arith}
+use Rattle.std.specs.Prelude.{◌==◌, ◌||◌, if◌then◌else◌}
+use Rattle.std.proofs.lemmas.Bool.{eqb-true, eq-eqb, and_parts}
+use Rattle.ip_headers.specs.Sum.{words_sum}
+use Rattle.ip_headers.specs.Bytes.{word_at, with_word}
+use Rattle.rewrite.specs.declared.checksum.Words.{Words}
+use Rattle.rewrite.specs.Rewritten.{corrected, or_all_ones, put_right, put_right_if_made, same_bytes}
+use Rattle.rewrite.specs.steps.Fields.{renewed, renewed_if_made}
+
+-- ---- equal bytes
+
+same_bytes-itself : (xs : List ℕ) → same_bytes xs xs ≡ true
+same_bytes-itself [] = refl
+same_bytes-itself (x ∷ xs) = rw (eq-eqb x x refl, same_bytes-itself xs) refl
+
+pub same_bytes-true : (xs ys : List ℕ) → same_bytes xs ys ≡ true → xs ≡ ys
+same_bytes-true [] [] h = refl
+same_bytes-true [] (y ∷ ys) h = cc
+same_bytes-true (x ∷ xs) [] h = cc
+same_bytes-true (x ∷ xs) (y ∷ ys) h =
+    let parts = and_parts _ _ h in
+    let first : x ≡ y = eqb-true x y parts.0 in
+    let others : xs ≡ ys = same_bytes-true xs ys parts.1 in
+    rw (first, others) refl
+
+same_bytes-from : (xs ys : List ℕ) → xs ≡ ys → same_bytes xs ys ≡ true
+same_bytes-from xs ys e = rw e (same_bytes-itself ys)
+
+agree : (b c : Bool) → (b ≡ true → c ≡ true) → (c ≡ true → b ≡ true) → b ≡ c
+agree true c to from = sym (to refl)
+agree false true to from = from refl
+agree false false to from = refl
+
+-- ---- the correction
+
+corrected-by : (checksum before after old new : ℕ) → after + old ≡ before + new → corrected checksum before after ≡ corrected checksum old new
+corrected-by checksum before after old new e = omega (arith, e)
+
+-- what the words that change under a checksum are to the bytes that it is made over
+pub record Covers (words : Words) (before after : List ℕ) : Type 0 where
+  pub same : words.is_same ≡ true → before ≡ after
+  pub other : before ≡ after → words.is_same ≡ true
+  pub sum : words_sum after + words.old ≡ words_sum before + words.new
+
+same_is : (words : Words) (before after : List ℕ) → Covers words before after → same_bytes before after ≡ words.is_same
+same_is words before after c = agree (same_bytes before after) words.is_same (λ h. c.other (same_bytes-true before after h)) (λ h. same_bytes-from before after (c.same h))
+
+chosen : (b : Bool) (bytes : List ℕ) (place checksum x y : ℕ) → with_word bytes place checksum ≡ bytes → x ≡ y → (if b then bytes else with_word bytes place x) ≡ with_word bytes place (if b then checksum else y)
+chosen true bytes place checksum x y kept e = sym kept
+chosen false bytes place checksum x y kept e = ap (λ w. with_word bytes place w) e
+
+pub put_right-is : (over : List ℕ → List ℕ) (place : ℕ) (old now : List ℕ) (words : Words) → Covers words (over old) (over now) → with_word now place (word_at old place) ≡ now
+    → put_right over place old now ≡ with_word now place (renewed words (word_at old place))
+put_right-is over place old now words c kept =
+    rw (same_is words (over old) (over now) c)
+        (chosen words.is_same now place (word_at old place) _ _ kept (corrected-by (word_at old place) (words_sum (over old)) (words_sum (over now)) words.old words.new c.sum))
+
+pub put_right_if_made-is : (over : List ℕ → List ℕ) (place : ℕ) (old now : List ℕ) (words : Words) → Covers words (over old) (over now) → with_word now place (word_at old place) ≡ now
+    → put_right_if_made over place old now ≡ with_word now place (renewed_if_made words (word_at old place))
+put_right_if_made-is over place old now words c kept =
+    rw (same_is words (over old) (over now) c)
+        (chosen (words.is_same || word_at old place == 0) now place (word_at old place) _ _ kept (ap or_all_ones (corrected-by (word_at old place) (words_sum (over old)) (words_sum (over now)) words.old words.new c.sum)))

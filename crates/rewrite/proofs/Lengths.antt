@@ -1,0 +1,98 @@
+-- How long packets are, and that their fields are there.
+use Rattle.std.proofs.Common.{◌≡◌, ℕ, ◌+◌, ◌≤◌, Option, Some, None, List, length, get_or, set, drop, take, length-take, length-drop, Bool, true, false, refl, ap, ◌∙◌, arith}
+use Rattle.std.specs.Prelude.{◌==◌, ◌||◌, nat_le, if◌then◌else◌}
+use Rattle.std.proofs.lemmas.List.{length-set}
+use Rattle.ip_headers.specs.Bytes.{word_at, with_word}
+use Rattle.ip_headers.specs.Header.{header_len, payload_at, payload_of, protocol, protocol_at, total_len}
+use Rattle.ip_headers.specs.Passing.{Passes}
+use Rattle.ip_headers.specs.Transport.{icmp_is_wrong, tcp_is_wrong, transport_is_wrong, udp_is_wrong}
+use Rattle.rewrite.specs.declared.change.Change.{Change}
+use Rattle.rewrite.specs.declared.change.Numbers.{Numbers}
+use Rattle.rewrite.specs.declared.change.Numbers.TheVariants.{Ports, Identifier}
+use Rattle.rewrite.specs.declared.fields.Carried.{Carried}
+use Rattle.rewrite.specs.declared.fields.Carried.TheVariants.{Tcp, Udp, Icmp, Other}
+use Rattle.rewrite.specs.Rewritten.{carried_in, corrected, header_in, if_named, or_all_ones, pseudo_in, put_right, put_right_if_made, replaced, rewritten, right_carried, right_datagram, same_bytes, with_destination, with_numbers, with_ports, with_source, with_ttl}
+use Rattle.rewrite.specs.steps.Fields.{HasFields, carried_of, fields_at, len_of}
+use Rattle.rewrite.proofs.Places.{length-word, length-number}
+
+-- ---- a packet that passes the tests has all fields
+
+tcp_long : (payload : List ℕ) → tcp_is_wrong payload ≡ false → 18 ≤ length payload
+tcp_long payload right = grind (arith, right)
+
+udp_long : (payload : List ℕ) → udp_is_wrong payload ≡ false → 8 ≤ length payload
+udp_long payload right = grind (arith, right)
+
+icmp_long : (payload : List ℕ) → icmp_is_wrong payload ≡ false → 6 ≤ length payload
+icmp_long payload right = grind (arith, right)
+
+abbrev judged : Bool → Bool → Bool → List ℕ → Bool
+judged a b c payload = if a then tcp_is_wrong payload else (if b then udp_is_wrong payload else (if c then icmp_is_wrong payload else false))
+
+abbrev shown : Bool → Bool → Bool → Carried → Carried → Carried → Carried
+shown a b c x y z = if a then x else (if b then y else (if c then z else Other))
+
+enough : (a b c : Bool) (payload : List ℕ) (from to sum one other udp id icmp : ℕ) → judged a b c payload ≡ false → len_of (shown a b c (Tcp from to sum) (Udp one other udp) (Icmp id icmp)) ≤ length payload
+enough true b c payload from to sum one other udp id icmp right = tcp_long payload right
+enough false true c payload from to sum one other udp id icmp right = udp_long payload right
+enough false false true payload from to sum one other udp id icmp right = icmp_long payload right
+enough false false false payload from to sum one other udp id icmp right = omega arith
+
+enough_of : (number : ℕ) (payload rest : List ℕ) → transport_is_wrong number payload ≡ false → len_of (carried_of number rest) ≤ length payload
+enough_of number payload rest right = enough (number == 6) (number == 17) (number == 1) payload (word_at rest 0) (word_at rest 2) (word_at rest 16) (word_at rest 0) (word_at rest 2) (word_at rest 6) (word_at rest 4) (word_at rest 2) right
+
+pub has_fields : (p : List ℕ) → Passes p → HasFields 0 p
+has_fields p ok =
+    let len : length (payload_of p) + header_len p ≤ length p = omega (arith, length-drop (header_len p) (take (total_len p) p), length-take (total_len p) p, ok.head.head, ok.head.whole) in
+    record {
+      long = ok.head.long;
+      whole = omega (arith, len, enough_of (protocol p) (payload_of p) (drop (payload_at 0 p) p) ok.carried);
+    }
+
+-- ---- what is sent on is as long as what came
+
+pub length-named : {A : Type 0} (write : List ℕ → A → List ℕ) (bytes : List ℕ) (o : Option A) → ((x : A) → length (write bytes x) ≡ length bytes) → length (if_named write bytes o) ≡ length bytes
+length-named write bytes None same = refl
+length-named write bytes (Some x) same = same x
+
+length-if : (b : Bool) (xs ys : List ℕ) → length xs ≡ length ys → length (if b then xs else ys) ≡ length ys
+length-if true xs ys e = e
+length-if false xs ys e = refl
+
+length-either : (b : Bool) (xs ys zs : List ℕ) → length xs ≡ length zs → length ys ≡ length zs → length (if b then xs else ys) ≡ length zs
+length-either true xs ys zs e f = e
+length-either false xs ys zs e f = f
+
+length-numbers : (start : ℕ) (bytes : List ℕ) (numbers : Numbers) → length (with_numbers start bytes numbers) ≡ length bytes
+length-numbers start bytes (Ports from to) =
+    let place = payload_at start bytes in
+    length-if _ (with_ports place bytes from to) bytes (length-word (with_word bytes place from) (place + 2) to ∙ length-word bytes place from)
+length-numbers start bytes (Identifier number) = length-if _ _ bytes (length-word bytes (payload_at start bytes + 4) number)
+
+pub length-replaced : (start : ℕ) (p : List ℕ) (change : Change) → length (replaced start p change) ≡ length p
+length-replaced start p change =
+    let from = if_named (with_source start) p change.source in
+    let to = if_named (with_destination start) from change.destination in
+    let timed = if_named (with_ttl start) to change.ttl in
+    length-named (with_numbers start) timed change.numbers (length-numbers start timed)
+    ∙ length-named (with_ttl start) to change.ttl (λ n. length-set to (start + 8) n)
+    ∙ length-named (with_destination start) from change.destination (λ n. length-number from (start + 16) n)
+    ∙ length-named (with_source start) p change.source (λ n. length-number p (start + 12) n)
+
+pub length-put : (over : List ℕ → List ℕ) (place : ℕ) (old now : List ℕ) → length (put_right over place old now) ≡ length now
+length-put over place old now = length-either (same_bytes (over old) (over now)) now _ now refl (length-word now place _)
+
+pub length-put_if_made : (over : List ℕ → List ℕ) (place : ℕ) (old now : List ℕ) → length (put_right_if_made over place old now) ≡ length now
+length-put_if_made over place old now = length-either (same_bytes (over old) (over now) || word_at old place == 0) now _ now refl (length-word now place _)
+
+pub length-carried : (start : ℕ) (old now : List ℕ) → length (right_carried start old now) ≡ length now
+length-carried start old now =
+    length-either _ (put_right (pseudo_in start) (payload_at start old + 16) old now) _ now (length-put (pseudo_in start) (payload_at start old + 16) old now)
+      (length-either (protocol_at start old == 17) (put_right_if_made (pseudo_in start) (payload_at start old + 6) old now) _ now (length-put_if_made (pseudo_in start) (payload_at start old + 6) old now)
+        (length-either (protocol_at start old == 1) (put_right (carried_in start) (payload_at start old + 2) old now) now now (length-put (carried_in start) (payload_at start old + 2) old now) refl))
+
+pub length-rewritten : (p : List ℕ) (change : Change) → length (rewritten p change) ≡ length p
+unfolding rewritten
+length-rewritten p change =
+    let now = replaced 0 p change in
+    length-put (header_in 0) 10 p (right_carried 0 p now) ∙ length-carried 0 p now ∙ length-replaced 0 p change

@@ -1,0 +1,12 @@
+pub mod Sums
+pub mod Places
+pub mod Parts
+pub mod Corrected
+pub mod Covered
+pub mod Whole
+pub mod Lengths
+pub mod Sent
+pub mod Kept
+pub mod Passed
+pub mod Between
+pub mod Weighed

@@ -1,0 +1,119 @@
+-- What is sent on passes the tests that what came did.
+use Rattle.std.proofs.Common.{◌≡◌, ℕ, ◌+◌, ◌*◌, ◌/◌, ◌%◌, ◌<◌, ◌≤◌, inl, inr, ⊎_elim, List, length, get_or, take, drop, length-take, length-drop, Bool, true, false, refl, sym, ap, ◌∙◌, arith}
+use Rattle.std.specs.Prelude.{◌==◌, ◌||◌, nat_lt, not, if◌then◌else◌}
+use Rattle.std.proofs.lemmas.Bool.{ne_eqb, cases_eq}
+use Rattle.std.proofs.lemmas.List.{get_or-take, get_or-drop}
+use Rattle.std.proofs.lemmas.Grind.{common_steps}
+use Rattle.ip_headers.specs.Sum.{words_sum, ones_sum_of}
+use Rattle.ip_headers.specs.Bytes.{word_at, with_word}
+use Rattle.ip_headers.specs.Header.{header, header_len, is_fragment, payload_at, payload_of, protocol, total_len, version}
+use Rattle.ip_headers.specs.Passing.{Passes}
+use Rattle.ip_headers.specs.Transport.{tcp_is_wrong, transport_is_wrong, udp_is_wrong}
+use Rattle.rewrite.specs.declared.change.Change.{Change}
+use Rattle.rewrite.specs.Rewritten.{header_in, replaced, rewritten}
+use Rattle.rewrite.proofs.Sums.{still_ones}
+use Rattle.rewrite.proofs.Places.{byte_apart, word_in, word_of_part}
+use Rattle.rewrite.proofs.Kept.{StandsAt, put_keeps}
+use Rattle.rewrite.proofs.Lengths.{has_fields, length-carried, length-put, length-replaced}
+use Rattle.rewrite.proofs.Whole.{of_tcp}
+use Rattle.rewrite.proofs.Sent.{righted, righted_header, sent, sent_byte, sent_tcp_byte, sent_udp_byte, timed, timed_byte}
+
+-- ---- the sum of the header
+
+header_stands : (p : List ℕ) (change : Change) → Passes p → StandsAt (header_in 0) 10 10 p (righted p change)
+header_stands p change ok =
+    let n = header_len p in
+    let now = righted p change in
+    let long : 20 ≤ n = ok.head.long in
+    let len : length now ≡ length p = length-carried 0 p (replaced 0 p change) ∙ length-replaced 0 p change in
+    let same : (k : ℕ) → k < n → get_or now k 0 ≡ get_or (timed p change) k 0 = λ k lt. righted_header p change k (omega (arith, lt)) in
+    let first : header_len now ≡ n = ap (λ b. b % 16 * 4) (same 0 (omega (arith, long)) ∙ timed_byte p change 0 (omega arith) (inl (omega arith))) in
+    let high : get_or now 10 0 ≡ get_or p 10 0 = same 10 (omega (arith, long)) ∙ timed_byte p change 10 (omega arith) (inl (omega arith)) in
+    let low : get_or now 11 0 ≡ get_or p 11 0 = same 11 (omega (arith, long)) ∙ timed_byte p change 11 (omega arith) (inl (omega arith)) in
+    record {
+      written = λ w.
+          let kept : header_len (with_word now 10 w) ≡ header_len now = ap (λ b. b % 16 * 4) (byte_apart now 10 w 0 (inl (omega arith))) in
+          ap (λ k. take k (with_word now 10 w)) kept ∙ word_in now 0 (header_len now) 10 10 w refl (omega (arith, first, long));
+      word = word_of_part now 0 (header_len now) 10 10 refl (omega (arith, first, long)) ∙ rw (high, low) refl;
+      room = omega (arith, length-take (header_len now) now, first, len, long, ok.head.head, ok.head.whole);
+      even = (refl, refl);
+    }
+
+pub header_keeps : (p : List ℕ) (change : Change) → Passes p → words_sum (header (sent p change)) % 65535 ≡ words_sum (header p) % 65535
+header_keeps p change ok = put_keeps (header_in 0) 10 10 p (righted p change) (header_stands p change ok)
+
+-- ---- the tests of what is carried
+
+tcp_same : (x y : List ℕ) → length x ≡ length y → get_or x 12 0 ≡ get_or y 12 0 → tcp_is_wrong x ≡ tcp_is_wrong y
+tcp_same x y len offset = rw (len, offset) refl
+
+udp_same : (x y : List ℕ) → length x ≡ length y → word_at x 4 ≡ word_at y 4 → udp_is_wrong x ≡ udp_is_wrong y
+udp_same x y len told = rw (len, told) refl
+
+wrong_same : (number : ℕ) (x y : List ℕ) → length x ≡ length y → (number ≡ 6 → get_or x 12 0 ≡ get_or y 12 0) → (number ≡ 17 → word_at x 4 ≡ word_at y 4) → transport_is_wrong number x ≡ transport_is_wrong number y
+wrong_same number x y len tcp udp =
+    ⊎_elim
+      (λ six. rw six (tcp_same x y len (tcp six)))
+      (λ not_six. ⊎_elim
+        (λ seventeen. rw seventeen (udp_same x y len (udp seventeen)))
+        (λ not_seventeen. rw (ne_eqb number 6 not_six, ne_eqb number 17 not_seventeen, len) refl)
+        (cases_eq number 17))
+      (cases_eq number 6)
+
+pub payload_byte : (xs : List ℕ) (h n i : ℕ) → h + i < n → get_or (drop h (take n xs)) i 0 ≡ get_or xs (h + i) 0
+payload_byte xs h n i lt = get_or-drop h (take n xs) i 0 ∙ get_or-take n xs (h + i) 0 lt
+
+payload_len : (xs ys : List ℕ) (h n : ℕ) → length xs ≡ length ys → length (drop h (take n xs)) ≡ length (drop h (take n ys))
+payload_len xs ys h n e = omega (arith, e, length-drop h (take n xs), length-drop h (take n ys), length-take n xs, length-take n ys)
+
+pub tcp_room : (p : List ℕ) → Passes p → protocol p ≡ 6 → payload_at 0 p + 18 ≤ length p
+tcp_room p ok six = rw (of_tcp (protocol p) p (payload_at 0 p) six) at (has_fields p ok).whole
+
+-- bytes 12 of TCP and 4 and 5 of UDP are within
+tcp_long : (payload : List ℕ) → transport_is_wrong 6 payload ≡ false → 20 ≤ length payload
+tcp_long payload right = grind (arith, right)
+
+udp_long : (payload : List ℕ) → transport_is_wrong 17 payload ≡ false → 8 ≤ length payload
+udp_long payload right = grind (arith, right)
+
+pub within : (p : List ℕ) → Passes p → length (payload_of p) + header_len p ≤ total_len p
+within p ok = omega (arith, length-drop (header_len p) (take (total_len p) p), length-take (total_len p) p, ok.head.head, ok.head.whole)
+
+pub length-sent : (p : List ℕ) (change : Change) → length (sent p change) ≡ length p
+length-sent p change = length-put (header_in 0) 10 p (righted p change) ∙ length-carried 0 p (replaced 0 p change) ∙ length-replaced 0 p change
+
+pub sent_passes : (p : List ℕ) (change : Change) → Passes p → Passes (sent p change)
+sent_passes p change ok =
+    let q = sent p change in
+    let h = header_len p in
+    let n = total_len p in
+    let long : 20 ≤ h = ok.head.long in
+    let first : get_or q 0 0 ≡ get_or p 0 0 = sent_byte p change 0 (omega (arith, long)) (inl (omega arith)) (omega arith) (inl (omega arith)) in
+    let second : get_or q 2 0 ≡ get_or p 2 0 = sent_byte p change 2 (omega (arith, long)) (inl (omega arith)) (omega arith) (inl (omega arith)) in
+    let third : get_or q 3 0 ≡ get_or p 3 0 = sent_byte p change 3 (omega (arith, long)) (inl (omega arith)) (omega arith) (inl (omega arith)) in
+    let sixth : get_or q 6 0 ≡ get_or p 6 0 = sent_byte p change 6 (omega (arith, long)) (inl (omega arith)) (omega arith) (inl (omega arith)) in
+    let seventh : get_or q 7 0 ≡ get_or p 7 0 = sent_byte p change 7 (omega (arith, long)) (inl (omega arith)) (omega arith) (inl (omega arith)) in
+    let number : protocol q ≡ protocol p = sent_byte p change 9 (omega (arith, long)) (inl (omega arith)) (omega arith) (inl (omega arith)) in
+    let len : length q ≡ length p = length-sent p change in
+    let head_same : header_len q ≡ h = ap (λ b. b % 16 * 4) first in
+    let total_same : total_len q ≡ n = rw (second, third) refl in
+    let room = within p ok in
+    let tcp : protocol p ≡ 6 → get_or (drop h (take n q)) 12 0 ≡ get_or (drop h (take n p)) 12 0 = λ six.
+        let enough = tcp_long (payload_of p) (rw six at ok.carried) in
+        payload_byte q h n 12 (omega (arith, enough, room)) ∙ sent_tcp_byte p change (h + 12) (omega (arith, long)) six (tcp_room p ok six) (omega arith) (inl (omega arith)) ∙ sym (payload_byte p h n 12 (omega (arith, enough, room))) in
+    let udp : protocol p ≡ 17 → word_at (drop h (take n q)) 4 ≡ word_at (drop h (take n p)) 4 = λ seventeen.
+        let enough = udp_long (payload_of p) (rw seventeen at ok.carried) in
+        let high = payload_byte q h n 4 (omega (arith, enough, room)) ∙ sent_udp_byte p change (h + 4) (omega (arith, long)) seventeen (omega arith) (inl (omega arith)) ∙ sym (payload_byte p h n 4 (omega (arith, enough, room))) in
+        let low = payload_byte q h n 5 (omega (arith, enough, room)) ∙ sent_udp_byte p change (h + 5) (omega (arith, long)) seventeen (omega arith) (inl (omega arith)) ∙ sym (payload_byte p h n 5 (omega (arith, enough, room))) in
+        rw (high, low) refl in
+    record {
+      head = record {
+        long = omega (arith, head_same, long);
+        head = omega (arith, head_same, total_same, ok.head.head);
+        whole = omega (arith, total_same, len, ok.head.whole);
+        four = ap (λ b. b / 16) first ∙ ok.head.four;
+        sum = still_ones (header p) (header q) (header_keeps p change ok) ok.head.sum (rw (get_or-take (header_len q) q 0 0 (omega (arith, head_same, long)), first) (omega (arith, ok.head.four)));
+      };
+      unbroken = rw (sixth, seventh) ok.unbroken;
+      carried = rw (number, head_same, total_same, wrong_same (protocol p) (drop h (take n q)) (drop h (take n p)) (payload_len q p h n len) tcp udp) ok.carried;
+    }

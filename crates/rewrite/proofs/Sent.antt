@@ -1,0 +1,139 @@
+-- What is sent on, byte by byte, whatever the numbers in the list are.
+use Rattle.std.proofs.Common.{◌≡◌, ◌≢◌, ℕ, ◌+◌, ◌*◌, ◌%◌, ◌<◌, ◌≤◌, ◌⊎◌, inl, inr, ⊎_elim, Option, Some, None, List, length, get_or, set, take, drop, Bool, true, false, refl, sym, ap, ◌∙◌, arith}
+use Rattle.std.specs.Prelude.{◌==◌, ◌||◌, nat_le, not, if◌then◌else◌}
+use Rattle.std.proofs.lemmas.Bool.{eq-eqb, ne_eqb, cases_eq}
+use Rattle.std.proofs.lemmas.List.{get_or-set_other, get_or-take, get_or-drop}
+use Rattle.std.proofs.lemmas.Grind.{common_steps}
+use Rattle.ip_headers.specs.Bytes.{word_at, number_at, with_word, with_number}
+use Rattle.ip_headers.specs.Header.{header_len, payload_at, protocol, protocol_at, total_len}
+use Rattle.ip_headers.specs.Passing.{Passes}
+use Rattle.rewrite.specs.declared.change.Change.{Change}
+use Rattle.rewrite.specs.declared.change.Numbers.{Numbers}
+use Rattle.rewrite.specs.declared.change.Numbers.TheVariants.{Ports, Identifier}
+use Rattle.rewrite.specs.Rewritten.{carried_in, corrected, header_in, if_named, or_all_ones, pseudo_in, put_right, put_right_if_made, replaced, right_carried, right_datagram, right_header, same_bytes, with_destination, with_numbers, with_ports, with_source, with_ttl}
+use Rattle.rewrite.proofs.Places.{byte_apart, number_byte_apart}
+use Rattle.rewrite.proofs.Whole.{by_icmp, by_other, by_tcp, by_udp}
+
+-- ---- the stages
+
+-- with another header
+abbrev pub timed : List ℕ → Change → List ℕ
+timed p change = if_named (with_ttl 0) (if_named (with_destination 0) (if_named (with_source 0) p change.source) change.destination) change.ttl
+
+-- ---- bytes that a stage leaves
+
+pub named_byte : {A : Type 0} (write : List ℕ → A → List ℕ) (bytes : List ℕ) (o : Option A) (k : ℕ) → ((x : A) → get_or (write bytes x) k 0 ≡ get_or bytes k 0) → get_or (if_named write bytes o) k 0 ≡ get_or bytes k 0
+named_byte write bytes None k same = refl
+named_byte write bytes (Some x) k same = same x
+
+either_byte : (b : Bool) (xs ys zs : List ℕ) (k : ℕ) → get_or xs k 0 ≡ get_or zs k 0 → get_or ys k 0 ≡ get_or zs k 0 → get_or (if b then xs else ys) k 0 ≡ get_or zs k 0
+either_byte true xs ys zs k e f = e
+either_byte false xs ys zs k e f = f
+
+pub timed_byte : (p : List ℕ) (change : Change) (k : ℕ) → k ≢ 8 → (k < 12) ⊎ (19 < k) → get_or (timed p change) k 0 ≡ get_or p k 0
+timed_byte p change k other past =
+    let from = if_named (with_source 0) p change.source in
+    let to = if_named (with_destination 0) from change.destination in
+    named_byte (with_ttl 0) to change.ttl k (λ n. get_or-set_other to 8 k n 0 other)
+    ∙ named_byte (with_destination 0) from change.destination k (λ n. number_byte_apart from 16 n k (grind arith))
+    ∙ named_byte (with_source 0) p change.source k (λ n. number_byte_apart p 12 n k (grind arith))
+
+pub put_byte : (over : List ℕ → List ℕ) (place : ℕ) (old now : List ℕ) (k : ℕ) → (k < place) ⊎ (place + 1 < k) → get_or (put_right over place old now) k 0 ≡ get_or now k 0
+put_byte over place old now k apart = either_byte (same_bytes (over old) (over now)) now _ now k refl (byte_apart now place _ k apart)
+
+pub put_if_made_byte : (over : List ℕ → List ℕ) (place : ℕ) (old now : List ℕ) (k : ℕ) → (k < place) ⊎ (place + 1 < k) → get_or (put_right_if_made over place old now) k 0 ≡ get_or now k 0
+put_if_made_byte over place old now k apart = either_byte (same_bytes (over old) (over now) || word_at old place == 0) now _ now k refl (byte_apart now place _ k apart)
+
+-- the numbers of what is carried stand behind the header
+pub numbers_byte : (bytes : List ℕ) (numbers : Numbers) (k : ℕ) → k < payload_at 0 bytes → get_or (with_numbers 0 bytes numbers) k 0 ≡ get_or bytes k 0
+numbers_byte bytes (Ports from to) k lt =
+    let place = payload_at 0 bytes in
+    either_byte _ (with_ports place bytes from to) bytes bytes k (byte_apart (with_word bytes place from) (place + 2) to k (inl (omega (arith, lt))) ∙ byte_apart bytes place from k (inl lt)) refl
+numbers_byte bytes (Identifier number) k lt = either_byte _ _ bytes bytes k (byte_apart bytes (payload_at 0 bytes + 4) number k (inl (omega (arith, lt)))) refl
+
+carried_byte : (old now : List ℕ) (k : ℕ) → k < payload_at 0 old → get_or (right_carried 0 old now) k 0 ≡ get_or now k 0
+carried_byte old now k lt =
+    let place = payload_at 0 old in
+    either_byte _ (put_right (pseudo_in 0) (place + 16) old now) _ now k (put_byte (pseudo_in 0) (place + 16) old now k (inl (omega (arith, lt))))
+      (either_byte (protocol_at 0 old == 17) (put_right_if_made (pseudo_in 0) (place + 6) old now) _ now k (put_if_made_byte (pseudo_in 0) (place + 6) old now k (inl (omega (arith, lt))))
+        (either_byte (protocol_at 0 old == 1) (put_right (carried_in 0) (place + 2) old now) now now k (put_byte (carried_in 0) (place + 2) old now k (inl (omega (arith, lt)))) refl))
+
+-- ---- the header: its bytes but its checksum's are those of the datagram with another header
+
+pub timed_payload : (p : List ℕ) (change : Change) → payload_at 0 (timed p change) ≡ payload_at 0 p
+timed_payload p change = ap (λ b. 0 + b % 16 * 4) (timed_byte p change 0 (omega arith) (inl (omega arith)))
+
+pub timed_protocol : (p : List ℕ) (change : Change) → protocol_at 0 (timed p change) ≡ protocol_at 0 p
+timed_protocol p change = timed_byte p change 9 (omega arith) (inl (omega arith))
+
+abbrev pub sent : List ℕ → Change → List ℕ
+sent p change = right_datagram 0 p (replaced 0 p change)
+
+-- before the header's checksum is put right
+abbrev pub righted : List ℕ → Change → List ℕ
+righted p change = right_carried 0 p (replaced 0 p change)
+
+pub righted_header : (p : List ℕ) (change : Change) (k : ℕ) → k < payload_at 0 p → get_or (righted p change) k 0 ≡ get_or (timed p change) k 0
+righted_header p change k lt =
+    let t = timed p change in
+    carried_byte p (replaced 0 p change) k lt
+    ∙ named_byte (with_numbers 0) t change.numbers k (λ n. numbers_byte t n k (rw (timed_payload p change) lt))
+
+pub sent_header : (p : List ℕ) (change : Change) (k : ℕ) → k < payload_at 0 p → (k < 10) ⊎ (11 < k) → get_or (sent p change) k 0 ≡ get_or (timed p change) k 0
+sent_header p change k lt apart =
+    put_byte (header_in 0) 10 p (righted p change) k apart ∙ righted_header p change k lt
+
+pub sent_byte : (p : List ℕ) (change : Change) (k : ℕ) → k < payload_at 0 p → (k < 10) ⊎ (11 < k) → k ≢ 8 → (k < 12) ⊎ (19 < k) → get_or (sent p change) k 0 ≡ get_or p k 0
+sent_byte p change k lt apart other past = sent_header p change k lt apart ∙ timed_byte p change k other past
+
+-- ---- what is carried, by the protocol
+
+pub sent_tcp : (p : List ℕ) (change : Change) (k : ℕ) → 12 ≤ payload_at 0 p → protocol_at 0 p ≡ 6 → payload_at 0 p + 18 ≤ length p → payload_at 0 p ≤ k → (k < payload_at 0 p + 16) ⊎ (payload_at 0 p + 17 < k) → get_or (sent p change) k 0 ≡ get_or (replaced 0 p change) k 0
+sent_tcp p change k long is room past apart =
+    let r = replaced 0 p change in
+    put_byte (header_in 0) 10 p (right_carried 0 p r) k (inr (omega (arith, long, past)))
+    ∙ ap (λ l. get_or l k 0) (by_tcp 0 p r is room) ∙ put_byte (pseudo_in 0) (payload_at 0 p + 16) p r k (grind arith)
+
+pub sent_udp : (p : List ℕ) (change : Change) (k : ℕ) → 12 ≤ payload_at 0 p → protocol_at 0 p ≡ 17 → payload_at 0 p ≤ k → (k < payload_at 0 p + 6) ⊎ (payload_at 0 p + 7 < k) → get_or (sent p change) k 0 ≡ get_or (replaced 0 p change) k 0
+sent_udp p change k long is past apart =
+    let r = replaced 0 p change in
+    put_byte (header_in 0) 10 p (right_carried 0 p r) k (inr (omega (arith, long, past)))
+    ∙ ap (λ l. get_or l k 0) (by_udp 0 p r is) ∙ put_if_made_byte (pseudo_in 0) (payload_at 0 p + 6) p r k (grind arith)
+
+pub sent_icmp : (p : List ℕ) (change : Change) (k : ℕ) → 12 ≤ payload_at 0 p → protocol_at 0 p ≡ 1 → payload_at 0 p ≤ k → (k < payload_at 0 p + 2) ⊎ (payload_at 0 p + 3 < k) → get_or (sent p change) k 0 ≡ get_or (replaced 0 p change) k 0
+sent_icmp p change k long is past apart =
+    let r = replaced 0 p change in
+    put_byte (header_in 0) 10 p (right_carried 0 p r) k (inr (omega (arith, long, past)))
+    ∙ ap (λ l. get_or l k 0) (by_icmp 0 p r is) ∙ put_byte (carried_in 0) (payload_at 0 p + 2) p r k (grind arith)
+
+-- the numbers written, by the protocol
+pub ports_byte : (t : List ℕ) (numbers : Option Numbers) (number place k : ℕ) → protocol_at 0 t ≡ number → payload_at 0 t ≡ place → (number == 1) ≡ false → place + 4 ≤ k → get_or (if_named (with_numbers 0) t numbers) k 0 ≡ get_or t k 0
+ports_byte t None number place k is here none past = refl
+ports_byte t (Some (Ports from to)) number place k is here none past =
+    either_byte _ (with_ports (payload_at 0 t) t from to) t t k (byte_apart (with_word t (payload_at 0 t) from) (payload_at 0 t + 2) to k (inr (omega (arith, here, past))) ∙ byte_apart t (payload_at 0 t) from k (inr (omega (arith, here, past)))) refl
+ports_byte t (Some (Identifier other)) number place k is here none past = rw (is, none) refl
+
+pub icmp_byte : (t : List ℕ) (numbers : Option Numbers) (number place k : ℕ) → protocol_at 0 t ≡ number → payload_at 0 t ≡ place → (number == 6 || number == 17) ≡ false → k < place + 4 → get_or (if_named (with_numbers 0) t numbers) k 0 ≡ get_or t k 0
+icmp_byte t None number place k is here none before = refl
+icmp_byte t (Some (Ports from to)) number place k is here none before = rw (is, none) refl
+icmp_byte t (Some (Identifier other)) number place k is here none before =
+    either_byte _ _ t t k (byte_apart t (payload_at 0 t + 4) other k (inl (omega (arith, here, before)))) refl
+
+pub sent_tcp_byte : (p : List ℕ) (change : Change) (k : ℕ) → 20 ≤ payload_at 0 p → protocol_at 0 p ≡ 6 → payload_at 0 p + 18 ≤ length p → payload_at 0 p + 4 ≤ k → (k < payload_at 0 p + 16) ⊎ (payload_at 0 p + 17 < k) → get_or (sent p change) k 0 ≡ get_or p k 0
+sent_tcp_byte p change k long is room past apart =
+    sent_tcp p change k (omega (arith, long)) is room (omega (arith, past)) apart
+    ∙ ports_byte (timed p change) change.numbers 6 (payload_at 0 p) k (timed_protocol p change ∙ is) (timed_payload p change) refl past
+    ∙ timed_byte p change k (omega (arith, long, past)) (inr (omega (arith, long, past)))
+
+pub sent_udp_byte : (p : List ℕ) (change : Change) (k : ℕ) → 20 ≤ payload_at 0 p → protocol_at 0 p ≡ 17 → payload_at 0 p + 4 ≤ k → (k < payload_at 0 p + 6) ⊎ (payload_at 0 p + 7 < k) → get_or (sent p change) k 0 ≡ get_or p k 0
+sent_udp_byte p change k long is past apart =
+    sent_udp p change k (omega (arith, long)) is (omega (arith, past)) apart
+    ∙ ports_byte (timed p change) change.numbers 17 (payload_at 0 p) k (timed_protocol p change ∙ is) (timed_payload p change) refl past
+    ∙ timed_byte p change k (omega (arith, long, past)) (inr (omega (arith, long, past)))
+
+-- type and code
+pub sent_icmp_byte : (p : List ℕ) (change : Change) (k : ℕ) → 20 ≤ payload_at 0 p → protocol_at 0 p ≡ 1 → payload_at 0 p ≤ k → k < payload_at 0 p + 2 → get_or (sent p change) k 0 ≡ get_or p k 0
+sent_icmp_byte p change k long is past before =
+    sent_icmp p change k (omega (arith, long)) is past (inl before)
+    ∙ icmp_byte (timed p change) change.numbers 1 (payload_at 0 p) k (timed_protocol p change ∙ is) (timed_payload p change) refl (omega (arith, before))
+    ∙ timed_byte p change k (omega (arith, long, past)) (inr (omega (arith, long, past)))

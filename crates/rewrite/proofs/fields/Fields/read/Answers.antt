@@ -1,0 +1,41 @@
+use Rattle.std.proofs.Common.{◌≡◌, ◌+◌, ◌-◌, ◌*◌, ◌%◌, ◌≤◌, ℕ, List, take, drop, length, get_or, refl, ap, ◌∙◌, arith}
+use Rattle.std.proofs.lemmas.List.{get_or-drop}
+use Rattle.std.proofs.lemmas.Grind.{common_steps}
+use Rattle.byteorder.specs.Endian.{big_number}
+use Rattle.ip_headers.specs.Bytes.{number_at, word_at}
+use Rattle.ip_headers.specs.Header.{payload_at, protocol_at, header_len}
+use Rattle.rewrite.specs.declared.fields.Fields.{Fields}
+use Rattle.rewrite.specs.declared.fields.Carried.{Carried}
+use Rattle.rewrite.specs.steps.Fields.{carried_of, fields_at, len_of}
+use Rattle.rewrite.proofs.fields.Fields.read.Goals as goal
+
+number_read : (bytes : List ℕ) (i number : ℕ) → i + 4 ≤ length bytes → number ≡ big_number 4 (take (length bytes - i) (drop i bytes)) → number ≡ number_at bytes i
+number_read bytes i number whole read = grind (arith, common_steps, read)
+
+word_read : (bytes : List ℕ) (i word : ℕ) → i + 2 ≤ length bytes → word ≡ big_number 2 (take (length bytes - i) (drop i bytes)) → word ≡ word_at bytes i
+word_read bytes i word whole read = grind (arith, common_steps, read)
+
+rest_is : (bytes : List ℕ) (i : ℕ) → take (length bytes - i) (drop i bytes) ≡ drop i bytes
+rest_is bytes i = grind (arith, common_steps)
+
+abbrev made : ℕ → ℕ → ℕ → ℕ → Carried → Fields
+made from to left sum what = record { source = from; destination = to; ttl = left; checksum = sum; carried = what }
+
+made_by : (a b c d : ℕ) (x : Carried) (a' b' d' : ℕ) (x' : Carried) → a ≡ a' → b ≡ b' → d ≡ d' → x ≡ x' → made a b c d x ≡ made a' b' c d' x'
+made_by a b c d x a' b' d' x' p q r s = rw (p, q, r, s) refl
+
+pub returns-clause-fields : goal.returns-clause-fields
+returns-clause-fields c =
+    let p = c.args.packet.now in
+    let start = c.args.start in
+    let long : start + 20 ≤ length p = omega (arith, c.requires.long, c.requires.whole) in
+    let first : get_or (drop start p) 0 0 ≡ get_or p start 0 = grind (arith, common_steps) in
+    let ninth : get_or (drop start p) 9 0 ≡ get_or p (start + 9) 0 = get_or-drop start p 9 0 in
+    made_by _ _ _ _ _ _ _ _ _
+        (number_read p (start + 12) c.read_u32.result (omega (arith, long)) c.read_u32.ensures)
+        (number_read p (start + 16) c.read_u32-2.result (omega (arith, long)) c.read_u32-2.ensures)
+        (word_read p (start + 10) c.read_u16.result (omega (arith, long)) c.read_u16.ensures)
+        (rw (ninth, first) (c.read.ensures ∙ ap (λ l. carried_of (get_or p (start + 9) 0) l) (rest_is p (start + get_or p start 0 % 16 * 4))))
+
+pub returns-clause-bytes : goal.returns-clause-bytes
+returns-clause-bytes c = λ i. omega (arith, c.type_inv.packet i)

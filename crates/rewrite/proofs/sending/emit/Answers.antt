@@ -1,0 +1,49 @@
+use Rattle.std.proofs.Common.{◌≡◌, ℕ, ◌-◌, List, [], ◌++◌, length, take, drop, sym, ap, subst, ◌∙◌, arith}
+use Rattle.std.proofs.lemmas.Grind.{common_steps}
+use Rattle.std.proofs.lemmas.List.{take_at}
+use borrow.Rule.Slice.PartMut.{post_of}
+use Rattle.rewrite.specs.Rewritten.{replaced, rewritten, right_datagram}
+use Rattle.rewrite.specs.steps.Fields.{HasFields}
+use Rattle.rewrite.proofs.Lengths.{has_fields, length-rewritten}
+use Rattle.rewrite.proofs.sending.emit.Goals as goal
+
+patched : (old packet d new items : List ℕ) (n s k : ℕ) → d ≡ old ++ packet → s ≡ length old → length new ≡ length packet → n ≡ length d → take n (take s d ++ (new ++ post_of s (length d - s) d) ++ drop k items) ≡ old ++ new
+patched old packet d new items n s k is start same len =
+    let front : take s d ≡ old = grind (arith, common_steps) in
+    let back : post_of s (length d - s) d ≡ [] = grind (arith, common_steps) in
+    let whole : length (old ++ new) ≡ n = grind (arith, common_steps) in
+    rw (front, back) (grind (arith, common_steps, take_at (old ++ new) (drop k items) n whole))
+
+-- what the function gets of a vector that was extended
+lent : (old packet d : List ℕ) (s : ℕ) → d ≡ old ++ packet → s ≡ length old → take (length d - s) (drop s d) ≡ packet
+lent old packet d s is start = grind (arith, common_steps)
+
+pub rewrite-requires : goal.rewrite-requires
+rewrite-requires c =
+    let old = c.args.out.now.items in
+    let packet = c.args.view.now.packet.now in
+    let d = c.deref_mut.result.now in
+    let s = c.len-before.result in
+    let is : d ≡ old ++ packet = grind (arith, common_steps) in
+    let start : s ≡ length old = omega arith in
+    subst (λ l. HasFields 0 l) (sym (lent old packet d s is start)) (has_fields packet (c.no_fault.ensures.passes packet c.args.view.now.whole))
+
+pub returns-clause-ok : goal.returns-clause-ok
+unfolding rewritten
+returns-clause-ok c =
+    let old = c.args.out.now.items in
+    let packet = c.args.view.now.packet.now in
+    let change = c.args.change.now in
+    let d = c.deref_mut.result.now in
+    let s = c.len-before.result in
+    let is : d ≡ old ++ packet = grind (arith, common_steps) in
+    let start : s ≡ length old = omega arith in
+    let part : take (length d - s) (drop s d) ≡ packet = lent old packet d s is start in
+    let same : length c.rewrite.new.packet ≡ length packet = grind (arith, part) in
+    patched old packet d c.rewrite.new.packet c.extend_from_slice.new.self.items _ s _ is start same (omega (arith, c.deref_mut.ensures.len)) ∙ ap (λ l. old ++ l) (c.rewrite.ensures ∙ ap (λ l. right_datagram 0 l (replaced 0 l change)) part)
+
+pub returns-in_err-extend_from_slice-clause-same_length : goal.returns-in_err-extend_from_slice-clause-same_length
+returns-in_err-extend_from_slice-clause-same_length c = length-rewritten c.args.view.now.packet.now c.args.change.now
+
+pub returns-clause-same_length : goal.returns-clause-same_length
+returns-clause-same_length c = length-rewritten c.args.view.now.packet.now c.args.change.now

@@ -1,0 +1,3 @@
+pub mod Rewritten
+pub mod Ends
+pub mod steps

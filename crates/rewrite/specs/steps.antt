@@ -1,0 +1,2 @@
+-- What private functions read on the way: nothing that a public contract cites.
+pub mod Fields

@@ -1,0 +1,188 @@
+//! The fields of a datagram that a change may replace.
+ghost use Rattle.std.specs.Prelude.{◌≡◌, ◌+◌, ◌<◌, ◌≤◌, ℕ, drop, length, slice_index};
+ghost use Rattle.ip_headers.specs.Header.{payload_at, header_len};
+ghost use Rattle.rewrite.specs.steps.Fields.{address_change, carried_of, changed_carried, changed_fields, fields_at, identifier_named, len_of, port_change, ports_named, ttl_change, with_fields, HasFields};
+
+use crate::change::{Change, Numbers};
+use crate::checksum::Words;
+use byteorder::{BigEndian, ByteOrder};
+use ip_headers::PartsMut;
+
+/// The fields of a datagram that a change may replace, and the checksums over them.
+#[derive(Clone, Copy)]
+pub(crate) struct Fields {
+    pub source: u32,
+    pub destination: u32,
+    pub ttl: u8,
+    /// The header's checksum.
+    pub checksum: u16,
+    pub carried: Carried,
+}
+
+/// Those of what a datagram carries.
+#[derive(Clone, Copy)]
+pub(crate) enum Carried {
+    Tcp { from: u16, to: u16, checksum: u16 },
+    Udp { from: u16, to: u16, checksum: u16 },
+    Icmp { identifier: u16, checksum: u16 },
+    Other,
+}
+
+impl Fields {
+    /// Those of the datagram that begins at a place.
+    pub(crate) fn read(packet: &[u8], start: usize) -> Fields
+        requires { HasFields start packet.now }
+        ensures fields { result ≡ fields_at start packet.now }
+        ensures bytes { (i : ℕ) → slice_index packet.now i < 256 }
+    {
+        // IHL counts words of four bytes.
+        let payload = start + (packet[start] % 16) as usize * 4;
+        Fields {
+            source: BigEndian::read_u32(&packet[start + 12..]),
+            destination: BigEndian::read_u32(&packet[start + 16..]),
+            ttl: packet[start + 8],
+            checksum: BigEndian::read_u16(&packet[start + 10..]),
+            carried: Carried::read(packet[start + 9], &packet[payload..]),
+        }
+    }
+
+    /// As they are sent on: replaced where a value is named, the checksums corrected.
+    pub(crate) fn changed(&self, change: &Change) -> Fields
+        ensures { result ≡ changed_fields change.now self.now }
+    {
+        let source = change.source.unwrap_or(self.source);
+        let destination = change.destination.unwrap_or(self.destination);
+        let ttl = change.ttl.unwrap_or(self.ttl);
+        let addresses =
+            Words::number(self.source, source).and(Words::number(self.destination, destination));
+        // The TTL is the high byte of its word.
+        let header = Words::word(self.ttl as u16 * 256, ttl as u16 * 256).and(addresses);
+        Fields {
+            source,
+            destination,
+            ttl,
+            checksum: header.renew(self.checksum),
+            carried: self.carried.changed(change.numbers, addresses),
+        }
+    }
+
+    /// Writes them into the datagram that begins at a place.
+    pub(crate) fn write(&self, packet: &mut [u8], start: usize)
+        requires long { 20 ≤ header_len (drop start packet.old) }
+        requires whole { payload_at start packet.old + len_of self.now.carried ≤ length packet.old }
+        ensures { packet.new ≡ with_fields start packet.old self.now }
+    {
+        let mut parts = PartsMut::new(packet, start);
+        parts.set_source(self.source);
+        parts.set_destination(self.destination);
+        parts.set_ttl(self.ttl);
+        match self.carried {
+            Carried::Tcp { from, to, checksum } => {
+                parts.set_source_port(from);
+                parts.set_destination_port(to);
+                parts.set_tcp_checksum(checksum);
+            }
+            Carried::Udp { from, to, checksum } => {
+                parts.set_source_port(from);
+                parts.set_destination_port(to);
+                parts.set_udp_checksum(checksum);
+            }
+            Carried::Icmp { identifier, checksum } => {
+                parts.set_identifier(identifier);
+                parts.set_icmp_checksum(checksum);
+            }
+            Carried::Other => {}
+        }
+        parts.set_header_checksum(self.checksum);
+    }
+}
+
+impl Carried {
+    /// Those of a payload of the protocol with this number.
+    fn read(protocol: u8, payload: &[u8]) -> Carried
+        requires { len_of (carried_of protocol payload.now) ≤ length payload.now }
+        ensures { result ≡ carried_of protocol payload.now }
+    {
+        match protocol {
+            6 => Carried::Tcp {
+                from: BigEndian::read_u16(payload),
+                to: BigEndian::read_u16(&payload[2..]),
+                checksum: BigEndian::read_u16(&payload[16..]),
+            },
+            17 => Carried::Udp {
+                from: BigEndian::read_u16(payload),
+                to: BigEndian::read_u16(&payload[2..]),
+                checksum: BigEndian::read_u16(&payload[6..]),
+            },
+            1 => Carried::Icmp {
+                identifier: BigEndian::read_u16(&payload[4..]),
+                checksum: BigEndian::read_u16(&payload[2..]),
+            },
+            _ => Carried::Other,
+        }
+    }
+
+    /// As they are sent on, where the words of the addresses change so: TCP and UDP sum the addresses
+    /// too, in the pseudo header.
+    fn changed(&self, numbers: Option<Numbers>, addresses: Words) -> Carried
+        requires old { addresses.old ≤ 262140 }
+        requires new { addresses.new ≤ 262140 }
+        ensures { result ≡ changed_carried numbers addresses self.now }
+    {
+        match *self {
+            Carried::Tcp { from, to, checksum } => {
+                let ports = named_ports(numbers, from, to);
+                let words = addresses.and(port_words((from, to), ports));
+                Carried::Tcp {
+                    from: ports.0,
+                    to: ports.1,
+                    checksum: words.renew(checksum),
+                }
+            }
+            Carried::Udp { from, to, checksum } => {
+                let ports = named_ports(numbers, from, to);
+                let words = addresses.and(port_words((from, to), ports));
+                Carried::Udp {
+                    from: ports.0,
+                    to: ports.1,
+                    checksum: words.renew_if_made(checksum),
+                }
+            }
+            Carried::Icmp { identifier, checksum } => {
+                let other = named_identifier(numbers, identifier);
+                Carried::Icmp {
+                    identifier: other,
+                    checksum: Words::word(identifier, other).renew(checksum),
+                }
+            }
+            Carried::Other => Carried::Other,
+        }
+    }
+}
+
+/// The ports that are named, or else these.
+fn named_ports(numbers: Option<Numbers>, from: u16, to: u16) -> (u16, u16)
+    ensures { result ≡ ports_named numbers from to }
+{
+    match numbers {
+        Some(Numbers::Ports(one, other)) => (one, other),
+        _ => (from, to),
+    }
+}
+
+/// The identifier that is named, or else this one.
+fn named_identifier(numbers: Option<Numbers>, identifier: u16) -> u16
+    ensures { result ≡ identifier_named numbers identifier }
+{
+    match numbers {
+        Some(Numbers::Identifier(other)) => other,
+        _ => identifier,
+    }
+}
+
+/// The words of two ports.
+fn port_words(old: (u16, u16), new: (u16, u16)) -> Words
+    ensures { result ≡ port_change old new }
+{
+    Words::word(old.0, new.0).and(Words::word(old.1, new.1))
+}
