@@ -8,4 +8,6 @@ mod kinds;
 #[cfg(test)]
 mod lines;
 #[cfg(test)]
+mod sizes;
+#[cfg(test)]
 mod stops;
