@@ -158,6 +158,7 @@ tables_more plant all rest others t now new code is pushed stands so = record {
 
 pub tables_all : (plant : PlantTree) (all rest : List TableTree) (codes : List TableCode) → rest ≡ [] → TablesSoFar plant all rest codes → AreTableCodes plant all codes
 tables_all plant all rest codes none so = record {
+  as_many = so.count ∙ ap length (sym (so.split ∙ ap (λ xs. so.front ++ xs) none ∙ append-nil so.front));
   each = λ i t has.
       let whole : all ≡ so.front = so.split ∙ ap (λ xs. so.front ++ xs) none ∙ append-nil so.front in
       so.made i t (subst (λ xs. i < length xs) whole (slice_get_within all i t has)) has;
