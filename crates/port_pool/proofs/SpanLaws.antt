@@ -1,5 +1,5 @@
 -- What suits a number, as one stretch.
-use Rattle.std.proofs.Common.{◌≡◌, ℕ, ◌+◌, ◌-◌, ◌%◌, ◌<◌, ◌≤◌, max, min, Bool, true, false, ◌&&◌, not, cond, List, [], ◌∷◌, Option, Some, None, refl, sym, ap, ◌∙◌, ⊎_elim, arith, get_or, w64, ◌^◌, ◌/◌}
+use Rattle.std.proofs.Common.{◌≡◌, ℕ, ◌+◌, ◌-◌, ◌%◌, ◌<◌, ◌≤◌, max, min, Bool, true, false, ◌&&◌, not, cond, List, [], Option, Some, None, refl, sym, ap, ◌∙◌, ⊎_elim, arith, get_or, w64, ◌^◌, ◌/◌}
 use Rattle.std.specs.Prelude.{◌==◌, nat_le, nat_lt, if◌then◌else◌}
 use Rattle.std.specs.Int.{bit_at, bit_not}
 use Rattle.std.specs.List.{filter, find}

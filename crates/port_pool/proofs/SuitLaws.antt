@@ -1,7 +1,7 @@
 -- Which ports are candidates.
 use Rattle.std.specs.Prelude.{filter, nat_le, nat_lt, ◌%◌, ◌==◌}
 use Rattle.std.proofs.Common.{◌≡◌, ℕ, ◌+◌, ◌-◌, ◌<◌, ◌≤◌, length, get_or, Bool, true, false, not, cond, List, [], ◌∷◌, Option, None, ◌⊎◌, inl, inr, refl, sym, subst, ◌∙◌, ⊎_elim, arith}
-use Rattle.std.specs.List.{All, Contains, find, range_with_len}
+use Rattle.std.specs.List.{Contains, find, range_with_len}
 use Rattle.std.proofs.lemmas.Bool.{and_parts, eqb-true, cases_Bool, both_ways, cond-true, cond-false, lt-ltb, le-leb}
 use Rattle.std.proofs.lemmas.Bool.{cases_lt}
 use Rattle.std.proofs.lemmas.Bool.Decides.{nat_tests}

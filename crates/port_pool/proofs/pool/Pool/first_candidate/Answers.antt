@@ -1,10 +1,9 @@
-use Rattle.std.proofs.Common.{◌≡◌, ℕ, refl, ◌∙◌, sym, ap, subst, Bool, true, false, ◌&&◌, not, [], ◌∷◌, Option}
+use Rattle.std.proofs.Common.{◌≡◌, ℕ, refl, ◌∙◌, sym, subst, Bool, true, false, ◌&&◌, not, [], ◌∷◌, Option}
 use Rattle.std.specs.Prelude.{◌==◌}
 use Rattle.std.specs.Bool.{then_some}
 use Rattle.std.specs.List.{find}
 use Rattle.port_pool.specs.declared.range.Range.{Range}
 use Rattle.port_pool.specs.declared.pool.Numbers.{Numbers}
-use Rattle.port_pool.specs.declared.pool.Numbers.TheVariants.{Ports, Identifiers, Zero}
 use Rattle.port_pool.specs.steps.Bits.{bit}
 use Rattle.port_pool.specs.steps.Spans.{members}
 use Rattle.port_pool.specs.Taken.{is_taken, order_of, order_in, taken_in}
