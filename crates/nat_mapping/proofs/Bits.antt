@@ -1,7 +1,7 @@
 -- One port of one pool.
 use Rattle.std.specs.Prelude.{◌==◌, ◌&&◌, if◌then◌else◌}
-use Rattle.std.proofs.Common.{◌≡◌, ℕ, Some, None, cond, Bool, true, false, is_some, refl, sym, ◌∙◌, ap, subst, Option, inl, inr}
-use Rattle.std.proofs.lemmas.Bool.{cond-true, cond-false, and_from, eq-eqb}
+use Rattle.std.proofs.Common.{◌≡◌, ℕ, Some, None, cond, Bool, true, false, is_some, refl, sym, ◌∙◌, ap, Option, inl, inr}
+use Rattle.std.proofs.lemmas.Bool.{cond-true, and_from, eq-eqb}
 use Rattle.std.proofs.lemmas.Option.{none-some, same_Some}
 use Rattle.port_pool.specs.declared.order.Order.{Order}
 use Rattle.port_pool.specs.declared.pool.Pool.{Pool}

@@ -1,11 +1,11 @@
 -- How many pools there are.
 use Rattle.std.specs.Prelude.{map, ◌||◌}
-use Rattle.std.proofs.Common.{◌≡◌, ℕ, ◌+◌, ◌≤◌, Bool, true, false, cond, is_some, List, [], ◌∷◌, Option, Some, None, suc, length, refl, sym, ◌∙◌, ap, inl, inr, arith}
+use Rattle.std.proofs.Common.{◌≡◌, ◌≤◌, Bool, true, is_some, List, [], ◌∷◌, Option, Some, None, suc, length, refl, sym, ◌∙◌, ap, inl, inr, arith}
 use Rattle.std.specs.Cmp.{IsEquivalence}
 use Rattle.std.specs.HashMap.{get, hash_map_len}
 use Rattle.std.specs.List.{Contains, list_any}
 use Rattle.std.specs.Map.{keys_of}
-use Rattle.std.specs.Set.{distinct_count, is_member, unique_keys}
+use Rattle.std.specs.Set.{is_member, unique_keys}
 use Rattle.std.proofs.lemmas.Bool.{cases_Bool, cond-true, cond-false, or_left, or_right, or_cases}
 use Rattle.std.proofs.lemmas.Map.Made.{length-le_from_is_member, is_some-lookup}
 use Rattle.std.proofs.lemmas.Map.Entries.{length-keys_of}
@@ -15,7 +15,7 @@ use Rattle.nat_mapping.specs.declared.keys.PoolKey.{PoolKey}
 use Rattle.nat_mapping.specs.declared.pools.Pools.{Pools}
 use Rattle.nat_mapping.specs.Mappings.{same_place, places_of}
 use Rattle.nat_mapping.specs.steps.Keys.{pool_key_of, same_pool}
-use Rattle.nat_mapping.specs.steps.Kept.{held_by, Sources, Inbounds, IsKept}
+use Rattle.nat_mapping.specs.steps.Kept.{Sources, Inbounds, IsKept}
 use Rattle.nat_mapping.specs.steps.Kept.{Counts}
 use Rattle.nat_mapping.specs.steps.Keys.{same_source, inbound_at, source_at}
 use Rattle.nat_mapping.specs.steps.Ports.{order_by}

@@ -38,8 +38,11 @@ has_pool (Other number) = false
 
 -- the mapping that is held under a key
 abbrev pub mapping_at : SourceKey → Holding → Mapping
-mapping_at key holding =
-    record { kind = key.kind; internal = key.internal; external = record { address = key.address; port = holding.port } }
+mapping_at key holding = record {
+  kind = key.kind;
+  internal = key.internal;
+  external = record { address = key.address; port = holding.port };
+}
 
 -- where an external endpoint of a pool is found
 abbrev pub inbound_at : PoolKey → ℕ → InboundKey

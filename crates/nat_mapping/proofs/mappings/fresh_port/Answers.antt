@@ -1,4 +1,4 @@
-use Rattle.std.proofs.Common.{◌≡◌, ℕ, Bool, true, false, not, is_some, Option, None, Some, sym, ◌∙◌, ap, refl}
+use Rattle.std.proofs.Common.{◌≡◌, ℕ, Bool, true, false, not, is_some, Option, None, Some, sym, ◌∙◌, ap}
 use Rattle.std.specs.HashMap.{get}
 use Rattle.std.specs.List.{find}
 use Rattle.std.proofs.lemmas.Bool.{cond-true, cond-false}

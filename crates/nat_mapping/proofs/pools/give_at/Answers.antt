@@ -1,6 +1,6 @@
 use Rattle.std.proofs.Common.{◌≡◌, ℕ, Option, subst, Some, cond, Bool, true, false, sym, ap, is_some, ◌∙◌}
 use Rattle.std.specs.Bool.{OnTrue, OnFalse}
-use Rattle.std.specs.HashMap.{get, IsUnique}
+use Rattle.std.specs.HashMap.{get}
 use Rattle.port_pool.specs.declared.pool.Pool.{Pool}
 use Rattle.nat_mapping.specs.declared.keys.PoolKey.{PoolKey}
 use Rattle.nat_mapping.specs.steps.Keys.{same_pool}

@@ -1,5 +1,5 @@
-use Rattle.std.proofs.Common.{◌≡◌, subst, Some, cond, Bool, true, false, sym, ap, is_some, ◌∙◌}
-use Rattle.std.specs.HashMap.{get, IsUnique}
+use Rattle.std.proofs.Common.{◌≡◌, subst, Some, cond, Bool, true, sym, ap, is_some, ◌∙◌}
+use Rattle.std.specs.HashMap.{get}
 use Rattle.nat_mapping.specs.declared.keys.PoolKey.{PoolKey}
 use Rattle.nat_mapping.specs.steps.Keys.{same_pool}
 use Rattle.nat_mapping.specs.steps.Ports.{is_taken_by, order_by}

@@ -1,7 +1,6 @@
-use Rattle.std.proofs.Common.{◌+◌, cond, sym, ◌∙◌, ap, arith}
-use Rattle.nat_mapping.specs.Mappings.{same_mapping}
+use Rattle.std.proofs.Common.{sym, ◌∙◌, arith}
 use Rattle.nat_mapping.proofs.Alike.{one_to_one_alike}
-use Rattle.nat_mapping.proofs.Lists.{holders_cons, more_alike}
+use Rattle.nat_mapping.proofs.Lists.{more_alike}
 use Rattle.nat_mapping.proofs.mappings.Mappings.hold.Goals as goal
 
 pub add-requires-clause-one_to_one : goal.add-requires-clause-one_to_one

@@ -1,0 +1,5 @@
+//! Translation in small runs: mappings that are held and released.
+#![tactic(auto)]
+
+#[cfg(test)]
+mod mappings;

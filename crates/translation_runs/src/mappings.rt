@@ -1,0 +1,199 @@
+//! Mappings held, found and released, and refused memory.
+ghost use Rattle.std.specs.Prelude.{◌+◌, ◌<◌, ◌≤◌};
+ghost use Rattle.ip_headers.specs.declared.tuple.Mapping.{Mapping as Mapped};
+ghost use Rattle.nat_mapping.specs.Mappings.{holders_of};
+
+use ip_headers::{Endpoint, Kind, Mapping};
+use nat_mapping::laws::{inbound_is_held, stays_one_to_one};
+use nat_mapping::{MapError, Mappings, Memory};
+use port_pool::Range;
+use std::process::Abort;
+use std::test::Fail;
+
+/// The translator's own address, 203.0.113.1.
+const E: u32 = 0xcb00_7101;
+/// Two hosts behind it.
+const A: u32 = 0xc0a8_010a;
+
+const A2: u32 = 0xc0a8_010b;
+
+fn end(address: u32, port: u16) -> Endpoint {
+    Endpoint { address, port }
+}
+
+/// Gives an internal endpoint its port at an external address, and holds the mapping to it.
+fn held(
+    table: &mut Mappings,
+    kind: Kind,
+    internal: Endpoint,
+    address: u32,
+    number: usize,
+) -> Result<Option<u16>, Memory>
+    requires number { number < 1000 }
+    requires few { (m : Mapped) → holders_of m table.old.held ≤ number }
+    ensures few { (m : Mapped) → holders_of m table.new.held ≤ number + 1 }
+{
+    stays_one_to_one();
+    let _ = table.inbound(kind, internal);
+    let Ok(port) = table.source(kind, internal, address, None) else {
+        return Ok(None);
+    };
+    table.hold(Mapping {
+        kind,
+        internal,
+        external: end(address, port),
+    })?;
+    Ok(Some(port))
+}
+
+/// Releases the mapping behind an external endpoint, if there is one.
+fn released(table: &mut Mappings, kind: Kind, external: Endpoint, number: usize) -> bool
+    requires few { (m : Mapped) → holders_of m table.old.held ≤ number }
+    ensures few { (m : Mapped) → holders_of m table.new.held ≤ number }
+{
+    inbound_is_held();
+    match table.inbound(kind, external) {
+        Some(internal) => {
+            table.release(Mapping {
+                kind,
+                internal,
+                external,
+            });
+            true
+        }
+        None => false,
+    }
+}
+
+/// One internal endpoint has one port, whatever it sends to; a port isn't shared; the last holder
+/// frees it.
+#[test]
+fn one_port_each(rt: HostRuntime) -> Result<(), Fail> {
+    let mut table = Mappings::new(rt.alloc());
+    assert_eq!(rt; table.inbound(Kind::Udp, end(E, 5000)), None);
+    assert_eq!(rt;
+        held(&mut table, Kind::Udp, end(A, 5000), E, 0)?,
+        Some(5000)
+    );
+    assert_eq!(rt;
+        held(&mut table, Kind::Udp, end(A, 5000), E, 1)?,
+        Some(5000)
+    );
+    assert_eq!(rt;
+        held(&mut table, Kind::Udp, end(A2, 5000), E, 2)?,
+        Some(5002)
+    );
+    assert_eq!(rt; table.inbound(Kind::Udp, end(E, 5000)), Some(end(A, 5000)));
+    assert_eq!(rt; table.inbound(Kind::Udp, end(E, 5002)), Some(end(A2, 5000)));
+    assert!(rt; released(&mut table, Kind::Udp, end(E, 5000), 3));
+    assert_eq!(rt; table.inbound(Kind::Udp, end(E, 5000)), Some(end(A, 5000)));
+    assert!(rt; released(&mut table, Kind::Udp, end(E, 5000), 3));
+    assert_eq!(rt; table.inbound(Kind::Udp, end(E, 5000)), None);
+    assert_eq!(rt; table.source(Kind::Udp, end(A2, 6000), E, None), Ok(6000));
+    assert_eq!(rt; table.source(Kind::Udp, end(A2, 5000), E, None), Ok(5002));
+    assert_eq!(rt; table.pools(), 2);
+    assert!(rt; released(&mut table, Kind::Udp, end(E, 5002), 3));
+    assert_eq!(rt; table.pools(), 2);
+    Ok(())
+}
+
+/// Ports of one kind say nothing of those of another; a protocol without ports has one mapping.
+#[test]
+fn kinds_stand_apart(rt: HostRuntime) -> Result<(), Fail> {
+    let mut table = Mappings::new(rt.alloc());
+    let gre = Kind::Other(47);
+    assert_eq!(rt;
+        held(&mut table, Kind::Udp, end(A, 5000), E, 0)?,
+        Some(5000)
+    );
+    assert_eq!(rt;
+        held(&mut table, Kind::Tcp, end(A2, 5000), E, 1)?,
+        Some(5000)
+    );
+    assert_eq!(rt;
+        held(&mut table, Kind::Ask, end(A2, 5000), E, 2)?,
+        Some(5000)
+    );
+    assert_eq!(rt; held(&mut table, gre, end(A, 0), E, 3)?, Some(0));
+    assert_eq!(rt;
+        table.source(gre, end(A2, 0), E, None),
+        Err(MapError::NoPort)
+    );
+    assert_eq!(rt; table.source(gre, end(A2, 0), E + 1, None), Ok(0));
+    assert_eq!(rt; table.source(Kind::Ask, end(A, 5000), E, None), Ok(5001));
+    assert_eq!(rt; table.inbound(Kind::Ask, end(E, 5000)), Some(end(A2, 5000)));
+    assert_eq!(rt; table.pools(), 4);
+    assert!(rt; released(&mut table, gre, end(E, 0), 4));
+    assert_eq!(rt; table.source(gre, end(A2, 0), E, None), Ok(0));
+    Ok(())
+}
+
+/// Where all ports of a range are held there is none, but for one who has one already.
+#[test]
+fn a_range_runs_out(rt: HostRuntime) -> Result<(), Fail> {
+    let mut table = Mappings::new(rt.alloc());
+    let one = Some(Range {
+        low: 5000,
+        high: 5000,
+    });
+    assert_eq!(rt; table.source(Kind::Tcp, end(A2, 5000), E, one), Ok(5000));
+    assert_eq!(rt;
+        held(&mut table, Kind::Tcp, end(A, 5000), E, 0)?,
+        Some(5000)
+    );
+    assert_eq!(rt;
+        held(&mut table, Kind::Tcp, end(A, 7000), E, 1)?,
+        Some(7000)
+    );
+    assert_eq!(rt;
+        table.source(Kind::Tcp, end(A2, 5000), E, one),
+        Err(MapError::NoPort)
+    );
+    assert_eq!(rt; table.source(Kind::Tcp, end(A, 7000), E, one), Ok(7000));
+    assert_eq!(rt; table.source(Kind::Udp, end(A2, 5000), E, one), Ok(5000));
+    Ok(())
+}
+
+/// A connection's two mappings at new addresses, with room reserved: nothing but the reserving may
+/// want memory, and where it does nothing has changed.
+fn connection<R: Abort + AllocGlobal>(rt: &R, table: &mut Mappings, address: u32, number: usize)
+    requires number { number < 900 }
+    requires few { (m : Mapped) → holders_of m table.old.held ≤ number }
+    ensures few { (m : Mapped) → holders_of m table.new.held ≤ number + 2 }
+{
+    if table.reserve_one().is_err() {
+        assert_eq!(rt; table.inbound(Kind::Udp, end(E, 5000)), Some(end(A, 5000)));
+        // One call in all is refused.
+        assert!(rt; table.reserve_one().is_ok());
+    }
+    let first = held(table, Kind::Ask, end(A, 80), address, number);
+    assert!(rt;
+        first.is_ok_and(|port| port == Some(80)),
+        "the first at {address}"
+    );
+    let second = held(table, Kind::Tcp, end(A2, 80), address + 1, number + 1);
+    assert!(rt;
+        second.is_ok_and(|port| port == Some(80)),
+        "the second at {address}"
+    );
+}
+
+/// With each call for memory refused in turn.
+#[test]
+fn only_reserving_wants_memory(rt: HostRuntime) -> Result<(), Fail> {
+    let mut table = Mappings::new(rt.alloc());
+    if held(&mut table, Kind::Udp, end(A, 5000), E, 0).is_err() {
+        assert_eq!(rt; table.inbound(Kind::Udp, end(E, 5000)), None);
+        return Ok(());
+    }
+    connection(&rt, &mut table, 1, 1);
+    connection(&rt, &mut table, 3, 3);
+    connection(&rt, &mut table, 5, 5);
+    connection(&rt, &mut table, 7, 7);
+    connection(&rt, &mut table, 9, 9);
+    assert!(rt; released(&mut table, Kind::Tcp, end(10, 80), 11));
+    assert!(rt; released(&mut table, Kind::Ask, end(9, 80), 11));
+    connection(&rt, &mut table, 9, 11);
+    assert!(rt; table.pools() <= 13);
+    Ok(())
+}
