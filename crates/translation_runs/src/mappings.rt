@@ -7,6 +7,7 @@ use ip_headers::{Endpoint, Kind, Mapping};
 use nat_mapping::laws::{inbound_is_held, stays_one_to_one};
 use nat_mapping::{MapError, Mappings, Memory};
 use port_pool::Range;
+use std::alloc::Global;
 use std::process::Abort;
 use std::test::Fail;
 
@@ -19,6 +20,13 @@ const A2: u32 = 0xc0a8_010b;
 
 fn end(address: u32, port: u16) -> Endpoint {
     Endpoint { address, port }
+}
+
+/// A table that holds nothing.
+fn empty(alloc: Global) -> Mappings
+    ensures few { (m : Mapped) → holders_of m result.held ≤ 0 }
+{
+    Mappings::new(alloc)
 }
 
 /// Gives an internal endpoint its port at an external address, and holds the mapping to it.
@@ -41,7 +49,7 @@ fn held(
     table.hold(Mapping {
         kind,
         internal,
-        external: end(address, port),
+        external: Endpoint { address, port },
     })?;
     Ok(Some(port))
 }
@@ -69,7 +77,7 @@ fn released(table: &mut Mappings, kind: Kind, external: Endpoint, number: usize)
 /// frees it.
 #[test]
 fn one_port_each(rt: HostRuntime) -> Result<(), Fail> {
-    let mut table = Mappings::new(rt.alloc());
+    let mut table = empty(rt.alloc());
     assert_eq!(rt; table.inbound(Kind::Udp, end(E, 5000)), None);
     assert_eq!(rt;
         held(&mut table, Kind::Udp, end(A, 5000), E, 0)?,
@@ -100,7 +108,7 @@ fn one_port_each(rt: HostRuntime) -> Result<(), Fail> {
 /// Ports of one kind say nothing of those of another; a protocol without ports has one mapping.
 #[test]
 fn kinds_stand_apart(rt: HostRuntime) -> Result<(), Fail> {
-    let mut table = Mappings::new(rt.alloc());
+    let mut table = empty(rt.alloc());
     let gre = Kind::Other(47);
     assert_eq!(rt;
         held(&mut table, Kind::Udp, end(A, 5000), E, 0)?,
@@ -131,7 +139,7 @@ fn kinds_stand_apart(rt: HostRuntime) -> Result<(), Fail> {
 /// Where all ports of a range are held there is none, but for one who has one already.
 #[test]
 fn a_range_runs_out(rt: HostRuntime) -> Result<(), Fail> {
-    let mut table = Mappings::new(rt.alloc());
+    let mut table = empty(rt.alloc());
     let one = Some(Range {
         low: 5000,
         high: 5000,
@@ -157,6 +165,7 @@ fn a_range_runs_out(rt: HostRuntime) -> Result<(), Fail> {
 /// A connection's two mappings at new addresses, with room reserved: nothing but the reserving may
 /// want memory, and where it does nothing has changed.
 fn connection<R: Abort + AllocGlobal>(rt: &R, table: &mut Mappings, address: u32, number: usize)
+    requires address { address < 1000 }
     requires number { number < 900 }
     requires few { (m : Mapped) → holders_of m table.old.held ≤ number }
     ensures few { (m : Mapped) → holders_of m table.new.held ≤ number + 2 }
@@ -181,7 +190,7 @@ fn connection<R: Abort + AllocGlobal>(rt: &R, table: &mut Mappings, address: u32
 /// With each call for memory refused in turn.
 #[test]
 fn only_reserving_wants_memory(rt: HostRuntime) -> Result<(), Fail> {
-    let mut table = Mappings::new(rt.alloc());
+    let mut table = empty(rt.alloc());
     if held(&mut table, Kind::Udp, end(A, 5000), E, 0).is_err() {
         assert_eq!(rt; table.inbound(Kind::Udp, end(E, 5000)), None);
         return Ok(());
