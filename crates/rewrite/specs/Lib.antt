@@ -1,3 +1,4 @@
 pub mod Rewritten
 pub mod Ends
+pub mod Trials
 pub mod steps

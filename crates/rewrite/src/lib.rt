@@ -6,6 +6,7 @@ mod checksum;
 mod fields;
 pub mod laws;
 mod sending;
+pub mod trials;
 
 pub use change::{Change, Numbers};
 pub use sending::emit;
