@@ -70,11 +70,12 @@ addressed p change from to ok a b =
     let one = with_number p 12 from in
     let two = with_number one 16 to in
     let room : 20 ≤ length p = omega (arith, ok.head.long, ok.head.head, ok.head.whole) in
-    let byte : (k : ℕ) → 11 < k → k < 20 → get_or (sent p change) k 0 ≡ get_or two k 0 = λ k past lt. sent_to p change from to k ok a b past lt in
-    (number_same (sent p change) two 12 (byte 12 (omega arith) (omega arith)) (byte 13 (omega arith) (omega arith)) (byte 14 (omega arith) (omega arith)) (byte 15 (omega arith) (omega arith))
-        ∙ number_apart one 16 to 12 (inl (omega arith)) ∙ number_written p 12 from (omega (arith, room)),
+    let byte : (k : ℕ) → 11 < k → k < 20 → get_or (sent p change) k 0 ≡ get_or two k 0 = λ k past lt. sent_to p change from to k ok a b past lt in (
+      number_same (sent p change) two 12 (byte 12 (omega arith) (omega arith)) (byte 13 (omega arith) (omega arith)) (byte 14 (omega arith) (omega arith)) (byte 15 (omega arith) (omega arith))
+          ∙ number_apart one 16 to 12 (inl (omega arith)) ∙ number_written p 12 from (omega (arith, room)),
       number_same (sent p change) two 16 (byte 16 (omega arith) (omega arith)) (byte 17 (omega arith) (omega arith)) (byte 18 (omega arith) (omega arith)) (byte 19 (omega arith) (omega arith))
-        ∙ number_written one 16 to (omega (arith, room, length-number p 12 from)))
+          ∙ number_written one 16 to (omega (arith, room, length-number p 12 from)),
+    )
 
 -- ---- ports and identifiers
 
@@ -99,15 +100,17 @@ Fronts p q from to = (word_at q (payload_at 0 p) ≡ from) × (word_at q (payloa
 ported : (p t r q : List ℕ) (from to : ℕ) → r ≡ with_ports (payload_at 0 p) t from to → payload_at 0 p + 4 ≤ length t → ((k : ℕ) → payload_at 0 p ≤ k → k < payload_at 0 p + 4 → get_or q k 0 ≡ get_or r k 0) → Fronts p q from to
 ported p t r q from to is room same =
     let place = payload_at 0 p in
-    let one = with_word t place from in
-    (word_same q r place (same place (omega arith) (omega arith)) (same (place + 1) (omega arith) (omega arith)) ∙ ap (λ l. word_at l place) is ∙ word_apart one (place + 2) to place (inl (omega arith)) ∙ word_written t place from (omega (arith, room)),
-      word_same q r (place + 2) (same (place + 2) (omega arith) (omega arith)) (same (place + 2 + 1) (omega arith) (omega arith)) ∙ ap (λ l. word_at l (place + 2)) is ∙ word_written one (place + 2) to (omega (arith, room, length-word t place from)))
+    let one = with_word t place from in (
+      word_same q r place (same place (omega arith) (omega arith)) (same (place + 1) (omega arith) (omega arith)) ∙ ap (λ l. word_at l place) is ∙ word_apart one (place + 2) to place (inl (omega arith)) ∙ word_written t place from (omega (arith, room)),
+      word_same q r (place + 2) (same (place + 2) (omega arith) (omega arith)) (same (place + 2 + 1) (omega arith) (omega arith)) ∙ ap (λ l. word_at l (place + 2)) is ∙ word_written one (place + 2) to (omega (arith, room, length-word t place from)),
+    )
 
 -- as the payload shows them
 shown : (p q : List ℕ) (from to : ℕ) → SameHead p q → payload_at 0 p + 4 ≤ total_len p → Fronts p q from to → (word_at (payload_of q) 0 ≡ from) × (word_at (payload_of q) 2 ≡ to)
-shown p q from to same room fronts =
-    (rw (same.header, same.total) (word_of_payload q (header_len p) (total_len p) 0 (payload_at 0 p) (omega arith) (omega (arith, room)) ∙ fronts.0),
-      rw (same.header, same.total) (word_of_payload q (header_len p) (total_len p) 2 (payload_at 0 p + 2) (omega arith) (omega (arith, room)) ∙ fronts.1))
+shown p q from to same room fronts = (
+  rw (same.header, same.total) (word_of_payload q (header_len p) (total_len p) 0 (payload_at 0 p) (omega arith) (omega (arith, room)) ∙ fronts.0),
+  rw (same.header, same.total) (word_of_payload q (header_len p) (total_len p) 2 (payload_at 0 p + 2) (omega arith) (omega (arith, room)) ∙ fronts.1),
+)
 
 pub tcp_long : (payload : List ℕ) → transport_is_wrong 6 payload ≡ false → 18 ≤ length payload
 tcp_long payload right = grind (arith, right)
@@ -124,8 +127,8 @@ tcp_ports p change from to ok six e =
     let enough = tcp_long (payload_of p) (rw six at ok.carried) in
     let r : replaced 0 p change ≡ with_ports (payload_at 0 p) t from to = ap (λ o. if_named (with_numbers 0) t o) e ∙ ports_there t 6 (payload_at 0 p) from to (timed_protocol p change ∙ six) (timed_payload p change) refl in
     shown p (sent p change) from to (same_head p change ok) (omega (arith, enough, within p ok))
-      (ported p t (replaced 0 p change) (sent p change) from to r (omega (arith, length-timed p change, tcp_room p ok six))
-        (λ k past lt. sent_tcp p change k (omega (arith, ok.head.long)) six (tcp_room p ok six) past (inl (omega (arith, lt)))))
+    (ported p t (replaced 0 p change) (sent p change) from to r (omega (arith, length-timed p change, tcp_room p ok six))
+    (λ k past lt. sent_tcp p change k (omega (arith, ok.head.long)) six (tcp_room p ok six) past (inl (omega (arith, lt)))))
 
 udp_ports : (p : List ℕ) (change : Change) (from to : ℕ) → Passes p → protocol p ≡ 17 → change.numbers ≡ Some (Ports from to) → (word_at (payload_of (sent p change)) 0 ≡ from) × (word_at (payload_of (sent p change)) 2 ≡ to)
 udp_ports p change from to ok seventeen e =
@@ -133,8 +136,8 @@ udp_ports p change from to ok seventeen e =
     let enough = udp_long (payload_of p) (rw seventeen at ok.carried) in
     let r : replaced 0 p change ≡ with_ports (payload_at 0 p) t from to = ap (λ o. if_named (with_numbers 0) t o) e ∙ ports_there t 17 (payload_at 0 p) from to (timed_protocol p change ∙ seventeen) (timed_payload p change) refl in
     shown p (sent p change) from to (same_head p change ok) (omega (arith, enough, within p ok))
-      (ported p t (replaced 0 p change) (sent p change) from to r (omega (arith, length-timed p change, enough, within p ok, ok.head.whole))
-        (λ k past lt. sent_udp p change k (omega (arith, ok.head.long)) seventeen past (inl (omega (arith, lt)))))
+    (ported p t (replaced 0 p change) (sent p change) from to r (omega (arith, length-timed p change, enough, within p ok, ok.head.whole))
+    (λ k past lt. sent_udp p change k (omega (arith, ok.head.long)) seventeen past (inl (omega (arith, lt)))))
 
 icmp_identifier : (p : List ℕ) (change : Change) (id : ℕ) → Passes p → protocol p ≡ 1 → change.numbers ≡ Some (Identifier id) → word_at (payload_of (sent p change)) 4 ≡ id
 icmp_identifier p change id ok one e =
@@ -146,10 +149,10 @@ icmp_identifier p change id ok one e =
     let long : 12 ≤ place = omega (arith, ok.head.long) in
     let r : replaced 0 p change ≡ with_word t (place + 4) id = ap (λ o. if_named (with_numbers 0) t o) e ∙ identifier_there t 1 place id (timed_protocol p change ∙ one) (timed_payload p change) refl in
     rw (same.header, same.total)
-      (word_of_payload q (header_len p) (total_len p) 4 (place + 4) (omega arith) (omega (arith, enough, within p ok))
-      ∙ word_same q (replaced 0 p change) (place + 4) (sent_icmp p change (place + 4) long one (omega arith) (inr (omega arith))) (sent_icmp p change (place + 4 + 1) long one (omega arith) (inr (omega arith)))
-      ∙ ap (λ l. word_at l (place + 4)) r
-      ∙ word_written t (place + 4) id (omega (arith, length-timed p change, enough, within p ok, ok.head.whole)))
+    (word_of_payload q (header_len p) (total_len p) 4 (place + 4) (omega arith) (omega (arith, enough, within p ok))
+    ∙ word_same q (replaced 0 p change) (place + 4) (sent_icmp p change (place + 4) long one (omega arith) (inr (omega arith))) (sent_icmp p change (place + 4 + 1) long one (omega arith) (inr (omega arith)))
+    ∙ ap (λ l. word_at l (place + 4)) r
+    ∙ word_written t (place + 4) id (omega (arith, length-timed p change, enough, within p ok, ok.head.whole)))
 
 -- ---- kinds
 
@@ -199,9 +202,9 @@ answer_number number payload e = eqb-true number 1 (by_answer (number == 6) (num
 kind_same : (number : ℕ) (x y : List ℕ) → (number ≡ 1 → get_or x 0 0 ≡ get_or y 0 0) → kind_of number x ≡ kind_of number y
 kind_same number x y same =
     ⊎_elim
-      (λ one. rw (one, same one) refl)
-      (λ other. rw (ne_eqb number 1 other) refl)
-      (cases_eq number 1)
+    (λ one. rw (one, same one) refl)
+    (λ other. rw (ne_eqb number 1 other) refl)
+    (cases_eq number 1)
 
 suits : (kind : Kind) (p : List ℕ) (change : Change) (from to : ℕ) → Passes p → kind_of (protocol p) (payload_of p) ≡ Some kind → change.numbers ≡ numbers_by kind from to → PortsSuit kind from to
     → (port_from kind (payload_of (sent p change)) ≡ from) × (port_to kind (payload_of (sent p change)) ≡ to)
@@ -218,9 +221,9 @@ sent_kind p change ok =
     let n = total_len p in
     let same = same_head p change ok in
     rw (same.protocol, same.header, same.total)
-      (kind_same (protocol p) (drop h (take n q)) (drop h (take n p)) (λ one.
-        let enough = icmp_long (payload_of p) (rw one at ok.carried) in
-        payload_byte q h n 0 (omega (arith, enough, within p ok)) ∙ sent_icmp_byte p change (h + 0) (omega (arith, ok.head.long)) one (omega arith) (omega arith) ∙ sym (payload_byte p h n 0 (omega (arith, enough, within p ok)))))
+    (kind_same (protocol p) (drop h (take n q)) (drop h (take n p)) (λ one.
+    let enough = icmp_long (payload_of p) (rw one at ok.carried) in
+    payload_byte q h n 0 (omega (arith, enough, within p ok)) ∙ sent_icmp_byte p change (h + 0) (omega (arith, ok.head.long)) one (omega arith) (omega arith) ∙ sym (payload_byte p h n 0 (omega (arith, enough, within p ok)))))
 
 made : (kind : Kind) (a a' b b' c c' d d' : ℕ) → a ≡ a' → b ≡ b' → c ≡ c' → d ≡ d'
     → ◌≡◌ {A = Tuple} (record { kind = kind; source = record { address = a; port = b }; destination = record { address = c; port = d } }) (record { kind = kind; source = record { address = a'; port = b' }; destination = record { address = c'; port = d' } })

@@ -54,10 +54,10 @@ pub put_right-is : (over : List ℕ → List ℕ) (place : ℕ) (old now : List 
     → put_right over place old now ≡ with_word now place (renewed words (word_at old place))
 put_right-is over place old now words c kept =
     rw (same_is words (over old) (over now) c)
-        (chosen words.is_same now place (word_at old place) _ _ kept (corrected-by (word_at old place) (words_sum (over old)) (words_sum (over now)) words.old words.new c.sum))
+    (chosen words.is_same now place (word_at old place) _ _ kept (corrected-by (word_at old place) (words_sum (over old)) (words_sum (over now)) words.old words.new c.sum))
 
 pub put_right_if_made-is : (over : List ℕ → List ℕ) (place : ℕ) (old now : List ℕ) (words : Words) → Covers words (over old) (over now) → with_word now place (word_at old place) ≡ now
     → put_right_if_made over place old now ≡ with_word now place (renewed_if_made words (word_at old place))
 put_right_if_made-is over place old now words c kept =
     rw (same_is words (over old) (over now) c)
-        (chosen (words.is_same || word_at old place == 0) now place (word_at old place) _ _ kept (ap or_all_ones (corrected-by (word_at old place) (words_sum (over old)) (words_sum (over now)) words.old words.new c.sum)))
+    (chosen (words.is_same || word_at old place == 0) now place (word_at old place) _ _ kept (ap or_all_ones (corrected-by (word_at old place) (words_sum (over old)) (words_sum (over now)) words.old words.new c.sum)))

@@ -78,9 +78,9 @@ same_byte-len start p now e = ap (λ b. b % 16 * 4) (first_of_rest now start ∙
 small_part : (p : List ℕ) (a n i : ℕ) → ((k : ℕ) → get_or p k 0 < 256) → get_or (take n (drop a p)) i 0 < 256
 small_part p a n i small =
     ⊎_elim
-      (λ lt. rw (get_or-take n (drop a p) i 0 lt, get_or-drop a p i 0) (small (a + i)))
-      (λ past. rw (get_or_past (take n (drop a p)) i 0 (grind (arith, common_steps, past))) (omega arith))
-      (cases_lt i n)
+    (λ lt. rw (get_or-take n (drop a p) i 0 lt, get_or-drop a p i 0) (small (a + i)))
+    (λ past. rw (get_or_past (take n (drop a p)) i 0 (grind (arith, common_steps, past))) (omega arith))
+    (cases_lt i n)
 
 small_rest : (p : List ℕ) (a i : ℕ) → ((k : ℕ) → get_or p k 0 < 256) → get_or (drop a p) i 0 < 256
 small_rest p a i small = rw (get_or-drop a p i 0) (small (a + i))
@@ -122,7 +122,7 @@ head_covered head source destination left from to ttl is a b c = record {
   other = λ e.
       let reads = head_reads head from to ttl is.long in
       and_from _ _ (eq-eqb _ _ (ap (λ n. n * 256) (c ∙ ap (λ l. get_or l 8 0) e ∙ reads.left)))
-        (and_from _ _ (eq-eqb _ _ (a ∙ ap (λ l. number_at l 12) e ∙ reads.source)) (eq-eqb _ _ (b ∙ ap (λ l. number_at l 16) e ∙ reads.destination)));
+      (and_from _ _ (eq-eqb _ _ (a ∙ ap (λ l. number_at l 12) e ∙ reads.source)) (eq-eqb _ _ (b ∙ ap (λ l. number_at l 16) e ∙ reads.destination)));
   sum = rw (a, b, c) (head_sum head from to ttl is);
 }
 
@@ -188,10 +188,10 @@ header_covered start p now from to ttl d same_len same =
     let n = header_len (drop start p) in
     let head = head_of start n p in
     covers_to (header_words start p from to ttl) head (head_with head from to ttl) (header_in start now)
-      (ap (λ k. take k (drop start now)) same_len ∙ same ∙ timed_head start n p from to ttl d.long)
-      (head_covered head (number_at p (start + 12)) (number_at p (start + 16)) (byte_at p (start + 8)) from to ttl (is_head start p d)
-        (sym (number_of_part p start n 12 (start + 12) refl (omega (arith, d.long)))) (sym (number_of_part p start n 16 (start + 16) refl (omega (arith, d.long))))
-        (sym (byte_of_part p start n 8 (start + 8) refl (omega (arith, d.long)))))
+    (ap (λ k. take k (drop start now)) same_len ∙ same ∙ timed_head start n p from to ttl d.long)
+    (head_covered head (number_at p (start + 12)) (number_at p (start + 16)) (byte_at p (start + 8)) from to ttl (is_head start p d)
+    (sym (number_of_part p start n 12 (start + 12) refl (omega (arith, d.long)))) (sym (number_of_part p start n 16 (start + 16) refl (omega (arith, d.long))))
+    (sym (byte_of_part p start n 8 (start + 8) refl (omega (arith, d.long)))))
 
 -- ---- under the checksum of what is carried
 
@@ -215,16 +215,16 @@ pseudo_covered start p source destination ttl from to d room =
     let first : get_or now start 0 ≡ get_or p start 0 = byte_apart one (place + 2) to start (inl (omega (arith, past))) ∙ byte_apart t place from start (inl (omega (arith, past))) ∙ timed_byte start p source destination ttl start (inl (omega arith)) (inl (omega arith)) in
     let len = same_byte-len start p now first in
     let pair_now : take 8 (drop (start + 12) now) ≡ pair_with pair source destination =
-        word_after one (start + 12) 8 (place + 2) to (omega (arith, past)) ∙ word_after t (start + 12) 8 place from (omega (arith, past)) ∙ timed_pair start p source destination ttl in
+    word_after one (start + 12) 8 (place + 2) to (omega (arith, past)) ∙ word_after t (start + 12) 8 place from (omega (arith, past)) ∙ timed_pair start p source destination ttl in
     let rest_now : drop place now ≡ with_ports 0 rest from to =
-        rest_in one place 2 (place + 2) to refl ∙ ap (λ l. with_word l 2 to) (rest_in t place 0 place from (omega arith) ∙ ap (λ l. with_word l 0 from) (timed_rest start place p source destination ttl past)) in
+    rest_in one place 2 (place + 2) to refl ∙ ap (λ l. with_word l 2 to) (rest_in t place 0 place from (omega arith) ∙ ap (λ l. with_word l 0 from) (timed_rest start place p source destination ttl past)) in
     covers_to _ (pair ++ rest) (pair_with pair source destination ++ with_ports 0 rest from to) (pseudo_in start now)
-      (ap (λ n. take 8 (drop (start + 12) now) ++ drop (start + n) now) len ∙ rw (pair_now, rest_now) refl)
-      (joined_covered (pair_words start p source destination) (port_words place p from to) pair rest _ _ (is_pair start p d).long (length-pair pair source destination ∙ (is_pair start p d).long)
-        (pair_covered pair (number_at p (start + 12)) (number_at p (start + 16)) source destination (is_pair start p d)
-          (sym (number_of_part p (start + 12) 8 0 (start + 12) (omega arith) (omega arith))) (sym (number_of_part p (start + 12) 8 4 (start + 16) (omega arith) (omega arith))))
-        (ports_covered rest (word_at p place) (word_at p (place + 2)) from to (grind (arith, common_steps, room)) (λ i. small_rest p place i d.small)
-          (sym (word_of_rest p place 0 place (omega arith))) (sym (word_of_rest p place 2 (place + 2) refl))))
+    (ap (λ n. take 8 (drop (start + 12) now) ++ drop (start + n) now) len ∙ rw (pair_now, rest_now) refl)
+    (joined_covered (pair_words start p source destination) (port_words place p from to) pair rest _ _ (is_pair start p d).long (length-pair pair source destination ∙ (is_pair start p d).long)
+    (pair_covered pair (number_at p (start + 12)) (number_at p (start + 16)) source destination (is_pair start p d)
+    (sym (number_of_part p (start + 12) 8 0 (start + 12) (omega arith) (omega arith))) (sym (number_of_part p (start + 12) 8 4 (start + 16) (omega arith) (omega arith))))
+    (ports_covered rest (word_at p place) (word_at p (place + 2)) from to (grind (arith, common_steps, room)) (λ i. small_rest p place i d.small)
+    (sym (word_of_rest p place 0 place (omega arith))) (sym (word_of_rest p place 2 (place + 2) refl))))
 
 -- with another identifier
 pub carried_covered : (start : ℕ) (p : List ℕ) (source destination ttl number : ℕ) → IsDatagram start p → payload_at start p + 6 ≤ length p
@@ -238,7 +238,7 @@ carried_covered start p source destination ttl number d room =
     let first : get_or now start 0 ≡ get_or p start 0 = byte_apart t (place + 4) number start (inl (omega (arith, past))) ∙ timed_byte start p source destination ttl start (inl (omega arith)) (inl (omega arith)) in
     let len = same_byte-len start p now first in
     let rest_now : drop place now ≡ with_word rest 4 number =
-        rest_in t place 4 (place + 4) number refl ∙ ap (λ l. with_word l 4 number) (timed_rest start place p source destination ttl past) in
+    rest_in t place 4 (place + 4) number refl ∙ ap (λ l. with_word l 4 number) (timed_rest start place p source destination ttl past) in
     covers_to _ rest (with_word rest 4 number) (carried_in start now)
-      (ap (λ n. drop (start + n) now) len ∙ rest_now)
-      (word_covered rest (word_at p (place + 4)) number (grind (arith, common_steps, room)) (λ i. small_rest p place i d.small) (sym (word_of_rest p place 4 (place + 4) refl)))
+    (ap (λ n. drop (start + n) now) len ∙ rest_now)
+    (word_covered rest (word_at p (place + 4)) number (grind (arith, common_steps, room)) (λ i. small_rest p place i d.small) (sym (word_of_rest p place 4 (place + 4) refl)))

@@ -34,7 +34,7 @@ pub put_keeps : (over : List ℕ → List ℕ) (place i : ℕ) (old now : List �
 put_keeps over place i old now s =
     let w = corrected (word_at old place) (words_sum (over old)) (words_sum (over now)) in
     by_same over old now (with_word now place w) (same_bytes (over old) (over now)) refl
-      (corrected-keeps (words_sum (over old)) (words_sum (over now)) (word_at old place) _ (written_sum over place i old now w s))
+    (corrected-keeps (words_sum (over old)) (words_sum (over now)) (word_at old place) _ (written_sum over place i old now w s))
 
 or-false : (b c : Bool) → c ≡ false → (b || c) ≡ b
 or-false true c e = refl
@@ -44,5 +44,5 @@ pub put_if_made_keeps : (over : List ℕ → List ℕ) (place i : ℕ) (old now 
 put_if_made_keeps over place i old now made s =
     let w = or_all_ones (corrected (word_at old place) (words_sum (over old)) (words_sum (over now))) in
     rw (or-false (same_bytes (over old) (over now)) (word_at old place == 0) (ne_eqb _ _ made))
-      (by_same over old now (with_word now place w) (same_bytes (over old) (over now)) refl
-        (all_ones-keeps (words_sum (over old)) (words_sum (over now)) (word_at old place) _ (written_sum over place i old now w s)))
+    (by_same over old now (with_word now place w) (same_bytes (over old) (over now)) refl
+    (all_ones-keeps (words_sum (over old)) (words_sum (over now)) (word_at old place) _ (written_sum over place i old now w s)))

@@ -88,8 +88,8 @@ length-put_if_made over place old now = length-either (same_bytes (over old) (ov
 pub length-carried : (start : ℕ) (old now : List ℕ) → length (right_carried start old now) ≡ length now
 length-carried start old now =
     length-either _ (put_right (pseudo_in start) (payload_at start old + 16) old now) _ now (length-put (pseudo_in start) (payload_at start old + 16) old now)
-      (length-either (protocol_at start old == 17) (put_right_if_made (pseudo_in start) (payload_at start old + 6) old now) _ now (length-put_if_made (pseudo_in start) (payload_at start old + 6) old now)
-        (length-either (protocol_at start old == 1) (put_right (carried_in start) (payload_at start old + 2) old now) now now (length-put (carried_in start) (payload_at start old + 2) old now) refl))
+    (length-either (protocol_at start old == 17) (put_right_if_made (pseudo_in start) (payload_at start old + 6) old now) _ now (length-put_if_made (pseudo_in start) (payload_at start old + 6) old now)
+    (length-either (protocol_at start old == 1) (put_right (carried_in start) (payload_at start old + 2) old now) now now (length-put (carried_in start) (payload_at start old + 2) old now) refl))
 
 pub length-rewritten : (p : List ℕ) (change : Change) → length (rewritten p change) ≡ length p
 unfolding rewritten

@@ -156,4 +156,4 @@ ports_read rest from to long =
 pub ports_kept : (xs : List ℕ) (place from to : ℕ) → ((i : ℕ) → place ≤ i → get_or xs i 0 < 256) → from ≡ word_at xs place → to ≡ word_at xs (place + 2) → with_ports place xs from to ≡ xs
 ports_kept xs place from to small a b =
     rw (word_kept xs place from (small place (omega arith)) (small (place + 1) (omega arith)) a)
-        (word_kept xs (place + 2) to (small (place + 2) (omega arith)) (small (place + 2 + 1) (omega arith)) b)
+    (word_kept xs (place + 2) to (small (place + 2) (omega arith)) (small (place + 2 + 1) (omega arith)) b)

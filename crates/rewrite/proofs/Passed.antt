@@ -53,12 +53,12 @@ udp_same x y len told = rw (len, told) refl
 wrong_same : (number : ℕ) (x y : List ℕ) → length x ≡ length y → (number ≡ 6 → get_or x 12 0 ≡ get_or y 12 0) → (number ≡ 17 → word_at x 4 ≡ word_at y 4) → transport_is_wrong number x ≡ transport_is_wrong number y
 wrong_same number x y len tcp udp =
     ⊎_elim
-      (λ six. rw six (tcp_same x y len (tcp six)))
-      (λ not_six. ⊎_elim
-        (λ seventeen. rw seventeen (udp_same x y len (udp seventeen)))
-        (λ not_seventeen. rw (ne_eqb number 6 not_six, ne_eqb number 17 not_seventeen, len) refl)
-        (cases_eq number 17))
-      (cases_eq number 6)
+    (λ six. rw six (tcp_same x y len (tcp six)))
+    (λ not_six. ⊎_elim
+    (λ seventeen. rw seventeen (udp_same x y len (udp seventeen)))
+    (λ not_seventeen. rw (ne_eqb number 6 not_six, ne_eqb number 17 not_seventeen, len) refl)
+    (cases_eq number 17))
+    (cases_eq number 6)
 
 pub payload_byte : (xs : List ℕ) (h n i : ℕ) → h + i < n → get_or (drop h (take n xs)) i 0 ≡ get_or xs (h + i) 0
 payload_byte xs h n i lt = get_or-drop h (take n xs) i 0 ∙ get_or-take n xs (h + i) 0 lt
@@ -99,13 +99,13 @@ sent_passes p change ok =
     let total_same : total_len q ≡ n = rw (second, third) refl in
     let room = within p ok in
     let tcp : protocol p ≡ 6 → get_or (drop h (take n q)) 12 0 ≡ get_or (drop h (take n p)) 12 0 = λ six.
-        let enough = tcp_long (payload_of p) (rw six at ok.carried) in
-        payload_byte q h n 12 (omega (arith, enough, room)) ∙ sent_tcp_byte p change (h + 12) (omega (arith, long)) six (tcp_room p ok six) (omega arith) (inl (omega arith)) ∙ sym (payload_byte p h n 12 (omega (arith, enough, room))) in
+    let enough = tcp_long (payload_of p) (rw six at ok.carried) in
+    payload_byte q h n 12 (omega (arith, enough, room)) ∙ sent_tcp_byte p change (h + 12) (omega (arith, long)) six (tcp_room p ok six) (omega arith) (inl (omega arith)) ∙ sym (payload_byte p h n 12 (omega (arith, enough, room))) in
     let udp : protocol p ≡ 17 → word_at (drop h (take n q)) 4 ≡ word_at (drop h (take n p)) 4 = λ seventeen.
-        let enough = udp_long (payload_of p) (rw seventeen at ok.carried) in
-        let high = payload_byte q h n 4 (omega (arith, enough, room)) ∙ sent_udp_byte p change (h + 4) (omega (arith, long)) seventeen (omega arith) (inl (omega arith)) ∙ sym (payload_byte p h n 4 (omega (arith, enough, room))) in
-        let low = payload_byte q h n 5 (omega (arith, enough, room)) ∙ sent_udp_byte p change (h + 5) (omega (arith, long)) seventeen (omega arith) (inl (omega arith)) ∙ sym (payload_byte p h n 5 (omega (arith, enough, room))) in
-        rw (high, low) refl in
+    let enough = udp_long (payload_of p) (rw seventeen at ok.carried) in
+    let high = payload_byte q h n 4 (omega (arith, enough, room)) ∙ sent_udp_byte p change (h + 4) (omega (arith, long)) seventeen (omega arith) (inl (omega arith)) ∙ sym (payload_byte p h n 4 (omega (arith, enough, room))) in
+    let low = payload_byte q h n 5 (omega (arith, enough, room)) ∙ sent_udp_byte p change (h + 5) (omega (arith, long)) seventeen (omega arith) (inl (omega arith)) ∙ sym (payload_byte p h n 5 (omega (arith, enough, room))) in
+    rw (high, low) refl in
     record {
       head = record {
         long = omega (arith, head_same, long);

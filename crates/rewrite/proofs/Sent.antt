@@ -55,8 +55,8 @@ carried_byte : (old now : List ℕ) (k : ℕ) → k < payload_at 0 old → get_o
 carried_byte old now k lt =
     let place = payload_at 0 old in
     either_byte _ (put_right (pseudo_in 0) (place + 16) old now) _ now k (put_byte (pseudo_in 0) (place + 16) old now k (inl (omega (arith, lt))))
-      (either_byte (protocol_at 0 old == 17) (put_right_if_made (pseudo_in 0) (place + 6) old now) _ now k (put_if_made_byte (pseudo_in 0) (place + 6) old now k (inl (omega (arith, lt))))
-        (either_byte (protocol_at 0 old == 1) (put_right (carried_in 0) (place + 2) old now) now now k (put_byte (carried_in 0) (place + 2) old now k (inl (omega (arith, lt)))) refl))
+    (either_byte (protocol_at 0 old == 17) (put_right_if_made (pseudo_in 0) (place + 6) old now) _ now k (put_if_made_byte (pseudo_in 0) (place + 6) old now k (inl (omega (arith, lt))))
+    (either_byte (protocol_at 0 old == 1) (put_right (carried_in 0) (place + 2) old now) now now k (put_byte (carried_in 0) (place + 2) old now k (inl (omega (arith, lt)))) refl))
 
 -- ---- the header: its bytes but its checksum's are those of the datagram with another header
 

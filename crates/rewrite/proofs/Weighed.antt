@@ -147,7 +147,7 @@ icmp_weighs p change ok one =
     let long : 20 ≤ place = omega (arith, ok.head.long) in
     let enough = icmp_long (payload_of p) (rw one at ok.carried) in
     let same : (k : ℕ) → place ≤ k → k < place + 4 → get_or r k 0 ≡ get_or p k 0 = λ k past lt.
-        icmp_byte t change.numbers 1 place k (timed_protocol p change ∙ one) (timed_payload p change) refl lt ∙ timed_byte p change k (omega (arith, long, past)) (inr (omega (arith, long, past))) in
+    icmp_byte t change.numbers 1 place k (timed_protocol p change ∙ one) (timed_payload p change) refl lt ∙ timed_byte p change k (omega (arith, long, past)) (inr (omega (arith, long, past))) in
     let high = same (place + 2) (omega arith) (omega arith) in
     let low = same (place + 2 + 1) (omega arith) (omega arith) in
     let stands = carried_stands p r (omega (arith, enough, within p ok, ok.head.whole, length-replaced 0 p change)) long (replaced_payload p change long) (rw (high, low) refl) in

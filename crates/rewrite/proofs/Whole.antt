@@ -59,8 +59,8 @@ replaced_header start p change d =
     let apart : (k : ℕ) → start + 12 + 3 < k → get_or one k 0 ≡ get_or p k 0 = λ k lt. number_byte_apart p (start + 12) from k (inr lt) in
     let first = named_number change.source p p (start + 12) (bytes4 p (start + 12) d.small) refl in
     let second = named_number change.destination one p (start + 16)
-        (bytes4_same one p (start + 16) (apart (start + 16) (omega arith)) (apart (start + 16 + 1) (omega arith)) (apart (start + 16 + 2) (omega arith)) (apart (start + 16 + 3) (omega arith)) (bytes4 p (start + 16) d.small))
-        (number_apart p (start + 12) from (start + 16) (inr (omega arith))) in
+    (bytes4_same one p (start + 16) (apart (start + 16) (omega arith)) (apart (start + 16 + 1) (omega arith)) (apart (start + 16 + 2) (omega arith)) (apart (start + 16 + 3) (omega arith)) (bytes4 p (start + 16) d.small))
+    (number_apart p (start + 12) from (start + 16) (inr (omega arith))) in
     let third = named_ttl change.ttl start two p (number_byte_apart one (start + 16) to (start + 8) (inl (omega arith)) ∙ number_byte_apart p (start + 12) from (start + 8) (inl (omega arith))) in
     ap (λ l. if_named (with_numbers start) (if_named (with_ttl start) (if_named (λ bytes n. with_number bytes (start + 16) n) l change.destination) change.ttl) change.numbers) first
     ∙ ap (λ l. if_named (with_numbers start) (if_named (with_ttl start) l change.ttl) change.numbers) second
@@ -89,8 +89,8 @@ header_right start p x from to ttl d same =
     let high : get_or x (start + 10) 0 ≡ get_or p (start + 10) 0 = in_head start n 10 (start + 10) x t same refl (omega (arith, d.long)) ∙ timed_byte start p from to ttl (start + 10) (inr (omega arith)) (inl (omega arith)) in
     let low : get_or x (start + 10 + 1) 0 ≡ get_or p (start + 10 + 1) 0 = in_head start n 11 (start + 10 + 1) x t same (omega arith) (omega (arith, d.long)) ∙ timed_byte start p from to ttl (start + 10 + 1) (inr (omega arith)) (inl (omega arith)) in
     put_right-is (header_in start) (start + 10) p x (header_words start p from to ttl)
-      (header_covered start p x from to ttl d (same_byte-len start p x first) same)
-      (word_kept x (start + 10) (word_at p (start + 10)) (rw high (d.small (start + 10))) (rw low (d.small (start + 10 + 1))) (rw (high, low) refl))
+    (header_covered start p x from to ttl d (same_byte-len start p x first) same)
+    (word_kept x (start + 10) (word_at p (start + 10)) (rw high (d.small (start + 10))) (rw low (d.small (start + 10 + 1))) (rw (high, low) refl))
 
 -- ---- what is carried
 
@@ -227,15 +227,15 @@ is_carried start p from to ttl numbers d room =
     let number = protocol_at start p in
     let place = payload_at start p in
     ⊎_elim
-      (λ six. carried_tcp start p from to ttl numbers d (rw (of_tcp number p place six) at room) six)
-      (λ not_six. ⊎_elim
-        (λ seventeen. carried_udp start p from to ttl numbers d (rw (of_udp number p place seventeen) at room) seventeen)
-        (λ not_seventeen. ⊎_elim
-          (λ one. carried_icmp start p from to ttl numbers d (rw (of_icmp number p place one) at room) one)
-          (λ not_one. carried_other start p from to ttl numbers d (ne_eqb _ _ not_six) (ne_eqb _ _ not_seventeen) (ne_eqb _ _ not_one))
-          (cases_eq number 1))
-        (cases_eq number 17))
-      (cases_eq number 6)
+    (λ six. carried_tcp start p from to ttl numbers d (rw (of_tcp number p place six) at room) six)
+    (λ not_six. ⊎_elim
+    (λ seventeen. carried_udp start p from to ttl numbers d (rw (of_udp number p place seventeen) at room) seventeen)
+    (λ not_seventeen. ⊎_elim
+    (λ one. carried_icmp start p from to ttl numbers d (rw (of_icmp number p place one) at room) one)
+    (λ not_one. carried_other start p from to ttl numbers d (ne_eqb _ _ not_six) (ne_eqb _ _ not_seventeen) (ne_eqb _ _ not_one))
+    (cases_eq number 1))
+    (cases_eq number 17))
+    (cases_eq number 6)
 
 -- ---- the whole
 

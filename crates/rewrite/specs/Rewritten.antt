@@ -73,7 +73,7 @@ abbrev pub put_right_if_made : (List ℕ → List ℕ) → ℕ → List ℕ → 
 put_right_if_made over place old now =
     if same_bytes (over old) (over now) || word_at old place == 0 then now
     else with_word now place
-        (or_all_ones (corrected (word_at old place) (words_sum (over old)) (words_sum (over now))))
+    (or_all_ones (corrected (word_at old place) (words_sum (over old)) (words_sum (over now))))
 
 -- what the checksums of a datagram are made over: its header (RFC 791)
 abbrev pub header_in : ℕ → List ℕ → List ℕ

@@ -18,7 +18,7 @@ udp time header high low checksum =
 abbrev pub tcp : ℕ → ℕ → List ℕ → ℕ → List ℕ
 tcp time header addresses checksum =
     in_words ((0x4500 ∷ 40 ∷ 1 ∷ 0 ∷ time ∷ header ∷ []) ++ addresses
-        ++ 5000 ∷ 80 ∷ 0 ∷ 0 ∷ 0 ∷ 0 ∷ 0x5002 ∷ 0x1000 ∷ checksum ∷ 0 ∷ [])
+    ++ 5000 ∷ 80 ∷ 0 ∷ 0 ∷ 0 ∷ 0 ∷ 0x5002 ∷ 0x1000 ∷ checksum ∷ 0 ∷ [])
 
 abbrev pub a_to_b : List ℕ
 a_to_b = 0xc0a8 ∷ 0x010a ∷ 0xc633 ∷ 0x6407 ∷ []
@@ -40,7 +40,7 @@ echo time header checksum identifier =
 abbrev pub odd : ℕ → ℕ → ℕ → ℕ → ℕ → ℕ → List ℕ
 odd time header high low port checksum =
     in_words (0x4600 ∷ 37 ∷ 1 ∷ 0 ∷ time ∷ header ∷ high ∷ low ∷ 0xc633 ∷ 0x6407 ∷ 0x0101 ∷ 0x0101 ∷ port ∷ 53 ∷ 13
-        ∷ checksum ∷ 0x6869 ∷ 0x7465 ∷ []) ++ 0x21 ∷ []
+    ∷ checksum ∷ 0x6869 ∷ 0x7465 ∷ []) ++ 0x21 ∷ []
 
 -- the TTL alone
 abbrev pub one_hop : Change

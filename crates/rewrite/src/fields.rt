@@ -53,8 +53,10 @@ impl Fields {
         let source = change.source.unwrap_or(self.source);
         let destination = change.destination.unwrap_or(self.destination);
         let ttl = change.ttl.unwrap_or(self.ttl);
-        let addresses =
-            Words::number(self.source, source).and(Words::number(self.destination, destination));
+        let addresses = Words::number(self.source, source).and(Words::number(
+            self.destination,
+            destination,
+        ));
         // The TTL is the high byte of its word.
         let header = Words::word(self.ttl as u16 * 256, ttl as u16 * 256).and(addresses);
         Fields {
@@ -87,7 +89,10 @@ impl Fields {
                 parts.set_destination_port(to);
                 parts.set_udp_checksum(checksum);
             }
-            Carried::Icmp { identifier, checksum } => {
+            Carried::Icmp {
+                identifier,
+                checksum,
+            } => {
                 parts.set_identifier(identifier);
                 parts.set_icmp_checksum(checksum);
             }
@@ -148,7 +153,10 @@ impl Carried {
                     checksum: words.renew_if_made(checksum),
                 }
             }
-            Carried::Icmp { identifier, checksum } => {
+            Carried::Icmp {
+                identifier,
+                checksum,
+            } => {
                 let other = named_identifier(numbers, identifier);
                 Carried::Icmp {
                     identifier: other,

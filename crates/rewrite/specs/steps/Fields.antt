@@ -96,7 +96,7 @@ changed_carried numbers addresses Other = Other
 abbrev pub address_change : Fields → Change → Words
 address_change fields change =
     both (number_change fields.source (unwrap_or change.source fields.source))
-        (number_change fields.destination (unwrap_or change.destination fields.destination))
+    (number_change fields.destination (unwrap_or change.destination fields.destination))
 
 -- the TTL is the high byte of its word
 abbrev pub ttl_change : Fields → Change → Words
@@ -123,9 +123,9 @@ with_carried place bytes Other = bytes
 abbrev pub with_header : ℕ → List ℕ → Fields → List ℕ
 with_header start bytes fields =
     slice_set (with_number (with_number bytes (start + 12) fields.source) (start + 16) fields.destination) (start + 8)
-        fields.ttl
+    fields.ttl
 
 abbrev pub with_fields : ℕ → List ℕ → Fields → List ℕ
 with_fields start bytes fields =
     with_word (with_carried (payload_at start bytes) (with_header start bytes fields) fields.carried) (start + 10)
-        fields.checksum
+    fields.checksum

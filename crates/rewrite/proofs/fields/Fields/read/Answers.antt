@@ -32,10 +32,10 @@ returns-clause-fields c =
     let first : get_or (drop start p) 0 0 ≡ get_or p start 0 = grind (arith, common_steps) in
     let ninth : get_or (drop start p) 9 0 ≡ get_or p (start + 9) 0 = get_or-drop start p 9 0 in
     made_by _ _ _ _ _ _ _ _ _
-        (number_read p (start + 12) c.read_u32.result (omega (arith, long)) c.read_u32.ensures)
-        (number_read p (start + 16) c.read_u32-2.result (omega (arith, long)) c.read_u32-2.ensures)
-        (word_read p (start + 10) c.read_u16.result (omega (arith, long)) c.read_u16.ensures)
-        (rw (ninth, first) (c.read.ensures ∙ ap (λ l. carried_of (get_or p (start + 9) 0) l) (rest_is p (start + get_or p start 0 % 16 * 4))))
+    (number_read p (start + 12) c.read_u32.result (omega (arith, long)) c.read_u32.ensures)
+    (number_read p (start + 16) c.read_u32-2.result (omega (arith, long)) c.read_u32-2.ensures)
+    (word_read p (start + 10) c.read_u16.result (omega (arith, long)) c.read_u16.ensures)
+    (rw (ninth, first) (c.read.ensures ∙ ap (λ l. carried_of (get_or p (start + 9) 0) l) (rest_is p (start + get_or p start 0 % 16 * 4))))
 
 pub returns-clause-bytes : goal.returns-clause-bytes
 returns-clause-bytes c = λ i. omega (arith, c.type_inv.packet i)
