@@ -1,9 +1,9 @@
 -- A packet that is sent on between the ends of a tuple carries that tuple.
-use Rattle.std.proofs.Common.{◌≡◌, ℕ, ◌+◌, ◌*◌, ◌%◌, ◌<◌, ◌≤◌, ◌⊎◌, inl, inr, ⊎_elim, Option, Some, None, List, length, get_or, take, drop, Bool, true, false, refl, sym, ap, ◌∙◌, arith}
+use Rattle.std.proofs.Common.{◌≡◌, ℕ, ◌+◌, ◌*◌, ◌%◌, ◌<◌, ◌≤◌, inl, inr, ⊎_elim, Option, Some, None, List, length, get_or, take, drop, Bool, true, false, refl, sym, ap, ◌∙◌, arith}
 use Rattle.std.specs.Prelude.{◌==◌, ◌||◌, if◌then◌else◌}
 use Rattle.std.specs.Option.{option_map}
 use Rattle.std.proofs.lemmas.Bool.{eqb-true, ne_eqb, cases_eq}
-use Rattle.std.proofs.lemmas.List.{get_or-take, get_or-drop, get_or-set_other, length-set}
+use Rattle.std.proofs.lemmas.List.{get_or-set_other, length-set}
 use Rattle.ip_headers.specs.declared.tuple.Kind.{Kind}
 use Rattle.ip_headers.specs.declared.tuple.Kind.TheVariants.{Tcp, Udp, Ask, Answer, Other}
 use Rattle.ip_headers.specs.declared.tuple.Tuple.{Tuple}
@@ -11,13 +11,12 @@ use Rattle.ip_headers.specs.Bytes.{word_at, number_at, with_word, with_number}
 use Rattle.ip_headers.specs.Header.{header_len, payload_at, payload_of, protocol, protocol_at, total_len, source, destination}
 use Rattle.ip_headers.specs.Passing.{Passes}
 use Rattle.ip_headers.specs.Transport.{icmp_type, transport_is_wrong}
-use Rattle.ip_headers.specs.Tuple.{kind_of, message_kind, port_from, port_to, tuple_of, tuple_with}
+use Rattle.ip_headers.specs.Tuple.{kind_of, port_from, port_to, tuple_of, tuple_with}
 use Rattle.rewrite.specs.declared.change.Change.{Change}
-use Rattle.rewrite.specs.declared.change.Numbers.{Numbers}
 use Rattle.rewrite.specs.declared.change.Numbers.TheVariants.{Ports, Identifier}
 use Rattle.rewrite.specs.Ends.{PortsSuit, between, numbers_by}
 use Rattle.rewrite.specs.Rewritten.{if_named, replaced, with_destination, with_numbers, with_ports, with_source, with_ttl}
-use Rattle.rewrite.proofs.Places.{length-word, length-number, number_apart, number_byte_apart, number_written, word_apart, word_written}
+use Rattle.rewrite.proofs.Places.{length-word, length-number, number_apart, number_written, word_apart, word_written}
 use Rattle.rewrite.proofs.Lengths.{length-named}
 use Rattle.rewrite.proofs.Sent.{named_byte, sent, sent_byte, sent_header, sent_icmp, sent_icmp_byte, sent_tcp, sent_udp, timed, timed_payload, timed_protocol}
 use Rattle.rewrite.proofs.Passed.{payload_byte, tcp_room, within}

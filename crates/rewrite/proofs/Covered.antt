@@ -1,18 +1,17 @@
 -- The words that change under each checksum of a datagram.
-use Rattle.std.proofs.Common.{◌≡◌, ℕ, ◌+◌, ◌*◌, ◌%◌, ◌<◌, ◌≤◌, ◌⊎◌, inl, inr, ⊎_elim, List, ◌++◌, length, get_or, set, take, drop, Bool, true, refl, sym, ap, ◌∙◌, arith}
-use Rattle.std.specs.Prelude.{◌==◌, ◌&&◌}
+use Rattle.std.proofs.Common.{◌≡◌, ℕ, ◌+◌, ◌*◌, ◌%◌, ◌<◌, ◌≤◌, ◌⊎◌, inl, ⊎_elim, List, ◌++◌, length, get_or, set, take, drop, refl, sym, ap, ◌∙◌, arith}
 use Rattle.std.proofs.lemmas.Bool.{eqb-true, eq-eqb, and_parts, and_from, cases_lt}
-use Rattle.std.proofs.lemmas.List.{length-take, length-drop, length-set, get_or-take, get_or-drop, get_or_past, get_or-set_other, take_at, drop_at, drop-set-lt}
+use Rattle.std.proofs.lemmas.List.{length-set, get_or-take, get_or-drop, get_or_past, get_or-set_other, take_at, drop_at, drop-set-lt}
 use Rattle.std.proofs.lemmas.Grind.{common_steps}
 use Rattle.ip_headers.specs.Sum.{words_sum}
 use Rattle.ip_headers.specs.Bytes.{byte_at, word_at, number_at, with_word, with_number}
-use Rattle.ip_headers.specs.Header.{header_len, payload_at, protocol_at}
+use Rattle.ip_headers.specs.Header.{header_len, payload_at}
 use Rattle.rewrite.specs.declared.checksum.Words.{Words}
 use Rattle.rewrite.specs.Rewritten.{header_in, carried_in, pseudo_in, with_ports}
 use Rattle.rewrite.specs.steps.Fields.{both, number_change, word_change}
 use Rattle.rewrite.proofs.Sums.{words_sum-append, words_sum-word}
-use Rattle.rewrite.proofs.Places.{word_written, byte_apart, length-word, length-number, number_byte_apart, word_kept, byte_in, byte_before, word_after, number_in, number_after, rest_in, number_rest_before, byte_of_part, number_of_part, word_of_rest}
-use Rattle.rewrite.proofs.Parts.{head_with, IsHead, head_sum, head_kept, Reads, head_reads, pair_with, IsPair, length-pair, pair_sum, pair_kept, ReadsPair, pair_reads, ports_sum, ReadsPorts, ports_read, ports_kept}
+use Rattle.rewrite.proofs.Places.{word_written, byte_apart, length-number, number_byte_apart, word_kept, byte_in, byte_before, word_after, number_in, rest_in, number_rest_before, byte_of_part, number_of_part, word_of_rest}
+use Rattle.rewrite.proofs.Parts.{head_with, IsHead, head_sum, head_kept, head_reads, pair_with, IsPair, length-pair, pair_sum, pair_kept, pair_reads, ports_sum, ports_read, ports_kept}
 use Rattle.rewrite.proofs.Corrected.{Covers}
 
 -- ---- the datagram with another header

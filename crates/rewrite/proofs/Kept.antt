@@ -1,11 +1,11 @@
 -- A checksum that is put right keeps the sum that it is made for, modulo 65535.
-use Rattle.std.proofs.Common.{◌≡◌, ◌≢◌, ℕ, ◌+◌, ◌-◌, ◌%◌, ◌<◌, ◌≤◌, List, length, get_or, take, drop, Bool, true, false, refl, sym, ap, ◌∙◌, arith}
+use Rattle.std.proofs.Common.{◌≡◌, ◌≢◌, ℕ, ◌+◌, ◌%◌, ◌<◌, List, length, Bool, true, false, refl, sym, ap, arith}
 use Rattle.std.specs.Prelude.{◌==◌, ◌||◌, if◌then◌else◌}
 use Rattle.std.proofs.lemmas.Bool.{ne_eqb}
 use Rattle.ip_headers.specs.Sum.{words_sum}
 use Rattle.ip_headers.specs.Bytes.{word_at, with_word}
 use Rattle.rewrite.specs.Rewritten.{corrected, or_all_ones, put_right, put_right_if_made, same_bytes}
-use Rattle.rewrite.proofs.Sums.{high_at, words_sum-word}
+use Rattle.rewrite.proofs.Sums.{words_sum-word}
 use Rattle.rewrite.proofs.Parts.{IsEven}
 use Rattle.rewrite.proofs.Corrected.{same_bytes-true}
 

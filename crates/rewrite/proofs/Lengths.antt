@@ -1,6 +1,6 @@
 -- How long packets are, and that their fields are there.
-use Rattle.std.proofs.Common.{◌≡◌, ℕ, ◌+◌, ◌≤◌, Option, Some, None, List, length, get_or, set, drop, take, length-take, length-drop, Bool, true, false, refl, ap, ◌∙◌, arith}
-use Rattle.std.specs.Prelude.{◌==◌, ◌||◌, nat_le, if◌then◌else◌}
+use Rattle.std.proofs.Common.{◌≡◌, ℕ, ◌+◌, ◌≤◌, Option, Some, None, List, length, drop, take, length-take, length-drop, Bool, true, false, refl, ◌∙◌, arith}
+use Rattle.std.specs.Prelude.{◌==◌, ◌||◌, if◌then◌else◌}
 use Rattle.std.proofs.lemmas.List.{length-set}
 use Rattle.ip_headers.specs.Bytes.{word_at, with_word}
 use Rattle.ip_headers.specs.Header.{header_len, payload_at, payload_of, protocol, protocol_at, total_len}
@@ -11,8 +11,8 @@ use Rattle.rewrite.specs.declared.change.Numbers.{Numbers}
 use Rattle.rewrite.specs.declared.change.Numbers.TheVariants.{Ports, Identifier}
 use Rattle.rewrite.specs.declared.fields.Carried.{Carried}
 use Rattle.rewrite.specs.declared.fields.Carried.TheVariants.{Tcp, Udp, Icmp, Other}
-use Rattle.rewrite.specs.Rewritten.{carried_in, corrected, header_in, if_named, or_all_ones, pseudo_in, put_right, put_right_if_made, replaced, rewritten, right_carried, right_datagram, same_bytes, with_destination, with_numbers, with_ports, with_source, with_ttl}
-use Rattle.rewrite.specs.steps.Fields.{HasFields, carried_of, fields_at, len_of}
+use Rattle.rewrite.specs.Rewritten.{carried_in, header_in, if_named, pseudo_in, put_right, put_right_if_made, replaced, rewritten, right_carried, same_bytes, with_destination, with_numbers, with_ports, with_source, with_ttl}
+use Rattle.rewrite.specs.steps.Fields.{HasFields, carried_of, len_of}
 use Rattle.rewrite.proofs.Places.{length-word, length-number}
 
 -- ---- a packet that passes the tests has all fields

@@ -1,12 +1,11 @@
 -- The parts of a packet with other fields: its header, its addresses and what it carries.
-use Rattle.std.proofs.Common.{◌≡◌, ℕ, ◌+◌, ◌*◌, ◌/◌, ◌%◌, ◌<◌, ◌≤◌, ◌⊎◌, inl, inr, List, ◌++◌, length, get_or, set, take, drop, true, false, add_assoc, refl, sym, ap, ◌∙◌, arith}
-use Rattle.std.proofs.lemmas.List.{set-get_or, length-set, get_or-set_same, get_or-set_other, drop-set-lt}
-use Rattle.std.proofs.lemmas.Grind.{common_steps}
+use Rattle.std.proofs.Common.{◌≡◌, ℕ, ◌+◌, ◌*◌, ◌/◌, ◌%◌, ◌<◌, ◌≤◌, inl, inr, List, length, get_or, set, true, false, add_assoc, refl, ◌∙◌, arith}
+use Rattle.std.proofs.lemmas.List.{set-get_or, get_or-set_same}
 use Rattle.ip_headers.specs.Sum.{words_sum}
 use Rattle.ip_headers.specs.Bytes.{word_at, number_at, with_word, with_number}
 use Rattle.rewrite.specs.Rewritten.{with_ports}
 use Rattle.rewrite.proofs.Sums.{high_at, words_sum-set, words_sum-word}
-use Rattle.rewrite.proofs.Places.{word_written, byte_apart, word_apart, word_kept, number_byte_apart, length-word, length-number, number_written, Bytes4, number_kept, number_apart, number_past, byte_in, byte_before, word_in, word_after, number_in, number_after, rest_in, rest_before, number_rest_before}
+use Rattle.rewrite.proofs.Places.{word_written, word_apart, word_kept, number_byte_apart, length-word, length-number, number_written, Bytes4, number_kept, number_apart, number_past}
 
 -- ---- sums
 

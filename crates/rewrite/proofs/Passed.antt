@@ -1,16 +1,14 @@
 -- What is sent on passes the tests that what came did.
-use Rattle.std.proofs.Common.{◌≡◌, ℕ, ◌+◌, ◌*◌, ◌/◌, ◌%◌, ◌<◌, ◌≤◌, inl, inr, ⊎_elim, List, length, get_or, take, drop, length-take, length-drop, Bool, true, false, refl, sym, ap, ◌∙◌, arith}
-use Rattle.std.specs.Prelude.{◌==◌, ◌||◌, nat_lt, not, if◌then◌else◌}
+use Rattle.std.proofs.Common.{◌≡◌, ℕ, ◌+◌, ◌*◌, ◌/◌, ◌%◌, ◌<◌, ◌≤◌, inl, ⊎_elim, List, length, get_or, take, drop, length-take, length-drop, false, refl, sym, ap, ◌∙◌, arith}
 use Rattle.std.proofs.lemmas.Bool.{ne_eqb, cases_eq}
 use Rattle.std.proofs.lemmas.List.{get_or-take, get_or-drop}
-use Rattle.std.proofs.lemmas.Grind.{common_steps}
-use Rattle.ip_headers.specs.Sum.{words_sum, ones_sum_of}
+use Rattle.ip_headers.specs.Sum.{words_sum}
 use Rattle.ip_headers.specs.Bytes.{word_at, with_word}
-use Rattle.ip_headers.specs.Header.{header, header_len, is_fragment, payload_at, payload_of, protocol, total_len, version}
+use Rattle.ip_headers.specs.Header.{header, header_len, payload_at, payload_of, protocol, total_len}
 use Rattle.ip_headers.specs.Passing.{Passes}
 use Rattle.ip_headers.specs.Transport.{tcp_is_wrong, transport_is_wrong, udp_is_wrong}
 use Rattle.rewrite.specs.declared.change.Change.{Change}
-use Rattle.rewrite.specs.Rewritten.{header_in, replaced, rewritten}
+use Rattle.rewrite.specs.Rewritten.{header_in, replaced}
 use Rattle.rewrite.proofs.Sums.{still_ones}
 use Rattle.rewrite.proofs.Places.{byte_apart, word_in, word_of_part}
 use Rattle.rewrite.proofs.Kept.{StandsAt, put_keeps}

@@ -1,18 +1,15 @@
 -- What is sent on, byte by byte, whatever the numbers in the list are.
-use Rattle.std.proofs.Common.{◌≡◌, ◌≢◌, ℕ, ◌+◌, ◌*◌, ◌%◌, ◌<◌, ◌≤◌, ◌⊎◌, inl, inr, ⊎_elim, Option, Some, None, List, length, get_or, set, take, drop, Bool, true, false, refl, sym, ap, ◌∙◌, arith}
-use Rattle.std.specs.Prelude.{◌==◌, ◌||◌, nat_le, not, if◌then◌else◌}
-use Rattle.std.proofs.lemmas.Bool.{eq-eqb, ne_eqb, cases_eq}
-use Rattle.std.proofs.lemmas.List.{get_or-set_other, get_or-take, get_or-drop}
-use Rattle.std.proofs.lemmas.Grind.{common_steps}
-use Rattle.ip_headers.specs.Bytes.{word_at, number_at, with_word, with_number}
-use Rattle.ip_headers.specs.Header.{header_len, payload_at, protocol, protocol_at, total_len}
-use Rattle.ip_headers.specs.Passing.{Passes}
+use Rattle.std.proofs.Common.{◌≡◌, ◌≢◌, ℕ, ◌+◌, ◌*◌, ◌%◌, ◌<◌, ◌≤◌, ◌⊎◌, inl, inr, Option, Some, None, List, length, get_or, Bool, true, false, refl, ap, ◌∙◌, arith}
+use Rattle.std.specs.Prelude.{◌==◌, ◌||◌, if◌then◌else◌}
+use Rattle.std.proofs.lemmas.List.{get_or-set_other}
+use Rattle.ip_headers.specs.Bytes.{word_at, with_word}
+use Rattle.ip_headers.specs.Header.{payload_at, protocol_at}
 use Rattle.rewrite.specs.declared.change.Change.{Change}
 use Rattle.rewrite.specs.declared.change.Numbers.{Numbers}
 use Rattle.rewrite.specs.declared.change.Numbers.TheVariants.{Ports, Identifier}
-use Rattle.rewrite.specs.Rewritten.{carried_in, corrected, header_in, if_named, or_all_ones, pseudo_in, put_right, put_right_if_made, replaced, right_carried, right_datagram, right_header, same_bytes, with_destination, with_numbers, with_ports, with_source, with_ttl}
+use Rattle.rewrite.specs.Rewritten.{carried_in, header_in, if_named, pseudo_in, put_right, put_right_if_made, replaced, right_carried, right_datagram, same_bytes, with_destination, with_numbers, with_ports, with_source, with_ttl}
 use Rattle.rewrite.proofs.Places.{byte_apart, number_byte_apart}
-use Rattle.rewrite.proofs.Whole.{by_icmp, by_other, by_tcp, by_udp}
+use Rattle.rewrite.proofs.Whole.{by_icmp, by_tcp, by_udp}
 
 -- ---- the stages
 

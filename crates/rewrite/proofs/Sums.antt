@@ -3,7 +3,7 @@ use Rattle.std.proofs.Common.{◌≡◌, ℕ, zero, suc, ◌+◌, ◌*◌, ◌/�
 use mathlib.Core.Bool.{not}
 use Rattle.std.proofs.lemmas.Grind.{common_steps}
 use Rattle.ip_headers.specs.Sum.{words_sum, ones_sum_of}
-use Rattle.ip_headers.specs.Bytes.{word_at, number_at, with_word, with_number}
+use Rattle.ip_headers.specs.Bytes.{word_at, with_word}
 
 -- the place of one byte in its word
 abbrev pub at_place : Bool → ℕ → ℕ

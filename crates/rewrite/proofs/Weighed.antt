@@ -1,14 +1,14 @@
 -- The checksum of what is carried stays as right or as wrong as it was.
-use Rattle.std.proofs.Common.{◌≡◌, ◌≢◌, ℕ, ◌+◌, ◌-◌, ◌*◌, ◌/◌, ◌%◌, ◌<◌, ◌≤◌, inl, inr, Option, List, ◌++◌, length, get_or, set, take, drop, length-append, length-take, length-drop, Bool, true, false, refl, sym, ap, ◌∙◌, arith}
+use Rattle.std.proofs.Common.{◌≡◌, ◌≢◌, ℕ, ◌+◌, ◌-◌, ◌*◌, ◌/◌, ◌%◌, ◌<◌, ◌≤◌, inl, inr, List, ◌++◌, length, get_or, set, take, drop, length-append, length-take, length-drop, Bool, true, false, refl, sym, ap, ◌∙◌, arith}
 use Rattle.std.specs.Prelude.{◌==◌, if◌then◌else◌}
 use Rattle.std.proofs.lemmas.List.{set-append_right}
 use Rattle.std.proofs.lemmas.Grind.{common_steps}
 use Rattle.ip_headers.specs.Sum.{words_sum}
 use Rattle.ip_headers.specs.Bytes.{word_at, with_word}
-use Rattle.ip_headers.specs.Header.{header_len, payload_at, payload_of, protocol, protocol_at}
+use Rattle.ip_headers.specs.Header.{payload_at, payload_of, protocol, protocol_at}
 use Rattle.ip_headers.specs.Passing.{Passes}
 use Rattle.rewrite.specs.declared.change.Change.{Change}
-use Rattle.rewrite.specs.Rewritten.{carried_in, corrected, header_in, pseudo_in, put_right, replaced, same_bytes, with_numbers}
+use Rattle.rewrite.specs.Rewritten.{carried_in, header_in, pseudo_in, replaced, same_bytes, with_numbers}
 use Rattle.rewrite.proofs.Places.{byte_apart, word_after, word_before, rest_before, rest_in, word_of_rest}
 use Rattle.rewrite.proofs.Parts.{IsEven}
 use Rattle.rewrite.proofs.Kept.{StandsAt, put_if_made_keeps, put_keeps}

@@ -1,7 +1,7 @@
 -- The fields of a datagram, changed one by one and written, are the datagram as it is sent on.
-use Rattle.std.proofs.Common.{◌≡◌, ℕ, ◌+◌, ◌<◌, ◌≤◌, ◌⊎◌, inl, inr, ⊎_elim, Option, Some, None, List, length, get_or, set, take, drop, Bool, true, false, refl, sym, ap, ◌∙◌, arith}
-use Rattle.std.specs.Prelude.{◌==◌, ◌||◌, nat_le, unwrap_or}
-use Rattle.std.proofs.lemmas.Bool.{eq-eqb, ne_eqb, le-leb, cases_eq}
+use Rattle.std.proofs.Common.{◌≡◌, ℕ, ◌+◌, ◌<◌, ◌≤◌, inl, inr, ⊎_elim, Option, Some, None, List, length, get_or, set, drop, Bool, true, false, refl, sym, ap, ◌∙◌, arith}
+use Rattle.std.specs.Prelude.{◌==◌, ◌||◌, unwrap_or}
+use Rattle.std.proofs.lemmas.Bool.{ne_eqb, le-leb, cases_eq}
 use Rattle.std.proofs.lemmas.List.{set-get_or, get_or-drop}
 use Rattle.ip_headers.specs.Bytes.{byte_at, word_at, number_at, with_word, with_number}
 use Rattle.ip_headers.specs.Header.{header_len, payload_at, protocol_at}
@@ -12,10 +12,10 @@ use Rattle.rewrite.specs.declared.fields.Carried.{Carried}
 use Rattle.rewrite.specs.declared.fields.Carried.TheVariants.{Tcp, Udp, Icmp, Other}
 use Rattle.rewrite.specs.Rewritten.{carried_in, header_in, if_named, pseudo_in, put_right, put_right_if_made, replaced, right_carried, right_datagram, right_header, with_numbers, with_ports, with_ttl}
 use Rattle.rewrite.specs.steps.Fields.{carried_of, changed_carried, changed_fields, fields_at, identifier_named, len_of, ports_named, renewed, with_carried, with_fields}
-use Rattle.rewrite.proofs.Places.{byte_apart, length-word, Bytes4, number_byte_apart, number_apart, number_kept, word_kept, word_after, byte_of_part, word_of_rest}
+use Rattle.rewrite.proofs.Places.{byte_apart, Bytes4, number_byte_apart, number_apart, number_kept, word_kept, word_after, byte_of_part, word_of_rest}
 use Rattle.rewrite.proofs.Parts.{bytes4, ports_kept}
 use Rattle.rewrite.proofs.Corrected.{put_right-is, put_right_if_made-is}
-use Rattle.rewrite.proofs.Covered.{timed, timed_byte, length-timed, head_of, IsDatagram, same_byte-len, header_words, header_covered, pair_words, port_words, pseudo_covered, carried_covered}
+use Rattle.rewrite.proofs.Covered.{timed, timed_byte, head_of, IsDatagram, same_byte-len, header_words, header_covered, pair_words, pseudo_covered, carried_covered}
 
 -- ---- a field that isn't named is written as it was
 

@@ -1,5 +1,5 @@
 -- The packets of the trials, word by word. A is 192.168.1.10, B is 198.51.100.7 and E is 203.0.113.1.
-use Rattle.std.specs.Prelude.{ℕ, ◌/◌, ◌%◌, List, [], ◌∷◌, ◌++◌, Option, Some, None}
+use Rattle.std.specs.Prelude.{ℕ, ◌/◌, ◌%◌, List, [], ◌∷◌, ◌++◌, Some, None}
 use Rattle.rewrite.specs.declared.change.Change.{Change}
 use Rattle.rewrite.specs.declared.change.Numbers.TheVariants.{Ports, Identifier}
 

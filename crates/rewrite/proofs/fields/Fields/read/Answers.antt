@@ -3,10 +3,9 @@ use Rattle.std.proofs.lemmas.List.{get_or-drop}
 use Rattle.std.proofs.lemmas.Grind.{common_steps}
 use Rattle.byteorder.specs.Endian.{big_number}
 use Rattle.ip_headers.specs.Bytes.{number_at, word_at}
-use Rattle.ip_headers.specs.Header.{payload_at, protocol_at, header_len}
 use Rattle.rewrite.specs.declared.fields.Fields.{Fields}
 use Rattle.rewrite.specs.declared.fields.Carried.{Carried}
-use Rattle.rewrite.specs.steps.Fields.{carried_of, fields_at, len_of}
+use Rattle.rewrite.specs.steps.Fields.{carried_of}
 use Rattle.rewrite.proofs.fields.Fields.read.Goals as goal
 
 number_read : (bytes : List ℕ) (i number : ℕ) → i + 4 ≤ length bytes → number ≡ big_number 4 (take (length bytes - i) (drop i bytes)) → number ≡ number_at bytes i
