@@ -1,6 +1,6 @@
 -- What bytes are as a packet of IPv4 (RFC 791, section 3.1).
-use Rattle.std.specs.Prelude.{ℕ, ◌+◌, ◌*◌, ◌/◌, ◌%◌, ◌==◌, nat_lt, not, Bool, List, length, take, drop, Option, Some, None}
-use Rattle.std.specs.Prelude.{if◌then◌else◌}
+use Rattle.std.specs.Prelude.{ℕ, ◌+◌, ◌*◌, ◌/◌, ◌%◌, ◌==◌, nat_lt, not, Bool, List, length, take, drop}
+use Rattle.std.specs.Prelude.{Option, Some, None, if◌then◌else◌}
 use Rattle.ip_headers.specs.declared.view.HeaderFault.{HeaderFault}
 use Rattle.ip_headers.specs.declared.view.HeaderFault.TheVariants.{Short, Version, HeaderLength, Length, Truncated}
 use Rattle.ip_headers.specs.declared.view.HeaderFault.TheVariants.{Checksum, Fragment, Transport}

@@ -51,7 +51,8 @@ abbrev pub from_e : Change
 from_e = record { source = Some 0xcb007101; destination = None; numbers = None; ttl = Some 63 }
 
 abbrev pub from_e_port_8000 : Change
-from_e_port_8000 = record { source = Some 0xcb007101; destination = None; numbers = Some (Ports 8000 53); ttl = Some 63 }
+from_e_port_8000 =
+    record { source = Some 0xcb007101; destination = None; numbers = Some (Ports 8000 53); ttl = Some 63 }
 
 -- the addresses change places
 abbrev pub swapped : Change
