@@ -11,7 +11,8 @@ use Rattle.rule_meaning.specs.declared.event.Event.{Event}
 use Rattle.rule_meaning.specs.declared.event.Ending.{Ending}
 use Rattle.rule_meaning.specs.declared.event.Ending.TheVariants.{Accepted, Dropped, Translated}
 use Rattle.rule_meaning.specs.Hooks as meaning
-use Rattle.rule_meaning.specs.Hooks.{Base, bases_of, stands_at, filters_at, is_below, InOrder, End, Passage, RunsBase, GoesOn, Stops, Then, InTurn, Chains}
+use Rattle.rule_meaning.specs.Hooks.{Base, bases_of, stands_at, filters_at, translates_at, is_below, InOrder}
+use Rattle.rule_meaning.specs.Hooks.{End, Passage, RunsBase, GoesOn, Stops, Then, InTurn, Chains}
 use Rattle.filter_vm.specs.declared.code.Code.{Code}
 use Rattle.filter_vm.specs.declared.code.Start.{Start}
 use Rattle.filter_vm.specs.Machine.{starts_of, end_of}
@@ -20,7 +21,9 @@ use Rattle.hook_runs.specs.declared.parts.Part.{Part}
 use Rattle.hook_runs.specs.declared.parts.Part.TheVariants as parts
 use Rattle.hook_runs.specs.declared.parts.Parts.{Parts}
 use Rattle.hook_runs.specs.Parts.{bases_in, dstnat, is_late, srcnat}
-use Rattle.hook_runs.specs.steps.Starts.{AllLead, AreParts, AreStarts, Leads, after, before, filters, goes_on, in_turn, is_filter, late, runs_in, starts_before, starts_in, then_on}
+use Rattle.hook_runs.specs.steps.Starts.{AllLead, AreParts, AreStarts, Leads, goes_on, in_turn, then_on}
+use Rattle.hook_runs.specs.steps.Starts.{after, before, filters, is_filter, is_translator, late, starts_before}
+use Rattle.hook_runs.specs.steps.Starts.{runs_in, starts_in, translators}
 use Rattle.hook_runs.proofs.Orders.{filter_twice, in_text, some_in_order}
 
 -- ---- one after another
@@ -139,6 +142,11 @@ module _ (checked : CheckedTree) (code : Code) where
     of_filters : (hook : Hook) → AreStarts checked code (filters_at hook) (filters (starts_of code hook))
     of_filters hook = narrowed is_filter (λ b. meaning.is_filter b.head.kind) (λ s b same. ap (λ (t : Told). not t.is_nat) same ∙ twice (meaning.is_filter b.head.kind)) (stands_at hook) (starts_of code hook) (at_hook hook)
 
+    of_translators : (hook : Hook) → AreStarts checked code (translates_at hook) (translators (starts_of code hook))
+    of_translators hook =
+        narrowed is_translator (λ b. not (meaning.is_filter b.head.kind))
+        (λ s b same. ap (λ (t : Told). t.is_nat) same) (stands_at hook) (starts_of code hook) (at_hook hook)
+
     of_late : AreStarts checked code is_late (late code)
     of_late = alike (λ b. filters_at hooks.Prerouting b && not (is_below (negsuc 198) b)) is_late (λ b. once (filters_at hooks.Prerouting b) (is_below (negsuc 198) b)) (late code) (later (negsuc 198) (filters_at hooks.Prerouting) (filters code.prerouting.items) (of_filters hooks.Prerouting))
 
@@ -147,10 +155,12 @@ module _ (checked : CheckedTree) (code : Code) where
     of_part : (part : Part) → AreStarts checked code (bases_in part) (runs_in code part)
     of_part parts.Early = earlier (negsuc 198) (filters_at hooks.Prerouting) (filters code.prerouting.items) (of_filters hooks.Prerouting)
     of_part parts.BeforeDestination = earlier dstnat is_late (late code) of_late
+    of_part parts.ToDestination = of_translators hooks.Prerouting
     of_part parts.AfterDestination = later dstnat is_late (late code) of_late
     of_part parts.Input = of_filters hooks.Input
     of_part parts.Forward = of_filters hooks.Forward
     of_part parts.BeforeSource = earlier srcnat (filters_at hooks.Postrouting) (filters code.postrouting.items) (of_filters hooks.Postrouting)
+    of_part parts.ToSource = of_translators hooks.Postrouting
     of_part parts.AfterSource = later srcnat (filters_at hooks.Postrouting) (filters code.postrouting.items) (of_filters hooks.Postrouting)
 
     pub of_parts : (p : Parts) → AreParts code p → (part : Part) → AreStarts checked code (bases_in part) (starts_in p part)

@@ -41,7 +41,8 @@ impl HookRuns {
     pub fn new(alloc: Global, checked: Checked) -> Result<Self, AllocError>
         ensures rules { IfOk result (λ runs. runs.rules ≡ checked.rules) }
         ensures plant { IfOk result (λ runs. runs.plant ≡ checked.plant) }
-        // Each chain of type filter that isn't of output runs in one part, at what it costs; any other in none.
+        // Each base chain that isn't of hook output, nor of type nat on input or forward, runs in
+        // one part at what it costs; any other in none.
         ensures cost { IfOk result (λ runs. (cost : TableTree → Caller → ℕ) → AreAllCosts checked.rules cost
             → all_cost runs ≤ ruleset_cost cost checked.rules) }
     {

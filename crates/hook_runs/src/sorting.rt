@@ -1,6 +1,6 @@
 //! Which base chains run in which part.
 ghost use Rattle.std.specs.Prelude.{◌≡◌, IfOk};
-ghost use Rattle.hook_runs.specs.steps.Starts.{AreParts, after, before, filters};
+ghost use Rattle.hook_runs.specs.steps.Starts.{AreParts, after, before, filters, translators};
 
 use crate::parts::Parts;
 use filter_vm::{Code, Start};
@@ -10,10 +10,11 @@ use std::alloc::{AllocError, Global};
 /// (netfilter looks for it at `NF_IP_PRI_CONNTRACK`, -200): those below this.
 const AFTER_TRACKING: i32 = -199;
 
-/// The destination is translated here, before chains of the same priority (nft(8), `dstnat`).
+/// The destination is translated here, before filter chains of the same priority (nft(8),
+/// `dstnat`): all chains of type nat run here, whatever their own priority.
 const DESTINATION: i32 = -100;
 
-/// The source is translated here, before chains of the same priority (nft(8), `srcnat`).
+/// The source is translated here, likewise (nft(8), `srcnat`).
 const SOURCE: i32 = 100;
 
 /// Base chains on both sides of a priority, each in their order.
@@ -34,10 +35,12 @@ pub(crate) fn parts_of(alloc: Global, code: &Code) -> Result<Parts, AllocError>
     Ok(Parts {
         early: prerouting.before,
         before_destination: destination.before,
+        to_destination: translators(alloc, &code.prerouting)?,
         after_destination: destination.after,
         input: filters(alloc, &code.input)?,
         forward: filters(alloc, &code.forward)?,
         before_source: source.before,
+        to_source: translators(alloc, &code.postrouting)?,
         after_source: source.after,
     })
 }
@@ -53,6 +56,19 @@ fn filters(alloc: Global, starts: &[Start]) -> Result<Vec<Start>, AllocError>
         }
     }
     Ok(filters)
+}
+
+/// Those of type nat.
+fn translators(alloc: Global, starts: &[Start]) -> Result<Vec<Start>, AllocError>
+    ensures { IfOk result (λ kept. kept.items ≡ translators starts.now) }
+{
+    let mut translators = Vec::new(alloc);
+    for start in starts {
+        if start.is_nat {
+            translators.push(*start)?;
+        }
+    }
+    Ok(translators)
 }
 
 /// Those on both sides of a priority.

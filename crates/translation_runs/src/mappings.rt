@@ -42,7 +42,7 @@ fn held(
     ensures few { (m : Mapped) → holders_of m table.new.held ≤ number + 1 }
 {
     stays_one_to_one();
-    let _ = table.inbound(kind, internal);
+    table.one_to_one();
     let Ok(port) = table.source(kind, internal, address, None) else {
         return Ok(None);
     };

@@ -20,20 +20,28 @@ use Rattle.hook_runs.specs.declared.parts.Parts.{Parts}
 abbrev pub starts_in : Parts → Part → List Start
 starts_in p parts.Early = p.early.items
 starts_in p parts.BeforeDestination = p.before_destination.items
+starts_in p parts.ToDestination = p.to_destination.items
 starts_in p parts.AfterDestination = p.after_destination.items
 starts_in p parts.Input = p.input.items
 starts_in p parts.Forward = p.forward.items
 starts_in p parts.BeforeSource = p.before_source.items
+starts_in p parts.ToSource = p.to_source.items
 starts_in p parts.AfterSource = p.after_source.items
 
 abbrev pub is_filter : Start → Bool
 is_filter s = not s.is_nat
+
+abbrev pub is_translator : Start → Bool
+is_translator s = s.is_nat
 
 abbrev pub starts_before : ℤ → Start → Bool
 starts_before priority s = int_lt s.priority priority
 
 abbrev pub filters : List Start → List Start
 filters = filter is_filter
+
+abbrev pub translators : List Start → List Start
+translators = filter is_translator
 
 -- those on both sides of a priority
 abbrev pub before : ℤ → List Start → List Start
@@ -48,10 +56,12 @@ late code = after (negsuc 198) (filters code.prerouting.items)
 abbrev pub runs_in : Code → Part → List Start
 runs_in code parts.Early = before (negsuc 198) (filters code.prerouting.items)
 runs_in code parts.BeforeDestination = before dstnat (late code)
+runs_in code parts.ToDestination = translators code.prerouting.items
 runs_in code parts.AfterDestination = after dstnat (late code)
 runs_in code parts.Input = filters code.input.items
 runs_in code parts.Forward = filters code.forward.items
 runs_in code parts.BeforeSource = before srcnat (filters code.postrouting.items)
+runs_in code parts.ToSource = translators code.postrouting.items
 runs_in code parts.AfterSource = after srcnat (filters code.postrouting.items)
 
 abbrev pub AreParts : Code → Parts → Type 0
@@ -81,10 +91,12 @@ abbrev pub costs_of : Parts → Costs
 costs_of p = record {
   early = cost_of p.early.items;
   before_destination = cost_of p.before_destination.items;
+  to_destination = cost_of p.to_destination.items;
   after_destination = cost_of p.after_destination.items;
   input = cost_of p.input.items;
   forward = cost_of p.forward.items;
   before_source = cost_of p.before_source.items;
+  to_source = cost_of p.to_source.items;
   after_source = cost_of p.after_source.items;
 }
 

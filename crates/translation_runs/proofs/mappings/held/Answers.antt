@@ -6,7 +6,7 @@ use Rattle.translation_runs.proofs.mappings.held.Goals as goal
 pub hold-requires-clause-one_to_one : goal.hold-requires-clause-one_to_one
 hold-requires-clause-one_to_one c =
     c.stays_one_to_one.ensures.source c.args.table.now.held c.args.kind c.args.internal c.args.address None c.in-Ok.port
-    (c.inbound.ensures.one_to_one c.args.table.now.held (λ m. refl))
+    (c.one_to_one.ensures c.args.table.now.held (λ m. refl))
     (c.in-Ok.ensures.ok c.args.table.now.held (λ m. refl))
 
 pub returns : goal.returns

@@ -1,0 +1,4 @@
+pub mod Counts
+pub mod Mapped
+pub mod Taken
+pub mod Open

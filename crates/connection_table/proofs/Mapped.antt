@@ -1,0 +1,49 @@
+-- The mappings of connections held, after a packet more of one and with one more.
+use Rattle.std.proofs.Common.{◌≡◌, ℕ, ◌+◌, ◌*◌, ◌≤◌, Bool, true, false, cond, List, [], ◌∷◌, ◌++◌, length, refl, arith}
+use Rattle.std.proofs.lemmas.List.{length-append}
+use Rattle.std.proofs.lemmas.List.Concat.{flat_map-append}
+use Rattle.ip_headers.specs.declared.tuple.Mapping.{Mapping}
+use Rattle.conntrack.specs.declared.connection.ConnId.{ConnId}
+use Rattle.conntrack.specs.declared.connection.Direction.{Direction}
+use Rattle.conntrack.specs.declared.connection.Flags.{Flags}
+use Rattle.conntrack.specs.declared.connection.Held.{Held}
+use Rattle.conntrack.specs.Held.{same_id, touched, touched_at}
+use Rattle.nat_mapping.specs.Mappings.{holders_of}
+use Rattle.translation.specs.Mapped.{listed, mappings_in, mappings_of}
+use Rattle.connection_table.proofs.Counts.{holders-append, holders-nil, length-listed}
+
+-- a connection keeps them
+module _ (id : ConnId) (direction : Direction) (flags : Flags) (mark now : ℕ) where
+  mappings_of-touched : (b : Bool) (h : Held)
+      → mappings_of (cond b (touched direction flags mark now h) h) ≡ mappings_of h
+  mappings_of-touched true h = refl
+  mappings_of-touched false h = refl
+
+  pub mappings_in-touched_at : (held : List Held)
+      → mappings_in (touched_at id direction flags mark now held) ≡ mappings_in held
+  mappings_in-touched_at [] = refl
+  mappings_in-touched_at (h ∷ held) = rw (mappings_of-touched (same_id id h) h, mappings_in-touched_at held)
+
+-- ---- how many hold a mapping
+
+pub holders-first : (m : Mapping) (h : Held) (held : List Held) → holders_of m (mappings_in (h ∷ held))
+    ≡ holders_of m (listed h.source) + (holders_of m (listed h.dest) + holders_of m (mappings_in held))
+holders-first m h held =
+    let both = holders-append m (mappings_of h) (mappings_in held) in
+    omega (arith, both, holders-append m (listed h.source) (listed h.dest))
+
+pub holders-begun : (m : Mapping) (held : List Held) (h : Held) → holders_of m (mappings_in (held ++ h ∷ []))
+    ≡ holders_of m (listed h.dest) + (holders_of m (listed h.source) + holders_of m (mappings_in held))
+holders-begun m held h =
+    let split : mappings_in (held ++ h ∷ []) ≡ mappings_in held ++ mappings_in (h ∷ []) =
+    flat_map-append mappings_of held (h ∷ []) in
+    let both = holders-append m (mappings_in held) (mappings_in (h ∷ [])) in
+    rw split (omega (arith, both, holders-first m h [], holders-nil m))
+
+-- two of each connection at most
+pub length-mappings_in : (held : List Held) → length (mappings_in held) ≤ 2 * length held
+length-mappings_in [] = omega arith
+length-mappings_in (h ∷ held) =
+    let both = length-append (mappings_of h) (mappings_in held) in
+    let two = length-append (listed h.source) (listed h.dest) in
+    omega (arith, both, two, length-listed h.source, length-listed h.dest, length-mappings_in held)

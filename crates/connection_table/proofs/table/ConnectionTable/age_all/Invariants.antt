@@ -1,0 +1,23 @@
+use Rattle.std.proofs.Common.{◌≡◌, ◌&&◌, length}
+use Rattle.std.specs.Prelude.{IsTrue, nat_le}
+use Rattle.conntrack.specs.Held.{IsNoneLater, live_at}
+use Rattle.nat_mapping.specs.Mappings.{HoldsSame}
+use Rattle.translation.specs.Mapped.{mappings_in}
+use Rattle.connection_table.proofs.table.ConnectionTable.age_all.Given as goal
+
+-- those that are live stay, and their mappings alone are held
+abbrev pub invariant-loop-aged : goal.invariant-loop-aged
+invariant-loop-aged g l =
+    let held = g.T.Tracker.held l.self-inside.tracker in
+    let idle = l.fn.self.limits in
+    record {
+      same : g.T.Tracker.limits l.self-inside.tracker ≡ idle;
+      live : live_at idle l.now held ≡ live_at idle l.now l.fn.self.held;
+      later : IsNoneLater l.now held;
+      mapped : HoldsSame (mappings_in held) l.self-inside.mappings.held;
+      room : IsTrue l.fn.self.has_room
+          → IsTrue (g.T.Tracker.has_room l.self-inside.tracker && nat_le 2 l.self-inside.mappings.room);
+    }
+
+abbrev pub decreases-loop-aged : goal.decreases-loop-aged
+decreases-loop-aged g l = length (g.T.Tracker.held l.self-inside.tracker)

@@ -1,0 +1,234 @@
+//! A table of connections and of their mappings.
+ghost use Rattle.std.specs.Prelude.{◌≡◌, ◌+◌, ◌<◌, ◌≤◌, ◌↔◌, ◌++◌, ◌∷◌, [], ℕ, IsTrue, List, false, length, map, IfOk, OnErr, OnOk, Err};
+ghost use Rattle.ip_headers.specs.declared.tuple.Mapping.{Mapping};
+ghost use Rattle.conntrack.specs.declared.connection.ConnId.{ConnId};
+ghost use Rattle.conntrack.specs.Held.{IsNoneLater, begun_with, belongs_in, connection_of, has_distinct_ids, has_id, is_taken, live_at, most_held, touched_at};
+ghost use Rattle.conntrack.specs.Recorded.{after_end};
+ghost use Rattle.nat_mapping.specs.Mappings.{HoldsSame, IsOneToOne, holders_of};
+ghost use Rattle.translation.specs.Fitting.{Fits, IsFitting};
+ghost use Rattle.translation.specs.Mapped.{listed, mappings_in};
+ghost use Rattle.translation.specs.Ways.{way_by};
+ghost use Rattle.connection_table.specs.Table.{IsOpen, begun_as};
+
+use conntrack::laws::{looked_up, none_later};
+use conntrack::{
+    Aged, BeginError, Belonging, Connection, Flags, Limits, Memory, Moment, Place, Steps, Tracker,
+};
+use ip_headers::{Mapping as Mapped, Tuple};
+use nat_mapping::Mappings;
+use nat_mapping::laws::{same_answers, stays_one_to_one};
+use std::alloc::{AllocError, Global};
+use std::marker::Model;
+use translation::Draft;
+
+/// The connections that are held by `T`, with the mappings that they were begun with.
+#[derive(Drop)]
+pub struct ConnectionTable<T: Tracker> {
+    tracker: T,
+    mappings: Mappings,
+}
+
+impl<T: Tracker> Model for ConnectionTable<T> {
+    ghost use Rattle.std.specs.Prelude.{◌&&◌, nat_le};
+    ghost use Rattle.nat_mapping.specs.Mappings.{HoldsSame};
+    ghost use Rattle.translation.specs.Mapped.{mappings_in};
+    ghost use Rattle.connection_table.specs.Table.{Table};
+
+    ghost Value = { Table };
+
+    ghost view = { λ t. record { limits = T.limits t.tracker; held = T.held t.tracker; has_room = T.has_room t.tracker && nat_le 2 t.mappings.room } };
+
+    ghost invariant = { λ t. HoldsSame (mappings_in (T.held t.tracker)) t.mappings.held };
+}
+
+impl<T: Tracker> ConnectionTable<T> {
+    /// An empty table, whose connections may be idle for so long. It takes no memory.
+    pub fn new(alloc: Global, idle: Limits) -> Self
+        ensures held { result.held ≡ [] }
+        ensures limits { result.limits ≡ idle }
+    {
+        ConnectionTable {
+            tracker: T::new(alloc, idle),
+            mappings: Mappings::new(alloc),
+        }
+    }
+
+    /// Room for the next connection and its mappings. On `Err`, which comes only for want of memory,
+    /// what is held stays.
+    pub fn reserve(&mut self) -> Result<(), AllocError>
+        ensures held { self.new.held ≡ self.old.held }
+        ensures limits { self.new.limits ≡ self.old.limits }
+        ensures room { OnOk result (IsTrue self.new.has_room) }
+        ensures kept { IsTrue self.old.has_room → IsTrue self.new.has_room }
+    {
+        let Ok(()) = self.tracker.reserve_one() else {
+            return Err(AllocError);
+        };
+        match self.mappings.reserve_one() {
+            Ok(()) => Ok(()),
+            Err(nat_mapping::Memory) => Err(AllocError),
+        }
+    }
+
+    /// Takes out all connections that are dead at a moment, and lets go of their mappings.
+    pub fn age_all(&mut self, now: Moment)
+        requires later { IsNoneLater now self.old.held }
+        ensures held { self.new.held ≡ live_at self.old.limits now self.old.held }
+        ensures limits { self.new.limits ≡ self.old.limits }
+        ensures alive { live_at self.new.limits now self.new.held ≡ self.new.held }
+        ensures distinct { IsTrue (has_distinct_ids self.new.held) }
+        ensures room { IsTrue self.old.has_room → IsTrue self.new.has_room }
+    {
+        // What stays had no packet later either.
+        none_later();
+        let mut steps = Steps::new();
+        while let Some(aged) = self.tracker.age(now, &mut steps) {
+            release(&mut self.mappings, &aged);
+        }
+    }
+
+    /// Looks up a packet with this tuple and these flags, at a moment at which all that is held is
+    /// live. A lone SYN ends the closing connection that it came on, whatever rules make of it: that
+    /// one's mappings are let go of.
+    pub fn look_up(&mut self, tuple: Tuple, flags: Flags, now: Moment) -> Belonging
+        requires live { live_at self.old.limits now self.old.held ≡ self.old.held }
+        requires later { IsNoneLater now self.old.held }
+        ensures belonging { result ≡ belongs_in self.old.held tuple flags }
+        ensures held { self.new.held ≡ after_end (belongs_in self.old.held tuple flags) self.old.held }
+        ensures limits { self.new.limits ≡ self.old.limits }
+        ensures later { IsNoneLater now self.new.held }
+        ensures room { IsTrue self.old.has_room → IsTrue self.new.has_room }
+        // The last step can count it, or begin its connection.
+        ensures open { IsOpen tuple result self.new.held }
+        ensures fits { Fits (way_by tuple result) (mappings_in self.new.held) }
+    {
+        // What it belongs to is held, and else its tuple is free.
+        looked_up();
+        // What stays had no packet later either.
+        none_later();
+        let mut steps = Steps::new();
+        let belonging = self.tracker.look(tuple, flags, now, &mut steps);
+        if let Belonging::Ends(id) = belonging {
+            let ended = self.tracker.end(id, &mut steps);
+            release(&mut self.mappings, &ended);
+        }
+        // Nothing is translated yet, and what is held is one to one.
+        self.mappings.one_to_one();
+        belonging
+    }
+
+    /// The mappings that are held: those that the connections held were begun with.
+    pub fn mappings(&self) -> &Mappings
+        ensures { HoldsSame (mappings_in self.now.held) result.now.held }
+    {
+        &self.mappings
+    }
+
+    /// Counts one more packet of a connection that is held, which leaves this mark.
+    pub fn touch(&mut self, place: &Place, flags: Flags, mark: u32, now: Moment)
+        requires is_held { IsTrue (has_id place.now.id self.old.held) }
+        requires later { IsNoneLater now self.old.held }
+        ensures held { self.new.held ≡ touched_at place.now.id place.now.direction flags mark now self.old.held }
+        ensures limits { self.new.limits ≡ self.old.limits }
+        ensures room { IsTrue self.old.has_room → IsTrue self.new.has_room }
+    {
+        let mut steps = Steps::new();
+        self.tracker
+            .touch(place.id, place.direction, flags, mark, now, &mut steps);
+    }
+
+    /// Begins a connection with its first packet, which had these flags and leaves this mark; it holds
+    /// the mappings that its draft has. `Full` where as many are held as can be, else `Clash` where
+    /// its reply tuple is an incoming tuple of another; then nothing changes.
+    pub fn begin(
+        &mut self,
+        draft: &Draft,
+        flags: Flags,
+        mark: u32,
+        now: Moment,
+    ) -> Result<(), BeginError>
+        requires room { IsTrue self.old.has_room }
+        requires free { is_taken draft.now.original self.old.held ≡ false }
+        requires later { IsNoneLater now self.old.held }
+        requires fits { IsFitting draft.now (mappings_in self.old.held) }
+        ensures ok { OnOk result ((id : ConnId) × (has_id id self.old.held ≡ false)
+            × (self.new.held ≡ self.old.held ++ begun_with id (begun_as draft.now mark now) flags ∷ [])) }
+        ensures full { (result ≡ Err BeginError.Full) ↔ (most_held ≤ length self.old.held) }
+        ensures clash { (result ≡ Err BeginError.Clash)
+            ↔ ((length self.old.held < most_held) × IsTrue (is_taken (begun_as draft.now mark now).reply self.old.held)) }
+        ensures err { OnErr result (self.new ≡ self.old) }
+        ensures limits { self.new.limits ≡ self.old.limits }
+    {
+        let connection = Connection {
+            original: draft.original,
+            reply: draft.tuple.inverse(),
+            mark,
+            last: now,
+            source: draft.source,
+            dest: draft.dest,
+        };
+        // What is held stays one to one with the mappings that fit.
+        stays_one_to_one();
+        same_answers();
+        let mut steps = Steps::new();
+        self.tracker.begin(connection, flags, &mut steps)?;
+        hold(&mut self.mappings, draft.source);
+        hold(&mut self.mappings, draft.dest);
+        Ok(())
+    }
+
+    /// How many connections are held.
+    pub fn live(&self) -> usize
+        ensures { result ≡ length self.now.held }
+    {
+        self.tracker.live()
+    }
+
+    /// All connections that are held, in order of beginning.
+    pub fn list(&self, alloc: Global) -> Result<Vec<Connection>, AllocError>
+        ensures { IfOk result (λ all. all.items ≡ map connection_of self.now.held) }
+    {
+        match self.tracker.list(alloc) {
+            Ok(all) => Ok(all),
+            Err(Memory) => Err(AllocError),
+        }
+    }
+}
+
+/// One holder more of a mapping, if there is one, for which there is room.
+fn hold(mappings: &mut Mappings, mapping: Option<Mapped>)
+    requires one_to_one { IsOneToOne (listed mapping ++ mappings.old.held) }
+    requires few { (m : Mapping) → holders_of m mappings.old.held ≤ 131072 }
+    requires room { 0 < mappings.old.room }
+    ensures held { HoldsSame (listed mapping ++ mappings.old.held) mappings.new.held }
+    ensures room { mappings.old.room ≤ mappings.new.room + 1 }
+{
+    if let Some(mapping) = mapping {
+        let Ok(()) = mappings.hold(mapping) else {
+            unreachable!()
+        };
+    }
+}
+
+/// Lets go of the mappings of a connection that is held no longer.
+fn release(mappings: &mut Mappings, aged: &Aged)
+    requires held { (rest : List Mapping) × HoldsSame (listed aged.now.source ++ (listed aged.now.dest ++ rest)) mappings.old.held }
+    ensures held { (rest : List Mapping) → HoldsSame (listed aged.now.source ++ (listed aged.now.dest ++ rest)) mappings.old.held → HoldsSame rest mappings.new.held }
+    ensures room { mappings.old.room ≤ mappings.new.room }
+{
+    release_one(mappings, aged.source);
+    release_one(mappings, aged.dest);
+}
+
+/// One holder fewer of a mapping, if there is one.
+fn release_one(mappings: &mut Mappings, mapping: Option<Mapped>)
+    requires held { (rest : List Mapping) × HoldsSame (listed mapping ++ rest) mappings.old.held }
+    ensures held { (rest : List Mapping) → HoldsSame (listed mapping ++ rest) mappings.old.held → HoldsSame rest mappings.new.held }
+    ensures room { mappings.old.room ≤ mappings.new.room }
+{
+    // The one let go of is held.
+    same_answers();
+    if let Some(mapping) = mapping {
+        mappings.release(mapping);
+    }
+}

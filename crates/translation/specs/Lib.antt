@@ -1,0 +1,4 @@
+pub mod Mapped
+pub mod Ways
+pub mod Translating
+pub mod Fitting
