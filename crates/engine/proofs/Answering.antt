@@ -2,7 +2,6 @@
 use Rattle.std.proofs.Common.{◌≡◌, ◌⊎◌, ◌^◌, ◌-◌, ℕ, min, true, false, Bool, List, [], length, Some, refl, inl, inr}
 use Rattle.nft_tree.specs.Tree.{TableTree}
 use Rattle.nft_parser.specs.declared.fault.TextFault.{TextFault}
-use Rattle.nft_parser.specs.declared.fault.TextFault.TheVariants.{LeftOut}
 use Rattle.nft_parser.specs.Spells.{Spells, HasTextFault}
 use Rattle.rule_check.specs.declared.fault.CheckFault.{CheckFault}
 use Rattle.rule_check.specs.WellFormed.{Least, WellFormed}
@@ -13,7 +12,6 @@ use Rattle.pcap_io.specs.declared.fault.CaptureFault.TheVariants as captures
 use Rattle.pcap_io.specs.Pcap.{Captured, Pcap, Ending, Whole, Torn, Malformed, Over, header_fault, told}
 use Rattle.story.specs.Story.{capture_text}
 use Rattle.report.specs.Report.{report_text}
-use Rattle.stepping.specs.Taken.{takes}
 use Rattle.engine.specs.declared.fault.RulesFault.TheVariants.{Text, Check}
 use Rattle.engine.specs.declared.fault.RunFault.{RunFault}
 use Rattle.engine.specs.declared.fault.RunFault.TheVariants.{Rules, Box, Capture}
@@ -67,23 +65,18 @@ captured answers rules box capture trace accepted = by_reading (answers.reading 
     by_reading (inl h) = inr (Capture h.0, tt, (accepted, inl h.1))
     by_reading (inr r) = stopped answers rules box capture trace accepted r.0 r.1 r.2
 
--- by the forms that the ruleset has, where nothing is wrong with it
-formed : Answers → (rules box capture : List ℕ) (trace : Bool) (texts : Spelled rules box) → WellFormed texts.tables texts.plant → (taken : Bool) → takes texts.tables ≡ taken → Answer rules box capture trace
-formed answers rules box capture trace texts well true is =
-    captured answers rules box capture trace (record { setup = record { rules = texts.tables; plant = texts.plant }; spelled = texts.spelled; read = texts.read; well_formed = well; taken = is })
-formed answers rules box capture trace texts well false is = inr (Rules (Text LeftOut), tt, inr (refl, texts, well, is))
-
 -- by what is wrong with it
 judged : Answers → (rules box capture : List ℕ) (trace : Bool) (texts : Spelled rules box) → WellFormed texts.tables texts.plant ⊎ ((fault : CheckFault) × Least fault texts.tables texts.plant) → Answer rules box capture trace
-judged answers rules box capture trace texts (inl well) = formed answers rules box capture trace texts well (takes texts.tables) refl
-judged answers rules box capture trace texts (inr found) = inr (Rules (Check found.0), tt, inl (texts, found.1))
+judged answers rules box capture trace texts (inl well) =
+    captured answers rules box capture trace (record { setup = record { rules = texts.tables; plant = texts.plant }; spelled = texts.spelled; read = texts.read; well_formed = well })
+judged answers rules box capture trace texts (inr found) = inr (Rules (Check found.0), tt, (texts, found.1))
 
 -- by the texts
 pub answered : Answers → (rules box capture : List ℕ) (trace : Bool) → Answer rules box capture trace
 answered answers rules box capture trace = by_text (answers.texts.text rules) (answers.texts.plant box)
   where
     by_text : ((tables : List TableTree) × Spells tables rules) ⊎ ((fault : TextFault) × HasTextFault rules fault) → ((p : PlantTree) × IsBox box p) ⊎ ((fault : BoxFault) × HasBoxFault box fault) → Answer rules box capture trace
-    by_text (inr h) other = inr (Rules (Text h.0), tt, inl h.1)
+    by_text (inr h) other = inr (Rules (Text h.0), tt, h.1)
     by_text (inl s) (inr h) = inr (Box h.0, tt, (s.0, s.1, h.1))
     by_text (inl s) (inl p) =
         let texts : Spelled rules box = record { tables = s.0; spelled = s.1; plant = p.0; read = p.1 } in

@@ -1,5 +1,5 @@
 -- A run, from what its parts did.
-use Rattle.std.proofs.Common.{◌≡◌, ◌≢◌, ◌<◌, ◌≤◌, ◌++◌, ◌⊎◌, ℕ, true, false, Bool, List, [], take, drop, length, Option, Some, None, IfSome, Result, Ok, Err, IfOk, IfErr, refl, sym, ap, subst, ◌∙◌, inl, inr, arith, append_assoc, take-append-drop, length-take-le}
+use Rattle.std.proofs.Common.{◌≡◌, ◌<◌, ◌≤◌, ◌++◌, ℕ, true, false, Bool, List, [], drop, length, Option, Some, None, IfSome, Result, Ok, Err, IfOk, IfErr, refl, sym, ap, subst, ◌∙◌, inl, inr, arith}
 use Rattle.std.specs.Io.KnownBytes.{Consumes, IsAtEnd}
 use Rattle.nft_tree.specs.Tree.{TableTree}
 use Rattle.nft_parser.specs.Spells.{Spells}
@@ -19,12 +19,13 @@ use Rattle.stepping.specs.Next.{Grows}
 use Rattle.engine.specs.declared.fault.RunFault.{RunFault}
 use Rattle.engine.specs.declared.fault.RunFault.TheVariants.{Rules, Box, Capture, Device, Memory}
 use Rattle.engine.specs.Meaning.{Accepted, ending_of, Meaning, Wrote}
-use Rattle.engine.specs.Refusals.{Refuses, IsEarly, IsOfTexts}
-use Rattle.engine.specs.Left.{Devices, Left, SoFar, Unbegun, Unopened, Untouched}
-use Rattle.engine.specs.steps.Inputs.{IsOfInputs, Takes}
+use Rattle.engine.specs.Refusals.{Refuses, IsEarly, IsOfTexts, IsRefused}
+use Rattle.engine.specs.Judged.{Misjudged}
+use Rattle.engine.specs.Left.{Devices, Left, SoFar, Unbegun, Untouched}
+use Rattle.engine.specs.steps.Inputs.{IsChecked}
 use Rattle.engine.specs.steps.Replayed.{Reached, Start, coming}
 use Rattle.engine.specs.steps.Written.{Told, Held, SaysWithin, IsWithin, start_of}
-use Rattle.engine.proofs.Known.{known, nothing}
+use Rattle.engine.proofs.Known.{known, nothing, said_so}
 use Rattle.engine.proofs.Replays.{ahead_is}
 use Rattle.engine.proofs.Stories.{OneEntry, one_story}
 
@@ -263,6 +264,9 @@ pub left_unread : (rules box : List ℕ) (trace : Bool) (input : Option (List �
 left_unread rules box trace None old new part fault takes few kept calm refused = tt
 left_unread rules box trace (Some bytes) old new part fault takes few kept calm refused = inl (refused, unbegun bytes part old new new.unread refl takes few kept calm)
 
+pub refused_unread : (rules box : List ℕ) (input : Option (List ℕ)) (fault : CaptureFault) → Accepted rules box → IfSome input (λ bytes. header_fault bytes ≡ Some fault) → Refuses rules box input (Capture fault)
+refused_unread rules box input fault accepted refused = (accepted, said_so input (λ bytes. header_fault bytes ≡ Some fault) (λ bytes. IsRefused bytes fault) (λ bytes h. inl h) refused)
+
 -- there was no room before anything was written
 pub left_untouched : (rules box : List ℕ) (trace : Bool) (input : Option (List ℕ)) (old new : Devices) (part : List ℕ) → Consumes input new.unread part → length part ≤ READ_AHEAD → Untouched old new
     → new.reads_failed ≡ old.reads_failed → IfSome input (λ bytes. Left rules box bytes trace old new Memory)
@@ -270,7 +274,7 @@ left_untouched rules box trace None old new part takes few kept calm = tt
 left_untouched rules box trace (Some bytes) old new part takes few kept calm = inl (unbegun bytes part old new new.unread refl takes few kept calm)
 
 -- a fault of the texts, or want of room beside them: nothing was read
-pub left_of_texts : (rules box : List ℕ) (trace : Bool) (input : Option (List ℕ)) (old new : Devices) (fault : RunFault) → Consumes input new.unread [] → Untouched old new → new.reads_failed ≡ old.reads_failed → IsOfInputs fault
+pub left_of_texts : (rules box : List ℕ) (trace : Bool) (input : Option (List ℕ)) (old new : Devices) (fault : RunFault) → Consumes input new.unread [] → Untouched old new → new.reads_failed ≡ old.reads_failed → Misjudged rules box fault
     → IfSome input (λ bytes. Left rules box bytes trace old new fault)
 left_of_texts rules box trace input old new (Rules fault) takes kept calm of = nothing input (λ bytes. Left rules box bytes trace old new (Rules fault)) (λ bytes. kept)
 left_of_texts rules box trace input old new (Box fault) takes kept calm of = nothing input (λ bytes. Left rules box bytes trace old new (Box fault)) (λ bytes. kept)
@@ -298,36 +302,29 @@ not_of_texts (Box fault) P within of = absurd within
 not_of_texts Device P within of = absurd of
 not_of_texts Memory P within of = absurd of
 
--- a text's fault isn't one of a device
-pub of_inputs : (fault : RunFault) → IsOfInputs fault → fault ≢ Device
-of_inputs (Rules fault) of e = cc
-of_inputs (Box fault) of e = cc
-of_inputs Memory of e = cc
-of_inputs (Capture fault) of e = cc
-of_inputs Device of e = absurd of
+-- ---- the same of the setup that was checked
 
--- ---- the same of a setup that the texts were accepted with
-
--- the setup is the one that was accepted
-same_as : (rules box : List ℕ) (checked : CheckedTree) (setup : Setup) (t : Takes rules box checked) → setup ≡ setup_of checked → setup ≡ t.accepted.setup
-same_as rules box checked setup t e = e ∙ sym t.same
+-- with which the texts are accepted
+abbrev pub accepted_of : (rules box : List ℕ) (checked : CheckedTree) → IsChecked rules box checked → Accepted rules box
+accepted_of rules box checked fine = record { setup = setup_of checked; spelled = fine.spelled; read = fine.read; well_formed = fine.well_formed }
 
 pub wrote_all : Single → (rules box : List ℕ) (checked : CheckedTree) (start : Start) (format : Format) (input to_come unread w r : Option (List ℕ)) (count : ℕ) (torn : Bool)
-    → Takes rules box checked → start.setup ≡ setup_of checked → Opened input to_come format → IfSome to_come (λ bytes. Told start format bytes count torn unread w r)
+    → IsChecked rules box checked → start.setup ≡ setup_of checked → Opened input to_come format → IfSome to_come (λ bytes. Told start format bytes count torn unread w r)
     → IfSome input (λ bytes. Wrote rules box bytes start.trace count torn start.sent w start.report r)
-wrote_all one rules box checked start format input to_come unread w r count torn t e opened done =
-    wrote one rules box t.accepted start format input to_come unread w r count torn (same_as rules box checked start.setup t e) opened done
+wrote_all one rules box checked start format input to_come unread w r count torn fine same opened done =
+    wrote one rules box (accepted_of rules box checked fine) start format input to_come unread w r count torn same opened done
 
 pub refuses_all : (rules box : List ℕ) (checked : CheckedTree) (setup : Setup) (trace : Bool) (format : Format) (input to_come : Option (List ℕ)) (old new : Devices) (fault : RunFault)
-    → Takes rules box checked → Opened input to_come format → IsWithin fault → IfSome to_come (λ bytes. SaysWithin setup trace format bytes old new fault) → Refuses rules box input fault
-refuses_all rules box checked setup trace format input to_come old new fault t opened within says = refuses_within rules box t.accepted setup trace format input to_come old new fault opened within says
+    → IsChecked rules box checked → Opened input to_come format → IsWithin fault → IfSome to_come (λ bytes. SaysWithin setup trace format bytes old new fault) → Refuses rules box input fault
+refuses_all rules box checked setup trace format input to_come old new fault fine opened within says =
+    refuses_within rules box (accepted_of rules box checked fine) setup trace format input to_come old new fault opened within says
 
 pub left_all : (rules box : List ℕ) (trace : Bool) (checked : CheckedTree) (setup : Setup) (format : Format) (input to_come : Option (List ℕ)) (old new : Devices) (unread : Option (List ℕ)) (failed : ℕ) (part : List ℕ) (fault : RunFault)
-    → failed ≡ old.reads_failed → Consumes input unread part → length part ≤ READ_AHEAD → Takes rules box checked → setup ≡ setup_of checked → Opened input to_come format → IsWithin fault
+    → failed ≡ old.reads_failed → Consumes input unread part → length part ≤ READ_AHEAD → IsChecked rules box checked → setup ≡ setup_of checked → Opened input to_come format → IsWithin fault
     → IfSome to_come (λ bytes. SaysWithin setup trace format bytes (opened_of old unread failed) new fault) → IfSome input (λ bytes. Left rules box bytes trace old new fault)
-left_all rules box trace checked setup format None to_come old new unread failed part fault before takes few t e opened within says = tt
-left_all rules box trace checked setup format (Some bytes) to_come old new unread failed part fault before takes few t e opened within says =
-    left_within rules box trace t.accepted format bytes old new unread failed fault opened.1 within before
-    (λ same kept all_read. unbegun bytes part old new unread same takes few kept all_read)
-    (subst (λ (s : Setup). SaysWithin s trace format (drop HEADER_BYTES bytes) (opened_of old unread failed) new fault) (same_as rules box checked setup t e)
+left_all rules box trace checked setup format None to_come old new unread failed part fault before takes few fine same opened within says = tt
+left_all rules box trace checked setup format (Some bytes) to_come old new unread failed part fault before takes few fine same opened within says =
+    left_within rules box trace (accepted_of rules box checked fine) format bytes old new unread failed fault opened.1 within before
+    (λ left kept all_read. unbegun bytes part old new unread left takes few kept all_read)
+    (subst (λ (s : Setup). SaysWithin s trace format (drop HEADER_BYTES bytes) (opened_of old unread failed) new fault) same
     (known to_come (drop HEADER_BYTES bytes) (λ bytes. SaysWithin setup trace format bytes (opened_of old unread failed) new fault) opened.2 says))

@@ -1,5 +1,5 @@
 -- Where judging the texts refuses them a run does.
-use Rattle.std.proofs.Common.{◌≡◌, ℕ, List, length, Option, inl, subst, sym}
+use Rattle.std.proofs.Common.{◌≡◌, ℕ, List, length, Option, subst, sym}
 use Rattle.std.proofs.lemmas.List.{length-map}
 use Rattle.nft_tree.specs.declared.ruleset.Ruleset.{Ruleset}
 use Rattle.nft_tree.specs.Tree.{TableTree, table_tree, tables_of}
@@ -13,14 +13,13 @@ use Rattle.engine.specs.declared.fault.RunFault.{RunFault}
 use Rattle.engine.specs.declared.fault.RunFault.TheVariants.{Rules, Box, Capture, Device, Memory}
 use Rattle.engine.specs.Judged.{Misjudged}
 use Rattle.engine.specs.Refusals.{Refuses}
-use Rattle.engine.specs.steps.Inputs.{IsOfInputs}
 
-pub misjudged : (rules box : List ℕ) (fault : RunFault) → Misjudged rules box fault → IsOfInputs fault × ((input : Option (List ℕ)) → Refuses rules box input fault)
-misjudged rules box (Rules fault) h = (tt, λ input. inl h)
-misjudged rules box (Box fault) h = (tt, λ input. h)
-misjudged rules box Memory h = (tt, λ input. tt)
-misjudged rules box (Capture fault) h = absurd h
-misjudged rules box Device h = absurd h
+pub misjudged : (rules box : List ℕ) (input : Option (List ℕ)) (fault : RunFault) → Misjudged rules box fault → Refuses rules box input fault
+misjudged rules box input (Rules fault) h = h
+misjudged rules box input (Box fault) h = h
+misjudged rules box input Memory h = tt
+misjudged rules box input (Capture fault) h = absurd h
+misjudged rules box input Device h = absurd h
 
 pub length_of_tables : (tree : Ruleset) → length tree.tables.items ≡ length (tables_of tree)
 length_of_tables tree = sym (length-map tree.tables.items table_tree)

@@ -8,7 +8,6 @@ use Rattle.box_file.specs.declared.fault.BoxFault.{BoxFault}
 use Rattle.box_file.specs.Box.{PlantTree, IsBox, HasBoxFault}
 use Rattle.pcap_io.specs.declared.fault.CaptureFault.{CaptureFault}
 use Rattle.pcap_io.specs.Pcap.{Captured, Pcap, Ending, header_fault}
-use Rattle.stepping.specs.Taken.{takes}
 use Rattle.rule_check.specs.declared.fault.CheckFault.{CheckFault}
 use Rattle.rule_check.specs.WellFormed.{Least, WellFormed}
 use Rattle.rule_limits.specs.Limits.{chain_count, rule_count}
@@ -18,7 +17,7 @@ use Rattle.engine.specs.declared.fault.RulesFault.TheVariants.{Text, Check}
 use Rattle.engine.specs.declared.fault.RunFault.{RunFault}
 use Rattle.engine.specs.declared.fault.RunFault.TheVariants.{Rules, Box, Capture, Device, Memory}
 use Rattle.engine.specs.Meaning.{Accepted, Meaning, ending_of}
-use Rattle.engine.specs.Refusals.{IsFaulty, IsOfTexts, IsRefused, IsRefusal, Refuses, RefusesRules, Spelled, fault_at}
+use Rattle.engine.specs.Refusals.{IsFaulty, IsOfTexts, IsRefused, IsRefusal, Refuses, Spelled, fault_at}
 use Rattle.engine.specs.Judged.{Judged, Misjudged}
 use Rattle.engine.proofs.Meanings.{OneBox, OneReading, OneTree}
 
@@ -96,46 +95,34 @@ not_faulty : Laws → (rules box : List ℕ) (fault : RulesFault) (texts : Spell
 not_faulty laws rules box (Text f) texts sound h = laws.faultless rules texts.tables f texts.spelled h
 not_faulty laws rules box (Check f) texts sound h = not_sound laws rules box f h.0 texts h.1 sound
 
-one_rules : Laws → (rules box : List ℕ) (fault other : RulesFault) → RefusesRules rules box fault → RefusesRules rules box other → fault ≡ other
-one_rules laws rules box f g (inl h) (inl k) = one_faulty laws rules box f g h k
-one_rules laws rules box f g (inl h) (inr k) = absurd (not_faulty laws rules box f k.1 k.2 h)
-one_rules laws rules box f g (inr h) (inl k) = absurd (not_faulty laws rules box g h.1 h.2 k)
-one_rules laws rules box f g (inr h) (inr k) = h.0 ∙ sym k.0
-
 faulty_or_box : Laws → (rules box : List ℕ) (fault : RulesFault) (of_box : BoxFault) (tables : List TableTree) → IsFaulty rules box fault → Spells tables rules → HasBoxFault box of_box → ⊥
 faulty_or_box laws rules box (Text f) of_box tables h spelled k = laws.faultless rules tables f spelled h
 faulty_or_box laws rules box (Check f) of_box tables h spelled k = laws.sound_box box h.0.plant of_box h.0.read k
 
-rules_or_box : Laws → (rules box : List ℕ) (fault : RulesFault) (of_box : BoxFault) (tables : List TableTree) → RefusesRules rules box fault → Spells tables rules → HasBoxFault box of_box → ⊥
-rules_or_box laws rules box f of_box tables (inl h) spelled k = faulty_or_box laws rules box f of_box tables h spelled k
-rules_or_box laws rules box f of_box tables (inr h) spelled k = laws.sound_box box h.1.plant of_box h.1.read k
-
-rules_or_accepted : Laws → (rules box : List ℕ) (fault : RulesFault) → RefusesRules rules box fault → Accepted rules box → ⊥
-rules_or_accepted laws rules box f (inl h) a = not_faulty laws rules box f (spelled_of rules box a) a.well_formed h
-rules_or_accepted laws rules box f (inr h) a =
-    let e : true ≡ false = sym a.taken ∙ sym (ap takes (same_tables laws rules box h.1 (spelled_of rules box a))) ∙ h.3 in cc
+faulty_or_accepted : Laws → (rules box : List ℕ) (fault : RulesFault) → IsFaulty rules box fault → Accepted rules box → ⊥
+faulty_or_accepted laws rules box f h a = not_faulty laws rules box f (spelled_of rules box a) a.well_formed h
 
 -- ---- the laws
 
 -- what is refused means nothing
 pub refused_means_nothing : Laws → (rules box capture : List ℕ) (fault : RunFault) (trace : Bool) (count : ℕ) (torn : Bool) (sent report : List ℕ)
     → IsRefusal fault → Refuses rules box (Some capture) fault → Meaning rules box capture trace count torn sent report → ⊥
-refused_means_nothing laws rules box capture (Rules fault) trace count torn sent report is h m = rules_or_accepted laws rules box fault h m.accepted
+refused_means_nothing laws rules box capture (Rules fault) trace count torn sent report is h m = faulty_or_accepted laws rules box fault h m.accepted
 refused_means_nothing laws rules box capture (Box fault) trace count torn sent report is h m = laws.sound_box box m.accepted.setup.plant fault m.accepted.read h.2
 refused_means_nothing laws rules box capture (Capture fault) trace count torn sent report is h m = not_read laws capture fault m.records torn h.1 m.read
 refused_means_nothing laws rules box capture Device trace count torn sent report is h m = is
 refused_means_nothing laws rules box capture Memory trace count torn sent report is h m = is
 
-rules_only : Laws → (rules box capture : List ℕ) (fault : RulesFault) (other : RunFault) → RefusesRules rules box fault → IsRefusal other → Refuses rules box (Some capture) other → Rules fault ≡ other
-rules_only laws rules box capture fault (Rules other) h is k = ap Rules (one_rules laws rules box fault other h k)
-rules_only laws rules box capture fault (Box other) h is k = absurd (rules_or_box laws rules box fault other k.0 h k.1 k.2)
-rules_only laws rules box capture fault (Capture other) h is k = absurd (rules_or_accepted laws rules box fault h k.0)
+rules_only : Laws → (rules box capture : List ℕ) (fault : RulesFault) (other : RunFault) → IsFaulty rules box fault → IsRefusal other → Refuses rules box (Some capture) other → Rules fault ≡ other
+rules_only laws rules box capture fault (Rules other) h is k = ap Rules (one_faulty laws rules box fault other h k)
+rules_only laws rules box capture fault (Box other) h is k = absurd (faulty_or_box laws rules box fault other k.0 h k.1 k.2)
+rules_only laws rules box capture fault (Capture other) h is k = absurd (faulty_or_accepted laws rules box fault h k.0)
 rules_only laws rules box capture fault Device h is k = absurd is
 rules_only laws rules box capture fault Memory h is k = absurd is
 
 box_only : Laws → (rules box capture : List ℕ) (fault : BoxFault) (other : RunFault) (tables : List TableTree) → Spells tables rules → HasBoxFault box fault → IsRefusal other → Refuses rules box (Some capture) other
     → Box fault ≡ other
-box_only laws rules box capture fault (Rules other) tables spelled h is k = absurd (rules_or_box laws rules box other fault tables k spelled h)
+box_only laws rules box capture fault (Rules other) tables spelled h is k = absurd (faulty_or_box laws rules box other fault tables k spelled h)
 box_only laws rules box capture fault (Box other) tables spelled h is k = ap Box (laws.one_box_fault box fault other h k.2)
 box_only laws rules box capture fault (Capture other) tables spelled h is k = absurd (laws.sound_box box k.0.setup.plant fault k.0.read h)
 box_only laws rules box capture fault Device tables spelled h is k = absurd is
@@ -143,7 +130,7 @@ box_only laws rules box capture fault Memory tables spelled h is k = absurd is
 
 capture_only : Laws → (rules box capture : List ℕ) (fault : CaptureFault) (other : RunFault) → Accepted rules box → IsRefused capture fault → IsRefusal other → Refuses rules box (Some capture) other
     → Capture fault ≡ other
-capture_only laws rules box capture fault (Rules other) a h is k = absurd (rules_or_accepted laws rules box other k a)
+capture_only laws rules box capture fault (Rules other) a h is k = absurd (faulty_or_accepted laws rules box other k a)
 capture_only laws rules box capture fault (Box other) a h is k = absurd (laws.sound_box box a.setup.plant other a.read k.2)
 capture_only laws rules box capture fault (Capture other) a h is k = ap Capture (one_of laws capture fault other h k.1)
 capture_only laws rules box capture fault Device a h is k = absurd is

@@ -1,5 +1,5 @@
 -- What is told of a story, and what waits to be told.
-use Rattle.std.proofs.Common.{◌≡◌, ℕ, Bool, List, [], ◌∷◌, ◌++◌, length, Option, Some, None, IfSome, refl, sym, ap, subst, ◌∙◌, append-nil}
+use Rattle.std.proofs.Common.{◌≡◌, ℕ, Bool, List, [], ◌∷◌, ◌++◌, length, Option, Some, None, IfSome, sym, ap, subst, ◌∙◌, append-nil}
 use Rattle.std.specs.List.{flat_map}
 use Rattle.std.specs.Io.KnownBytes.{Appends, Keeps}
 use Rattle.std.proofs.KnownBytes.{Appends-kept, Appends-trans}
@@ -141,13 +141,19 @@ unfinished replay start story rules live torn w w' r r' p sent e lives says =
 
 -- ---- one record
 
--- with more room for its notes it stands for the same story
-pub roomier : (replay : Replay) (engine : Shown) (numbers : Known) (start : Start) (story : List Entry) (w r : Option (List ℕ)) → engine ≡ replay.engine → numbers ≡ record replay.numbers { room = numbers.room } → Plays replay start story w r
-    → Plays (replay_of engine numbers replay replay.sink) start story w r
-roomier replay engine numbers start story w r is_engine is p =
+-- nor does what an engine stands for speak of whether it is ready
+pub readied : (engine now : Shown) (ready : Bool) (story : List Entry) → now ≡ record engine { ready = ready } → Stands engine story → Stands now story
+readied engine now ready story is s =
+    let same : Stands (record engine { ready = ready }) story = record { records = s.records; newest = s.newest; held = s.held } in
+    subst (λ (e : Shown). Stands e story) (sym is) same
+
+-- with room made for its next record and its notes it stands for the same story
+pub roomier : (replay : Replay) (engine : Shown) (ready : Bool) (numbers : Known) (start : Start) (story : List Entry) (w r : Option (List ℕ)) → engine ≡ record replay.engine { ready = ready }
+    → numbers ≡ record replay.numbers { room = numbers.room } → Plays replay start story w r → Plays (replay_of engine numbers replay replay.sink) start story w r
+roomier replay engine ready numbers start story w r is_engine is p =
     record {
       same = ap (λ (e : Shown). e.setup) is_engine ∙ p.same;
-      stands = subst (λ (e : Shown). Stands e story) (sym is_engine) p.stands;
+      stands = readied replay.engine engine ready story is_engine p.stands;
       gets = p.gets;
       lines = p.lines;
       reports = subst (λ (k : Known). Reports k start.setup.rules start.trace story p.lines) (sym is) (with_room replay.numbers numbers.room start.setup.rules start.trace story p.lines p.reports);

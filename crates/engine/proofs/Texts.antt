@@ -1,5 +1,5 @@
 -- The two texts of a capture whose header is accepted, by how its records stop.
-use Rattle.std.proofs.Common.{◌≡◌, ◌≤◌, ◌⊎◌, ℕ, Bool, true, false, List, [], ◌∷◌, ◌++◌, length, Option, Some, None, IfSome, Result, Ok, Err, IfErr, refl, sym, ap, subst, ◌∙◌, arith, append-nil, inl, inr}
+use Rattle.std.proofs.Common.{◌≡◌, ◌≤◌, ◌⊎◌, ℕ, Bool, true, false, List, [], ◌++◌, length, Option, Some, None, IfSome, Result, Ok, Err, IfErr, refl, sym, ap, subst, ◌∙◌, arith, append-nil, inl, inr}
 use Rattle.std.specs.Prelude.{IsErrOf}
 use Rattle.pcap_io.specs.declared.format.Format.{Format}
 use Rattle.pcap_io.specs.declared.fault.CaptureFault.{CaptureFault}
@@ -18,9 +18,9 @@ use Rattle.std.proofs.KnownBytes.{Keeps-refl}
 use Rattle.engine.specs.declared.replay.Replay.{Replay}
 use Rattle.engine.specs.Meaning.{ending_of}
 use Rattle.engine.specs.Refusals.{IsOfRecord, fault_at}
-use Rattle.engine.specs.Left.{Devices, Untouched}
-use Rattle.engine.specs.steps.Replayed.{AllTold, Halted, Interrupts, IsStop, PartTold, Plays, Replayed, Start, coming, ending_at}
-use Rattle.engine.specs.steps.Written.{Ended, Finished, Held, IsWithin, SaysWithin, Told, Unchanged, Unfinished, Untold, start_of, torn_at}
+use Rattle.engine.specs.Left.{Devices, OneFailed, Untouched}
+use Rattle.engine.specs.steps.Replayed.{AllTold, Halted, Interrupts, IsStop, OneOfTwo, PartTold, Plays, Replayed, Start, coming, ending_at}
+use Rattle.engine.specs.steps.Written.{Ended, Finished, IsWithin, SaysWithin, Told, Unfinished, start_of, torn_at}
 use Rattle.engine.proofs.Stories.{story_length}
 use Rattle.engine.proofs.Writes.{part_none, part_same}
 use Rattle.engine.proofs.Known.{nothing, said_so}
@@ -133,6 +133,19 @@ as_opened now opened unread P e h = subst (λ (s : Seen). IfSome (coming s unrea
 -- one fault, whatever is told where there is none
 pub fault_as : {T U : Type 0} (fault other : RunFault) → IsErrOf {T = T} (Err fault) other → IsErrOf {T = U} (Err fault) other
 fault_as fault other e = let same : fault ≡ other = cc in ap Err same
+
+-- want of memory is no failed call
+pub no_device : {T U : Type 0} (fault : RunFault) → IsErrOf {T = T} (Err fault) Memory → IsErrOf {T = U} (Err fault) Device → ⊥
+no_device fault memory device = cc
+
+-- one failed call behind a beginning in which none failed
+pub failed_after : (a a' b between b' c c' : ℕ) → between ≡ b → OneFailed a a' between b' c c' → OneFailed a a' b b' c c'
+failed_after a a' b between b' c c' same failed = subst (λ (n : ℕ). OneFailed a a' n b' c c') same failed
+
+-- one of a writer's, behind calls of which none failed
+pub failed_ending : (a a' b b1 b' c c1 c' : ℕ) → a' ≡ a → b1 ≡ b → c1 ≡ c → OneOfTwo b1 b' c1 c' → OneFailed a a' b b' c c'
+failed_ending a a' b b1 b' c c1 c' e f g (inl h) = inr (inl (e, h.0 ∙ ap one_more f, h.1 ∙ g))
+failed_ending a a' b b1 b' c c1 c' e f g (inr h) = inr (inr (e, h.0 ∙ f, h.1 ∙ ap one_more g))
 
 -- a fault by which the records were left before their end comes within them, and no record is refused for it
 pub interrupted_within : {T : Type 0} (fault : RunFault) → IsErrOf {T = T} (Err fault) Device ⊎ IsErrOf {T = T} (Err fault) Memory → IsWithin fault

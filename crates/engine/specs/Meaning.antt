@@ -8,16 +8,14 @@ use Rattle.story.specs.Story.{Entry, capture_text}
 use Rattle.report.specs.Report.{report_text}
 use Rattle.story.specs.Setup.{Setup}
 use Rattle.stepping.specs.Next.{Grows}
-use Rattle.stepping.specs.Taken.{takes}
 use Rattle.rule_check.specs.WellFormed.{WellFormed}
 
--- both texts are accepted: the first spells a ruleset in which nothing is wrong and which runs take, the second a box
+-- both texts are accepted: the first spells a ruleset in which nothing is wrong on the box that the second spells
 pub record Accepted (rules box : List ℕ) : Type 0 where
   pub setup : Setup
   pub spelled : Spells setup.rules rules
   pub read : IsBox box setup.plant
   pub well_formed : WellFormed setup.rules setup.plant
-  pub taken : takes setup.rules ≡ true
 
 abbrev pub ending_of : Bool → Ending
 ending_of true = Torn

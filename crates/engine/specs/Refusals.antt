@@ -1,19 +1,17 @@
 -- Why there is no meaning.
-use Rattle.std.specs.Prelude.{◌≡◌, ℕ, false, List, Option, Some, None, IfSome, ◌⊎◌}
+use Rattle.std.specs.Prelude.{◌≡◌, ℕ, List, Option, Some, None, IfSome, ◌⊎◌}
 use Rattle.nft_tree.specs.Tree.{TableTree}
-use Rattle.nft_parser.specs.declared.fault.TextFault.TheVariants.{LeftOut}
 use Rattle.nft_parser.specs.Spells.{Spells, HasTextFault}
 use Rattle.box_file.specs.declared.fault.BoxFault.{BoxFault}
 use Rattle.box_file.specs.Box.{PlantTree, IsBox, HasBoxFault}
 use Rattle.pcap_io.specs.declared.fault.CaptureFault.{CaptureFault}
 use Rattle.pcap_io.specs.declared.fault.CaptureFault.TheVariants as captures
 use Rattle.pcap_io.specs.Pcap.{Captured, Pcap, Ending, Whole, Torn, Malformed, Over, header_fault}
-use Rattle.stepping.specs.Taken.{takes}
 use Rattle.engine.specs.declared.fault.RulesFault.{RulesFault}
 use Rattle.engine.specs.declared.fault.RulesFault.TheVariants.{Text, Check}
 use Rattle.engine.specs.declared.fault.RunFault.{RunFault}
 use Rattle.engine.specs.declared.fault.RunFault.TheVariants.{Rules, Box, Capture, Device, Memory}
-use Rattle.rule_check.specs.WellFormed.{Least, WellFormed}
+use Rattle.rule_check.specs.WellFormed.{Least}
 use Rattle.engine.specs.Meaning.{Accepted}
 
 -- the two texts spell this ruleset and this box
@@ -28,16 +26,6 @@ pub record Spelled (rules box : List ℕ) : Type 0 where
 abbrev pub IsFaulty : List ℕ → List ℕ → RulesFault → Type 0
 IsFaulty rules box (Text fault) = HasTextFault rules fault
 IsFaulty rules box (Check fault) = (texts : Spelled rules box) × Least fault texts.tables texts.plant
-
--- nothing is wrong with it, and runs don't take a form of it yet
-abbrev pub IsLeftOut : List ℕ → List ℕ → RulesFault → Type 0
-IsLeftOut rules box fault =
-    (fault ≡ Text LeftOut) × (texts : Spelled rules box) × WellFormed texts.tables texts.plant
-    × (takes texts.tables ≡ false)
-
--- a run refuses the ruleset
-abbrev pub RefusesRules : List ℕ → List ℕ → RulesFault → Type 0
-RefusesRules rules box fault = IsFaulty rules box fault ⊎ IsLeftOut rules box fault
 
 -- the box file is refused, where the rules' text is accepted
 abbrev pub RefusesBox : List ℕ → List ℕ → BoxFault → Type 0
@@ -61,7 +49,7 @@ IsRefused capture fault = (header_fault capture ≡ Some fault) ⊎ IsRefusedWit
 
 -- why there is no meaning: the rules' text, the box file, the tree, the capture, in this order
 abbrev pub Refuses : List ℕ → List ℕ → Option (List ℕ) → RunFault → Type 0
-Refuses rules box capture (Rules fault) = RefusesRules rules box fault
+Refuses rules box capture (Rules fault) = IsFaulty rules box fault
 Refuses rules box capture (Box fault) = RefusesBox rules box fault
 Refuses rules box capture (Capture fault) = Accepted rules box × IfSome capture (λ bytes. IsRefused bytes fault)
 Refuses rules box capture Device = Unit {0}

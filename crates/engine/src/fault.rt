@@ -9,8 +9,7 @@ use thiserror::Error;
 /// What a ruleset is refused for.
 #[derive(Clone, Copy, Debug, Drop, Error)]
 pub enum RulesFault {
-    /// Its text is no ruleset; or it is one with a form that runs don't take yet, which is told as
-    /// left out.
+    /// Its text is no ruleset.
     #[error("{0}")]
     Text(TextFault),
     /// Its text is a ruleset in which something is wrong on the box.

@@ -1,35 +1,21 @@
 //! The two texts of a run: the ruleset and the box file.
-ghost use Rattle.std.specs.Prelude.{◌≡◌, ◌⊎◌, ℕ, List, Option, IfOk, IfErr};
+ghost use Rattle.std.specs.Prelude.{◌≡◌, ◌⊎◌, IfOk, IfErr};
 ghost use Rattle.nft_tree.specs.Tree.{tables_of};
 ghost use Rattle.nft_parser.specs.Spells.{Spells, HasTextFault};
 ghost use Rattle.nft_parser.specs.declared.fault.TextFault.{TextFault};
 ghost use Rattle.box_file.specs.Box.{IsBox, HasBoxFault};
 ghost use Rattle.box_file.specs.declared.fault.BoxFault.{BoxFault};
 ghost use Rattle.engine.specs.Judged.{Misjudged};
-ghost use Rattle.engine.specs.Refusals.{Refuses};
 ghost use Rattle.engine.specs.declared.fault.RulesFault.{RulesFault};
 ghost use Rattle.engine.specs.declared.fault.RunFault.{RunFault};
-ghost use Rattle.engine.specs.steps.Inputs.{IsChecked, IsOfInputs, Takes};
+ghost use Rattle.engine.specs.steps.Inputs.{IsChecked};
 
 use crate::fault::{RulesFault, RunFault};
 use box_file::{BoxError, Plant};
-use nft_parser::{ParseError, TextFault};
+use nft_parser::ParseError;
 use nft_tree::Ruleset;
 use rule_check::{CheckError, Checked, check};
 use std::alloc::Global;
-use stepping::takes;
-
-/// The ruleset and the box that the texts spell, in which nothing is wrong and which runs take.
-pub(crate) fn accepted(alloc: Global, rules: &[u8], plant: &[u8]) -> Result<Checked, RunFault>
-    ensures taken { IfOk result (λ checked. Takes rules.now plant.now checked) }
-    ensures refusals { IfErr result (λ fault. IsOfInputs fault × ((input : Option (List ℕ)) → Refuses rules.now plant.now input fault)) }
-{
-    let checked = checked(alloc, rules, plant)?;
-    if !takes(checked.tree()) {
-        return Err(RunFault::Rules(RulesFault::Text(TextFault::LeftOut)));
-    }
-    Ok(checked)
-}
 
 /// The ruleset and the box that the texts spell, in which nothing is wrong.
 pub(crate) fn checked(alloc: Global, rules: &[u8], plant: &[u8]) -> Result<Checked, RunFault>

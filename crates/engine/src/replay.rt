@@ -175,7 +175,7 @@ impl Replay {
     }
 
     /// Takes the record that was read last, notes it, and puts the packet that it sends on, if it
-    /// does. False where there was no room to take it: then all is as it was.
+    /// does. False where there was no room to take it: then all is as it was, but for room.
     fn take<W: Write>(&mut self, sent: &mut Counted<W>) -> Result<bool, DeviceFailed>
         requires read { self.old.records.last ≢ None }
         requires few { (self.old.engine.records < 4294967296) × (self.old.numbers.records < 4294967296) }
@@ -196,6 +196,9 @@ impl Replay {
         one_entry();
         self.engine.judged();
         // All growth first, so that what follows can't fail for want of memory.
+        let Ok(()) = self.engine.reserve() else {
+            return Ok(false);
+        };
         let Ok(()) = self.numbers.reserve() else {
             return Ok(false);
         };
@@ -203,7 +206,7 @@ impl Replay {
             unreachable!()
         };
         let Ok(_) = self.engine.step(&record) else {
-            return Ok(false);
+            unreachable!()
         };
         let Some(entry) = self.engine.entry() else {
             unreachable!()

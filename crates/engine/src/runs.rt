@@ -11,7 +11,7 @@ ghost use Rattle.engine.specs.steps.Replayed.{coming};
 ghost use Rattle.engine.specs.steps.Written.{IsWithin, SaysWithin, Told};
 
 use crate::fault::RunFault;
-use crate::inputs::accepted;
+use crate::inputs::checked;
 use crate::replay::Replay;
 use box_file::one_box;
 use conntrack::ListTracker;
@@ -79,7 +79,7 @@ pub fn run<R: Read, W: Write, W2: Write>(
     ensures device { IsErrOf result RunFault.Device → OneFailed capture.old.failures capture.new.failures sent.old.failures sent.new.failures report.old.failures report.new.failures }
     ensures calm { result ≢ Err RunFault.Device → (capture.new.failures ≡ capture.old.failures) × (sent.new.failures ≡ sent.old.failures) × (report.new.failures ≡ report.old.failures) }
 {
-    let checked = accepted(alloc, rules, plant)?;
+    let checked = checked(alloc, rules, plant)?;
     let records = match Capture::open(alloc, capture) {
         Ok(records) => records,
         Err(CaptureError::Refused(fault)) => return Err(RunFault::Capture(fault)),

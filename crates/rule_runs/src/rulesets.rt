@@ -1,5 +1,5 @@
-//! Whole rulesets: verdicts, maps, marks, hooks and priorities.
-use crate::samples::{ALL, give, lets_pass};
+//! Whole rulesets: verdicts, maps, marks, hooks and priorities, and translation.
+use crate::samples::{ALL, give, lets_pass, written};
 use std::test::Fail;
 
 /// Rulesets, each with the packets that it lets pass.
@@ -149,37 +149,68 @@ fn input_chains_see_what_is_for_the_box(rt: HostRuntime) -> Result<(), Fail> {
     Ok(())
 }
 
-/// What runs don't take yet is told as E06, behind what is wrong with a ruleset.
-const REFUSED: [(&str, &str); 5] = [
+/// Rulesets that may translate, and translate none of these packets: those that they let pass.
+const UNTRANSLATED: [(&str, &[usize]); 4] = [
+    // Nothing reaches these statements.
     (
-        "table ip t { chain f { snat to 203.0.113.1; } }",
-        "nftrun: rules E06",
+        "table ip t { chain f { snat to 203.0.113.9; } chain g { ct state new dnat to 192.168.1.10; } }",
+        ALL,
     ),
     (
-        "table ip t { chain f { ct state new dnat to 192.168.1.10; } }",
-        "nftrun: rules E06",
+        "table ip t { chain p { type nat hook postrouting priority srcnat; } chain q { type nat hook prerouting priority dstnat; } }",
+        ALL,
     ),
     (
-        "table ip t { chain p { type nat hook postrouting priority srcnat; } }",
-        "nftrun: rules E06",
+        "table ip t { chain p { type nat hook postrouting priority srcnat; oifname lan masquerade; } chain q { type nat hook prerouting priority dstnat; iifname wan redirect; } }",
+        ALL,
     ),
+    // A chain that translates drops as well.
     (
-        "table ip t { chain p { masquerade; } }",
-        "nftrun: rules E06",
-    ),
-    (
-        "table ip t { chain f { masquerade; jump g; } }",
-        "nftrun: rules N02",
+        "table ip t { chain p { type nat hook postrouting priority srcnat; udp dport 53 drop; } }",
+        &[1, 2, 3, 4, 5, 6],
     ),
 ];
 
 #[test]
-fn other_forms_are_refused(rt: HostRuntime) -> Result<(), Fail> {
-    for (rules, line) in &REFUSED {
+fn what_is_not_translated_leaves_as_ever(rt: HostRuntime) -> Result<(), Fail> {
+    for (rules, numbers) in &UNTRANSLATED {
+        lets_pass(&rt, rules.as_bytes(), numbers, rules)?;
+    }
+    Ok(())
+}
+
+/// Rulesets that translate, each with the records that leave.
+const TRANSLATED: [(&str, &[&str]); 2] = [
+    // Every packet leaves from the box. Two hosts send UDP from port 5000, of which the second gets
+    // the next port of its parity.
+    (
+        "table ip t { chain p { type nat hook postrouting priority srcnat; oifname wan masquerade; } }",
+        &[
+            "0100000000000000300000003000000008000000000000030001040000000000000000004500001c000000003f111595cb007101c63364071388003500080000",
+            "01000000000000003c0000003c000000080000000000000300010400000000000000000045000028000100003f061593cb007101c6336407138800500000000100000000500203e885b00000",
+            "01000000000000003c0000003c000000080000000000000300010400000000000000000045000028000200003f061592cb007101c6336407138800160000000100000000501003e885b00000",
+            "0100000000000000300000003000000008000000000000030001040000000000000000004500001c000300003f0115a2cb007101c63364070800000000010001",
+            "01000000000000002c0000002c000000080000000000000300010400000000000000000045000018000400003f2f1577cb007101c633640700000800",
+            "0100000000000000300000003000000008000000000000030001040000000000000000004500001c0005000004115090cb007101c6336407138a007b00080000",
+            "01000000000000003c0000003c000000080000000000000300010400000000000000000045000028000600003f06158ecb007101c633640701bb13880000000100000000501203e885b00000",
+        ],
+    ),
+    // Two packets go to another host, and one of them to another port; the rest is dropped.
+    (
+        "table ip t { chain d { type nat hook prerouting priority dstnat; ip daddr 203.0.113.1 drop; udp dport 53 dnat to 198.51.100.9:5353; tcp dport 80 dnat to 198.51.100.9; } chain f { type filter hook forward priority 0; policy drop; ip daddr 198.51.100.9 accept; } }",
+        &[
+            "0100000000000000300000003000000008000000000000030001040000000000000000004500001c000000003f118fe2c0a8010ac6336409138814e900080000",
+            "01000000000000003c0000003c000000080000000000000300010400000000000000000045000028000100003f068fe0c0a8010ac6336409138800500000000100000000500203e8fffd0000",
+        ],
+    ),
+];
+
+#[test]
+fn translated_packets_leave_so(rt: HostRuntime) -> Result<(), Fail> {
+    for (rules, records) in &TRANSLATED {
         let given = give(rt.alloc(), rules.as_bytes())?;
-        let told = format!(in rt.alloc(); "{}", given.status)?;
-        assert!(rt; told.as_str() == *line, "{rules}");
-        assert!(rt; given.sent.is_empty(), "{rules}");
+        let wanted = written(rt.alloc(), records)?;
+        assert!(rt; given.sent == wanted, "{rules}");
     }
     Ok(())
 }

@@ -94,6 +94,15 @@ pub fn sent(alloc: Global, numbers: &[usize]) -> Result<Vec<u8>, Fail> {
     Ok(all)
 }
 
+/// The capture of these records.
+pub fn written(alloc: Global, records: &[&str]) -> Result<Vec<u8>, Fail> {
+    let mut all = hex::decode(alloc, OUT_HEADER)?;
+    for record in records {
+        all.extend_from_slice(&hex::decode(alloc, *record)?)?;
+    }
+    Ok(all)
+}
+
 /// A run of the ruleset over all packets.
 pub fn give(alloc: Global, rules: &[u8]) -> Result<Given, Fail> {
     let capture = capture(alloc)?;

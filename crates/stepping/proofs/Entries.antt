@@ -1,8 +1,10 @@
 -- After the entries of any story each record has one entry at most, and one where the chains that it meets end.
-use Rattle.std.proofs.Common.{◌≡◌, ℕ, ◌≤◌, ◌<◌, Bool, true, false, cond, nat_lt, List, [], drop, Option, Some, None, Result, Ok, Err, refl, sym, ap, subst, ◌∙◌, arith}
+use Rattle.std.proofs.Common.{◌≡◌, ℕ, ◌≤◌, ◌<◌, Bool, true, false, cond, nat_lt, List, [], drop, Option, Some, None}
+use Rattle.std.proofs.Common.{Result, Ok, Err, refl, sym, ap, subst, ◌∙◌, arith}
 use borrow.Author.Tests.{ltb-false, ltb-true}
 use Rattle.box_file.specs.Box.{is_own, route}
 use Rattle.ip_headers.specs.declared.view.HeaderFault.{HeaderFault}
+use Rattle.ip_headers.specs.declared.tuple.Mapping.{Mapping}
 use Rattle.ip_headers.specs.Header.{fault_of, packet_of}
 use Rattle.pcap_io.specs.declared.link.Link.{Link}
 use Rattle.pcap_io.specs.declared.link.LinkCause.{LinkCause}
@@ -16,17 +18,19 @@ use Rattle.story.specs.Story.{Entry}
 use Rattle.rule_meaning.specs.declared.facts.Facts.{Facts}
 use Rattle.rule_meaning.specs.declared.event.Event.{Event}
 use Rattle.rule_meaning.specs.declared.event.Ending.{Ending}
-use Rattle.rule_meaning.specs.Hooks.{End, GoesOn, Stops, Early}
-use Rattle.rule_meaning.specs.Laws.{AtMostOneEnd}
-use Rattle.rule_laws.specs.Ends.{Ends}
+use Rattle.rule_meaning.specs.Hooks.{End, GoesOn, Stops}
+use Rattle.conntrack.specs.declared.connection.Held.{Held}
+use Rattle.translation.specs.declared.way.Way.{Way}
+use Rattle.translation.specs.Ways.{tracking_of}
 use Rattle.stepping.specs.Carried as carried
 use Rattle.stepping.specs.Carried.{Arrived, Carries, arriving, departing, entered, link_cause, cause_of, with_tracking}
-use Rattle.stepping.specs.Ways.{Lookup, tracking_of, way_of}
+use Rattle.stepping.specs.Lookups.{Lookup, mappings_beside, way_of}
 use Rattle.stepping.specs.Courses as courses
-use Rattle.stepping.specs.Courses.{Course, Arrives, Delivers, Departs, LeadsOn, LeadsBy, Leads, dropped, through}
+use Rattle.stepping.specs.Courses.{Course, Delivers, DepartsBy, LeadsOn, LeadsBy, Leads, dropped, through, stopped_at}
 use Rattle.stepping.specs.LastStep.{Fate, settled, unseen}
 use Rattle.stepping.specs.Next.{FaresIn, Fares, FaresAs, Next, answered, live_at_record, moment_after, entry_of}
 use Rattle.stepping.proofs.Passages.{goes_on, on_of, off_of}
+use Rattle.stepping.proofs.Around.{OneChains, SomeChains, one_arrives, one_departs, some_arrives, some_departs}
 
 -- ---- what is carried
 
@@ -60,8 +64,11 @@ module _ (setup : Setup) (r : Recorded) where
   by_link (Err cause) = Err (link_cause cause)
   by_link (Ok l) = by_interface l (entered setup l.interface)
 
-  found_by : (l : Link) (index : ℕ) (found : Option HeaderFault) → link ≡ Ok l → entered setup l.interface ≡ Some index → fault_of (drop l.packet r.bytes) ≡ found → by_link link ≡ by_fault index (drop l.packet r.bytes) found
-  found_by l index found e f g = ap by_link e ∙ ap (by_interface l) f ∙ ap (by_fault index (drop l.packet r.bytes)) g
+  found_by : (l : Link) (index : ℕ) (found : Option HeaderFault) → link ≡ Ok l
+      → entered setup l.interface ≡ Some index → fault_of (drop l.packet r.bytes) ≡ found
+      → by_link link ≡ by_fault index (drop l.packet r.bytes) found
+  found_by l index found e f g =
+      ap by_link e ∙ ap (by_interface l) f ∙ ap (by_fault index (drop l.packet r.bytes)) g
 
   is_carried : (arrived : Result Arrived Cause) → Carries setup r arrived → by_link link ≡ arrived
   is_carried arrived (carried.no_link cause e) = ap by_link e
@@ -69,17 +76,22 @@ module _ (setup : Setup) (r : Recorded) where
   is_carried arrived (carried.no_header l index fault e f g) = found_by l index (Some fault) e f g
   is_carried arrived (carried.carries l index e f g) = found_by l index None e f g
 
-  one_carried : (arrived other : Result Arrived Cause) → Carries setup r arrived → Carries setup r other → arrived ≡ other
+  one_carried : (arrived other : Result Arrived Cause) → Carries setup r arrived → Carries setup r other
+      → arrived ≡ other
   one_carried arrived other c d = sym (is_carried arrived c) ∙ is_carried other d
 
   abbrev Something : Type 0
   Something = (arrived : Result Arrived Cause) × Carries setup r arrived
 
-  some_header : (l : Link) (index : ℕ) → link ≡ Ok l → entered setup l.interface ≡ Some index → (found : Option HeaderFault) → fault_of (drop l.packet r.bytes) ≡ found → Something
-  some_header l index e f None g = (Ok (record { interface = index; packet = packet_of (drop l.packet r.bytes) }), carried.carries l index e f g)
+  some_header : (l : Link) (index : ℕ) → link ≡ Ok l → entered setup l.interface ≡ Some index
+      → (found : Option HeaderFault) → fault_of (drop l.packet r.bytes) ≡ found → Something
+  some_header l index e f None g =
+      let a : Arrived = record { interface = index; packet = packet_of (drop l.packet r.bytes) } in
+      (Ok a, carried.carries l index e f g)
   some_header l index e f (Some fault) g = (Err (cause_of fault), carried.no_header l index fault e f g)
 
-  some_interface : (l : Link) → link ≡ Ok l → (found : Option ℕ) → entered setup l.interface ≡ found → Something
+  some_interface : (l : Link) → link ≡ Ok l → (found : Option ℕ) → entered setup l.interface ≡ found
+      → Something
   some_interface l e None f = (Err causes.Interface, carried.no_interface l e f)
   some_interface l e (Some index) f = some_header l index e f (fault_of (drop l.packet r.bytes)) refl
 
@@ -106,95 +118,136 @@ stopping ending off = by_test (goes_on ending) refl
     by_test true is = absurd (off (on_of ending is))
     by_test false is = is
 
-module _ (setup : Setup) where
+module _ (setup : Setup) (mappings : List Mapping) where
   -- ---- one course
 
   -- what the chains on input make of it
-  abbrev by_local : End → Course
-  by_local local = cond (goes_on local.ending) (through Local local) (dropped causes.Rule local.events)
+  abbrev local_by : Way → End → Bool → Course
+  local_by way local b = cond b (through Local way local) (stopped_at local)
+
+  abbrev by_local : Way → End → Course
+  by_local way local = local_by way local (goes_on local.ending)
 
   -- what the chains on its way out make of it
-  abbrev by_departure : ℕ → End → Course
-  by_departure interface departure = cond (goes_on departure.ending) (through (Passed interface) departure) (dropped causes.Rule departure.events)
+  abbrev departure_by : ℕ → Way → End → Bool → Course
+  departure_by interface after departure b =
+      cond b (through (Passed interface) after departure) (stopped_at departure)
 
-  local_on : (local : End) → GoesOn local.ending → through Local local ≡ by_local local
-  local_on local on = sym (ap (λ b. let course : Course = cond b (through Local local) (dropped causes.Rule local.events) in course) (going local.ending on))
+  abbrev by_departure : ℕ → Way → End → Course
+  by_departure interface after departure = departure_by interface after departure (goes_on departure.ending)
 
-  local_off : (local : End) → Stops local.ending → dropped causes.Rule local.events ≡ by_local local
-  local_off local off = sym (ap (λ b. let course : Course = cond b (through Local local) (dropped causes.Rule local.events) in course) (stopping local.ending off))
+  local_on : (way : Way) (local : End) → GoesOn local.ending → through Local way local ≡ by_local way local
+  local_on way local on = sym (ap (local_by way local) (going local.ending on))
 
-  departure_on : (interface : ℕ) (departure : End) → GoesOn departure.ending → through (Passed interface) departure ≡ by_departure interface departure
-  departure_on interface departure on = sym (ap (λ b. let course : Course = cond b (through (Passed interface) departure) (dropped causes.Rule departure.events) in course) (going departure.ending on))
+  local_off : (way : Way) (local : End) → Stops local.ending → stopped_at local ≡ by_local way local
+  local_off way local off = sym (ap (local_by way local) (stopping local.ending off))
 
-  departure_off : (interface : ℕ) (departure : End) → Stops departure.ending → dropped causes.Rule departure.events ≡ by_departure interface departure
-  departure_off interface departure off = sym (ap (λ b. let course : Course = cond b (through (Passed interface) departure) (dropped causes.Rule departure.events) in course) (stopping departure.ending off))
+  departure_on : (interface : ℕ) (after : Way) (departure : End) → GoesOn departure.ending
+      → through (Passed interface) after departure ≡ by_departure interface after departure
+  departure_on interface after departure on =
+      sym (ap (departure_by interface after departure) (going departure.ending on))
 
-  module _ (arrival : End) where
+  departure_off : (interface : ℕ) (after : Way) (departure : End) → Stops departure.ending
+      → stopped_at departure ≡ by_departure interface after departure
+  departure_off interface after departure off =
+      sym (ap (departure_by interface after departure) (stopping departure.ending off))
+
+  -- it tells the way on only where they go on
+  same_by_departure : (interface : ℕ) (after after' : Way) (departure : End)
+      → (GoesOn departure.ending → after ≡ after') → (b : Bool) → goes_on departure.ending ≡ b
+      → by_departure interface after departure ≡ by_departure interface after' departure
+  same_by_departure interface after after' departure same true is =
+      ap (λ w. by_departure interface w departure) (same (on_of departure.ending is))
+  same_by_departure interface after after' departure same false is =
+      ap (departure_by interface after departure) is ∙ sym (ap (departure_by interface after' departure) is)
+
+  module _ (way : Way) (arrival : End) where
     abbrev own : Bool
     own = is_own setup.plant arrival.facts.packet.destination
 
-    abbrev way : Option ℕ
-    way = route setup.plant arrival.facts.packet.destination
+    abbrev routed : Option ℕ
+    routed = route setup.plant arrival.facts.packet.destination
 
     abbrev hops : ℕ
     hops = arrival.facts.packet.ttl
 
     abbrev IsLocal : Course → Type 0
-    IsLocal course = (local : End) × Delivers setup arrival.facts arrival.events local × (course ≡ by_local local)
+    IsLocal course =
+        (local : End) × Delivers setup arrival.facts arrival.events local × (course ≡ by_local way local)
 
     abbrev Leaves : ℕ → Course → Type 0
-    Leaves interface course = (departure : End) × Departs setup (departing setup interface arrival.facts) arrival.events departure × (course ≡ by_departure interface departure)
+    Leaves interface course =
+        (after : Way) × (departure : End) × DepartsBy setup mappings way after interface arrival departure
+        × (course ≡ by_departure interface after departure)
 
-    of_own : own ≡ true → (course : Course) → LeadsOn setup arrival course → IsLocal course
-    of_own is course (courses.delivered local o d on) = (local, d, local_on local on)
-    of_own is course (courses.not_delivered local o d off) = (local, d, local_off local off)
+    abbrev Led : Course → Type 0
+    Led course = LeadsOn setup mappings way arrival course
+
+    of_own : own ≡ true → (course : Course) → Led course → IsLocal course
+    of_own is course (courses.delivered local o d on) = (local, d, local_on way local on)
+    of_own is course (courses.not_delivered local o d off) = (local, d, local_off way local off)
     of_own is course (courses.without_route o w) = absurd (both own is o)
     of_own is course (courses.at_last_hop i o w t) = absurd (both own is o)
-    of_own is course (courses.leaves i departure o w t d on) = absurd (both own is o)
-    of_own is course (courses.stays i departure o w t d off) = absurd (both own is o)
+    of_own is course (courses.leaves i after departure o w t d on) = absurd (both own is o)
+    of_own is course (courses.stays i after departure o w t d off) = absurd (both own is o)
 
-    of_none : own ≡ false → way ≡ None → (course : Course) → LeadsOn setup arrival course → course ≡ dropped causes.Route arrival.events
+    of_none : own ≡ false → routed ≡ None → (course : Course) → Led course
+        → course ≡ dropped causes.Route arrival.events
     of_none is none course (courses.delivered local o d on) = absurd (both own o is)
     of_none is none course (courses.not_delivered local o d off) = absurd (both own o is)
     of_none is none course (courses.without_route o w) = refl
-    of_none is none course (courses.at_last_hop i o w t) = absurd (none_or_some way i none w)
-    of_none is none course (courses.leaves i departure o w t d on) = absurd (none_or_some way i none w)
-    of_none is none course (courses.stays i departure o w t d off) = absurd (none_or_some way i none w)
+    of_none is none course (courses.at_last_hop i o w t) = absurd (none_or_some routed i none w)
+    of_none is none course (courses.leaves i after departure o w t d on) = absurd (none_or_some routed i none w)
+    of_none is none course (courses.stays i after departure o w t d off) = absurd (none_or_some routed i none w)
 
-    of_last : (interface : ℕ) → own ≡ false → way ≡ Some interface → hops < 2 → (course : Course) → LeadsOn setup arrival course → course ≡ dropped causes.Ttl arrival.events
-    of_last interface is by low course (courses.delivered local o d on) = absurd (both own o is)
-    of_last interface is by low course (courses.not_delivered local o d off) = absurd (both own o is)
-    of_last interface is by low course (courses.without_route o w) = absurd (none_or_some way interface w by)
-    of_last interface is by low course (courses.at_last_hop i o w t) = refl
-    of_last interface is by low course (courses.leaves i departure o w t d on) = absurd (omega (arith, low, t))
-    of_last interface is by low course (courses.stays i departure o w t d off) = absurd (omega (arith, low, t))
+    module _ (interface : ℕ) (is : own ≡ false) (by : routed ≡ Some interface) where
+      of_last : hops < 2 → (course : Course) → Led course → course ≡ dropped causes.Ttl arrival.events
+      of_last low course (courses.delivered local o d on) = absurd (both own o is)
+      of_last low course (courses.not_delivered local o d off) = absurd (both own o is)
+      of_last low course (courses.without_route o w) = absurd (none_or_some routed interface w by)
+      of_last low course (courses.at_last_hop i o w t) = refl
+      of_last low course (courses.leaves i after departure o w t d on) = absurd (omega (arith, low, t))
+      of_last low course (courses.stays i after departure o w t d off) = absurd (omega (arith, low, t))
 
-    of_way : (interface : ℕ) → own ≡ false → way ≡ Some interface → 2 ≤ hops → (course : Course) → LeadsOn setup arrival course → Leaves interface course
-    of_way interface is by more course (courses.delivered local o d on) = absurd (both own o is)
-    of_way interface is by more course (courses.not_delivered local o d off) = absurd (both own o is)
-    of_way interface is by more course (courses.without_route o w) = absurd (none_or_some way interface w by)
-    of_way interface is by more course (courses.at_last_hop i o w t) = absurd (omega (arith, more, t))
-    of_way interface is by more course (courses.leaves i departure o w t d on) = subst (λ (j : ℕ). Leaves j course) (same_some way i interface w by) (departure, d, departure_on i departure on)
-    of_way interface is by more course (courses.stays i departure o w t d off) = subst (λ (j : ℕ). Leaves j course) (same_some way i interface w by) (departure, d, departure_off i departure off)
+      of_routed : 2 ≤ hops → (course : Course) → Led course → Leaves interface course
+      of_routed more course (courses.delivered local o d on) = absurd (both own o is)
+      of_routed more course (courses.not_delivered local o d off) = absurd (both own o is)
+      of_routed more course (courses.without_route o w) = absurd (none_or_some routed interface w by)
+      of_routed more course (courses.at_last_hop i o w t) = absurd (omega (arith, more, t))
+      of_routed more course (courses.leaves i after departure o w t d on) =
+          subst (λ (j : ℕ). Leaves j course) (same_some routed i interface w by)
+          (after, departure, d, departure_on i after departure on)
+      of_routed more course (courses.stays i after departure o w t d off) =
+          subst (λ (j : ℕ). Leaves j course) (same_some routed i interface w by)
+          (after, departure, d, departure_off i after departure off)
 
-    module _ (one_local : AtMostOneEnd (Delivers setup)) (one_departure : AtMostOneEnd (Departs setup)) (course other : Course) (x : LeadsOn setup arrival course) (y : LeadsOn setup arrival other) where
+    module _ (one : OneChains setup) (course other : Course) (x : Led course) (y : Led other) where
       same_local : IsLocal course → IsLocal other → course ≡ other
-      same_local m n = m.2 ∙ ap by_local (one_local arrival.facts arrival.events m.0 n.0 m.1 n.1) ∙ sym n.2
+      same_local m n = m.2 ∙ ap (by_local way) (one _ arrival.facts arrival.events m.0 n.0 m.1 n.1) ∙ sym n.2
 
       same_departure : (interface : ℕ) → Leaves interface course → Leaves interface other → course ≡ other
-      same_departure i m n = m.2 ∙ ap (by_departure i) (one_departure (departing setup i arrival.facts) arrival.events m.0 n.0 m.1 n.1) ∙ sym n.2
+      same_departure i m n =
+          let f = departing setup i arrival.facts in
+          let q = one_departs setup mappings way one m.0 n.0 f arrival.events m.1 n.1 m.2 n.2 in
+          m.3 ∙ same_by_departure i m.0 n.0 m.1 q.1 (goes_on m.1.ending) refl ∙ ap (by_departure i n.0) q.0
+          ∙ sym n.3
 
-      one_by_ttl : (interface : ℕ) → own ≡ false → way ≡ Some interface → (t : Bool) → nat_lt (hops) 2 ≡ t → course ≡ other
-      one_by_ttl i o w true is = let low : hops < 2 = ltb-true (hops) 2 is in of_last i o w low course x ∙ sym (of_last i o w low other y)
-      one_by_ttl i o w false is = let more : 2 ≤ hops = ltb-false (hops) 2 is in same_departure i (of_way i o w more course x) (of_way i o w more other y)
+      one_by_ttl : (interface : ℕ) → own ≡ false → routed ≡ Some interface → (t : Bool) → nat_lt hops 2 ≡ t
+          → course ≡ other
+      one_by_ttl i o w true is =
+          let low : hops < 2 = ltb-true hops 2 is in
+          of_last i o w low course x ∙ sym (of_last i o w low other y)
+      one_by_ttl i o w false is =
+          let more : 2 ≤ hops = ltb-false hops 2 is in
+          same_departure i (of_routed i o w more course x) (of_routed i o w more other y)
 
-      one_by_way : own ≡ false → (found : Option ℕ) → way ≡ found → course ≡ other
-      one_by_way o None w = of_none o w course x ∙ sym (of_none o w other y)
-      one_by_way o (Some i) w = one_by_ttl i o w (nat_lt (hops) 2) refl
+      one_by_route : own ≡ false → (found : Option ℕ) → routed ≡ found → course ≡ other
+      one_by_route o None w = of_none o w course x ∙ sym (of_none o w other y)
+      one_by_route o (Some i) w = one_by_ttl i o w (nat_lt hops 2) refl
 
       one_by_own : (o : Bool) → own ≡ o → course ≡ other
       one_by_own true is = same_local (of_own is course x) (of_own is other y)
-      one_by_own false is = one_by_way is way refl
+      one_by_own false is = one_by_route is routed refl
 
       one_leads_on : course ≡ other
       one_leads_on = one_by_own own refl
@@ -202,129 +255,175 @@ module _ (setup : Setup) where
     -- ---- some course
 
     abbrev SomeCourse : Type 0
-    SomeCourse = (course : Course) × LeadsOn setup arrival course
+    SomeCourse = (course : Course) × Led course
 
-    module _ (local_ends : Ends (Delivers setup)) (departure_ends : Ends (Departs setup)) where
-      some_local : own ≡ true → (local : End) → Delivers setup arrival.facts arrival.events local → (b : Bool) → goes_on local.ending ≡ b → SomeCourse
-      some_local o local d true is = (through Local local, courses.delivered local o d (on_of local.ending is))
-      some_local o local d false is = (dropped causes.Rule local.events, courses.not_delivered local o d (off_of local.ending is))
+    module _ (ends : SomeChains setup) where
+      some_local : own ≡ true → (local : End) → Delivers setup arrival.facts arrival.events local → (b : Bool)
+          → goes_on local.ending ≡ b → SomeCourse
+      some_local o local d true is =
+          (through Local way local, courses.delivered local o d (on_of local.ending is))
+      some_local o local d false is = (stopped_at local, courses.not_delivered local o d (off_of local.ending is))
 
-      some_departure : (i : ℕ) → own ≡ false → way ≡ Some i → 2 ≤ hops → (departure : End) → Departs setup (departing setup i arrival.facts) arrival.events departure → (b : Bool) → goes_on departure.ending ≡ b → SomeCourse
-      some_departure i o w t departure d true is = (through (Passed i) departure, courses.leaves i departure o w t d (on_of departure.ending is))
-      some_departure i o w t departure d false is = (dropped causes.Rule departure.events, courses.stays i departure o w t d (off_of departure.ending is))
+      some_departure : (i : ℕ) → own ≡ false → routed ≡ Some i → 2 ≤ hops → (after : Way) (departure : End)
+          → DepartsBy setup mappings way after i arrival departure → (b : Bool) → goes_on departure.ending ≡ b
+          → SomeCourse
+      some_departure i o w t after departure d true is =
+          (through (Passed i) after departure, courses.leaves i after departure o w t d (on_of departure.ending is))
+      some_departure i o w t after departure d false is =
+          (stopped_at departure, courses.stays i after departure o w t d (off_of departure.ending is))
 
-      some_by_ttl : (i : ℕ) → own ≡ false → way ≡ Some i → (t : Bool) → nat_lt (hops) 2 ≡ t → SomeCourse
-      some_by_ttl i o w true is = (dropped causes.Ttl arrival.events, courses.at_last_hop i o w (ltb-true (hops) 2 is))
+      some_by_ttl : (i : ℕ) → own ≡ false → routed ≡ Some i → (t : Bool) → nat_lt hops 2 ≡ t → SomeCourse
+      some_by_ttl i o w true is =
+          (dropped causes.Ttl arrival.events, courses.at_last_hop i o w (ltb-true hops 2 is))
       some_by_ttl i o w false is =
-          let q = departure_ends (departing setup i arrival.facts) arrival.events in
-          some_departure i o w (ltb-false (hops) 2 is) q.0 q.1 (goes_on q.0.ending) refl
+          let q = some_departs setup mappings way ends (departing setup i arrival.facts) arrival.events in
+          some_departure i o w (ltb-false hops 2 is) q.0 q.1 q.2 (goes_on q.1.ending) refl
 
-      some_by_way : own ≡ false → (found : Option ℕ) → way ≡ found → SomeCourse
-      some_by_way o None w = (dropped causes.Route arrival.events, courses.without_route o w)
-      some_by_way o (Some i) w = some_by_ttl i o w (nat_lt (hops) 2) refl
+      some_by_route : own ≡ false → (found : Option ℕ) → routed ≡ found → SomeCourse
+      some_by_route o None w = (dropped causes.Route arrival.events, courses.without_route o w)
+      some_by_route o (Some i) w = some_by_ttl i o w (nat_lt hops 2) refl
 
       some_by_own : (o : Bool) → own ≡ o → SomeCourse
-      some_by_own true is = let q = local_ends arrival.facts arrival.events in some_local is q.0 q.1 (goes_on q.0.ending) refl
-      some_by_own false is = some_by_way is way refl
+      some_by_own true is =
+          let q = ends _ arrival.facts arrival.events in
+          some_local is q.0 q.1 (goes_on q.0.ending) refl
+      some_by_own false is = some_by_route is routed refl
 
       some_leads_on : SomeCourse
       some_leads_on = some_by_own own refl
 
   -- ---- by its arrival
 
-  abbrev Ways : Course → End → Type 0
-  Ways course arrival = LeadsBy setup arrival course
+  module _ (one : OneChains setup) where
+    -- the way with which it arrives counts only where it goes on
+    one_by : (after after' : Way) (arrival : End) (course other : Course) → (GoesOn arrival.ending → after' ≡ after)
+        → LeadsBy setup mappings after arrival course → LeadsBy setup mappings after' arrival other → (b : Bool)
+        → goes_on arrival.ending ≡ b → course ≡ other
+    one_by after after' arrival course other same x y true is =
+        let on : GoesOn arrival.ending = on_of arrival.ending is in
+        one_leads_on after arrival one course other (x.1 on)
+        (subst (λ w. LeadsOn setup mappings w arrival other) (same on) (y.1 on))
+    one_by after after' arrival course other same x y false is =
+        let off : Stops arrival.ending = off_of arrival.ending is in
+        x.0 off ∙ sym (y.0 off)
 
-  one_by : AtMostOneEnd (Delivers setup) → AtMostOneEnd (Departs setup) → (arrival : End) (course other : Course) → LeadsBy setup arrival course → LeadsBy setup arrival other → (b : Bool) → goes_on arrival.ending ≡ b → course ≡ other
-  one_by one_local one_departure arrival course other x y true is = one_leads_on arrival one_local one_departure course other (x.1 (on_of arrival.ending is)) (y.1 (on_of arrival.ending is))
-  one_by one_local one_departure arrival course other x y false is = x.0 (off_of arrival.ending is) ∙ sym (y.0 (off_of arrival.ending is))
+    -- rules lead it in one way at most
+    one_leads : (way : Way) (f : Facts) (es : List Event) (course other : Course)
+        → Leads setup mappings way f es course → Leads setup mappings way f es other → course ≡ other
+    one_leads way f es course other x y =
+        let q = one_arrives setup mappings way one y.after x.after f es y.arrival x.arrival y.arrived x.arrived in
+        let same : GoesOn x.arrival.ending → y.after ≡ x.after =
+        λ on. q.1 (subst (λ a. GoesOn a.ending) (sym q.0) on) in
+        one_by x.after y.after x.arrival course other same x.by
+        (subst (λ a. LeadsBy setup mappings y.after a other) q.0 y.by) (goes_on x.arrival.ending) refl
 
-  -- rules lead it in one way at most
-  one_leads : AtMostOneEnd (Arrives setup) → AtMostOneEnd (Delivers setup) → AtMostOneEnd (Departs setup) → (f : Facts) (es : List Event) (course other : Course) → Leads setup f es course → Leads setup f es other → course ≡ other
-  one_leads one_arrival one_local one_departure f es course other x y =
-      let same : y.arrival ≡ x.arrival = one_arrival f es y.arrival x.arrival y.arrived x.arrived in
-      one_by one_local one_departure x.arrival course other x.by (subst (Ways other) same y.by) (goes_on x.arrival.ending) refl
+  module _ (ends : SomeChains setup) where
+    some_by : (after : Way) (arrival : End) → (b : Bool) → goes_on arrival.ending ≡ b
+        → (course : Course) × LeadsBy setup mappings after arrival course
+    some_by after arrival true is =
+        let q = some_leads_on after arrival ends in
+        (q.0, (λ stops. absurd (stops (on_of arrival.ending is)), λ _. q.1))
+    some_by after arrival false is = (stopped_at arrival, (λ _. refl, λ on. absurd (off_of arrival.ending is on)))
 
-  some_by : Ends (Delivers setup) → Ends (Departs setup) → (arrival : End) → (b : Bool) → goes_on arrival.ending ≡ b → (course : Course) × LeadsBy setup arrival course
-  some_by local_ends departure_ends arrival true is = let q = some_leads_on arrival local_ends departure_ends in (q.0, (λ stops. absurd (stops (on_of arrival.ending is)), λ _. q.1))
-  some_by local_ends departure_ends arrival false is = (dropped causes.Rule arrival.events, (λ _. refl, λ on. absurd (off_of arrival.ending is on)))
-
-  -- and in one, where each of their passages ends
-  some_leads : Ends (Arrives setup) → Ends (Delivers setup) → Ends (Departs setup) → (f : Facts) (es : List Event) → (course : Course) × Leads setup f es course
-  some_leads arrival_ends local_ends departure_ends f es =
-      let q = arrival_ends f es in
-      let r = some_by local_ends departure_ends q.0 (goes_on q.0.ending) refl in
-      (r.0, record { arrival = q.0; arrived = q.1; by = r.1 })
+    -- and in one, where all chains end
+    some_leads : (way : Way) (f : Facts) (es : List Event)
+        → (course : Course) × Leads setup mappings way f es course
+    some_leads way f es =
+        let q = some_arrives setup mappings way ends f es in
+        let r = some_by q.0 q.1 (goes_on q.1.ending) refl in
+        (r.0, record { after = q.0; arrival = q.1; arrived = q.2; by = r.1 })
 
 -- ---- how it fares
 
-module _ (setup : Setup) (lookup : Option Lookup) (a : Arrived) where
+module _ (setup : Setup) (live : List Held) (lookup : Option Lookup) (a : Arrived) where
+  abbrev mappings : List Mapping
+  mappings = mappings_beside live lookup
+
   abbrev known : End → Facts
   known early = with_tracking (tracking_of (way_of lookup)) early.facts
 
   -- what the early chains make of it
   abbrev FaresBy : Fate → End → Type 0
-  FaresBy fate early = (Stops early.ending → fate ≡ unseen (dropped causes.Rule early.events)) × (GoesOn early.ending → FaresIn setup lookup early fate)
+  FaresBy fate early =
+      (Stops early.ending → fate ≡ unseen (stopped_at early))
+      × (GoesOn early.ending → FaresIn setup live lookup early fate)
 
-  module _ (one_arrival : AtMostOneEnd (Arrives setup)) (one_local : AtMostOneEnd (Delivers setup)) (one_departure : AtMostOneEnd (Departs setup)) where
+  module _ (one : OneChains setup) where
     -- its course is one, and the last step follows from it
-    one_in : (early : End) (fate other : Fate) → FaresIn setup lookup early fate → FaresIn setup lookup early other → fate ≡ other
+    one_in : (early : End) (fate other : Fate) → FaresIn setup live lookup early fate
+        → FaresIn setup live lookup early other → fate ≡ other
     one_in early fate other x y =
-        let same : x.course ≡ y.course = one_leads setup one_arrival one_local one_departure (known early) early.events x.course y.course x.leads y.leads in
+        let same : x.course ≡ y.course =
+        one_leads setup mappings one (way_of lookup) (known early) early.events x.course y.course x.leads
+        y.leads in
         x.is ∙ ap (settled lookup) same ∙ sym y.is
 
-    one_from : (early : End) (fate other : Fate) → FaresBy fate early → FaresBy other early → (b : Bool) → goes_on early.ending ≡ b → fate ≡ other
-    one_from early fate other x y true is = one_in early fate other (x.1 (on_of early.ending is)) (y.1 (on_of early.ending is))
+    one_from : (early : End) (fate other : Fate) → FaresBy fate early → FaresBy other early → (b : Bool)
+        → goes_on early.ending ≡ b → fate ≡ other
+    one_from early fate other x y true is =
+        let on : GoesOn early.ending = on_of early.ending is in
+        one_in early fate other (x.1 on) (y.1 on)
     one_from early fate other x y false is = x.0 (off_of early.ending is) ∙ sym (y.0 (off_of early.ending is))
 
-    one_fares : AtMostOneEnd (Early setup.plant setup.rules) → (fate other : Fate) → Fares setup lookup a fate → Fares setup lookup a other → fate ≡ other
-    one_fares one_early fate other x y =
-        let same : y.early ≡ x.early = one_early (arriving setup a) [] y.early x.early y.first x.first in
-        one_from x.early fate other (x.stopped, x.goes_on) (subst (FaresBy other) same (y.stopped, y.goes_on)) (goes_on x.early.ending) refl
+    one_fares : (fate other : Fate) → Fares setup live lookup a fate → Fares setup live lookup a other
+        → fate ≡ other
+    one_fares fate other x y =
+        let same : y.early ≡ x.early = one _ (arriving setup a) [] y.early x.early y.first x.first in
+        one_from x.early fate other (x.stopped, x.goes_on) (subst (FaresBy other) same (y.stopped, y.goes_on))
+        (goes_on x.early.ending) refl
 
-  module _ (arrival_ends : Ends (Arrives setup)) (local_ends : Ends (Delivers setup)) (departure_ends : Ends (Departs setup)) where
-    some_in : (early : End) → (fate : Fate) × FaresIn setup lookup early fate
+  module _ (ends : SomeChains setup) where
+    some_in : (early : End) → (fate : Fate) × FaresIn setup live lookup early fate
     some_in early =
-        let q = some_leads setup arrival_ends local_ends departure_ends (known early) early.events in
+        let q = some_leads setup mappings ends (way_of lookup) (known early) early.events in
         (settled lookup q.0, record { course = q.0; leads = q.1; is = refl })
 
     some_from : (early : End) → (b : Bool) → goes_on early.ending ≡ b → (fate : Fate) × FaresBy fate early
-    some_from early true is = let q = some_in early in (q.0, (λ stops. absurd (stops (on_of early.ending is)), λ _. q.1))
-    some_from early false is = (unseen (dropped causes.Rule early.events), (λ _. refl, λ on. absurd (off_of early.ending is on)))
+    some_from early true is =
+        let q = some_in early in
+        (q.0, (λ stops. absurd (stops (on_of early.ending is)), λ _. q.1))
+    some_from early false is = (unseen (stopped_at early), (λ _. refl, λ on. absurd (off_of early.ending is on)))
 
-    some_fares : Ends (Early setup.plant setup.rules) → (fate : Fate) × Fares setup lookup a fate
-    some_fares early_ends =
-        let q = early_ends (arriving setup a) [] in
+    some_fares : (fate : Fate) × Fares setup live lookup a fate
+    some_fares =
+        let q = ends _ (arriving setup a) [] in
         let r = some_from q.0 (goes_on q.0.ending) refl in
         (r.0, record { early = q.0; first = q.1; stopped = r.1.0; goes_on = r.1.1 })
 
 -- ---- the entry
 
 module _ (setup : Setup) where
-  module _ (early : AtMostOneEnd (Early setup.plant setup.rules)) (arrival : AtMostOneEnd (Arrives setup)) (local : AtMostOneEnd (Delivers setup)) (departure : AtMostOneEnd (Departs setup)) where
-    one_fate : (lookup : Option Lookup) (arrived : Result Arrived Cause) (fate other : Fate) → FaresAs setup lookup arrived fate → FaresAs setup lookup arrived other → fate ≡ other
-    one_fate lookup (Ok a) fate other x y = one_fares setup lookup a arrival local departure early fate other x y
-    one_fate lookup (Err cause) fate other x y = x ∙ sym y
+  module _ (one : OneChains setup) where
+    one_fate : (live : List Held) (lookup : Option Lookup) (arrived : Result Arrived Cause) (fate other : Fate)
+        → FaresAs setup live lookup arrived fate → FaresAs setup live lookup arrived other → fate ≡ other
+    one_fate live lookup (Ok a) fate other x y = one_fares setup live lookup a one fate other x y
+    one_fate live lookup (Err cause) fate other x y = x ∙ sym y
 
-    -- a record has one entry at most, where each passage ends in one way at most
-    pub one_next : (story : List Entry) (r : Recorded) (e other : Entry) → Next setup story r e → Next setup story r other → e ≡ other
+    -- a record has one entry at most, where all chains end in one way at most
+    pub one_next : (story : List Entry) (r : Recorded) (e other : Entry) → Next setup story r e
+        → Next setup story r other → e ≡ other
     one_next story r e other n m =
         let live = live_at_record setup story r in
         let now = moment_after story r in
         let same : m.arrived ≡ n.arrived = one_carried setup r m.arrived n.arrived m.carried n.carried in
         let looked : m.lookup ≡ n.lookup = m.looked ∙ ap (answered live) same ∙ sym n.looked in
-        let fares : FaresAs setup n.lookup n.arrived m.fate = rw (← same, ← looked) m.fares in
-        n.is ∙ ap (entry_of now n.lookup n.arrived) (one_fate n.lookup n.arrived n.fate m.fate n.fares fares) ∙ rw (← same, ← looked) (sym m.is)
+        let fares : FaresAs setup live n.lookup n.arrived m.fate = rw (← same, ← looked) m.fares in
+        n.is ∙ ap (entry_of now n.lookup n.arrived) (one_fate live n.lookup n.arrived n.fate m.fate n.fares fares)
+        ∙ rw (← same, ← looked) (sym m.is)
 
-  module _ (early : Ends (Early setup.plant setup.rules)) (arrival : Ends (Arrives setup)) (local : Ends (Delivers setup)) (departure : Ends (Departs setup)) where
-    some_fate : (lookup : Option Lookup) (arrived : Result Arrived Cause) → (fate : Fate) × FaresAs setup lookup arrived fate
-    some_fate lookup (Ok a) = some_fares setup lookup a arrival local departure early
-    some_fate lookup (Err cause) = (unseen (dropped cause []), refl)
+  module _ (ends : SomeChains setup) where
+    some_fate : (live : List Held) (lookup : Option Lookup) (arrived : Result Arrived Cause)
+        → (fate : Fate) × FaresAs setup live lookup arrived fate
+    some_fate live lookup (Ok a) = some_fares setup live lookup a ends
+    some_fate live lookup (Err cause) = (unseen (dropped cause []), refl)
 
-    -- and it has one, where each passage ends
+    -- and it has one, where all chains end
     pub some_next : (story : List Entry) (r : Recorded) → (e : Entry) × Next setup story r e
     some_next story r =
         let c = some_carried setup r in
-        let lookup = answered (live_at_record setup story r) c.0 in
-        let q = some_fate lookup c.0 in
-        (entry_of (moment_after story r) lookup c.0 q.0, record { arrived = c.0; carried = c.1; lookup = lookup; looked = refl; fate = q.0; fares = q.1; is = refl })
+        let live = live_at_record setup story r in
+        let lookup = answered live c.0 in
+        let q = some_fate live lookup c.0 in (
+          entry_of (moment_after story r) lookup c.0 q.0,
+          record { arrived = c.0; carried = c.1; lookup = lookup; looked = refl; fate = q.0; fares = q.1; is = refl },
+        )

@@ -4,6 +4,8 @@ use Rattle.std.specs.Option.{option_map}
 use Rattle.ip_headers.specs.declared.tuple.Tuple.{Tuple}
 use Rattle.ip_headers.specs.Header.{transport_of}
 use Rattle.ip_headers.specs.Tuple.{tuple_of}
+use Rattle.conntrack.specs.declared.belonging.Belonging.{Belonging}
+use Rattle.conntrack.specs.declared.belonging.Belonging.TheVariants.{Nowhere}
 use Rattle.conntrack.specs.declared.connection.ConnId.{ConnId}
 use Rattle.conntrack.specs.declared.connection.Flags.{Flags}
 use Rattle.conntrack.specs.declared.connection.Held.{Held}
@@ -15,7 +17,6 @@ use Rattle.rule_meaning.specs.declared.facts.Tracking.TheVariants.{Unknown}
 use Rattle.rule_meaning.specs.declared.event.Event.{Event}
 use Rattle.rule_meaning.specs.Hooks.{End, Early}
 use Rattle.story.specs.declared.outcome.Cause.{Cause}
-use Rattle.story.specs.declared.outcome.Cause.TheVariants as causes
 use Rattle.story.specs.declared.outcome.Outcome.TheVariants.{Dropped}
 use Rattle.story.specs.Setup.{Setup}
 use Rattle.stepping.specs.declared.leading.Bound.{Bound}
@@ -23,18 +24,19 @@ use Rattle.stepping.specs.declared.leading.Bound.TheVariants as bounds
 use Rattle.stepping.specs.declared.leading.Led.{Led}
 use Rattle.stepping.specs.declared.settling.Settled.{Settled}
 use Rattle.stepping.specs.declared.sought.Sought.{Sought}
-use Rattle.stepping.specs.declared.way.Draft.{Draft}
-use Rattle.stepping.specs.declared.way.Way.{Way}
-use Rattle.stepping.specs.declared.way.Way.TheVariants.{Within, First, Astray}
+use Rattle.translation.specs.declared.way.Draft.{Draft}
+use Rattle.translation.specs.declared.way.Way.{Way}
+use Rattle.translation.specs.declared.way.Way.TheVariants.{Within, First, Astray}
+use Rattle.translation.specs.Ways.{tracking_of, untranslated}
 use Rattle.stepping.specs.Carried.{Arrived, Carries, arriving, interface_facts, packet_facts, with_tracking}
-use Rattle.stepping.specs.Ways.{Lookup, flags_in, look_up, lookup_of, sought_of, tracking_of, way_of}
-use Rattle.stepping.specs.Courses.{Course, Leads, dropped}
-use Rattle.stepping.specs.LastStep.{begun_unless, counted_by, refusal, reply_to, settled, settled_as, unseen}
+use Rattle.stepping.specs.Lookups.{Lookup, flags_in, look_up, lookup_of, mappings_beside, others_in, sought_of, way_of}
+use Rattle.stepping.specs.Courses.{Course, Leads, dropped, stop_cause, stopped_at}
+use Rattle.stepping.specs.LastStep.{Fate, begun_unless, counted_by, refusal, reply_to, settled, settled_as, unseen}
 use Rattle.stepping.specs.Next.{tracked_by}
-use Rattle.stepping.specs.steps.Fates.{Fared, Follows, HasFate, held_after}
+use Rattle.stepping.specs.steps.Fates.{Fared, Follows, GoesBy, HasFate, held_after}
 use Rattle.stepping.specs.steps.Leading.{course_of, outcome_of}
 use Rattle.stepping.specs.steps.Passing.{Comes}
-use Rattle.stepping.specs.steps.Settling.{Settles, begun_in, others_in, outcome_in}
+use Rattle.stepping.specs.steps.Settling.{Settles, begun_in, belonging_in, outcome_in, way_in}
 use Rattle.stepping.proofs.Passages.{cause_by, off_by, on_by}
 use Rattle.stepping.proofs.LastStep.{after_uncounted, agrees}
 
@@ -62,7 +64,7 @@ module _ (now : ℕ) (old : List Held) where
 
   -- what is looked up and dropped ends a closing connection at most
   dropped_follows : (sought : Option Sought) (cause : Cause) (events : List Event)
-      → (let lookup = option_map (look_up old) sought in Follows now lookup old (others_in lookup old) (Dropped cause) false events (settled lookup (dropped cause events)))
+      → (let lookup = option_map (look_up old) sought in Follows now lookup old (others_in old lookup) (Dropped cause) false events (settled lookup (dropped cause events)))
   dropped_follows None cause events = record { ends = refl; happened = refl; begins = refl; id = no_id; held = refl }
   dropped_follows (Some s) cause events = record {
     ends = refl;
@@ -73,38 +75,61 @@ module _ (now : ℕ) (old : List Held) where
   }
 
   -- what is let through is counted by its way
-  through_counts : (s : Sought) (led : Led) (events : List Event) → settled (looked s) (course_of (Ok led) events) ≡ counted_by (way_of (looked s)) (look_up old s).others (course_of (Ok led) events)
-  through_counts s led events = by_bound led.bound
+  through_counts : (s : Sought) (led : Led) (way : Way) (events : List Event) → settled (looked s) (course_of (Ok led) way events) ≡ counted_by way (look_up old s).others (course_of (Ok led) way events)
+  through_counts s led way events = by_bound led.bound
     where
-      by_bound : (bound : Bound) → settled_as (outcome_of bound) (way_of (looked s)) (look_up old s).others (course_of (Ok led) events) ≡ counted_by (way_of (looked s)) (look_up old s).others (course_of (Ok led) events)
+      by_bound : (bound : Bound) → settled_as (outcome_of bound) (look_up old s).others (course_of (Ok led) way events) ≡ counted_by way (look_up old s).others (course_of (Ok led) way events)
       by_bound bounds.Local = refl
       by_bound (bounds.Passed interface) = refl
 
-  begun_happened : (refused : Option Cause) (draft : Draft) (course : Course) → course.events ≡ (begun_unless refused draft course).events
-  begun_happened None draft course = refl
-  begun_happened (Some cause) draft course = refl
+  begun_happened : (refused : Option Cause) (others : List Held) (draft : Draft) (course : Course) → course.events ≡ (begun_unless refused others draft course).events
+  begun_happened None others draft course = refl
+  begun_happened (Some cause) others draft course = refl
 
   happened_so : (way : Way) (others : List Held) (course : Course) → course.events ≡ (counted_by way others course).events
   happened_so (Within place) others course = refl
-  happened_so (First draft) others course = begun_happened (refusal (reply_to draft) others) draft course
+  happened_so (First draft) others course = begun_happened (refusal (reply_to draft) others) others draft course
   happened_so Astray others course = refl
 
-  settled_follows : (sought : Option Sought) (flags : Flags) (led : Led) (new : List Held) (answer : Result Settled Cause) (events : List Event)
+  -- a packet without a tuple isn't of a connection, whatever becomes of it
+  astray_is : (way : Way) → untranslated way ≡ Astray → way ≡ Astray
+  astray_is Astray same = refl
+  astray_is (Within place) same = cc
+  astray_is (First draft) same = cc
+
+  goes_by : (answer : Result Settled Cause) (fate : Fate) → way_in answer ≡ fate.way → GoesBy answer fate
+  goes_by (Ok settled) fate is = is
+  goes_by (Err cause) fate is = tt
+
+  -- what is settled, of a packet that was looked up
+  record IsSettled (lookup : Option Lookup) (new : List Held) (answer : Result Settled Cause) (events : List Event) (fate : Fate) : Type 0 where
+    pub follows : Follows now lookup old new (outcome_in answer) (begun_in answer) events fate
+    pub goes : GoesBy answer fate
+
+  settled_follows : (sought : Option Sought) (flags : Flags) (led : Led) (way : Way) (new : List Held) (answer : Result Settled Cause) (events : List Event)
       → (let lookup = option_map (look_up old) sought in
-      ((s : Sought) → sought ≡ Some s → s.flags ≡ flags) → Settles now flags led (way_of lookup) (others_in lookup old) new answer → Follows now lookup old new (outcome_in answer) (begun_in answer) events (settled lookup (course_of (Ok led) events)))
-  settled_follows None flags led new answer events has settles =
-      record { ends = settles.outcome events; happened = refl; begins = settles.begun events; id = no_id; held = settles.held events }
-  settled_follows (Some s) flags led new answer events has settles =
-      let course = course_of (Ok led) events in
-      let b = (look_up old s).belonging in
-      let agree = agrees settles.id now s b old course in
-      let is = through_counts s led events in
+      ((s : Sought) → sought ≡ Some s → s.flags ≡ flags) → untranslated way ≡ untranslated (way_of lookup) → Settles now flags led (belonging_in lookup) way (others_in old lookup) new answer
+      → IsSettled lookup new answer events (settled lookup (course_of (Ok led) way events)))
+  settled_follows None flags led way new answer events has same settles =
+      let is = astray_is way same in
+      let by : Settles now flags led Nowhere Astray old new answer = rw (← is) settles in
       rw is (record {
-        ends = settles.outcome events;
-        happened = happened_so (way_of (looked s)) (look_up old s).others course;
-        begins = settles.begun events ∙ agree.begun;
-        id = settles.id;
-        held = (rw (← has s refl) at (settles.held events)) ∙ agree.held;
+        follows = record { ends = by.outcome events; happened = refl; begins = by.begun events; id = no_id; held = by.held events };
+        goes = goes_by answer _ (by.goes events);
+      })
+  settled_follows (Some s) flags led way new answer events has same settles =
+      let course = course_of (Ok led) way events in
+      let b = (look_up old s).belonging in
+      let agree = agrees settles.id now s old course b way same in
+      rw (through_counts s led way events) (record {
+        follows = record {
+          ends = settles.outcome events;
+          happened = happened_so way (look_up old s).others course;
+          begins = settles.begun events ∙ agree.begun;
+          id = settles.id;
+          held = (rw (← has s refl) at (settles.held events)) ∙ agree.held;
+        };
+        goes = goes_by answer _ (settles.goes events);
       })
 
 -- ---- a packet
@@ -122,9 +147,10 @@ module _ (setup : Setup) (a : Arrived) (f : Facts) (es : List Event) (known : f 
   is_dropped cause g events now old comes =
       let off = off_by comes.end.ending cause comes.answered in
       rw (cause_by comes.end.ending cause comes.answered, comes.happened) (record {
-        fate = unseen (dropped causes.Rule comes.end.events);
+        fate = unseen (stopped_at comes.end);
         fares = record { early = comes.end; first = has_entered comes.end comes.run; stopped = λ stops. refl; goes_on = λ on. absurd (off on) };
-        follows = unseen_follows now (lookup_of old a.packet) old causes.Rule comes.end.events;
+        follows = unseen_follows now (lookup_of old a.packet) old (stop_cause comes.end.ending) comes.end.events;
+        goes = tt;
       })
 
   -- what they let through is led, and the last step follows
@@ -136,12 +162,15 @@ module _ (setup : Setup) (a : Arrived) (f : Facts) (es : List Event) (known : f 
     same_lookup : lookup ≡ lookup_of old a.packet
     same_lookup = ap (option_map (look_up old)) is
 
+    abbrev LeadsTo : Course → Type 0
+    LeadsTo course = Leads setup (mappings_beside old lookup) way (with_tracking (tracking_of way) g) between course
+
     led_so : (course : Course) (new : List Held) (answer : Result Settled Cause) (events : List Event)
-        → Leads setup (with_tracking (tracking_of way) g) between course → Follows now lookup old new (outcome_in answer) (begun_in answer) events (settled lookup course)
+        → LeadsTo course → IsSettled now old lookup new answer events (settled lookup course)
         → Fared setup a now old new answer events
-    led_so course new answer events leads follows =
+    led_so course new answer events leads ends =
         let on = on_by comes.end.ending comes.answered in
-        let leads_so : Leads setup (with_tracking (tracking_of (way_of lookup)) comes.end.facts) comes.end.events course = rw (← way_is, ← comes.left, ← comes.happened) leads in
+        let leads_so : Leads setup (mappings_beside old lookup) (way_of lookup) (with_tracking (tracking_of (way_of lookup)) comes.end.facts) comes.end.events course = rw (← way_is, ← comes.left, ← comes.happened) leads in
         record {
           fate = settled lookup course;
           fares = record {
@@ -150,15 +179,16 @@ module _ (setup : Setup) (a : Arrived) (f : Facts) (es : List Event) (known : f 
             stopped = λ stops. absurd (stops on);
             goes_on = λ _. record {
               course = course;
-              leads = subst (λ (l : Option Lookup). Leads setup (with_tracking (tracking_of (way_of l)) comes.end.facts) comes.end.events course) same_lookup leads_so;
+              leads = subst (λ (l : Option Lookup). Leads setup (mappings_beside old l) (way_of l) (with_tracking (tracking_of (way_of l)) comes.end.facts) comes.end.events course) same_lookup leads_so;
               is = ap (λ (l : Option Lookup). settled l course) same_lookup;
             };
           };
-          follows = subst (λ (l : Option Lookup). Follows now l old new (outcome_in answer) (begun_in answer) events (settled lookup course)) same_lookup follows;
+          follows = subst (λ (l : Option Lookup). Follows now l old new (outcome_in answer) (begun_in answer) events (settled lookup course)) same_lookup ends.follows;
+          goes = ends.goes;
         }
 
-    pub is_stopped : (cause : Cause) (new : List Held) (events : List Event) → Leads setup (with_tracking (tracking_of way) g) between (dropped cause events) → new ≡ others_in lookup old → Fared setup a now old new (Err cause) events
-    is_stopped cause new events leads held = led_so (dropped cause events) new (Err cause) events leads (rw held (dropped_follows now old sought cause events))
+    pub is_stopped : (cause : Cause) (new : List Held) (events : List Event) → LeadsTo (dropped cause events) → new ≡ others_in old lookup → Fared setup a now old new (Err cause) events
+    is_stopped cause new events leads held = led_so (dropped cause events) new (Err cause) events leads (rw held (record { follows = dropped_follows now old sought cause events; goes = tt }))
 
     has_flags : (flags : Flags) → flags ≡ flags_in (transport_of a.packet) → (found : Option Tuple) → option_map (λ t. let s : Sought = record { tuple = t; flags = flags_in (transport_of a.packet) } in s) found ≡ sought → (s : Sought) → sought ≡ Some s → s.flags ≡ flags
     has_flags flags same None none s some = absurd (none_some s (none ∙ some))
@@ -170,11 +200,11 @@ module _ (setup : Setup) (a : Arrived) (f : Facts) (es : List Event) (known : f 
         flags_so : (s : Sought) → (let one : Sought = record { tuple = t; flags = flags_in (transport_of a.packet) } in Some one) ≡ Some s → s.flags ≡ flags
         flags_so s e = cc
 
-    pub is_settled : (flags : Flags) (led : Led) (new : List Held) (answer : Result Settled Cause) (events : List Event) → flags ≡ flags_in (transport_of a.packet)
-        → Leads setup (with_tracking (tracking_of way) g) between (course_of (Ok led) events) → Settles now flags led way (others_in lookup old) new answer → Fared setup a now old new answer events
-    is_settled flags led new answer events same leads settles =
-        led_so (course_of (Ok led) events) new answer events leads
-        (settled_follows now old sought flags led new answer events (has_flags flags same (tuple_of a.packet) (sym is)) (subst (λ (w : Way). Settles now flags led w (others_in lookup old) new answer) way_is settles))
+    pub is_settled : (flags : Flags) (led : Led) (b : Belonging) (after : Way) (new : List Held) (answer : Result Settled Cause) (events : List Event) → flags ≡ flags_in (transport_of a.packet) → b ≡ belonging_in lookup
+        → untranslated after ≡ untranslated way → LeadsTo (course_of (Ok led) after events) → Settles now flags led b after (others_in old lookup) new answer → Fared setup a now old new answer events
+    is_settled flags led b after new answer events same belongs one leads settles =
+        led_so (course_of (Ok led) after events) new answer events leads
+        (settled_follows now old sought flags led after new answer events (has_flags flags same (tuple_of a.packet) (sym is)) (one ∙ ap untranslated way_is) (subst (λ (b : Belonging). Settles now flags led b after (others_in old lookup) new answer) belongs settles))
 
 -- ---- a record
 

@@ -2,17 +2,14 @@
 use Rattle.std.proofs.Common.{◌≡◌, ℕ, ◌≤◌, ◌<◌, true, false, List, [], ◌∷◌, ◌++◌, length, Option, Some, None, Ok, Err, refl, sym, ap}
 use Rattle.std.proofs.lemmas.Bool.{le-leb, lt-leb}
 use Rattle.ip_headers.specs.declared.tuple.Tuple.{Tuple}
-use Rattle.ip_headers.specs.Tuple.{inverse}
 use Rattle.conntrack.specs.declared.belonging.Belonging.{Belonging}
 use Rattle.conntrack.specs.declared.belonging.Belonging.TheVariants.{Nowhere, Ends, Found}
-use Rattle.conntrack.specs.declared.belonging.Place.{Place}
 use Rattle.conntrack.specs.declared.belonging.State.{State}
 use Rattle.conntrack.specs.declared.belonging.State.TheVariants as states
-use Rattle.conntrack.specs.declared.connection.Connection.{Connection}
 use Rattle.conntrack.specs.declared.connection.ConnId.{ConnId}
 use Rattle.conntrack.specs.declared.connection.Flags.{Flags}
 use Rattle.conntrack.specs.declared.connection.Held.{Held}
-use Rattle.conntrack.specs.Held.{begun_with, first_state, is_taken, most_held, touched_at, without}
+use Rattle.conntrack.specs.Held.{begun_with, first_state, is_taken, most_held, without}
 use Rattle.conntrack.specs.Recorded.{Arrival, Uncounted, after_end, after_packet}
 use Rattle.conntrack.specs.Stories.{does_begin}
 use Rattle.story.specs.declared.outcome.Cause.{Cause}
@@ -20,16 +17,19 @@ use Rattle.story.specs.declared.outcome.Cause.TheVariants as causes
 use Rattle.rule_meaning.specs.declared.event.Event.{Event}
 use Rattle.stepping.specs.declared.leading.Led.{Led}
 use Rattle.stepping.specs.declared.sought.Sought.{Sought}
-use Rattle.stepping.specs.declared.way.Draft.{Draft}
-use Rattle.stepping.specs.declared.way.Way.{Way}
-use Rattle.stepping.specs.declared.way.Way.TheVariants.{Within, First, Astray}
-use Rattle.stepping.specs.Ways.{Lookup, first_way, way_by}
+use Rattle.translation.specs.declared.way.Draft.{Draft}
+use Rattle.translation.specs.declared.way.Membership.{Membership}
+use Rattle.translation.specs.declared.way.Way.{Way}
+use Rattle.translation.specs.declared.way.Way.TheVariants.{Within, First, Astray}
+use Rattle.translation.specs.Ways.{draft_of, first_way, untranslated, way_by}
+use Rattle.connection_table.specs.Table.{IsOpen, begun_as}
+use Rattle.stepping.specs.Lookups.{Lookup}
 use Rattle.stepping.specs.Courses.{Course}
-use Rattle.stepping.specs.LastStep.{Fate, begun_unless, counted_by, refusal, reply_to, uncounted}
+use Rattle.stepping.specs.LastStep.{Fate, begun_unless, counted_by, refusal, reply_to}
 use Rattle.stepping.specs.Next.{tracked_by}
 use Rattle.stepping.specs.steps.Fates.{held_after}
 use Rattle.stepping.specs.steps.Leading.{course_of}
-use Rattle.stepping.specs.steps.Settling.{Settles, begins, held_by}
+use Rattle.stepping.specs.steps.Settling.{IsOpenFor, Settles, begins, counted_for, held_by}
 
 -- ---- why none is begun
 
@@ -48,32 +48,39 @@ module _ (now : ℕ) (flags : Flags) (led : Led) (old : List Held) where
   no_id : ConnId
   no_id = record { 0 = 0 }
 
-  pub settles_within : (place : Place) → Settles now flags led (Within place) old (touched_at place.id place.direction flags led.mark now old) (Ok (record { bound = led.bound; begun = false }))
-  settles_within place = record { id = no_id; outcome = λ events. refl; held = λ events. refl; begun = λ events. refl }
+  pub settles_within : (b : Belonging) (of : Membership) → Settles now flags led b (Within of) old (counted_for b flags led.mark now old) (Ok (record { bound = led.bound; begun = false; way = Within of }))
+  settles_within b of = record { id = no_id; outcome = λ events. refl; held = λ events. refl; begun = λ events. refl; goes = λ events. refl }
 
-  pub settles_astray : Settles now flags led Astray old old (Ok (record { bound = led.bound; begun = false }))
-  settles_astray = record { id = no_id; outcome = λ events. refl; held = λ events. refl; begun = λ events. refl }
+  pub settles_astray : (b : Belonging) → Settles now flags led b Astray old old (Ok (record { bound = led.bound; begun = false; way = Astray }))
+  settles_astray b = record { id = no_id; outcome = λ events. refl; held = λ events. refl; begun = λ events. refl; goes = λ events. refl }
 
-  module _ (draft : Draft) where
-    fate_is : (refused : Option Cause) → refusal (reply_to draft) old ≡ refused → (events : List Event) → counted_by (First draft) old (course_of (Ok led) events) ≡ begun_unless refused draft (course_of (Ok led) events)
-    fate_is refused is events = ap (λ (r : Option Cause). begun_unless r draft (course_of (Ok led) events)) is
+  module _ (b : Belonging) (draft : Draft) where
+    abbrev course : List Event → Course
+    course events = course_of (Ok led) (First draft) events
 
-    pub settles_refused : (cause : Cause) → refusal (reply_to draft) old ≡ Some cause → Settles now flags led (First draft) old old (Err cause)
+    fate_is : (refused : Option Cause) → refusal (reply_to draft) old ≡ refused → (events : List Event)
+        → counted_by (First draft) old (course events) ≡ begun_unless refused old draft (course events)
+    fate_is refused is events = ap (λ (r : Option Cause). begun_unless r old draft (course events)) is
+
+    pub settles_refused : (cause : Cause) → refusal (reply_to draft) old ≡ Some cause
+        → Settles now flags led b (First draft) old old (Err cause)
     settles_refused cause is = record {
       id = no_id;
       outcome = λ events. sym (ap (λ (f : Fate). f.outcome) (fate_is (Some cause) is events));
       held = λ events. rw (fate_is (Some cause) is events) refl;
       begun = λ events. rw (fate_is (Some cause) is events) refl;
+      goes = λ events. sym (ap (λ (f : Fate). f.way) (fate_is (Some cause) is events));
     }
 
     pub settles_first : (id : ConnId) → refusal (reply_to draft) old ≡ None
-        → (let connection : Connection = record { original = draft.original; reply = reply_to draft; mark = led.mark; last = now; source = None; dest = None } in
-        Settles now flags led (First draft) old (old ++ begun_with id connection flags ∷ []) (Ok (record { bound = led.bound; begun = true })))
+        → Settles now flags led b (First draft) old (old ++ begun_with id (begun_as draft led.mark now) flags ∷ [])
+        (Ok (record { bound = led.bound; begun = true; way = First draft }))
     settles_first id is = record {
       id = id;
       outcome = λ events. sym (ap (λ (f : Fate). f.outcome) (fate_is None is events));
       held = λ events. rw (fate_is None is events) refl;
       begun = λ events. rw (fate_is None is events) refl;
+      goes = λ events. sym (ap (λ (f : Fate). f.way) (fate_is None is events));
     }
 
 -- ---- what is held then, and what is recorded
@@ -84,16 +91,41 @@ after_uncounted (Found place) id p held = refl
 after_uncounted Nowhere id p held = refl
 after_uncounted (Ends e) id p held = refl
 
--- the fate of a packet that belongs to none, by its state and why it is refused
-abbrev first_fate : State → Option Cause → Tuple → Course → Fate
-first_fate states.New refused t course = begun_unless refused (record { original = t }) course
-first_fate states.Established refused t course = uncounted course
-first_fate states.Invalid refused t course = uncounted course
+-- ---- a translated packet is one of the connection that it was of before
 
-first_is : (state : State) (t : Tuple) (others : List Held) (course : Course) → counted_by (first_way state t) others course ≡ first_fate state (refusal (inverse t) others) t course
-first_is states.New t others course = refl
-first_is states.Established t others course = refl
-first_is states.Invalid t others course = refl
+abbrev original_or : Tuple → Way → Tuple
+original_or t (First d) = d.original
+original_or t (Within of) = t
+original_or t Astray = t
+
+same_original : (d e : Draft) → First (draft_of d.original) ≡ First (draft_of e.original) → d.original ≡ e.original
+same_original d e same = ap (original_or e.original) same
+
+-- with this tuple it is the first packet of a connection, if it is one
+first_open : (b : Belonging) (held : List Held) (state : State) (t : Tuple) (way : Way) → is_taken t held ≡ false
+    → untranslated way ≡ untranslated (first_way state t) → IsOpenFor b way held
+first_open b held states.New t (First d) free same = rw (same_original d (draft_of t) same) free
+first_open b held states.New t (Within of) free same = cc
+first_open b held states.New t Astray free same = cc
+first_open b held states.Established t (First d) free same = cc
+first_open b held states.Established t (Within of) free same = cc
+first_open b held states.Established t Astray free same = tt
+first_open b held states.Invalid t (First d) free same = cc
+first_open b held states.Invalid t (Within of) free same = cc
+first_open b held states.Invalid t Astray free same = tt
+
+pub still_open : (t : Tuple) (b : Belonging) (held : List Held) (way : Way) → IsOpen t b held
+    → untranslated way ≡ untranslated (way_by t b) → IsOpenFor b way held
+still_open t (Found place) held (Within of) at same = at
+still_open t (Found place) held (First d) at same = cc
+still_open t (Found place) held Astray at same = tt
+still_open t Nowhere held way at same = first_open Nowhere held (first_state t.kind) t way at same
+still_open t (Ends id) held way at same = first_open (Ends id) held (first_state t.kind) t way at same
+
+pub astray_open : (held : List Held) (way : Way) → untranslated way ≡ Astray → IsOpenFor Nowhere way held
+astray_open held Astray same = tt
+astray_open held (Within of) same = cc
+astray_open held (First d) same = cc
 
 -- a packet that counts so beside the others counts so among all that were held, and it is recorded whether it begins one
 module _ (id : ConnId) (now : ℕ) (s : Sought) (b : Belonging) (old : List Held) where
@@ -101,26 +133,50 @@ module _ (id : ConnId) (now : ℕ) (s : Sought) (b : Belonging) (old : List Held
   looked = Some (record { sought = s; belonging = b; others = after_end b old })
 
   pub record Agrees (way : Way) (fate : Fate) : Type 0 where
-    pub held : held_by id s.flags now way fate.count (after_end b old) ≡ held_after now id looked fate.count old
+    pub held : held_by id s.flags now b way fate.count (after_end b old) ≡ held_after now id looked fate.count old
     pub begun : begins way fate.count ≡ does_begin (tracked_by now looked fate.count).what
 
-agrees_first : (id : ConnId) (now : ℕ) (s : Sought) (old : List Held) (state : State) (refused : Option Cause) (course : Course) → Agrees id now s Nowhere old (first_way state s.tuple) (first_fate state refused s.tuple course)
-agrees_first id now s old states.New None course = record { held = refl; begun = refl }
-agrees_first id now s old states.New (Some cause) course = record { held = refl; begun = refl }
-agrees_first id now s old states.Established refused course = record { held = refl; begun = refl }
-agrees_first id now s old states.Invalid refused course = record { held = refl; begun = refl }
+-- the first packet of a connection, by why it is refused
+module _ (id : ConnId) (now : ℕ) (s : Sought) (old : List Held) (d : Draft) (is : d.original ≡ s.tuple) where
+  first_nowhere : (refused : Option Cause) (others : List Held) (course : Course)
+      → Agrees id now s Nowhere old (First d) (begun_unless refused others d course)
+  first_nowhere None others course = record { held = rw is refl; begun = refl }
+  first_nowhere (Some cause) others course = record { held = refl; begun = refl }
 
-agrees_ends : (id e : ConnId) (now : ℕ) (s : Sought) (old : List Held) (state : State) (refused : Option Cause) (course : Course) → Agrees id now s (Ends e) old (first_way state s.tuple) (first_fate state refused s.tuple course)
-agrees_ends id e now s old states.New None course = record { held = refl; begun = refl }
-agrees_ends id e now s old states.New (Some cause) course = record { held = refl; begun = refl }
-agrees_ends id e now s old states.Established refused course = record { held = refl; begun = refl }
-agrees_ends id e now s old states.Invalid refused course = record { held = refl; begun = refl }
+  first_ends : (e : ConnId) (refused : Option Cause) (others : List Held) (course : Course)
+      → Agrees id now s (Ends e) old (First d) (begun_unless refused others d course)
+  first_ends e None others course = record { held = rw is refl; begun = refl }
+  first_ends e (Some cause) others course = record { held = refl; begun = refl }
 
-pub agrees : (id : ConnId) (now : ℕ) (s : Sought) (b : Belonging) (old : List Held) (course : Course) → Agrees id now s b old (way_by s.tuple b) (counted_by (way_by s.tuple b) (after_end b old) course)
-agrees id now s (Found place) old course = record { held = refl; begun = refl }
-agrees id now s Nowhere old course =
-    let state = first_state s.tuple.kind in
-    rw (first_is state s.tuple old course) (agrees_first id now s old state (refusal (inverse s.tuple) old) course)
-agrees id now s (Ends e) old course =
-    let state = first_state s.tuple.kind in
-    rw (first_is state s.tuple (without e old) course) (agrees_ends id e now s old state (refusal (inverse s.tuple) (without e old)) course)
+module _ (id : ConnId) (now : ℕ) (s : Sought) (old : List Held) (course : Course) where
+  abbrev AgreesSo : Belonging → Way → Type 0
+  AgreesSo b way = Agrees id now s b old way (counted_by way (after_end b old) course)
+
+  nowhere : (state : State) (way : Way) → untranslated way ≡ untranslated (first_way state s.tuple) → AgreesSo Nowhere way
+  nowhere states.New (First d) same = first_nowhere id now s old d (same_original d (draft_of s.tuple) same) (refusal (reply_to d) old) old course
+  nowhere states.New (Within of) same = cc
+  nowhere states.New Astray same = cc
+  nowhere states.Established (First d) same = cc
+  nowhere states.Established (Within of) same = cc
+  nowhere states.Established Astray same = record { held = refl; begun = refl }
+  nowhere states.Invalid (First d) same = cc
+  nowhere states.Invalid (Within of) same = cc
+  nowhere states.Invalid Astray same = record { held = refl; begun = refl }
+
+  ends : (e : ConnId) (state : State) (way : Way) → untranslated way ≡ untranslated (first_way state s.tuple) → AgreesSo (Ends e) way
+  ends e states.New (First d) same = first_ends id now s old d (same_original d (draft_of s.tuple) same) e (refusal (reply_to d) (without e old)) (without e old) course
+  ends e states.New (Within of) same = cc
+  ends e states.New Astray same = cc
+  ends e states.Established (First d) same = cc
+  ends e states.Established (Within of) same = cc
+  ends e states.Established Astray same = record { held = refl; begun = refl }
+  ends e states.Invalid (First d) same = cc
+  ends e states.Invalid (Within of) same = cc
+  ends e states.Invalid Astray same = record { held = refl; begun = refl }
+
+  pub agrees : (b : Belonging) (way : Way) → untranslated way ≡ untranslated (way_by s.tuple b) → AgreesSo b way
+  agrees (Found place) (Within of) same = record { held = refl; begun = refl }
+  agrees (Found place) (First d) same = cc
+  agrees (Found place) Astray same = cc
+  agrees Nowhere way same = nowhere (first_state s.tuple.kind) way same
+  agrees (Ends e) way same = ends e (first_state s.tuple.kind) way same

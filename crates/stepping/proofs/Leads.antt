@@ -16,7 +16,9 @@ use Rattle.stepping.specs.declared.leading.Bound.TheVariants as bounds
 use Rattle.stepping.specs.declared.leading.Led.{Led}
 use Rattle.stepping.specs.Carried.{departing, interface_facts}
 use Rattle.stepping.specs.Courses as courses
-use Rattle.stepping.specs.Courses.{Arrives, Course, Departs, Leads, LeadsOn, dropped, mark_in, through}
+use Rattle.ip_headers.specs.declared.tuple.Mapping.{Mapping}
+use Rattle.translation.specs.declared.way.Way.{Way}
+use Rattle.stepping.specs.Courses.{Arrives, Course, Delivers, Departs, Leads, LeadsOn, dropped, mark_in}
 use Rattle.stepping.specs.steps.Leading.{Leaves, bound_by, bound_of, course_of}
 use Rattle.stepping.specs.steps.Passing.{Comes}
 use Rattle.stepping.proofs.Passages.{cause_by, off_by, on_by}
@@ -27,87 +29,104 @@ pub departs_with : (setup : Setup) (plant : PlantTree) (interface : ℕ) (i : In
 departs_with setup plant interface i f g same is known =
     known ∙ ap (λ (j : Interface). let h : Facts = record f { output = Some j; packet = record f.packet { ttl = f.packet.ttl - 1 } } in h) (is ∙ ap (λ (q : PlantTree). interface_facts q interface) same)
 
-pub leaves_by : (setup : Setup) (interface : ℕ) (f g : Facts) (es : List Event) (h : Facts) (events : List Event) (answer : Result ⊤ Cause) → g ≡ departing setup interface f → Comes (Departs setup) g es answer h events → Comes (Leaves setup (bounds.Passed interface)) f es answer h events
-leaves_by setup interface f g es h events answer is comes =
-    record { end = comes.end; run = subst (λ (k : Facts). Departs setup k es comes.end) is comes.run; answered = comes.answered; left = comes.left; happened = comes.happened }
+pub leaves_by : (setup : Setup) (mappings : List Mapping) (way after : Way) (interface : ℕ) (f g : Facts) (es : List Event) (h : Facts) (events : List Event) (answer : Result ⊤ Cause)
+    → g ≡ departing setup interface f → Comes (Departs setup mappings way after) g es answer h events → Comes (Leaves setup mappings way after (bounds.Passed interface)) f es answer h events
+leaves_by setup mappings way after interface f g es h events answer is comes = record {
+  end = comes.end;
+  run = subst (λ (k : Facts). Departs setup mappings way after k es comes.end) is comes.run;
+  answered = comes.answered;
+  left = comes.left;
+  happened = comes.happened;
+}
 
-module _ (setup : Setup) where
+-- one for the box keeps its way
+pub delivers_by : (setup : Setup) (mappings : List Mapping) (way : Way) (f : Facts) (es : List Event) (h : Facts) (events : List Event) (answer : Result ⊤ Cause)
+    → Comes (Delivers setup) f es answer h events → Comes (Leaves setup mappings way way bounds.Local) f es answer h events
+delivers_by setup mappings way f es h events answer comes =
+    record { end = comes.end; run = (refl, comes.run); answered = comes.answered; left = comes.left; happened = comes.happened }
+
+module _ (setup : Setup) (mappings : List Mapping) where
   -- ---- once it has arrived
 
-  module _ (ending : Ending) (f : Facts) (es : List Event) where
+  module _ (way : Way) (ending : Ending) (f : Facts) (es : List Event) where
     abbrev arrival : End
     arrival = record { ending = ending; facts = f; events = es }
 
     abbrev own : Bool
     own = is_own setup.plant f.packet.destination
 
-    abbrev way : Option ℕ
-    way = route setup.plant f.packet.destination
+    abbrev found : Option ℕ
+    found = route setup.plant f.packet.destination
 
-    abbrev LedOn : Result Led Cause → List Event → Type 0
-    LedOn answer events = LeadsOn setup arrival (course_of answer events)
+    abbrev LedOn : Result Led Cause → Way → List Event → Type 0
+    LedOn answer after events = LeadsOn setup mappings way arrival (course_of answer after events)
 
     -- where a packet goes, by the tests in turn
     record IsBound (bound : Bound) : Type 0 where
-      pub leads : (g : Facts) (events : List Event) → Comes (Leaves setup bound) f es (Ok tt) g events → LedOn (Ok (record { bound = bound; mark = mark_in g.tracking })) events
-      pub drops : (cause : Cause) (g : Facts) (events : List Event) → Comes (Leaves setup bound) f es (Err cause) g events → LedOn (Err cause) events
+      pub leads : (after : Way) (g : Facts) (events : List Event) → Comes (Leaves setup mappings way after bound) f es (Ok tt) g events
+          → LedOn (Ok (record { bound = bound; mark = mark_in g.tracking })) after events
+      pub drops : (after : Way) (cause : Cause) (g : Facts) (events : List Event) → Comes (Leaves setup mappings way after bound) f es (Err cause) g events
+          → LedOn (Err cause) after events
 
     local : own ≡ true → IsBound bounds.Local
     local is = record {
-      leads = λ g events comes.
-          rw (comes.left, comes.happened) (courses.delivered comes.end is comes.run (on_by comes.end.ending comes.answered));
-      drops = λ cause g events comes.
-          rw (cause_by comes.end.ending cause comes.answered, comes.happened) (courses.not_delivered comes.end is comes.run (off_by comes.end.ending cause comes.answered));
+      leads = λ after g events comes.
+          rw (comes.left, comes.happened, comes.run.0) (courses.delivered comes.end is comes.run.1 (on_by comes.end.ending comes.answered));
+      drops = λ after cause g events comes.
+          rw (cause_by comes.end.ending cause comes.answered, comes.happened) (courses.not_delivered comes.end is comes.run.1 (off_by comes.end.ending cause comes.answered));
     }
 
-    passed : (interface : ℕ) → own ≡ false → way ≡ Some interface → 2 ≤ f.packet.ttl → IsBound (bounds.Passed interface)
+    passed : (interface : ℕ) → own ≡ false → found ≡ Some interface → 2 ≤ f.packet.ttl → IsBound (bounds.Passed interface)
     passed interface is by hops = record {
-      leads = λ g events comes.
-          rw (comes.left, comes.happened) (courses.leaves interface comes.end is by hops comes.run (on_by comes.end.ending comes.answered));
-      drops = λ cause g events comes.
-          rw (cause_by comes.end.ending cause comes.answered, comes.happened) (courses.stays interface comes.end is by hops comes.run (off_by comes.end.ending cause comes.answered));
+      leads = λ after g events comes.
+          rw (comes.left, comes.happened) (courses.leaves interface after comes.end is by hops comes.run (on_by comes.end.ending comes.answered));
+      drops = λ after cause g events comes.
+          rw (cause_by comes.end.ending cause comes.answered, comes.happened) (courses.stays interface after comes.end is by hops comes.run (off_by comes.end.ending cause comes.answered));
     }
 
     -- by what is answered of it
     abbrev Answers : Result Bound Cause → Type 0
     Answers (Ok bound) = IsBound bound
-    Answers (Err cause) = LedOn (Err cause) es
+    Answers (Err cause) = (after : Way) → LedOn (Err cause) after es
 
-    by_hops : (interface : ℕ) → own ≡ false → way ≡ Some interface → (b : Bool) → nat_lt f.packet.ttl 2 ≡ b → Answers (cond b (Err causes.Ttl) (Ok (bounds.Passed interface)))
-    by_hops interface is by true low = courses.at_last_hop interface is by (ltb-true f.packet.ttl 2 low)
+    by_hops : (interface : ℕ) → own ≡ false → found ≡ Some interface → (b : Bool) → nat_lt f.packet.ttl 2 ≡ b → Answers (cond b (Err causes.Ttl) (Ok (bounds.Passed interface)))
+    by_hops interface is by true low = λ after. courses.at_last_hop interface is by (ltb-true f.packet.ttl 2 low)
     by_hops interface is by false more = passed interface is by (ltb-false f.packet.ttl 2 more)
 
-    by_way : own ≡ false → (found : Option ℕ) → way ≡ found → Answers (bound_by f.packet.ttl found)
-    by_way is None by = courses.without_route is by
-    by_way is (Some interface) by = by_hops interface is by (nat_lt f.packet.ttl 2) refl
+    by_route : own ≡ false → (to : Option ℕ) → found ≡ to → Answers (bound_by f.packet.ttl to)
+    by_route is None by = λ after. courses.without_route is by
+    by_route is (Some interface) by = by_hops interface is by (nat_lt f.packet.ttl 2) refl
 
-    by_own : (b : Bool) → own ≡ b → Answers (cond b (Ok bounds.Local) (bound_by f.packet.ttl way))
+    by_own : (b : Bool) → own ≡ b → Answers (cond b (Ok bounds.Local) (bound_by f.packet.ttl found))
     by_own true is = local is
-    by_own false is = by_way is way refl
+    by_own false is = by_route is found refl
 
     bound_so : (answer : Result Bound Cause) → answer ≡ bound_of setup.plant f.packet → Answers answer
     bound_so answer is = subst Answers (sym is) (by_own own refl)
 
     -- a packet that isn't bound anywhere is dropped
-    pub is_unbound : (cause : Cause) → Err cause ≡ bound_of setup.plant f.packet → LedOn (Err cause) es
-    is_unbound cause is = bound_so (Err cause) is
+    pub is_unbound : (cause : Cause) (after : Way) → Err cause ≡ bound_of setup.plant f.packet → LedOn (Err cause) after es
+    is_unbound cause after is = bound_so (Err cause) is after
 
     -- one that is bound somewhere is led there, or dropped on its way
-    pub is_led : (bound : Bound) (g : Facts) (events : List Event) → Ok bound ≡ bound_of setup.plant f.packet → Comes (Leaves setup bound) f es (Ok tt) g events → LedOn (Ok (record { bound = bound; mark = mark_in g.tracking })) events
-    is_led bound g events is comes = (bound_so (Ok bound) is).leads g events comes
+    pub is_led : (bound : Bound) (after : Way) (g : Facts) (events : List Event) → Ok bound ≡ bound_of setup.plant f.packet → Comes (Leaves setup mappings way after bound) f es (Ok tt) g events
+        → LedOn (Ok (record { bound = bound; mark = mark_in g.tracking })) after events
+    is_led bound after g events is comes = (bound_so (Ok bound) is).leads after g events comes
 
-    pub is_stopped : (bound : Bound) (cause : Cause) (g : Facts) (events : List Event) → Ok bound ≡ bound_of setup.plant f.packet → Comes (Leaves setup bound) f es (Err cause) g events → LedOn (Err cause) events
-    is_stopped bound cause g events is comes = (bound_so (Ok bound) is).drops cause g events comes
+    pub is_stopped : (bound : Bound) (after : Way) (cause : Cause) (g : Facts) (events : List Event) → Ok bound ≡ bound_of setup.plant f.packet → Comes (Leaves setup mappings way after bound) f es (Err cause) g events
+        → LedOn (Err cause) after events
+    is_stopped bound after cause g events is comes = (bound_so (Ok bound) is).drops after cause g events comes
 
   -- ---- its arrival
 
-  module _ (f : Facts) (es : List Event) where
-    pub is_let_in : (g : Facts) (between : List Event) (course : Course) → Comes (Arrives setup) f es (Ok tt) g between → ((ending : Ending) → LeadsOn setup (record { ending = ending; facts = g; events = between }) course) → Leads setup f es course
+  module _ (way after : Way) (f : Facts) (es : List Event) where
+    pub is_let_in : (g : Facts) (between : List Event) (course : Course) → Comes (Arrives setup mappings way after) f es (Ok tt) g between
+        → ((ending : Ending) → LeadsOn setup mappings after (record { ending = ending; facts = g; events = between }) course) → Leads setup mappings way f es course
     is_let_in g between course comes leads =
-        let led : LeadsOn setup comes.end course = rw (← comes.left, ← comes.happened) (leads comes.end.ending) in
-        record { arrival = comes.end; arrived = comes.run; by = (λ stops. absurd (stops (on_by comes.end.ending comes.answered)), λ _. led) }
+        let led : LeadsOn setup mappings after comes.end course = rw (← comes.left, ← comes.happened) (leads comes.end.ending) in
+        record { after = after; arrival = comes.end; arrived = comes.run; by = (λ stops. absurd (stops (on_by comes.end.ending comes.answered)), λ _. led) }
 
-    pub is_kept_out : (cause : Cause) (g : Facts) (events : List Event) → Comes (Arrives setup) f es (Err cause) g events → Leads setup f es (dropped cause events)
+    pub is_kept_out : (cause : Cause) (g : Facts) (events : List Event) → Comes (Arrives setup mappings way after) f es (Err cause) g events → Leads setup mappings way f es (dropped cause events)
     is_kept_out cause g events comes =
         let off = off_by comes.end.ending cause comes.answered in
-        record { arrival = comes.end; arrived = comes.run; by = (λ stops. rw (cause_by comes.end.ending cause comes.answered, comes.happened) refl, λ on. absurd (off on)) }
+        record { after = after; arrival = comes.end; arrived = comes.run; by = (λ stops. rw (cause_by comes.end.ending cause comes.answered, comes.happened) refl, λ on. absurd (off on)) }

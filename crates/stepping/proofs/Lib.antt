@@ -1,7 +1,9 @@
 mod Passages
+mod Steps
 mod Arrivals
 mod Leads
 mod LastStep
 mod Fates
 mod Standing
+mod Around
 mod Entries

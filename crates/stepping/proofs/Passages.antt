@@ -6,11 +6,11 @@ use Rattle.rule_meaning.specs.declared.event.Event.{Event}
 use Rattle.rule_meaning.specs.declared.event.Ending.{Ending}
 use Rattle.rule_meaning.specs.declared.event.Ending.TheVariants.{Accepted, Dropped, Translated}
 use Rattle.rule_meaning.specs.Hooks as meaning
-use Rattle.rule_meaning.specs.Hooks.{End, Passage, GoesOn, Stops, Then, Nothing}
+use Rattle.rule_meaning.specs.Hooks.{End, Passage, GoesOn, Stops, Then}
 use Rattle.story.specs.declared.outcome.Cause.{Cause}
-use Rattle.story.specs.declared.outcome.Cause.TheVariants as causes
 use Rattle.rule_meaning.specs.Laws.{AtMostOneEnd}
 use Rattle.rule_laws.specs.Ends.{Ends}
+use Rattle.stepping.specs.Courses.{stop_cause}
 use Rattle.stepping.specs.steps.Passing.{Comes, answer_of}
 
 -- ---- whether a packet goes on
@@ -41,7 +41,7 @@ off_by Accepted cause is = cc
 off_by Dropped cause is = λ on. on
 off_by (Translated t) cause is = λ on. on
 
-pub cause_by : (ending : Ending) (cause : Cause) → Err cause ≡ answer_of ending → cause ≡ causes.Rule
+pub cause_by : (ending : Ending) (cause : Cause) → Err cause ≡ answer_of ending → cause ≡ stop_cause ending
 cause_by Accepted cause is = cc
 cause_by Dropped cause is = cc
 cause_by (Translated t) cause is = cc
@@ -57,14 +57,6 @@ module _ (first second : Passage) (f : Facts) (es : List Event) where
   pub comes_off : (cause : Cause) (h : Facts) (events : List Event) → Comes first f es (Err cause) h events → Comes (Then first second) f es (Err cause) h events
   comes_off cause h events one =
       record { end = one.end; run = meaning.stops one.run (off_by one.end.ending cause one.answered); answered = one.answered; left = one.left; happened = one.happened }
-
--- where nothing is done between two, the second follows the first
-pub comes_straight : (first second : Passage) (f : Facts) (es : List Event) (h : Facts) (events : List Event) (answer : Result ⊤ Cause) → Comes (Then first second) f es answer h events → Comes (Then first (Then Nothing second)) f es answer h events
-comes_straight first second f es h events answer both = record { end = both.end; run = straight both.end both.run; answered = both.answered; left = both.left; happened = both.happened }
-  where
-    straight : (end : End) → Then first second f es end → Then first (Then Nothing second) f es end
-    straight end (meaning.goes_on between one on two) = meaning.goes_on between one on (meaning.goes_on (record { ending = Accepted; facts = between.facts; events = between.events }) refl tt two)
-    straight end (meaning.stops one off) = meaning.stops one off
 
 pub one_then : (first second : Passage) → AtMostOneEnd first → AtMostOneEnd second → AtMostOneEnd (Then first second)
 one_then first second one two f es end other (meaning.goes_on m r on s) (meaning.goes_on m' r' on' s') =

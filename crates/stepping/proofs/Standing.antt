@@ -6,20 +6,17 @@ use Rattle.std.specs.Option.{option_map}
 use Rattle.ip_headers.specs.declared.tuple.Tuple.{Tuple}
 use Rattle.conntrack.specs.declared.belonging.Belonging.{Belonging}
 use Rattle.conntrack.specs.declared.belonging.Belonging.TheVariants.{Nowhere, Ends, Found}
-use Rattle.conntrack.specs.declared.belonging.State.{State}
-use Rattle.conntrack.specs.declared.belonging.State.TheVariants.{Established, New, Invalid}
 use Rattle.conntrack.specs.declared.connection.ConnId.{ConnId}
 use Rattle.conntrack.specs.declared.connection.Flags.{Flags}
 use Rattle.conntrack.specs.declared.connection.Held.{Held}
 use Rattle.conntrack.specs.declared.limits.Limits.{Limits}
-use Rattle.conntrack.specs.Held.{IsNoneLater, belongs_in, first_state, has_distinct_ids, is_live, is_taken, live_at, most_held, nameless, nameless_belonging, nameless_place}
+use Rattle.conntrack.specs.Held.{IsNoneLater, belongs_in, has_distinct_ids, is_live, is_taken, live_at, most_held, nameless, nameless_belonging}
 use Rattle.conntrack.specs.Stories as connections
 use Rattle.conntrack.specs.Stories.{belongs, does_begin, live_list}
 use Rattle.conntrack.specs.Recorded as recorded
 use Rattle.conntrack.specs.Recorded.{Arrival, Count, Uncounted, Counted, after_end, after_packet, entry_at, what_of_packet}
 use Rattle.pcap_io.specs.Pcap.{Recorded}
 use Rattle.rule_meaning.specs.declared.event.Event.{Event}
-use Rattle.rule_meaning.specs.declared.facts.Tracking.{Tracking}
 use Rattle.story.specs.declared.outcome.Cause.{Cause}
 use Rattle.story.specs.declared.outcome.Cause.TheVariants as causes
 use Rattle.story.specs.declared.outcome.Outcome.{Outcome}
@@ -29,12 +26,17 @@ use Rattle.story.specs.Story.{Entry, live_in, moment_of, tracked_of}
 use Rattle.filter_vm.specs.Machine as machine
 use Rattle.stepping.specs.declared.fate.Ended.{Ended}
 use Rattle.stepping.specs.declared.sought.Sought.{Sought}
-use Rattle.stepping.specs.declared.way.Way.{Way}
-use Rattle.stepping.specs.declared.way.Way.TheVariants.{Within, First, Astray}
+use Rattle.ip_headers.specs.declared.tuple.Mapping.{Mapping}
+use Rattle.rule_meaning.specs.Hooks.{End}
+use Rattle.translation.specs.declared.way.Draft.{Draft}
+use Rattle.translation.specs.declared.way.Way.{Way}
+use Rattle.translation.specs.declared.way.Way.TheVariants.{Within, First, Astray}
+use Rattle.translation.specs.Mapped.{mappings_in}
+use Rattle.translation.specs.Ways.{tracking_of, way_by}
 use Rattle.stepping.specs.Carried.{Arrived, with_tracking}
-use Rattle.stepping.specs.Ways.{Lookup, first_way, look_up, lookup_of, sought_of, tracking_of, way_by, way_of}
-use Rattle.stepping.specs.Courses.{Course, Leads}
-use Rattle.stepping.specs.LastStep.{Fate, begun_unless, counted_by, refusal, reply_to, settled, settled_as}
+use Rattle.stepping.specs.Lookups.{Lookup, look_up, lookup_of, mappings_beside, sought_of, way_of}
+use Rattle.stepping.specs.Courses.{Course, Leads, dropped}
+use Rattle.stepping.specs.LastStep.{Fate, begun_unless, counted_by, fresh_in, refusal, reply_to, settled, settled_as, uncounted}
 use Rattle.stepping.specs.Next.{FaresAs, FaresIn, Next, answered, at_moment, entry_of, leaving, live_at_record, moment_after, tracked_by}
 use Rattle.stepping.specs.Stands.{Shown, Stands, Told, newest_of}
 use Rattle.stepping.specs.steps.Fates.{HasFate, IsFresh, held_after, newest_in}
@@ -51,6 +53,7 @@ pub record AreAlike : Type 0 where
   pub taken : (held others : List Held) (tuple : Tuple) → map nameless held ≡ map nameless others → is_taken tuple held ≡ is_taken tuple others
   pub number : (held others : List Held) → map nameless held ≡ map nameless others → length held ≡ length others
   pub live : (limits : Limits) (held others : List Held) (now : ℕ) → map nameless held ≡ map nameless others → map nameless (live_at limits now held) ≡ map nameless (live_at limits now others)
+  pub mappings : (held others : List Held) → map nameless held ≡ map nameless others → mappings_in held ≡ mappings_in others
 
 -- what a story with one entry more tells, and what a story tells of a later moment
 pub record IsTold (limits : Limits) : Type 0 where
@@ -74,8 +77,8 @@ none_later-live limits now at (x ∷ held) h = kept (is_live limits at x) (none_
 
 -- nor does the time that passes
 pub none_later-aged : ((held : List Held) (now later : ℕ) → now ≤ later → IsNoneLater now held → IsNoneLater later held)
-    → (limits : Limits) (latest now : ℕ) (old held aged : List Held) → held ≡ old → aged ≡ live_at limits now held → latest ≤ now → IsNoneLater latest old → IsNoneLater now aged
-none_later-aged law limits latest now old held aged same is le h = rw (is, same) (none_later-live limits now now old (law old latest now le h))
+    → (limits : Limits) (latest now : ℕ) (held aged : List Held) → aged ≡ live_at limits now held → latest ≤ now → IsNoneLater latest held → IsNoneLater now aged
+none_later-aged law limits latest now held aged is le h = rw is (none_later-live limits now now held (law held latest now le h))
 
 -- nor does a packet that is looked up
 pub none_later-after : ((held : List Held) (belonging : Belonging) (id : ConnId) (p : Arrival) (count : Count) → IsNoneLater p.moment held → IsNoneLater p.moment (after_packet belonging id p count held))
@@ -86,33 +89,11 @@ none_later-after law now id (Some l) (Some count) held h = law held l.belonging 
 
 -- ---- what names don't change
 
--- a way, but for the name of its connection
-abbrev nameless_way : Way → Way
-nameless_way (Within place) = Within (nameless_place place)
-nameless_way (First draft) = First draft
-nameless_way Astray = Astray
-
-first_nameless : (state : State) (t : Tuple) → nameless_way (first_way state t) ≡ first_way state t
-first_nameless New t = refl
-first_nameless Established t = refl
-first_nameless Invalid t = refl
-
-way_nameless : (t : Tuple) (b : Belonging) → nameless_way (way_by t b) ≡ way_by t (nameless_belonging b)
-way_nameless t Nowhere = first_nameless (first_state t.kind) t
-way_nameless t (Ends id) = first_nameless (first_state t.kind) t
-way_nameless t (Found place) = refl
-
--- what rules may read of a connection
-tracking_nameless : (way : Way) → tracking_of way ≡ tracking_of (nameless_way way)
-tracking_nameless (Within place) = refl
-tracking_nameless (First draft) = refl
-tracking_nameless Astray = refl
-
--- the last step
-counted_nameless : (way : Way) (others : List Held) (course : Course) → counted_by way others course ≡ counted_by (nameless_way way) others course
-counted_nameless (Within place) others course = refl
-counted_nameless (First draft) others course = refl
-counted_nameless Astray others course = refl
+-- how a packet stands to connections
+first_alike : (t : Tuple) (b : Belonging) → way_by t b ≡ way_by t (nameless_belonging b)
+first_alike t Nowhere = refl
+first_alike t (Ends id) = refl
+first_alike t (Found place) = refl
 
 -- whether a connection is begun
 begins_nameless : (b : Belonging) (p : Arrival) (count : Count) → does_begin (what_of_packet b p count) ≡ does_begin (what_of_packet (nameless_belonging b) p count)
@@ -127,13 +108,37 @@ begins_nameless (Found place) p (Counted mark reply source dest) = refl
 abbrev refused_of : ℕ → Bool → Option Cause
 refused_of number taken = if nat_le most_held number then Some causes.Full else (if taken then Some causes.Clash else None)
 
+-- it is begun with these mappings live, where it is refused so
+abbrev begun_by : Option Cause → List Mapping → Draft → Course → Fate
+begun_by None mappings draft course = record {
+  outcome = course.outcome;
+  events = course.events;
+  count = Some (Counted course.mark (reply_to draft) draft.source draft.dest);
+  way = course.way;
+  fresh = fresh_in mappings draft.named draft.source;
+}
+begun_by (Some cause) mappings draft course = uncounted (dropped cause course.events)
+
+begun_is : (refused : Option Cause) (others : List Held) (draft : Draft) (course : Course)
+    → begun_unless refused others draft course ≡ begun_by refused (mappings_in others) draft course
+begun_is None others draft course = refl
+begun_is (Some cause) others draft course = refl
+
 module _ (alike : AreAlike) where
   refusal_same : (reply : Tuple) (held live : List Held) → map nameless held ≡ map nameless live → refusal reply held ≡ refusal reply live
   refusal_same reply held live same = ap (λ (n : ℕ). refused_of n (is_taken reply held)) (alike.number held live same) ∙ ap (refused_of (length live)) (alike.taken held live reply same)
 
+  begun_beside : (draft : Draft) (held live : List Held) (course : Course) → map nameless held ≡ map nameless live
+      → begun_unless (refusal (reply_to draft) held) held draft course ≡ begun_unless (refusal (reply_to draft) live) live draft course
+  begun_beside draft held live course same =
+      begun_is (refusal (reply_to draft) held) held draft course
+      ∙ ap (λ (refused : Option Cause). begun_by refused (mappings_in held) draft course) (refusal_same (reply_to draft) held live same)
+      ∙ ap (λ (mappings : List Mapping). begun_by (refusal (reply_to draft) live) mappings draft course) (alike.mappings held live same)
+      ∙ sym (begun_is (refusal (reply_to draft) live) live draft course)
+
   counted_beside : (way : Way) (held live : List Held) (course : Course) → map nameless held ≡ map nameless live → counted_by way held course ≡ counted_by way live course
-  counted_beside (Within place) held live course same = refl
-  counted_beside (First draft) held live course same = ap (λ (refused : Option Cause). begun_unless refused draft course) (refusal_same (reply_to draft) held live same)
+  counted_beside (Within of) held live course same = refl
+  counted_beside (First draft) held live course same = begun_beside draft held live course same
   counted_beside Astray held live course same = refl
 
 module _ (alike : AreAlike) (held live : List Held) (same : map nameless held ≡ map nameless live) (d : IsTrue (has_distinct_ids held)) (d' : IsTrue (has_distinct_ids live)) where
@@ -147,20 +152,13 @@ module _ (alike : AreAlike) (held live : List Held) (same : map nameless held �
     belongs_same : nameless_belonging one.belonging ≡ nameless_belonging other.belonging
     belongs_same = alike.belonging held live s.tuple s.flags same
 
-    way_same : nameless_way (way_of (Some one)) ≡ nameless_way (way_of (Some other))
-    way_same = way_nameless s.tuple one.belonging ∙ ap (way_by s.tuple) belongs_same ∙ sym (way_nameless s.tuple other.belonging)
+    others_same : map nameless one.others ≡ map nameless other.others
+    others_same = alike.ended held live s.tuple s.flags same d d'
 
-    counted_same : (course : Course) → counted_by (way_of (Some one)) one.others course ≡ counted_by (way_of (Some other)) other.others course
-    counted_same course =
-        counted_nameless (way_of (Some one)) one.others course
-        ∙ ap (λ (way : Way). counted_by way one.others course) way_same
-        ∙ sym (counted_nameless (way_of (Some other)) one.others course)
-        ∙ counted_beside alike (way_of (Some other)) one.others other.others course (alike.ended held live s.tuple s.flags same d d')
-
-    settled_as_same : (outcome : Outcome) (course : Course) → settled_as outcome (way_of (Some one)) one.others course ≡ settled_as outcome (way_of (Some other)) other.others course
+    settled_as_same : (outcome : Outcome) (course : Course) → settled_as outcome one.others course ≡ settled_as outcome other.others course
     settled_as_same (Dropped cause) course = refl
-    settled_as_same (Passed interface) course = counted_same course
-    settled_as_same Local course = counted_same course
+    settled_as_same (Passed interface) course = counted_beside alike course.way one.others other.others course others_same
+    settled_as_same Local course = counted_beside alike course.way one.others other.others course others_same
 
   abbrev in_held : Option Sought → Option Lookup
   in_held sought = option_map (look_up held) sought
@@ -168,10 +166,16 @@ module _ (alike : AreAlike) (held live : List Held) (same : map nameless held �
   abbrev in_live : Option Sought → Option Lookup
   in_live sought = option_map (look_up live) sought
 
-  -- what rules may read of it
-  tracking_same : (sought : Option Sought) → tracking_of (way_of (in_held sought)) ≡ tracking_of (way_of (in_live sought))
-  tracking_same None = refl
-  tracking_same (Some s) = tracking_nameless (way_of (Some (one s))) ∙ ap tracking_of (way_same s) ∙ sym (tracking_nameless (way_of (Some (other s))))
+  -- how it stands to connections
+  way_same : (sought : Option Sought) → way_of (in_held sought) ≡ way_of (in_live sought)
+  way_same None = refl
+  way_same (Some s) =
+      first_alike s.tuple (one s).belonging ∙ ap (way_by s.tuple) (belongs_same s) ∙ sym (first_alike s.tuple (other s).belonging)
+
+  -- the mappings that are live then
+  beside_same : (sought : Option Sought) → mappings_beside held (in_held sought) ≡ mappings_beside live (in_live sought)
+  beside_same None = alike.mappings held live same
+  beside_same (Some s) = alike.mappings (one s).others (other s).others (others_same s)
 
   -- what becomes of it
   settled_same : (sought : Option Sought) (course : Course) → settled (in_held sought) course ≡ settled (in_live sought) course
@@ -191,17 +195,25 @@ module _ (alike : AreAlike) (held live : List Held) (same : map nameless held �
   began_alike now (Ok a) count = began_same now (sought_of a.packet) count
   began_alike now (Err cause) count = refl
 
+  -- how it is led
+  leads_same : (setup : Setup) (sought : Option Sought) (early : End) (course : Course)
+      → Leads setup (mappings_beside held (in_held sought)) (way_of (in_held sought)) (with_tracking (tracking_of (way_of (in_held sought))) early.facts) early.events course
+      → Leads setup (mappings_beside live (in_live sought)) (way_of (in_live sought)) (with_tracking (tracking_of (way_of (in_live sought))) early.facts) early.events course
+  leads_same setup sought early course leads =
+      subst (λ (way : Way). Leads setup (mappings_beside live (in_live sought)) way (with_tracking (tracking_of way) early.facts) early.events course) (way_same sought)
+      (subst (λ (mappings : List Mapping). Leads setup mappings (way_of (in_held sought)) (with_tracking (tracking_of (way_of (in_held sought))) early.facts) early.events course) (beside_same sought) leads)
+
   -- how it fares
-  pub fares_same : (setup : Setup) (arrived : Result Arrived Cause) (fate : Fate) → FaresAs setup (answered held arrived) arrived fate → FaresAs setup (answered live arrived) arrived fate
+  pub fares_same : (setup : Setup) (arrived : Result Arrived Cause) (fate : Fate) → FaresAs setup held (answered held arrived) arrived fate → FaresAs setup live (answered live arrived) arrived fate
   fares_same setup (Err cause) fate fares = fares
   fares_same setup (Ok a) fate fares = record {
     early = fares.early;
     first = fares.first;
     stopped = fares.stopped;
-    goes_on = λ on. let before : FaresIn setup (lookup_of held a.packet) fares.early fate = fares.goes_on on in
+    goes_on = λ on. let before : FaresIn setup held (lookup_of held a.packet) fares.early fate = fares.goes_on on in
         record {
           course = before.course;
-          leads = subst (λ (known : Tracking). Leads setup (with_tracking known fares.early.facts) fares.early.events before.course) (tracking_same (sought_of a.packet)) before.leads;
+          leads = leads_same setup (sought_of a.packet) fares.early before.course before.leads;
           is = before.is ∙ settled_same (sought_of a.packet) before.course;
         };
   }
@@ -233,6 +245,10 @@ moment_same now (Some l) None = refl
 moment_same now (Some l) (Some count) = refl
 
 -- ---- an engine
+
+-- one that isn't ready needs no room
+pub never : IsTrue false → ⊥
+never ready = cc
 
 -- the last moment of an engine is the moment of the story
 pub latest_is : (ended : Option Ended) (latest : ℕ) (told : machine.Told) (packet : Vec ℕ Global) (held : List Held) (story : List Entry) → IsFresh ended latest packet.items held → newest_in ended latest told packet ≡ newest_of story → latest ≡ moment_of story
@@ -295,7 +311,7 @@ module _ (alike : AreAlike) (before after : Shown) (told : IsTold (limits_of bef
         record { arrived = has.arrived; carried = has.carried; lookup = lookup; looked = refl; fate = has.fate; fares = fares_same alike held live same d distinct before.setup has.arrived has.fate has.fares; is = refl },
         record {
           records = omega arith;
-          newest = newest ∙ told_is (moment_same now lookup has.fate.count) has.long follows.happened follows.ends (has.leaves ∙ ap (leaving has.arrived) follows.ends) (follows.begins ∙ began_alike alike held live same d distinct now has.arrived has.fate.count);
+          newest = newest ∙ told_is (moment_same now lookup has.fate.count) has.long follows.happened follows.ends (has.leaves ∙ ap (leaving has.arrived has.fate.way) follows.ends) (follows.begins ∙ began_alike alike held live same d distinct now has.arrived has.fate.count);
           held = ap (map nameless) follows.held ∙ held_same limits alike told now follows.id held (tracked_of story) same d has.arrived has.fate.count ∙ sym (ap (λ (setup : Setup). map nameless (live_in setup (e ∷ story))) same_setup);
         },
         follows.ends,

@@ -1,6 +1,6 @@
-pub mod Taken
 pub mod Carried
-pub mod Ways
+pub mod Lookups
+pub mod Translated
 pub mod Courses
 pub mod LastStep
 pub mod Next

@@ -3,7 +3,6 @@ use Rattle.std.specs.Prelude.{◌≡◌, ℕ, ◌-◌, max, List, [], ◌∷◌,
 use Rattle.std.specs.Option.{option_and_then, option_map}
 use Rattle.ip_headers.specs.declared.tuple.Tuple.{Tuple}
 use Rattle.ip_headers.specs.Header.{total_len, ttl}
-use Rattle.rewrite.specs.declared.change.Change.{Change}
 use Rattle.rewrite.specs.Rewritten.{rewritten}
 use Rattle.conntrack.specs.declared.connection.Held.{Held}
 use Rattle.conntrack.specs.Stories.{live_list}
@@ -13,37 +12,41 @@ use Rattle.conntrack.specs.Recorded.{Arrival, Count, entry_at}
 use Rattle.pcap_io.specs.Pcap.{Recorded}
 use Rattle.rule_meaning.specs.Hooks.{End, GoesOn, Stops, Early}
 use Rattle.story.specs.declared.outcome.Cause.{Cause}
-use Rattle.story.specs.declared.outcome.Cause.TheVariants as causes
 use Rattle.story.specs.declared.outcome.Outcome.{Outcome}
 use Rattle.story.specs.declared.outcome.Outcome.TheVariants.{Passed, Local, Dropped}
 use Rattle.story.specs.Setup.{Setup, limits_of}
 use Rattle.story.specs.Story.{Entry, moment_of, tracked_of}
 use Rattle.stepping.specs.declared.sought.Sought.{Sought}
 use Rattle.stepping.specs.Carried.{Arrived, Carries, arriving, with_tracking}
-use Rattle.stepping.specs.Ways.{Lookup, lookup_of, tracking_of, way_of}
-use Rattle.stepping.specs.Courses.{Course, Leads, dropped}
+use Rattle.translation.specs.declared.way.Way.{Way}
+use Rattle.translation.specs.Ways.{change_of, tracking_of}
+use Rattle.stepping.specs.Lookups.{Lookup, lookup_of, mappings_beside, way_of}
+use Rattle.stepping.specs.Courses.{Course, Leads, dropped, stopped_at}
 use Rattle.stepping.specs.LastStep.{Fate, settled, unseen}
 
 -- ---- how a packet fares
 
 -- a packet that the early chains let through, of which the connections alive answer this: the rules lead it, and the
 -- last step follows
-pub record FaresIn (setup : Setup) (lookup : Option Lookup) (early : End) (fate : Fate) : Type 0 where
+pub record FaresIn (setup : Setup) (live : List Held) (lookup : Option Lookup) (early : End) (fate : Fate)
+    : Type 0 where
   pub course : Course
-  pub leads : Leads setup (with_tracking (tracking_of (way_of lookup)) early.facts) early.events course
+  pub leads : Leads setup (mappings_beside live lookup) (way_of lookup)
+      (with_tracking (tracking_of (way_of lookup)) early.facts) early.events course
   pub is : fate ≡ settled lookup course
 
 -- the early chains come first: what they drop isn't looked up
-pub record Fares (setup : Setup) (lookup : Option Lookup) (a : Arrived) (fate : Fate) : Type 0 where
+pub record Fares (setup : Setup) (live : List Held) (lookup : Option Lookup) (a : Arrived) (fate : Fate)
+    : Type 0 where
   pub early : End
   pub first : Early setup.plant setup.rules (arriving setup a) [] early
-  pub stopped : Stops early.ending → fate ≡ unseen (dropped causes.Rule early.events)
-  pub goes_on : GoesOn early.ending → FaresIn setup lookup early fate
+  pub stopped : Stops early.ending → fate ≡ unseen (stopped_at early)
+  pub goes_on : GoesOn early.ending → FaresIn setup live lookup early fate
 
 -- what carries no packet is dropped for its cause, and nothing happens
-abbrev pub FaresAs : Setup → Option Lookup → Result Arrived Cause → Fate → Type 0
-FaresAs setup lookup (Ok a) fate = Fares setup lookup a fate
-FaresAs setup lookup (Err cause) fate = fate ≡ unseen (dropped cause [])
+abbrev pub FaresAs : Setup → List Held → Option Lookup → Result Arrived Cause → Fate → Type 0
+FaresAs setup live lookup (Ok a) fate = Fares setup live lookup a fate
+FaresAs setup live lookup (Err cause) fate = fate ≡ unseen (dropped cause [])
 
 -- what the connections alive answer for it
 abbrev pub answered : List Held → Result Arrived Cause → Option Lookup
@@ -57,20 +60,16 @@ abbrev pub length_of : Result Arrived Cause → ℕ
 length_of (Ok a) = total_len a.packet
 length_of (Err cause) = 0
 
--- what is to be other in a packet that is sent on: its TTL is lowered
-abbrev pub change_of : List ℕ → Change
-change_of p = record { source = None; destination = None; numbers = None; ttl = Some (ttl p - 1) }
-
--- the packet as it is sent on
-abbrev pub sent_on : List ℕ → Outcome → List ℕ
-sent_on p (Passed interface) = rewritten p (change_of p)
-sent_on p Local = []
-sent_on p (Dropped cause) = []
+-- the packet as it is sent on: with the tuple of its connection, and its TTL lowered
+abbrev pub sent_on : List ℕ → Way → Outcome → List ℕ
+sent_on p way (Passed interface) = rewritten p (change_of way (ttl p - 1))
+sent_on p way Local = []
+sent_on p way (Dropped cause) = []
 
 -- the bytes that leave
-abbrev pub leaving : Result Arrived Cause → Outcome → List ℕ
-leaving (Ok a) outcome = sent_on a.packet outcome
-leaving (Err cause) outcome = []
+abbrev pub leaving : Result Arrived Cause → Way → Outcome → List ℕ
+leaving (Ok a) way outcome = sent_on a.packet way outcome
+leaving (Err cause) way outcome = []
 
 -- a packet that is looked up at a moment
 abbrev pub at_moment : ℕ → Sought → Arrival
@@ -105,11 +104,10 @@ entry_of now lookup carried fate = record {
   length = length_of carried;
   events = fate.events;
   outcome = fate.outcome;
-  packet = leaving carried fate.outcome;
+  packet = leaving carried fate.way fate.outcome;
 }
 
--- this is the entry of the record after those of the story: each answer that it rests on is judged by its own
--- relation,
+-- this is the entry of the record after those of the story: each answer that it rests on is judged by its own relation,
 -- and what is asked of connections is answered by the list of all entries before
 pub record Next (setup : Setup) (story : List Entry) (r : Recorded) (e : Entry) : Type 0 where
   -- the packet that the record carries, or why it carries none
@@ -120,7 +118,7 @@ pub record Next (setup : Setup) (story : List Entry) (r : Recorded) (e : Entry) 
   pub looked : lookup ≡ answered (live_at_record setup story r) arrived
   -- what becomes of it
   pub fate : Fate
-  pub fares : FaresAs setup lookup arrived fate
+  pub fares : FaresAs setup (live_at_record setup story r) lookup arrived fate
   pub is : e ≡ entry_of (moment_after story r) lookup arrived fate
 
 -- ---- stories

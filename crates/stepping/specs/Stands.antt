@@ -32,15 +32,15 @@ told e = record {
   begun = does_begin e.tracked.what;
 }
 
--- what an engine shows: what it was set up with, how many records it took, how many statements of rules it started,
--- the
--- connections that it holds, and what it tells of the last record, if it took one
+-- what an engine shows: what it was set up with, how many records it took, how many statements of rules it started, the
+-- connections that it holds, what it tells of the last record, if it took one, and whether it has room for the next one
 pub record Shown : Type 0 where
   pub setup : Setup
   pub records : ℕ
   pub ticks : ℕ
   pub held : List Held
   pub newest : Option Told
+  pub ready : Bool
 
 -- what a checked ruleset is set up with
 abbrev pub setup_of : CheckedTree → Setup
@@ -51,8 +51,7 @@ newest_of [] = None
 newest_of (e ∷ story) = Some (told e)
 
 -- its number of records is the story's, it tells of the newest entry, and it holds exactly the connections that are
--- alive
--- at the story's last moment, in the order in which they were begun, whatever it calls them
+-- alive at the story's last moment, in the order in which they were begun, whatever it calls them
 pub record Stands (engine : Shown) (story : List Entry) : Type 0 where
   pub records : engine.records ≡ length story
   pub newest : engine.newest ≡ newest_of story

@@ -1,5 +1,5 @@
 //! One record at a time.
-ghost use Rattle.std.specs.Prelude.{◌≡◌, ◌<◌, ◌≤◌, ◌+◌, ℕ, [], ◌∷◌, List, length, map, IsTrue, IfOk, IfSome, OnErr, OnOk};
+ghost use Rattle.std.specs.Prelude.{◌≡◌, ◌<◌, ◌≤◌, ◌+◌, ℕ, [], ◌∷◌, List, length, map, true, IsOk, IsTrue, IfOk, IfSome, OnErr, OnOk};
 ghost use Rattle.conntrack.specs.Held.{connection_of};
 ghost use Rattle.pcap_io.specs.Sll2.{IsSent, sent};
 ghost use Rattle.rule_check.specs.WellFormed.{WellFormed};
@@ -10,10 +10,10 @@ ghost use Rattle.stepping.specs.Next.{Next};
 ghost use Rattle.stepping.specs.Stands.{Stands, lent, packet_of, sends_of, setup_of, told_of};
 
 use crate::fate::{Ended, fate, way_of};
-use crate::lookup::age_all;
 use crate::setup::Setup;
+use connection_table::ConnectionTable;
 use conntrack::laws::{names_aside, none_later, one_entry_more};
-use conntrack::{Connection, Limits, Memory, Tracker};
+use conntrack::{Connection, Limits, Tracker};
 use hook_runs::Events;
 use nft_tree::Ruleset;
 use pcap_io::{Leaving, Record};
@@ -21,6 +21,7 @@ use rule_check::Checked;
 use std::alloc::{AllocError, Global};
 use std::marker::Model;
 use story::Outcome;
+use translation::laws::names_aside as mappings_aside;
 
 /// The greatest length of a packet.
 const MOST_PACKET_BYTES: usize = 65_535;
@@ -29,7 +30,7 @@ const MOST_PACKET_BYTES: usize = 65_535;
 #[derive(Drop)]
 pub struct Engine<T: Tracker> {
     setup: Setup,
-    tracker: T,
+    connections: ConnectionTable<T>,
     records: u64,
     /// The moment of the last record, 0 before one.
     latest: u64,
@@ -39,6 +40,8 @@ pub struct Engine<T: Tracker> {
     ended: Option<Ended>,
     /// The packet that the last record sent on; empty where it sent none, or before a record.
     packet: Vec<u8>,
+    /// There is room for what the next record may need.
+    ready: bool,
 }
 
 impl<T: Tracker> Model for Engine<T> {
@@ -48,9 +51,9 @@ impl<T: Tracker> Model for Engine<T> {
 
     ghost Value = { Shown };
 
-    ghost view = { λ e. record { setup = setup_in e.setup.hooks; records = e.records; ticks = e.events.ticks; held = T.held e.tracker; newest = newest_in e.ended e.latest e.events e.packet } };
+    ghost view = { λ e. record { setup = setup_in e.setup.hooks; records = e.records; ticks = e.events.ticks; held = e.connections.held; newest = newest_in e.ended e.latest e.events e.packet; ready = e.ready } };
 
-    ghost invariant = { λ e. IsReady (setup_in e.setup.hooks) (T.limits e.tracker) e.ended e.latest e.events e.packet (T.held e.tracker) };
+    ghost invariant = { λ e. IsReady (setup_in e.setup.hooks) e.connections e.ended e.latest e.events e.packet e.ready };
 }
 
 impl<T: Tracker> Engine<T> {
@@ -65,17 +68,35 @@ impl<T: Tracker> Engine<T> {
         let packet = Vec::with_capacity(alloc, MOST_PACKET_BYTES)?;
         Ok(Engine {
             setup,
-            tracker: T::new(alloc, Limits::usual()),
+            connections: ConnectionTable::new(alloc, Limits::usual()),
             records: 0,
             latest: 0,
             events,
             ended: None,
             packet,
+            ready: false,
         })
     }
 
-    /// Takes a record, and tells how it ends. On `Err`, which comes only for want of memory, the
-    /// engine is as it was.
+    /// Makes room for what the next record may need. On `Err`, which comes only for want of memory,
+    /// the engine is as it was.
+    pub fn reserve(&mut self) -> Result<(), AllocError>
+        ensures ok { OnOk result (self.new ≡ record self.old { ready = true }) }
+        ensures err { OnErr result (self.new ≡ self.old) }
+        ensures kept { IsTrue self.old.ready → IsOk result }
+    {
+        if self.ready {
+            return Ok(());
+        }
+        let missing = MOST_PACKET_BYTES - self.packet.len();
+        self.packet.reserve(missing)?;
+        self.connections.reserve()?;
+        self.ready = true;
+        Ok(())
+    }
+
+    /// Takes a record, and tells how it ends: with room made by `reserve`, or here. On `Err`, which
+    /// comes only for want of memory, the engine is as it was.
     pub fn step(&mut self, record: &Record) -> Result<Outcome, AllocError>
         requires few { self.old.records < 4294967296 }
         // Whatever story the engine stands for, it then stands for that story and the one entry that follows.
@@ -86,26 +107,28 @@ impl<T: Tracker> Engine<T> {
         ensures ticks { (cost : TableTree → Caller → ℕ) → AreAllCosts self.old.setup.rules cost → self.new.ticks ≤ self.old.ticks + ruleset_cost cost self.old.setup.rules }
         ensures no_fewer { self.old.ticks ≤ self.new.ticks }
         ensures err { OnErr result (self.new ≡ self.old) }
+        // After an `Ok` of `reserve` nothing can fail, whatever the record.
+        ensures ready { IsTrue self.old.ready → IsOk result }
     {
         // What is held is known but for the names that the tracker gives.
         names_aside();
         one_entry_more();
         none_later();
+        mappings_aside();
         // All growth first: after it nothing can fail.
-        let missing = MOST_PACKET_BYTES - self.packet.len();
-        self.packet.reserve(missing)?;
-        make_room(&mut self.tracker)?;
+        self.reserve()?;
+        self.ready = false;
         self.packet.clear();
         self.events.clear();
         let now = self.latest.max(record.moment);
-        age_all(&mut self.tracker, now);
+        self.connections.age_all(now);
         // What its chains cost is known of the ruleset.
         self.setup.hooks.costs();
         let ended = fate(
             &self.setup,
             record,
             now,
-            &mut self.tracker,
+            &mut self.connections,
             &mut self.events,
             &mut self.packet,
         );
@@ -158,7 +181,7 @@ impl<T: Tracker> Engine<T> {
         ensures { (story : List Entry) → Stands self.now story → result ≡ length (live_in self.now.setup story) }
     {
         names_aside();
-        self.tracker.live()
+        self.connections.live()
     }
 
     /// The connections that are alive at the moment of the last record, in the order in which they
@@ -167,10 +190,7 @@ impl<T: Tracker> Engine<T> {
         ensures { (story : List Entry) → Stands self.now story → IfOk result (λ all. all.items ≡ map connection_of (live_in self.now.setup story)) }
     {
         names_aside();
-        match self.tracker.list(alloc) {
-            Ok(all) => Ok(all),
-            Err(Memory) => Err(AllocError),
-        }
+        self.connections.list(alloc)
     }
 
     /// Its rules.
@@ -192,17 +212,5 @@ impl<T: Tracker> Engine<T> {
         ensures { result ≡ self.now.records }
     {
         self.records
-    }
-}
-
-/// Makes room for the connection that a record may begin.
-fn make_room<T: Tracker>(tracker: &mut T) -> Result<(), AllocError>
-    ensures held { T.held tracker.new ≡ T.held tracker.old }
-    ensures limits { T.limits tracker.new ≡ T.limits tracker.old }
-    ensures room { OnOk result (IsTrue (T.has_room tracker.new)) }
-{
-    match tracker.reserve_one() {
-        Ok(()) => Ok(()),
-        Err(Memory) => Err(AllocError),
     }
 }

@@ -4,6 +4,7 @@ ghost use Rattle.std.specs.Option.{option_map};
 ghost use Rattle.box_file.specs.Box.{name_of};
 ghost use Rattle.rule_meaning.specs.declared.facts.Tracking.TheVariants.{Unknown};
 ghost use Rattle.stepping.specs.Carried.{interface_facts, packet_facts, with_tracking};
+ghost use Rattle.stepping.specs.Courses.{mark_in};
 
 use box_file::Plant;
 use ip_headers::View;
@@ -63,6 +64,16 @@ pub fn note_departure(facts: &mut Facts, output: Interface)
 {
     facts.output = Some(output);
     facts.packet.ttl = facts.packet.ttl.saturating_sub(1);
+}
+
+/// The mark of the connection, as written last; 0 where there is none.
+pub fn mark_in(tracking: Tracking) -> u32
+    ensures { result ≡ mark_in tracking }
+{
+    match tracking {
+        Tracking::Known(connection) => connection.mark,
+        Tracking::Unknown | Tracking::Invalid => 0,
+    }
 }
 
 /// The fields of its headers.

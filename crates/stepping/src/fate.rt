@@ -17,13 +17,14 @@ use crate::lookup::look_up;
 use crate::settling::{Settled, settle};
 use crate::setup::Setup;
 use crate::sought::{flags_in, sought_of};
-use crate::way::tracking_of;
+use connection_table::ConnectionTable;
 use conntrack::{Moment, Tracker};
 use hook_runs::{Events, Part};
 use ip_headers::View;
 use pcap_io::Record;
-use rewrite::{Change, emit};
+use rewrite::emit;
 use story::{Cause, Outcome};
+use translation::Way;
 
 /// How a record ended.
 #[derive(Clone, Copy)]
@@ -35,25 +36,25 @@ pub struct Ended {
     pub begun: bool,
 }
 
-/// How a record ends at a moment at which all that the tracker holds is live: as its packet does, or
+/// How a record ends at a moment at which all connections held are live: as its packet does, or
 /// dropped for the first test that fails of those that tell whether it carries one. The packet that
 /// leaves, where one does, is left in `packet`, and what happened while the rules ran in `events`.
 pub fn fate<T: Tracker>(
     setup: &Setup,
     record: &Record,
     now: Moment,
-    tracker: &mut T,
+    connections: &mut ConnectionTable<T>,
     events: &mut Events,
     packet: &mut Vec<u8>,
 ) -> Ended
-    requires live { live_at (T.limits tracker.old) now (T.held tracker.old) ≡ T.held tracker.old }
-    requires later { IsNoneLater now (T.held tracker.old) }
-    requires ready { IsTrue (T.has_room tracker.old) }
+    requires live { live_at connections.old.limits now connections.old.held ≡ connections.old.held }
+    requires later { IsNoneLater now connections.old.held }
+    requires ready { IsTrue connections.old.has_room }
     requires none { events.old.events ≡ [] }
     requires empty { packet.old.items ≡ [] }
     requires room { 65535 ≤ vec_capacity packet.old }
-    ensures fate { HasFate (setup_in setup.now.hooks) (told_of record.now) now (T.held tracker.old) (T.held tracker.new) result events.new.events packet.new.items }
-    ensures limits { T.limits tracker.new ≡ T.limits tracker.old }
+    ensures fate { HasFate (setup_in setup.now.hooks) (told_of record.now) now connections.old.held connections.new.held result events.new.events packet.new.items }
+    ensures limits { connections.new.limits ≡ connections.old.limits }
     ensures spent { Spends events.old events.new (all_cost setup.now.hooks) }
     ensures small { length packet.new.items ≤ 65535 }
 {
@@ -62,9 +63,9 @@ pub fn fate<T: Tracker>(
         Err(cause) => return dropped(cause, 0),
     };
     let length = incoming.view.total_length();
-    match pass(setup, &incoming, now, tracker, events) {
+    match pass(setup, &incoming, now, connections, events) {
         Ok(settled) => {
-            send(&incoming.view, settled.bound, packet);
+            send(&incoming.view, &settled.way, settled.bound, packet);
             Ended {
                 outcome: outcome_of(settled.bound),
                 length,
@@ -82,16 +83,16 @@ fn pass<T: Tracker>(
     setup: &Setup,
     incoming: &Incoming,
     now: Moment,
-    tracker: &mut T,
+    connections: &mut ConnectionTable<T>,
     events: &mut Events,
 ) -> Result<Settled, Cause>
     requires known { incoming.now.input ≡ interface_facts setup.now.hooks.plant incoming.now.input.index }
-    requires live { live_at (T.limits tracker.old) now (T.held tracker.old) ≡ T.held tracker.old }
-    requires later { IsNoneLater now (T.held tracker.old) }
-    requires ready { IsTrue (T.has_room tracker.old) }
+    requires live { live_at connections.old.limits now connections.old.held ≡ connections.old.held }
+    requires later { IsNoneLater now connections.old.held }
+    requires ready { IsTrue connections.old.has_room }
     requires none { events.old.events ≡ [] }
-    ensures fared { Fared (setup_in setup.now.hooks) (arrived_of incoming.now) now (T.held tracker.old) (T.held tracker.new) result events.new.events }
-    ensures limits { T.limits tracker.new ≡ T.limits tracker.old }
+    ensures fared { Fared (setup_in setup.now.hooks) (arrived_of incoming.now) now connections.old.held connections.new.held result events.new.events }
+    ensures limits { connections.new.limits ≡ connections.old.limits }
     ensures spent { Spends events.old events.new (all_cost setup.now.hooks) }
 {
     // The parts together cost no more than there is room for.
@@ -99,29 +100,26 @@ fn pass<T: Tracker>(
     let view = &incoming.view;
     let mut facts = arriving(view, incoming.input);
     setup.run(Part::Early, &mut facts, events)?;
-    let way = look_up(tracker, sought_of(view), now);
-    note_tracking(&mut facts, tracking_of(&way));
-    let led = lead(setup, &mut facts, events)?;
-    settle(tracker, &way, flags_in(view.transport()), &led, now)
+    let looked = look_up(connections, sought_of(view), now);
+    let mut way = looked.way;
+    note_tracking(&mut facts, way.tracking());
+    let led = lead(setup, connections.mappings(), &mut way, &mut facts, events)?;
+    let flags = flags_in(view.transport());
+    settle(connections, looked.belonging, &way, flags, &led, now)
 }
 
-/// Leaves the packet as it is sent on, if it is: with its TTL lowered.
+/// Leaves the packet as it is sent on, if it is: with the tuple of its connection, and its TTL lowered.
 #[inline(always)]
-fn send(view: &View, bound: Bound, packet: &mut Vec<u8>)
+fn send(view: &View, way: &Way, bound: Bound, packet: &mut Vec<u8>)
     requires empty { packet.old.items ≡ [] }
     requires room { 65535 ≤ vec_capacity packet.old }
-    ensures sent { packet.new.items ≡ sent_on view.now.packet.now (outcome_of bound) }
+    ensures sent { packet.new.items ≡ sent_on view.now.packet.now way.now (outcome_of bound) }
     ensures small { length packet.new.items ≤ 65535 }
 {
     let Bound::Passed(_) = bound else {
         return;
     };
-    let change = Change {
-        source: None,
-        destination: None,
-        numbers: None,
-        ttl: Some(view.ttl().saturating_sub(1)),
-    };
+    let change = way.change(view.ttl().saturating_sub(1));
     let Ok(()) = emit(view, &change, packet) else {
         unreachable!()
     };

@@ -11,9 +11,7 @@ mod lookup;
 mod settling;
 mod setup;
 mod sought;
-mod taken;
-mod way;
+mod translating;
 
 pub use engine::Engine;
 pub use laws::one_entry;
-pub use taken::takes;

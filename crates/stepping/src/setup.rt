@@ -70,13 +70,15 @@ impl Setup {
     }
 }
 
-/// Whether a packet goes on from the chains that ended so.
+/// Whether a packet goes on that met this end: a rule or a policy may have dropped it, or no port was
+/// left for it.
 #[inline(always)]
-fn go_on(ending: Ending) -> Result<(), Cause>
+pub fn go_on(ending: Ending) -> Result<(), Cause>
     ensures { result ≡ answer_of ending }
 {
     match ending {
         Ending::Accepted => Ok(()),
-        Ending::Dropped | Ending::Translated(_) => Err(Cause::Rule),
+        Ending::Dropped => Err(Cause::Rule),
+        Ending::Translated(_) => Err(Cause::NoPort),
     }
 }

@@ -1,6 +1,6 @@
 //! What a packet's connection is looked up by.
 ghost use Rattle.std.specs.Prelude.{◌≡◌};
-ghost use Rattle.stepping.specs.Ways.{flags_in, sought_of};
+ghost use Rattle.stepping.specs.Lookups.{flags_in, sought_of};
 
 use conntrack::Flags;
 use ip_headers::{Transport, Tuple, View};

@@ -321,9 +321,10 @@ const ROWS: [Row<'static>; 12] = [
     },
 ];
 
-/// The text of the rules comes first, then the box, the tree of the rules, and the form that runs
-/// take.
-const REFUSED_TEXTS: [(&[u8], &[u8], &str); 7] = [
+/// The text of the rules comes first, then the box and the tree of the rules; a ruleset in which
+/// nothing is wrong is taken, whatever forms it has.
+const REFUSED_TEXTS: [(&[u8], &[u8], &str); 8] = [
+    (b"table ip6 t { }", NO_BOX, "nftrun: rules E06"),
     (
         b"table ip t { chain a { tcp dport } }",
         NO_BOX,
@@ -352,7 +353,7 @@ const REFUSED_TEXTS: [(&[u8], &[u8], &str); 7] = [
     (
         b"table ip t { chain a { masquerade } }",
         BOX,
-        "nftrun: rules E06",
+        "nftrun: capture P5",
     ),
     (b"table ip t { } table u { }", BOX, "nftrun: capture P5"),
 ];

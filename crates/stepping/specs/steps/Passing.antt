@@ -4,9 +4,11 @@ use Rattle.rule_meaning.specs.declared.facts.Facts.{Facts}
 use Rattle.rule_meaning.specs.declared.event.Event.{Event}
 use Rattle.rule_meaning.specs.declared.event.Ending.{Ending}
 use Rattle.rule_meaning.specs.declared.event.Ending.TheVariants.{Accepted, Dropped, Translated}
-use Rattle.rule_meaning.specs.Hooks.{Passage, End}
+use Rattle.rule_meaning.specs.Hooks.{Passage, End, translates_at}
 use Rattle.filter_vm.specs.Machine.{Told}
-use Rattle.hook_runs.specs.Parts.{CostedTree}
+use Rattle.nft_tree.specs.declared.chain.Hook.{Hook}
+use Rattle.hook_runs.specs.declared.parts.Part.{Part}
+use Rattle.hook_runs.specs.Parts.{CostedTree, bases_in}
 use Rattle.story.specs.declared.outcome.Cause.{Cause}
 use Rattle.story.specs.declared.outcome.Cause.TheVariants as causes
 use Rattle.story.specs.Setup.{Setup}
@@ -15,11 +17,11 @@ use Rattle.story.specs.Setup.{Setup}
 abbrev pub setup_in : CostedTree → Setup
 setup_in runs = record { rules = runs.rules; plant = runs.plant }
 
--- a packet goes on, or a rule or a policy drops it
+-- a packet goes on, or a rule or a policy drops it, or it got no port
 abbrev pub answer_of : Ending → Result ⊤ Cause
 answer_of Accepted = Ok tt
 answer_of Dropped = Err causes.Rule
-answer_of (Translated t) = Err causes.Rule
+answer_of (Translated t) = Err causes.NoPort
 
 -- a passage comes to an end that is answered so, with these facts and events
 pub record Comes (passage : Passage) (f : Facts) (es : List Event) (answer : Result ⊤ Cause) (facts : Facts) (events : List Event) : Type 0 where
@@ -28,6 +30,10 @@ pub record Comes (passage : Passage) (f : Facts) (es : List Event) (answer : Res
   pub answered : answer ≡ answer_of end.ending
   pub left : facts ≡ end.facts
   pub happened : events ≡ end.events
+
+-- the nat chains of a hook run in this part
+abbrev pub IsAsked : Part → Hook → Type 0
+IsAsked part hook = bases_in part ≡ translates_at hook
 
 -- ---- what it costs
 

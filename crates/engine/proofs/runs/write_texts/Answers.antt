@@ -1,9 +1,9 @@
-use Rattle.std.proofs.Common.{◌∙◌, Err, ap, refl}
+use Rattle.std.proofs.Common.{◌∙◌, Err, ap, inr, refl, sym}
 use Rattle.std.proofs.lemmas.Result.{err_from_is_err_and}
 use Rattle.engine.specs.Left.{Devices}
 use Rattle.engine.specs.steps.Replayed.{Interrupts, Replayed, Start, ending_at}
 use Rattle.engine.specs.steps.Written.{start_of}
-use Rattle.engine.proofs.Texts.{as_opened, fault_as, interrupted_by_none, interrupted_within, refused_by_none, says_begun, says_ended, says_interrupted, told_all, untouched, within_end}
+use Rattle.engine.proofs.Texts.{as_opened, failed_after, failed_ending, fault_as, interrupted_by_none, interrupted_within, no_device, refused_by_none, says_begun, says_ended, says_interrupted, told_all, untouched, within_end}
 use Rattle.engine.proofs.runs.write_texts.Goals as goal
 
 pub returns-in_err-replay-clause-left : goal.returns-in_err-replay-clause-left
@@ -84,3 +84,21 @@ pub returns-in_err-torn-clause-refused : goal.returns-in_err-torn-clause-refused
 returns-in_err-torn-clause-refused g c =
     let q = err_from_is_err_and c.from_residual-in_err-torn.result c.from_residual-in_err-torn.ensures.1 in
     rw q.1 (rw q.2 (λ refused. c.in_err-torn.ensures.flushed (refused_by_none c.in_err-torn.field-0.0 refused)))
+
+pub returns-in_err-stop-clause-device : goal.returns-in_err-stop-clause-device
+returns-in_err-stop-clause-device g c = λ is.
+    let q = err_from_is_err_and c.from_residual-in_err-stop.result c.from_residual-in_err-stop.ensures.1 in
+    let calm_before = c.in_ok-replay.ensures.calm (λ e. cc) in
+    failed_after _ _ _ _ _ _ _ calm_before (c.in_err-stop.ensures.device (fault_as c.in_err-stop.field-0.0 _ (sym (q.1 ∙ ap Err q.2) ∙ is)))
+
+pub returns-in_err-torn-clause-memory : goal.returns-in_err-torn-clause-memory
+returns-in_err-torn-clause-memory g c = λ is.
+    let q = err_from_is_err_and c.from_residual-in_err-torn.result c.from_residual-in_err-torn.ensures.1 in
+    inr (c.in_err-torn.ensures.flushed (λ device. no_device c.in_err-torn.field-0.0 (sym (q.1 ∙ ap Err q.2) ∙ is) device))
+
+pub returns-in_err-torn-clause-device : goal.returns-in_err-torn-clause-device
+returns-in_err-torn-clause-device g c = λ is.
+    let q = err_from_is_err_and c.from_residual-in_err-torn.result c.from_residual-in_err-torn.ensures.1 in
+    let calm = c.in_ok-stop.ensures.calm (λ e. cc) in
+    let calm_before = c.in_ok-replay.ensures.calm (λ e. cc) in
+    failed_ending _ _ _ _ _ _ _ _ calm.0 (calm.1 ∙ calm_before) calm.2 (c.in_err-torn.ensures.device (fault_as c.in_err-torn.field-0.0 _ (sym (q.1 ∙ ap Err q.2) ∙ is)))

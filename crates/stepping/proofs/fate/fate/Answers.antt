@@ -5,4 +5,4 @@ use Rattle.stepping.proofs.fate.fate.Goals as goal
 
 pub returns-in-Err-clause-fate : goal.returns-in-Err-clause-fate
 returns-in-Err-clause-fate g c =
-    rw c.dropped.ensures (without_packet (setup_in c.args.setup.now.hooks) (told_of c.args.record.now) c.args.now _ _ c.in-Err.cause (g.T.Tracker.held c.args.tracker.now) c.in-Err.ensures.carries c.requires.none c.requires.empty)
+    rw c.dropped.ensures (without_packet (setup_in c.args.setup.now.hooks) (told_of c.args.record.now) c.args.now _ _ c.in-Err.cause c.args.connections.now.held c.in-Err.ensures.carries c.requires.none c.requires.empty)

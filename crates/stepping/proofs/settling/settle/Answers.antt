@@ -3,7 +3,7 @@ use Rattle.stepping.proofs.settling.settle.Goals as goal
 
 pub returns-in-Within-clause-settles : goal.returns-in-Within-clause-settles
 returns-in-Within-clause-settles g c =
-    rw (c.in-Within.is, c.touch.ensures.held) (settles_within c.args.now c.args.flags c.args.led.now (g.T.Tracker.held c.args.tracker.now) c.in-Within.place)
+    rw (c.in-Within.is, c.count.ensures.held) (settles_within c.args.now c.args.flags c.args.led.now c.args.connections.now.held c.args.belonging c.in-Within.field-0)
 
 pub returns-in-Astray-clause-settles : goal.returns-in-Astray-clause-settles
-returns-in-Astray-clause-settles g c = rw c.in-Astray.is (settles_astray c.args.now c.args.flags c.args.led.now (g.T.Tracker.held c.args.tracker.now))
+returns-in-Astray-clause-settles g c = rw c.in-Astray.is (settles_astray c.args.now c.args.flags c.args.led.now c.args.connections.now.held c.args.belonging)

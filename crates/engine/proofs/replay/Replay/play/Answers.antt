@@ -1,4 +1,4 @@
-use Rattle.std.proofs.Common.{◌≡◌, ◌∙◌, [], false, true, Ok, Err, Option, arith, List, ℕ, Some, None, ap, rules, subst, sym}
+use Rattle.std.proofs.Common.{◌≡◌, ◌∙◌, [], false, true, Ok, Err, Option, arith, List, ℕ, ap, rules, sym}
 use Rattle.std.proofs.lemmas.Result.{err_from_is_err_and}
 use Rattle.std.specs.Io.KnownBytes.{Consumes, IsAtEnd}
 use Rattle.pcap_io.specs.declared.fault.CaptureError.TheVariants.{Refused}

@@ -1,4 +1,3 @@
-use Rattle.std.proofs.Common.{sym}
 use Rattle.std.proofs.lemmas.Result.{err_from_is_err_and}
 use Rattle.engine.proofs.Telling.{all_drained, part_undrained, part_unsent}
 use Rattle.engine.proofs.replay.Replay.tell.Goals as goal
