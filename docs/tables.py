@@ -13,6 +13,8 @@ import sys
 TOP = os.path.dirname(os.path.dirname(os.path.abspath(__file__)))
 MAP = os.path.join(TOP, "docs", "MAP.md")
 KINDS = ("code", "definitions", "steps", "proofs", "must-fail edits")
+# What a crate of laws says has no definition that a reader has to believe.
+LAWS_ALONE = {"list_laws"}
 
 
 def lines_of(path):
@@ -37,6 +39,8 @@ def listed():
 
 def definitions(crate):
     """The files of definitions that a reader has to believe."""
+    if crate in LAWS_ALONE:
+        return []
     files = below(f"{TOP}/crates/{crate}/specs", ".antt", deep=False)
     return [it for it in files if os.path.basename(it) not in ("Lib.antt", "steps.antt")]
 
@@ -44,7 +48,8 @@ def definitions(crate):
 def sizes(crate):
     folder = f"{TOP}/crates/{crate}"
     edits = os.path.join(folder, "must-fail")
-    proofs = [it for it in below(f"{folder}/proofs", ".antt") if os.path.basename(it) != "Lib.antt"]
+    laws = "specs" if crate in LAWS_ALONE else "proofs"
+    proofs = [it for it in below(f"{folder}/{laws}", ".antt") if os.path.basename(it) != "Lib.antt"]
     return (
         sum(map(lines_of, below(f"{folder}/src", ".rt"))),
         sum(map(lines_of, definitions(crate))),

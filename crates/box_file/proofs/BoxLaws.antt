@@ -1,17 +1,15 @@
 -- A text is one box, or has one fault.
 use Rattle.std.proofs.Common.{◌≡◌, ℕ, List, Option, Some, None, ◌⊎◌, refl, inl, inr, sym, ap, subst, ◌∙◌}
+use Rattle.std.proofs.lemmas.Option.{same_Some}
 use Rattle.box_file.specs.declared.fault.BoxFault.{BoxFault}
 use Rattle.box_file.specs.declared.fault.BoxFault.TheVariants.{Form}
 use Rattle.box_file.specs.steps.Reading.{lines_in}
 use Rattle.box_file.specs.Box.{Line, each_is_line, Reads, HasBoxFault, IsBox, PlantTree, least, plant_of}
 use Rattle.box_file.proofs.LineLaws.{lines_found, lines_only}
 
-some_is : {A : Type 0} (x y : A) → ◌≡◌ {A = Option A} (Some x) (Some y) → x ≡ y
-some_is x y e = cc
-
 -- a text is read in one way
 pub one_reading_of_box : (text : List ℕ) (ls ms : List Line) → Reads text ls → Reads text ms → ls ≡ ms
-one_reading_of_box text ls ms r s = some_is ls ms (sym (lines_only text ls r) ∙ lines_only text ms s)
+one_reading_of_box text ls ms r s = same_Some ls ms (sym (lines_only text ls r) ∙ lines_only text ms s)
 
 pub one_plant : (text : List ℕ) (p q : PlantTree) → IsBox text p → IsBox text q → p ≡ q
 one_plant text p q b c = b.meant ∙ ap plant_of (one_reading_of_box text b.lines c.lines b.read c.read) ∙ sym c.meant
@@ -29,7 +27,7 @@ one_fault text fault other (inl f) (inr g) = absurd (f.0 g.0 g.1)
 one_fault text fault other (inr f) (inl g) = absurd (g.0 f.0 f.1)
 one_fault text fault other (inr f) (inr g) =
     let same = one_reading_of_box text f.0 g.0 f.1 g.1 in
-    some_is fault other (sym f.2 ∙ ap (least text) same ∙ g.2)
+    same_Some fault other (sym f.2 ∙ ap (least text) same ∙ g.2)
 
 judged : (text : List ℕ) (ls : List Line) → Reads text ls → (o : Option BoxFault) → least text ls ≡ o → ((plant : PlantTree) × IsBox text plant) ⊎ ((fault : BoxFault) × HasBoxFault text fault)
 judged text ls r None e = inl (plant_of ls, record { lines = ls; read = r; faultless = e; meant = refl })

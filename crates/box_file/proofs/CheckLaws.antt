@@ -3,6 +3,7 @@ use Rattle.std.proofs.Common.{◌≡◌, ℕ, ◌<◌, Bool, true, false, ◌==�
 use Rattle.std.specs.Prelude.{map}
 use Rattle.std.specs.List.{list_any}
 use Rattle.std.specs.Borrow.{Bor}
+use Rattle.list_laws.specs.Tests.{and-flip}
 use Rattle.box_file.specs.declared.line.InterfaceLine.{InterfaceLine}
 use Rattle.box_file.specs.declared.line.RouteLine.{RouteLine}
 use Rattle.box_file.specs.declared.line.Line as kept
@@ -57,14 +58,8 @@ pub addresses_twice : (is : List Interface) → some_two nat_eq (map (λ i. i.ad
 addresses_twice [] = refl
 addresses_twice (i ∷ is) = rw (any-addresses i.address is, addresses_twice is) refl
 
-and_flip : (a b : Bool) → a && b ≡ b && a
-and_flip true true = refl
-and_flip true false = refl
-and_flip false true = refl
-and_flip false false = refl
-
 same_prefix_key : (r s : NamedRoute) → r.prefix < 33 → s.prefix < 33 → nat_eq (prefix_key r) (prefix_key s) ≡ same_prefix r s
-same_prefix_key r s hr hs = digits_agree r.prefix s.prefix r.address s.address (omega arith) (omega arith) ∙ and_flip (r.prefix == s.prefix) (r.address == s.address)
+same_prefix_key r s hr hs = digits_agree r.prefix s.prefix r.address s.address (omega arith) (omega arith) ∙ and-flip (r.prefix == s.prefix) (r.address == s.address)
 
 any-prefixes : (r : NamedRoute) → r.prefix < 33 → (rs : List NamedRoute) → EachShort rs → list_any (nat_eq (prefix_key r)) (map prefix_key rs) ≡ list_any (same_prefix r) rs
 any-prefixes r short [] h = refl

@@ -2,14 +2,13 @@
 use Rattle.std.proofs.Common.{◌≡◌, ℕ, zero, suc, ◌+◌, ◌*◌, ◌%◌, ◌^◌, ◌<◌, ◌≤◌, Bool, true, false, ◌==◌, ◌&&◌, List, [], ◌∷◌, length, refl, sym, ap, eqb-true, ◌∙◌, arith}
 use Rattle.std.specs.Prelude.{fold, reverse}
 use Rattle.std.specs.List.{list_all}
-use Rattle.std.proofs.lemmas.Bool.{false≢true}
+use Rattle.std.proofs.lemmas.Bool.{false≢true, and_parts}
 use Rattle.std.proofs.lemmas.Bool.Decides.{nat_tests}
 use Rattle.std.proofs.Math.Nat.{pow-suc}
 use Rattle.std.proofs.lemmas.List.{reverse-append}
 use Rattle.std.proofs.lemmas.List.Sums.{fold-append}
 use Rattle.box_file.specs.Box.{is_name_byte, IsName, same_text}
 use Rattle.box_file.specs.steps.Tests.{with_byte, key_of}
-use Rattle.box_file.proofs.NumberLaws.{both}
 use Rattle.box_file.proofs.RepeatLaws.{same_number, other_number}
 
 -- the number without a limit
@@ -27,7 +26,7 @@ name_byte b e = (grind (arith, nat_tests), grind (arith, nat_tests))
 name_bytes : (n : List ℕ) → list_all is_name_byte n ≡ true → EachByte n
 name_bytes [] e = tt
 name_bytes (b ∷ bs) e =
-    let p = both (is_name_byte b) (list_all is_name_byte bs) e in
+    let p = and_parts (is_name_byte b) (list_all is_name_byte bs) e in
     (name_byte b p.0, name_bytes bs p.1)
 
 key_first : (b : ℕ) (bs : List ℕ) → key_of (b ∷ bs) ≡ with_byte (key_of bs) b

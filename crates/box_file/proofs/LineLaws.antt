@@ -5,25 +5,17 @@ use Rattle.std.specs.List.{list_all}
 use Rattle.std.specs.Char.{is_ascii_digit}
 use Rattle.std.specs.Fmt.{decimal}
 use Rattle.std.specs.Str.Parse.{digits_value}
-use Rattle.std.proofs.lemmas.Bool.{ltb-true, lt-ltb, eqb-true, false≢true}
+use Rattle.std.proofs.lemmas.Bool.{ltb-true, lt-ltb, eqb-true, false≢true, and_parts}
 use Rattle.std.proofs.lemmas.Bool.Decides.{nat_tests}
 use Rattle.std.proofs.lemmas.Fmt.{digits_decimal, digits_value-decimal, decimal-digits_value, decimal_nonempty, first_decimal, length-decimal-le}
 use Rattle.std.specs.Option.{option_map}
+use Rattle.list_laws.specs.Options.{if_found, bind_found}
 use Rattle.box_file.specs.Text.{has_some, words_of, lines_of, dotted, dotted_prefix}
 use Rattle.box_file.specs.Box.{Interface, NamedRoute, Line, interface_line, route_line, default_line, words_in, is_name_byte, IsName, IsLine, each_is_line, same_text, Reads}
-use Rattle.box_file.specs.steps.Reading.{◌>>=◌, uncons, has_none, onto, cut, is_numeral, number_in, is_name, name_in, octet_in, address_in, prefixed_in, interface_words, route_words, default_words, line_of, line_in, all_in, lines_in}
-use Rattle.box_file.proofs.NumberLaws.{digits, both, numeral_digits}
+use Rattle.box_file.specs.steps.Reading.{uncons, has_none, onto, cut, is_numeral, number_in, is_name, name_in, octet_in, address_in, prefixed_in, interface_words, route_words, default_words, line_of, line_in, all_in, lines_in}
+use Rattle.box_file.proofs.NumberLaws.{digits, numeral_digits}
 
 -- ---- steps
-
-if_found : {A : Type 0} (Q : A → Type 0) (b : Bool) (x : A) → (b ≡ true → Q x) → IfSome (cond b (Some x) None) Q
-if_found Q true x h = h refl
-if_found Q false x h = tt
-
--- a step, and what follows it
-bind_found : {A B : Type 0} {P : A → Type 0} (Q : B → Type 0) (o : Option A) (f : A → Option B) → IfSome o P → ((x : A) → P x → IfSome (f x) Q) → IfSome (o >>= f) Q
-bind_found Q None f h k = tt
-bind_found Q (Some x) f h k = k x h
 
 choice_found : {A : Type 0} (Q : A → Type 0) (b : Bool) (o p : Option A) → (b ≡ true → IfSome o Q) → IfSome p Q → IfSome (cond b o p) Q
 choice_found Q true o p h k = h refl
@@ -63,7 +55,7 @@ other_byte test at b false e f t = refl
 lacks_all : (test : ℕ → Bool) (at : ℕ) → test at ≡ false → (bs : List ℕ) → list_all test bs ≡ true → Lacks at bs
 lacks_all test at f [] e = tt
 lacks_all test at f (b ∷ bs) e =
-    let p = both (test b) (list_all test bs) e in
+    let p = and_parts (test b) (list_all test bs) e in
     (other_byte test at b (b == at) refl f p.0, lacks_all test at f bs p.1)
 
 -- ---- numbers
@@ -71,14 +63,14 @@ lacks_all test at f (b ∷ bs) e =
 lone_zero : (ds : List ℕ) → is_numeral ds ≡ true → get_or ds 0 0 ≡ 48 → length ds ≡ 1
 lone_zero [] e z = absurd cc
 lone_zero (d ∷ ds) e z =
-    let p = both (list_all is_ascii_digit (d ∷ ds)) (not (d == 48) || length ds == 0) e in
+    let p = and_parts (list_all is_ascii_digit (d ∷ ds)) (not (d == 48) || length ds == 0) e in
     let none : length ds ≡ 0 = eqb-true _ _ (rw z at p.1) in
     omega arith
 
 number_found : (ds : List ℕ) → IfSome (number_in ds) (λ n. (decimal n ≡ ds) × (n < 2 ^ 32))
 unfolding number_in
 number_found ds = if_found _ (is_numeral ds && nat_lt (digits_value 10 ds) 4294967296) (digits_value 10 ds) (λ e.
-    let p = both (is_numeral ds) (nat_lt (digits_value 10 ds) 4294967296) e in
+    let p = and_parts (is_numeral ds) (nat_lt (digits_value 10 ds) 4294967296) e in
     let plain = numeral_digits ds p.0 in
     let small : digits_value 10 ds < 4294967296 = ltb-true _ _ p.1 in
     (decimal-digits_value digits ds plain.0 plain.1 (lone_zero ds p.0) (omega arith), small))
@@ -207,8 +199,8 @@ prefixed_only a p small short =
 name_found : (bs : List ℕ) → IfSome (name_in bs) (λ n. (n ≡ bs) × IsName n)
 unfolding name_in
 name_found bs = if_found _ (is_name bs) bs (λ e.
-    let p = both (nat_lt 0 (length bs) && nat_lt (length bs) 16) (list_all is_name_byte bs) e in
-    let q = both (nat_lt 0 (length bs)) (nat_lt (length bs) 16) p.0 in
+    let p = and_parts (nat_lt 0 (length bs) && nat_lt (length bs) 16) (list_all is_name_byte bs) e in
+    let q = and_parts (nat_lt 0 (length bs)) (nat_lt (length bs) 16) p.0 in
     (refl, (ltb-true _ _ q.0, ltb-true _ _ q.1, p.1)))
 
 name_only : (n : List ℕ) → IsName n → name_in n ≡ Some n
@@ -238,9 +230,9 @@ interface_found ws =
     bind_found _ (name_in b.0) _ (name_found b.0) (λ n en.
     bind_found _ (prefixed_in c.0) _ (prefixed_found c.0) (λ p ep.
     if_found _ (has_none c.1 && nat_lt 0 i && nat_lt i 2147483648 && nat_lt 0 p.1) (interface_line (record { index = i; name = n; address = p.0; prefix = p.1 })) (λ e.
-    let f = both (has_none c.1 && nat_lt 0 i && nat_lt i 2147483648) (nat_lt 0 p.1) e in
-    let g = both (has_none c.1 && nat_lt 0 i) (nat_lt i 2147483648) f.0 in
-    let h = both (has_none c.1) (nat_lt 0 i) g.0 in
+    let f = and_parts (has_none c.1 && nat_lt 0 i && nat_lt i 2147483648) (nat_lt 0 p.1) e in
+    let g = and_parts (has_none c.1 && nat_lt 0 i) (nat_lt i 2147483648) f.0 in
+    let h = and_parts (has_none c.1) (nat_lt 0 i) g.0 in
     ((ltb-true _ _ h.1, ltb-true _ _ g.1, en.1, ep.1, ltb-true _ _ f.1, ep.2), rw (ea, eb, ec, none_left c.1 h.0, ei.0, en.0, ep.0) refl))))))))
 
 interface_only : (i : Interface) → IsLine (interface_line i) → interface_words (decimal i.index ∷ i.name ∷ dotted_prefix i.address i.prefix ∷ []) ≡ Some (interface_line i)
@@ -259,7 +251,7 @@ route_found ws =
     bind_found _ (prefixed_in a.0) _ (prefixed_found a.0) (λ p ep.
     bind_found _ (name_in b.0) _ (name_found b.0) (λ n en.
     if_found _ (has_none b.1 && p.0 % 2 ^ (32 - p.1) == 0) (route_line (record { address = p.0; prefix = p.1; name = n })) (λ e.
-    let f = both (has_none b.1) (p.0 % 2 ^ (32 - p.1) == 0) e in
+    let f = and_parts (has_none b.1) (p.0 % 2 ^ (32 - p.1) == 0) e in
     ((ep.1, ep.2, eqb-true _ _ f.1, en.1), rw (ea, eb, none_left b.1 f.0, en.0, ep.0) refl))))))
 
 route_only : (r : NamedRoute) → IsLine (route_line r) → route_words (dotted_prefix r.address r.prefix ∷ r.name ∷ []) ≡ Some (route_line r)
@@ -284,7 +276,7 @@ same_text-true [] [] e = refl
 same_text-true [] (y ∷ ys) e = absurd cc
 same_text-true (x ∷ xs) [] e = absurd cc
 same_text-true (x ∷ xs) (y ∷ ys) e =
-    let p = both (x == y) (same_text xs ys) e in
+    let p = and_parts (x == y) (same_text xs ys) e in
     let head : x ≡ y = eqb-true _ _ p.0 in
     let tail : xs ≡ ys = same_text-true xs ys p.1 in
     cc

@@ -7,7 +7,7 @@ use Rattle.std.specs.Cmp.Lexicographic.{pointwise}
 use Rattle.std.specs.Result.{result_ok, OkIff}
 use Rattle.std.specs.Str.{IsUtf8}
 use Rattle.std.specs.Str.Parse.{digits_value, ParsesUnsigned}
-use Rattle.std.proofs.lemmas.Bool.{ltb-true, lt-ltb}
+use Rattle.std.proofs.lemmas.Bool.{ltb-true, lt-ltb, and_parts}
 use Rattle.std.proofs.lemmas.Bool.Decides.{nat_tests}
 use Rattle.std.proofs.lemmas.List.{take_all}
 use Rattle.std.proofs.lemmas.Fmt.{IsAscii-from_digits}
@@ -74,17 +74,13 @@ same_text-pointwise (x ∷ xs) (y ∷ ys) = ap (λ v. eqb x y && v) (same_text-p
 pub digits : IsNumeralModel (λ ds. list_all is_ascii_digit ds ≡ true) (digits_value 10)
 digits = numerals_by_value _ (search rules)
 
-pub both : (a b : Bool) → a && b ≡ true → (a ≡ true) × (b ≡ true)
-both true b e = (refl, e)
-both false b e = absurd cc
-
 pub when_none : {A : Type 0} (b : Bool) (x : A) → (b ≡ true → ⊥) → cond b (Some x) None ≡ None
 when_none true x h = absurd (h refl)
 when_none false x h = refl
 
 pub numeral_digits : (ds : List ℕ) → is_numeral ds ≡ true → (list_all is_ascii_digit ds ≡ true) × (0 < length ds)
 numeral_digits [] e = absurd cc
-numeral_digits (d ∷ ds) e = ((both (list_all is_ascii_digit (d ∷ ds)) _ e).0, omega arith)
+numeral_digits (d ∷ ds) e = ((and_parts (list_all is_ascii_digit (d ∷ ds)) _ e).0, omega arith)
 
 pub numeral_is_text : (ds : List ℕ) → is_numeral ds ≡ true → IsUtf8 ds
 numeral_is_text ds e = IsUtf8-from_ascii ds (IsAscii-from_digits ds (digits.to ds (numeral_digits ds e).0))
@@ -96,7 +92,7 @@ number_is ds (Ok x) e h =
     rw (e, small, h.1) refl
 number_is ds (Err x) e h =
     let plain = numeral_digits ds e in
-    sym (when_none _ (digits_value 10 ds) (λ k. h (plain.1, ltb-true _ _ (both (is_numeral ds) _ k).1)))
+    sym (when_none _ (digits_value 10 ds) (λ k. h (plain.1, ltb-true _ _ (and_parts (is_numeral ds) _ k).1)))
 
 pub number_parsed : {E : Type 0} (ds : List ℕ) (r : Result ℕ E) → is_numeral ds ≡ true → ParsesUnsigned 32 10 ds r → result_ok r ≡ number_in ds
 number_parsed ds r e h = number_is ds r e (parse_digits digits 32 ds r h (numeral_digits ds e).0)

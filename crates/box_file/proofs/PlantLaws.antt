@@ -3,6 +3,7 @@ use Rattle.std.proofs.Common.{◌≡◌, ℕ, ◌==◌, Bool, true, false, ◌||
 use Rattle.std.specs.Prelude.{filter, find, unwrap_or, IfSome, is_some}
 use Rattle.std.specs.List.{list_any, filter_map}
 use Rattle.std.specs.Option.{option_map}
+use Rattle.std.proofs.lemmas.Bool.{or_parts}
 use Rattle.box_file.specs.Box.{Interface, NamedRoute, RouteTo, Line, interface_line, route_line, default_line, each_is_line, IsIndex, interfaces_in, routes_in, defaults_in, route_to, is_named, is_unknown, is_misformed, known_index, entering_of, covers, greatest, best_way}
 use Rattle.set_intervals.specs.declared.range.Range.{Range}
 use Rattle.box_file.specs.steps.Best.{GivesBest}
@@ -37,30 +38,26 @@ not_unknown : (n : List ℕ) (is : List Interface) (v : Bool) → list_any (is_n
 not_unknown n is true e f = e
 not_unknown n is false e f = absurd cc
 
-or_none : (a b : Bool) → a || b ≡ false → (a ≡ false) × (b ≡ false)
-or_none true b e = absurd cc
-or_none false b e = (refl, e)
-
 -- each route has the number of an interface
 way_numbers : (is : List Interface) → EachIndexed is → (ls : List Line) → each_is_line ls → list_any (λ (r : NamedRoute). is_unknown is r.name) (routes_in ls) ≡ false → EachWay (filter_map (route_to is) ls)
 way_numbers is h [] k e = tt
 way_numbers is h (interface_line i ∷ ls) k e = ((k.0.0, k.0.1), way_numbers is h ls k.1 e)
 way_numbers is h (route_line r ∷ ls) k e =
-    let p = or_none (is_unknown is r.name) (list_any (λ (s : NamedRoute). is_unknown is s.name) (routes_in ls)) e in
+    let p = or_parts (is_unknown is r.name) (list_any (λ (s : NamedRoute). is_unknown is s.name) (routes_in ls)) e in
     (known_number r.name is h (not_unknown r.name is (list_any (is_named r.name) is) refl p.0), way_numbers is h ls k.1 p.1)
 way_numbers is h (default_line n ∷ ls) k e = way_numbers is h ls k.1 e
 
 pub each_way : (ls : List Line) → each_is_line ls → KnowsNames ls → EachWay (filter_map (route_to (interfaces_in ls)) ls)
-each_way ls h k = way_numbers (interfaces_in ls) (each_indexed ls h) ls h (or_none _ _ k.known).0
+each_way ls h k = way_numbers (interfaces_in ls) (each_indexed ls h) ls h (or_parts _ _ k.known).0
 
 entry_number : (is : List Interface) (ns : List (List ℕ)) → EachIndexed is → is_misformed ns ≡ false → list_any (is_unknown is) ns ≡ false → IsIndex (entering_of is ns)
 entry_number is [] h one e = absurd cc
 entry_number is (n ∷ ns) h one e =
-    let p = or_none (is_unknown is n) (list_any (is_unknown is) ns) e in
+    let p = or_parts (is_unknown is n) (list_any (is_unknown is) ns) e in
     known_number n is h (not_unknown n is (list_any (is_named n) is) refl p.0)
 
 pub entry_is_index : (ls : List Line) → each_is_line ls → KnowsNames ls → IsIndex (entering_of (interfaces_in ls) (defaults_in ls))
-entry_is_index ls h k = entry_number (interfaces_in ls) (defaults_in ls) (each_indexed ls h) k.formed (or_none _ _ k.known).1
+entry_is_index ls h k = entry_number (interfaces_in ls) (defaults_in ls) (each_indexed ls h) k.formed (or_parts _ _ k.known).1
 
 -- ---- the best way's number
 

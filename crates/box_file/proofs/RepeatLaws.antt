@@ -5,10 +5,11 @@ use Rattle.std.specs.Option.{option_or}
 use Rattle.std.specs.Prelude.{nat_lt}
 use Rattle.std.specs.declared.cmp.Ordering.TheVariants.{Less, Equal, Greater}
 use Rattle.std.specs.Ordering.{is_eq, nat_cmp}
-use Rattle.std.proofs.lemmas.Bool.{ltb-true}
+use Rattle.std.proofs.lemmas.Bool.{ltb-true, or_parts, or_right}
 use Rattle.std.proofs.lemmas.Bool.Decides.{nat_tests}
 use Rattle.std.proofs.lemmas.List.{take_more, take-append-drop}
 use Rattle.std.proofs.lemmas.Option.{same_Some}
+use Rattle.std.proofs.Math.Bool.{or-false}
 use Rattle.box_file.specs.Box.{some_two}
 use Rattle.box_file.specs.steps.Tests.{two_values, value_at}
 
@@ -23,10 +24,6 @@ or_swap false true false d = refl
 or_swap false false true d = refl
 or_swap false false false d = refl
 
-or_false : (a : Bool) → a || false ≡ a
-or_false true = refl
-or_false false = refl
-
 pub any-append : {A : Type 0} (p : A → Bool) (xs ys : List A) → list_any p (xs ++ ys) ≡ list_any p xs || list_any p ys
 any-append p [] ys = refl
 any-append p (x ∷ xs) ys = ap (λ v. p x || v) (any-append p xs ys) ∙ sym (or_assoc (p x) (list_any p xs) (list_any p ys))
@@ -34,20 +31,12 @@ any-append p (x ∷ xs) ys = ap (λ v. p x || v) (any-append p xs ys) ∙ sym (o
 pub two-push : {A : Type 0} (t : A → A → Bool) (xs : List A) (y : A) → some_two t (xs ++ y ∷ []) ≡ some_two t xs || list_any (λ x. t x y) xs
 two-push t [] y = refl
 two-push t (x ∷ xs) y =
-    let first : list_any (t x) (xs ++ y ∷ []) ≡ list_any (t x) xs || t x y = any-append (t x) xs (y ∷ []) ∙ ap (λ v. list_any (t x) xs || v) (or_false (t x y)) in
+    let first : list_any (t x) (xs ++ y ∷ []) ≡ list_any (t x) xs || t x y = any-append (t x) xs (y ∷ []) ∙ ap (λ v. list_any (t x) xs || v) (or-false (t x y)) in
     rw (first, two-push t xs y) (or_swap (list_any (t x) xs) (t x y) (some_two t xs) (list_any (λ z. t z y) xs))
-
-or_true : (a b : Bool) → a ≡ true → a || b ≡ true
-or_true true b e = refl
-or_true false b e = absurd cc
-
-or_later : (a b : Bool) → b ≡ true → a || b ≡ true
-or_later true b e = refl
-or_later false b e = e
 
 front_step : (a b c d f : Bool) → a || b ≡ true → f ≡ a || c → (b ≡ true → d ≡ true) → f || d ≡ true
 front_step true b c d f e g h = rw g refl
-front_step false b c d f e g h = or_later f d (h e)
+front_step false b c d f e g h = or_right f d (h e)
 
 -- what stands twice in the front stands twice in the whole
 two_in_front : {A : Type 0} (t : A → A → Bool) (xs ys : List A) → some_two t xs ≡ true → some_two t (xs ++ ys) ≡ true
@@ -85,10 +74,6 @@ any_flip : (x : ℕ × ℕ) (xs : List (ℕ × ℕ)) → list_any (λ y. two_val
 any_flip x [] = refl
 any_flip x (y ∷ ys) = rw (eqb_flip y.0 x.0, eqb_flip y.1 x.1, any_flip x ys) refl
 
-or_none : (a b : Bool) → a || b ≡ false → (a ≡ false) × (b ≡ false)
-or_none true b e = absurd cc
-or_none false b e = (refl, e)
-
 pub same_number : (m n : ℕ) → m ≡ n → (m == n) ≡ true
 same_number m n e = grind (arith, nat_tests)
 
@@ -105,7 +90,7 @@ agree_step x xs k v false e others at h = rw e (h at)
 pub agrees : (xs : List (ℕ × ℕ)) (k v : ℕ) → some_two two_values xs ≡ false → value_at k xs ≡ Some v → list_any (λ y. two_values y (k, v)) xs ≡ false
 agrees [] k v none at = refl
 agrees (x ∷ xs) k v none at =
-    let parts = or_none (list_any (two_values x) xs) (some_two two_values xs) none in
+    let parts = or_parts (list_any (two_values x) xs) (some_two two_values xs) none in
     agree_step x xs k v (x.0 == k) refl parts.0 at (agrees xs k v parts.1)
 
 clash_step : (x : ℕ × ℕ) (xs : List (ℕ × ℕ)) (k v w : ℕ) (b : Bool) → (x.0 == k) ≡ b → (w == v) ≡ false → cond b (Some x.1) (value_at k xs) ≡ Some w → (value_at k xs ≡ Some w → list_any (λ y. two_values y (k, v)) xs ≡ true) → list_any (λ y. two_values y (k, v)) (x ∷ xs) ≡ true
@@ -152,7 +137,7 @@ or_once false false = refl
 pub any_more : (q : ℕ) (xs : List ℕ) (i : ℕ) (old new : Bool) → i < length xs → old ≡ list_any (nat_eq q) (take i xs) → new ≡ cond (is_eq (nat_cmp (get_or xs i 0) q)) true old → new ≡ list_any (nat_eq q) (take (i + 1) xs)
 any_more q xs i old new lt was now =
     let x = get_or xs i 0 in
-    let pushed : list_any (nat_eq q) (take (i + 1) xs) ≡ list_any (nat_eq q) (take i xs) || (q == x) = ap (list_any (nat_eq q)) (take_more xs i 0 lt) ∙ any-append (nat_eq q) (take i xs) (x ∷ []) ∙ ap (λ v. list_any (nat_eq q) (take i xs) || v) (or_false (q == x)) in
+    let pushed : list_any (nat_eq q) (take (i + 1) xs) ≡ list_any (nat_eq q) (take i xs) || (q == x) = ap (list_any (nat_eq q)) (take_more xs i 0 lt) ∙ any-append (nat_eq q) (take i xs) (x ∷ []) ∙ ap (λ v. list_any (nat_eq q) (take i xs) || v) (or-false (q == x)) in
     now ∙ ap (λ v. cond v true old) (at_key x q ∙ eqb_flip x q) ∙ ap (λ v. cond (q == x) true v) was ∙ or_once (q == x) (list_any (nat_eq q) (take i xs)) ∙ sym pushed
 
 any_flips : (x : ℕ) (xs : List ℕ) → list_any (λ y. y == x) xs ≡ list_any (nat_eq x) xs

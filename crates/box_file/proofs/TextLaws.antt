@@ -7,7 +7,8 @@ use Rattle.std.proofs.lemmas.List.{nil_from_length, append-nil}
 use Rattle.std.proofs.lemmas.Option.{some_pair_parts}
 use Rattle.box_file.specs.Text.{onto_first, words_of, lines_of}
 use Rattle.box_file.specs.Box.{Line}
-use Rattle.box_file.specs.steps.Reading.{◌>>=◌, uncons, onto, cut, first_line, line_of, line_in, all_in, lines_in}
+use Rattle.list_laws.specs.Options.{◌>>=◌}
+use Rattle.box_file.specs.steps.Reading.{uncons, onto, cut, first_line, line_of, line_in, all_in, lines_in}
 
 pub some_left : (ts : List ℕ) (r : Bool) → r ≡ (length ts == 0) → r ≡ false → 0 < length ts
 some_left ts r e f = grind (arith, nat_tests)

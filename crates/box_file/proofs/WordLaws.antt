@@ -1,10 +1,11 @@
 -- The first word of a line, and the others.
-use Rattle.std.proofs.Common.{◌≡◌, ℕ, suc, ◌+◌, ◌-◌, ◌<◌, ◌≤◌, Bool, true, false, not, cond, ltb, List, [], ◌∷◌, length, take, drop, ◌++◌, append_assoc, Option, Some, None, refl, sym, ap, one-add, length-drop, ◌∙◌, arith}
+use Rattle.std.proofs.Common.{◌≡◌, ℕ, suc, ◌+◌, ◌-◌, ◌<◌, ◌≤◌, Bool, true, false, not, cond, ltb, List, [], ◌∷◌, length, take, drop, ◌++◌, append_assoc, Option, Some, None, refl, sym, ap, one-add, ◌∙◌, arith}
 use Rattle.std.specs.Prelude.{◌==◌, filter, unwrap_or}
 use Rattle.std.specs.List.{position_or_len}
 use Rattle.std.proofs.lemmas.Bool.{false≢true, eqb-true}
 use Rattle.std.proofs.lemmas.Bool.Decides.{nat_tests}
-use Rattle.std.proofs.lemmas.List.{append-nil, take_all}
+use Rattle.std.proofs.lemmas.List.{append-nil}
+use Rattle.list_laws.specs.Lists.{rest_from}
 use Rattle.box_file.specs.Text.{onto_first, parts_of, is_blank, has_some, before_comment, words_of}
 use Rattle.box_file.specs.steps.Reading.{begins_word, ends_word, uncons}
 
@@ -110,9 +111,6 @@ no_word [] begins ends = refl
 no_word (b ∷ bs) begins ends = none_step b bs (b == 35) (is_blank b) refl refl begins ends
 
 -- ---- the code's parts
-
-rest_from : (ts : List ℕ) (k : ℕ) → take (length ts - k) (drop k ts) ≡ drop k ts
-rest_from ts k = take_all (length ts - k) (drop k ts) (omega (arith, length-drop k ts))
 
 abbrev pub rest_at : List ℕ → ℕ → List ℕ
 rest_at ts k = take (length ts - k) (drop k ts)

@@ -3,12 +3,13 @@ use Rattle.std.proofs.Common.{◌≡◌, ℕ, zero, suc, ◌+◌, ◌-◌, ◌<�
 use Rattle.std.specs.Prelude.{Contains, flat_map}
 use Rattle.std.proofs.lemmas.List.{get_or_default, get_or-take, length-take-le, drop_more, drop_all}
 use Rattle.std.proofs.lemmas.List.Elements.{Contains-append_left, Contains-append_right}
+use Rattle.list_laws.specs.Lists.{Contains-head}
 use Rattle.chain_graph.specs.declared.node.Edge.{Edge}
 use Rattle.chain_graph.specs.Graph.{Call, NodeTree, chain, verdict_map, calls_in, itself, greatest, chain_cost, node_cost}
 use Rattle.chain_graph.specs.Known.{stopped, IsCost}
 use Rattle.chain_graph.specs.Order.{IsOrder}
 use Rattle.chain_graph.specs.Nodes.{call_of, statements_of, Graph, node_at, targets_of}
-use Rattle.chain_graph.proofs.ListLaws.{Contains-head, Contains-tail}
+use Rattle.list_laws.specs.Elements.{Contains-tail}
 use Rattle.chain_graph.proofs.NodeLaws.{targets-long, edge-of, order-before}
 
 pub greatest-stopped : (f h : ℕ → ℕ) (s : List (Call ℕ)) → ((e : Call ℕ) → Contains s e → f e.to ≡ stopped (h e.to)) → greatest f s ≡ stopped (greatest h s)

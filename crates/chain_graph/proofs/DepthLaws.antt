@@ -2,11 +2,12 @@
 use Rattle.std.proofs.Common.{◌≡◌, ◌⊎◌, ℕ, ◌+◌, ◌≤◌, List, [], ◌∷◌, ◌++◌, get_or, refl, ap, subst, ◌∙◌, inl, inr, ⊎_elim, arith, max}
 use Rattle.std.specs.Prelude.{Contains}
 use Rattle.std.proofs.lemmas.Bool.{cases_lt}
+use Rattle.list_laws.specs.Lists.{Contains-head}
 use Rattle.chain_graph.specs.Graph.{Call, IsPath, jumps}
 use Rattle.chain_graph.specs.Known.{stopped, IsDepth}
 use Rattle.chain_graph.specs.Nodes.{Graph, calls_of, Calls}
 use Rattle.chain_graph.specs.steps.Passes.{jump_of, deepest}
-use Rattle.chain_graph.proofs.ListLaws.{Contains-head, Contains-tail, Contains-cases}
+use Rattle.list_laws.specs.Elements.{Contains-tail, Contains-cases}
 
 pub deepest-append : (f : ℕ → ℕ) (xs ys : List (Call ℕ)) → deepest f (xs ++ ys) ≡ max (deepest f xs) (deepest f ys)
 deepest-append f [] ys = omega arith

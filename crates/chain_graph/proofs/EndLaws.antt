@@ -8,7 +8,7 @@ use Rattle.chain_graph.specs.declared.search.Mark.TheVariants.{New, Open, Done}
 use Rattle.chain_graph.specs.Order.{HasEdge, IsOrder}
 use Rattle.chain_graph.specs.steps.Search.{IsSound}
 use Rattle.chain_graph.specs.steps.Targets.{IsWay, HasRing}
-use Rattle.chain_graph.proofs.ListLaws.{none-in-empty, empty-All, take-place}
+use Rattle.list_laws.specs.Elements.{none-in-empty, empty-All, take-place}
 
 pub get_or-lengths : (g : List (List ℕ)) (c : ℕ) → get_or (map length g) c 0 ≡ length (get_or g c [])
 get_or-lengths [] c = refl

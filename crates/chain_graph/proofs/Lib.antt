@@ -1,4 +1,4 @@
-pub mod ListLaws
+pub mod Once
 pub mod NodeLaws
 pub mod CostLaws
 pub mod DepthLaws

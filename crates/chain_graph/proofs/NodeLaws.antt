@@ -11,7 +11,7 @@ use Rattle.chain_graph.specs.Nodes.{call_of, statements_of, node_of, Graph, grap
 use Rattle.chain_graph.specs.Order.{HasEdge, IsOrder}
 use Rattle.chain_graph.specs.steps.Passes.{IsWithin}
 use Rattle.chain_graph.specs.steps.Targets.{TargetsInRange}
-use Rattle.chain_graph.proofs.ListLaws.{Contains-map, Contains-unmap}
+use Rattle.list_laws.specs.Elements.{Contains-map, Contains-unmap}
 
 pub node-is : (nodes : List Node) (c : ℕ) (n : Node) → c < length nodes → n ≡ get_or nodes c n → node_at (graph_of nodes) c ≡ node_of n
 node-is [] c n h e = absurd (omega (arith, h))

@@ -7,7 +7,7 @@ use Rattle.chain_graph.specs.declared.search.Mark.TheVariants.{New}
 use Rattle.chain_graph.specs.Order.{HasEdge}
 use Rattle.chain_graph.specs.steps.Search.{IsSound}
 use Rattle.chain_graph.specs.steps.Targets.{rows_of, TargetsInRange}
-use Rattle.chain_graph.proofs.ListLaws.{Contains-at}
+use Rattle.list_laws.specs.Elements.{Contains-at}
 
 -- the targets of a node, as the code reads them
 pub row-of : (t : List (Vec ℕ Global)) (i : ℕ) (v : Vec ℕ Global) → i < length t → v ≡ get_or t i v → get_or (rows_of t) i [] ≡ v.items

@@ -9,7 +9,8 @@ use Rattle.chain_graph.specs.declared.search.Mark.TheVariants.{New, Open, Done}
 use Rattle.chain_graph.specs.Order.{HasEdge}
 use Rattle.chain_graph.specs.steps.Search.{IsSound, KeepsMet}
 use Rattle.chain_graph.specs.steps.Targets.{IsWay, HasRing}
-use Rattle.chain_graph.proofs.ListLaws.{All-front, All-last, once-push, once-front, once-last}
+use Rattle.list_laws.specs.Elements.{All-front, All-last}
+use Rattle.chain_graph.proofs.Once.{once-push, once-front, once-last}
 
 -- a mark that is set
 pub set-mark : (marks : List Mark) (c d : ℕ) (m : Mark) → c < length marks → ((d ≡ c) × (get_or (set marks c m) d New ≡ m)) ⊎ ((d ≢ c) × (get_or (set marks c m) d New ≡ get_or marks d New))

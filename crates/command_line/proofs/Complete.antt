@@ -1,9 +1,10 @@
 -- A well-formed list of words has no fault.
-use Rattle.std.proofs.Common.{◌++◌, ◌==◌, ◌≡◌, ◌∙◌, ◌&&◌, ◌||◌, ◌⊎◌, inl, inr, ℕ, Bool, cond, codes, true, false, not, refl, sym, ap, ap₂, subst, List, [], ◌∷◌, Some, None, true≢false}
+use Rattle.std.proofs.Common.{◌++◌, ◌==◌, ◌≡◌, ◌∙◌, ◌&&◌, inl, inr, ℕ, Bool, cond, codes, true, false, refl, sym, ap, ap₂, subst, List, [], ◌∷◌, Some, None, true≢false}
 use Rattle.std.specs.Prelude.{fold, option_and_then}
 use Rattle.std.specs.Option.{option_map_or}
 use Rattle.std.specs.Str.{bytes_eq}
 use Rattle.std.proofs.lemmas.Slice.Eq.{bytes_eq-Decides}
+use Rattle.std.proofs.lemmas.Bool.{or_cases, not-true}
 use Rattle.clap.specs.Lexer.{long_of, long_of_rest, short_of, short_of_rest, strip_byte}
 use Rattle.clap.specs.Walk.{Held, Row, Step, Text, Walk, after_step, arg_by_index, finished, idle, long_or_other, nothing_held, settled, short_or_plain, subcommand_or_other, to_positional, trailing, value, walked}
 use Rattle.clap.specs.Kinds.{Kinds, or_else}
@@ -15,10 +16,6 @@ use Rattle.command_line.specs.CommandLine.{are_four_paths, is_check, is_plain_wo
 use Rattle.command_line.specs.steps.Program.{program_app}
 use Rattle.command_line.proofs.Reading.{at, check, held1, run, standing}
 use Rattle.command_line.proofs.Rows.{row, told}
-
-is_false : (b : Bool) → not b ≡ true → b ≡ false
-is_false true e = absurd (true≢false (sym e))
-is_false false e = refl
 
 dashes_plain : (b : Bool) → (b && false) ≡ false
 dashes_plain true = refl
@@ -37,7 +34,7 @@ plain_word : (word : Text) → is_plain_word word ≡ true → (bytes_eq word (c
 plain_word [] e = (refl, refl, refl)
 plain_word (c ∷ []) e = (dashes_plain (c == 45), long_plain (c == 45), short_plain (c == 45))
 plain_word (c ∷ x ∷ rest) e =
-    let no : (c == 45) ≡ false = is_false (c == 45) e in (
+    let no : (c == 45) ≡ false = not-true (c == 45) e in (
       ap (λ b. b && bytes_eq (x ∷ rest) (45 ∷ [])) no,
       ap (λ b. option_and_then long_of_rest (option_and_then (strip_byte 45) (cond b (Some (x ∷ rest)) None))) no,
       ap (λ b. option_and_then short_of_rest (cond b (Some (x ∷ rest)) None)) no,
@@ -154,13 +151,9 @@ check_passes program (dashes ∷ a ∷ b ∷ []) e =
     subst (λ (t : Text). fault_of program_app (program ∷ codes "check" ∷ t ∷ a ∷ b ∷ []) ≡ []) (sym ((bytes_eq-Decides dashes (codes "--")).0 e)) plain
 check_passes program _ e = absurd (true≢false (sym e))
 
-either : (a b : Bool) → (a || b) ≡ true → (a ≡ true) ⊎ (b ≡ true)
-either true b e = inl refl
-either false b e = inr e
-
 run_passes : (program : Text) (rest : List Text) → is_run rest ≡ true → fault_of program_app (program ∷ codes "run" ∷ rest) ≡ []
 run_passes program [] e = absurd (true≢false (sym e))
-run_passes program (word ∷ rest) e = elim (either (bytes_eq word (codes "--trace") && are_four_paths rest) (are_four_paths (word ∷ rest)) e) [
+run_passes program (word ∷ rest) e = elim (or_cases (bytes_eq word (codes "--trace") && are_four_paths rest) (are_four_paths (word ∷ rest)) e) [
   | inl traced ↦
       let p = both (bytes_eq word (codes "--trace")) (are_four_paths rest) traced in
       subst (λ (t : Text). fault_of program_app (program ∷ codes "run" ∷ t ∷ rest) ≡ []) (sym ((bytes_eq-Decides word (codes "--trace")).0 p.0)) (traced_passes program rest p.1)
@@ -170,7 +163,7 @@ run_passes program (word ∷ rest) e = elim (either (bytes_eq word (codes "--tra
 pub words_pass : (words : List Text) → is_well_formed words ≡ true → fault_of program_app words ≡ []
 words_pass [] e = absurd (true≢false (sym e))
 words_pass (program ∷ []) e = absurd (true≢false (sym e))
-words_pass (program ∷ name ∷ rest) e = elim (either (bytes_eq name (codes "run") && is_run rest) (bytes_eq name (codes "check") && is_check rest) e) [
+words_pass (program ∷ name ∷ rest) e = elim (or_cases (bytes_eq name (codes "run") && is_run rest) (bytes_eq name (codes "check") && is_check rest) e) [
   | inl run_formed ↦
       let p = both (bytes_eq name (codes "run")) (is_run rest) run_formed in
       subst (λ (t : Text). fault_of program_app (program ∷ t ∷ rest) ≡ []) (sym ((bytes_eq-Decides name (codes "run")).0 p.0)) (run_passes program rest p.1)

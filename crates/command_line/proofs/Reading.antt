@@ -1,6 +1,6 @@
 -- What clap makes of the words, at the program's command.
 use Rattle.std.proofs.Common.{◌==◌, ◌&&◌, ◌+◌, ◌++◌, eqb-true, take, not, ◌≡◌, ◌∙◌, ◌⊎◌, ◌||◌, ℕ, Bool, cond, codes, true, false, zero, suc, refl, sym, ap, subst, arith, List, [], ◌∷◌, length, Option, Some, None, inl, inr, is_some, true≢false}
-use Rattle.std.specs.Prelude.{slice_get, find, fold, option_map, option_and_then}
+use Rattle.std.specs.Prelude.{slice_get, fold, option_map, option_and_then}
 use Rattle.std.specs.List.{slice_index_or}
 use Rattle.std.specs.Option.{option_map_or}
 use Rattle.std.specs.Str.{bytes_eq, chars}
@@ -32,6 +32,7 @@ use Rattle.std.specs.Borrow.{Bor}
 use Rattle.std.specs.Option.{IsSome}
 use Rattle.std.specs.Prelude.{unwrap_or}
 use Rattle.std.proofs.Common.{rules, Result, Ok, Err, IfErr, IsErrAnd}
+use Rattle.std.proofs.Math.Bool.{or-false}
 use Rattle.clap.specs.Matches.{one_text}
 use Rattle.clap.specs.Values.{bool_text}
 use Rattle.clap.proofs.WalkLemmas.{one_text-rows}
@@ -223,10 +224,6 @@ operands_from t rest = cond t rest (operands rest)
 none_left : (t : Bool) → operands_from t [] ≡ []
 none_left true = refl
 none_left false = refl
-
-or_false : (t : Bool) → (t || false) ≡ t
-or_false true = refl
-or_false false = refl
 
 -- one word more: it is `--`, or the next value
 module _ (s : Shape) (asks : AsksHelp s) where
@@ -595,13 +592,13 @@ checked1 : (a : Text) (t : Bool) (rest : List Text) → walk_fault check [] (sta
     → Gives check IsCheck (a ∷ operands_from t rest) (end_of check (standing (held1 a) 2 t) rest)
 checked1 a t [] e = λ bad. not_nil _ _ bad
 checked1 a t (word ∷ rest) e = turn check check_asks (held1 a).rows (held1 a).pending 2 t word (check_long word) rest (standing (held2 a word) 3) (λ ops w. Gives check IsCheck (a ∷ ops) w)
-    (λ u. ap (standing (held2 a word) 3) (or_false u)) e (checked1 a true rest) (λ left _. checked2 a word t rest left)
+    (λ u. ap (standing (held2 a word) 3) (or-false u)) e (checked1 a true rest) (λ left _. checked2 a word t rest left)
 
 checked0 : (t : Bool) (rest : List Text) → walk_fault check [] (standing nothing_held 1 t) rest ≡ []
     → Gives check IsCheck (operands_from t rest) (end_of check (standing nothing_held 1 t) rest)
 checked0 t [] e = λ bad. not_nil _ _ bad
 checked0 t (word ∷ rest) e = turn check check_asks [] None 1 t word (check_long word) rest (standing (held1 word) 2) (Gives check IsCheck)
-    (λ u. ap (standing (held1 word) 2) (or_false u)) e (checked0 true rest) (λ left _. checked1 word t rest left)
+    (λ u. ap (standing (held1 word) 2) (or-false u)) e (checked0 true rest) (λ left _. checked1 word t rest left)
 
 -- ---- all the words
 

@@ -1,5 +1,5 @@
 -- The rows of a run: one for each argument that was used, in the order of the words.
-use Rattle.std.proofs.Common.{◌==◌, ◌≡◌, ◌∙◌, ◌&&◌, ◌||◌, ◌++◌, Bool, cond, codes, true, false, refl, sym, ap, subst, List, [], ◌∷◌, Option, Some, None, is_some, true≢false, append-nil}
+use Rattle.std.proofs.Common.{◌≡◌, ◌∙◌, ◌||◌, ◌++◌, Bool, cond, codes, true, false, refl, ap, List, [], ◌∷◌, Option, Some, None, is_some, append-nil}
 use Rattle.std.specs.Prelude.{find, option_map}
 use Rattle.std.specs.Str.{bytes_eq}
 use Rattle.clap.specs.Simple.{filled}

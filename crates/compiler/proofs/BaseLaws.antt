@@ -1,6 +1,7 @@
 -- A base chain: the machine comes to the end that the rules lead to, and to no other.
-use Rattle.std.proofs.Common.{◌≡◌, ◌↔◌, ℕ, ◌+◌, ◌-◌, ◌≤◌, List, [], Option, Some, arith, ap, ◌∙◌, sym, subst}
+use Rattle.std.proofs.Common.{◌≡◌, ◌↔◌, ℕ, ◌+◌, ◌-◌, ◌≤◌, List, [], Some, arith, ap, ◌∙◌, sym, subst}
 use Rattle.std.specs.Prelude.{sum_by, slice_get}
+use Rattle.list_laws.specs.Options.{one_some}
 use Rattle.nft_tree.specs.Tree.{Statement, TableTree}
 use Rattle.box_file.specs.Box.{PlantTree}
 use Rattle.rule_meaning.specs.declared.facts.Facts.{Facts}
@@ -18,9 +19,6 @@ use Rattle.compiler.proofs.DoesLaws.{Does, finish-last}
 use Rattle.compiler.proofs.PlacedLaws.{rules-in}
 use Rattle.compiler.proofs.Simulation.{simulates}
 
-some-same : {A : Type 0} (o : Option A) (x y : A) → o ≡ Some x → o ≡ Some y → x ≡ y
-some-same o x y h k = let e : Some x ≡ Some y = sym h ∙ k in cc
-
 -- with fuel enough and nowhere to go back to
 does-last : (t : TableCode) (most fuel at_step : ℕ) (f : Facts) (es : List Event) (o : After) → most ≤ fuel → Does t most (λ go. go at_step [] f es) [] o → (exec t fuel at_step [] f es 0).after ≡ o
 does-last t most fuel at_step f es o enough d =
@@ -33,7 +31,7 @@ module _ {S : Type 0} (p : Program S) (t : TableCode) (weight : S → ℕ) (cost
   pub chain-runs : (c fuel at_step : ℕ) (rules : List (List S)) (f : Facts) (es : List Event) (o : After) → p.rules_at c ≡ Some rules → cost c ≤ fuel → depth c ≤ 16 → slice_get t.places.items c ≡ Some at_step → Runs p c 1 (at_rule rules) f es o → (exec t fuel at_step [] f es 0).after ≡ o
   chain-runs c fuel at_step rules f es o is enough shallow at_place run =
       let placed = code.chains c rules is in
-      let stands : RulesAt p t at_step c 1 rules = subst (λ x. RulesAt p t x c 1 rules) (some-same (slice_get t.places.items c) placed.0 at_step placed.1 at_place) placed.2 in
+      let stands : RulesAt p t at_step c 1 rules = subst (λ x. RulesAt p t x c 1 rules) (one_some (slice_get t.places.items c) placed.0 at_step placed.1 at_place) placed.2 in
       does-last t (sum_by (sum_by weight) rules) fuel at_step f es o (let sum = ranked.sums c rules is in omega arith) (simulates p t weight cost depth code ranked run at_step stands (rules-in p c rules is) [] (omega arith))
 
   pub goes-there : (c fuel : ℕ) (rules : List (List S)) (f : Facts) (es : List Event) (o : After) → p.rules_at c ≡ Some rules → cost c ≤ fuel → depth c ≤ 16 → Runs p c 1 (at_rule rules) f es o → (go_to (exec t fuel) (slice_get t.places.items c) [] f es 0).after ≡ o
@@ -68,7 +66,7 @@ module _ (plant : PlantTree) (tables : List TableTree) (table : TableTree) (b : 
   -- what the rules lead to the machine comes to
   pub runs-there : (f : Facts) (es : List Event) (end : End) → RunsBase plant tables b f es end → end ≡ end_of code start f es
   runs-there f es end r =
-      let same : r.table ≡ table = some-same (slice_get tables b.number.table) r.table table r.stands stands in
+      let same : r.table ≡ table = one_some (slice_get tables b.number.table) r.table table r.stands stands in
       let has = subst (λ u. (named plant b.number.table u).rules_at b.number.chain ≡ Some r.rules) same r.has in
       let run = subst (λ u. Runs (named plant b.number.table u) b.number.chain 1 (at_rule r.rules) f es r.after) same r.runs in
       r.is

@@ -6,11 +6,11 @@ use Rattle.std.proofs.lemmas.List.{length-map}
 use Rattle.std.proofs.lemmas.List.Elements.{All-filter, All-head, All-tail, Contains-get_or}
 use Rattle.std.proofs.lemmas.List.Sorted.{All-permutation}
 use Rattle.std.proofs.lemmas.List.Sums.{get_or-le-sum_by}
-use Rattle.std.proofs.lemmas.Option.{slice_get-get_or, slice_get-map, slice_get_cases, slice_get_within, get_or_from_slice_get}
+use Rattle.std.proofs.lemmas.Option.{slice_get-get_or, slice_get-map, slice_get_cases, slice_get_within, get_or_from_slice_get, same_Some}
 use Rattle.nft_tree.specs.declared.chain.Hook.{Hook}
 use Rattle.nft_tree.specs.Tree.{TableTree}
 use Rattle.nft_tree.specs.Parts.{chains_of}
-use Rattle.chain_graph.proofs.ListLaws.{Contains-map}
+use Rattle.list_laws.specs.Elements.{Contains-map}
 use Rattle.rule_paths.specs.Paths.{Caller, a_chain, AreCosts, AreAllCosts}
 use Rattle.rule_paths.specs.Findings.{AreChainDepths}
 use Rattle.rule_paths.proofs.ReadLaws.{cost-at}
@@ -37,9 +37,6 @@ record StartOf (P : BaseChain → Type 0) (start : Start) : Type 0 where
   costs : start.cost ≡ chain.cost
   has : P chain
 
-same-some : {A : Type 0} (x y : A) → Some x ≡ Some y → x ≡ y
-same-some x y e = cc
-
 shown : {A B : Type 0} (f : A → B) (xs : List A) (k : ℕ) (x : A) → slice_get xs k ≡ Some x → slice_get (map f xs) k ≡ Some (f x)
 shown f xs k x is = slice_get-map f xs k ∙ ap (option_map f) is
 
@@ -55,8 +52,8 @@ start-of P order starts start are costs all here = by_place (slice_get_cases ord
     by_place : ((x : BaseChain) × (here.0 < length order) × (slice_get order here.0 ≡ Some x) × (get_or order here.0 x ≡ x)) ⊎ ((length order ≤ here.0) × (slice_get order here.0 ≡ None)) → StartOf P start
     by_place (inl f) = record {
       chain = f.0;
-      tells = same-some _ _ (sym (shown told starts here.0 start at) ∙ ap (λ xs. slice_get xs here.0) are ∙ shown told_of (map base order) here.0 (base f.0) (shown base order here.0 f.0 f.2));
-      costs = same-some _ _ (sym (shown (λ (s : Start). s.cost) starts here.0 start at) ∙ ap (λ xs. slice_get xs here.0) costs ∙ shown (λ (b : BaseChain). b.cost) order here.0 f.0 f.2);
+      tells = same_Some _ _ (sym (shown told starts here.0 start at) ∙ ap (λ xs. slice_get xs here.0) are ∙ shown told_of (map base order) here.0 (base f.0) (shown base order here.0 f.0 f.2));
+      costs = same_Some _ _ (sym (shown (λ (s : Start). s.cost) starts here.0 start at) ∙ ap (λ xs. slice_get xs here.0) costs ∙ shown (λ (b : BaseChain). b.cost) order here.0 f.0 f.2);
       has = subst P f.3 (all here.0 f.0 f.1);
     }
     by_place (inr past) = let lt = here.1 in absurd (omega (arith, lt, past.0, long))
@@ -95,7 +92,7 @@ module _ (checked : CheckedTree) (code : Code) (whole : IsWhole checked code) (c
   table-cost : (b : BaseChain) → IsCosted b → (t : TableTree) → slice_get checked.rules b.number.table ≡ Some t → (cost : Caller → ℕ) → AreCosts t cost → b.cost ≡ 1 + chain_cost_by t cost b.number.chain
   table-cost b is t at cost is_cost =
       let s = base-stands checked.rules (base b) is.0 in
-      let same : s.table ≡ t = same-some _ _ (sym s.stands ∙ at) in
+      let same : s.table ≡ t = same_Some _ _ (sym s.stands ∙ at) in
       let stands : slice_get (chains_of t) b.number.chain ≡ Some s.chain = ap (λ x. slice_get (chains_of x) b.number.chain) (sym same) ∙ s.has in
       let told = cost-at t (get_or costs b.number.table []) (are.are b.number.table t at) cost is_cost b.number.chain s.chain (slice_get_within (chains_of t) b.number.chain s.chain stands) (sym (get_or_from_slice_get (chains_of t) b.number.chain s.chain s.chain stands)) in
       let its : chain_cost_by t cost b.number.chain ≡ cost (a_chain s.chain.name) = ap (cost_of cost) stands in

@@ -1,5 +1,5 @@
 -- Base chains, one after another.
-use Rattle.std.proofs.Common.{◌≡◌, ℕ, zero, suc, ◌+◌, ◌<◌, ◌≤◌, add-one, Bool, true, false, List, [], ◌∷◌, ◌++◌, length, get_or, drop, map, Some, refl, sym, ap, ◌∙◌, subst, ap₂, arith, append_assoc, ℤ, not, ◌&&◌, cond, Result, Ok, Err, Vec, Global, Bor, IfOk, Less, Equal, Greater}
+use Rattle.std.proofs.Common.{◌≡◌, ℕ, zero, suc, ◌+◌, ◌<◌, ◌≤◌, add-one, Bool, false, List, [], ◌∷◌, ◌++◌, length, get_or, drop, map, Some, refl, sym, ap, ◌∙◌, subst, ap₂, arith, append_assoc, ℤ, not, ◌&&◌, cond, Result, Ok, Err, Vec, Global, Bor, IfOk}
 use Rattle.std.specs.Prelude.{slice_get, slice_index, filter, All, int_lt}
 use Rattle.std.specs.Option.{option_map}
 use Rattle.std.specs.List.{list_any}
@@ -12,6 +12,7 @@ use Rattle.std.specs.Fn.{Called, ComputesKey}
 use Rattle.std.specs.List.Sorted.{IsPermutation, IsSortedByKey, IsStableByKey, ties}
 use Rattle.std.specs.Ordering.{is_lt, int_cmp}
 use Rattle.std.specs.declared.alloc.AllocError.{AllocError}
+use Rattle.list_laws.specs.Tests.{less_by}
 use denote.Param.Members.{Mut}
 use Rattle.nft_tree.specs.declared.chain.Hook.{Hook}
 use Rattle.nft_tree.specs.Priorities.{priority_number}
@@ -135,13 +136,8 @@ table_bases_all all place now whole so =
 abbrev pub key : BaseChain → ℤ
 key b = priority_number b.head.now.priority
 
-cond_lt : (b c : Bool) → is_lt (cond b Less (cond c Greater Equal)) ≡ b
-cond_lt true c = refl
-cond_lt false true = refl
-cond_lt false false = refl
-
 lt_is : (x y : BaseChain) → is_lt (int_cmp (key x) (key y)) ≡ runs_before (base x) (base y)
-lt_is x y = cond_lt (int_lt (key x) (key y)) (int_lt (key y) (key x))
+lt_is x y = less_by (int_lt (key x) (key y)) (int_lt (key y) (key x))
 
 pub filter_alike : {A : Type 0} (p q : A → Bool) → ((x : A) → p x ≡ q x) → (xs : List A) → filter p xs ≡ filter q xs
 filter_alike p q same [] = refl

@@ -1,13 +1,13 @@
 -- The chains of a table one behind another, and the tables of a ruleset.
-use Rattle.std.proofs.Common.{◌≡◌, ℕ, ◌<◌, ◌≤◌, Bool, false, List, [], ◌∷◌, ◌++◌, length, map, Option, Some, None, refl, sym, ap, ◌∙◌, subst, ⊎_elim, arith, length-append, append_assoc}
+use Rattle.std.proofs.Common.{◌≡◌, ℕ, ◌<◌, ◌≤◌, Bool, false, List, [], ◌∷◌, ◌++◌, length, map, Some, refl, sym, ap, ◌∙◌, subst, ⊎_elim, arith, length-append, append_assoc}
 use Rattle.std.specs.Prelude.{slice_get}
-use Rattle.std.specs.Option.{option_map}
 use Rattle.std.specs.List.{list_any, filter_map}
 use Rattle.std.proofs.lemmas.List.{append-nil}
 use Rattle.std.proofs.lemmas.Bool.{cases_lt}
 use Rattle.std.proofs.lemmas.Option.{slice_get_within}
+use Rattle.list_laws.specs.Options.{mapped_some}
 use Rattle.nft_tree.specs.Tree as tree
-use Rattle.nft_tree.specs.Tree.{Statement, RuleTree, ChainTree, ItemTree, TableTree}
+use Rattle.nft_tree.specs.Tree.{Statement, ChainTree, ItemTree, TableTree}
 use Rattle.nft_tree.specs.Parts.{chain_in, chains_of}
 use Rattle.box_file.specs.Box.{PlantTree}
 use Rattle.rule_types.specs.Types.{rule_misfits, item_misfits, table_misfits}
@@ -45,10 +45,6 @@ bounds_free t = chains_free item_is_wrong chain_rules_wrong (λ c h. none_later 
 slice_get-seam : {A : Type 0} (xs : List A) (y : A) (ys : List A) → slice_get (xs ++ y ∷ ys) (length xs) ≡ Some y
 slice_get-seam [] y ys = refl
 slice_get-seam (x ∷ xs) y ys = slice_get-seam xs y ys
-
-mapped_some : {A B : Type 0} (f : A → B) (o : Option A) (y : B) → option_map f o ≡ Some y → (x : A) × (o ≡ Some x) × (f x ≡ y)
-mapped_some f None y h = cc
-mapped_some f (Some x) y h = (x, refl, cc)
 
 -- the rules of a chain, each as its statements
 abbrev pub rules_in : ChainTree → List (List Statement)

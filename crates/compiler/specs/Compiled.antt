@@ -19,18 +19,18 @@ use Rattle.filter_vm.specs.Machine.{starts_of, end_of}
 -- ---- starts
 
 -- what a start tells of its base chain
-pub record Told : Type 0 where
+pub record StartHead : Type 0 where
   pub chain : ChainNo
   pub policy : Policy
   pub priority : ℤ
   pub is_nat : Bool
 
 -- what the code tells
-abbrev pub told : Start → Told
+abbrev pub told : Start → StartHead
 told s = record { chain = s.chain; policy = s.policy; priority = s.priority; is_nat = s.is_nat }
 
 -- what the ruleset tells: without a policy a base chain accepts (nft(8), "Chains")
-abbrev pub told_of : Base → Told
+abbrev pub told_of : Base → StartHead
 told_of b = record {
   chain = b.number;
   policy = policy_of b.head;

@@ -55,9 +55,9 @@ const ANSWERS: [Row<'static>; 4] = [
     },
 ];
 
-/// Both ends greet at once and are answered, and then a record comes without a packet: 7440 s after
+/// Both ends send a SYN at once and are answered, and then a record comes without a packet: 7440 s after
 /// the last one, and just before.
-const GREETINGS: [Row<'static>; 2] = [
+const SIMULTANEOUS_OPENS: [Row<'static>; 2] = [
     Row {
         rules: FIREWALL,
         came: &[
@@ -114,7 +114,7 @@ const GREETINGS: [Row<'static>; 2] = [
     },
 ];
 
-/// A reset that comes in belongs to its connection. A greeting behind it begins another; one that
+/// A reset that comes in belongs to its connection. A SYN behind it begins another; one that
 /// isn't alone doesn't, and one the other way neither, since it answers the first.
 const RESETS: [Row<'static>; 3] = [
     Row {
@@ -205,12 +205,12 @@ fn answers_come_in_while_connections_live(rt: HostRuntime) -> Result<(), Fail> {
 }
 
 #[test]
-fn ends_that_greet_at_once_are_established(rt: HostRuntime) -> Result<(), Fail> {
-    give(&rt, &GREETINGS)
+fn a_simultaneous_open_is_established(rt: HostRuntime) -> Result<(), Fail> {
+    give(&rt, &SIMULTANEOUS_OPENS)
 }
 
 #[test]
-fn a_greeting_behind_a_reset_begins_anew(rt: HostRuntime) -> Result<(), Fail> {
+fn a_syn_behind_a_reset_begins_anew(rt: HostRuntime) -> Result<(), Fail> {
     give(&rt, &RESETS)
 }
 

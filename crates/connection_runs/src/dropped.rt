@@ -1,4 +1,4 @@
-//! A packet that is dropped counts for no connection; but a greeting that ends one ends it.
+//! A packet that is dropped counts for no connection; but a SYN that ends one ends it.
 use crate::given::{Row, give};
 use crate::packets::{BACK, Came, Load, NO_PACKET, OUT, RST, SYN_ACK_BACK, SYN_OUT};
 use std::test::Fail;
@@ -64,13 +64,13 @@ counter ip t fwd 2 1 packets 0 bytes 0
     },
 ];
 
-/// A reset in answer to a greeting.
+/// A reset in answer to a SYN.
 const RESET: Came = Came {
     load: Load::Tcp(RST),
     ..SYN_ACK_BACK
 };
 
-/// A second greeting, dropped by the rules for its TTL, or as its last hop.
+/// A second SYN, dropped by the rules for its TTL, or as its last hop.
 const TENTH_SYN: Came = Came { ttl: 10, ..SYN_OUT };
 
 const LAST_HOP: Came = Came { ttl: 1, ..SYN_OUT };
@@ -158,7 +158,7 @@ fn dropped_packets_are_forgotten(rt: HostRuntime) -> Result<(), Fail> {
 }
 
 #[test]
-fn dropped_greetings_end_closing_connections(rt: HostRuntime) -> Result<(), Fail> {
+fn dropped_syns_end_closing_connections(rt: HostRuntime) -> Result<(), Fail> {
     give(&rt, &ENDED)
 }
 

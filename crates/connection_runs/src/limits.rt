@@ -80,8 +80,8 @@ const LIMITS: [Limit; 23] = [
     (&[ASK, ANSWER, ASK], 60, ASK),
     (&[GRE], 600, GRE_BACK),
     (&[GRE_BACK, GRE], 600, GRE_BACK),
-    // Opening: one end has greeted; the other has too, and one of them isn't answered; only one has
-    // greeted, though both are answered; neither was heard to.
+    // Opening: one end has sent SYN; the other has too, and one of them isn't answered; only one has
+    // sent it, though both are answered; neither was seen to.
     (&[SYN_OUT], 240, SYN_ACK_BACK),
     (&[SYN_OUT, SYN_ACK_BACK], 240, ACK_OUT),
     (&[SYN_OUT, ACK_BACK, ACK_OUT], 240, ACK_BACK),

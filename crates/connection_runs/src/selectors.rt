@@ -34,7 +34,7 @@ const GRE: Came = Came {
 };
 
 /// A packet, its answer and the next; a reply to no echo, and an ICMP error; an echo and its reply;
-/// a greeting, and GRE. The first three are marked with 7 when they were matched.
+/// a SYN, and GRE. The first three are marked with 7 when they were matched.
 const CAME: [Came; 9] = [OUT, BACK, OUT, ANSWER, ERROR, ASK, ANSWER, SYN_OUT, GRE];
 
 /// Matches, each with the numbers of the records of which it holds.

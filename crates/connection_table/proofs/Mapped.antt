@@ -2,6 +2,7 @@
 use Rattle.std.proofs.Common.{◌≡◌, ℕ, ◌+◌, ◌*◌, ◌≤◌, Bool, true, false, cond, List, [], ◌∷◌, ◌++◌, length, refl, arith}
 use Rattle.std.proofs.lemmas.List.{length-append}
 use Rattle.std.proofs.lemmas.List.Concat.{flat_map-append}
+use Rattle.nat_mapping.specs.steps.Holders.{holders_none}
 use Rattle.ip_headers.specs.declared.tuple.Mapping.{Mapping}
 use Rattle.conntrack.specs.declared.connection.ConnId.{ConnId}
 use Rattle.conntrack.specs.declared.connection.Direction.{Direction}
@@ -10,7 +11,7 @@ use Rattle.conntrack.specs.declared.connection.Held.{Held}
 use Rattle.conntrack.specs.Held.{same_id, touched, touched_at}
 use Rattle.nat_mapping.specs.Mappings.{holders_of}
 use Rattle.translation.specs.Mapped.{listed, mappings_in, mappings_of}
-use Rattle.connection_table.proofs.Counts.{holders-append, holders-nil, length-listed}
+use Rattle.connection_table.proofs.Counts.{holders-append, length-listed}
 
 -- a connection keeps them
 module _ (id : ConnId) (direction : Direction) (flags : Flags) (mark now : ℕ) where
@@ -38,7 +39,7 @@ holders-begun m held h =
     let split : mappings_in (held ++ h ∷ []) ≡ mappings_in held ++ mappings_in (h ∷ []) =
     flat_map-append mappings_of held (h ∷ []) in
     let both = holders-append m (mappings_in held) (mappings_in (h ∷ [])) in
-    rw split (omega (arith, both, holders-first m h [], holders-nil m))
+    rw split (omega (arith, both, holders-first m h [], holders_none m))
 
 -- two of each connection at most
 pub length-mappings_in : (held : List Held) → length (mappings_in held) ≤ 2 * length held

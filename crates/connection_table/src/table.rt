@@ -3,7 +3,7 @@ ghost use Rattle.std.specs.Prelude.{◌≡◌, ◌+◌, ◌<◌, ◌≤◌, ◌�
 ghost use Rattle.ip_headers.specs.declared.tuple.Mapping.{Mapping};
 ghost use Rattle.conntrack.specs.declared.connection.ConnId.{ConnId};
 ghost use Rattle.conntrack.specs.Held.{IsNoneLater, begun_with, belongs_in, connection_of, has_distinct_ids, has_id, is_taken, live_at, most_held, touched_at};
-ghost use Rattle.conntrack.specs.Recorded.{after_end};
+ghost use Rattle.conntrack.specs.Updates.{after_end};
 ghost use Rattle.nat_mapping.specs.Mappings.{HoldsSame, IsOneToOne, holders_of};
 ghost use Rattle.translation.specs.Fitting.{Fits, IsFitting};
 ghost use Rattle.translation.specs.Mapped.{listed, mappings_in};

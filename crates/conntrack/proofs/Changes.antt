@@ -16,7 +16,7 @@ use Rattle.conntrack.specs.declared.connection.Direction.{Direction}
 use Rattle.conntrack.specs.declared.limits.Limits.{Limits}
 use Rattle.conntrack.specs.Held.{has_id, same_id, has_distinct_ids, touched, touched_at, is_live, live_at, begun_with, limit_of}
 use Rattle.conntrack.specs.Phases.{limit_by, phase_of}
-use Rattle.conntrack.specs.Stories.{Entry, What, Nothing, Begins, Touches, is_that, live_list}
+use Rattle.conntrack.specs.Stories.{Tracked, What, Nothing, Begins, Touches, is_that, live_list}
 use Rattle.conntrack.specs.steps.Changes.{unended, changed_by, connection_begun, ended_by, touched_if, begun_by}
 use Rattle.conntrack.proofs.Searches.{unended-cons, live_list-unended}
 use Rattle.conntrack.specs.steps.Names.{has_ids_below}
@@ -42,31 +42,31 @@ below_more n (x ∷ held) h = grind (arith, nat_tests, below_more n held)
 named_ended : (n : ℕ) (ended : Option ℕ) (held : List Held) → AreNamed n held → AreNamed n (filter (λ h. not (is_that h.id.0 ended)) held)
 named_ended n ended held h = record { distinct = distinct-filter (λ h. not (is_that h.id.0 ended)) held h.distinct; below = below-filter (λ h. not (is_that h.id.0 ended)) n held h.below }
 
-named_touched : (n : ℕ) (what : What) (e : Entry) (held : List Held) → AreNamed n held → AreNamed n (map (touched_if what e) held)
+named_touched : (n : ℕ) (what : What) (e : Tracked) (held : List Held) → AreNamed n held → AreNamed n (map (touched_if what e) held)
 named_touched n Nothing e held h = rw (map-same held) h
 named_touched n (Begins b) e held h = rw (map-same held) h
 named_touched n (Touches k direction) e held h =
     let id : ConnId = record { 0 = k } in
     record { distinct = distinct-touched_at id direction e.flags e.mark e.moment held ∙ h.distinct; below = below-touched_at id direction e.flags e.mark e.moment n held ∙ h.below }
 
-named_begun : (n : ℕ) (what : What) (e : Entry) (held : List Held) → AreNamed n held → AreNamed (n + 1) (held ++ begun_by n what e)
+named_begun : (n : ℕ) (what : What) (e : Tracked) (held : List Held) → AreNamed n held → AreNamed (n + 1) (held ++ begun_by n what e)
 named_begun n Nothing e held h = rw append-nil (record { distinct = h.distinct; below = below_more n held h.below })
 named_begun n (Touches k direction) e held h = rw append-nil (record { distinct = h.distinct; below = below_more n held h.below })
 named_begun n (Begins b) e held h =
     let new = begun_with (record { 0 = n }) (connection_begun b e) e.flags in
     record { distinct = distinct-push held new h.distinct (has_id-below n held h.below); below = below-push n held new h.below refl }
 
-unended_named : (story : List Entry) → AreNamed (length story) (unended story)
+unended_named : (story : List Tracked) → AreNamed (length story) (unended story)
 unended_named [] = record { distinct = refl; below = refl }
 unended_named (e ∷ story) =
     rw (unended-cons e story) (subst (λ n. AreNamed n (changed_by e (length story) (unended story))) (omega arith)
     (named_begun (length story) e.what e (map (touched_if e.what e) (ended_by e (unended story))) (named_touched (length story) e.what e (ended_by e (unended story)) (named_ended (length story) e.ended (unended story) (unended_named story)))))
 
 -- no two connections of a story have one name
-pub unended-distinct : (story : List Entry) → has_distinct_ids (unended story) ≡ true
+pub unended-distinct : (story : List Tracked) → has_distinct_ids (unended story) ≡ true
 unended-distinct story = (unended_named story).distinct
 
-pub live_list-distinct : (limits : Limits) (story : List Entry) (now : ℕ) → has_distinct_ids (live_list limits story now) ≡ true
+pub live_list-distinct : (limits : Limits) (story : List Tracked) (now : ℕ) → has_distinct_ids (live_list limits story now) ≡ true
 live_list-distinct limits story now = rw (live_list-unended limits story now) (distinct-filter (is_live limits now) (unended story) (unended-distinct story))
 
 -- whoever is live later is live now
@@ -142,7 +142,7 @@ IsTouchHeld (Begins b) held = Unit {0}
 IsTouchHeld (Touches k direction) held = has_id (record { 0 = k }) held ≡ true
 
 -- what an entry of now changes is live: where it touches one, it touches a live one, and ends none
-live_by_what : (limits : Limits) (what : What) (e : Entry) (n : ℕ) (held : List Held) → has_distinct_ids held ≡ true → IsTouchHeld what (live_at limits e.moment held) →
+live_by_what : (limits : Limits) (what : What) (e : Tracked) (n : ℕ) (held : List Held) → has_distinct_ids held ≡ true → IsTouchHeld what (live_at limits e.moment held) →
     live_at limits e.moment (map (touched_if what e) held ++ begun_by n what e) ≡ map (touched_if what e) (live_at limits e.moment held) ++ begun_by n what e
 live_by_what limits Nothing e n held d t = rw (append-nil, append-nil, map-same, map-same)
 live_by_what limits (Begins b) e n held d t =
@@ -150,13 +150,13 @@ live_by_what limits (Begins b) e n held d t =
     rw (map-same, map-same, filter-append, live_at_last limits e.moment new refl)
 live_by_what limits (Touches k direction) e n held d t = rw (append-nil, append-nil) (live_at-touched_at limits (record { 0 = k }) direction e.flags e.mark e.moment held d t)
 
-pub live_at-changed_by : (limits : Limits) (e : Entry) (n : ℕ) (held : List Held) → has_distinct_ids held ≡ true → IsTouchHeld e.what (live_at limits e.moment (ended_by e held)) → live_at limits e.moment (changed_by e n held) ≡ changed_by e n (live_at limits e.moment held)
+pub live_at-changed_by : (limits : Limits) (e : Tracked) (n : ℕ) (held : List Held) → has_distinct_ids held ≡ true → IsTouchHeld e.what (live_at limits e.moment (ended_by e held)) → live_at limits e.moment (changed_by e n held) ≡ changed_by e n (live_at limits e.moment held)
 live_at-changed_by limits e n held d t =
     let gone : Held → Bool = λ h. not (is_that h.id.0 e.ended) in
     live_by_what limits e.what e n (filter gone held) (distinct-filter gone held d) t ∙ ap (λ hs. map (touched_if e.what e) hs ++ begun_by n e.what e) (filter-swap (is_live limits e.moment) gone held)
 
 -- one entry more, in what is live at its moment
-pub live_list-cons : (limits : Limits) (e : Entry) (story : List Entry) → IsTouchHeld e.what (ended_by e (live_list limits story e.moment)) → live_list limits (e ∷ story) e.moment ≡ changed_by e (length story) (live_list limits story e.moment)
+pub live_list-cons : (limits : Limits) (e : Tracked) (story : List Tracked) → IsTouchHeld e.what (ended_by e (live_list limits story e.moment)) → live_list limits (e ∷ story) e.moment ≡ changed_by e (length story) (live_list limits story e.moment)
 live_list-cons limits e story t =
     let gone : Held → Bool = λ h. not (is_that h.id.0 e.ended) in
     let now = live_list-unended limits story e.moment in

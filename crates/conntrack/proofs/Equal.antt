@@ -1,7 +1,8 @@
 -- Equal tuples.
 use Rattle.std.proofs.Common.{◌≡◌, true, refl, ◌∙◌, ap, arith}
-use Rattle.std.proofs.lemmas.Bool.{eqb-true, and_parts}
+use Rattle.std.proofs.lemmas.Bool.{and_parts}
 use Rattle.std.proofs.lemmas.Bool.Decides.{nat_tests}
+use Rattle.ip_headers.specs.steps.Equal.{same_kind-true, same_endpoint-true}
 use Rattle.ip_headers.specs.declared.tuple.Kind.{Kind}
 use Rattle.ip_headers.specs.declared.tuple.Kind.TheVariants.{Tcp, Udp, Ask, Answer, Other}
 use Rattle.ip_headers.specs.declared.tuple.Endpoint.{Endpoint}
@@ -21,21 +22,6 @@ same_endpoint-sym a b = grind (arith, nat_tests)
 
 pub same_tuple-sym : (a b : Tuple) → same_tuple a b ≡ same_tuple b a
 same_tuple-sym a b = rw (same_kind-sym a.kind b.kind, same_endpoint-sym a.source b.source, same_endpoint-sym a.destination b.destination) refl
-
-same_kind-true : (a b : Kind) → same_kind a b ≡ true → a ≡ b
-same_kind-true Tcp Tcp h = refl
-same_kind-true Udp Udp h = refl
-same_kind-true Ask Ask h = refl
-same_kind-true Answer Answer h = refl
-same_kind-true (Other a) (Other b) h = ap Other (eqb-true a b h)
-same_kind-true a b h = cc
-
-same_endpoint-true : (a b : Endpoint) → same_endpoint a b ≡ true → a ≡ b
-same_endpoint-true a b h =
-    let parts = and_parts _ _ h in
-    let address : a.address ≡ b.address = eqb-true _ _ parts.0 in
-    let port : a.port ≡ b.port = eqb-true _ _ parts.1 in
-    ap (λ x. record { address = x; port = a.port }) address ∙ ap (λ x. record { address = b.address; port = x }) port
 
 pub same_tuple-true : (a b : Tuple) → same_tuple a b ≡ true → a ≡ b
 same_tuple-true a b h =

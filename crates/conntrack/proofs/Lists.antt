@@ -1,12 +1,8 @@
 -- Plain facts on lists: a search in a filtered list.
-use Rattle.std.proofs.Common.{◌≡◌, List, [], ◌∷◌, Option, None, Some, Bool, true, false, not, ◌&&◌, ◌||◌, cond, refl, ap, arith}
+use Rattle.std.proofs.Common.{◌≡◌, List, [], ◌∷◌, Option, None, Some, Bool, true, false, not, ◌||◌, cond, refl, ap, arith}
 use Rattle.std.specs.Prelude.{filter}
 use Rattle.std.specs.List.{find, list_any}
-
--- the first of those that pass one test to pass another
-pub find-filter : {X : Type 0} (p q : X → Bool) (xs : List X) → find p (filter q xs) ≡ find (λ x. q x && p x) xs
-find-filter p q [] = refl
-find-filter p q (x ∷ xs) = grind (arith, find-filter p q xs)
+use Rattle.list_laws.specs.Lists.{find-filter}
 
 pub ruleset find_filter_rules = (find-filter)
 

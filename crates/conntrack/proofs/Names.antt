@@ -1,11 +1,12 @@
 -- Names of connections held, and lists that are one but for the names.
 use Rattle.std.proofs.Common.{◌≡◌, ℕ, zero, suc, ◌+◌, ◌-◌, ◌^◌, take, get_or, ◌<◌, ◌≤◌, List, [], ◌∷◌, ◌++◌, length, Option, Some, Bool, true, false, not, ◌&&◌, ◌||◌, cond, refl, ◌∙◌, ap, arith, inl, inr}
-use Rattle.std.specs.Prelude.{filter, max, min, nat_lt}
+use Rattle.std.specs.Prelude.{filter, max, min}
 use Rattle.std.specs.List.{find}
 use Rattle.std.proofs.lemmas.Bool.{eq-eqb, and_parts, and_from, not-true, not_from_false, or_left, or_right, or_parts, or_from, false_from_ne_true, cases_eq}
 use Rattle.std.proofs.lemmas.Bool.Decides.{nat_tests}
 use Rattle.std.proofs.lemmas.List.{take_more}
 use Rattle.std.proofs.lemmas.List.Folds.{list_any-append}
+use Rattle.std.proofs.Math.Bool.{or-false}
 use Rattle.conntrack.proofs.Lists.{filter_where_none, list_any-filter}
 use Rattle.conntrack.specs.declared.connection.Held.{Held}
 use Rattle.conntrack.specs.declared.connection.ConnId.{ConnId}
@@ -156,10 +157,6 @@ module _ (id : ConnId) (direction : Direction) (flags : Flags) (mark now : ℕ) 
   pub apart-touched_at : (held : List Held) → are_apart (touched_at id direction flags mark now held) ≡ are_apart held
   apart-touched_at [] = refl
   apart-touched_at (x ∷ held) = rw ((touched_ends (same_id id x) x).0, (touched_ends (same_id id x) x).1, is_taken-touched_at x.original held, is_taken-touched_at x.reply held, apart-touched_at held)
-
-or-false : (b : Bool) → (b || false) ≡ b
-or-false true = refl
-or-false false = refl
 
 is_taken-push : (tuple : Tuple) (held : List Held) (new : Held) → is_taken tuple (held ++ new ∷ []) ≡ (is_taken tuple held || (same_tuple new.original tuple || same_tuple new.reply tuple))
 is_taken-push tuple held new = list_any-append (is_incoming tuple) held (new ∷ []) ∙ ap (λ b. is_taken tuple held || b) (or-false (same_tuple new.original tuple || same_tuple new.reply tuple))

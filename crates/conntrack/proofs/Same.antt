@@ -12,7 +12,7 @@ use Rattle.conntrack.specs.Phases.{is_lone_syn, is_closing}
 use Rattle.conntrack.specs.declared.belonging.Belonging.TheVariants.{Ends, Found}
 use Rattle.conntrack.specs.declared.connection.Direction.TheVariants.{Original}
 use Rattle.conntrack.specs.declared.limits.Limits.{Limits}
-use Rattle.conntrack.specs.Stories.{Entry, Stands, belongs, live_list}
+use Rattle.conntrack.specs.Stories.{Tracked, StandsAt, belongs, live_list}
 
 pub option_map-find : {A B : Type 0} (f : A → B) (p : B → Bool) (xs : List A) → option_map f (find (λ x. p (f x)) xs) ≡ find p (map f xs)
 option_map-find f p [] = refl
@@ -51,5 +51,5 @@ same_taken held others tuple e =
     by held ∙ ap (λ ns. is_taken tuple ns) e ∙ sym (by others)
 
 -- what is looked up in what is held is what the story tells
-pub belongs_by_story : (limits : Limits) (held : List Held) (now : ℕ) (tuple : Tuple) (flags : Flags) (story : List Entry) → Stands limits held story now → nameless_belonging (belongs_in (live_at limits now held) tuple flags) ≡ nameless_belonging (belongs limits story now tuple flags)
+pub belongs_by_story : (limits : Limits) (held : List Held) (now : ℕ) (tuple : Tuple) (flags : Flags) (story : List Tracked) → StandsAt limits held story now → nameless_belonging (belongs_in (live_at limits now held) tuple flags) ≡ nameless_belonging (belongs limits story now tuple flags)
 belongs_by_story limits held now tuple flags story s = same_belonging (live_at limits now held) (live_list limits story now) tuple flags s.live

@@ -3,6 +3,6 @@ pub mod Limits
 pub mod Phases
 pub mod Held
 pub mod Stories
-pub mod Recorded
+pub mod Updates
 pub mod Trials
 pub mod steps

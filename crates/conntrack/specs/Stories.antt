@@ -32,7 +32,7 @@ pub data What : Type 0 where
   Begins : Beginning → What
   Touches : (connection : ℕ) (direction : Direction) → What
 
-pub record Entry : Type 0 where
+pub record Tracked : Type 0 where
   pub moment : ℕ
   pub flags : Flags
   -- the mark that it left on its connection
@@ -55,7 +55,7 @@ does_touch c (Begins beginning) = false
 does_touch c (Touches k direction) = c == k
 
 -- newest first
-abbrev pub entries_of : ℕ → List Entry → List Entry
+abbrev pub entries_of : ℕ → List Tracked → List Tracked
 entries_of c [] = []
 entries_of c (e ∷ story) =
     if length story == c then e ∷ []
@@ -67,7 +67,7 @@ is_that c None = false
 is_that c (Some k) = c == k
 
 -- whether an entry after its first one ended it
-abbrev pub is_ended : ℕ → List Entry → Bool
+abbrev pub is_ended : ℕ → List Tracked → Bool
 is_ended c [] = false
 is_ended c (e ∷ story) = if length story == c then false else (is_that c e.ended || is_ended c story)
 
@@ -82,7 +82,7 @@ begun (Begins beginning) = beginning
 begun (Touches k direction) = no_beginning
 
 -- what connection c was begun with, by its first entry
-abbrev pub beginning_of : ℕ → List Entry → Beginning
+abbrev pub beginning_of : ℕ → List Tracked → Beginning
 beginning_of c [] = no_beginning
 beginning_of c (e ∷ story) = if length story == c then begun e.what else beginning_of c story
 
@@ -93,7 +93,7 @@ is_way way (Begins beginning) = way Original
 is_way way (Touches k direction) = way direction
 
 -- the flags that were seen in a direction
-abbrev pub flags_in : (Direction → Bool) → List Entry → Flags
+abbrev pub flags_in : (Direction → Bool) → List Tracked → Flags
 flags_in way entries = record {
   syn = list_any (λ e. is_way way e.what && e.flags.syn) entries;
   ack = list_any (λ e. is_way way e.what && e.flags.ack) entries;
@@ -102,19 +102,19 @@ flags_in way entries = record {
 }
 
 -- whether a packet of direction reply came
-abbrev pub has_reply : List Entry → Bool
+abbrev pub has_reply : List Tracked → Bool
 has_reply entries = list_any (λ e. is_way is_reply e.what) entries
 
-abbrev pub moment_of : List Entry → ℕ
+abbrev pub moment_of : List Tracked → ℕ
 moment_of [] = 0
 moment_of (e ∷ entries) = e.moment
 
-abbrev pub mark_of : List Entry → ℕ
+abbrev pub mark_of : List Tracked → ℕ
 mark_of [] = 0
 mark_of (e ∷ entries) = e.mark
 
 -- a connection as its beginning and its entries tell it
-abbrev pub told : ℕ → Beginning → List Entry → Held
+abbrev pub told : ℕ → Beginning → List Tracked → Held
 told c beginning entries = record {
   id = record { 0 = c };
   original = beginning.original;
@@ -128,15 +128,15 @@ told c beginning entries = record {
   dest = beginning.dest;
 }
 
-abbrev pub connection_in : ℕ → List Entry → Held
+abbrev pub connection_in : ℕ → List Tracked → Held
 connection_in c story = told c (beginning_of c story) (entries_of c story)
 
 -- how far connection c is
-abbrev pub phase : ℕ → List Entry → Phase
+abbrev pub phase : ℕ → List Tracked → Phase
 phase c story = phase_by (flags_in is_original (entries_of c story)) (flags_in is_reply (entries_of c story))
 
 -- no entry ended it, and less than its limit has passed since its last packet
-abbrev pub is_alive : Limits → ℕ → List Entry → ℕ → Bool
+abbrev pub is_alive : Limits → ℕ → List Tracked → ℕ → Bool
 is_alive limits c story now = not (is_ended c story) && is_live limits now (connection_in c story)
 
 -- ---- all connections
@@ -147,21 +147,21 @@ number_if_begins n (Begins beginning) = n ∷ []
 number_if_begins n (Touches k direction) = []
 
 -- those ever begun, in that order
-abbrev pub begun_in : List Entry → List ℕ
+abbrev pub begun_in : List Tracked → List ℕ
 begun_in [] = []
 begun_in (e ∷ story) = begun_in story ++ number_if_begins (length story) e.what
 
 -- those alive at a moment, in the order in which they were begun
-abbrev pub live_list : Limits → List Entry → ℕ → List Held
+abbrev pub live_list : Limits → List Tracked → ℕ → List Held
 live_list limits story now =
     map (λ c. connection_in c story) (filter (λ c. is_alive limits c story now) (begun_in story))
 
 -- what a packet with this tuple and these flags belongs to at a moment
-abbrev pub belongs : Limits → List Entry → ℕ → Tuple → Flags → Belonging
+abbrev pub belongs : Limits → List Tracked → ℕ → Tuple → Flags → Belonging
 belongs limits story now tuple flags = belongs_in (live_list limits story now) tuple flags
 
 -- what is held stands for the story at a moment, that of its last entry or a later one: those that are live are those
 -- alive, in order, whatever they are called
-pub record Stands (limits : Limits) (held : List Held) (story : List Entry) (now : ℕ) : Type 0 where
+pub record StandsAt (limits : Limits) (held : List Held) (story : List Tracked) (now : ℕ) : Type 0 where
   pub reached : moment_of story ≤ now
   pub live : map nameless (live_at limits now held) ≡ map nameless (live_list limits story now)

@@ -10,7 +10,7 @@ use Rattle.conntrack.specs.declared.connection.Flags.{Flags}
 use Rattle.conntrack.specs.declared.limits.Limits.{Limits}
 use Rattle.conntrack.specs.Phases.{flags_of, no_flags, seconds}
 use Rattle.conntrack.specs.Limits.{usual_limits}
-use Rattle.conntrack.specs.Stories.{Entry, What, Nothing, Begins, Touches, live_list}
+use Rattle.conntrack.specs.Stories.{Tracked, What, Nothing, Begins, Touches, live_list}
 
 -- ---- tuples
 
@@ -47,60 +47,60 @@ rst_ack = flags_of 20
 
 -- ---- entries, with mark 0
 
-abbrev pub entry : ℕ → Flags → What → Entry
+abbrev pub entry : ℕ → Flags → What → Tracked
 entry moment flags what = record { moment = moment; flags = flags; mark = 0; what = what; ended = None }
 
 -- nothing is translated
 abbrev pub untranslated : Tuple → Tuple → What
 untranslated original reply = Begins (record { original = original; reply = reply; source = None; dest = None })
 
-abbrev pub begins : Tuple → ℕ → Flags → Entry
+abbrev pub begins : Tuple → ℕ → Flags → Tracked
 begins tuple moment flags = entry moment flags (untranslated tuple (inverse tuple))
 
-abbrev pub sends : Direction → ℕ → Flags → Entry
+abbrev pub sends : Direction → ℕ → Flags → Tracked
 sends direction moment flags = entry moment flags (Touches 0 direction)
 
-abbrev pub is_dropped : ℕ → Flags → Entry
+abbrev pub is_dropped : ℕ → Flags → Tracked
 is_dropped moment flags = entry moment flags Nothing
 
 -- the packet ends the first connection and begins another
-abbrev pub begins_anew : Tuple → ℕ → Entry
+abbrev pub begins_anew : Tuple → ℕ → Tracked
 begins_anew tuple moment = record (begins tuple moment syn) { ended = Some 0 }
 
 -- its reply tuple is its original tuple
-abbrev pub begins_as_one : Tuple → Entry
+abbrev pub begins_as_one : Tuple → Tracked
 begins_as_one tuple = entry 0 no_flags (untranslated tuple tuple)
 
 -- ---- stories, newest first
 
 -- A sends SYN at 0 s
-abbrev pub opening : List Entry
+abbrev pub opening : List Tracked
 opening = begins web 0 syn ∷ []
 
 -- and B at 1 s
-abbrev pub crossed : List Entry
+abbrev pub crossed : List Tracked
 crossed = sends Reply (seconds 1) syn ∷ opening
 
 -- each sends SYN and ACK at 2 s and 3 s
-abbrev pub opened : List Entry
+abbrev pub opened : List Tracked
 opened = sends Reply (seconds 3) syn_ack ∷ sends Original (seconds 2) syn_ack ∷ crossed
 
 -- B resets at 1 s
-abbrev pub refused : List Entry
+abbrev pub refused : List Tracked
 refused = sends Reply (seconds 1) rst_ack ∷ opening
 
 -- A sends a datagram of UDP at 0 s
-abbrev pub asked : List Entry
+abbrev pub asked : List Tracked
 asked = begins question 0 no_flags ∷ []
 
 -- ---- what they tell
 
 -- the numbers of the connections that are alive
-abbrev pub alive_by : Limits → ℕ → List Entry → List ℕ
+abbrev pub alive_by : Limits → ℕ → List Tracked → List ℕ
 alive_by limits now story = map (λ h. h.id.0) (live_list limits story now)
 
 -- by the usual limits
-abbrev pub alive_at : ℕ → List Entry → List ℕ
+abbrev pub alive_at : ℕ → List Tracked → List ℕ
 alive_at = alive_by usual_limits
 
 -- limits that tell all kinds and phases apart

@@ -1,7 +1,7 @@
 //! What a table of connections does.
 ghost use Rattle.std.specs.Prelude.{◌≡◌, ◌+◌, ◌<◌, ◌≤◌, ◌↔◌, ℕ, Bool, IsTrue, List, [], ◌++◌, ◌∷◌, Option, length, map, false, Some, IfOk, OnOk, OnErr, IfSome, IfNone};
 ghost use Rattle.conntrack.specs.Held.{IsNoneLater, IsWithin, are_apart, begun_with, belongs_in, connection_of, has_distinct_ids, has_id, is_taken, live_at, most_held, nameless_belonging, taken_out, touched_at, without};
-ghost use Rattle.conntrack.specs.Stories.{Entry, Stands, belongs};
+ghost use Rattle.conntrack.specs.Stories.{Tracked, StandsAt, belongs};
 
 use crate::belonging::Belonging;
 use crate::connection::{Aged, ConnId, Connection, Direction, Flags, Moment};
@@ -60,7 +60,7 @@ pub trait Tracker: Drop {
     /// tell of the table, whatever is looked up.
     fn look(&self, tuple: Tuple, flags: Flags, now: Moment, steps: &mut Steps) -> Belonging
         ensures belonging { result ≡ belongs_in (live_at (limits self.now) now (held self.now)) tuple flags }
-        ensures story { (story : List Entry) → Stands (limits self.now) (held self.now) story now → nameless_belonging result ≡ nameless_belonging (belongs (limits self.now) story now tuple flags) }
+        ensures story { (story : List Tracked) → StandsAt (limits self.now) (held self.now) story now → nameless_belonging result ≡ nameless_belonging (belongs (limits self.now) story now tuple flags) }
         ensures distinct { IsTrue (has_distinct_ids (held self.now)) }
         ensures apart { IsTrue (are_apart (held self.now)) }
         ensures steps { IsWithin most_slots steps.old steps.new };

@@ -4,10 +4,6 @@ use Rattle.std.proofs.Common.{◌≡◌, Option, Some, None, IfSome, subst}
 pub known : {A : Type 0} (o : Option A) (x : A) (P : A → Type 0) → o ≡ Some x → IfSome o P → P x
 known {A} o x P e h = let Q : Option A → Type 0 = λ o. IfSome o P in subst Q e h
 
-pub said_so : {A : Type 0} (o : Option A) (P Q : A → Type 0) → ((x : A) → P x → Q x) → IfSome o P → IfSome o Q
-said_so None P Q f h = tt
-said_so (Some x) P Q f h = f x h
-
 pub nothing : {A : Type 0} (o : Option A) (P : A → Type 0) → ((x : A) → P x) → IfSome o P
 nothing None P h = tt
 nothing (Some x) P h = h x

@@ -1,6 +1,7 @@
 -- A run, from what its parts did.
 use Rattle.std.proofs.Common.{◌≡◌, ◌<◌, ◌≤◌, ◌++◌, ℕ, true, false, Bool, List, [], drop, length, Option, Some, None, IfSome, Result, Ok, Err, IfOk, IfErr, refl, sym, ap, subst, ◌∙◌, inl, inr, arith}
 use Rattle.std.specs.Io.KnownBytes.{Consumes, IsAtEnd}
+use Rattle.list_laws.specs.Options.{IfSome_weaker}
 use Rattle.nft_tree.specs.Tree.{TableTree}
 use Rattle.nft_parser.specs.Spells.{Spells}
 use Rattle.box_file.specs.Box.{PlantTree, IsBox}
@@ -25,7 +26,7 @@ use Rattle.engine.specs.Left.{Devices, Left, SoFar, Unbegun, Untouched}
 use Rattle.engine.specs.steps.Inputs.{IsChecked}
 use Rattle.engine.specs.steps.Replayed.{Reached, Start, coming}
 use Rattle.engine.specs.steps.Written.{Told, Held, SaysWithin, IsWithin, start_of}
-use Rattle.engine.proofs.Known.{known, nothing, said_so}
+use Rattle.engine.proofs.Known.{known, nothing}
 use Rattle.engine.proofs.Replays.{ahead_is}
 use Rattle.engine.proofs.Stories.{OneEntry, one_story}
 
@@ -265,7 +266,7 @@ left_unread rules box trace None old new part fault takes few kept calm refused 
 left_unread rules box trace (Some bytes) old new part fault takes few kept calm refused = inl (refused, unbegun bytes part old new new.unread refl takes few kept calm)
 
 pub refused_unread : (rules box : List ℕ) (input : Option (List ℕ)) (fault : CaptureFault) → Accepted rules box → IfSome input (λ bytes. header_fault bytes ≡ Some fault) → Refuses rules box input (Capture fault)
-refused_unread rules box input fault accepted refused = (accepted, said_so input (λ bytes. header_fault bytes ≡ Some fault) (λ bytes. IsRefused bytes fault) (λ bytes h. inl h) refused)
+refused_unread rules box input fault accepted refused = (accepted, IfSome_weaker input (λ bytes. header_fault bytes ≡ Some fault) (λ bytes. IsRefused bytes fault) (λ bytes h. inl h) refused)
 
 -- there was no room before anything was written
 pub left_untouched : (rules box : List ℕ) (trace : Bool) (input : Option (List ℕ)) (old new : Devices) (part : List ℕ) → Consumes input new.unread part → length part ≤ READ_AHEAD → Untouched old new

@@ -6,6 +6,7 @@ use Rattle.std.specs.Io.KnownBytes.{Consumes, IsAtEnd}
 use Rattle.std.proofs.lemmas.Grind.{flat_map-append}
 use Rattle.std.proofs.lemmas.List.Elements.{All-append}
 use Rattle.std.proofs.lemmas.Option.{same_Some}
+use Rattle.list_laws.specs.Options.{IfSome_weaker}
 use Rattle.pcap_io.specs.declared.format.Format.{Format}
 use Rattle.pcap_io.specs.declared.fault.CaptureFault.{CaptureFault}
 use Rattle.pcap_io.specs.declared.fault.CaptureFault.TheVariants as captures
@@ -21,7 +22,7 @@ use Rattle.engine.specs.declared.replay.Replay.{Replay}
 use Rattle.engine.specs.Meaning.{ending_of}
 use Rattle.engine.specs.steps.Written.{torn_at}
 use Rattle.engine.specs.steps.Replayed.{AllTold, Broke, Cut, Follows, Halted, Interrupts, IsStop, Lacks, PartTold, Plays, Reached, Replayed, Start, Took, coming, ending_at}
-use Rattle.engine.proofs.Known.{known, said_so}
+use Rattle.engine.proofs.Known.{known}
 use Rattle.engine.proofs.Stories.{grows_more, latest_after, latest_more, told_more}
 
 -- these records were taken, and the reader has these bytes left behind those that are held
@@ -328,7 +329,7 @@ pub ended : (replay : Replay) (new : Seen) (start : Start) (format : Format) (a 
 ended replay new start format a unread after w r c same fetched few says =
     replayed replay new start format Whole a unread after w r c fetched few
     (in_format replay.records.format format Whole replay.records.count (ahead replay.records unread) (ahead new after) same
-    (said_so (ahead replay.records unread) (λ bytes. Ends replay.records.format Whole replay.records.count bytes × (ahead new after ≡ Some []))
+    (IfSome_weaker (ahead replay.records unread) (λ bytes. Ends replay.records.format Whole replay.records.count bytes × (ahead new after ≡ Some []))
     (λ bytes. Ends replay.records.format Whole replay.records.count bytes × (ahead new after ≡ Some bytes)) (λ bytes h. (h.0, h.1 ∙ ap Some (sym h.0))) says))
 
 pub stops : (fault : CaptureFault) → IsOfRecords (Refused fault) → IsStop (Some fault)
@@ -364,21 +365,17 @@ torn_only captures.LinkType torn e = cc
 
 -- ---- by the fault
 
-pub not_ready : (b : Bool) → (b ≡ true → ⊥) → b ≡ false
-not_ready true h = absurd (h refl)
-not_ready false h = refl
-
 -- a read failed
 pub interrupts_cut : (start : Start) (format : Format) (a unread w r : Option (List ℕ)) (before after : ℕ) → after ≡ one_more before → IfSome a (λ bytes. Cut start format bytes unread w r)
     → IfSome a (λ bytes. Interrupts start format bytes unread w r before after faults.Device)
-interrupts_cut start format a unread w r before after failed h = said_so a (λ bytes. Cut start format bytes unread w r) (λ bytes. Interrupts start format bytes unread w r before after faults.Device) (λ bytes c. inl (c, failed)) h
+interrupts_cut start format a unread w r before after failed h = IfSome_weaker a (λ bytes. Cut start format bytes unread w r) (λ bytes. Interrupts start format bytes unread w r before after faults.Device) (λ bytes c. inl (c, failed)) h
 
 -- a writer failed
 pub interrupts_halted : (start : Start) (format : Format) (a unread w r : Option (List ℕ)) (before after : ℕ) → after ≡ before → IfSome a (λ bytes. Halted start format bytes unread w r)
     → IfSome a (λ bytes. Interrupts start format bytes unread w r before after faults.Device)
-interrupts_halted start format a unread w r before after calm h = said_so a (λ bytes. Halted start format bytes unread w r) (λ bytes. Interrupts start format bytes unread w r before after faults.Device) (λ bytes c. inr (c, calm)) h
+interrupts_halted start format a unread w r before after calm h = IfSome_weaker a (λ bytes. Halted start format bytes unread w r) (λ bytes. Interrupts start format bytes unread w r before after faults.Device) (λ bytes c. inr (c, calm)) h
 
 -- there was no room for a record
 pub interrupts_lacks : (start : Start) (format : Format) (a unread w r : Option (List ℕ)) (before after : ℕ) → after ≡ before → IfSome a (λ bytes. Lacks start format bytes unread w r)
     → IfSome a (λ bytes. Interrupts start format bytes unread w r before after faults.Memory)
-interrupts_lacks start format a unread w r before after calm h = said_so a (λ bytes. Lacks start format bytes unread w r) (λ bytes. Interrupts start format bytes unread w r before after faults.Memory) (λ bytes c. (c, calm)) h
+interrupts_lacks start format a unread w r before after calm h = IfSome_weaker a (λ bytes. Lacks start format bytes unread w r) (λ bytes. Interrupts start format bytes unread w r before after faults.Memory) (λ bytes c. (c, calm)) h

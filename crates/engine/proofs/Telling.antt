@@ -3,6 +3,7 @@ use Rattle.std.proofs.Common.{◌≡◌, ℕ, Bool, List, [], ◌∷◌, ◌++�
 use Rattle.std.specs.List.{flat_map}
 use Rattle.std.specs.Io.KnownBytes.{Appends, Keeps}
 use Rattle.std.proofs.KnownBytes.{Appends-kept, Appends-trans}
+use Rattle.pcap_io.specs.steps.Written.{part_same, part_whole, part_first, part_after, gets_none, gets_more, gets_part}
 use Rattle.pcap_io.specs.Pcap.{Recorded}
 use Rattle.pcap_io.specs.Sll2.{Sent, sll2_record}
 use Rattle.pcap_io.specs.Counting.{AppendsPart}
@@ -20,7 +21,7 @@ use Rattle.engine.specs.declared.replay.Replay.{Replay}
 use Rattle.engine.specs.steps.Replayed.{AllTold, Broke, PartTold, Plays, Start, Took}
 use Rattle.engine.specs.steps.Written.{Finished, Unfinished}
 use Rattle.engine.proofs.Stories.{captured_more}
-use Rattle.engine.proofs.Writes.{appends_same, part_same, part_whole, part_first, part_after, gets_all, gets_more, gets_none, gets_part, gets_so_far, gets_some}
+use Rattle.engine.proofs.Writes.{appends_same, gets_all, gets_so_far, gets_some}
 
 abbrev pub replay_of : Shown → Known → Replay → Waiting → Replay
 replay_of engine numbers replay sink = record { engine = engine; numbers = numbers; records = replay.records; sink = sink }

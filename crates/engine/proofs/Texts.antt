@@ -15,6 +15,8 @@ use Rattle.engine.specs.declared.fault.RunFault.TheVariants.{Rules, Box, Capture
 use Rattle.pcap_io.specs.declared.counted.Counted.{Counted}
 use Rattle.std.specs.Io.KnownBytes.{Keeps}
 use Rattle.std.proofs.KnownBytes.{Keeps-refl}
+use Rattle.pcap_io.specs.steps.Written.{part_same, part_none}
+use Rattle.list_laws.specs.Options.{IfSome_weaker}
 use Rattle.engine.specs.declared.replay.Replay.{Replay}
 use Rattle.engine.specs.Meaning.{ending_of}
 use Rattle.engine.specs.Refusals.{IsOfRecord, fault_at}
@@ -22,8 +24,7 @@ use Rattle.engine.specs.Left.{Devices, OneFailed, Untouched}
 use Rattle.engine.specs.steps.Replayed.{AllTold, Halted, Interrupts, IsStop, OneOfTwo, PartTold, Plays, Replayed, Start, coming, ending_at}
 use Rattle.engine.specs.steps.Written.{Ended, Finished, IsWithin, SaysWithin, Told, Unfinished, start_of, torn_at}
 use Rattle.engine.proofs.Stories.{story_length}
-use Rattle.engine.proofs.Writes.{part_none, part_same}
-use Rattle.engine.proofs.Known.{nothing, said_so}
+use Rattle.engine.proofs.Known.{nothing}
 
 -- ---- how the records stop
 
@@ -192,7 +193,7 @@ pub says_begun : {T : Type 0} (setup : Setup) (trace : Bool) (s : Seen) (old new
     → new.unread ≡ old.unread → new.reads_failed ≡ old.reads_failed → old.report ≡ new.report → AppendsPart old.sent new.sent sll2_header → (fault ≡ Memory → Untouched old new)
     → IfSome (coming s old.unread) (λ bytes. SaysWithin setup trace s.format bytes old new fault)
 says_begun setup trace s old new Device is few same calm kept part none =
-    said_so (coming s old.unread) (λ bytes. Halted (start_of setup trace old) s.format bytes old.unread new.sent new.report) (λ bytes. SaysWithin setup trace s.format bytes old new Device)
+    IfSome_weaker (coming s old.unread) (λ bytes. Halted (start_of setup trace old) s.format bytes old.unread new.sent new.report) (λ bytes. SaysWithin setup trace s.format bytes old new Device)
     (λ bytes h. inl (inr (subst (λ (u : Option (List ℕ)). Halted (start_of setup trace old) s.format bytes u new.sent new.report) (sym same) h, calm))) (halted_open (start_of setup trace old) s old.unread new.sent new.report few kept part)
 says_begun setup trace s old new Memory is few same calm kept part none = nothing (coming s old.unread) (λ bytes. SaysWithin setup trace s.format bytes old new Memory) (λ bytes. inr (same, none refl, calm))
 says_begun setup trace s old new (Rules fault) (inl e) few same calm kept part none = cc

@@ -7,7 +7,8 @@ use Rattle.filter_vm.specs.declared.code.Start.{Start}
 use Rattle.compiler.specs.Compiled.{total_cost}
 use Rattle.hook_runs.specs.declared.parts.Part.TheVariants as parts
 use Rattle.hook_runs.specs.declared.parts.Parts.{Parts}
-use Rattle.hook_runs.specs.Parts.{all_cost, dstnat, srcnat}
+use Rattle.nft_tree.specs.Priorities.{DSTNAT, SRCNAT}
+use Rattle.hook_runs.specs.Parts.{all_cost}
 use Rattle.hook_runs.specs.steps.Starts.{AreParts, cost_of, late, ready}
 use Rattle.hook_runs.specs.steps.Starts.{after, before, filters, is_filter, is_translator, starts_before, translators}
 
@@ -32,8 +33,8 @@ costs_little checked code p are =
     let to_source = ap cost_of (are parts.ToSource) in
     let after_source = ap cost_of (are parts.AfterSource) in
     let a = both_sides (negsuc 198) (filters code.prerouting.items) in
-    let b = both_sides dstnat (late code) in
-    let c = both_sides srcnat (filters code.postrouting.items) in
+    let b = both_sides DSTNAT (late code) in
+    let c = both_sides SRCNAT (filters code.postrouting.items) in
     let d = both_types code.prerouting.items in
     let e = both_types code.input.items in
     let f = both_types code.forward.items in

@@ -1,24 +1,16 @@
 -- Base chains in order stay in order when some are left out.
 use Rattle.std.proofs.Common.{◌≡◌, Bool, true, false, not, ◌&&◌, cond, List, [], ◌∷◌, ◌++◌, inl, inr, filter, refl, sym, ap, ◌∙◌, subst}
-use Rattle.std.specs.Prelude.{Contains, int_lt}
-use Rattle.std.specs.Cmp.{IsStrictWeakOrder}
-use Rattle.std.specs.Ordering.{int_cmp, is_lt}
-use Rattle.std.specs.declared.cmp.Ordering.TheVariants.{Less, Equal, Greater}
+use Rattle.std.specs.Prelude.{Contains}
 use Rattle.std.specs.List.Sorted.{ties}
 use Rattle.std.proofs.lemmas.Bool.{false≢true}
-use Rattle.std.proofs.lemmas.Cmp.{int_cmp_total}
-use Rattle.std.proofs.lemmas.List.Sorted.{Contains-permutation, IsPermutation-filter_both, ranks_by}
+use Rattle.std.proofs.lemmas.List.Sorted.{Contains-permutation, IsPermutation-filter_both}
 use Rattle.std.proofs.lemmas.List.Kept.{IsSortedBy-filter}
 use Rattle.std.proofs.lemmas.List.Elements.{All-contains, All-contains_itself, All-filter, Contains-append_cases, filter_agree, filter_passes}
-use Rattle.rule_meaning.specs.Hooks.{Base, InOrder, priority, runs_before}
+use Rattle.rule_meaning.proofs.Priorities.{priorities}
+use Rattle.list_laws.specs.Tests.{and-flip}
+use Rattle.rule_meaning.specs.Hooks.{Base, InOrder, runs_before}
 
 -- ---- filters
-
-either_way : (b c : Bool) → b && c ≡ c && b
-either_way true true = refl
-either_way true false = refl
-either_way false true = refl
-either_way false false = refl
 
 module _ {X : Type 0} where
   twice_by : (p q : X → Bool) (x : X) (b : Bool) (ps both : List X) → filter q ps ≡ both → filter q (cond b (x ∷ ps) ps) ≡ cond (b && q x) (x ∷ both) both
@@ -31,7 +23,7 @@ module _ {X : Type 0} where
   filter_twice p q (x ∷ xs) = twice_by p q x (p x) (filter p xs) (filter (λ y. p y && q y) xs) (filter_twice p q xs)
 
   filter_swap : (p q : X → Bool) (xs : List X) → filter q (filter p xs) ≡ filter p (filter q xs)
-  filter_swap p q xs = filter_twice p q xs ∙ filter_agree (λ x. p x && q x) (λ x. q x && p x) (λ x. either_way (p x) (q x)) xs ∙ sym (filter_twice q p xs)
+  filter_swap p q xs = filter_twice p q xs ∙ filter_agree (λ x. p x && q x) (λ x. q x && p x) (λ x. and-flip (p x) (q x)) xs ∙ sym (filter_twice q p xs)
 
   -- an element that passes is kept
   Contains-filter : (p : X → Bool) (xs : List X) (x : X) → Contains xs x → p x ≡ true → Contains (filter p xs) x
@@ -43,22 +35,6 @@ module _ {X : Type 0} where
       ]
 
 -- ---- priorities are integers
-
-by_test : (b c : Bool) → is_lt (cond b Less (cond c Greater Equal)) ≡ b
-by_test true c = refl
-by_test false true = refl
-by_test false false = refl
-
-by_number : (x y : Base) → is_lt (int_cmp (priority x) (priority y)) ≡ runs_before x y
-by_number x y = by_test (int_lt (priority x) (priority y)) (int_lt (priority y) (priority x))
-
-priorities : IsStrictWeakOrder runs_before
-priorities =
-    let r : IsStrictWeakOrder (λ (x y : Base). is_lt (int_cmp (priority x) (priority y))) = ranks_by int_cmp_total priority in
-    record {
-      one_way = λ x y e. sym (by_number y x) ∙ r.one_way x y (by_number x y ∙ e);
-      chain = λ x y z e e'. sym (by_number x z) ∙ r.chain x y z (by_number x y ∙ e) (by_number y z ∙ e');
-    }
 
 -- ---- order
 

@@ -16,11 +16,12 @@ use Rattle.rule_meaning.specs.Hooks.{End, Passage, RunsBase, GoesOn, Stops, Then
 use Rattle.filter_vm.specs.declared.code.Code.{Code}
 use Rattle.filter_vm.specs.declared.code.Start.{Start}
 use Rattle.filter_vm.specs.Machine.{starts_of, end_of}
-use Rattle.compiler.specs.Compiled.{Told, HasStarts, RunsAlike, told, told_of}
+use Rattle.compiler.specs.Compiled.{StartHead, HasStarts, RunsAlike, told, told_of}
 use Rattle.hook_runs.specs.declared.parts.Part.{Part}
 use Rattle.hook_runs.specs.declared.parts.Part.TheVariants as parts
 use Rattle.hook_runs.specs.declared.parts.Parts.{Parts}
-use Rattle.hook_runs.specs.Parts.{bases_in, dstnat, is_late, srcnat}
+use Rattle.nft_tree.specs.Priorities.{DSTNAT, SRCNAT}
+use Rattle.hook_runs.specs.Parts.{bases_in, is_late}
 use Rattle.hook_runs.specs.steps.Starts.{AllLead, AreParts, AreStarts, Leads, goes_on, in_turn, then_on}
 use Rattle.hook_runs.specs.steps.Starts.{after, before, filters, is_filter, is_translator, late, starts_before}
 use Rattle.hook_runs.specs.steps.Starts.{runs_in, starts_in, translators}
@@ -111,10 +112,10 @@ module _ (checked : CheckedTree) (code : Code) where
       }
 
   earlier : (limit : ℤ) (test : Base → Bool) (ss : List Start) → AreStarts checked code test ss → AreStarts checked code (λ b. test b && is_below limit b) (before limit ss)
-  earlier limit = narrowed (starts_before limit) (is_below limit) (λ s b same. ap (λ (t : Told). int_lt t.priority limit) same)
+  earlier limit = narrowed (starts_before limit) (is_below limit) (λ s b same. ap (λ (t : StartHead). int_lt t.priority limit) same)
 
   later : (limit : ℤ) (test : Base → Bool) (ss : List Start) → AreStarts checked code test ss → AreStarts checked code (λ b. test b && not (is_below limit b)) (after limit ss)
-  later limit = narrowed (λ s. not (starts_before limit s)) (λ b. not (is_below limit b)) (λ s b same. ap (λ (t : Told). not (int_lt t.priority limit)) same)
+  later limit = narrowed (λ s. not (starts_before limit s)) (λ b. not (is_below limit b)) (λ s b same. ap (λ (t : StartHead). not (int_lt t.priority limit)) same)
 
   -- ---- those of a hook
 
@@ -140,12 +141,12 @@ module _ (checked : CheckedTree) (code : Code) where
         record { order = has.order; in_order = has.in_order; lead = lead_all hook (starts_of code hook) has.order has.are (All-contains_itself (starts_of code hook)) stand }
 
     of_filters : (hook : Hook) → AreStarts checked code (filters_at hook) (filters (starts_of code hook))
-    of_filters hook = narrowed is_filter (λ b. meaning.is_filter b.head.kind) (λ s b same. ap (λ (t : Told). not t.is_nat) same ∙ twice (meaning.is_filter b.head.kind)) (stands_at hook) (starts_of code hook) (at_hook hook)
+    of_filters hook = narrowed is_filter (λ b. meaning.is_filter b.head.kind) (λ s b same. ap (λ (t : StartHead). not t.is_nat) same ∙ twice (meaning.is_filter b.head.kind)) (stands_at hook) (starts_of code hook) (at_hook hook)
 
     of_translators : (hook : Hook) → AreStarts checked code (translates_at hook) (translators (starts_of code hook))
     of_translators hook =
         narrowed is_translator (λ b. not (meaning.is_filter b.head.kind))
-        (λ s b same. ap (λ (t : Told). t.is_nat) same) (stands_at hook) (starts_of code hook) (at_hook hook)
+        (λ s b same. ap (λ (t : StartHead). t.is_nat) same) (stands_at hook) (starts_of code hook) (at_hook hook)
 
     of_late : AreStarts checked code is_late (late code)
     of_late = alike (λ b. filters_at hooks.Prerouting b && not (is_below (negsuc 198) b)) is_late (λ b. once (filters_at hooks.Prerouting b) (is_below (negsuc 198) b)) (late code) (later (negsuc 198) (filters_at hooks.Prerouting) (filters code.prerouting.items) (of_filters hooks.Prerouting))
@@ -154,14 +155,14 @@ module _ (checked : CheckedTree) (code : Code) where
 
     of_part : (part : Part) → AreStarts checked code (bases_in part) (runs_in code part)
     of_part parts.Early = earlier (negsuc 198) (filters_at hooks.Prerouting) (filters code.prerouting.items) (of_filters hooks.Prerouting)
-    of_part parts.BeforeDestination = earlier dstnat is_late (late code) of_late
+    of_part parts.BeforeDestination = earlier DSTNAT is_late (late code) of_late
     of_part parts.ToDestination = of_translators hooks.Prerouting
-    of_part parts.AfterDestination = later dstnat is_late (late code) of_late
+    of_part parts.AfterDestination = later DSTNAT is_late (late code) of_late
     of_part parts.Input = of_filters hooks.Input
     of_part parts.Forward = of_filters hooks.Forward
-    of_part parts.BeforeSource = earlier srcnat (filters_at hooks.Postrouting) (filters code.postrouting.items) (of_filters hooks.Postrouting)
+    of_part parts.BeforeSource = earlier SRCNAT (filters_at hooks.Postrouting) (filters code.postrouting.items) (of_filters hooks.Postrouting)
     of_part parts.ToSource = of_translators hooks.Postrouting
-    of_part parts.AfterSource = later srcnat (filters_at hooks.Postrouting) (filters code.postrouting.items) (of_filters hooks.Postrouting)
+    of_part parts.AfterSource = later SRCNAT (filters_at hooks.Postrouting) (filters code.postrouting.items) (of_filters hooks.Postrouting)
 
     pub of_parts : (p : Parts) → AreParts code p → (part : Part) → AreStarts checked code (bases_in part) (starts_in p part)
     of_parts p are part = subst (AreStarts checked code (bases_in part)) (sym (are part)) (of_part part)

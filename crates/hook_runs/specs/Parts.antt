@@ -1,21 +1,14 @@
 -- The base chains of a hook that run in one go, and what they cost.
-use Rattle.std.specs.Prelude.{ℕ, ◌+◌, ℤ, pos, negsuc, not, ◌&&◌, Bool, List}
+use Rattle.std.specs.Prelude.{ℕ, ◌+◌, not, ◌&&◌, Bool, List}
 use Rattle.nft_tree.specs.declared.chain.Hook.TheVariants as hooks
+use Rattle.nft_tree.specs.Priorities.{DSTNAT, SRCNAT}
 use Rattle.nft_tree.specs.Tree.{TableTree}
 use Rattle.box_file.specs.Box.{PlantTree}
 use Rattle.rule_meaning.specs.Hooks.{Base, filters_at, translates_at, is_below, is_early}
 use Rattle.hook_runs.specs.declared.parts.Part.{Part}
 use Rattle.hook_runs.specs.declared.parts.Part.TheVariants as parts
 
--- the priority at which destinations are translated (nft(8), "Standard priority names": dstnat, -100)
-abbrev pub dstnat : ℤ
-dstnat = negsuc 99
-
--- the priority at which sources are translated (likewise: srcnat, 100)
-abbrev pub srcnat : ℤ
-srcnat = pos 100
-
--- the filter chains on prerouting that run once a connection was looked for, at -200 (NF_IP_PRI_CONNTRACK)
+-- the filter chains on prerouting that run once a connection was looked for
 abbrev pub is_late : Base → Bool
 is_late b = filters_at hooks.Prerouting b && not (is_early b)
 
@@ -23,14 +16,14 @@ is_late b = filters_at hooks.Prerouting b && not (is_early b)
 -- of the priority of a translation run after it
 abbrev pub bases_in : Part → Base → Bool
 bases_in parts.Early = is_early
-bases_in parts.BeforeDestination = λ b. is_late b && is_below dstnat b
+bases_in parts.BeforeDestination = λ b. is_late b && is_below DSTNAT b
 bases_in parts.ToDestination = translates_at hooks.Prerouting
-bases_in parts.AfterDestination = λ b. is_late b && not (is_below dstnat b)
+bases_in parts.AfterDestination = λ b. is_late b && not (is_below DSTNAT b)
 bases_in parts.Input = filters_at hooks.Input
 bases_in parts.Forward = filters_at hooks.Forward
-bases_in parts.BeforeSource = λ b. filters_at hooks.Postrouting b && is_below srcnat b
+bases_in parts.BeforeSource = λ b. filters_at hooks.Postrouting b && is_below SRCNAT b
 bases_in parts.ToSource = translates_at hooks.Postrouting
-bases_in parts.AfterSource = λ b. filters_at hooks.Postrouting b && not (is_below srcnat b)
+bases_in parts.AfterSource = λ b. filters_at hooks.Postrouting b && not (is_below SRCNAT b)
 
 -- what each part costs: how many statements its base chains start at most, and 1 more for each chain; each base chain
 -- that isn't of hook output, nor of type nat on input or forward, runs in one part at what it costs

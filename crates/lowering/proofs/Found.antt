@@ -1,11 +1,12 @@
 -- What stands under a name.
-use Rattle.std.proofs.Common.{◌≡◌, ℕ, zero, suc, ◌<◌, Bool, true, false, cond, ◌||◌, List, [], ◌∷◌, length, get_or, map, Option, Some, None, refl, sym, ap, subst, ◌∙◌, arith}
+use Rattle.std.proofs.Common.{◌≡◌, ℕ, zero, suc, ◌<◌, Bool, true, false, cond, List, [], ◌∷◌, length, get_or, map, Option, Some, None, refl, sym, ap, subst, ◌∙◌, arith}
 use Rattle.std.specs.Prelude.{slice_get, find}
 use Rattle.std.specs.List.{list_any}
 use Rattle.std.specs.Option.{option_map}
 use Rattle.std.specs.Str.{bytes_eq}
 use Rattle.std.proofs.lemmas.List.{length-map}
 use Rattle.std.proofs.Math.ListN.{get_or-map}
+use Rattle.std.proofs.lemmas.Bool.{or_parts, or_from}
 use Rattle.nft_tree.specs.Tree as tree
 use Rattle.nft_tree.specs.Tree.{Text, ItemTree, SetTree, TableTree}
 use Rattle.nft_tree.specs.Parts.{sets_of}
@@ -36,30 +37,22 @@ absent name_of name (x ∷ xs) e = absent-step (bytes_eq (name_of x) name) x (pl
 
 -- ---- sets of a table whose types fit
 
-neither : (a b : Bool) → (a || b) ≡ false → (a ≡ false) × (b ≡ false)
-neither false b e = (refl, e)
-neither true b e = absurd cc
-
-both-false : (a b : Bool) → a ≡ false → b ≡ false → (a || b) ≡ false
-both-false false b e f = f
-both-false true b e f = absurd cc
-
 map-inside : {A B : Type 0} (f : A → B) (xs : List A) (i : ℕ) → i < length xs → i < length (map f xs)
 map-inside f xs i inside = subst (λ (n : ℕ). i < n) (sym (length-map xs f)) inside
 
 none-at : {A : Type 0} (test : A → Bool) (xs : List A) (i : ℕ) (d : A) → i < length xs → list_any test xs ≡ false → test (get_or xs i d) ≡ false
 none-at test [] i d inside e = absurd (omega arith)
-none-at test (x ∷ xs) zero d inside e = (neither (test x) (list_any test xs) e).0
-none-at test (x ∷ xs) (suc i) d inside e = none-at test xs i d (omega arith) (neither (test x) (list_any test xs) e).1
+none-at test (x ∷ xs) zero d inside e = (or_parts (test x) (list_any test xs) e).0
+none-at test (x ∷ xs) (suc i) d inside e = none-at test xs i d (omega arith) (or_parts (test x) (list_any test xs) e).1
 
 sets-fit : (t : TableTree) (items : List ItemTree) → list_any (item_misfits t) items ≡ false → list_any set_misfits (sets_of (record t { items = items })) ≡ false
 sets-fit t [] e = refl
 sets-fit t (tree.comment text ∷ items) e = sets-fit t items e
-sets-fit t (tree.chain c ∷ items) e = sets-fit t items (neither (item_misfits t (tree.chain c)) (list_any (item_misfits t) items) e).1
-sets-fit t (tree.map_item m ∷ items) e = sets-fit t items (neither (item_misfits t (tree.map_item m)) (list_any (item_misfits t) items) e).1
+sets-fit t (tree.chain c ∷ items) e = sets-fit t items (or_parts (item_misfits t (tree.chain c)) (list_any (item_misfits t) items) e).1
+sets-fit t (tree.map_item m ∷ items) e = sets-fit t items (or_parts (item_misfits t (tree.map_item m)) (list_any (item_misfits t) items) e).1
 sets-fit t (tree.set s ∷ items) e =
-    let parts = neither (set_misfits s) (list_any (item_misfits t) items) e in
-    both-false (set_misfits s) (list_any set_misfits (sets_of (record t { items = items }))) parts.0 (sets-fit t items parts.1)
+    let parts = or_parts (set_misfits s) (list_any (item_misfits t) items) e in
+    or_from (set_misfits s) (list_any set_misfits (sets_of (record t { items = items }))) parts.0 (sets-fit t items parts.1)
 
 -- a set that stands at a place in the table isn't too wide
 pub narrow-at : {X : Type 0} (t : TableTree) (f : X → SetTree) (xs : List X) (i : ℕ) (x : X) → table_misfits t ≡ false → map f xs ≡ sets_of t → i < length xs → x ≡ get_or xs i x → is_too_wide (key_kinds (f x).key) ≡ false
@@ -67,4 +60,4 @@ narrow-at t f xs i x e all inside is =
     let each : list_any set_misfits (map f xs) ≡ false = subst (λ ss. list_any set_misfits ss ≡ false) (sym all) (sets-fit t t.items e) in
     let here : set_misfits (get_or (map f xs) i (f x)) ≡ false = none-at set_misfits (map f xs) i (f x) (map-inside f xs i inside) each in
     let same : get_or (map f xs) i (f x) ≡ f x = get_or-map f xs i x ∙ ap f (sym is) in
-    (neither (is_too_wide (key_kinds (f x).key)) _ (subst (λ s. set_misfits s ≡ false) same here)).0
+    (or_parts (is_too_wide (key_kinds (f x).key)) _ (subst (λ s. set_misfits s ≡ false) same here)).0

@@ -1,9 +1,10 @@
 -- Tables gathered element by element.
-use Rattle.std.proofs.Common.{◌≡◌, ℕ, ◌+◌, ◌<◌, ◌≤◌, Bool, true, false, ◌||◌, cond, List, [], ◌∷◌, ◌++◌, length, get_or, take, map, Option, Some, None, refl, sym, ap, ap₂, subst, ◌∙◌}
+use Rattle.std.proofs.Common.{◌≡◌, ℕ, ◌+◌, ◌≤◌, Bool, true, false, ◌||◌, cond, List, [], ◌∷◌, ◌++◌, length, take, map, Option, Some, None, refl, sym, ap, ap₂, subst, ◌∙◌}
 use Rattle.std.specs.Prelude.{is_some}
 use Rattle.std.specs.Option.{option_map, option_or}
 use Rattle.std.specs.List.{list_any}
-use Rattle.std.proofs.lemmas.List.{take_more, take_all, map_push}
+use Rattle.std.proofs.lemmas.List.{take_all}
+use Rattle.std.proofs.Math.Bool.{or-false}
 use Rattle.nft_tree.specs.declared.kind.Kind.{Kind}
 use Rattle.nft_tree.specs.Tree.{DataTree, ElementTree, PairTree, TableTree}
 use Rattle.box_file.specs.Box.{PlantTree}
@@ -14,10 +15,6 @@ use Rattle.rule_meaning.specs.declared.event.Decision.{Decision}
 use Rattle.rule_meaning.specs.Statements.{decision_of}
 use Rattle.rule_meaning.specs.Sets.{data_verdict, spans, key_numbers, pair_gives, pairs_give}
 use Rattle.lowering.specs.steps.Tables.{Table, IsSetTable, entry_gives}
-
--- one more turn of a loop over a list
-pub map-more : {A B : Type 0} (f : A → B) (xs : List A) (i : ℕ) (x : A) → i < length xs → x ≡ get_or xs i x → map f (take (i + 1) xs) ≡ map f (take i xs) ++ f x ∷ []
-map-more f xs i x inside is = ap (map f) (take_more xs i x inside ∙ ap (λ y. take i xs ++ y ∷ []) (sym is)) ∙ map_push f (take i xs) x
 
 pub map-all : {A B : Type 0} (f : A → B) (xs : List A) (i : ℕ) → length xs ≤ i → map f (take i xs) ≡ map f xs
 map-all f xs i le = ap (map f) (take_all i xs le)
@@ -41,10 +38,6 @@ look-more [] r v n = refl
 look-more (x ∷ xs) r v n = ap (cond (in_range x.0 n) (Some x.1)) (look-more xs r v n) ∙ or-cond (in_range x.0 n) x.1 (look xs n) (cond (in_range r n) (Some v) None)
 
 -- ---- sets
-
-or-false : (b : Bool) → (b || false) ≡ b
-or-false true = refl
-or-false false = refl
 
 or-or : (a b c : Bool) → (a || (b || c)) ≡ (a || b || c)
 or-or true b c = refl

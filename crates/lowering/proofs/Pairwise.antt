@@ -1,8 +1,9 @@
 -- Lists that go together place by place.
 use Rattle.std.proofs.Common.{◌≡◌, ℕ, zero, suc, ◌+◌, ◌<◌, ◌≤◌, List, [], ◌∷◌, ◌++◌, length, get_or, take, map, Some, refl, sym, subst, ◌∙◌}
 use Rattle.std.specs.Prelude.{slice_get}
+use Rattle.list_laws.specs.Lists.{map-more}
 use Rattle.lowering.specs.steps.Tables.{AllTwo, none, more}
-use Rattle.lowering.proofs.Gathered.{map-more, map-all}
+use Rattle.lowering.proofs.Gathered.{map-all}
 
 two-push : {A B : Type 0} (P : A → B → Type 0) {xs : List A} {ys : List B} (x : A) (y : B) → AllTwo P xs ys → P x y → AllTwo P (xs ++ x ∷ []) (ys ++ y ∷ [])
 two-push P x y none p = more x y [] [] p none

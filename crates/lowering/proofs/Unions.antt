@@ -2,8 +2,8 @@
 use Rattle.std.proofs.Common.{◌≡◌, ℕ, ◌+◌, ◌<◌, List, [], ◌∷◌, ◌++◌, length, get_or, take, map, bit_or, sym, ap, ap₂, ◌∙◌}
 use Rattle.std.proofs.lemmas.List.{map_push}
 use Rattle.std.proofs.lemmas.List.Sums.{fold_push}
+use Rattle.list_laws.specs.Lists.{map-more}
 use Rattle.rule_meaning.specs.Matches.{union}
-use Rattle.lowering.proofs.Gathered.{map-more}
 
 union-push : (numbers : List ℕ) (n : ℕ) → bit_or (union numbers) n ≡ union (numbers ++ n ∷ [])
 union-push numbers n = sym (fold_push bit_or 0 numbers n)

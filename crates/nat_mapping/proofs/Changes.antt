@@ -2,7 +2,8 @@
 use Rattle.std.specs.Prelude.{◌==◌, ◌&&◌, if◌then◌else◌}
 use Rattle.std.proofs.Common.{◌≡◌, ℕ, ◌<◌, ◌+◌, Bool, true, false, cond, is_some, Option, Some, None, refl, sym, ◌∙◌, ap, subst, inl, inr, arith}
 use Rattle.std.proofs.lemmas.Bool.{cases_Bool, cond-true, cond-false, and_parts, and_from, and_right, eqb-true, eq-eqb, false_from_ne_true}
-use Rattle.std.proofs.lemmas.Option.{none-some, same_Some}
+use Rattle.std.proofs.lemmas.Option.{same_Some}
+use Rattle.list_laws.specs.Options.{none_or_some}
 use Rattle.ip_headers.specs.declared.tuple.Endpoint.{Endpoint}
 use Rattle.ip_headers.specs.declared.tuple.Mapping.{Mapping}
 use Rattle.nat_mapping.specs.declared.keys.SourceKey.{SourceKey}
@@ -19,9 +20,6 @@ use Rattle.nat_mapping.proofs.Sets.{Sets}
 -- a port of a pool is taken or given, and no other
 abbrev pub PortSet : (old new : PoolKey → ℕ → Bool) (key : PoolKey) (port : ℕ) (b : Bool) → Type 0
 PortSet old new key port b = (q : PoolKey) (p : ℕ) → has_pool q.kind ≡ true → new q p ≡ (if same_pool key q && p == port then b else old q p)
-
-no_value : {X : Type 0} (o : Option X) (x : X) → o ≡ None → o ≡ Some x → ⊥
-no_value o x none some = none-some x (sym none ∙ some)
 
 -- the ports stand for the map of external endpoints again
 ports_set : (inbounds inbounds' : InboundKey → Option Endpoint) (taken taken' : PoolKey → ℕ → Bool) (m : Mapping) (w : Option Endpoint) → ArePorts inbounds taken → Sets inbounds inbounds' (inbound_key_of m) w → PortSet taken taken' (pool_key_of m) m.external.port (is_some w) → ArePorts inbounds' taken'
@@ -77,7 +75,7 @@ module _ (sources sources' : SourceKey → Option Holding) (inbounds inbounds' :
       by (Some i) is =
           let back = sound.back (inbound_key_of m) i is in
           let here : source_at (inbound_key_of m) i ≡ source_key_of m = ap (λ x. record { kind = m.kind; internal = x; address = m.external.address }) (fits i is) in
-          absurd (no_value (sources (source_key_of m)) back.0 none (ap sources (sym here) ∙ back.1.0))
+          absurd (none_or_some (sources (source_key_of m)) back.0 none (ap sources (sym here) ∙ back.1.0))
 
   -- a mapping begins
   pub sound_begun : (one : Holding) → one.port ≡ m.external.port → 0 < one.holders → sources (source_key_of m) ≡ None → inbounds (inbound_key_of m) ≡ None → Sets sources sources' (source_key_of m) (Some one) → Sets inbounds inbounds' (inbound_key_of m) (Some m.internal) → PortSet taken taken' (pool_key_of m) m.external.port true → IsSound sources' inbounds' taken'
@@ -97,7 +95,7 @@ module _ (sources sources' : SourceKey → Option Holding) (inbounds inbounds' :
           ap inbounds' (sym there) ∙ sets_out.at ∙ ap (λ (x : SourceKey). Some x.internal) same
       | inr apart ↦
           let before = sound.out k g (sym (sets.off k apart) ∙ e) in
-          sets_out.off (inbound_key_of (mapping_at k g)) (λ same. no_value (inbounds (inbound_key_of m)) k.internal no_inbound (ap inbounds same ∙ before)) ∙ before
+          sets_out.off (inbound_key_of (mapping_at k g)) (λ same. none_or_some (inbounds (inbound_key_of m)) k.internal no_inbound (ap inbounds same ∙ before)) ∙ before
     ];
     back = λ o i e. elim (decide same_inbound inbound_test (inbound_key_of m) o) [
       | inl same ↦
@@ -106,7 +104,7 @@ module _ (sources sources' : SourceKey → Option Holding) (inbounds inbounds' :
           (one, (ap sources' (sym there) ∙ sets.at, port_is ∙ ap (λ (x : InboundKey). x.external.port) same))
       | inr apart ↦
           let old = sound.back o i (sym (sets_out.off o apart) ∙ e) in
-          (old.0, (sets.off (source_at o i) (λ same. no_value (sources (source_key_of m)) old.0 no_source (ap sources same ∙ old.1.0)) ∙ old.1.0, old.1.1))
+          (old.0, (sets.off (source_at o i) (λ same. none_or_some (sources (source_key_of m)) old.0 no_source (ap sources same ∙ old.1.0)) ∙ old.1.0, old.1.1))
     ];
     ports = ports_set inbounds inbounds' taken taken' m (Some m.internal) sound.ports sets_out sets_port;
   }
@@ -115,11 +113,11 @@ module _ (sources sources' : SourceKey → Option Holding) (inbounds inbounds' :
   pub sound_ended : (h : Holding) → sources (source_key_of m) ≡ Some h → h.port ≡ m.external.port → Sets sources sources' (source_key_of m) None → Sets inbounds inbounds' (inbound_key_of m) None → PortSet taken taken' (pool_key_of m) m.external.port false → IsSound sources' inbounds' taken'
   sound_ended h is port_is sets sets_out sets_port = record {
     held = λ k g e. elim (decide same_source source_test (source_key_of m) k) [
-      | inl same ↦ absurd (no_value (sources' k) g (ap sources' (sym same) ∙ sets.at) e)
+      | inl same ↦ absurd (none_or_some (sources' k) g (ap sources' (sym same) ∙ sets.at) e)
       | inr apart ↦ sound.held k g (sym (sets.off k apart) ∙ e)
     ];
     out = λ k g e. elim (decide same_source source_test (source_key_of m) k) [
-      | inl same ↦ absurd (no_value (sources' k) g (ap sources' (sym same) ∙ sets.at) e)
+      | inl same ↦ absurd (none_or_some (sources' k) g (ap sources' (sym same) ∙ sets.at) e)
       | inr apart ↦
           let before = sound.out k g (sym (sets.off k apart) ∙ e) in
           sets_out.off (inbound_key_of (mapping_at k g)) (λ same.
@@ -127,7 +125,7 @@ module _ (sources sources' : SourceKey → Option Holding) (inbounds inbounds' :
           apart (ap (λ (x : InboundKey). source_at x m.internal) same ∙ ap (source_at (inbound_key_of (mapping_at k g))) internal)) ∙ before
     ];
     back = λ o i e. elim (decide same_inbound inbound_test (inbound_key_of m) o) [
-      | inl same ↦ absurd (no_value (inbounds' o) i (ap inbounds' (sym same) ∙ sets_out.at) e)
+      | inl same ↦ absurd (none_or_some (inbounds' o) i (ap inbounds' (sym same) ∙ sets_out.at) e)
       | inr apart ↦
           let old = sound.back o i (sym (sets_out.off o apart) ∙ e) in (
             old.0,

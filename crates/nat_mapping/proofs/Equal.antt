@@ -2,9 +2,9 @@
 use Rattle.std.proofs.Common.{◌≡◌, Bool, true, false, refl, sym, ◌∙◌, ap, subst, ◌⊎◌, inl, inr}
 use Rattle.std.specs.Cmp.{IsEquivalence}
 use Rattle.std.proofs.lemmas.Bool.{eqb-true, eq-eqb, and_parts, and_from, cases_Bool, both_ways, false_from_ne_true}
+use Rattle.ip_headers.specs.steps.Equal.{same_kind-true, same_endpoint-true}
 use Rattle.ip_headers.specs.declared.tuple.Kind.{Kind}
 use Rattle.ip_headers.specs.declared.tuple.Kind.TheVariants.{Tcp, Udp, Ask, Answer, Other}
-use Rattle.ip_headers.specs.declared.tuple.Endpoint.{Endpoint}
 use Rattle.ip_headers.specs.declared.tuple.Mapping.{Mapping}
 use Rattle.nat_mapping.specs.declared.keys.SourceKey.{SourceKey}
 use Rattle.nat_mapping.specs.declared.keys.InboundKey.{InboundKey}
@@ -46,33 +46,18 @@ kind_same Ask = refl
 kind_same Answer = refl
 kind_same (Other a) = eq-eqb a a refl
 
-kind_exact : (a b : Kind) → same_kind a b ≡ true → a ≡ b
-kind_exact Tcp Tcp h = refl
-kind_exact Udp Udp h = refl
-kind_exact Ask Ask h = refl
-kind_exact Answer Answer h = refl
-kind_exact (Other a) (Other b) h = ap Other (eqb-true a b h)
-kind_exact a b h = cc
-
 pub kind_test : IsTest same_kind
-kind_test = record { same = kind_same; exact = kind_exact }
-
-endpoint_exact : (a b : Endpoint) → same_endpoint a b ≡ true → a ≡ b
-endpoint_exact a b h =
-    let parts = and_parts _ _ h in
-    let address : a.address ≡ b.address = eqb-true _ _ parts.0 in
-    let port : a.port ≡ b.port = eqb-true _ _ parts.1 in
-    ap (λ x. record { address = x; port = a.port }) address ∙ ap (λ x. record { address = b.address; port = x }) port
+kind_test = record { same = kind_same; exact = same_kind-true }
 
 pub endpoint_test : IsTest same_endpoint
-endpoint_test = record { same = λ a. and_from _ _ (eq-eqb a.address a.address refl) (eq-eqb a.port a.port refl); exact = endpoint_exact }
+endpoint_test = record { same = λ a. and_from _ _ (eq-eqb a.address a.address refl) (eq-eqb a.port a.port refl); exact = same_endpoint-true }
 
 source_exact : (a b : SourceKey) → same_source a b ≡ true → a ≡ b
 source_exact a b h =
     let kinds = and_parts _ _ h in
     let ends = and_parts _ _ kinds.1 in
-    let kind : a.kind ≡ b.kind = kind_exact _ _ kinds.0 in
-    let internal : a.internal ≡ b.internal = endpoint_exact _ _ ends.0 in
+    let kind : a.kind ≡ b.kind = same_kind-true _ _ kinds.0 in
+    let internal : a.internal ≡ b.internal = same_endpoint-true _ _ ends.0 in
     let address : a.address ≡ b.address = eqb-true _ _ ends.1 in
     ap (λ x. record { kind = x; internal = a.internal; address = a.address }) kind
     ∙ ap (λ x. record { kind = b.kind; internal = x; address = a.address }) internal
@@ -87,8 +72,8 @@ source_test = record {
 inbound_exact : (a b : InboundKey) → same_inbound a b ≡ true → a ≡ b
 inbound_exact a b h =
     let kinds = and_parts _ _ h in
-    let kind : a.kind ≡ b.kind = kind_exact _ _ kinds.0 in
-    let external : a.external ≡ b.external = endpoint_exact _ _ kinds.1 in
+    let kind : a.kind ≡ b.kind = same_kind-true _ _ kinds.0 in
+    let external : a.external ≡ b.external = same_endpoint-true _ _ kinds.1 in
     ap (λ x. record { kind = x; external = a.external }) kind ∙ ap (λ x. record { kind = b.kind; external = x }) external
 
 pub inbound_test : IsTest same_inbound
@@ -97,7 +82,7 @@ inbound_test = record { same = λ a. and_from _ _ (kind_same a.kind) (endpoint_t
 pool_exact : (a b : PoolKey) → same_pool a b ≡ true → a ≡ b
 pool_exact a b h =
     let kinds = and_parts _ _ h in
-    let kind : a.kind ≡ b.kind = kind_exact _ _ kinds.0 in
+    let kind : a.kind ≡ b.kind = same_kind-true _ _ kinds.0 in
     let address : a.address ≡ b.address = eqb-true _ _ kinds.1 in
     ap (λ x. record { kind = x; address = a.address }) kind ∙ ap (λ x. record { kind = b.kind; address = x }) address
 
@@ -111,9 +96,9 @@ pub mapping_exact : (a b : Mapping) → same_mapping a b ≡ true → a ≡ b
 mapping_exact a b h =
     let kinds = and_parts _ _ h in
     let ends = and_parts _ _ kinds.1 in
-    let kind : a.kind ≡ b.kind = kind_exact _ _ kinds.0 in
-    let internal : a.internal ≡ b.internal = endpoint_exact _ _ ends.0 in
-    let external : a.external ≡ b.external = endpoint_exact _ _ ends.1 in
+    let kind : a.kind ≡ b.kind = same_kind-true _ _ kinds.0 in
+    let internal : a.internal ≡ b.internal = same_endpoint-true _ _ ends.0 in
+    let external : a.external ≡ b.external = same_endpoint-true _ _ ends.1 in
     ap (λ x. record { kind = x; internal = a.internal; external = a.external }) kind
     ∙ ap (λ x. record { kind = b.kind; internal = x; external = a.external }) internal
     ∙ ap (λ x. record { kind = b.kind; internal = b.internal; external = x }) external

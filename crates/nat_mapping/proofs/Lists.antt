@@ -1,17 +1,13 @@
 -- What a search of the list finds is held.
-use Rattle.std.proofs.Common.{◌≡◌, ℕ, ◌<◌, ◌+◌, Bool, true, false, cond, List, [], ◌∷◌, ◌⊎◌, Some, None, refl, sym, ◌∙◌, subst, inl, inr, arith}
+use Rattle.std.proofs.Common.{◌≡◌, ℕ, ◌<◌, Bool, true, false, cond, List, [], ◌∷◌, ◌⊎◌, Some, None, sym, ◌∙◌, subst, inl, inr, arith}
 use Rattle.std.specs.List.{find, Contains}
 use Rattle.std.proofs.lemmas.List.Elements.{Contains-push, Contains-push_cases, Contains-append_cases, Contains-append_left, Contains-append_right}
 use Rattle.std.proofs.lemmas.Bool.{cases_Bool, cond-true, cond-false, both_ways}
 use Rattle.std.proofs.lemmas.Option.{none-some, same_Some}
-use Rattle.std.proofs.lemmas.List.Sums.{sum_by-cons}
+use Rattle.nat_mapping.specs.steps.Holders.{holders_cons, holders_none}
 use Rattle.ip_headers.specs.declared.tuple.Mapping.{Mapping}
 use Rattle.nat_mapping.specs.Mappings.{same_mapping, holders_of, HoldsSame}
 use Rattle.nat_mapping.proofs.Equal.{mapping_same, mapping_exact}
-
-pub holders_cons : (m x : Mapping) (held : List Mapping) → holders_of m (x ∷ held) ≡ cond (same_mapping m x) 1 0 + holders_of m held
-unfolding holders_of
-holders_cons m x held = sum_by-cons (λ y. cond (same_mapping m y) 1 0) x held
 
 pub holders_here : (m : Mapping) (held : List Mapping) → 0 < holders_of m (m ∷ held)
 holders_here m held =
@@ -23,10 +19,6 @@ holders_more m x held some = omega (arith, holders_cons m x held)
 pub holders_past : (m x : Mapping) (held : List Mapping) → same_mapping m x ≡ false → holders_of m (x ∷ held) ≡ holders_of m held
 holders_past m x held other =
     let none : ◌≡◌ {A = ℕ} (cond (same_mapping m x) 1 0) 0 = cond-false (same_mapping m x) 1 0 other in omega (arith, none, holders_cons m x held)
-
-pub holders_none : (m : Mapping) → holders_of m [] ≡ 0
-unfolding holders_of
-holders_none m = refl
 
 pub find_held : (p : Mapping → Bool) (held : List Mapping) (m : Mapping) → find p held ≡ Some m → (p m ≡ true) × (0 < holders_of m held)
 find_held p [] m e = absurd (none-some m e)
@@ -79,9 +71,6 @@ is_among m (x ∷ held) some = by_test (λ k. is_among m held k) (cases_Bool (sa
         let P : Mapping → Type 0 = λ y. Contains (x ∷ held) y in
         subst P (sym (mapping_exact m x t)) (Contains-append_left (x ∷ []) held x (Contains-push [] x))
     by_test rest (inr f) = Contains-append_right (x ∷ []) held m (rest (omega (arith, some, holders_past m x held f)))
-
-pub contains_head : (m : Mapping) (held : List Mapping) → Contains (m ∷ held) m
-contains_head m held = is_among m (m ∷ held) (holders_here m held)
 
 pub contains_tail : (m x : Mapping) (held : List Mapping) → Contains held m → Contains (x ∷ held) m
 contains_tail m x held among = is_among m (x ∷ held) (holders_more m x held (has_holder m held among))

@@ -4,6 +4,7 @@ use Rattle.std.specs.List.{find, Contains}
 use Rattle.std.specs.Option.{option_map}
 use Rattle.std.proofs.lemmas.Bool.{cases_Bool, cond-true, cond-false, eqb-true, eq-eqb, and_parts, and_from}
 use Rattle.std.proofs.lemmas.Option.{none-some, same_Some}
+use Rattle.list_laws.specs.Options.{mapped_some}
 use Rattle.ip_headers.specs.declared.tuple.Kind.{Kind}
 use Rattle.ip_headers.specs.declared.tuple.Endpoint.{Endpoint}
 use Rattle.ip_headers.specs.declared.tuple.Mapping.{Mapping}
@@ -12,10 +13,6 @@ use Rattle.port_pool.specs.Candidates.{candidates}
 use Rattle.nat_mapping.specs.Mappings.{is_outside, is_from, inbound_of, port_of, is_port_held, fresh_port, source_of, or_else, order_of, IsOneToOne}
 use Rattle.nat_mapping.proofs.Equal.{kind_test, endpoint_test}
 use Rattle.nat_mapping.proofs.Lists.{found_among, none_such, contains_cases}
-
-some_of_map : {X Y : Type 0} (f : X → Y) (o : Option X) (y : Y) → option_map f o ≡ Some y → (x : X) × (o ≡ Some x) × (f x ≡ y)
-some_of_map f None y h = absurd (none-some y h)
-some_of_map f (Some x) y h = (x, refl, same_Some (f x) y h)
 
 none_of_map : {X Y : Type 0} (f : X → Y) (o : Option X) → option_map f o ≡ None → o ≡ None
 none_of_map f None h = refl
@@ -86,7 +83,7 @@ module _ (held : List Mapping) (one : IsOneToOne held) where
     reused : port_of kind internal address held ≡ Some port → Suits gotten
     unfolding port_of
     reused h =
-        let found = some_of_map (λ (m : Mapping). m.external.port) (find (is_from kind internal address) held) port h in
+        let found = mapped_some (λ (m : Mapping). m.external.port) (find (is_from kind internal address) held) port h in
         let n = found.0 in
         let r = found_among (is_from kind internal address) held n found.1 in
         let parts = and_parts _ _ r.1 in
@@ -140,7 +137,7 @@ module _ (held : List Mapping) (kind : Kind) (internal external : Endpoint) wher
   pub inbound_among : inbound_of kind external held ≡ Some internal → Contains held found
   unfolding inbound_of
   inbound_among h =
-      let some = some_of_map (λ (m : Mapping). m.internal) (find (is_outside kind external) held) internal h in
+      let some = mapped_some (λ (m : Mapping). m.internal) (find (is_outside kind external) held) internal h in
       let n = some.0 in
       let r = found_among (is_outside kind external) held n some.1 in
       let parts = and_parts _ _ r.1 in

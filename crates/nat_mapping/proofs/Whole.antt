@@ -3,6 +3,8 @@ use Rattle.std.proofs.Common.{◌≡◌, ℕ, ◌<◌, ◌+◌, Bool, true, fals
 use Rattle.std.specs.HashMap.{get, IsUnique}
 use Rattle.std.specs.List.{Contains}
 use Rattle.std.proofs.lemmas.Option.{same_Some}
+use Rattle.nat_mapping.specs.steps.Holders.{holders_cons}
+use Rattle.list_laws.specs.Lists.{Contains-head}
 use Rattle.ip_headers.specs.declared.tuple.Endpoint.{Endpoint}
 use Rattle.ip_headers.specs.declared.tuple.Mapping.{Mapping}
 use Rattle.nat_mapping.specs.declared.keys.SourceKey.{SourceKey}
@@ -16,7 +18,7 @@ use Rattle.nat_mapping.specs.steps.Pooled.{taken_in, IsPooled}
 use Rattle.nat_mapping.specs.steps.Kept.{held_by, holders_at, Sources, Inbounds, IsSound, IsKept}
 use Rattle.nat_mapping.proofs.Equal.{source_test, inbound_test}
 use Rattle.nat_mapping.proofs.Sets.{Sets, sets_by}
-use Rattle.nat_mapping.proofs.Lists.{holders_cons, has_holder, contains_head, contains_tail}
+use Rattle.nat_mapping.proofs.Lists.{has_holder, contains_tail}
 use Rattle.nat_mapping.proofs.Answers.{filed_among, kept_out, kept as found_in, holders_by}
 use Rattle.nat_mapping.proofs.Changes.{PortSet, sound_changed, sound_begun, sound_ended, inbound_free, holds_none, holds_some, one_more}
 use Rattle.nat_mapping.proofs.Entries.{counts_of}
@@ -57,7 +59,7 @@ module _ (sources : Sources) (inbounds : Inbounds) (pools : Pools) (kept : IsKep
     own_port one h is =
         let n : Mapping = mapping_at (source_key_of m) h in
         let among : Contains (held_by sources.entries) n = filed_among _ _ _ kept.sound (held_by sources.entries) (counts_of sources kept.unique) (source_key_of m) h is in
-        one.one_port n m (contains_tail n m (held_by sources.entries) among) (contains_head m (held_by sources.entries)) refl refl refl
+        one.one_port n m (contains_tail n m (held_by sources.entries) among) (Contains-head m (held_by sources.entries)) refl refl refl
 
     pub own_internal : IsOneToOne (m ∷ held_by sources.entries) → (i : Endpoint) → get same_inbound inbounds (inbound_key_of m) ≡ Some i → i ≡ m.internal
     own_internal one i is =
@@ -65,7 +67,7 @@ module _ (sources : Sources) (inbounds : Inbounds) (pools : Pools) (kept : IsKep
         let n : Mapping = mapping_at (source_at (inbound_key_of m) i) back.0 in
         let among : Contains (held_by sources.entries) n = filed_among _ _ _ kept.sound (held_by sources.entries) (counts_of sources kept.unique) (source_at (inbound_key_of m) i) back.0 back.1.0 in
         let external : n.external ≡ m.external = ap (λ p. let w : Endpoint = record { address = m.external.address; port = p } in w) back.1.1 in
-        one.one_internal n m (contains_tail n m (held_by sources.entries) among) (contains_head m (held_by sources.entries)) refl external
+        one.one_internal n m (contains_tail n m (held_by sources.entries) among) (Contains-head m (held_by sources.entries)) refl external
 
     -- the table says how many holders there are
     pub holders_are : (h : Holding) → get same_source sources (source_key_of m) ≡ Some h → h.port ≡ m.external.port → holders_of m (held_by sources.entries) ≡ h.holders

@@ -3,3 +3,4 @@ pub mod Keys
 pub mod Ports
 pub mod Pooled
 pub mod Kept
+pub mod Holders

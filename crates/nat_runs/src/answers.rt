@@ -40,8 +40,8 @@ const ANSWERS: [Row<'static>; 2] = [
     },
 ];
 
-/// The second packet of each of two ends that greet each other at once.
-const GREETED: Came = Came {
+/// The SYN of the other end, which comes at once, and the packets with which each end answers.
+const SYN_BACK: Came = Came {
     at: (1, 0),
     load: Load::Tcp(SYN),
     ..SYN_ACK_BACK
@@ -58,7 +58,7 @@ const OPEN: Came = Came {
     ..SYN_ACK_BACK
 };
 
-const GREETS_LEFT: [Left; 4] = [
+const OPEN_LEFT: [Left; 4] = [
     Left(0, End(E, 5000), End(B, 80)),
     Left(1, End(B, 80), End(A, 5000)),
     Left(2, End(E, 5000), End(B, 80)),
@@ -66,12 +66,12 @@ const GREETS_LEFT: [Left; 4] = [
 ];
 
 /// Then a record comes without a packet, just before their connection is over, and just then.
-const GREETINGS: [Row<'static>; 2] = [
+const SIMULTANEOUS_OPENS: [Row<'static>; 2] = [
     Row {
         rules: ROUTER,
         came: &[
             SYN_OUT,
-            GREETED,
+            SYN_BACK,
             ANSWERED,
             OPEN,
             Came {
@@ -79,7 +79,7 @@ const GREETINGS: [Row<'static>; 2] = [
                 ..NO_PACKET
             },
         ],
-        left: &GREETS_LEFT,
+        left: &OPEN_LEFT,
         told: "",
         totals: &[("drop notip", 1), ("begun", 1), ("live", 1)],
     },
@@ -87,7 +87,7 @@ const GREETINGS: [Row<'static>; 2] = [
         rules: ROUTER,
         came: &[
             SYN_OUT,
-            GREETED,
+            SYN_BACK,
             ANSWERED,
             OPEN,
             Came {
@@ -95,7 +95,7 @@ const GREETINGS: [Row<'static>; 2] = [
                 ..NO_PACKET
             },
         ],
-        left: &GREETS_LEFT,
+        left: &OPEN_LEFT,
         told: "",
         totals: &[("drop notip", 1), ("begun", 1)],
     },
@@ -276,12 +276,12 @@ fn answers_come_back_while_connections_live(rt: HostRuntime) -> Result<(), Fail>
 }
 
 #[test]
-fn ends_that_greet_at_once_are_established(rt: HostRuntime) -> Result<(), Fail> {
-    give(&rt, &GREETINGS)
+fn a_simultaneous_open_is_established(rt: HostRuntime) -> Result<(), Fail> {
+    give(&rt, &SIMULTANEOUS_OPENS)
 }
 
 #[test]
-fn a_greeting_behind_a_reset_keeps_its_port(rt: HostRuntime) -> Result<(), Fail> {
+fn a_syn_behind_a_reset_keeps_its_port(rt: HostRuntime) -> Result<(), Fail> {
     give(&rt, &RESETS)
 }
 

@@ -11,15 +11,12 @@ use Rattle.std.proofs.lemmas.List.{length-append}
 use Rattle.std.proofs.Math.Seq.{take-append_seam}
 use Rattle.std.proofs.lemmas.Fmt.{decimal_digit, decimal_is_IsNumeral, decimal-digits_value, first_decimal}
 use Rattle.std.proofs.lemmas.Str.Parse.{IsNumeralModel, numerals_by_value}
+use Rattle.list_laws.specs.Options.{IfSome_weaker}
 use Rattle.nft_lexer.specs.Sign.{Spelled, word, number, address, string}
 use Rattle.nft_lexer.specs.Cut.{Part, name, digits, hexadecimal, dotted, quoted, IsDigits, IsHexadecimal, IsSoundDecimal, AreGroups, SpellsPart, Means}
 use Rattle.nft_lexer.specs.steps.Reading.{◌>>=◌, leads_with_zero, below, value_after, decimal_at, group_at, address_of, address_at, number_piece, address_piece, tokens_of, meaning, one}
 
 -- ---- options
-
-pub IfSome_weaker : {A : Type 0} (o : Option A) (P Q : A → Type 0) → ((x : A) → P x → Q x) → IfSome o P → IfSome o Q
-IfSome_weaker None P Q k h = tt
-IfSome_weaker (Some x) P Q k h = k x h
 
 pub bind_found : {A B : Type 0} {P : A → Type 0} (Q : B → Type 0) (o : Option A) (f : A → Option B) → IfSome o P → ((x : A) → P x → IfSome (f x) Q) → IfSome (o >>= f) Q
 bind_found Q None f h k = tt

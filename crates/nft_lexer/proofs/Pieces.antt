@@ -1,5 +1,5 @@
 -- What is read is the longest piece, and there is one.
-use Rattle.std.proofs.Common.{◌≡◌, ◌≢◌, ℕ, suc, ◌+◌, ◌-◌, ◌<◌, ◌≤◌, Bool, true, false, ◌==◌, List, [], ◌∷◌, ◌++◌, length, take, drop, Option, Some, None, ◌⊎◌, inl, inr, refl, sym, ap, subst, ◌∙◌, append_assoc, arith, rules}
+use Rattle.std.proofs.Common.{◌≡◌, ◌≢◌, ℕ, suc, ◌+◌, ◌-◌, ◌<◌, ◌≤◌, Bool, true, false, ◌==◌, List, [], ◌∷◌, ◌++◌, length, take, drop, Option, Some, None, inl, inr, refl, sym, ap, subst, ◌∙◌, append_assoc, arith, rules}
 use Rattle.std.specs.Prelude.{IfSome, IsSomeAnd, IsTrue, MatchResult, Result, Err, slice_index}
 use Rattle.std.specs.Char.{is_ascii_digit, is_ascii_hexdigit}
 use Rattle.std.specs.List.{AllByRecursion, prefix_len, list_all}
@@ -8,6 +8,7 @@ use Rattle.std.proofs.lemmas.Bool.{and_parts, eqb-true, eqb-false}
 use Rattle.std.proofs.lemmas.Bool.Decides.{nat_tests}
 use Rattle.std.proofs.lemmas.List.{take_at, drop_at, take-append-drop, length-append, length-drop, append-nil}
 use Rattle.std.proofs.Math.Seq.{take-append-add, drop-append-add}
+use Rattle.list_laws.specs.Options.{option_cases, IfSome_at, IfSome_weaker}
 use Rattle.nft_lexer.specs.declared.token.Mark.{Mark}
 use Rattle.nft_lexer.specs.declared.token.Mark.TheVariants.{Equals, EqualTo, AtMost, AtLeast, Below, Above}
 use Rattle.nft_lexer.specs.declared.piece.Class.{Class}
@@ -17,16 +18,9 @@ use Rattle.nft_lexer.specs.declared.cutting.Fault.TheVariants as faults
 use Rattle.nft_lexer.specs.Sign.{Spelled}
 use Rattle.nft_lexer.specs.Cut.{Part, blank, joined_line, comment, line_end, name, digits, hexadecimal, dotted, quoted, sole, is_blank, begins_word, continues_word, is_no_line_end, stands_in_string, mark_text, IsDigits, SpellsPart, IsPartAt, Means, BeginsNone, IsFaultAt}
 use Rattle.nft_lexer.specs.steps.Reading.{◌>>=◌, class_of, mark_from, short_marks, long_marks, after_byte, front, behind, run_at, is_zero, hexadecimal_at, next_group_at, dotted_at, number_at, quoted_at, long_mark_at, mark_at, class_at, piece_at, seen, meaning, next_at, on_line, Passes}
-use Rattle.nft_lexer.proofs.Numbers.{IfSome_weaker, bind_found, view_found, by_test, meaning_found, meaning_only}
+use Rattle.nft_lexer.proofs.Numbers.{bind_found, view_found, by_test, meaning_found, meaning_only}
 
 -- ---- options
-
-pub option_cases : {A : Type 0} (o : Option A) → (o ≡ None) ⊎ ((x : A) × (o ≡ Some x))
-option_cases None = inl refl
-option_cases (Some x) = inr (x, refl)
-
-IfSome_at : {A : Type 0} (o : Option A) (P : A → Type 0) (x : A) → o ≡ Some x → IfSome o P → P x
-IfSome_at o P x e h = rw e at h
 
 else_found : {A : Type 0} (Q : A → Type 0) (o d : Option A) → IfSome o Q → IfSome d Q → IfSome (option_or o d) Q
 else_found Q None d h k = k

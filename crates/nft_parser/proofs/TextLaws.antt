@@ -1,13 +1,13 @@
 -- What holds of whole texts: their tokens spell a tree, or tell why the text is none.
 use Rattle.std.proofs.Common.{◌≡◌, ℕ, List, Bool, true, false, Some, None, ◌⊎◌, inl, inr, refl, sym, ap, ◌∙◌}
 use Rattle.std.specs.Prelude.{Result, Ok, Err, IsErrAnd, MatchResult}
+use Rattle.list_laws.specs.Options.{option_cases, IfSome_at}
 use Rattle.nft_lexer.specs.Sign.{Spelled, signs_of}
 use Rattle.nft_lexer.specs.Cut.{IsCut, HasLexFault}
 use Rattle.nft_lexer.specs.declared.fault.LexFault.{LexFault}
 use Rattle.nft_lexer.specs.declared.fault.LexError.{LexError}
 use Rattle.nft_lexer.specs.declared.fault.LexError.TheVariants as lexical
 use Rattle.nft_tree.specs.Tree.{TableTree}
-use Rattle.token_reader.specs.steps.Laws.{option_cases, IfSome_at}
 use Rattle.nft_parser.specs.declared.fault.TextFault.{TextFault}
 use Rattle.nft_parser.specs.declared.fault.TextFault.TheVariants.{Cutting, Syntax, LeftOut}
 use Rattle.nft_parser.specs.declared.fault.ParseError.TheVariants.{Refused, Memory}

@@ -15,7 +15,8 @@ use Rattle.nft_tree.specs.Tree as tree
 use Rattle.nft_tree.specs.Tree.{Text, ValueTree, RangeTree, FlagTree, flag_word, flag_number, MatchTree}
 use Rattle.token_reader.specs.Grammar.{Grammar, ◌⨾◌, ◌▹◌, ◌◃◌, ◌∣◌, a_number, a_word, made, maybe, named, one_of}
 use Rattle.token_reader.specs.Grammar.{passing, separated, sign}
-use Rattle.token_reader.specs.steps.Reading.{◌>>=◌, all_at, with_front}
+use Rattle.list_laws.specs.Options.{◌>>=◌}
+use Rattle.token_reader.specs.steps.Reading.{all_at, with_front}
 use Rattle.nft_expressions.specs.Selectors.{is_word_for, selector, selectors}
 use Rattle.nft_expressions.specs.Elements.{range, set_ref}
 

@@ -14,7 +14,7 @@ use Rattle.nft_tree.specs.Tree.{LookTree, OperandTree, NatTree, Statement, RuleT
 use Rattle.token_reader.specs.Repeats.{stops}
 use Rattle.token_reader.specs.Grammar.{Grammar, keyword, sign, a_number, an_address, a_string, maybe, many, made}
 use Rattle.token_reader.specs.Grammar.{named, ◌⨾◌, ◌▹◌, ◌∣◌}
-use Rattle.token_reader.specs.steps.Reading.{◌>>=◌}
+use Rattle.list_laws.specs.Options.{◌>>=◌}
 use Rattle.nft_expressions.specs.Selectors.{selector}
 use Rattle.nft_expressions.specs.Elements.{comment, verdict, map_ref}
 use Rattle.nft_rules.specs.Matches.{matching}

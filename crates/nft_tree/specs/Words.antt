@@ -112,6 +112,31 @@ selector_width selectors.CtState = 32
 selector_width selectors.CtDirection = 8
 selector_width selectors.CtStatus = 32
 
+-- ---- bits
+
+-- the bits of a connection's state (NF_CT_STATE_INVALID_BIT and NF_CT_STATE_BIT of linux/netfilter/nf_conntrack_common.h)
+abbrev pub STATE_INVALID : ℕ
+STATE_INVALID = 1
+
+abbrev pub STATE_ESTABLISHED : ℕ
+STATE_ESTABLISHED = 2
+
+abbrev pub STATE_RELATED : ℕ
+STATE_RELATED = 4
+
+abbrev pub STATE_NEW : ℕ
+STATE_NEW = 8
+
+-- the bits of its status (IPS_SEEN_REPLY, IPS_SRC_NAT and IPS_DST_NAT there)
+abbrev pub STATUS_SEEN_REPLY : ℕ
+STATUS_SEEN_REPLY = 2
+
+abbrev pub STATUS_SNAT : ℕ
+STATUS_SNAT = 16
+
+abbrev pub STATUS_DNAT : ℕ
+STATUS_DNAT = 32
+
 -- ---- words
 
 -- the words that a type lists, each with the number that it stands for
@@ -168,13 +193,17 @@ words_of value_types.InterfaceIndex = []
 words_of value_types.Mark = []
 words_of value_types.Family = (codes "ipv4", 2) ∷ (codes "ipv6", 10) ∷ []
 words_of value_types.CtState =
-    (codes "invalid", 1)
-    ∷ (codes "established", 2)
-    ∷ (codes "related", 4)
-    ∷ (codes "new", 8)
+    (codes "invalid", STATE_INVALID)
+    ∷ (codes "established", STATE_ESTABLISHED)
+    ∷ (codes "related", STATE_RELATED)
+    ∷ (codes "new", STATE_NEW)
     ∷ []
 words_of value_types.CtDirection = (codes "original", 0) ∷ (codes "reply", 1) ∷ []
-words_of value_types.CtStatus = (codes "seen-reply", 2) ∷ (codes "snat", 16) ∷ (codes "dnat", 32) ∷ []
+words_of value_types.CtStatus =
+    (codes "seen-reply", STATUS_SEEN_REPLY)
+    ∷ (codes "snat", STATUS_SNAT)
+    ∷ (codes "dnat", STATUS_DNAT)
+    ∷ []
 
 -- the number that a word stands for
 abbrev pub number_in : List (List ℕ × ℕ) → List ℕ → Option ℕ

@@ -7,6 +7,7 @@
 
 mod chain;
 mod copies;
+mod folds;
 mod kind;
 mod lists;
 mod memory;
@@ -21,7 +22,9 @@ mod tables;
 mod word;
 
 pub use chain::{Chain, ChainKind, Head, Hook, OffsetSign, Policy, Priority, PriorityName, Rule};
+pub use folds::{any, sum};
 pub use kind::Kind;
+pub use lists::Listed;
 pub use memory::Memory;
 pub use nat::{DestinationTarget, Nat, PortRange, SourceTarget};
 pub use ruleset::{Family, Item, RuleNo, Ruleset, Table};

@@ -7,7 +7,7 @@ ghost use Rattle.std.specs.Prelude.{◌≡◌, map, IfOk};
 use crate::memory::Memory;
 
 /// What a list holds.
-pub(crate) trait Listed: Drop {
+pub trait Listed: Drop {
     ghost Shown: { Type 0 };
 
     /// What contracts compare of it.

@@ -1,8 +1,8 @@
 -- The numbers of what stands for numbers are in order.
-use Rattle.std.proofs.Common.{◌≡◌, ℕ, ◌+◌, ◌-◌, ◌*◌, ◌/◌, ◌^◌, ◌<◌, ◌≤◌, Bool, true, false, ◌&&◌, cond, Option, Some, None, refl, sym, ap, subst, ◌∙◌, arith}
+use Rattle.std.proofs.Common.{◌≡◌, ℕ, ◌+◌, ◌-◌, ◌*◌, ◌/◌, ◌^◌, ◌<◌, ◌≤◌, Bool, true, false, ◌&&◌, cond, Option, Some, None, sym, ap, subst, ◌∙◌, arith}
 use Rattle.std.specs.Prelude.{MatchOption}
 use Rattle.std.specs.Option.{option_map}
-use Rattle.std.proofs.lemmas.Bool.{leb-true}
+use Rattle.std.proofs.lemmas.Bool.{leb-true, and_parts}
 use Rattle.std.proofs.Math.Pow.{pow_pos}
 use Rattle.nft_tree.specs.Tree as tree
 use Rattle.nft_tree.specs.Tree.{Text, ValueTree, RangeTree}
@@ -30,16 +30,12 @@ value-rises plant k (tree.address a) = omega arith
 value-rises plant k (tree.word w) = text-rises plant k w
 value-rises plant k (tree.string s) = text-rises plant k s
 
-both : (a b : Bool) → a && b ≡ true → (a ≡ true) × (b ≡ true)
-both true b e = (refl, e)
-both false b e = absurd cc
-
 prefix-rises : (low size : ℕ) → 0 < size → low ≤ low + size - 1
 prefix-rises low size some = omega arith
 
 range-rises : (plant : PlantTree) (k : Kind) (r : RangeTree) → is_range plant k r ≡ true → (range_span plant k r).low ≤ (range_span plant k r).high
 range-rises plant k (tree.one v) e = value-rises plant k v
-range-rises plant k (tree.between low high) e = leb-true _ _ (both _ _ e).1
+range-rises plant k (tree.between low high) e = leb-true _ _ (and_parts _ _ e).1
 range-rises plant k (tree.prefix a n) e = prefix-rises (a / 2 ^ (32 - n) * 2 ^ (32 - n)) (2 ^ (32 - n)) (pow_pos (32 - n))
 
 abbrev span : ℕ → ℕ → Span

@@ -5,12 +5,7 @@ use Rattle.std.proofs.Math.Seq.{take-length}
 use Rattle.std.specs.declared.option.Option.{Option}
 use Rattle.std.specs.Io.KnownBytes.{Appends}
 use Rattle.std.proofs.KnownBytes.{Appends-nil, Keeps-refl, Keeps-trans}
-use Rattle.pcap_io.specs.Counting.{AppendsPart}
 use Rattle.pcap_io.specs.Waiting.{Gets}
-
--- a beginning of the first is one of both
-pub part_first : (a b : Option (List ℕ)) (xs ys : List ℕ) → AppendsPart a b xs → AppendsPart a b (xs ++ ys)
-part_first a b xs ys (part, rest, e, w) = (part, rest ++ ys, ap (λ zs. zs ++ ys) e ∙ append_assoc part rest ys, w)
 
 -- what a write took moves from the rest to what is done
 pub moved_on : (bytes done rest : List ℕ) (n : ℕ) → bytes ≡ done ++ rest → bytes ≡ (done ++ take n rest) ++ take (length rest - n) (drop n rest)

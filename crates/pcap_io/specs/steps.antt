@@ -1,2 +1,3 @@
 pub mod Ahead
 pub mod Placed
+pub mod Written

@@ -7,11 +7,12 @@ use Rattle.std.proofs.lemmas.Option.{IfSome_then}
 use Rattle.std.proofs.lemmas.Bool.{cases_Bool, eq-eqb, le-leb, lt-leb, and_from, and_right, and_left, not-true}
 use Rattle.std.proofs.lemmas.List.Elements.{All-nil, All-cons, All-head, All-tail}
 use Rattle.std.proofs.lemmas.List.FromFn.{length-range_with_len, get_or-range_with_len}
+use Rattle.list_laws.specs.Lists.{find-filter}
 use Rattle.port_pool.specs.declared.order.Order.{Order}
 use Rattle.port_pool.specs.declared.order.Order.TheVariants.{Ports, Identifiers, Zero}
 use Rattle.port_pool.specs.declared.range.Range.{Range}
 use Rattle.port_pool.specs.Candidates.{numbers, ports_of, class_of, same_parity, alike, or_these, suited, from_on, candidates}
-use Rattle.port_pool.proofs.FindLaws.{find-filter, find-numbers, or_these-left}
+use Rattle.port_pool.proofs.FindLaws.{find-numbers, or_these-left}
 use Rattle.port_pool.proofs.SpanLaws.{from_on-find}
 
 -- what is found passes

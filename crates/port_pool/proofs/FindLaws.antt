@@ -1,15 +1,9 @@
 -- The first of a list of numbers that passes.
-use Rattle.std.proofs.Common.{◌≡◌, ℕ, zero, suc, ◌+◌, ◌-◌, ◌<◌, ◌≤◌, Bool, true, false, ◌&&◌, cond, List, [], ◌∷◌, Option, Some, None, refl, sym, ap, subst, ◌∙◌, ⊎_elim, arith}
+use Rattle.std.proofs.Common.{◌≡◌, ℕ, zero, suc, ◌+◌, ◌-◌, ◌<◌, ◌≤◌, Bool, true, false, List, [], Option, Some, None, refl, sym, ap, subst, ◌∙◌, ⊎_elim, arith}
 use Rattle.std.specs.List.{filter, find, range_with_len}
 use Rattle.std.proofs.lemmas.Bool.{cases_Bool, cases_eq, cases_lt, both_ways}
 use Rattle.port_pool.specs.Candidates.{numbers, or_these}
 use Rattle.port_pool.specs.steps.First.{IsFirst}
-
-pub find-filter : {X : Type 0} (p q : X → Bool) (xs : List X) → find p (filter q xs) ≡ find (λ x. q x && p x) xs
-find-filter p q [] = refl
-find-filter p q (x ∷ xs) =
-    let next = find-filter p q xs in
-    elim (q x) as (λ v. find p (cond v (x ∷ filter q xs) (filter q xs)) ≡ cond (v && p x) (Some x) (find (λ x. q x && p x) xs)) [ true ↦ ap (cond (p x) (Some x)) next | false ↦ next ]
 
 -- the rest of a stretch that begins with a number that fails
 rest_first : (p : ℕ → Bool) (low to : ℕ) (r : Option ℕ) → p low ≡ false → IsFirst p low to r → IsFirst p (low + 1) to r

@@ -7,13 +7,14 @@ use Rattle.std.specs.Option.{option_or}
 use Rattle.std.proofs.lemmas.Bool.{cases_Bool, cases_eq, eq-eqb, and_parts, le-leb, lt-leb, lt-ltb, le-ltb}
 use Rattle.std.proofs.lemmas.List.Folds.{find-append}
 use Rattle.std.proofs.lemmas.Nat.Bits.{bit_at_and, bit_at_not, bit_at-lt}
+use Rattle.list_laws.specs.Lists.{find-filter}
 use Rattle.port_pool.specs.declared.span.Kept.{Kept}
 use Rattle.port_pool.specs.declared.span.Kept.TheVariants.{All, Even, Odd}
 use Rattle.port_pool.specs.steps.Bits.{bit}
 use Rattle.port_pool.specs.Candidates.{numbers, class_of, same_parity, alike, or_these, suited, from_on}
 use Rattle.port_pool.specs.steps.First.{IsFirst, is_open}
 use Rattle.port_pool.specs.steps.Spans.{fits, SameFinds, HasParity, NoParity, IsClassPart}
-use Rattle.port_pool.proofs.FindLaws.{find-filter, find-numbers, exists_numbers, narrowed, widened, or_these-left, filter_empty}
+use Rattle.port_pool.proofs.FindLaws.{find-numbers, exists_numbers, narrowed, widened, or_these-left, filter_empty}
 
 -- one of two neighbours has the parity
 pub parity_near : (s low high : ℕ) → low < high → HasParity s low high

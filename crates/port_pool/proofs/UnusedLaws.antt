@@ -4,12 +4,13 @@ use Rattle.std.specs.Prelude.{nat_le, nat_lt}
 use Rattle.std.specs.List.{filter, find}
 use Rattle.std.specs.Option.{option_or}
 use Rattle.std.proofs.lemmas.Bool.{le-leb, lt-leb, lt-ltb, le-ltb, eqb-false, eq-eqb}
+use Rattle.list_laws.specs.Lists.{find-filter}
 use Rattle.port_pool.specs.declared.span.Kept.{Kept}
 use Rattle.port_pool.specs.declared.span.Kept.TheVariants.{All, Even, Odd}
 use Rattle.port_pool.specs.Candidates.{numbers, from_on}
 use Rattle.port_pool.specs.steps.First.{IsFirst}
 use Rattle.port_pool.specs.steps.Spans.{fits}
-use Rattle.port_pool.proofs.FindLaws.{find-filter, find-numbers, widened}
+use Rattle.port_pool.proofs.FindLaws.{find-numbers, widened}
 use Rattle.port_pool.proofs.SpanLaws.{from_on-find}
 
 -- where a number doesn't count, the next one does

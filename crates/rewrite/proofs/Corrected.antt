@@ -2,6 +2,7 @@
 use Rattle.std.proofs.Common.{◌≡◌, ℕ, ◌+◌, List, [], ◌∷◌, Bool, true, false, refl, sym, ap, arith}
 use Rattle.std.specs.Prelude.{◌==◌, ◌||◌, if◌then◌else◌}
 use Rattle.std.proofs.lemmas.Bool.{eqb-true, eq-eqb, and_parts}
+use Rattle.list_laws.specs.Tests.{same-tests}
 use Rattle.ip_headers.specs.Sum.{words_sum}
 use Rattle.ip_headers.specs.Bytes.{word_at, with_word}
 use Rattle.rewrite.specs.declared.checksum.Words.{Words}
@@ -27,11 +28,6 @@ same_bytes-true (x ∷ xs) (y ∷ ys) h =
 same_bytes-from : (xs ys : List ℕ) → xs ≡ ys → same_bytes xs ys ≡ true
 same_bytes-from xs ys e = rw e (same_bytes-itself ys)
 
-agree : (b c : Bool) → (b ≡ true → c ≡ true) → (c ≡ true → b ≡ true) → b ≡ c
-agree true c to from = sym (to refl)
-agree false true to from = from refl
-agree false false to from = refl
-
 -- ---- the correction
 
 corrected-by : (checksum before after old new : ℕ) → after + old ≡ before + new → corrected checksum before after ≡ corrected checksum old new
@@ -44,7 +40,7 @@ pub record Covers (words : Words) (before after : List ℕ) : Type 0 where
   pub sum : words_sum after + words.old ≡ words_sum before + words.new
 
 same_is : (words : Words) (before after : List ℕ) → Covers words before after → same_bytes before after ≡ words.is_same
-same_is words before after c = agree (same_bytes before after) words.is_same (λ h. c.other (same_bytes-true before after h)) (λ h. same_bytes-from before after (c.same h))
+same_is words before after c = same-tests (same_bytes before after) words.is_same (λ h. c.other (same_bytes-true before after h)) (λ h. same_bytes-from before after (c.same h))
 
 chosen : (b : Bool) (bytes : List ℕ) (place checksum x y : ℕ) → with_word bytes place checksum ≡ bytes → x ≡ y → (if b then bytes else with_word bytes place x) ≡ with_word bytes place (if b then checksum else y)
 chosen true bytes place checksum x y kept e = sym kept

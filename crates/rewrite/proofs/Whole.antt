@@ -1,7 +1,7 @@
 -- The fields of a datagram, changed one by one and written, are the datagram as it is sent on.
-use Rattle.std.proofs.Common.{◌≡◌, ℕ, ◌+◌, ◌<◌, ◌≤◌, inl, inr, ⊎_elim, Option, Some, None, List, length, get_or, set, drop, Bool, true, false, refl, sym, ap, ◌∙◌, arith}
+use Rattle.std.proofs.Common.{◌≡◌, ℕ, ◌+◌, ◌<◌, ◌≤◌, inl, inr, ⊎_elim, Option, Some, None, List, length, get_or, set, drop, true, false, refl, sym, ap, ◌∙◌, arith}
 use Rattle.std.specs.Prelude.{◌==◌, ◌||◌, unwrap_or}
-use Rattle.std.proofs.lemmas.Bool.{ne_eqb, le-leb, cases_eq}
+use Rattle.std.proofs.lemmas.Bool.{ne_eqb, le-leb, cases_eq, or_from}
 use Rattle.std.proofs.lemmas.List.{set-get_or, get_or-drop}
 use Rattle.ip_headers.specs.Bytes.{byte_at, word_at, number_at, with_word, with_number}
 use Rattle.ip_headers.specs.Header.{header_len, payload_at, protocol_at}
@@ -175,9 +175,6 @@ of_icmp number p place is = rw (is, sym (word_of_rest p place 4 (place + 4) refl
 of_other : (number : ℕ) (rest : List ℕ) → (number == 6) ≡ false → (number == 17) ≡ false → (number == 1) ≡ false → carried_of number rest ≡ Other
 of_other number rest a b c = rw (a, b, c) refl
 
-either : (a b : Bool) → a ≡ false → b ≡ false → (a || b) ≡ false
-either a b x y = rw (x, y) refl
-
 carried_tcp : (start : ℕ) (p : List ℕ) (from to ttl : ℕ) (numbers : Option Numbers) → IsDatagram start p → payload_at start p + 18 ≤ length p → protocol_at start p ≡ 6 → IsCarried start p from to ttl numbers
 carried_tcp start p from to ttl numbers d room is =
     let place = payload_at start p in
@@ -219,7 +216,7 @@ carried_other start p from to ttl numbers d x y z =
     let place = payload_at start p in
     let t = timed start p from to ttl in
     let b = timed_behind start p from to ttl d in
-    ap (λ l. right_carried start p l) (write_none numbers start t (protocol_at start p) b.protocol (either _ _ x y) z) ∙ by_other start p t x y z
+    ap (λ l. right_carried start p l) (write_none numbers start t (protocol_at start p) b.protocol (or_from _ _ x y) z) ∙ by_other start p t x y z
     ∙ ap (λ c. with_carried place t (changed_carried numbers (pair_words start p from to) c)) (sym (of_other (protocol_at start p) (drop place p) x y z))
 
 is_carried : (start : ℕ) (p : List ℕ) (from to ttl : ℕ) (numbers : Option Numbers) → IsDatagram start p → payload_at start p + len_of (carried_at start p) ≤ length p → IsCarried start p from to ttl numbers

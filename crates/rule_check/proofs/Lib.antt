@@ -1,4 +1,3 @@
-mod Tests
 mod Numbers
 mod Lesser
 mod Stages

@@ -1,5 +1,5 @@
 -- The stages of the judging, each behind faults that the ruleset hasn't.
-use Rattle.std.proofs.Common.{◌≡◌, List, Option, Some, None, IfSome, false, subst}
+use Rattle.std.proofs.Common.{◌≡◌, List, Option, Some, None, false, subst}
 use Rattle.std.specs.Prelude.{MatchOption}
 use Rattle.std.specs.List.{list_any}
 use Rattle.nft_tree.specs.Tree.{TableTree}
@@ -21,9 +21,6 @@ at_none {A = A} o P Q is h = subst (λ (p : Option A). MatchOption p P Q) is h
 
 pub at_some : {A : Type 0} (o : Option A) (P : Type 0) (Q : A → Type 0) (x : A) → o ≡ Some x → MatchOption o P Q → Q x
 at_some {A = A} o P Q x is h = subst (λ (p : Option A). MatchOption p P Q) is h
-
-pub if_some : {A : Type 0} (o : Option A) (Q : A → Type 0) (x : A) → o ≡ Some x → IfSome o Q → Q x
-if_some {A = A} o Q x is h = subst (λ (p : Option A). IfSome p Q) is h
 
 -- ---- the stages
 

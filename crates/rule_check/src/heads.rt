@@ -2,10 +2,10 @@
 ghost use Rattle.std.specs.Prelude.{◌≡◌};
 ghost use Rattle.std.specs.List.{list_any};
 ghost use Rattle.std.specs.Option.{option_map};
-ghost use Rattle.nft_tree.specs.Tree.{head_tree, item_tree, table_tree, tables_of};
+ghost use Rattle.nft_tree.specs.Tree.{head_tree, item_tree, tables_of};
 ghost use Rattle.rule_check.specs.Chains.{has_misplaced_chain, head_is_misplaced, is_nat, is_without_nat, item_is_misplaced};
 
-use nft_tree::{ChainKind, Head, Hook, Item, Ruleset, Table};
+use nft_tree::{ChainKind, Head, Hook, Item, Ruleset, any};
 
 /// A chain of type nat has a priority above this one, that of connection tracking.
 const TRACKING_PRIORITY: i128 = -200;
@@ -14,13 +14,7 @@ const TRACKING_PRIORITY: i128 = -200;
 pub(crate) fn has_misplaced_chain(tree: &Ruleset) -> bool
     ensures { result ≡ list_any has_misplaced_chain (tables_of tree.now) }
 {
-    tree.tables.iter().any(table_has_misplaced_chain)
-}
-
-fn table_has_misplaced_chain(table: &Table) -> bool
-    ensures { result ≡ has_misplaced_chain (table_tree table.now) }
-{
-    table.items.iter().any(item_is_misplaced)
+    any(&tree.tables, |table| any(&table.items, item_is_misplaced))
 }
 
 fn item_is_misplaced(item: &Item) -> bool

@@ -6,13 +6,14 @@ use Rattle.std.proofs.lemmas.List.{length-map}
 use Rattle.std.proofs.lemmas.List.Sums.{sum_by-cons}
 use Rattle.std.proofs.lemmas.List.Elements.{Contains-append_left, Contains-append_right}
 use Rattle.std.proofs.lemmas.Slice.Eq.{bytes_eq-Decides}
+use Rattle.list_laws.specs.Lists.{Contains-head}
 use Rattle.nft_tree.specs.Tree as tree
 use Rattle.nft_tree.specs.Tree.{Text, VerdictTree, PairTree, Statement, RuleTree, ChainTree, TableTree}
 use Rattle.nft_tree.specs.Parts.{chains_of}
 use Rattle.box_file.specs.Box.{PlantTree}
 use Rattle.chain_graph.specs.Graph.{Call, itself, calls_in, IsPath, jumps, node_cost}
 use Rattle.rule_names.specs.Names.{Repeats, chain_named, chain_names, rule_targets, some_of, targets_of}
-use Rattle.rule_names.proofs.Decisions.{Contains-none, Contains-here, Contains-there, Contains-cases}
+use Rattle.list_laws.specs.Decisions.{Contains-none, Contains-there, Contains-cases}
 use Rattle.rule_paths.specs.Paths.{Caller, a_chain, a_map, verdict_calls, data_calls, pair_calls, statement_calls, statements_of, chain_node, map_node, CallsOf, AreCosts, MOST_JUMPS, HasDeepPath}
 use Rattle.rule_paths.specs.Findings.{HasDepth, AreChainDepths}
 use Rattle.rule_meaning.specs.declared.facts.Facts.{Facts}
@@ -43,7 +44,7 @@ name_at (x ∷ xs) (suc i) c e = name_at xs i c e
 
 name_stands : (cs : List ChainTree) (i : ℕ) (c : ChainTree) → slice_get cs i ≡ Some c → Contains (map (λ x. x.name) cs) c.name
 name_stands [] i c e = absurd cc
-name_stands (x ∷ xs) zero c e = let same : x.name ≡ c.name = ap (λ o. (unwrap_or o x).name) e in subst (λ n. Contains (n ∷ map (λ y. y.name) xs) c.name) (sym same) (Contains-here c.name (map (λ y. y.name) xs))
+name_stands (x ∷ xs) zero c e = let same : x.name ≡ c.name = ap (λ o. (unwrap_or o x).name) e in subst (λ n. Contains (n ∷ map (λ y. y.name) xs) c.name) (sym same) (Contains-head c.name (map (λ y. y.name) xs))
 name_stands (x ∷ xs) (suc i) c e = Contains-there x.name c.name (map (λ y. y.name) xs) (name_stands xs i c e)
 
 twice_behind : (n : Text) (ns : List Text) → Repeats ns → Repeats (n ∷ ns)
@@ -112,7 +113,7 @@ module _ (plant : PlantTree) (number : ℕ) (t : TableTree) where
   way a s v e calls (verdicts.of_map {name = name} m found has) called =
       let to_map : Call Caller = record { to = a_map name; is_jump = false } in
       let on : CallsOf t (a_map name) e = subst (λ o. Contains (calls_in (map_node o)) e) (sym found) (in_pairs (some_of m.elements) v e has called) in
-      record { along = to_map ∷ e ∷ []; path = (calls to_map (Contains-here to_map []), (on, refl)); as_deep = omega (arith, no_more e.is_jump) }
+      record { along = to_map ∷ e ∷ []; path = (calls to_map (Contains-head to_map []), (on, refl)); as_deep = omega (arith, no_more e.is_jump) }
 
   module _ (once : Repeats (chain_names t) → ⊥) (whole : There t (targets_of t)) (cost : Caller → ℕ) (are : AreCosts t cost) where
     -- ---- costs
@@ -211,14 +212,14 @@ module _ (plant : PlantTree) (number : ℕ) (t : TableTree) where
           let q = decides t plant s at f (Jump d) said in
           let e : Call Caller = record { to = a_chain q.0; is_jump = true } in
           let less = less_chosen cost plant number t are whole s (tree.jump q.0) q.2 in
-          falls_by c d s q.0 (tree.jump q.0) e refl (Contains-here e []) q.1 q.2 (λ good. (there_chosen cost plant number t are whole s (tree.jump q.0) good q.2).0) (omega (arith, less)) (slice_get (chains_of t) c) refl stands.rules stands.has stands.rule stands.in_chain stands.in_rule
+          falls_by c d s q.0 (tree.jump q.0) e refl (Contains-head e []) q.1 q.2 (λ good. (there_chosen cost plant number t are whole s (tree.jump q.0) good q.2).0) (omega (arith, less)) (slice_get (chains_of t) c) refl stands.rules stands.has stands.rule stands.in_chain stands.in_rule
 
       falls_goto : (c d : ℕ) (s : Statement) (at : Place) (f : Facts) → StandsIn p c s → p.said at s f ≡ give (Goto d) → Falls c d s 0
       falls_goto c d s at f stands said =
           let q = decides t plant s at f (Goto d) said in
           let e : Call Caller = record { to = a_chain q.0; is_jump = false } in
           let less = less_chosen cost plant number t are whole s (tree.goto q.0) q.2 in
-          falls_by c d s q.0 (tree.goto q.0) e refl (Contains-here e []) q.1 q.2 (λ good. (there_chosen cost plant number t are whole s (tree.goto q.0) good q.2).0) (omega (arith, less)) (slice_get (chains_of t) c) refl stands.rules stands.has stands.rule stands.in_chain stands.in_rule
+          falls_by c d s q.0 (tree.goto q.0) e refl (Contains-head e []) q.1 q.2 (λ good. (there_chosen cost plant number t are whole s (tree.goto q.0) good q.2).0) (omega (arith, less)) (slice_get (chains_of t) c) refl stands.rules stands.has stands.rule stands.in_chain stands.in_rule
 
       pub ranked : IsRanked p (weight_by cost) (chain_cost_by t cost) (λ c. slice_index depths c)
       ranked = record {

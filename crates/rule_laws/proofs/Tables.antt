@@ -10,7 +10,7 @@ use Rattle.nft_tree.specs.Parts.{chain_in, map_in, chains_of, maps_of}
 use Rattle.box_file.specs.Box.{PlantTree}
 use Rattle.chain_graph.specs.Graph.{Call, greatest, chain_cost, node_cost}
 use Rattle.rule_names.specs.Names.{place_in, chain_named, target_of, data_target, pair_targets, one_or_none, statement_targets, rule_targets, some_of, item_targets, targets_of}
-use Rattle.rule_names.proofs.Decisions.{Contains-none, Contains-cases}
+use Rattle.list_laws.specs.Decisions.{Contains-none, Contains-cases}
 use Rattle.rule_paths.specs.Paths.{Caller, a_chain, a_map, verdict_calls, data_calls, pair_calls, statement_calls, chain_node, map_node, AreCosts}
 use Rattle.rule_meaning.specs.declared.event.Decision.{Decision}
 use Rattle.rule_meaning.specs.declared.event.Decision.TheVariants as decisions

@@ -1,6 +1,7 @@
 -- The verdicts that a statement can come to.
 use Rattle.std.proofs.Common.{◌≡◌, ℕ, Bool, true, false, cond, List, [], ◌∷◌, map, Contains, Option, Some, None, option_and_then, refl, sym, subst}
 use Rattle.std.specs.Option.{option_or}
+use Rattle.list_laws.specs.Lists.{Contains-head}
 use Rattle.nft_tree.specs.declared.kind.Kind.{Kind}
 use Rattle.nft_tree.specs.declared.selector.Selector.{Selector}
 use Rattle.nft_tree.specs.declared.statement.MarkField.{MarkField}
@@ -11,7 +12,7 @@ use Rattle.nft_tree.specs.Kinds.{selector_kind, map_key_kind}
 use Rattle.nft_values.specs.Values.{numbers_of}
 use Rattle.box_file.specs.Box.{PlantTree}
 use Rattle.rule_names.specs.Names.{map_named, some_of}
-use Rattle.rule_names.proofs.Decisions.{Contains-here, Contains-there}
+use Rattle.list_laws.specs.Decisions.{Contains-there}
 use Rattle.rule_meaning.specs.declared.facts.Facts.{Facts}
 use Rattle.rule_meaning.specs.declared.facts.Tracking.{Tracking}
 use Rattle.rule_meaning.specs.declared.facts.Tracking.TheVariants as tracking
@@ -67,7 +68,7 @@ module _ (t : TableTree) where
   FromList ps (Some v) = Among ps v
 
   first : (d : DataTree) (ps : List PairTree) (p : PairTree) → p.value ≡ d → FromList (p ∷ ps) (data_verdict d)
-  first (tree.to_verdict v) ps p is = subst (λ x. Contains (x ∷ map (λ y. y.value) ps) (tree.to_verdict v)) (sym is) (Contains-here (tree.to_verdict v) (map (λ y. y.value) ps))
+  first (tree.to_verdict v) ps p is = subst (λ x. Contains (x ∷ map (λ y. y.value) ps) (tree.to_verdict v)) (sym is) (Contains-head (tree.to_verdict v) (map (λ y. y.value) ps))
   first (tree.to_value v) ps p is = tt
 
   later : (p : PairTree) (ps : List PairTree) (o : Option VerdictTree) → FromList ps o → FromList (p ∷ ps) o

@@ -1,6 +1,7 @@
 -- What well-formed rulesets say of each of their tables.
 use Rattle.std.proofs.Common.{◌≡◌, ℕ, zero, suc, Bool, true, false, ◌||◌, List, [], ◌∷◌, slice_get, Contains, Some, unwrap_or, refl, ap, ◌∙◌, arith}
 use Rattle.std.specs.List.{list_any}
+use Rattle.std.proofs.lemmas.Bool.{false_from_ne_true}
 use Rattle.nft_tree.specs.Tree.{TableTree}
 use Rattle.box_file.specs.Box.{PlantTree}
 use Rattle.rule_names.specs.Names as names
@@ -24,17 +25,13 @@ got_passes test (y ∷ ys) (suc i) x e passed = either (test y) (got_passes test
     either true h = refl
     either false h = h
 
-none : (b : Bool) → (b ≡ true → ⊥) → b ≡ false
-none true h = absurd (h refl)
-none false h = refl
-
 module _ (tables : List TableTree) (plant : PlantTree) (well : WellFormed tables plant) (number : ℕ) (t : TableTree) (at : slice_get tables number ≡ Some t) where
   pub contained : Contains tables t
   contained = got_contained tables number t at
 
   -- all chains that it names are there
   pub whole : There t (targets_of t)
-  whole = there t (targets_of t) (none (jumps_nowhere t) (λ bad. well faults.NoSuchChain (got_passes jumps_nowhere tables number t at bad)))
+  whole = there t (targets_of t) (false_from_ne_true (jumps_nowhere t) (λ bad. well faults.NoSuchChain (got_passes jumps_nowhere tables number t at bad)))
 
   -- no two of its chains have one name
   pub once : Repeats (chain_names t) → ⊥

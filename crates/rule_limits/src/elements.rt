@@ -1,34 +1,19 @@
 //! How many elements sets and maps have, those without a name included. Sums stop at `usize::MAX`,
 //! which is far over the limit.
 ghost use Rattle.std.specs.Prelude.{◌≡◌, min};
-ghost use Rattle.nft_tree.specs.Tree.{chain_tree, item_tree, map_ref_tree, rule_tree, set_ref_tree, statement, table_tree, tables_of};
-ghost use Rattle.rule_limits.specs.Limits.{element_count, item_elements, map_ref_elements, rule_elements, set_ref_elements, statement_elements};
-ghost use Rattle.rule_limits.specs.steps.Shares.{chain_elements, table_elements};
+ghost use Rattle.nft_tree.specs.Tree.{item_tree, map_ref_tree, set_ref_tree, statement, tables_of};
+ghost use Rattle.rule_limits.specs.Limits.{element_count, item_elements, map_ref_elements, set_ref_elements, statement_elements};
 
 use nft_tree::{
-    Chain, DestinationTarget, Item, Look, MapRef, Match, Nat, Operand, Rule, Ruleset, SetRef,
-    SourceTarget, Stmt, Table,
+    DestinationTarget, Item, Look, MapRef, Match, Nat, Operand, Ruleset, SetRef, SourceTarget,
+    Stmt, sum,
 };
 
 /// The elements of all sets and maps.
 pub fn element_count(tree: &Ruleset) -> usize
     ensures { result ≡ min (element_count (tables_of tree.now)) usize.MAX }
 {
-    let mut count = 0usize;
-    for table in &tree.tables {
-        count = count.saturating_add(table_elements(table));
-    }
-    count
-}
-
-fn table_elements(table: &Table) -> usize
-    ensures { result ≡ min (table_elements (table_tree table.now)) usize.MAX }
-{
-    let mut count = 0usize;
-    for item in &table.items {
-        count = count.saturating_add(item_elements(item));
-    }
-    count
+    sum(&tree.tables, |table| sum(&table.items, item_elements))
 }
 
 /// The elements of a set or a map with a name, or of those without one in a chain.
@@ -37,35 +22,18 @@ fn item_elements(item: &Item) -> usize
 {
     match item {
         Item::Comment(_) => 0,
-        Item::Chain(chain) => chain_elements(chain),
+        Item::Chain(chain) => sum(
+            &chain.rules,
+            |rule| sum(&rule.statements, statement_elements),
+        ),
         Item::Set(set) => set.elements.as_ref().map_or(0, Vec::len),
         Item::Map(map) => map.elements.as_ref().map_or(0, Vec::len),
     }
 }
 
-fn chain_elements(chain: &Chain) -> usize
-    ensures { result ≡ min (chain_elements (chain_tree chain.now)) usize.MAX }
-{
-    let mut count = 0usize;
-    for rule in &chain.rules {
-        count = count.saturating_add(rule_elements(rule));
-    }
-    count
-}
-
-fn rule_elements(rule: &Rule) -> usize
-    ensures { result ≡ min (rule_elements (rule_tree rule.now)) usize.MAX }
-{
-    let mut count = 0usize;
-    for statement in &rule.statements {
-        count = count.saturating_add(statement_elements(statement));
-    }
-    count
-}
-
 /// The elements of the set or the map without a name in a statement.
 fn statement_elements(stmt: &Stmt) -> usize
-    ensures { result ≡ statement_elements (statement stmt.now) }
+    ensures { result ≡ min (statement_elements (statement stmt.now)) usize.MAX }
 {
     match stmt {
         Stmt::Match(Match::In(_, set) | Match::NotIn(_, set)) => set_ref_elements(set),

@@ -1,5 +1,6 @@
 -- What is left of chains that leads to the same.
 use Rattle.std.proofs.Common.{◌≡◌, ◌↔◌, ℕ, ◌+◌, List, [], ◌∷◌, ◌++◌, length, Option, Some, None, unwrap_or, append-nil, refl, sym, ap, ◌∙◌, subst, arith}
+use Rattle.std.proofs.lemmas.Option.{none-some}
 use Rattle.nft_tree.specs.Tree as tree
 use Rattle.nft_tree.specs.Tree.{Statement, TableTree}
 use Rattle.box_file.specs.Box.{PlantTree}
@@ -14,10 +15,7 @@ use Rattle.rule_meaning.specs.Runs as runs
 use Rattle.rule_meaning.specs.Runs.{Program, named, Left, at_rule, in_rule, After, at_end, over, IsOver, Runs, place, taking}
 use Rattle.rule_meaning.specs.Laws.{through, reached_behind, EmptyJump, CounterSees, NothingBehind}
 use Rattle.rule_meaning.proofs.Opening as opening
-use Rattle.rule_meaning.proofs.Opening.{Jumped, Decided, Said, open_run, saying}
-
-none_is_none : {A : Type 0} (x : A) → None ≡ Some x → ⊥
-none_is_none x e = cc
+use Rattle.rule_meaning.proofs.Opening.{Jumped, Decided, open_run, saying}
 
 module _ {S : Type 0} (p : Program S) where
   -- ---- a statement that says this, the other way round
@@ -83,8 +81,8 @@ module _ {S : Type 0} (p : Program S) where
         let q = next h (es ++ x ∷ []) e in
         let on : k + 1 + length ss ≡ k + length (s ∷ ss) = omega arith in
         (λ r. renumbered _ _ on (q.0 (saying p (note x h) is r)), λ r. runs.notes x h is (q.1 (renumbered _ _ (sym on) r)))
-    behind k s ss f es fail is next e = absurd (none_is_none _ e)
-    behind k s ss f es (give d) is next e = absurd (none_is_none _ e)
+    behind k s ss f es fail is next e = absurd (none-some _ e)
+    behind k s ss f es (give d) is next e = absurd (none-some _ e)
 
     pub comes_through : (before : List S) (k : ℕ) (f : Facts) (es : List Event) → Comes c n k before rest rs f es g later o
     comes_through [] k f es e =
@@ -105,7 +103,7 @@ module _ {S : Type 0} (p : Program S) where
     stopped k s ss f es (give d) is next e r = decided c n k s (ss ++ other) rs f es o d is (saying p (give d) is r)
 
     pub stops_within : (before : List S) (k : ℕ) (f : Facts) (es : List Event) → through p c n k before f es ≡ None → Runs p c n (in_rule k (before ++ rest) rs) f es o → Runs p c n (in_rule k (before ++ other) rs) f es o
-    stops_within [] k f es e r = absurd (none_is_none _ (sym e))
+    stops_within [] k f es e r = absurd (none-some _ (sym e))
     stops_within (s ∷ ss) k f es e r = stopped k s ss f es (p.said (place p c n k) s f) refl (λ h x. stops_within ss (k + 1) h x) e r
 
 -- ---- the laws

@@ -1,12 +1,13 @@
 -- Base chains and hooks lead to one end.
-use Rattle.std.proofs.Common.{◌≡◌, ◌↔◌, ℤ, Bool, List, [], ◌∷◌, filter, Option, Some, unwrap_or, sym, ap, ◌∙◌, subst}
+use Rattle.std.proofs.Common.{◌≡◌, ◌↔◌, ℤ, Bool, List, [], ◌∷◌, filter, Option, Some, sym, ap, ◌∙◌, subst}
+use Rattle.std.proofs.lemmas.Option.{same_Some}
 use Rattle.nft_tree.specs.Tree.{Statement, TableTree}
 use Rattle.box_file.specs.Box.{PlantTree}
 use Rattle.rule_meaning.specs.declared.facts.Facts.{Facts}
 use Rattle.rule_meaning.specs.declared.event.Event.{Event}
 use Rattle.rule_meaning.specs.Runs.{named, at_rule, After, Runs}
 use Rattle.rule_meaning.specs.Hooks as hooks
-use Rattle.rule_meaning.specs.Hooks.{Base, InOrder, priority, runs_before, End, policy_of, closed, Passage, RunsBase, GoesOn, Stops, Nothing, Then, InTurn, Chains, bases_of}
+use Rattle.rule_meaning.specs.Hooks.{Base, InOrder, runs_before, End, policy_of, closed, Passage, RunsBase, GoesOn, Stops, Nothing, Then, InTurn, Chains, bases_of}
 use Rattle.rule_meaning.specs.Laws.{step_of}
 use Rattle.rule_meaning.proofs.OneRun.{one_after}
 use Rattle.rule_meaning.proofs.Orders.{one_order}
@@ -21,14 +22,11 @@ one_text_order text a b first second = one_order runs_before priorities text a b
 abbrev pub One : Passage → Type 0
 One P = (f : Facts) (es : List Event) (end other : End) → P f es end → P f es other → end ≡ other
 
-same_some : {A : Type 0} (a b : A) → Some a ≡ Some b → a ≡ b
-same_some a b e = ap (λ x. unwrap_or x a) e
-
 pub one_nothing : One Nothing
 one_nothing f es end other a b = a ∙ sym b
 
 pub one_step : (gives : Facts → List Event → Option End) → One (step_of gives)
-one_step gives f es end other a b = same_some end other (sym a ∙ b)
+one_step gives f es end other a b = same_Some end other (sym a ∙ b)
 
 pub one_then : (first second : Passage) → One first → One second → One (Then first second)
 one_then first second one two f es end other (hooks.goes_on m r on s) (hooks.goes_on m' r' on' s') =
@@ -46,9 +44,9 @@ module _ (plant : PlantTree) (tables : List TableTree) where
   one_base b f es end other x y =
       let p = named plant b.number.table x.table in
       let here : Same b f es end other x.table = λ rules after has r is.
-      let r' : Runs p b.number.chain 1 (at_rule x.rules) f es after = subst (λ l. Runs p b.number.chain 1 (at_rule l) f es after) (same_some rules x.rules (sym has ∙ x.has)) r in
+      let r' : Runs p b.number.chain 1 (at_rule x.rules) f es after = subst (λ l. Runs p b.number.chain 1 (at_rule l) f es after) (same_Some rules x.rules (sym has ∙ x.has)) r in
       x.is ∙ ap (closed b.number (policy_of b.head)) (one_after p x.runs after r') ∙ sym is in
-      subst (Same b f es end other) (same_some x.table y.table (sym x.stands ∙ y.stands)) here y.rules y.after y.has y.runs y.is
+      subst (Same b f es end other) (same_Some x.table y.table (sym x.stands ∙ y.stands)) here y.rules y.after y.has y.runs y.is
 
   pub one_in_turn : (bs : List Base) → One (InTurn plant tables bs)
   one_in_turn [] = one_nothing

@@ -1,19 +1,14 @@
 -- Priorities are integers, so any two base chains compare.
-use Rattle.std.proofs.Common.{◌≡◌, Bool, true, false, cond, int_lt, refl, sym, ◌∙◌}
+use Rattle.std.proofs.Common.{◌≡◌, int_lt, sym, ◌∙◌}
 use Rattle.std.specs.Ordering.{int_cmp, is_lt}
-use Rattle.std.specs.declared.cmp.Ordering.TheVariants.{Less, Equal, Greater}
 use Rattle.std.specs.Cmp.{IsStrictWeakOrder}
 use Rattle.std.proofs.lemmas.Cmp.{int_cmp_total}
 use Rattle.std.proofs.lemmas.List.Sorted.{ranks_by}
+use Rattle.list_laws.specs.Tests.{less_by}
 use Rattle.rule_meaning.specs.Hooks.{Base, priority, runs_before}
 
-by_test : (b c : Bool) → is_lt (cond b Less (cond c Greater Equal)) ≡ b
-by_test true c = refl
-by_test false true = refl
-by_test false false = refl
-
 by_number : (x y : Base) → is_lt (int_cmp (priority x) (priority y)) ≡ runs_before x y
-by_number x y = by_test (int_lt (priority x) (priority y)) (int_lt (priority y) (priority x))
+by_number x y = less_by (int_lt (priority x) (priority y)) (int_lt (priority y) (priority x))
 
 pub priorities : IsStrictWeakOrder runs_before
 priorities =

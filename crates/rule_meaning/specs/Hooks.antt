@@ -1,6 +1,6 @@
 -- How a packet passes a hook: its base chains in order of priority (nft(8), "Chains"), each with its policy, and the
 -- translation step among them.
-use Rattle.std.specs.Prelude.{◌≡◌, ℕ, suc, ℤ, pos, negsuc, int_lt, not, ◌&&◌, Bool, true, false, List, [], ◌∷◌, ◌++◌}
+use Rattle.std.specs.Prelude.{◌≡◌, ℕ, suc, ℤ, int_lt, not, ◌&&◌, Bool, true, false, List, [], ◌∷◌, ◌++◌}
 use Rattle.std.specs.Prelude.{filter, Option, Some, None, slice_get, unwrap_or}
 use Rattle.std.specs.List.Sorted.{IsSortedBy, IsStableBy}
 use Rattle.nft_tree.specs.declared.chain.ChainKind.{ChainKind}
@@ -11,7 +11,7 @@ use Rattle.nft_tree.specs.declared.chain.Policy.{Policy}
 use Rattle.nft_tree.specs.declared.chain.Policy.TheVariants as policies
 use Rattle.nft_tree.specs.Tree.{Statement, HeadTree, ChainTree, TableTree}
 use Rattle.nft_tree.specs.Parts.{chains_of}
-use Rattle.nft_tree.specs.Priorities.{priority_number}
+use Rattle.nft_tree.specs.Priorities.{priority_number, DSTNAT, SRCNAT, AFTER_CONNTRACK}
 use Rattle.box_file.specs.Box.{PlantTree}
 use Rattle.rule_meaning.specs.declared.facts.Facts.{Facts}
 use Rattle.rule_meaning.specs.declared.event.ChainNo.{ChainNo}
@@ -156,7 +156,7 @@ pub record Chains (plant : PlantTree) (tables : List TableTree) (test : Base →
 
 -- filter chains on prerouting of priority -200 and below run before a connection is looked for
 abbrev pub is_early : Base → Bool
-is_early b = filters_at hooks.Prerouting b && is_below (negsuc 198) b
+is_early b = filters_at hooks.Prerouting b && is_below AFTER_CONNTRACK b
 
 abbrev pub Early : PlantTree → List TableTree → Passage
 Early plant tables = Chains plant tables is_early
@@ -168,10 +168,10 @@ Around plant tables test limit step =
     Then (Chains plant tables (λ b. test b && is_below limit b))
     (Then step (Chains plant tables (λ b. test b && not (is_below limit b))))
 
--- the destination is translated at dstnat, -100
+-- the destination is translated at dstnat
 abbrev pub Prerouting : PlantTree → List TableTree → Passage → Passage
 Prerouting plant tables step =
-    Around plant tables (λ b. filters_at hooks.Prerouting b && not (is_early b)) (negsuc 99) step
+    Around plant tables (λ b. filters_at hooks.Prerouting b && not (is_early b)) DSTNAT step
 
 abbrev pub Input : PlantTree → List TableTree → Passage
 Input plant tables = Chains plant tables (filters_at hooks.Input)
@@ -179,9 +179,9 @@ Input plant tables = Chains plant tables (filters_at hooks.Input)
 abbrev pub Forward : PlantTree → List TableTree → Passage
 Forward plant tables = Chains plant tables (filters_at hooks.Forward)
 
--- the source is translated at srcnat, 100
+-- the source is translated at srcnat
 abbrev pub Postrouting : PlantTree → List TableTree → Passage → Passage
-Postrouting plant tables step = Around plant tables (filters_at hooks.Postrouting) (pos 100) step
+Postrouting plant tables step = Around plant tables (filters_at hooks.Postrouting) SRCNAT step
 
 -- a translation step runs the chains of type nat until a statement translates
 abbrev pub Translating : Hook → PlantTree → List TableTree → Passage

@@ -3,7 +3,8 @@ use Rattle.std.specs.Prelude.{ℕ, ◌+◌, ◌*◌, ◌^◌, List, [], ◌∷�
 use Rattle.std.specs.Option.{option_map, option_and_then}
 use Rattle.nft_tree.specs.declared.selector.Selector.{Selector}
 use Rattle.nft_tree.specs.declared.selector.Selector.TheVariants as selectors
-use Rattle.nft_tree.specs.Words.{selector_width}
+use Rattle.nft_tree.specs.Words.{selector_width, STATE_INVALID, STATE_ESTABLISHED, STATE_RELATED, STATE_NEW}
+use Rattle.nft_tree.specs.Words.{STATUS_SEEN_REPLY, STATUS_SNAT, STATUS_DNAT}
 use Rattle.ip_headers.specs.declared.transport.Transport.{Transport}
 use Rattle.ip_headers.specs.declared.transport.Transport.TheVariants as transports
 use Rattle.ip_headers.specs.Transport.{source_port_of, destination_port_of, tcp_flags_of, icmp_type_of}
@@ -37,13 +38,13 @@ udp_destination _ = None
 -- ---- the connection: an invalid packet has a state and nothing else; before it is looked for there is nothing
 
 abbrev pub state_bit : ConnectionState → ℕ
-state_bit states.Established = 2
-state_bit states.Related = 4
-state_bit states.New = 8
+state_bit states.Established = STATE_ESTABLISHED
+state_bit states.Related = STATE_RELATED
+state_bit states.New = STATE_NEW
 
 abbrev pub ct_state : Tracking → Option ℕ
 ct_state tracking.Unknown = None
-ct_state tracking.Invalid = Some 1
+ct_state tracking.Invalid = Some STATE_INVALID
 ct_state (tracking.Known c) = Some (state_bit c.state)
 
 abbrev pub direction_number : Direction → ℕ
@@ -55,9 +56,11 @@ abbrev pub of_connection : (Connection → ℕ) → Tracking → Option ℕ
 of_connection field (tracking.Known c) = Some (field c)
 of_connection field _ = None
 
--- seen-reply 2, snat 16, dnat 32
 abbrev pub status_bits : Connection → ℕ
-status_bits c = cond c.seen_reply 2 0 + cond c.source_translated 16 0 + cond c.destination_translated 32 0
+status_bits c =
+    cond c.seen_reply STATUS_SEEN_REPLY 0
+    + cond c.source_translated STATUS_SNAT 0
+    + cond c.destination_translated STATUS_DNAT 0
 
 -- ---- all selectors
 

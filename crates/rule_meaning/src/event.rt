@@ -76,7 +76,7 @@ pub enum Ending {
 
 /// How a base chain ends, and what rules may read from then on.
 #[derive(Clone, Copy)]
-pub struct Outcome {
+pub struct ChainEnd {
     pub ending: Ending,
     /// With the marks that were written.
     pub facts: Facts,

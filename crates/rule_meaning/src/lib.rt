@@ -7,7 +7,7 @@ mod event;
 mod facts;
 mod laws;
 
-pub use event::{ChainNo, Decision, Ending, Event, Outcome, Place, Ports, Translation};
+pub use event::{ChainEnd, ChainNo, Decision, Ending, Event, Place, Ports, Translation};
 pub use facts::{Connection, ConnectionState, Direction, Facts, Interface, Packet, Tracking};
 pub use laws::{
     accept_ends_one, counters_see, drop_ends_all, empty_jump, one_end, one_run, one_run_of,

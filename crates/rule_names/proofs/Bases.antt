@@ -5,9 +5,10 @@ use Rattle.std.specs.List.{list_any}
 use Rattle.std.specs.Option.{option_map}
 use Rattle.std.specs.Str.{bytes_eq}
 use Rattle.std.specs.Cmp.Lexicographic.{same_text}
+use Rattle.std.proofs.lemmas.Bool.{or_cases, false_from_ne_true}
+use Rattle.std.proofs.Math.Bool.{or-false}
 use Rattle.nft_tree.specs.Tree.{Text, ChainTree}
 use Rattle.rule_names.specs.Names.{Repeats}
-use Rattle.rule_names.proofs.Texts.{or-split}
 use Rattle.rule_names.proofs.Twice.{Among, among-more, repeats-here, repeats-more}
 use Rattle.rule_names.proofs.Places.{first_named}
 
@@ -24,14 +25,6 @@ pub and-left : (a b : Bool) → a && b ≡ true → a ≡ true
 and-left true b h = refl
 and-left false b h = h
 
-pub not-true-is-false : (b : Bool) → (b ≡ true → ⊥) → b ≡ false
-not-true-is-false true h = absurd (h refl)
-not-true-is-false false h = refl
-
-pub or-false : (a : Bool) → a || false ≡ a
-or-false true = refl
-or-false false = refl
-
 abbrev pub names : List ChainTree → List Text
 names cs = map (λ c. c.name) cs
 
@@ -43,7 +36,7 @@ base-among [] name t = cc
 base-among (c ∷ cs) name t = ⊎_elim
     (λ h. base-among-here c cs name (same_text c.name name (sym (and-left (bytes_eq c.name name) (is_some c.head) h))))
     (λ h. among-more c.name (names cs) name (base-among cs name h))
-    (or-split (base_named name c) (list_any (base_named name) cs) t)
+    (or_cases (base_named name c) (list_any (base_named name) cs) t)
 
 pub base-step : (b : Bool) (c : ChainTree) (rest : Bool) (o : Option ChainTree) → rest ≡ is_base o → (b ≡ true → rest ≡ false) → (b && is_some c.head) || rest ≡ is_base (cond b (Some c) o)
 base-step true c rest o e f = ap (λ r. is_some c.head || r) (f refl) ∙ or-false (is_some c.head)
@@ -55,7 +48,7 @@ any-base [] name apart = refl
 any-base (c ∷ cs) name apart =
     base-step (bytes_eq c.name name) c (list_any (base_named name) cs) (first_named (λ c. c.name) name cs)
     (any-base cs name (λ r. apart (repeats-more c.name (names cs) r)))
-    (λ t. not-true-is-false (list_any (base_named name) cs) (λ u.
+    (λ t. false_from_ne_true (list_any (base_named name) cs) (λ u.
     apart (repeats-here c.name (names cs) (subst (Among (names cs)) (sym (same_text c.name name (sym t))) (base-among cs name u)))))
 
 pub is-some-map : {A B : Type 0} (f : A → B) (o : Option A) → is_some o ≡ is_some (option_map f o)

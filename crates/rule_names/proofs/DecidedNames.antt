@@ -5,7 +5,7 @@ use Rattle.nft_tree.specs.declared.ruleset.Family.{Family}
 use Rattle.nft_tree.specs.declared.ruleset.Family.TheVariants as families
 use Rattle.nft_tree.specs.Tree.{Text, TableTree}
 use Rattle.rule_names.specs.Names.{Repeats, NameTwice, two_tables, two_chains, two_sets_or_maps, table_names, chain_names, set_and_map_names}
-use Rattle.rule_names.proofs.Decisions.{Decided, some_decided, decided_as, either_decided, texts_decided}
+use Rattle.list_laws.specs.Decisions.{Decided, some_decided, decided_as, either_decided, texts_decided}
 
 member_decided : (name : Text) (names : List Text) → Decided (Contains names name)
 member_decided name names =

@@ -6,5 +6,4 @@ pub mod Items
 pub mod Bases
 pub mod Tests
 pub mod Tables
-pub mod Decisions
 pub mod DecidedNames

@@ -1,12 +1,14 @@
 -- Names that are the same, and their places.
-use Rattle.std.proofs.Common.{◌≡◌, ◌⊎◌, ℕ, suc, ◌+◌, List, [], ◌∷◌, Bool, true, false, ◌||◌, ◌&&◌, cond, Option, Some, None, map, sym, refl, ap, ◌∙◌, inl, inr, arith, eq-eqb}
+use Rattle.std.proofs.Common.{◌≡◌, ℕ, suc, ◌+◌, List, [], ◌∷◌, Bool, true, false, cond, Option, Some, None, sym, refl, ap, ◌∙◌, arith}
 use Rattle.std.specs.Prelude.{position, nat_eq}
 use Rattle.std.specs.Borrow.{Bor}
-use Rattle.std.specs.List.{list_any, position_from}
+use Rattle.std.specs.List.{position_from}
 use Rattle.std.specs.Option.{option_map}
 use Rattle.std.specs.Cmp.Lexicographic.{pointwise, same_text}
 use Rattle.std.specs.Str.{bytes_eq}
 use Rattle.std.proofs.lemmas.Iterator.Adapters.{position_from-zero}
+use Rattle.list_laws.specs.Tests.{same-tests}
+use Rattle.list_laws.specs.Lists.{text-refl}
 use Rattle.nft_tree.specs.Tree.{Text}
 use Rattle.rule_names.specs.Names.{place_in}
 use Rattle.rule_names.specs.steps.Index.{texts}
@@ -15,28 +17,11 @@ use Rattle.rule_names.specs.steps.Index.{texts}
 abbrev pub named : Text → Bor Text → Bool
 named name k = pointwise nat_eq name k.now
 
-pub text-refl : (xs : Text) → bytes_eq xs xs ≡ true
-text-refl [] = refl
-text-refl (x ∷ xs) = ap (λ b. b && bytes_eq xs xs) (eq-eqb x x refl) ∙ text-refl xs
-
-pub same-tests : (a b : Bool) → (a ≡ true → b ≡ true) → (b ≡ true → a ≡ true) → a ≡ b
-same-tests true b f g = sym (f refl)
-same-tests false true f g = g refl
-same-tests false false f g = refl
-
 pub text-turn : (a b : Text) → bytes_eq a b ≡ true → bytes_eq b a ≡ true
 text-turn a b h = let e = same_text a b (sym h) in ap (λ x. bytes_eq b x) e ∙ text-refl b
 
 pub text-sym : (a b : Text) → bytes_eq a b ≡ bytes_eq b a
 text-sym a b = same-tests (bytes_eq a b) (bytes_eq b a) (text-turn a b) (text-turn b a)
-
-pub or-split : (a b : Bool) → a || b ≡ true → (a ≡ true) ⊎ (b ≡ true)
-or-split true b h = inl refl
-or-split false b h = inr h
-
-pub any-over : {X Y : Type 0} (p : Y → Bool) (h : X → Y) (xs : List X) → list_any (λ x. p (h x)) xs ≡ list_any p (map h xs)
-any-over p h [] = refl
-any-over p h (x ∷ xs) = ap (λ v. p (h x) || v) (any-over p h xs)
 
 pub place-more : (b : Bool) (i : ℕ) (o : Option ℕ) → cond b (Some i) (option_map (λ k. k + (i + 1)) o) ≡ option_map (λ k. k + i) (cond b (Some 0) (option_map suc o))
 place-more true i o = ap Some (omega arith)

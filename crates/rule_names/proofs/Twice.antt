@@ -5,12 +5,13 @@ use Rattle.std.specs.Borrow.{Bor}
 use Rattle.std.specs.List.{list_any}
 use Rattle.std.specs.Cmp.Lexicographic.{same_text}
 use Rattle.std.specs.Str.{bytes_eq}
-use Rattle.std.proofs.lemmas.Bool.{cases_lt}
+use Rattle.std.proofs.lemmas.Bool.{cases_lt, or_right, or_cases}
 use Rattle.std.proofs.lemmas.List.{get_or_append_left, get_or_push, length_push, map-append, take_more}
+use Rattle.list_laws.specs.Lists.{any_over, text-refl}
 use Rattle.nft_tree.specs.Tree.{Text}
 use Rattle.rule_names.specs.Names.{Repeats}
 use Rattle.rule_names.specs.steps.Index.{texts}
-use Rattle.rule_names.proofs.Texts.{named, text-refl, or-split, any-over}
+use Rattle.rule_names.proofs.Texts.{named}
 
 -- the name stands in the list
 pub record Among (names : List Text) (name : Text) : Type 0 where
@@ -55,16 +56,12 @@ any-named [] name t = cc
 any-named (n ∷ ns) name t = ⊎_elim
     (λ h. record { place = zero; within = omega arith; is = sym (same_text name n (sym h)) })
     (λ h. among-more n ns name (any-named ns name h))
-    (or-split (bytes_eq name n) (list_any (bytes_eq name) ns) t)
-
-pub or-right : (a b : Bool) → b ≡ true → a || b ≡ true
-or-right true b h = refl
-or-right false b h = h
+    (or_cases (bytes_eq name n) (list_any (bytes_eq name) ns) t)
 
 pub named-at : (names : List Text) (name : Text) (k : ℕ) → k < length names → get_or names k [] ≡ name → list_any (bytes_eq name) names ≡ true
 named-at [] name k l e = absurd (omega (arith, l))
 named-at (n ∷ ns) name zero l e = ap (λ x. bytes_eq name x || list_any (bytes_eq name) ns) e ∙ ap (λ b. b || list_any (bytes_eq name) ns) (text-refl name)
-named-at (n ∷ ns) name (suc k) l e = or-right (bytes_eq name n) (list_any (bytes_eq name) ns) (named-at ns name k (omega (arith, l)) e)
+named-at (n ∷ ns) name (suc k) l e = or_right (bytes_eq name n) (list_any (bytes_eq name) ns) (named-at ns name k (omega (arith, l)) e)
 
 pub named-any : (names : List Text) (name : Text) → Among names name → list_any (bytes_eq name) names ≡ true
 named-any names name a = named-at names name a.place a.within a.is
@@ -115,14 +112,10 @@ pub not-false : (b : Bool) → not b ≡ false → b ≡ true
 not-false true h = refl
 not-false false h = cc
 
-pub not-true : (b : Bool) → not b ≡ true → b ≡ false
-not-true true h = cc
-not-true false h = refl
-
 -- a key that stands already
 pub found-again : (keys : List (Bor Text)) (names : List Text) (name : Text) (rest : List Text) → Indexes keys names → list_any (named name) keys ≡ true → Repeats (names ++ name ∷ rest)
 found-again keys names name rest known t =
-    among-front names name rest (any-named names name (sym (any-over (bytes_eq name) (λ k. k.now) keys ∙ ap (list_any (bytes_eq name)) known.keys_are) ∙ t))
+    among-front names name rest (any-named names name (sym (any_over (bytes_eq name) (λ k. k.now) keys ∙ ap (list_any (bytes_eq name)) known.keys_are) ∙ t))
 
 -- a key more
 pub indexes-more : (keys new : List (Bor Text)) (names : List Text) (key : Bor Text) → new ≡ (if list_any (named key.now) keys then keys else keys ++ key ∷ []) → Indexes keys names → list_any (named key.now) keys ≡ false → Indexes new (names ++ key.now ∷ [])
@@ -130,7 +123,7 @@ indexes-more keys new names key is known absent =
     let now : new ≡ keys ++ key ∷ [] = is ∙ ap (λ b. if b then keys else keys ++ key ∷ []) absent in
     record {
       keys_are = ap texts now ∙ map-append (λ k. k.now) keys (key ∷ []) ∙ ap (λ ns. ns ++ key.now ∷ []) known.keys_are;
-      apart = apart-more names key.now known.apart (sym (any-over (bytes_eq key.now) (λ k. k.now) keys ∙ ap (list_any (bytes_eq key.now)) known.keys_are) ∙ absent);
+      apart = apart-more names key.now known.apart (sym (any_over (bytes_eq key.now) (λ k. k.now) keys ∙ ap (list_any (bytes_eq key.now)) known.keys_are) ∙ absent);
     }
 
 pub texts-more : (names : List (Bor Text)) (i : ℕ) (d : Bor Text) → i < length names → texts (take (i + 1) names) ≡ texts (take i names) ++ (get_or names i d).now ∷ []

@@ -1,8 +1,9 @@
 -- What is decided of nodes of which finitely many call: whether there is a cycle; and where there is none, whether a path has so many jumps, whether it comes to a node that fits, and what each node costs.
 use Rattle.std.proofs.Common.{◌≡◌, ◌⊎◌, ℕ, zero, suc, ◌+◌, ◌<◌, ◌≤◌, max, Bool, true, false, if◌then◌else◌, List, [], ◌∷◌, length, flat_map, refl, sym, ap, ap₂, subst, ◌∙◌, inl, inr, arith, Contains}
 use Rattle.std.proofs.lemmas.List.Elements.{Contains-append_left, Contains-append_right}
+use Rattle.list_laws.specs.Lists.{Contains-head}
 use Rattle.chain_graph.specs.Graph.{Call, NodeTree, chain, verdict_map, itself, calls_in, IsPath, jumps, HasCycle, HasPathOver, greatest, chain_cost, node_cost, Reaches}
-use Rattle.rule_names.proofs.Decisions.{Decided, Contains-none, Contains-here, Contains-there, Contains-cases, some_decided, decided_as}
+use Rattle.list_laws.specs.Decisions.{Decided, Contains-none, Contains-there, Contains-cases, some_decided, decided_as}
 
 -- ---- lists
 
@@ -12,7 +13,7 @@ all_or_some P Q each [] = inl (λ x at. absurd (Contains-none x at))
 all_or_some {A} P Q each (x ∷ xs) = step (each x) (all_or_some P Q each xs)
   where
     step : P x ⊎ Q x → ((y : A) → Contains xs y → P y) ⊎ ((y : A) × Contains xs y × Q y) → ((y : A) → Contains (x ∷ xs) y → P y) ⊎ ((y : A) × Contains (x ∷ xs) y × Q y)
-    step (inr q) later = inr (x, Contains-here x xs, q)
+    step (inr q) later = inr (x, Contains-head x xs, q)
     step (inl p) (inr h) = inr (h.0, Contains-there x h.0 xs h.1, h.2)
     step (inl p) (inl all) = inl (λ y at. elim (Contains-cases x y xs at) [ inl e ↦ subst P e p | inr later ↦ all y later ])
 
@@ -25,14 +26,14 @@ removed {A} x (y ∷ ys) at = step (Contains-cases y x ys at) (removed x ys)
     step (inl here) later = (ys, refl, λ z other in_all. elim (Contains-cases y z ys in_all) [ inl e ↦ absurd (other (sym e ∙ here)) | inr in_rest ↦ in_rest ])
     step (inr there) later =
         let r = later there in
-        (y ∷ r.0, ap suc r.1, λ z other in_all. elim (Contains-cases y z ys in_all) [ inl e ↦ subst (Contains (y ∷ r.0)) e (Contains-here y r.0) | inr in_rest ↦ Contains-there y z r.0 (r.2 z other in_rest) ])
+        (y ∷ r.0, ap suc r.1, λ z other in_all. elim (Contains-cases y z ys in_all) [ inl e ↦ subst (Contains (y ∷ r.0)) e (Contains-head y r.0) | inr in_rest ↦ Contains-there y z r.0 (r.2 z other in_rest) ])
 
 -- ---- costs that agree on what is called
 
 module _ {K : Type 0} (f g : K → ℕ) where
   greatest_same : (es : List (Call K)) → ((e : Call K) → Contains es e → f e.to ≡ g e.to) → greatest f es ≡ greatest g es
   greatest_same [] same = refl
-  greatest_same (e ∷ es) same = ap₂ max (same e (Contains-here e es)) (greatest_same es (λ x at. same x (Contains-there e x es at)))
+  greatest_same (e ∷ es) same = ap₂ max (same e (Contains-head e es)) (greatest_same es (λ x at. same x (Contains-there e x es at)))
 
   chain_cost_same : (ss : List (List (Call K))) → ((e : Call K) → Contains (flat_map itself ss) e → f e.to ≡ g e.to) → chain_cost f ss ≡ chain_cost g ss
   chain_cost_same [] same = refl

@@ -3,12 +3,13 @@ use Rattle.std.proofs.Common.{◌≡◌, ◌⊎◌, ℕ, suc, ◌+◌, ◌<◌, 
 use Rattle.std.proofs.lemmas.List.Elements.{Contains-append_left, Contains-append_right}
 use Rattle.std.proofs.lemmas.List.Sums.{sum_by-cons}
 use Rattle.std.proofs.lemmas.Slice.Eq.{bytes_eq-Decides}
+use Rattle.list_laws.specs.Lists.{Contains-head}
 use Rattle.nft_tree.specs.declared.chain.ChainKind.{ChainKind}
 use Rattle.nft_tree.specs.declared.chain.Hook.{Hook}
 use Rattle.nft_tree.specs.Tree.{Text, HeadTree, ChainTree, MapTree, Statement, TableTree}
 use Rattle.nft_tree.specs.Parts.{chains_of, maps_of}
 use Rattle.chain_graph.specs.Graph.{Call, calls_in, HasCycle, HasPathOver, Reaches}
-use Rattle.rule_names.proofs.Decisions.{Decided, Contains-none, Contains-here, Contains-there, Contains-cases, some_decided, decided_as, either_decided, less_decided, texts_decided}
+use Rattle.list_laws.specs.Decisions.{Decided, Contains-none, Contains-there, Contains-cases, some_decided, decided_as, either_decided, less_decided, texts_decided}
 use Rattle.rule_names.specs.Names.{chain_named, map_named, chain_names, map_names}
 use Rattle.rule_paths.specs.Paths.{Caller, a_chain, a_map, chain_node, map_node, node_of, CallsOf, Cycles, MOST_JUMPS, HasDeepPath, TooDeep, AreCosts, base_cost, table_cost, ruleset_cost, MOST_COST, TooCostly, translates_source, translates_destination, caller_has, may_translate_source, may_translate_destination, Misplaces, MisplacedNat, misplaced_source, misplaced_destination}
 use Rattle.rule_paths.proofs.DecidedGraphs.{Bounded, cost, costs_are, one_cost, reach_decided, all_bounded, cycle_decided, path_decided}
@@ -27,14 +28,14 @@ callers t = map a_chain (chain_names t) ++ map a_map (map_names t)
 Contains-map : {A B : Type 0} (f : A → B) (x : A) (xs : List A) → Contains xs x → Contains (map f xs) (f x)
 Contains-map f x [] at = absurd (Contains-none x at)
 Contains-map f x (y ∷ ys) at =
-    elim (Contains-cases y x ys at) [ inl e ↦ subst (Contains (f y ∷ map f ys)) (ap f e) (Contains-here (f y) (map f ys)) | inr later ↦ Contains-there (f y) (f x) (map f ys) (Contains-map f x ys later) ]
+    elim (Contains-cases y x ys at) [ inl e ↦ subst (Contains (f y ∷ map f ys)) (ap f e) (Contains-head (f y) (map f ys)) | inr later ↦ Contains-there (f y) (f x) (map f ys) (Contains-map f x ys later) ]
 
 found_named : {A : Type 0} (name_of : A → Text) (name : Text) (xs : List A) (x : A) → find (λ y. bytes_eq (name_of y) name) xs ≡ Some x → Contains (map name_of xs) name
 found_named name_of name [] x found = absurd cc
 found_named {A} name_of name (y ∷ ys) x found = step (bytes_eq (name_of y) name) refl found (found_named name_of name ys x)
   where
     step : (b : Bool) → bytes_eq (name_of y) name ≡ b → cond b (Some y) (find (λ z. bytes_eq (name_of z) name) ys) ≡ Some x → (find (λ z. bytes_eq (name_of z) name) ys ≡ Some x → Contains (map name_of ys) name) → Contains (name_of y ∷ map name_of ys) name
-    step true e here later = subst (Contains (name_of y ∷ map name_of ys)) ((bytes_eq-Decides (name_of y) name).0 e) (Contains-here (name_of y) (map name_of ys))
+    step true e here later = subst (Contains (name_of y ∷ map name_of ys)) ((bytes_eq-Decides (name_of y) name).0 e) (Contains-head (name_of y) (map name_of ys))
     step false e there later = Contains-there (name_of y) name (map name_of ys) (later there)
 
 is_chain : (t : TableTree) (name : Text) (e : Call Caller) (o : Option ChainTree) → chain_named t name ≡ o → Contains (calls_in (chain_node o)) e → Contains (chain_names t) name
@@ -85,7 +86,7 @@ deep tables acyclic =
 sum_by_same : {A : Type 0} (f g : A → ℕ) (xs : List A) → ((x : A) → Contains xs x → f x ≡ g x) → sum_by f xs ≡ sum_by g xs
 sum_by_same f g [] same = refl
 sum_by_same f g (x ∷ xs) same =
-    sum_by-cons f x xs ∙ ap₂ (λ m n. m + n) (same x (Contains-here x xs)) (sum_by_same f g xs (λ y at. same y (Contains-there x y xs at))) ∙ sym (sum_by-cons g x xs)
+    sum_by-cons f x xs ∙ ap₂ (λ m n. m + n) (same x (Contains-head x xs)) (sum_by_same f g xs (λ y at. same y (Contains-there x y xs at))) ∙ sym (sum_by-cons g x xs)
 
 base_cost_same : (f g : Caller → ℕ) → ((a : Caller) → f a ≡ g a) → (name : Text) (head : Option HeadTree) → base_cost f name head ≡ base_cost g name head
 base_cost_same f g same name None = refl

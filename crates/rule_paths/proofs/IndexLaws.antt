@@ -6,6 +6,8 @@ use Rattle.std.specs.Str.{bytes_eq}
 use Rattle.std.specs.Cmp.Lexicographic.{same_text}
 use Rattle.std.proofs.lemmas.Bool.{cases_lt}
 use Rattle.std.proofs.lemmas.List.{length-map, length-append, get_or_append_left, get_or-append-add, get_or_default}
+use Rattle.std.proofs.Math.ListN.{get_or-map}
+use Rattle.list_laws.specs.Lists.{text-refl}
 use Rattle.nft_tree.specs.declared.selector.ValueType.TheVariants as value_types
 use Rattle.nft_tree.specs.declared.set.TypeOrVerdict.TheVariants as data_types
 use Rattle.nft_tree.specs.declared.set.MapType.TheVariants as map_types
@@ -14,7 +16,6 @@ use Rattle.nft_tree.specs.Parts.{chains_of, maps_of}
 use Rattle.rule_names.specs.Names.{Repeats, place_in, chain_names, map_names}
 use Rattle.chain_graph.specs.Graph.{chain}
 use Rattle.chain_graph.specs.Nodes.{node_at}
-use Rattle.chain_graph.proofs.ListLaws.{get_or-map}
 use Rattle.rule_paths.specs.Paths.{Caller, a_chain, a_map, chain_node, map_node, node_of}
 use Rattle.rule_paths.specs.steps.Numbers.{numbered, IsEmptyNode, StandsFor}
 use Rattle.rule_paths.specs.steps.Index.{place_or, chain_count, map_count, index_of, chain_at, map_at, nothing_there, index_graph}
@@ -24,10 +25,6 @@ use Rattle.rule_paths.specs.steps.Index.{place_or, chain_count, map_count, index
 pub bool-cases : (b : Bool) → (b ≡ true) ⊎ (b ≡ false)
 bool-cases true = inl refl
 bool-cases false = inr refl
-
-pub text-refl : (xs : Text) → bytes_eq xs xs ≡ true
-text-refl [] = refl
-text-refl (x ∷ xs) = grind (arith, text-refl xs)
 
 module _ {A : Type 0} (name_of : A → Text) where
   -- what stands first under a name

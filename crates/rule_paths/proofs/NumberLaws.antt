@@ -5,7 +5,7 @@ use Rattle.std.proofs.lemmas.List.{map-append}
 use Rattle.chain_graph.specs.Graph.{Call, NodeTree, chain, verdict_map, itself, calls_in, IsPath, jumps, HasCycle, greatest, chain_cost, node_cost, Reaches}
 use Rattle.chain_graph.specs.Nodes.{Graph, Calls, calls_of, node_at, InRange}
 use Rattle.chain_graph.specs.Known.{stopped, IsCost, IsDepth, LeadsOn}
-use Rattle.chain_graph.proofs.ListLaws.{Contains-map, Contains-unmap}
+use Rattle.list_laws.specs.Elements.{Contains-map, Contains-unmap}
 use Rattle.rule_paths.specs.steps.Numbers.{numbered_call, numbered, IsEmptyNode, StandsFor}
 
 -- ---- nodes

@@ -8,12 +8,13 @@ use Rattle.std.specs.Str.{bytes_eq}
 use Rattle.std.proofs.lemmas.List.{length-map, get_or_default, take_more, map-append, append_assoc}
 use Rattle.std.proofs.lemmas.List.Folds.{list_any_at, list_any-append}
 use Rattle.std.proofs.lemmas.List.Sums.{sum_by_push}
+use Rattle.std.proofs.Math.ListN.{get_or-map}
+use Rattle.list_laws.specs.Lists.{map-more}
 use Rattle.nft_tree.specs.declared.chain.Chain.{Chain}
 use Rattle.nft_tree.specs.Tree.{Text, HeadTree, ChainTree, TableTree, chain_tree}
 use Rattle.nft_tree.specs.Parts.{chains_of}
 use Rattle.rule_names.specs.Names.{place_in}
 use Rattle.chain_graph.specs.Known.{stopped}
-use Rattle.chain_graph.proofs.ListLaws.{get_or-map}
 use Rattle.rule_paths.specs.Paths.{Caller, a_chain, AreCosts, base_cost}
 use Rattle.rule_paths.specs.Findings.{AreChainCosts}
 use Rattle.rule_paths.specs.declared.marks.Translation.{Translation}
@@ -24,9 +25,6 @@ map-at f xs i x e = ap f e ∙ sym (get_or-map f xs i x)
 
 pub any-here : {X Y : Type 0} (f : X → Y) (p : Y → Bool) (xs : List X) (i : ℕ) (x : X) → i < length xs → x ≡ get_or xs i x → p (f x) ≡ true → true ≡ list_any p (map f xs)
 any-here f p xs i x h e t = sym (list_any_at p (map f xs) i (f x) (let n = length-map xs f in omega arith) (ap p (sym (map-at f xs i x e)) ∙ t))
-
-pub map-more : {X Y : Type 0} (f : X → Y) (xs : List X) (i : ℕ) (x : X) → i < length xs → x ≡ get_or xs i x → map f (take (i + 1) xs) ≡ map f (take i xs) ++ f x ∷ []
-map-more f xs i x h e = ap (map f) (take_more xs i x h) ∙ map-append f (take i xs) (get_or xs i x ∷ []) ∙ ap (λ y. map f (take i xs) ++ f y ∷ []) (sym e)
 
 pub or-false : (a b : Bool) → a ≡ false → b ≡ false → a || (b || false) ≡ false
 or-false a b e f = ap₂ (λ x y. x || (y || false)) e f

@@ -4,7 +4,7 @@ use Rattle.std.specs.Prelude.{Contains, IsTrue, ◌↔◌, ◌&&◌, if◌then�
 use Rattle.std.specs.Bool.{Decides}
 use Rattle.std.specs.Cmp.{unsigned_Decides}
 use Rattle.std.specs.Cmp.Lexicographic.{pointwise}
-use Rattle.std.proofs.lemmas.Bool.{cases_lt}
+use Rattle.std.proofs.lemmas.Bool.{cases_lt, and_from, or_left, or_right, or_cases}
 use Rattle.std.proofs.lemmas.Slice.Eq.{slice_eq-Decides}
 use Rattle.std.proofs.lemmas.List.{take_more, length-map, length_push, get_or_append_left, get_or_push, map-append}
 use Rattle.std.proofs.lemmas.List.Elements.{Contains-push_cases, Contains-push, Contains-append_left}
@@ -13,7 +13,6 @@ use Rattle.nft_tree.specs.Tree.{TableTree}
 use Rattle.chain_graph.specs.Graph.{Call, NodeTree, chain, verdict_map, HasCycle}
 use Rattle.chain_graph.specs.Nodes.{Graph}
 use Rattle.chain_graph.specs.Known.{stopped, IsCost}
-use Rattle.chain_graph.proofs.ListLaws.{or-split, or-right}
 use Rattle.rule_paths.specs.Paths.{Caller, CallsOf, AreCosts, AreAllCosts, MOST_COST, table_cost, ruleset_cost, node_of, Cycles, HasDeepPath, TooDeep, TooCostly, MisplacedNat, misplaced_source, misplaced_destination}
 use Rattle.rule_paths.specs.Findings.{AreChainCosts, AreChainDepths, numbers_at, AreFindings}
 use Rattle.rule_paths.specs.declared.judging.Findings.{Findings}
@@ -35,9 +34,6 @@ pub and-second : (a b : Bool) → a && b ≡ true → b ≡ true
 and-second true b h = h
 and-second false b h = cc
 
-pub and-both : (a b : Bool) → a ≡ true → b ≡ true → a && b ≡ true
-and-both a b e f = ap₂ (λ x y. x && y) e f
-
 abbrev pub bool_eq : Bool → Bool → Bool
 bool_eq true b = b
 bool_eq false true = false
@@ -57,7 +53,7 @@ call-decides a b = (
   λ h. ap₂ (λ (to : ℕ) (is_jump : Bool). let call : Call ℕ = record { to = to; is_jump = is_jump } in call)
       ((unsigned_Decides a.to b.to).0 (and-first (nat_eq a.to b.to) (bool_eq a.is_jump b.is_jump) h))
       ((bool-decides a.is_jump b.is_jump).0 (and-second (nat_eq a.to b.to) (bool_eq a.is_jump b.is_jump) h)),
-  λ e. and-both (nat_eq a.to b.to) (bool_eq a.is_jump b.is_jump) ((unsigned_Decides a.to b.to).1 (ap (λ c. c.to) e)) ((bool-decides a.is_jump b.is_jump).1 (ap (λ c. c.is_jump) e)),
+  λ e. and_from (nat_eq a.to b.to) (bool_eq a.is_jump b.is_jump) ((unsigned_Decides a.to b.to).1 (ap (λ c. c.to) e)) ((bool-decides a.is_jump b.is_jump).1 (ap (λ c. c.is_jump) e)),
 )
 
 abbrev pub calls_eq : List (Call ℕ) → List (Call ℕ) → Bool
@@ -114,9 +110,6 @@ are-costs ts have t h = costs-up (node_of t) (index_of t) (index_graph t) (have.
 
 -- ---- one table more
 
-pub or-first : (a b : Bool) → a ≡ true → a || b ≡ true
-or-first a b h = ap (λ x. x || b) h
-
 module _ (ts : List TableTree) (t : TableTree) where
   pub stands-before : (u : TableTree) → Contains ts u → Contains (ts ++ t ∷ []) u
   stands-before u h = Contains-append_left ts (t ∷ []) u h
@@ -132,10 +125,10 @@ module _ (ts : List TableTree) (t : TableTree) where
     λ h. ⊎_elim
         (λ k. let d = p.0 k in record { table = d.table; stands = stands-before d.table d.stands; deep = d.deep })
         (λ k. record { table = t; stands = Contains-push ts t; deep = q.0 k })
-        (or-split a b h),
+        (or_cases a b h),
     λ d. ⊎_elim
-        (λ h. or-first a b (p.1 (record { table = d.table; stands = h; deep = d.deep })))
-        (λ e. or-right a b (q.1 (subst HasDeepPath (sym e) d.deep)))
+        (λ h. or_left a b (p.1 (record { table = d.table; stands = h; deep = d.deep })))
+        (λ e. or_right a b (q.1 (subst HasDeepPath (sym e) d.deep)))
         (Contains-push_cases ts t d.table d.stands),
   )
 
@@ -159,8 +152,8 @@ module _ (ts : List TableTree) (t : TableTree) where
 
   pub nat-more : (a b : Bool) → (IsTrue a ↔ MisplacedNat ts) → (IsTrue b ↔ MisplacesIn t) → IsTrue (a || b) ↔ MisplacedNat (ts ++ t ∷ [])
   nat-more a b p q = (
-    λ h. ⊎_elim (λ k. nat-before (p.0 k)) (λ k. nat-now (q.0 k)) (or-split a b h),
-    λ m. ⊎_elim (λ k. or-first a b (p.1 k)) (λ k. or-right a b (q.1 k)) (nat-cases m),
+    λ h. ⊎_elim (λ k. nat-before (p.0 k)) (λ k. nat-now (q.0 k)) (or_cases a b h),
+    λ m. ⊎_elim (λ k. or_left a b (p.1 k)) (λ k. or_right a b (q.1 k)) (nat-cases m),
   )
 
   -- what holds of the numbers of each table

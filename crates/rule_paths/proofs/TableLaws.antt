@@ -4,7 +4,8 @@ use Rattle.std.specs.Prelude.{IsTrue, nat_lt, ◌↔◌}
 use Rattle.std.specs.List.{list_any}
 use Rattle.std.proofs.lemmas.List.{ext_get_or, length-map, length-take-le, get_or_default, get_or_append_left, get_or-append_right, get_or-replicate, get_or_past, length-replicate}
 use Rattle.std.proofs.lemmas.List.Folds.{list_any_at}
-use Rattle.std.proofs.lemmas.Bool.{cases_lt}
+use Rattle.std.proofs.lemmas.Bool.{cases_lt, or_right, or_cases, not-true}
+use Rattle.std.proofs.Math.ListN.{get_or-map}
 use Rattle.nft_tree.specs.Tree.{Text, Statement, HeadTree, ChainTree, TableTree}
 use Rattle.nft_tree.specs.Parts.{chains_of}
 use Rattle.rule_names.specs.Names.{Repeats, chain_names, map_names}
@@ -12,7 +13,7 @@ use Rattle.chain_graph.specs.Graph.{HasCycle}
 use Rattle.chain_graph.specs.declared.judging.Judged.{Judged}
 use Rattle.chain_graph.specs.Nodes.{Graph, Calls}
 use Rattle.chain_graph.specs.Known.{stopped, IsCost, IsDepth, IsJudged, LeadsOn}
-use Rattle.chain_graph.proofs.ListLaws.{get_or-map, or-split, or-right, Contains-at}
+use Rattle.list_laws.specs.Elements.{Contains-at}
 use Rattle.rule_paths.specs.Paths.{Caller, a_chain, a_map, CallsOf, AreCosts, table_cost, node_of, HasDeepPath, chain_has, caller_has}
 use Rattle.rule_paths.specs.Findings.{HasDepth, AreChainCosts, AreChainDepths}
 use Rattle.rule_paths.specs.declared.marks.Translation.{Translation}
@@ -42,7 +43,7 @@ deep-found [] t = cc
 deep-found (x ∷ xs) t = ⊎_elim
     (λ h. (zero, omega arith, ltb-true 16 x h))
     (λ h. let more = deep-found xs h in let l = more.1 in (suc more.0, omega arith, more.2))
-    (or-split (nat_lt 16 x) (list_any (λ d. nat_lt 16 d) xs) t)
+    (or_cases (nat_lt 16 x) (list_any (λ d. nat_lt 16 d) xs) t)
 
 pub named-number : (f : Text → ℕ) (cs : List ChainTree) (i : ℕ) → i < length cs → get_or (map (λ c. f c.name) cs) i 0 ≡ f (get_or (map (λ c. c.name) cs) i [])
 named-number f [] i h = absurd (omega (arith, h))
@@ -154,10 +155,6 @@ module _ (test : Statement → Bool) (count : ℕ) (t : TableTree) where
       (λ r. let e = map-missing t name r.at in omega arith)
       (look-map t name))
 
-pub not-true : (b : Bool) → not b ≡ true → b ≡ false
-not-true true h = cc
-not-true false h = refl
-
 pub barred-head : (kind : Translation) (o : Option HeadTree) → is_barred kind o ≡ true → (head : HeadTree) × (o ≡ Some head) × (may_translate kind head.kind head.hook ≡ false)
 barred-head kind None h = cc
 barred-head kind (Some head) h = (head, refl, not-true (may_translate kind head.kind head.hook) h)
@@ -203,8 +200,8 @@ module _ (kind : Translation) (t : TableTree) (g : Graph) (s : IsTableGraph t g)
 -- one of the two
 pub either-misplaced : (t : TableTree) (a b : Bool) → (IsTrue a ↔ MisplacesAs Source t) → (IsTrue b ↔ MisplacesAs Destination t) → IsTrue (a || b) ↔ MisplacesIn t
 either-misplaced t a b p q = (
-  λ h. ⊎_elim (λ k. inl (p.0 k)) (λ k. inr (q.0 k)) (or-split a b h),
-  λ m. ⊎_elim (λ k. ap (λ x. x || b) (p.1 k)) (λ k. or-right a b (q.1 k)) m,
+  λ h. ⊎_elim (λ k. inl (p.0 k)) (λ k. inr (q.0 k)) (or_cases a b h),
+  λ m. ⊎_elim (λ k. ap (λ x. x || b) (p.1 k)) (λ k. or_right a b (q.1 k)) m,
 )
 
 -- ---- all of a table

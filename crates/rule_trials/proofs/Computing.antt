@@ -1,5 +1,6 @@
 -- Runs, computed: with fewer than this number of chains within chains.
-use Rattle.std.proofs.Common.{◌≡◌, ℕ, zero, suc, ◌+◌, List, [], ◌∷◌, ◌++◌, Option, Some, None, unwrap_or, refl, ap, subst}
+use Rattle.std.proofs.Common.{◌≡◌, ℕ, zero, suc, ◌+◌, List, [], ◌∷◌, ◌++◌, Option, Some, None, refl, subst}
+use Rattle.std.proofs.lemmas.Option.{same_Some, none-some}
 use Rattle.nft_tree.specs.Tree.{Statement}
 use Rattle.rule_meaning.specs.declared.facts.Facts.{Facts}
 use Rattle.rule_meaning.specs.declared.event.Decision.{Decision}
@@ -9,12 +10,6 @@ use Rattle.rule_meaning.specs.declared.event.Ending.TheVariants.{Accepted, Dropp
 use Rattle.rule_meaning.specs.Statements.{Saying, pass, fail, note, give}
 use Rattle.rule_meaning.specs.Runs as runs
 use Rattle.rule_meaning.specs.Runs.{Program, Left, at_rule, in_rule, After, at_end, over, Runs, place, taking}
-
-pub same_some : {A : Type 0} (x y : A) → Some x ≡ Some y → x ≡ y
-same_some x y e = ap (λ o. unwrap_or o x) e
-
-pub none_is_none : {A : Type 0} (x : A) → None ≡ Some x → ⊥
-none_is_none x e = cc
 
 -- what is done from there on
 abbrev pub Next : Type 0
@@ -76,18 +71,18 @@ module _ (p : Program Statement) where
     Done x = Runs p c n (in_rule k (s ∷ ss) rs) f es x
 
     jumped : (i : ℕ) (next : Next) → p.said (place p c n k) s f ≡ give (Jump i) → Holds c (n + 1) (at_rule rs) next → (x : Option After) → call i f (taking p es c n (Jump i)) ≡ x → then_do x next ≡ Some o → Done o
-    jumped i next is on None called e = absurd (none_is_none o e)
+    jumped i next is on None called e = absurd (none-some o e)
     jumped i next is on (Some (at_end g later)) called e = let q = sound i f (taking p es c n (Jump i)) (at_end g later) called in runs.jumps i g later q.chain is q.stands q.runs (on g later o e)
     jumped i next is on (Some (over x g later)) called e =
         let q = sound i f (taking p es c n (Jump i)) (over x g later) called in
-        subst Done (same_some (over x g later) o e) (runs.jumps_away i q.chain is q.stands q.runs tt)
+        subst Done (same_Some (over x g later) o e) (runs.jumps_away i q.chain is q.stands q.runs tt)
 
     decided : (d : Decision) (next : Next) → p.said (place p c n k) s f ≡ give d → Holds c (n + 1) (at_rule rs) next → decides call d next f (taking p es c n d) ≡ Some o → Done o
-    decided Accept next is on e = subst Done (same_some _ o e) (runs.accepts is)
-    decided Drop next is on e = subst Done (same_some _ o e) (runs.drops is)
-    decided (Translate t) next is on e = subst Done (same_some _ o e) (runs.translates t is)
+    decided Accept next is on e = subst Done (same_Some _ o e) (runs.accepts is)
+    decided Drop next is on e = subst Done (same_Some _ o e) (runs.drops is)
+    decided (Translate t) next is on e = subst Done (same_Some _ o e) (runs.translates t is)
     decided Continue next is on e = runs.continues is (on f (taking p es c n Continue) o e)
-    decided Return next is on e = subst Done (same_some _ o e) (runs.returns is)
+    decided Return next is on e = subst Done (same_Some _ o e) (runs.returns is)
     decided (Jump i) next is on e = jumped i next is on (call i f (taking p es c n (Jump i))) refl e
     decided (Goto i) next is on e = let q = sound i f (taking p es c n (Goto i)) o e in runs.goes i q.chain is q.stands q.runs
 
@@ -104,13 +99,13 @@ module _ (p : Program Statement) where
         said call sound c n k s ss rs f es o (p.said (place p c n k) s f) (statements_run call c n (k + 1) ss next) next refl (statements_sound c n (k + 1) ss rs next later) later e
 
     rules_sound : (c n : ℕ) (rs : List (List Statement)) → Holds c n (at_rule rs) (rules_run call c n rs)
-    rules_sound c n [] f es o e = subst (λ x. Runs p c n (at_rule []) f es x) (same_some (at_end f es) o e) runs.chain_ends
+    rules_sound c n [] f es o e = subst (λ x. Runs p c n (at_rule []) f es x) (same_Some (at_end f es) o e) runs.chain_ends
     rules_sound c n (r ∷ rs) f es o e = runs.next_rule (statements_sound c n 1 r rs (rules_run call c (n + 1) rs) (rules_sound c (n + 1) rs) f es o e)
 
     chain_sound : (i : ℕ) (x : Option (List (List Statement))) → p.rules_at i ≡ x → (f : Facts) (es : List Event) (o : After) → chain_run call i x f es ≡ Some o → RunsChain i f es o
-    chain_sound i None at f es o e = absurd (none_is_none o e)
+    chain_sound i None at f es o e = absurd (none-some o e)
     chain_sound i (Some rules) at f es o e = record { chain = rules; stands = at; runs = rules_sound i 1 rules f es o e }
 
   pub run_sound : (d : ℕ) → Sound (run d)
-  run_sound zero i f es o e = absurd (none_is_none o e)
+  run_sound zero i f es o e = absurd (none-some o e)
   run_sound (suc d) i f es o e = chain_sound (run d) (run_sound d) i (p.rules_at i) refl f es o e

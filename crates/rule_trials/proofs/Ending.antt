@@ -1,5 +1,6 @@
 -- Base chains and hooks, computed.
 use Rattle.std.proofs.Common.{◌≡◌, ℕ, ℤ, Bool, not, ◌&&◌, List, [], ◌∷◌, filter, slice_get, Option, Some, None, option_map, refl, sym, subst}
+use Rattle.std.proofs.lemmas.Option.{same_Some, none-some}
 use Rattle.nft_tree.specs.Tree.{TableTree}
 use Rattle.box_file.specs.Box.{PlantTree}
 use Rattle.rule_meaning.specs.declared.facts.Facts.{Facts}
@@ -12,7 +13,7 @@ use Rattle.rule_meaning.specs.Hooks.{Base, bases_of, runs_before, is_below, End,
 use Rattle.rule_meaning.specs.Laws.{step_of}
 use Rattle.rule_meaning.proofs.Priorities.{priorities}
 use Rattle.rule_laws.proofs.Sorting.{ordered, sorted, stable}
-use Rattle.rule_trials.proofs.Computing.{same_some, none_is_none, run, run_sound}
+use Rattle.rule_trials.proofs.Computing.{run, run_sound}
 
 abbrev pub Gives : Type 0
 Gives = Facts → List Event → Option End
@@ -38,11 +39,11 @@ in_order first second f es = after (first f es) second
 module _ (first second : Passage) (next : Gives) (sound : Sound next second) (f : Facts) (es : List Event) (end : End) where
   ended : (m : End) → first f es m → (e : Ending) → m.ending ≡ e → by_ending e m next ≡ Some end → Then first second f es end
   ended m r Accepted is e = hooks.goes_on m r (subst GoesOn (sym is) tt) (sound m.facts m.events end e)
-  ended m r Dropped is e = subst (Then first second f es) (same_some m end e) (hooks.stops r (subst GoesOn is))
-  ended m r (Translated t) is e = subst (Then first second f es) (same_some m end e) (hooks.stops r (subst GoesOn is))
+  ended m r Dropped is e = subst (Then first second f es) (same_Some m end e) (hooks.stops r (subst GoesOn is))
+  ended m r (Translated t) is e = subst (Then first second f es) (same_Some m end e) (hooks.stops r (subst GoesOn is))
 
   followed : (x : Option End) → ((m : End) → x ≡ Some m → first f es m) → after x next ≡ Some end → Then first second f es end
-  followed None h e = absurd (none_is_none end e)
+  followed None h e = absurd (none-some end e)
   followed (Some m) h e = ended m (h m refl) m.ending refl e
 
 pub then_sound : (first second : Passage) (a b : Gives) → Sound a first → Sound b second → Sound (in_order a b) (Then first second)
@@ -69,17 +70,17 @@ module _ (plant : PlantTree) (tables : List TableTree) (depth : ℕ) where
   around_run test limit step = in_order (chains_run (λ b. test b && is_below limit b)) (in_order step (chains_run (λ b. test b && not (is_below limit b))))
 
   closed_sound : (b : Base) (t : TableTree) → slice_get tables b.number.table ≡ Some t → (f : Facts) (es : List Event) (end : End) (x : Option After) → run (named plant b.number.table t) depth b.number.chain f es ≡ x → option_map (closed b.number (policy_of b.head)) x ≡ Some end → RunsBase plant tables b f es end
-  closed_sound b t at f es end None is e = absurd (none_is_none end e)
+  closed_sound b t at f es end None is e = absurd (none-some end e)
   closed_sound b t at f es end (Some o) is e =
       let q = run_sound (named plant b.number.table t) depth b.number.chain f es o is in
-      record { table = t; stands = at; rules = q.chain; has = q.stands; after = o; runs = q.runs; is = sym (same_some _ end e) }
+      record { table = t; stands = at; rules = q.chain; has = q.stands; after = o; runs = q.runs; is = sym (same_Some _ end e) }
 
   base_sound : (b : Base) (x : Option TableTree) → slice_get tables b.number.table ≡ x → Sound (table_run b x) (RunsBase plant tables b)
-  base_sound b None at f es end e = absurd (none_is_none end e)
+  base_sound b None at f es end e = absurd (none-some end e)
   base_sound b (Some t) at f es end e = closed_sound b t at f es end (run (named plant b.number.table t) depth b.number.chain f es) refl e
 
   turn_sound : (bs : List Base) → Sound (turn_run bs) (InTurn plant tables bs)
-  turn_sound [] f es end e = sym (same_some _ end e)
+  turn_sound [] f es end e = sym (same_Some _ end e)
   turn_sound (b ∷ bs) f es end e =
       then_sound (RunsBase plant tables b) (InTurn plant tables bs) (table_run b (slice_get tables b.number.table)) (turn_run bs) (base_sound b (slice_get tables b.number.table) refl) (turn_sound bs) f es end e
 

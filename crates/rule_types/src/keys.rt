@@ -9,7 +9,7 @@ ghost use Rattle.rule_types.specs.Types.{is_too_wide, lookup_misfits, named_set_
 ghost use Rattle.rule_types.specs.steps.Keys.{part_is, shape_misfits, shape_of};
 
 use crate::kinds::{kind_width, range_misfits, same_kind};
-use nft_tree::{Element, Key, Kind, Selector, SetDecl, SetRef, SetType, ValueType};
+use nft_tree::{Element, Key, Kind, Selector, SetDecl, SetRef, SetType, ValueType, any};
 use rule_names::TableNames;
 
 /// Types joined may have as many bits as this.
@@ -59,9 +59,7 @@ fn key_misfits(shape: Shape, key: &Key) -> bool
 fn some_key_misfits(shape: Shape, elements: &[Element]) -> bool
     ensures { result ≡ list_any (λ e. shape_misfits shape e.key) (map element_tree elements.now) }
 {
-    elements
-        .iter()
-        .any(|element| key_misfits(shape, &element.key))
+    any(elements, |element| key_misfits(shape, &element.key))
 }
 
 /// Whether the types of these selectors have too many bits together.

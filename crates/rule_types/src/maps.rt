@@ -7,7 +7,7 @@ ghost use Rattle.rule_names.specs.Names.{map_named, set_named};
 ghost use Rattle.rule_types.specs.Types.{data_misfits, map_misfits, map_ref_misfits, named_map_misfits, pair_misfits, same_data};
 
 use crate::kinds::{range_misfits, same_kind};
-use nft_tree::{Data, Kind, MapDecl, MapRef, Pair, Selector};
+use nft_tree::{Data, Kind, MapDecl, MapRef, Pair, Selector, any};
 use rule_names::TableNames;
 
 /// Whether it is a verdict where a value is wanted, or the reverse. `wanted` is the type of the
@@ -30,7 +30,7 @@ fn pair_misfits(key: Kind, wanted: Option<Kind>, pair: &Pair) -> bool
 fn some_pair_misfits(key: Kind, wanted: Option<Kind>, pairs: &[Pair]) -> bool
     ensures { result ≡ list_any (pair_misfits key wanted) (map pair_tree pairs.now) }
 {
-    pairs.iter().any(|pair| pair_misfits(key, wanted, pair))
+    any(pairs, |pair| pair_misfits(key, wanted, pair))
 }
 
 /// Whether an element of a declared map doesn't fit the map's types.

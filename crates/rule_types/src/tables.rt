@@ -1,14 +1,13 @@
 //! Tables and what stands in them.
 ghost use Rattle.std.specs.Prelude.{◌≡◌};
 ghost use Rattle.std.specs.List.{list_any};
-ghost use Rattle.nft_tree.specs.Tree.{chain_tree, item_tree, rule_tree};
+ghost use Rattle.nft_tree.specs.Tree.{item_tree, rule_tree};
 ghost use Rattle.rule_types.specs.Types.{item_misfits, rule_misfits, table_misfits};
-ghost use Rattle.rule_types.specs.steps.Walk.{chain_misfits};
 
 use crate::keys::set_misfits;
 use crate::maps::map_misfits;
 use crate::statements::statement_misfits;
-use nft_tree::{Chain, Item, Rule};
+use nft_tree::{Item, Rule, any};
 use rule_names::TableNames;
 
 /// Whether types don't fit somewhere in the ruleset: a key is of another type than its selector,
@@ -25,34 +24,25 @@ pub fn misfits(names: &[TableNames]) -> bool
 fn table_misfits(names: &TableNames) -> bool
     ensures { result ≡ table_misfits names.now }
 {
-    names
-        .table()
-        .items
-        .iter()
-        .any(|item| item_misfits(names, item))
+    any(&names.table().items, |item| item_misfits(names, item))
 }
 
 fn item_misfits(names: &TableNames, item: &Item) -> bool
     ensures { result ≡ item_misfits names.now (item_tree item.now) }
 {
     match item {
-        Item::Chain(chain) => chain_misfits(names, chain),
+        Item::Chain(chain) => any(&chain.rules, |rule| rule_misfits(names, rule)),
         Item::Set(set) => set_misfits(set),
         Item::Map(map) => map_misfits(map),
         Item::Comment(_) => false,
     }
 }
 
-fn chain_misfits(names: &TableNames, chain: &Chain) -> bool
-    ensures { result ≡ chain_misfits names.now (chain_tree chain.now) }
-{
-    chain.rules.iter().any(|rule| rule_misfits(names, rule))
-}
-
 fn rule_misfits(names: &TableNames, rule: &Rule) -> bool
     ensures { result ≡ rule_misfits names.now (rule_tree rule.now) }
 {
-    rule.statements
-        .iter()
-        .any(|statement| statement_misfits(names, statement))
+    any(
+        &rule.statements,
+        |statement| statement_misfits(names, statement),
+    )
 }

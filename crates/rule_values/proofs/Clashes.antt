@@ -1,11 +1,12 @@
 -- Ranges with outcomes clash exactly where entries contradict each other.
-use Rattle.std.proofs.Common.{◌≡◌, ℕ, ◌≤◌, List, [], ◌∷◌, Bool, true, false, ◌||◌, ◌&&◌, not, Option, Some, None, max, ◌⊎◌, inl, inr, ⊎_elim, refl, sym, ap, ap₂, subst, ◌∙◌, arith, eq-eqb}
+use Rattle.std.proofs.Common.{◌≡◌, ℕ, ◌≤◌, List, [], ◌∷◌, Bool, true, false, ◌&&◌, not, Option, Some, None, max, ◌⊎◌, inl, inr, ⊎_elim, refl, sym, ap, ap₂, subst, ◌∙◌, arith, eq-eqb}
 use Rattle.std.specs.Prelude.{nat_le, nat_eq}
 use Rattle.std.specs.Borrow.{Bor}
 use Rattle.std.specs.List.{list_any}
 use Rattle.std.specs.Option.{option_map}
 use Rattle.std.specs.Cmp.Lexicographic.{same_text}
-use Rattle.std.proofs.lemmas.Bool.{eqb-true, leb-true, le-leb}
+use Rattle.std.proofs.lemmas.Bool.{eqb-true, leb-true, le-leb, and_parts, and_from, or_left, or_right, or_cases}
+use Rattle.list_laws.specs.Lists.{text-refl}
 use Rattle.nft_tree.specs.Tree as tree
 use Rattle.nft_tree.specs.Tree.{Text}
 use Rattle.box_file.specs.Box.{some_two}
@@ -16,27 +17,9 @@ use Rattle.rule_values.specs.declared.outcome.Outcome.{Outcome}
 use Rattle.rule_values.specs.declared.outcome.Outcome.TheVariants as outcomes
 use Rattle.rule_values.specs.Faults.{Given, a_verdict, a_value, Entry, contradict, same_given, same_span}
 use Rattle.rule_values.specs.steps.Outcomes.{place_of, outcome_of, IsOutcome, IsEntry, AreEntries, Stand}
-use Rattle.rule_values.proofs.Places.{text-refl, place-one}
+use Rattle.rule_values.proofs.Places.{place-one}
 
 -- ---- tests
-
-and-both : (a b : Bool) → a && b ≡ true → (a ≡ true) × (b ≡ true)
-and-both true b h = (refl, h)
-and-both false b h = cc
-
-both-and : (a b : Bool) → a ≡ true → b ≡ true → a && b ≡ true
-both-and a b h k = ap₂ (λ x y. x && y) h k
-
-or-one : (a b : Bool) → a || b ≡ true → (a ≡ true) ⊎ (b ≡ true)
-or-one true b h = inl refl
-or-one false b h = inr h
-
-or-left : (a b : Bool) → a ≡ true → a || b ≡ true
-or-left a b h = ap (λ x. x || b) h
-
-or-right : (a b : Bool) → b ≡ true → a || b ≡ true
-or-right true b h = refl
-or-right false b h = h
 
 not-true : (a : Bool) → not a ≡ true → a ≡ true → ⊥
 not-true true h k = cc
@@ -50,7 +33,7 @@ true-not false h = refl
 
 same-spans : (a b : Span) → same_span a b ≡ true → a ≡ b
 same-spans a b h =
-    let both = and-both (nat_eq a.low b.low) (nat_eq a.high b.high) h in
+    let both = and_parts (nat_eq a.low b.low) (nat_eq a.high b.high) h in
     ap₂ (λ (l h : ℕ). let s : Span = record { low = l; high = h } in s) (eqb-true a.low b.low both.0) (eqb-true a.high b.high both.1)
 
 same-eq : (a b : Given) → same_given a b ≡ true → a ≡ b
@@ -70,7 +53,7 @@ same-refl (a_verdict tree.continue) = refl
 same-refl (a_verdict tree.return) = refl
 same-refl (a_verdict (tree.jump t)) = text-refl t
 same-refl (a_verdict (tree.goto t)) = text-refl t
-same-refl (a_value s) = both-and (nat_eq s.low s.low) (nat_eq s.high s.high) (eq-eqb s.low s.low refl) (eq-eqb s.high s.high refl)
+same-refl (a_value s) = and_from (nat_eq s.low s.low) (nat_eq s.high s.high) (eq-eqb s.low s.low refl) (eq-eqb s.high s.high refl)
 
 -- what an outcome stands for, by the names
 GivenBy : List (Bor Text) → Outcome → Given → Type 0
@@ -137,8 +120,8 @@ two-contradict names e f p q key i j c d differ =
     let cb = c.below in
     let da = d.above in
     let db = d.below in
-    both-and (nat_le e.keys.low f.keys.high && nat_le f.keys.low e.keys.high) (not (same_given e.given f.given))
-    (both-and (nat_le e.keys.low f.keys.high) (nat_le f.keys.low e.keys.high) (le-leb e.keys.low f.keys.high (omega arith)) (le-leb f.keys.low e.keys.high (omega arith)))
+    and_from (nat_le e.keys.low f.keys.high && nat_le f.keys.low e.keys.high) (not (same_given e.given f.given))
+    (and_from (nat_le e.keys.low f.keys.high) (nat_le f.keys.low e.keys.high) (le-leb e.keys.low f.keys.high (omega arith)) (le-leb f.keys.low e.keys.high (omega arith)))
     (true-not (same_given e.given f.given) (λ s. differ (one-outcome names e.given f.given p.1 q.1 i.outcome j.outcome s)))
 
 -- a number that both have, with two outcomes
@@ -150,8 +133,8 @@ record Shared (p q : Range × Outcome) : Type 0 where
 
 contradict-two : (names : List (Bor Text)) (e f : Entry) (p q : Range × Outcome) → IsEntry names e p → IsEntry names f q → contradict e f ≡ true → Shared p q
 contradict-two names e f p q i j h =
-    let parts = and-both (nat_le e.keys.low f.keys.high && nat_le f.keys.low e.keys.high) (not (same_given e.given f.given)) h in
-    let ends = and-both (nat_le e.keys.low f.keys.high) (nat_le f.keys.low e.keys.high) parts.0 in
+    let parts = and_parts (nat_le e.keys.low f.keys.high && nat_le f.keys.low e.keys.high) (not (same_given e.given f.given)) h in
+    let ends = and_parts (nat_le e.keys.low f.keys.high) (nat_le f.keys.low e.keys.high) parts.0 in
     let one : e.keys.low ≤ f.keys.high = leb-true e.keys.low f.keys.high ends.0 in
     let two : f.keys.low ≤ e.keys.high = leb-true f.keys.low e.keys.high ends.1 in
     let el = ap (λ (s : Span). s.low) i.keys in
@@ -171,8 +154,8 @@ contradict-two names e f p q i j h =
 
 any-contradict : (names : List (Bor Text)) (e : Entry) (p : Range × Outcome) (es : List Entry) (ps : List (Range × Outcome)) (key : ℕ) (v : Outcome) → IsEntry names e p → AreEntries names es ps → Covers p.0 key → Holds ps key v → (p.1 ≡ v → ⊥) → list_any (contradict e) es ≡ true
 any-contradict names e p [] [] key v i are c h differ = absurd h
-any-contradict names e p (f ∷ es) (q ∷ ps) key v i are c (inl h) differ = or-left (contradict e f) (list_any (contradict e) es) (two-contradict names e f p q key i are.0 c h.0 (λ s. differ (s ∙ h.1)))
-any-contradict names e p (f ∷ es) (q ∷ ps) key v i are c (inr h) differ = or-right (contradict e f) (list_any (contradict e) es) (any-contradict names e p es ps key v i are.1 c h differ)
+any-contradict names e p (f ∷ es) (q ∷ ps) key v i are c (inl h) differ = or_left (contradict e f) (list_any (contradict e) es) (two-contradict names e f p q key i are.0 c h.0 (λ s. differ (s ∙ h.1)))
+any-contradict names e p (f ∷ es) (q ∷ ps) key v i are c (inr h) differ = or_right (contradict e f) (list_any (contradict e) es) (any-contradict names e p es ps key v i are.1 c h differ)
 any-contradict names e p [] (q ∷ ps) key v i are c h differ = absurd are
 any-contradict names e p (f ∷ es) [] key v i are c h differ = absurd are
 
@@ -189,7 +172,7 @@ contradict-any names e p [] [] i are h = cc
 contradict-any names e p (f ∷ es) (q ∷ ps) i are h = ⊎_elim
     (λ t. let s = contradict-two names e f p q i are.0 t in record { key = s.key; value = q.1; first = s.first; held = inl (s.second, refl); differ = s.differ })
     (λ t. let s = contradict-any names e p es ps i are.1 t in record { key = s.key; value = s.value; first = s.first; held = inr s.held; differ = s.differ })
-    (or-one (contradict e f) (list_any (contradict e) es) h)
+    (or_cases (contradict e f) (list_any (contradict e) es) h)
 contradict-any names e p [] (q ∷ ps) i are h = absurd are
 contradict-any names e p (f ∷ es) [] i are h = absurd are
 
@@ -198,9 +181,9 @@ contradict-any names e p (f ∷ es) [] i are h = absurd are
 clash-forth : (names : List (Bor Text)) (es : List Entry) (ps : List (Range × Outcome)) (key : ℕ) (one other : Outcome) → AreEntries names es ps → Holds ps key one → Holds ps key other → (one ≡ other → ⊥) → some_two contradict es ≡ true
 clash-forth names [] [] key one other are h k differ = absurd h
 clash-forth names (e ∷ es) (p ∷ ps) key one other are (inl h) (inl k) differ = absurd (differ (sym h.1 ∙ k.1))
-clash-forth names (e ∷ es) (p ∷ ps) key one other are (inl h) (inr k) differ = or-left (list_any (contradict e) es) (some_two contradict es) (any-contradict names e p es ps key other are.0 are.1 h.0 k (λ s. differ (sym h.1 ∙ s)))
-clash-forth names (e ∷ es) (p ∷ ps) key one other are (inr h) (inl k) differ = or-left (list_any (contradict e) es) (some_two contradict es) (any-contradict names e p es ps key one are.0 are.1 k.0 h (λ s. differ (sym s ∙ k.1)))
-clash-forth names (e ∷ es) (p ∷ ps) key one other are (inr h) (inr k) differ = or-right (list_any (contradict e) es) (some_two contradict es) (clash-forth names es ps key one other are.1 h k differ)
+clash-forth names (e ∷ es) (p ∷ ps) key one other are (inl h) (inr k) differ = or_left (list_any (contradict e) es) (some_two contradict es) (any-contradict names e p es ps key other are.0 are.1 h.0 k (λ s. differ (sym h.1 ∙ s)))
+clash-forth names (e ∷ es) (p ∷ ps) key one other are (inr h) (inl k) differ = or_left (list_any (contradict e) es) (some_two contradict es) (any-contradict names e p es ps key one are.0 are.1 k.0 h (λ s. differ (sym s ∙ k.1)))
+clash-forth names (e ∷ es) (p ∷ ps) key one other are (inr h) (inr k) differ = or_right (list_any (contradict e) es) (some_two contradict es) (clash-forth names es ps key one other are.1 h k differ)
 clash-forth names [] (p ∷ ps) key one other are h k differ = absurd are
 clash-forth names (e ∷ es) [] key one other are h k differ = absurd are
 
@@ -209,7 +192,7 @@ clash-back names [] [] are h = cc
 clash-back names (e ∷ es) (p ∷ ps) are h = ⊎_elim
     (λ t. let s = contradict-any names e p es ps are.0 are.1 t in record { key = s.key; one = p.1; other = s.value; has_one = inl (s.first, refl); has_other = inr s.held; differ = s.differ })
     (λ t. let s = clash-back names es ps are.1 t in record { key = s.key; one = s.one; other = s.other; has_one = inr s.has_one; has_other = inr s.has_other; differ = s.differ })
-    (or-one (list_any (contradict e) es) (some_two contradict es) h)
+    (or_cases (list_any (contradict e) es) (some_two contradict es) h)
 clash-back names [] (p ∷ ps) are h = absurd are
 clash-back names (e ∷ es) [] are h = absurd are
 

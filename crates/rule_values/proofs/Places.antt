@@ -1,21 +1,18 @@
 -- The places of names.
-use Rattle.std.proofs.Common.{◌≡◌, ℕ, suc, ◌+◌, List, [], ◌∷◌, ◌++◌, Bool, true, false, ◌||◌, ◌&&◌, not, cond, Option, Some, None, refl, sym, ap, ◌∙◌, arith, eq-eqb}
+use Rattle.std.proofs.Common.{◌≡◌, ℕ, suc, ◌+◌, List, [], ◌∷◌, ◌++◌, Bool, true, false, ◌||◌, not, cond, Option, Some, None, refl, sym, ap, ◌∙◌, arith}
 use Rattle.std.specs.Prelude.{nat_eq, if◌then◌else◌}
 use Rattle.std.specs.Borrow.{Bor}
 use Rattle.std.specs.List.{list_any, position_or_len}
 use Rattle.std.specs.Option.{option_map}
 use Rattle.std.specs.Cmp.Lexicographic.{pointwise, same_text}
 use Rattle.std.specs.Str.{bytes_eq}
+use Rattle.list_laws.specs.Lists.{text-refl}
 use Rattle.nft_tree.specs.Tree.{Text}
 use Rattle.rule_values.specs.steps.Outcomes.{place_of, IsPlace, Keeps}
 
 -- the key has this name
 abbrev pub named : Text → Bor Text → Bool
 named name k = pointwise nat_eq name k.now
-
-pub text-refl : (xs : Text) → bytes_eq xs xs ≡ true
-text-refl [] = refl
-text-refl (x ∷ xs) = ap (λ b. b && bytes_eq xs xs) (eq-eqb x x refl) ∙ text-refl xs
 
 -- ---- one name more
 

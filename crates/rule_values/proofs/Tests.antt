@@ -4,10 +4,6 @@ use Rattle.std.specs.List.{list_any, flat_map}
 use Rattle.std.proofs.lemmas.List.{take_all}
 use Rattle.std.proofs.lemmas.List.Folds.{list_any-append, list_any_at}
 
-pub any_over : {X Y : Type 0} (p : Y → Bool) (h : X → Y) (xs : List X) → list_any (λ x. p (h x)) xs ≡ list_any p (map h xs)
-any_over p h [] = refl
-any_over p h (x ∷ xs) = ap (λ v. p (h x) || v) (any_over p h xs)
-
 -- what each element shows, one behind the other
 pub any_flat : {X Y Z : Type 0} (p : Z → Bool) (g : Y → List Z) (h : X → Y) (xs : List X) → list_any (λ x. list_any p (g (h x))) xs ≡ list_any p (flat_map g (map h xs))
 any_flat p g h [] = refl

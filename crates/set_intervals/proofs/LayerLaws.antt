@@ -1,8 +1,8 @@
 -- What pieces laid over others say of a number.
-use Rattle.std.proofs.Common.{◌≡◌, ℕ, suc, ◌+◌, ◌-◌, ◌<◌, ◌≤◌, List, [], ◌∷◌, ◌++◌, length, get_or, set, take, drop, max, min, Bool, true, false, ◌||◌, zero, ⊎_elim, refl, sym, ap, ◌∙◌, subst, arith, Option, Some, None, if◌then◌else◌, append_assoc}
+use Rattle.std.proofs.Common.{◌≡◌, ℕ, suc, ◌+◌, ◌<◌, ◌≤◌, List, [], ◌∷◌, ◌++◌, length, get_or, set, take, drop, max, min, Bool, true, false, ◌||◌, zero, ⊎_elim, refl, sym, ap, ◌∙◌, subst, arith, Option, Some, None, if◌then◌else◌, append_assoc}
 use Rattle.std.specs.Option.{option_or}
 use Rattle.std.proofs.lemmas.Bool.{cases_lt, and_from, and_left, and_right, or_from, or_left, le-leb, lt-leb}
-use Rattle.std.proofs.lemmas.List.{append-nil, drop_more, take-append-drop, take_all}
+use Rattle.std.proofs.lemmas.List.{append-nil, drop_more, take-append-drop}
 use Rattle.set_intervals.specs.declared.range.Range.{Range}
 use Rattle.set_intervals.specs.Pairs.{in_range, look}
 use Rattle.set_intervals.specs.steps.Pieces.{IsTable, IsSeparate}
@@ -67,11 +67,6 @@ same_back zs xs ys key same = look-append zs xs key ∙ ap (λ o. option_or (loo
 -- a list that says nothing of the number
 skip : {V : Type 0} (xs ys : List (Range × V)) (key : ℕ) → look xs key ≡ None → look (xs ++ ys) key ≡ look ys key
 skip xs ys key none = look-append xs ys key ∙ ap (λ o. option_or o (look ys key)) none
-
--- a list that a pattern parts into its first pair and the others
-pub parted : {X : Type 0} (xs : List X) (x : X) → 1 ≤ length xs → x ≡ get_or xs 0 x → xs ≡ x ∷ take (length xs - 1) (drop 1 xs)
-parted [] x some is = absurd (omega arith)
-parted (y ∷ ys) x some is = ap (λ z. z ∷ ys) (sym is) ∙ ap (λ l. x ∷ l) (sym (take_all (length (y ∷ ys) - 1) ys (omega arith)))
 
 -- ---- lists in order
 

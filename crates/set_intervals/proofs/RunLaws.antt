@@ -4,7 +4,7 @@ use Rattle.std.specs.List.Sorted.{IsStrictlyIncreasing}
 use Rattle.std.proofs.lemmas.List.{get_or-map, get_or_default, length-map}
 use Rattle.std.proofs.lemmas.Bool.{cases_lt}
 use Rattle.set_intervals.specs.declared.range.Range.{Range}
-use Rattle.set_intervals.specs.Pairs.{Holds, Begins, HasRuns}
+use Rattle.set_intervals.specs.Pairs.{Holds, BeginsRun, HasRuns}
 use Rattle.set_intervals.specs.steps.Pieces.{IsTable}
 use Rattle.set_intervals.proofs.PairLaws.{holds_read, place_of}
 
@@ -54,7 +54,7 @@ fresh_at {V} xs table i d lt before next held =
     (cases_lt i j))
     (cases_lt j i)
 
-begins : {V : Type 0} (xs : List (Range × V)) → IsTable xs → (key : ℕ) → Contains (lows xs) key → Begins xs key
+begins : {V : Type 0} (xs : List (Range × V)) → IsTable xs → (key : ℕ) → Contains (lows xs) key → BeginsRun xs key
 begins {V} xs table key c =
     let lt : c.0 < length xs = omega (arith, c.1, count_lows xs) in
     let d = first_pair xs c.0 lt in
@@ -67,7 +67,7 @@ begins {V} xs table key c =
       fresh = λ before next held. fresh_at xs table c.0 d lt before (next ∙ sym low) held;
     }
 
-has_low : {V : Type 0} (xs : List (Range × V)) (key : ℕ) → Begins xs key → Contains (lows xs) key
+has_low : {V : Type 0} (xs : List (Range × V)) (key : ℕ) → BeginsRun xs key → Contains (lows xs) key
 has_low {V} xs key begin =
     let r = place_of xs key begin.value begin.here in
     let p = r.pair in

@@ -1,5 +1,6 @@
 -- What is read is spelled, and what spells nothing.
 use Rattle.std.proofs.Common.{◌≡◌, List, [], ◌∷◌, Bool, true, false, cond, Option, Some, None, inl, inr, refl}
+use Rattle.list_laws.specs.Options.{IfSome_at}
 use Rattle.nft_lexer.specs.Sign.{Sign}
 use Rattle.nft_tree.specs.declared.selector.Selector.{Selector}
 use Rattle.nft_tree.specs.declared.selector.Selector.TheVariants as selectors
@@ -8,7 +9,6 @@ use Rattle.nft_tree.specs.Tree as tree
 use Rattle.nft_tree.specs.Tree.{RangeTree, SetRefTree, FlagTree, Statement, TableTree}
 use Rattle.token_reader.specs.Repeats.{Many}
 use Rattle.token_reader.specs.Grammar.{Grammar}
-use Rattle.token_reader.specs.steps.Laws.{IfSome_at}
 use Rattle.token_reader.specs.steps.Lawful.{Lawful}
 use Rattle.nft_expressions.specs.Elements.{comment}
 use Rattle.nft_rules.specs.Matches.{is_range_for, comparison, bits, listed, masked_by, flag_list, masked, one_test, direct, set_test, matching}

@@ -1,6 +1,7 @@
 -- After the entries of any story each record has one entry at most, and one where the chains that it meets end.
 use Rattle.std.proofs.Common.{◌≡◌, ℕ, ◌≤◌, ◌<◌, Bool, true, false, cond, nat_lt, List, [], drop, Option, Some, None}
 use Rattle.std.proofs.Common.{Result, Ok, Err, refl, sym, ap, subst, ◌∙◌, arith}
+use Rattle.list_laws.specs.Options.{none_or_some, one_some}
 use borrow.Author.Tests.{ltb-false, ltb-true}
 use Rattle.box_file.specs.Box.{is_own, route}
 use Rattle.ip_headers.specs.declared.view.HeaderFault.{HeaderFault}
@@ -33,12 +34,6 @@ use Rattle.stepping.proofs.Passages.{goes_on, on_of, off_of}
 use Rattle.stepping.proofs.Around.{OneChains, SomeChains, one_arrives, one_departs, some_arrives, some_departs}
 
 -- ---- what is carried
-
-none_or_some : {A : Type 0} (found : Option A) (x : A) → found ≡ None → found ≡ Some x → ⊥
-none_or_some found x none some = cc
-
-same_some : {A : Type 0} (found : Option A) (x y : A) → found ≡ Some x → found ≡ Some y → x ≡ y
-same_some found x y e f = cc
 
 both : (b : Bool) → b ≡ true → b ≡ false → ⊥
 both b e f = cc
@@ -215,10 +210,10 @@ module _ (setup : Setup) (mappings : List Mapping) where
       of_routed more course (courses.without_route o w) = absurd (none_or_some routed interface w by)
       of_routed more course (courses.at_last_hop i o w t) = absurd (omega (arith, more, t))
       of_routed more course (courses.leaves i after departure o w t d on) =
-          subst (λ (j : ℕ). Leaves j course) (same_some routed i interface w by)
+          subst (λ (j : ℕ). Leaves j course) (one_some routed i interface w by)
           (after, departure, d, departure_on i after departure on)
       of_routed more course (courses.stays i after departure o w t d off) =
-          subst (λ (j : ℕ). Leaves j course) (same_some routed i interface w by)
+          subst (λ (j : ℕ). Leaves j course) (one_some routed i interface w by)
           (after, departure, d, departure_off i after departure off)
 
     module _ (one : OneChains setup) (course other : Course) (x : Led course) (y : Led other) where

@@ -10,7 +10,7 @@ use Rattle.conntrack.specs.declared.connection.ConnId.{ConnId}
 use Rattle.conntrack.specs.declared.connection.Flags.{Flags}
 use Rattle.conntrack.specs.declared.connection.Held.{Held}
 use Rattle.conntrack.specs.Held.{begun_with, first_state, is_taken, most_held, without}
-use Rattle.conntrack.specs.Recorded.{Arrival, Uncounted, after_end, after_packet}
+use Rattle.conntrack.specs.Updates.{Arrival, Unconfirmed, after_end, after_packet}
 use Rattle.conntrack.specs.Stories.{does_begin}
 use Rattle.story.specs.declared.outcome.Cause.{Cause}
 use Rattle.story.specs.declared.outcome.Cause.TheVariants as causes
@@ -86,7 +86,7 @@ module _ (now : ℕ) (flags : Flags) (led : Led) (old : List Held) where
 -- ---- what is held then, and what is recorded
 
 -- a packet that doesn't count ends its closing connection all the same
-pub after_uncounted : (b : Belonging) (id : ConnId) (p : Arrival) (held : List Held) → after_packet b id p Uncounted held ≡ after_end b held
+pub after_uncounted : (b : Belonging) (id : ConnId) (p : Arrival) (held : List Held) → after_packet b id p Unconfirmed held ≡ after_end b held
 after_uncounted (Found place) id p held = refl
 after_uncounted Nowhere id p held = refl
 after_uncounted (Ends e) id p held = refl

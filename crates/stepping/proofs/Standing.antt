@@ -13,8 +13,8 @@ use Rattle.conntrack.specs.declared.limits.Limits.{Limits}
 use Rattle.conntrack.specs.Held.{IsNoneLater, belongs_in, has_distinct_ids, is_live, is_taken, live_at, most_held, nameless, nameless_belonging}
 use Rattle.conntrack.specs.Stories as connections
 use Rattle.conntrack.specs.Stories.{belongs, does_begin, live_list}
-use Rattle.conntrack.specs.Recorded as recorded
-use Rattle.conntrack.specs.Recorded.{Arrival, Count, Uncounted, Counted, after_end, after_packet, entry_at, what_of_packet}
+use Rattle.conntrack.specs.Updates as updates
+use Rattle.conntrack.specs.Updates.{Arrival, Confirmation, Unconfirmed, Confirmed, after_end, after_packet, entry_at, what_of_packet}
 use Rattle.pcap_io.specs.Pcap.{Recorded}
 use Rattle.rule_meaning.specs.declared.event.Event.{Event}
 use Rattle.story.specs.declared.outcome.Cause.{Cause}
@@ -38,14 +38,14 @@ use Rattle.stepping.specs.Lookups.{Lookup, look_up, lookup_of, mappings_beside, 
 use Rattle.stepping.specs.Courses.{Course, Leads, dropped}
 use Rattle.stepping.specs.LastStep.{Fate, begun_unless, counted_by, fresh_in, refusal, reply_to, settled, settled_as, uncounted}
 use Rattle.stepping.specs.Next.{FaresAs, FaresIn, Next, answered, at_moment, entry_of, leaving, live_at_record, moment_after, tracked_by}
-use Rattle.stepping.specs.Stands.{Shown, Stands, Told, newest_of}
+use Rattle.stepping.specs.Stands.{Shown, Stands, ShownEntry, newest_of}
 use Rattle.stepping.specs.steps.Fates.{HasFate, IsFresh, held_after, newest_in}
 
 -- ---- what is known of connections
 
 -- lists that are one but for the names of connections answer alike
 pub record AreAlike : Type 0 where
-  pub packet : (held others : List Held) (i j : ConnId) (p : Arrival) (count : Count) → map nameless held ≡ map nameless others → IsTrue (has_distinct_ids held) → IsTrue (has_distinct_ids others)
+  pub packet : (held others : List Held) (i j : ConnId) (p : Arrival) (count : Confirmation) → map nameless held ≡ map nameless others → IsTrue (has_distinct_ids held) → IsTrue (has_distinct_ids others)
       → map nameless (after_packet (belongs_in held p.tuple p.flags) i p count held) ≡ map nameless (after_packet (belongs_in others p.tuple p.flags) j p count others)
   pub ended : (held others : List Held) (tuple : Tuple) (flags : Flags) → map nameless held ≡ map nameless others → IsTrue (has_distinct_ids held) → IsTrue (has_distinct_ids others)
       → map nameless (after_end (belongs_in held tuple flags) held) ≡ map nameless (after_end (belongs_in others tuple flags) others)
@@ -57,12 +57,12 @@ pub record AreAlike : Type 0 where
 
 -- what a story with one entry more tells, and what a story tells of a later moment
 pub record IsTold (limits : Limits) : Type 0 where
-  pub packet : (story : List connections.Entry) (p : Arrival) (count : Count)
-      → live_list limits (recorded.entry_of (belongs limits story p.moment p.tuple p.flags) p count ∷ story) p.moment
+  pub packet : (story : List connections.Tracked) (p : Arrival) (count : Confirmation)
+      → live_list limits (updates.entry_of (belongs limits story p.moment p.tuple p.flags) p count ∷ story) p.moment
       ≡ after_packet (belongs limits story p.moment p.tuple p.flags) (record { 0 = length story }) p count (live_list limits story p.moment)
-  pub none : (story : List connections.Entry) (now : ℕ) → live_list limits (entry_at now ∷ story) now ≡ live_list limits story now
-  pub later : (story : List connections.Entry) (now later : ℕ) → now ≤ later → live_list limits story later ≡ live_at limits later (live_list limits story now)
-  pub distinct : (story : List connections.Entry) (now : ℕ) → IsTrue (has_distinct_ids (live_list limits story now))
+  pub none : (story : List connections.Tracked) (now : ℕ) → live_list limits (entry_at now ∷ story) now ≡ live_list limits story now
+  pub later : (story : List connections.Tracked) (now later : ℕ) → now ≤ later → live_list limits story later ≡ live_at limits later (live_list limits story now)
+  pub distinct : (story : List connections.Tracked) (now : ℕ) → IsTrue (has_distinct_ids (live_list limits story now))
 
 -- ---- what is held, over time
 
@@ -81,8 +81,8 @@ pub none_later-aged : ((held : List Held) (now later : ℕ) → now ≤ later �
 none_later-aged law limits latest now held aged is le h = rw is (none_later-live limits now now held (law held latest now le h))
 
 -- nor does a packet that is looked up
-pub none_later-after : ((held : List Held) (belonging : Belonging) (id : ConnId) (p : Arrival) (count : Count) → IsNoneLater p.moment held → IsNoneLater p.moment (after_packet belonging id p count held))
-    → (now : ℕ) (id : ConnId) (lookup : Option Lookup) (count : Option Count) (held : List Held) → IsNoneLater now held → IsNoneLater now (held_after now id lookup count held)
+pub none_later-after : ((held : List Held) (belonging : Belonging) (id : ConnId) (p : Arrival) (count : Confirmation) → IsNoneLater p.moment held → IsNoneLater p.moment (after_packet belonging id p count held))
+    → (now : ℕ) (id : ConnId) (lookup : Option Lookup) (count : Option Confirmation) (held : List Held) → IsNoneLater now held → IsNoneLater now (held_after now id lookup count held)
 none_later-after law now id None count held h = h
 none_later-after law now id (Some l) None held h = h
 none_later-after law now id (Some l) (Some count) held h = law held l.belonging id (at_moment now l.sought) count h
@@ -96,11 +96,11 @@ first_alike t (Ends id) = refl
 first_alike t (Found place) = refl
 
 -- whether a connection is begun
-begins_nameless : (b : Belonging) (p : Arrival) (count : Count) → does_begin (what_of_packet b p count) ≡ does_begin (what_of_packet (nameless_belonging b) p count)
-begins_nameless b p Uncounted = refl
-begins_nameless Nowhere p (Counted mark reply source dest) = refl
-begins_nameless (Ends id) p (Counted mark reply source dest) = refl
-begins_nameless (Found place) p (Counted mark reply source dest) = refl
+begins_nameless : (b : Belonging) (p : Arrival) (count : Confirmation) → does_begin (what_of_packet b p count) ≡ does_begin (what_of_packet (nameless_belonging b) p count)
+begins_nameless b p Unconfirmed = refl
+begins_nameless Nowhere p (Confirmed mark reply source dest) = refl
+begins_nameless (Ends id) p (Confirmed mark reply source dest) = refl
+begins_nameless (Found place) p (Confirmed mark reply source dest) = refl
 
 -- ---- what is held, and what a story tells that is one but for names
 
@@ -113,7 +113,7 @@ abbrev begun_by : Option Cause → List Mapping → Draft → Course → Fate
 begun_by None mappings draft course = record {
   outcome = course.outcome;
   events = course.events;
-  count = Some (Counted course.mark (reply_to draft) draft.source draft.dest);
+  count = Some (Confirmed course.mark (reply_to draft) draft.source draft.dest);
   way = course.way;
   fresh = fresh_in mappings draft.named draft.source;
 }
@@ -183,7 +183,7 @@ module _ (alike : AreAlike) (held live : List Held) (same : map nameless held �
   settled_same (Some s) course = settled_as_same s course.outcome course
 
   -- whether the packet begins a connection
-  began_same : (now : ℕ) (sought : Option Sought) (count : Option Count) → does_begin (tracked_by now (in_held sought) count).what ≡ does_begin (tracked_by now (in_live sought) count).what
+  began_same : (now : ℕ) (sought : Option Sought) (count : Option Confirmation) → does_begin (tracked_by now (in_held sought) count).what ≡ does_begin (tracked_by now (in_live sought) count).what
   began_same now None count = refl
   began_same now (Some s) None = refl
   began_same now (Some s) (Some count) =
@@ -191,7 +191,7 @@ module _ (alike : AreAlike) (held live : List Held) (same : map nameless held �
       ∙ ap (λ (b : Belonging). does_begin (what_of_packet b (at_moment now s) count)) (belongs_same s)
       ∙ sym (begins_nameless (other s).belonging (at_moment now s) count)
 
-  pub began_alike : (now : ℕ) (arrived : Result Arrived Cause) (count : Option Count) → does_begin (tracked_by now (answered held arrived) count).what ≡ does_begin (tracked_by now (answered live arrived) count).what
+  pub began_alike : (now : ℕ) (arrived : Result Arrived Cause) (count : Option Confirmation) → does_begin (tracked_by now (answered held arrived) count).what ≡ does_begin (tracked_by now (answered live arrived) count).what
   began_alike now (Ok a) count = began_same now (sought_of a.packet) count
   began_alike now (Err cause) count = refl
 
@@ -219,27 +219,27 @@ module _ (alike : AreAlike) (held live : List Held) (same : map nameless held �
   }
 
 -- what is held after a packet is what the story with its entry tells, but for names
-module _ (limits : Limits) (alike : AreAlike) (told : IsTold limits) (now : ℕ) (id : ConnId) (held : List Held) (story : List connections.Entry)
+module _ (limits : Limits) (alike : AreAlike) (told : IsTold limits) (now : ℕ) (id : ConnId) (held : List Held) (story : List connections.Tracked)
     (same : map nameless held ≡ map nameless (live_list limits story now)) (d : IsTrue (has_distinct_ids held)) where
   abbrev listed : List Held
   listed = live_list limits story now
 
-  abbrev Same : Option Lookup → Option Lookup → Option Count → Type 0
+  abbrev Same : Option Lookup → Option Lookup → Option Confirmation → Type 0
   Same one other count =
       map nameless (held_after now id one count held) ≡ map nameless (live_list limits (tracked_by now other count ∷ story) (tracked_by now other count).moment)
 
-  held_by : (sought : Option Sought) (count : Option Count) → Same (option_map (look_up held) sought) (option_map (look_up listed) sought) count
+  held_by : (sought : Option Sought) (count : Option Confirmation) → Same (option_map (look_up held) sought) (option_map (look_up listed) sought) count
   held_by None count = same ∙ ap (map nameless) (sym (told.none story now))
   held_by (Some s) None = same ∙ ap (map nameless) (sym (told.none story now))
   held_by (Some s) (Some count) =
       alike.packet held listed id (record { 0 = length story }) (at_moment now s) count same d (told.distinct story now) ∙ ap (map nameless) (sym (told.packet story (at_moment now s) count))
 
-  pub held_same : (arrived : Result Arrived Cause) (count : Option Count) → Same (answered held arrived) (answered listed arrived) count
+  pub held_same : (arrived : Result Arrived Cause) (count : Option Confirmation) → Same (answered held arrived) (answered listed arrived) count
   held_same (Ok a) count = held_by (sought_of a.packet) count
   held_same (Err cause) count = same ∙ ap (map nameless) (sym (told.none story now))
 
 -- its entry has the moment that it came at
-moment_same : (now : ℕ) (lookup : Option Lookup) (count : Option Count) → now ≡ (tracked_by now lookup count).moment
+moment_same : (now : ℕ) (lookup : Option Lookup) (count : Option Confirmation) → now ≡ (tracked_by now lookup count).moment
 moment_same now None count = refl
 moment_same now (Some l) None = refl
 moment_same now (Some l) (Some count) = refl
@@ -251,35 +251,35 @@ pub never : IsTrue false → ⊥
 never ready = cc
 
 -- the last moment of an engine is the moment of the story
-pub latest_is : (ended : Option Ended) (latest : ℕ) (told : machine.Told) (packet : Vec ℕ Global) (held : List Held) (story : List Entry) → IsFresh ended latest packet.items held → newest_in ended latest told packet ≡ newest_of story → latest ≡ moment_of story
+pub latest_is : (ended : Option Ended) (latest : ℕ) (told : machine.Ran) (packet : Vec ℕ Global) (held : List Held) (story : List Entry) → IsFresh ended latest packet.items held → newest_in ended latest told packet ≡ newest_of story → latest ≡ moment_of story
 latest_is None latest told packet held [] fresh is = fresh.0
 latest_is None latest told packet held (e ∷ story) fresh is = absurd (none_is_some _ is)
   where
-    none_is_some : (e : Told) → None ≡ Some e → ⊥
+    none_is_some : (e : ShownEntry) → None ≡ Some e → ⊥
     none_is_some e is = cc
 latest_is (Some ended) latest told packet held [] fresh is = absurd (some_is_none _ is)
   where
-    some_is_none : (e : Told) → Some e ≡ None → ⊥
+    some_is_none : (e : ShownEntry) → Some e ≡ None → ⊥
     some_is_none e is = cc
-latest_is (Some ended) latest told packet held (e ∷ story) fresh is = ap (λ (found : Told). found.moment) (same_told _ _ is)
+latest_is (Some ended) latest told packet held (e ∷ story) fresh is = ap (λ (found : ShownEntry). found.moment) (same_told _ _ is)
   where
-    same_told : (e other : Told) → Some e ≡ Some other → e ≡ other
+    same_told : (e other : ShownEntry) → Some e ≡ Some other → e ≡ other
     same_told e other is = cc
 
 -- what is told, part by part
 told_is : {moment moment' long long' : ℕ} {events events' : List Event} {outcome outcome' : Outcome} {packet packet' : List ℕ} {begun begun' : Bool}
     → moment ≡ moment' → long ≡ long' → events ≡ events' → outcome ≡ outcome' → packet ≡ packet' → begun ≡ begun'
-    → (let one : Told = record { moment = moment; length = long; events = events; outcome = outcome; packet = packet; begun = begun } in Some one) ≡ Some (record { moment = moment'; length = long'; events = events'; outcome = outcome'; packet = packet'; begun = begun' })
+    → (let one : ShownEntry = record { moment = moment; length = long; events = events; outcome = outcome; packet = packet; begun = begun } in Some one) ≡ Some (record { moment = moment'; length = long'; events = events'; outcome = outcome'; packet = packet'; begun = begun' })
 told_is {moment} {moment'} {long} {long'} {events} {events'} {outcome} {outcome'} {packet} {packet'} {begun} {begun'} m l h o p b =
-    ap (λ (x : ℕ). let t : Told = record { moment = x; length = long; events = events; outcome = outcome; packet = packet; begun = begun } in Some t) m
-    ∙ ap (λ (x : ℕ). let t : Told = record { moment = moment'; length = x; events = events; outcome = outcome; packet = packet; begun = begun } in Some t) l
-    ∙ ap (λ (x : List Event). let t : Told = record { moment = moment'; length = long'; events = x; outcome = outcome; packet = packet; begun = begun } in Some t) h
-    ∙ ap (λ (x : Outcome). let t : Told = record { moment = moment'; length = long'; events = events'; outcome = x; packet = packet; begun = begun } in Some t) o
-    ∙ ap (λ (x : List ℕ). let t : Told = record { moment = moment'; length = long'; events = events'; outcome = outcome'; packet = x; begun = begun } in Some t) p
-    ∙ ap (λ (x : Bool). let t : Told = record { moment = moment'; length = long'; events = events'; outcome = outcome'; packet = packet'; begun = x } in Some t) b
+    ap (λ (x : ℕ). let t : ShownEntry = record { moment = x; length = long; events = events; outcome = outcome; packet = packet; begun = begun } in Some t) m
+    ∙ ap (λ (x : ℕ). let t : ShownEntry = record { moment = moment'; length = x; events = events; outcome = outcome; packet = packet; begun = begun } in Some t) l
+    ∙ ap (λ (x : List Event). let t : ShownEntry = record { moment = moment'; length = long'; events = x; outcome = outcome; packet = packet; begun = begun } in Some t) h
+    ∙ ap (λ (x : Outcome). let t : ShownEntry = record { moment = moment'; length = long'; events = events'; outcome = x; packet = packet; begun = begun } in Some t) o
+    ∙ ap (λ (x : List ℕ). let t : ShownEntry = record { moment = moment'; length = long'; events = events'; outcome = outcome'; packet = x; begun = begun } in Some t) p
+    ∙ ap (λ (x : Bool). let t : ShownEntry = record { moment = moment'; length = long'; events = events'; outcome = outcome'; packet = packet'; begun = x } in Some t) b
 
 -- what is told of a record that ended so at a moment
-abbrev pub told_at : ℕ → Ended → List Event → List ℕ → Told
+abbrev pub told_at : ℕ → Ended → List Event → List ℕ → ShownEntry
 told_at now ended events packet = record { moment = now; length = ended.length; events = events; outcome = ended.outcome; packet = packet; begun = ended.begun }
 
 module _ (alike : AreAlike) (before after : Shown) (told : IsTold (limits_of before.setup)) (story : List Entry) (r : Recorded) (held : List Held) (ended : Ended) (events : List Event) (packet : List ℕ)

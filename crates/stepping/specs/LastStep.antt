@@ -6,7 +6,7 @@ use Rattle.ip_headers.specs.Tuple.{inverse}
 use Rattle.nat_mapping.specs.Mappings.{port_of}
 use Rattle.conntrack.specs.declared.connection.Held.{Held}
 use Rattle.conntrack.specs.Held.{is_taken, most_held}
-use Rattle.conntrack.specs.Recorded.{Count, Uncounted, Counted}
+use Rattle.conntrack.specs.Updates.{Confirmation, Unconfirmed, Confirmed}
 use Rattle.rule_meaning.specs.declared.event.Event.{Event}
 use Rattle.story.specs.declared.outcome.Cause.{Cause}
 use Rattle.story.specs.declared.outcome.Cause.TheVariants as causes
@@ -25,7 +25,7 @@ use Rattle.stepping.specs.Courses.{Course, dropped}
 pub record Fate : Type 0 where
   pub outcome : Outcome
   pub events : List Event
-  pub count : Option Count
+  pub count : Option Confirmation
   pub way : Way
   pub fresh : Option Bool
 
@@ -39,7 +39,7 @@ abbrev pub uncounted : Course → Fate
 uncounted course = record {
   outcome = course.outcome;
   events = course.events;
-  count = Some Uncounted;
+  count = Some Unconfirmed;
   way = course.way;
   fresh = None;
 }
@@ -49,7 +49,7 @@ abbrev pub counted : Tuple → Course → Fate
 counted reply course = record {
   outcome = course.outcome;
   events = course.events;
-  count = Some (Counted course.mark reply None None);
+  count = Some (Confirmed course.mark reply None None);
   way = course.way;
   fresh = None;
 }
@@ -78,7 +78,7 @@ abbrev pub begun : List Held → Draft → Course → Fate
 begun others draft course = record {
   outcome = course.outcome;
   events = course.events;
-  count = Some (Counted course.mark (reply_to draft) draft.source draft.dest);
+  count = Some (Confirmed course.mark (reply_to draft) draft.source draft.dest);
   way = course.way;
   fresh = fresh_in (mappings_in others) draft.named draft.source;
 }

@@ -11,7 +11,7 @@ use Rattle.conntrack.specs.declared.connection.Flags.{Flags}
 use Rattle.conntrack.specs.declared.connection.Held.{Held}
 use Rattle.conntrack.specs.Phases.{flags_of, no_flags}
 use Rattle.conntrack.specs.Held.{belongs_in}
-use Rattle.conntrack.specs.Recorded.{after_end}
+use Rattle.conntrack.specs.Updates.{after_end}
 use Rattle.translation.specs.declared.way.Way.{Way}
 use Rattle.translation.specs.declared.way.Way.TheVariants.{Astray}
 use Rattle.translation.specs.Mapped.{mappings_in}

@@ -7,8 +7,8 @@ use Rattle.rewrite.specs.Rewritten.{rewritten}
 use Rattle.conntrack.specs.declared.connection.Held.{Held}
 use Rattle.conntrack.specs.Stories.{live_list}
 use Rattle.conntrack.specs.Stories as connections
-use Rattle.conntrack.specs.Recorded as recorded
-use Rattle.conntrack.specs.Recorded.{Arrival, Count, entry_at}
+use Rattle.conntrack.specs.Updates as updates
+use Rattle.conntrack.specs.Updates.{Arrival, Confirmation, entry_at}
 use Rattle.pcap_io.specs.Pcap.{Recorded}
 use Rattle.rule_meaning.specs.Hooks.{End, GoesOn, Stops, Early}
 use Rattle.story.specs.declared.outcome.Cause.{Cause}
@@ -76,16 +76,16 @@ abbrev pub at_moment : ℕ → Sought → Arrival
 at_moment now s = record { tuple = s.tuple; flags = s.flags; moment = now }
 
 -- what is recorded of it as far as connections go
-abbrev pub tracked_as : ℕ → Lookup → Option Count → connections.Entry
+abbrev pub tracked_as : ℕ → Lookup → Option Confirmation → connections.Tracked
 tracked_as now l None = entry_at now
-tracked_as now l (Some count) = recorded.entry_of l.belonging (at_moment now l.sought) count
+tracked_as now l (Some count) = updates.entry_of l.belonging (at_moment now l.sought) count
 
-abbrev pub tracked_by : ℕ → Option Lookup → Option Count → connections.Entry
+abbrev pub tracked_by : ℕ → Option Lookup → Option Confirmation → connections.Tracked
 tracked_by now None count = entry_at now
 tracked_by now (Some l) count = tracked_as now l count
 
 -- the tuple as received, where it was looked up
-abbrev pub tuple_in : Option Lookup → Option Count → Option Tuple
+abbrev pub tuple_in : Option Lookup → Option Confirmation → Option Tuple
 tuple_in lookup count = option_and_then (λ c. option_map (λ l. l.sought.tuple) lookup) count
 
 -- the moment of a record is the greatest of its own and all earlier ones

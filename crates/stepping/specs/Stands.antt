@@ -14,7 +14,7 @@ use Rattle.rule_check.specs.Checked.{CheckedTree}
 use Rattle.story.specs.Setup.{Setup}
 
 -- what is shown of an entry: all of it but which connection it touched or ended
-pub record Told : Type 0 where
+pub record ShownEntry : Type 0 where
   pub moment : ℕ
   pub length : ℕ
   pub events : List Event
@@ -22,7 +22,7 @@ pub record Told : Type 0 where
   pub packet : List ℕ
   pub begun : Bool
 
-abbrev pub told : Entry → Told
+abbrev pub told : Entry → ShownEntry
 told e = record {
   moment = e.tracked.moment;
   length = e.length;
@@ -39,14 +39,14 @@ pub record Shown : Type 0 where
   pub records : ℕ
   pub ticks : ℕ
   pub held : List Held
-  pub newest : Option Told
+  pub newest : Option ShownEntry
   pub ready : Bool
 
 -- what a checked ruleset is set up with
 abbrev pub setup_of : CheckedTree → Setup
 setup_of checked = record { rules = checked.rules; plant = checked.plant }
 
-abbrev pub newest_of : List Entry → Option Told
+abbrev pub newest_of : List Entry → Option ShownEntry
 newest_of [] = None
 newest_of (e ∷ story) = Some (told e)
 
@@ -67,11 +67,11 @@ lent None = []
 lent (Some leaving) = sent leaving ∷ []
 
 -- what is sent by the newest entry
-abbrev pub sends_of : Option Told → List Sent
+abbrev pub sends_of : Option ShownEntry → List Sent
 sends_of None = []
 sends_of (Some newest) = sent_by newest.outcome newest.moment newest.packet
 
 -- the bytes of the packet that leaves; none where none does
-abbrev pub packet_of : Option Told → List ℕ
+abbrev pub packet_of : Option ShownEntry → List ℕ
 packet_of None = []
 packet_of (Some newest) = newest.packet

@@ -15,7 +15,7 @@ use Rattle.story.specs.Setup.{Setup, limits_of}
 -- what became of a record
 pub record Entry : Type 0 where
   -- what is recorded of it as far as connections go, its moment among that
-  pub tracked : connections.Entry
+  pub tracked : connections.Tracked
   -- the tuple of its packet as received, by which its connection was looked up; none where it wasn't looked up, or
   -- where the packet has no tuple
   pub sought : Option Tuple
@@ -32,7 +32,7 @@ pub record Entry : Type 0 where
   pub packet : List ℕ
 
 -- as far as connections go
-abbrev pub tracked_of : List Entry → List connections.Entry
+abbrev pub tracked_of : List Entry → List connections.Tracked
 tracked_of story = map (λ e. e.tracked) story
 
 -- the moment of the newest entry, 0 before any

@@ -4,6 +4,7 @@ use Rattle.std.specs.List.{list_all}
 use Rattle.std.specs.Option.{option_map}
 use Rattle.std.specs.Char.{is_ascii_digit}
 use Rattle.std.specs.Str.Parse.{digits_value}
+use Rattle.list_laws.specs.Options.{◌>>=◌}
 use Rattle.box_file.specs.declared.line.InterfaceLine.{InterfaceLine}
 use Rattle.box_file.specs.declared.line.RouteLine.{RouteLine}
 use Rattle.box_file.specs.declared.line.Line as kept
@@ -25,11 +26,6 @@ line_tree (lines.Route r) = route_line (route_tree r)
 line_tree (lines.Default n) = default_line n.now
 
 -- ---- steps
-
-infixl 10 ◌>>=◌
-abbrev pub ◌>>=◌ : {A B : Type 0} → Option A → (A → Option B) → Option B
-None >>= f = None
-(Some x) >>= f = f x
 
 -- the first of a list, and the others
 abbrev pub uncons : {A : Type 0} → List A → Option (A × List A)

@@ -10,7 +10,8 @@ use Rattle.filter_vm.specs.declared.code.Code.{Code}
 use Rattle.filter_vm.specs.declared.code.Start.{Start}
 use Rattle.filter_vm.specs.Machine.{end_of}
 use Rattle.compiler.specs.Compiled.{told, told_of}
-use Rattle.hook_runs.specs.Parts.{Costs, CostedTree, all_cost, bases_in, dstnat, srcnat}
+use Rattle.nft_tree.specs.Priorities.{DSTNAT, SRCNAT}
+use Rattle.hook_runs.specs.Parts.{Costs, CostedTree, all_cost, bases_in}
 use Rattle.hook_runs.specs.declared.parts.Part.{Part}
 use Rattle.hook_runs.specs.declared.parts.Part.TheVariants as parts
 use Rattle.hook_runs.specs.declared.parts.Parts.{Parts}
@@ -55,14 +56,14 @@ late code = after (negsuc 198) (filters code.prerouting.items)
 
 abbrev pub runs_in : Code → Part → List Start
 runs_in code parts.Early = before (negsuc 198) (filters code.prerouting.items)
-runs_in code parts.BeforeDestination = before dstnat (late code)
+runs_in code parts.BeforeDestination = before DSTNAT (late code)
 runs_in code parts.ToDestination = translators code.prerouting.items
-runs_in code parts.AfterDestination = after dstnat (late code)
+runs_in code parts.AfterDestination = after DSTNAT (late code)
 runs_in code parts.Input = filters code.input.items
 runs_in code parts.Forward = filters code.forward.items
-runs_in code parts.BeforeSource = before srcnat (filters code.postrouting.items)
+runs_in code parts.BeforeSource = before SRCNAT (filters code.postrouting.items)
 runs_in code parts.ToSource = translators code.postrouting.items
-runs_in code parts.AfterSource = after srcnat (filters code.postrouting.items)
+runs_in code parts.AfterSource = after SRCNAT (filters code.postrouting.items)
 
 abbrev pub AreParts : Code → Parts → Type 0
 AreParts code p = (part : Part) → starts_in p part ≡ runs_in code part

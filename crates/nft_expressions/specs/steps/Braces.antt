@@ -3,15 +3,16 @@ use Rattle.std.proofs.Common.{◌≡◌, ℕ, ◌<◌, ◌==◌, Bool, true, fal
 use Rattle.std.proofs.lemmas.Bool.{eqb-true}
 use Rattle.std.proofs.lemmas.List.{append-nil, nil_from_length}
 use Rattle.std.specs.Prelude.{zero, suc, take, drop, IfSome}
+use Rattle.std.proofs.lemmas.Option.{same_Some}
+use Rattle.list_laws.specs.Options.{option_cases, IfSome_at, IfSome_weaker, if_found, bind_found, ◌>>=◌}
 use Rattle.nft_lexer.specs.declared.token.Mark.TheVariants.{CloseBrace, Comma}
 use Rattle.nft_lexer.specs.declared.token.Mark.{Mark}
 use Rattle.nft_lexer.specs.Sign as signs
 use Rattle.nft_lexer.specs.Sign.{Sign, mark}
 use Rattle.token_reader.specs.Grammar.{Grammar, Front, line, stands, keyword, sign, a_word, a_number, an_address, a_string, one_of, maybe, many, made, passing, separated, ◌⨾◌, ◌▹◌, ◌∣◌}
 use Rattle.token_reader.specs.Repeats.{Many, without_newlines}
-use Rattle.token_reader.specs.steps.Reading.{◌>>=◌, after_mark}
-use Rattle.token_reader.specs.steps.TokenLaws.{when_found, mark_after}
-use Rattle.token_reader.specs.steps.Laws.{some_is, option_cases, IfSome_at, IfSome_weaker, bind_found}
+use Rattle.token_reader.specs.steps.Reading.{after_mark}
+use Rattle.token_reader.specs.steps.TokenLaws.{mark_after}
 use Rattle.token_reader.specs.steps.Lawful.{Lawful, are_apart, lawful_sign, lawful_after, lawful_separated, separated_only, unread, begins, stands_apart}
 use Rattle.nft_expressions.specs.Elements.{Listed, up_to_brace}
 use Rattle.nft_expressions.specs.steps.Reading.{inside_at, after_plain, enclosed_at, at_brace, after_last_comma, listed_at, up_to_brace_at}
@@ -61,9 +62,9 @@ pub keeps_on : (kept here : List Sign) (x : Sign × List Sign) → inside_at her
 unfolding enclosed_at
 keeps_on kept [] x e = absurd cc
 keeps_on kept (mark CloseBrace ∷ ts) x e = absurd cc
-keeps_on kept (signs.newline ∷ ts) x e = rw (sym (some_is _ _ e), append-nil kept) refl
+keeps_on kept (signs.newline ∷ ts) x e = rw (sym (same_Some _ _ e), append-nil kept) refl
 keeps_on kept (t ∷ ts) x e =
-    rw (sym (some_is _ _ e)) (elim (option_cases (enclosed_at ts)) [
+    rw (sym (same_Some _ _ e)) (elim (option_cases (enclosed_at ts)) [
       | inl none ↦ rw none refl
       | inr y ↦ rw (y.1, append_assoc kept (t ∷ []) y.0.0) refl
     ])
@@ -79,7 +80,7 @@ plain_on : (n : ℕ) (kept here after : List Sign) → after_plain (drop n here)
 plain_on zero kept [] after e = absurd cc
 plain_on zero kept (signs.newline ∷ here) after e = absurd cc
 plain_on zero kept (mark CloseBrace ∷ here) after e = absurd cc
-plain_on zero kept (t ∷ here) after e = rw (append-nil kept, sym (some_is _ _ e)) (keeps_on kept (t ∷ here) (t, here) refl, refl)
+plain_on zero kept (t ∷ here) after e = rw (append-nil kept, sym (same_Some _ _ e)) (keeps_on kept (t ∷ here) (t, here) refl, refl)
 plain_on (suc n) kept [] after e = absurd cc
 plain_on (suc n) kept (t ∷ here) after e =
     let others = plain_on n (kept ++ t ∷ []) here after e in
@@ -178,7 +179,7 @@ module _ {A : Type 0} (p : Grammar A) (l : Lawful p) (some : p.empty ≡ false) 
   unfolding listed_at
   listed_found ts =
       bind_found _ ((separated (sign Comma) p).read ts) _ ((lawful_separated (lawful_sign Comma) l refl some refl behind).found ts) (λ xs exs.
-      when_found _ (length (after_last_comma xs.1) == 0) _ (λ e. (xs.1, exs, last_comma xs.1 e)))
+      if_found _ (length (after_last_comma xs.1) == 0) _ (λ e. (xs.1, exs, last_comma xs.1 e)))
 
   listed_only : (xs : List A) (ts : List Sign) → Listed p xs ts [] → listed_at p.read ts ≡ Some xs
   unfolding listed_at

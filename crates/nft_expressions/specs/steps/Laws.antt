@@ -3,14 +3,16 @@ use Rattle.std.proofs.Common.{◌≡◌, ◌<◌, Bool, true, false, ◌||◌, L
 use Rattle.std.proofs.lemmas.Bool.{not-true}
 use Rattle.std.specs.Prelude.{codes, IfSome}
 use Rattle.std.specs.Str.{bytes_eq}
+use Rattle.std.proofs.lemmas.Option.{same_Some}
+use Rattle.list_laws.specs.Options.{option_cases, IfSome_at, IfSome_weaker, bind_found}
 use Rattle.nft_lexer.specs.declared.token.Mark.TheVariants.{OpenBrace, CloseBrace, Colon, Dot, Slash, Minus, At}
 use Rattle.nft_lexer.specs.Sign as signs
-use Rattle.nft_lexer.specs.Sign.{Sign, mark}
+use Rattle.nft_lexer.specs.Sign.{Sign}
 use Rattle.nft_tree.specs.Tree as tree
 use Rattle.nft_tree.specs.Tree.{Text, ValueTree, RangeTree, KeyTree, DataTree}
 use Rattle.token_reader.specs.Grammar.{Grammar, stands, this_mark, sign, a_number, many, made, passing, ◌▹◌}
 use Rattle.token_reader.specs.steps.Reading.{all_at, word_at}
-use Rattle.token_reader.specs.steps.Laws.{some_is, option_cases, IfSome_at, IfSome_weaker, bind_found, else_found}
+use Rattle.token_reader.specs.steps.Laws.{else_found}
 use Rattle.token_reader.specs.steps.Lawful.{Lawful, lawful_keyword, lawful_sign, lawful_word, lawful_number, lawful_string, lawful_one_of, lawful_then, lawful_after, lawful_before, lawful_either, lawful_made, lawful_maybe, lawful_many, lawful_passing, are_apart, shortens, begins, unread, neither, stands_left, stands_right}
 use Rattle.nft_expressions.specs.Elements.{sign_of, value, ranges, range, next_value, keys, key, comment, element, decisions, verdict, is_verdict_word, is_data_value, map_data, pair, elements, pairs, reference, set_ref, map_ref}
 use Rattle.nft_expressions.specs.steps.Braces.{braceless, Keeps, keeps_keyword, keeps_sign, keeps_word, keeps_number, keeps_address, keeps_string, keeps_then, keeps_after, keeps_either, keeps_made, keeps_passing, keeps_maybe, keeps_many, keeps_one_of, lawful_up_to_brace}
@@ -122,7 +124,7 @@ keys_only k from to (inl (r, e, inr (inr (x, er, (mid, s, (last, h, n)))))) none
 keys_only k from to (inr (x, e, (a, s, (b, n, more)))) none =
     let rests = neither (this_mark Dot ∷ []) (this_mark Minus ∷ this_mark Slash ∷ []) to none in
     let second : next_value_at a ≡ Some (x.1.0, b) = next_value_law.only x.1.0 a b n refl in
-    let others : all_at next_value_at b ≡ (x.1.1, to) = some_is _ _ (more_law.only x.1.1 b to more rests.0) in
+    let others : all_at next_value_at b ≡ (x.1.1, to) = same_Some _ _ (more_law.only x.1.1 b to more rests.0) in
     rw (s, value_only x.0 a, second, others, e) refl
 
 keys_front : (k : KeyTree) (from to : List Sign) → keys.spells k from to → ((length to < length from) × (stands value.first from ≡ true)) ⊎ ((from ≡ to) × (false ≡ true))

@@ -5,7 +5,8 @@ use Rattle.nft_lexer.specs.Sign as signs
 use Rattle.nft_lexer.specs.Sign.{Sign}
 use Rattle.nft_tree.specs.Tree as tree
 use Rattle.nft_tree.specs.Tree.{ValueTree, RangeTree, KeyTree}
-use Rattle.token_reader.specs.steps.Reading.{option_else, ◌>>=◌, all_at, with_front, after_at, sign_at, separated_at, after_mark, number_at}
+use Rattle.list_laws.specs.Options.{◌>>=◌}
+use Rattle.token_reader.specs.steps.Reading.{option_else, all_at, with_front, after_at, sign_at, separated_at, after_mark, number_at}
 
 -- NUM | ADDR | WORD | STRING
 abbrev pub value_at : List Sign → Option (ValueTree × List Sign)

@@ -1,11 +1,11 @@
 -- What is read as selectors is what spells them.
 use Rattle.std.proofs.Common.{◌≡◌, List, Some, inl, inr, refl}
 use Rattle.std.specs.Prelude.{codes}
+use Rattle.list_laws.specs.Options.{option_cases, IfSome_at}
 use Rattle.nft_lexer.specs.declared.token.Mark.TheVariants.{Dot}
 use Rattle.nft_lexer.specs.Sign.{Sign}
 use Rattle.nft_tree.specs.declared.selector.Selector.{Selector}
 use Rattle.token_reader.specs.Grammar.{sign, ◌▹◌}
-use Rattle.token_reader.specs.steps.Laws.{option_cases, IfSome_at}
 use Rattle.token_reader.specs.steps.Lawful.{Lawful, lawful_keyword, lawful_sign, lawful_one_of, lawful_after, lawful_either, lawful_separated, separated_only}
 use Rattle.nft_expressions.specs.Selectors.{EndsSelectors, in_ip, in_meta, in_tcp, in_udp, in_th, in_icmp, in_ct, alone, selector, selectors}
 

@@ -1,6 +1,8 @@
 -- What is read as a rule is what spells it.
 use Rattle.std.proofs.Common.{◌≡◌, ℕ, List, [], ◌∷◌, ◌++◌, true, false, Option, Some, None, inl, inr, refl, sym, ap, subst, ◌∙◌}
 use Rattle.std.specs.Prelude.{codes, option_map}
+use Rattle.std.proofs.lemmas.Option.{same_Some}
+use Rattle.list_laws.specs.Options.{if_found, bind_found}
 use Rattle.nft_lexer.specs.declared.token.Mark.TheVariants.{Semicolon, CloseBrace}
 use Rattle.nft_lexer.specs.Sign.{Sign, newline, mark, word}
 use Rattle.nft_tree.specs.declared.selector.Selector.{Selector}
@@ -10,8 +12,6 @@ use Rattle.nft_tree.specs.Tree.{LookTree, OperandTree, MatchTree, Statement}
 use Rattle.token_reader.specs.Repeats.{stops}
 use Rattle.token_reader.specs.Grammar.{Front, line, this_mark, stands, Grammar}
 use Rattle.token_reader.specs.steps.Reading.{word_at}
-use Rattle.token_reader.specs.steps.Laws.{some_is, bind_found}
-use Rattle.token_reader.specs.steps.TokenLaws.{when_found}
 use Rattle.token_reader.specs.steps.Lawful.{Lawful, stands_apart, neither, begins, lawful_keyword, lawful_sign, lawful_number, lawful_address, lawful_string, lawful_then, lawful_after, lawful_either, lawful_first, lawful_maybe, lawful_many, lawful_made, lawful_named}
 use Rattle.nft_expressions.specs.Selectors.{selector, selectors, is_word_for}
 use Rattle.nft_expressions.specs.steps.SelectorLaws.{lawful_selector}
@@ -77,7 +77,7 @@ one_selector : (s t : Selector) (from a b : List Sign) → selector.spells s fro
 unfolding selector
 one_selector s t from a b e f =
     let same = sym (lawful_selector.only s from a e refl) ∙ lawful_selector.only t from b f refl in
-    ap (λ (x : Selector × List Sign). x.1) (some_is (s, a) (t, b) same)
+    ap (λ (x : Selector × List Sign). x.1) (same_Some (s, a) (t, b) same)
 
 not_both : (x y : Statement) (from to mid : List Sign) → verdict_map.spells x from to → set_mark.spells y from mid → ⊥
 unfolding verdict_map set_mark
@@ -145,7 +145,7 @@ stop_stands ts e = absurd cc
 pub lawful_rule : Lawful ended_rule
 unfolding ended_rule rule statement comment counter log verdict nat set_mark verdict_map operand to_word ports look selector selectors map_ref pairs matching words flag_list masked flag_group flags flag equality range set_ref elements
 lawful_rule = record {
-  found = λ ts. bind_found _ (rule.read ts) _ (lawful_unended.found ts) (λ r e. when_found _ (stops r.1) r (λ stop. (e, stop)));
+  found = λ ts. bind_found _ (rule.read ts) _ (lawful_unended.found ts) (λ r e. if_found _ (stops r.1) r (λ stop. (e, stop)));
   only = λ r from to e none. rw (lawful_unended.only r from to e.0 (stands_apart rule.follow stop_front to refl (stop_stands to e.1)), e.1) refl;
   front = λ r from to e. lawful_unended.front r from to e.0;
 }

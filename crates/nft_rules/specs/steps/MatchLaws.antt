@@ -3,6 +3,8 @@ use Rattle.std.proofs.Common.{◌≡◌, ◌≤◌, List, [], ◌∷◌, ◌++�
 use Rattle.std.proofs.lemmas.Bool.{and_parts}
 use Rattle.std.specs.Prelude.{IsTrue}
 use Rattle.std.specs.List.{list_all}
+use Rattle.std.proofs.lemmas.Option.{same_Some}
+use Rattle.list_laws.specs.Options.{option_cases, IfSome_weaker, bind_found, ◌>>=◌}
 use Rattle.nft_lexer.specs.Sign.{Sign, word}
 use Rattle.nft_lexer.specs.declared.token.Mark.TheVariants.{At, Bar, Comma, Dot, OpenBrace, Slash}
 use Rattle.nft_tree.specs.declared.selector.Selector.{Selector}
@@ -14,8 +16,7 @@ use Rattle.nft_tree.specs.Tree as tree
 use Rattle.nft_tree.specs.Tree.{FlagTree, MatchTree, RangeTree, Text, ValueTree}
 use Rattle.token_reader.specs.Repeats.{Many}
 use Rattle.token_reader.specs.Grammar.{Front, Grammar, a_word, many, maybe, one_of, passing, sign, stands, this_mark, ◌∣◌, ◌⨾◌, ◌▹◌}
-use Rattle.token_reader.specs.steps.Laws.{Finds, IfSome_weaker, bind_found, else_found, option_cases, some_is}
-use Rattle.token_reader.specs.steps.Reading.{◌>>=◌}
+use Rattle.token_reader.specs.steps.Laws.{Finds, else_found}
 use Rattle.token_reader.specs.steps.Lawful.{Ended, Lawful, are_apart, begins, lawful_after, lawful_before, lawful_either, lawful_made, lawful_many, lawful_maybe, lawful_named, lawful_number, lawful_one_of, lawful_passing, lawful_separated, lawful_sign, lawful_then, lawful_word, neither, no_longer, parted, shortens, stands_apart, unread}
 use Rattle.nft_expressions.specs.Selectors.{is_word_for, selector, selectors}
 use Rattle.nft_expressions.specs.steps.SelectorLaws.{lawful_selector, lawful_selectors}
@@ -307,7 +308,7 @@ pub match_word : (m : MatchTree) (from to : List Sign) → matching.spells m fro
 unfolding matching selectors selector set_ref
 match_word m from to ([], mid, keys, tested) none s w a here = absurd keys
 match_word m from to (t ∷ ts, mid, (b, first, others), tested) none s w a here =
-    let same = some_is (t, b) (s, word w ∷ a) (sym (lawful_selector.only t from b first refl) ∙ lawful_selector.only s from (word w ∷ a) here refl) in
+    let same = same_Some (t, b) (s, word w ∷ a) (sym (lawful_selector.only t from b first refl) ∙ lawful_selector.only s from (word w ∷ a) here refl) in
     let key : t ≡ s = ap (λ (x : Selector × List Sign). x.0) same in
     let behind : b ≡ word w ∷ a = ap (λ (x : Selector × List Sign). x.1) same in
     only_key ts s m w a mid to (rw behind at others) (rw key at tested) (ends_parts to none).no_ref

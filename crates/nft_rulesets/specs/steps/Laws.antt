@@ -8,14 +8,14 @@ use Rattle.nft_lexer.specs.Sign.{Sign, word}
 use Rattle.nft_tree.specs.declared.chain.ChainKind.TheVariants as chain_kinds
 use Rattle.nft_tree.specs.declared.chain.Policy.TheVariants as policies
 use Rattle.std.specs.Option.{unwrap_or}
+use Rattle.list_laws.specs.Options.{if_found, bind_found, ◌>>=◌}
 use Rattle.nft_tree.specs.declared.ruleset.Family.TheVariants.{Ip}
 use Rattle.nft_tree.specs.declared.ruleset.Family.{Family}
 use Rattle.nft_tree.specs.Tree.{Text, TableTree}
 use Rattle.token_reader.specs.steps.Reading.{word_at}
 use Rattle.token_reader.specs.Grammar.{any_word, stands, a_word, maybe, one_of, ◌⨾◌}
-use Rattle.token_reader.specs.steps.Reading.{◌>>=◌}
-use Rattle.token_reader.specs.steps.Laws.{bind_found, else_found, Finds}
-use Rattle.token_reader.specs.steps.TokenLaws.{when_found, word_found}
+use Rattle.token_reader.specs.steps.Laws.{else_found, Finds}
+use Rattle.token_reader.specs.steps.TokenLaws.{word_found}
 use Rattle.token_reader.specs.steps.Lawful.{Lawful, shortens, begins, unread, stands_left, stands_right, lawful_keyword, lawful_sign, lawful_word, lawful_number, lawful_string, lawful_ends, lawful_some_ends, lawful_then, lawful_after, lawful_before, lawful_either, lawful_maybe, lawful_many, lawful_made, lawful_one_of, lawful_lines}
 use Rattle.nft_expressions.specs.Selectors.{selector, selectors}
 use Rattle.nft_expressions.specs.Elements.{verdict}
@@ -147,7 +147,7 @@ pub ruleset_found : (ts : List Sign) → IfSome (ruleset_at ts) (λ tables. Spel
 unfolding ruleset_at
 ruleset_found ts =
     bind_found _ (whole_ruleset.read ts) _ (lawful_ruleset.found ts) (λ x ex.
-    when_found _ (length x.1 == 0) x.0 (λ e. let nothing : x.1 ≡ [] = nil_from_length x.1 (eqb-true _ _ e) in rw nothing at ex))
+    if_found _ (length x.1 == 0) x.0 (λ e. let nothing : x.1 ≡ [] = nil_from_length x.1 (eqb-true _ _ e) in rw nothing at ex))
 
 pub ruleset_only : (tables : List TableTree) (ts : List Sign) → SpellsRuleset tables ts → ruleset_at ts ≡ Some tables
 unfolding ruleset_at whole_ruleset table table_name flush

@@ -1,7 +1,8 @@
 use Rattle.std.proofs.Common.{◌∙◌}
+use Rattle.list_laws.specs.Lists.{any_over}
 use Rattle.nft_tree.specs.Tree.{table_tree}
 use Rattle.rule_values.specs.Faults.{has_contradiction}
-use Rattle.rule_values.proofs.Tests.{any_over, passes_here, passes_nowhere}
+use Rattle.rule_values.proofs.Tests.{passes_here, passes_nowhere}
 use Rattle.rule_values.proofs.has_contradiction.Goals as goal
 
 pub returns-then-branch : goal.returns-then-branch

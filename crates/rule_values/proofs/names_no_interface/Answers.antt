@@ -1,9 +1,9 @@
 use Rattle.std.proofs.Common.{rules, tests, ◌∙◌}
 use Rattle.std.proofs.lemmas.Iterator.{YieldsList-from_slice}
 use Rattle.std.proofs.lemmas.Iterator.Search.{any_from_yields_List}
+use Rattle.list_laws.specs.Lists.{any_over}
 use Rattle.nft_tree.specs.Tree.{table_tree}
 use Rattle.rule_values.specs.Faults.{names_no_interface}
-use Rattle.rule_values.proofs.Tests.{any_over}
 use Rattle.rule_values.proofs.names_no_interface.Goals as goal
 
 pub returns : goal.returns

@@ -6,14 +6,14 @@ use Rattle.conntrack.specs.declared.connection.Held.{Held}
 use Rattle.connection_table.specs.Table.{Table}
 use Rattle.conntrack.specs.Held.{IsNoneLater}
 use Rattle.conntrack.specs.Stories.{does_begin}
-use Rattle.conntrack.specs.Recorded.{Count, after_packet}
+use Rattle.conntrack.specs.Updates.{Confirmation, after_packet}
 use Rattle.pcap_io.specs.Pcap.{Recorded}
 use Rattle.story.specs.declared.outcome.Cause.{Cause}
 use Rattle.story.specs.declared.outcome.Outcome.{Outcome}
 use Rattle.story.specs.declared.outcome.Outcome.TheVariants.{Passed, Local, Dropped}
 use Rattle.story.specs.Setup.{Setup, limits_of}
 use Rattle.rule_meaning.specs.declared.event.Event.{Event}
-use Rattle.filter_vm.specs.Machine.{Told}
+use Rattle.filter_vm.specs.Machine.{Ran}
 use Rattle.stepping.specs.declared.arrival.Incoming.{Incoming}
 use Rattle.stepping.specs.declared.fate.Ended.{Ended}
 use Rattle.stepping.specs.declared.settling.Settled.{Settled}
@@ -30,7 +30,7 @@ IsFresh None latest packet held = (latest ≡ 0) × (packet ≡ []) × (held ≡
 IsFresh (Some ended) latest packet held = Unit {0}
 
 -- what an engine holds fits together: where it says that it has room for a record, it has
-pub record IsReady (setup : Setup) (connections : Table) (ended : Option Ended) (latest : ℕ) (told : Told) (packet : Vec ℕ Global) (ready : Bool) : Type 0 where
+pub record IsReady (setup : Setup) (connections : Table) (ended : Option Ended) (latest : ℕ) (told : Ran) (packet : Vec ℕ Global) (ready : Bool) : Type 0 where
   pub limited : connections.limits ≡ limits_of setup
   pub fresh : IsFresh ended latest packet.items connections.held
   pub early : latest < 4294967296000000000
@@ -41,7 +41,7 @@ pub record IsReady (setup : Setup) (connections : Table) (ended : Option Ended) 
   pub long : IsTrue ready → 65535 ≤ vec_capacity packet
 
 -- what is told of the last record, if one was taken
-abbrev pub newest_in : Option Ended → ℕ → Told → Vec ℕ Global → Option stands.Told
+abbrev pub newest_in : Option Ended → ℕ → Ran → Vec ℕ Global → Option stands.ShownEntry
 newest_in None moment told packet = None
 newest_in (Some ended) moment told packet = Some (record {
   moment = moment;
@@ -71,7 +71,7 @@ arrived_in (Err cause) = Err cause
 -- ---- what is held after it
 
 -- a packet of which those held answered this counts so; a connection that it begins has this name
-abbrev pub held_after : ℕ → ConnId → Option Lookup → Option Count → List Held → List Held
+abbrev pub held_after : ℕ → ConnId → Option Lookup → Option Confirmation → List Held → List Held
 held_after now id None count held = held
 held_after now id (Some l) None held = held
 held_after now id (Some l) (Some count) held = after_packet l.belonging id (at_moment now l.sought) count held

@@ -5,7 +5,7 @@ use Rattle.rule_meaning.specs.declared.event.Event.{Event}
 use Rattle.rule_meaning.specs.declared.event.Ending.{Ending}
 use Rattle.rule_meaning.specs.declared.event.Ending.TheVariants.{Accepted, Dropped, Translated}
 use Rattle.rule_meaning.specs.Hooks.{Passage, End, translates_at}
-use Rattle.filter_vm.specs.Machine.{Told}
+use Rattle.filter_vm.specs.Machine.{Ran}
 use Rattle.nft_tree.specs.declared.chain.Hook.{Hook}
 use Rattle.hook_runs.specs.declared.parts.Part.{Part}
 use Rattle.hook_runs.specs.Parts.{CostedTree, bases_in}
@@ -38,11 +38,11 @@ IsAsked part hook = bases_in part ≡ translates_at hook
 -- ---- what it costs
 
 -- there is room for so many events more
-abbrev pub HasRoom : Told → ℕ → Type 0
+abbrev pub HasRoom : Ran → ℕ → Type 0
 HasRoom told cost = length told.events + cost ≤ 65536
 
 -- so many events came at most, and so many statements were started
-pub record Spends (before after : Told) (cost : ℕ) : Type 0 where
+pub record Spends (before after : Ran) (cost : ℕ) : Type 0 where
   pub events : length after.events ≤ length before.events + cost
   pub no_fewer : before.ticks ≤ after.ticks
   pub ticks : after.ticks ≤ before.ticks + cost

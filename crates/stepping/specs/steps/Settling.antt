@@ -7,7 +7,7 @@ use Rattle.conntrack.specs.declared.connection.Held.{Held}
 use Rattle.conntrack.specs.declared.belonging.Belonging.{Belonging}
 use Rattle.conntrack.specs.declared.belonging.Belonging.TheVariants.{Nowhere, Ends, Found}
 use Rattle.conntrack.specs.Held.{begun_with, has_id, is_taken, touched_at}
-use Rattle.conntrack.specs.Recorded.{Count, Uncounted, Counted}
+use Rattle.conntrack.specs.Updates.{Confirmation, Unconfirmed, Confirmed}
 use Rattle.rule_meaning.specs.declared.event.Event.{Event}
 use Rattle.story.specs.declared.outcome.Cause.{Cause}
 use Rattle.story.specs.declared.outcome.Outcome.{Outcome}
@@ -45,10 +45,10 @@ counted_for Nowhere flags mark now held = held
 counted_for (Ends id) flags mark now held = held
 
 -- a packet that belongs so, on this way and with these flags, counts so; a connection that it begins has this name
-abbrev pub counts_in : ConnId → Flags → ℕ → Belonging → Way → Count → List Held → List Held
-counts_in id flags now b way Uncounted held = held
-counts_in id flags now b (Within of) (Counted mark reply source dest) held = counted_for b flags mark now held
-counts_in id flags now b (First draft) (Counted mark reply source dest) held =
+abbrev pub counts_in : ConnId → Flags → ℕ → Belonging → Way → Confirmation → List Held → List Held
+counts_in id flags now b way Unconfirmed held = held
+counts_in id flags now b (Within of) (Confirmed mark reply source dest) held = counted_for b flags mark now held
+counts_in id flags now b (First draft) (Confirmed mark reply source dest) held =
     let connection : Connection = record {
       original = draft.original;
       reply = reply;
@@ -58,9 +58,9 @@ counts_in id flags now b (First draft) (Counted mark reply source dest) held =
       dest = dest;
     } in
     held ++ begun_with id connection flags ∷ []
-counts_in id flags now b Astray (Counted mark reply source dest) held = held
+counts_in id flags now b Astray (Confirmed mark reply source dest) held = held
 
-abbrev pub held_by : ConnId → Flags → ℕ → Belonging → Way → Option Count → List Held → List Held
+abbrev pub held_by : ConnId → Flags → ℕ → Belonging → Way → Option Confirmation → List Held → List Held
 held_by id flags now b way None held = held
 held_by id flags now b way (Some count) held = counts_in id flags now b way count held
 
@@ -80,8 +80,8 @@ way_in (Ok settled) = settled.way
 way_in (Err cause) = Astray
 
 -- whether a packet on this way begins a connection if it counts so
-abbrev pub begins : Way → Option Count → Bool
-begins (First draft) (Some (Counted mark reply source dest)) = true
+abbrev pub begins : Way → Option Confirmation → Bool
+begins (First draft) (Some (Confirmed mark reply source dest)) = true
 begins _ _ = false
 
 -- what becomes of a packet that the rules led so, on this way

@@ -5,7 +5,8 @@ use Rattle.nft_lexer.specs.declared.token.Mark.TheVariants.{Semicolon}
 use Rattle.nft_lexer.specs.Sign.{Sign}
 use Rattle.token_reader.specs.steps.Reading.{after_word, skip_ends}
 use Rattle.token_reader.specs.steps.Fronts.{Front, line, this_mark, this_word}
-use Rattle.token_reader.specs.steps.Reading.{option_else, ◌>>=◌, all_at, after_at, sign_at, some_ends_at, separated_at, lines_at}
+use Rattle.list_laws.specs.Options.{◌>>=◌}
+use Rattle.token_reader.specs.steps.Reading.{option_else, all_at, after_at, sign_at, some_ends_at, separated_at, lines_at}
 
 pub record How (A : Type 0) : Type 0 where
   pub read : List Sign → Option (A × List Sign)

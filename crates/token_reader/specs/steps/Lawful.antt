@@ -7,6 +7,7 @@ use Rattle.std.proofs.lemmas.List.Folds.{list_any-append}
 use Rattle.std.specs.Prelude.{IfSome, Result, Ok, Err, IfOk}
 use Rattle.std.specs.List.{list_all}
 use Rattle.std.specs.Str.{bytes_eq}
+use Rattle.list_laws.specs.Options.{option_cases, IfSome_at, IfSome_weaker, if_found, bind_found}
 use Rattle.nft_lexer.specs.declared.token.Mark.{Mark}
 use Rattle.nft_lexer.specs.declared.token.Mark.TheVariants.{Semicolon}
 use Rattle.nft_lexer.specs.declared.token.Token.{Token}
@@ -19,8 +20,8 @@ use Rattle.token_reader.specs.Readers.{IsRead, Reads, ahead}
 use Rattle.token_reader.specs.Grammar as grammars
 use Rattle.token_reader.specs.Grammar.{Separated, Front, line, this_mark, this_word, any_word, any_number, any_address, any_string, is_front, stands, Grammar, ◌⨾◌, ◌▹◌, ◌◃◌, ◌∣◌, when}
 use Rattle.token_reader.specs.steps.Reading.{all_at}
-use Rattle.token_reader.specs.steps.Laws.{option_cases, IfSome_at, IfSome_weaker, bind_found, else_found, Finds, Takes, many_found, many_only, Many_front, Many_takes, reader_found, reader_only}
-use Rattle.token_reader.specs.steps.TokenLaws.{bytes_eq-true, same_mark, when_found, word_after, mark_after, word_found, number_found, address_found, string_found, NoEnd, ends_found, ends_only, some_ends_found, some_ends_only, some_ends_takes, ends_takes}
+use Rattle.token_reader.specs.steps.Laws.{else_found, Finds, Takes, many_found, many_only, Many_front, Many_takes, reader_found, reader_only}
+use Rattle.token_reader.specs.steps.TokenLaws.{bytes_eq-true, same_mark, word_after, mark_after, word_found, number_found, address_found, string_found, NoEnd, ends_found, ends_only, some_ends_found, some_ends_only, some_ends_takes, ends_takes}
 
 -- ---- what stands in front
 
@@ -316,7 +317,7 @@ lawful_named f {p = p} l = record {
 
 pub lawful_passing : {A : Type 0} (test : A → Bool) {p : Grammar A} → Lawful p → Lawful (grammars.passing test p)
 lawful_passing test {p = p} l = record {
-  found = λ ts. bind_found _ (p.read ts) _ (l.found ts) (λ x ex. when_found _ (test x.0) x (λ e. (ex, e)));
+  found = λ ts. bind_found _ (p.read ts) _ (l.found ts) (λ x ex. if_found _ (test x.0) x (λ e. (ex, e)));
   only = λ x from to s none. rw (l.only x from to s.0 none, s.1) refl;
   front = λ x from to s. l.front x from to s.0;
 }

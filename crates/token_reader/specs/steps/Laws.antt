@@ -1,16 +1,11 @@
 -- One after the other while there is a next: what holds of each such reading.
-use Rattle.std.proofs.Common.{◌≡◌, ℕ, zero, suc, ◌<◌, ◌≤◌, List, [], ◌∷◌, length, Option, Some, None, ◌⊎◌, inl, inr, refl, sym, ap, subst, ◌∙◌, arith}
+use Rattle.std.proofs.Common.{◌≡◌, ℕ, zero, suc, ◌<◌, ◌≤◌, List, [], ◌∷◌, length, Option, Some, None, inl, inr, refl, sym, ap, subst, ◌∙◌, arith}
 use Rattle.std.specs.Prelude.{IfSome, IsSomeAnd, option_map}
+use Rattle.std.proofs.lemmas.Option.{same_Some}
+use Rattle.list_laws.specs.Options.{option_cases, IfSome_at}
 use Rattle.nft_lexer.specs.Sign.{Sign}
 use Rattle.token_reader.specs.Repeats.{Many}
-use Rattle.token_reader.specs.steps.Reading.{option_else, ◌>>=◌, many_at, with_front}
-
-pub some_is : {A : Type 0} (x y : A) → ◌≡◌ {A = Option A} (Some x) (Some y) → x ≡ y
-some_is x y e = cc
-
-pub option_cases : {A : Type 0} (o : Option A) → (o ≡ None) ⊎ ((x : A) × (o ≡ Some x))
-option_cases None = inl refl
-option_cases (Some x) = inr (x, refl)
+use Rattle.token_reader.specs.steps.Reading.{option_else, many_at, with_front}
 
 pub many_at-none : {A : Type 0} (read : List Sign → Option (A × List Sign)) (n : ℕ) (ts : List Sign) → read ts ≡ None → many_at read n ts ≡ ([], ts)
 unfolding many_at
@@ -24,19 +19,6 @@ many_at-some read n ts x e = rw e refl
 -- a reading gives what is spelled
 abbrev pub Finds : {A : Type 0} → (A → List Sign → List Sign → Type 0) → (List Sign → Option (A × List Sign)) → Type 0
 Finds {A} P read = (ts : List Sign) → IfSome (read ts) (λ x. P x.0 ts x.1)
-
-pub IfSome_at : {A : Type 0} (o : Option A) (P : A → Type 0) (x : A) → o ≡ Some x → IfSome o P → P x
-IfSome_at o P x e h = rw e at h
-
--- the last step
-pub IfSome_weaker : {A : Type 0} (o : Option A) (P Q : A → Type 0) → ((x : A) → P x → Q x) → IfSome o P → IfSome o Q
-IfSome_weaker None P Q k h = tt
-IfSome_weaker (Some x) P Q k h = k x h
-
--- a step, and what follows it
-pub bind_found : {A B : Type 0} {P : A → Type 0} (Q : B → Type 0) (o : Option A) (f : A → Option B) → IfSome o P → ((x : A) → P x → IfSome (f x) Q) → IfSome (o >>= f) Q
-bind_found Q None f h k = tt
-bind_found Q (Some x) f h k = k x h
 
 -- a choice
 pub else_found : {A B : Type 0} {P : A → Type 0} (Q : B → Type 0) (o : Option A) (f : A → Option B) (d : Option B) → IfSome o P → ((x : A) → P x → IfSome (f x) Q) → IfSome d Q → IfSome (option_else o f d) Q
@@ -95,5 +77,5 @@ pub reader_only : {X A : Type 0} (view : X → A) (rest : ℕ → List Sign) (re
     → option_map (λ x. (view x.0, rest x.1)) o ≡ read from → (a : A) (to : List Sign) → read from ≡ Some (a, to) → IsSomeAnd o (λ x. (view x.0 ≡ a) × (rest x.1 ≡ to))
 reader_only view rest read from None e a to only = absurd (cc (e ∙ only))
 reader_only view rest read from (Some x) e a to only =
-    let same = some_is (view x.0, rest x.1) (a, to) (e ∙ only) in
+    let same = same_Some (view x.0, rest x.1) (a, to) (e ∙ only) in
     (ap (λ y. y.0) same, ap (λ y. y.1) same)

@@ -2,6 +2,7 @@
 use Rattle.std.specs.Prelude.{ℕ, zero, suc, List, [], ◌∷◌, ◌++◌, length, ◌==◌, Option, Some, None, option_map, if◌then◌else◌}
 use Rattle.std.specs.Borrow.{Bor}
 use Rattle.std.specs.Str.{bytes_eq}
+use Rattle.list_laws.specs.Options.{◌>>=◌}
 use Rattle.nft_lexer.specs.declared.token.Mark.{Mark}
 use Rattle.nft_lexer.specs.declared.token.Mark.TheVariants as marks
 use Rattle.nft_lexer.specs.Sign.{Sign, newline, mark, word, number, address, string}
@@ -60,11 +61,6 @@ after_ends ts = option_map skip_ends (after_end ts)
 abbrev pub option_else : {A B : Type 0} → Option A → (A → B) → B → B
 option_else None f e = e
 option_else (Some x) f e = f x
-
-infixl 10 ◌>>=◌
-abbrev pub ◌>>=◌ : {A B : Type 0} → Option A → (A → Option B) → Option B
-None >>= f = None
-(Some x) >>= f = f x
 
 -- one after the other while there is a next, at most n of them
 unfoldable pub many_at : {A : Type 0} → (List Sign → Option (A × List Sign)) → ℕ → List Sign → List A × List Sign

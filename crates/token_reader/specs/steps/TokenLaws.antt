@@ -1,8 +1,9 @@
 -- Single tokens in front, and runs of ends: what is read is what stands there.
-use Rattle.std.proofs.Common.{◌≡◌, ℕ, zero, suc, ◌<◌, ◌≤◌, Bool, true, false, ◌==◌, cond, List, [], ◌∷◌, length, Option, Some, None, ◌⊎◌, inl, inr, refl, sym, ap, ◌∙◌, arith}
+use Rattle.std.proofs.Common.{◌≡◌, ℕ, zero, suc, ◌<◌, ◌≤◌, true, ◌==◌, List, [], ◌∷◌, length, Option, Some, None, ◌⊎◌, inl, inr, refl, sym, ap, ◌∙◌, arith}
 use Rattle.std.proofs.lemmas.Bool.{and_parts, eqb-true}
 use Rattle.std.specs.Prelude.{IfSome, map}
 use Rattle.std.specs.Str.{bytes_eq}
+use Rattle.list_laws.specs.Options.{if_found}
 use Rattle.nft_lexer.specs.declared.token.Mark.{Mark}
 use Rattle.nft_lexer.specs.declared.token.Mark.TheVariants as marks
 use Rattle.nft_lexer.specs.declared.token.Token.{Token}
@@ -58,16 +59,12 @@ marked-place marks.Above = refl
 pub same_mark : (m n : Mark) → place m ≡ place n → m ≡ n
 same_mark m n e = sym (marked-place m) ∙ ap marked e ∙ marked-place n
 
-pub when_found : {A : Type 0} (Q : A → Type 0) (b : Bool) (x : A) → (b ≡ true → Q x) → IfSome (cond b (Some x) None) Q
-when_found Q true x h = h refl
-when_found Q false x h = tt
-
 pub word_after : (w : List ℕ) (ts : List Sign) → IfSome (after_word w ts) (λ a. ts ≡ word w ∷ a)
-word_after w (word v ∷ ts) = when_found _ (bytes_eq v w) ts (λ e. ap (λ (t : List ℕ). word t ∷ ts) (bytes_eq-true v w e))
+word_after w (word v ∷ ts) = if_found _ (bytes_eq v w) ts (λ e. ap (λ (t : List ℕ). word t ∷ ts) (bytes_eq-true v w e))
 word_after w ts = tt
 
 pub mark_after : (m : Mark) (ts : List Sign) → IfSome (after_mark m ts) (λ a. ts ≡ mark m ∷ a)
-mark_after m (mark n ∷ ts) = when_found _ (place n == place m) ts (λ e. ap (λ (k : Mark). mark k ∷ ts) (same_mark n m (eqb-true _ _ e)))
+mark_after m (mark n ∷ ts) = if_found _ (place n == place m) ts (λ e. ap (λ (k : Mark). mark k ∷ ts) (same_mark n m (eqb-true _ _ e)))
 mark_after m ts = tt
 
 pub word_found : (ts : List Sign) → IfSome (word_at ts) (λ x. ts ≡ word x.0 ∷ x.1)

@@ -5,7 +5,7 @@ use Rattle.chain_graph.specs.Graph.{node_cost}
 use Rattle.chain_graph.specs.Known.{stopped}
 use Rattle.chain_graph.specs.Nodes.{node_of, graph_of, InRange}
 use Rattle.chain_graph.proofs.CostLaws.{cost-now}
-use Rattle.chain_graph.proofs.ListLaws.{set-known}
+use Rattle.list_laws.specs.Elements.{set-known}
 use Rattle.chain_graph.proofs.NodeLaws.{node-is, graph-long, targets-long, node-within, inside-nodes}
 use Rattle.chain_graph.proofs.costs.node_costs.Goals as goal
 

@@ -6,7 +6,7 @@ use Rattle.chain_graph.specs.Graph.{calls_in}
 use Rattle.chain_graph.specs.Nodes.{node_of, graph_of, InRange}
 use Rattle.chain_graph.specs.steps.Passes.{some_call}
 use Rattle.chain_graph.proofs.LeadLaws.{leads-now}
-use Rattle.chain_graph.proofs.ListLaws.{set-known}
+use Rattle.list_laws.specs.Elements.{set-known}
 use Rattle.chain_graph.proofs.NodeLaws.{node-is, graph-long, targets-long, node-within, order-before, inside-nodes}
 use Rattle.chain_graph.proofs.leads.leads_to_marked.Goals as goal
 

@@ -1,5 +1,6 @@
 use Rattle.std.proofs.Common.{◌≡◌, ◌-◌, [], ◌∷◌, ◌++◌, ◌∙◌, List, length, take, drop, map, refl, sym, ap, subst, Bor}
 use Rattle.std.specs.List.{list_any}
+use Rattle.list_laws.specs.Lists.{parted}
 use Rattle.nft_tree.specs.declared.chain.Chain.{Chain}
 use Rattle.nft_tree.specs.Tree.{ChainTree, RuleTree, chain_tree, rule_tree}
 use Rattle.nft_tree.specs.Parts.{chains_of}
@@ -7,7 +8,7 @@ use Rattle.rule_meaning.specs.Runs.{named}
 use Rattle.filter_vm.specs.declared.code.TableCode.{TableCode}
 use Rattle.compiler.specs.Placed.{RulesAt}
 use Rattle.compiler.specs.steps.Adding.{Adds}
-use Rattle.compiler.proofs.AddLaws.{declared_kept, first_of, nothing_left, none_later}
+use Rattle.compiler.proofs.AddLaws.{declared_kept, nothing_left, none_later}
 use Rattle.compiler.proofs.TableLaws.{chain_misfits, chain_rules_wrong, types_free, bounds_free, chains_none, chains_more, chains_all}
 use Rattle.compiler.proofs.tables.table_code.Goals as goal
 
@@ -24,7 +25,7 @@ loop-rest-preserved c =
     let rest : List (Bor Chain) = c.loop-rest.rest.now in
     let others : List (Bor Chain) = take (length rest - 1) (drop 1 rest) in
     let tree : Bor Chain → ChainTree = λ b. chain_tree b.now in
-    let is : map tree rest ≡ tree c.chain-item.result ∷ map tree others = ap (map tree) (first_of rest c.chain-item.result c.in-len1-up.len_at_least c.chain-item.is) in
+    let is : map tree rest ≡ tree c.chain-item.result ∷ map tree others = ap (map tree) (parted rest c.chain-item.result c.in-len1-up.len_at_least c.chain-item.is) in
     let types = ap (list_any (chain_misfits c.args.names.now)) (sym is) ∙ c.loop-rest.invariant.types in
     let bounds = ap (list_any chain_rules_wrong) (sym is) ∙ c.loop-rest.invariant.bounds in
     let with_place : TableCode = record { steps = c.loop-rest.code.steps; places = c.push.new.self; lookups = c.loop-rest.code.lookups } in

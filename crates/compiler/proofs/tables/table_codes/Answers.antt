@@ -1,10 +1,11 @@
 use Rattle.std.proofs.Common.{◌≡◌, ◌-◌, ◌∷◌, ◌∙◌, List, length, take, drop, sym, ap, subst}
 use Rattle.std.specs.List.{list_any}
+use Rattle.list_laws.specs.Lists.{parted}
 use Rattle.nft_tree.specs.Tree.{TableTree}
 use Rattle.rule_types.specs.Types.{table_misfits}
 use Rattle.rule_values.specs.Faults.{has_wrong_value}
 use Rattle.compiler.specs.Placed.{IsTableCode}
-use Rattle.compiler.proofs.AddLaws.{first_of, nothing_left, none_later}
+use Rattle.compiler.proofs.AddLaws.{nothing_left, none_later}
 use Rattle.compiler.proofs.TableLaws.{tables_more, tables_all}
 use Rattle.compiler.proofs.tables.table_codes.Goals as goal
 
@@ -12,7 +13,7 @@ pub loop-rest-preserved : goal.loop-rest-preserved
 loop-rest-preserved c =
     let rest : List TableTree = c.loop-rest.rest.now in
     let others : List TableTree = take (length rest - 1) (drop 1 rest) in
-    let is : rest ≡ c.table-item.result ∷ others = first_of rest c.table-item.result c.in-len1-up.len_at_least c.table-item.is in
+    let is : rest ≡ c.table-item.result ∷ others = parted rest c.table-item.result c.in-len1-up.len_at_least c.table-item.is in
     let types = ap (list_any table_misfits) (sym is) ∙ c.loop-rest.invariant.types in
     let bounds = ap (list_any (has_wrong_value c.args.plant.now)) (sym is) ∙ c.loop-rest.invariant.bounds in
     let number : c.in_ok-number.number ≡ length c.loop-rest.codes.items = c.in_ok-number.ensures ∙ c.len.ensures ∙ c.loop-rest.codes.ok.0 in

@@ -1,10 +1,11 @@
 use Rattle.std.proofs.Common.{◌∙◌, ◌++◌, ◌∷◌, [], sym, ap, subst, map, take, arith}
 use Rattle.std.specs.Option.{option_map}
+use Rattle.list_laws.specs.Lists.{map-more}
 use Rattle.nft_tree.specs.Tree.{element_tree}
 use Rattle.nft_values.specs.Values.{span_of}
 use Rattle.rule_meaning.specs.Sets.{elements_have}
 use Rattle.lowering.specs.steps.Tables.{IsSetTable}
-use Rattle.lowering.proofs.Gathered.{map-more, map-all, set-some, set-none}
+use Rattle.lowering.proofs.Gathered.{map-all, set-some, set-none}
 use Rattle.lowering.proofs.tables.element_pairs.Goals as goal
 use Rattle.lowering.proofs.tables.element_pairs.Goals.{in-Some+in_ok-push, in_default}
 

@@ -1,9 +1,10 @@
 use Rattle.std.proofs.Common.{◌∙◌, ◌++◌, ◌∷◌, [], sym, ap, subst, map, take}
+use Rattle.list_laws.specs.Lists.{map-more}
 use Rattle.nft_tree.specs.declared.kind.Kind.TheVariants.{Named}
 use Rattle.nft_tree.specs.Tree.{pair_tree}
 use Rattle.rule_meaning.specs.Sets.{data_number}
 use Rattle.lowering.specs.steps.Tables.{entry_gives}
-use Rattle.lowering.proofs.Gathered.{IsTableOf, map-more, pairs-some, pairs-none, told}
+use Rattle.lowering.proofs.Gathered.{IsTableOf, pairs-some, pairs-none, told}
 use Rattle.lowering.proofs.tables.number_pairs.Goals as goal
 use Rattle.lowering.proofs.tables.number_pairs.Goals.{in-Some+in_ok-push, in_default}
 

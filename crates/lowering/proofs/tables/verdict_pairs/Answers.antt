@@ -1,9 +1,10 @@
 use Rattle.std.proofs.Common.{◌∙◌, ◌++◌, ◌∷◌, [], sym, ap, subst, map, take, arith}
+use Rattle.list_laws.specs.Lists.{map-more}
 use Rattle.nft_tree.specs.Tree.{pair_tree}
 use Rattle.rule_meaning.specs.Sets.{data_verdict, pairs_give}
 use Rattle.rule_meaning.specs.Statements.{decision_of}
 use Rattle.lowering.specs.steps.Tables.{entry_gives}
-use Rattle.lowering.proofs.Gathered.{IsTableOf, decides, map-more, map-all, mapped, mapped-one, pairs-some, pairs-none, told}
+use Rattle.lowering.proofs.Gathered.{IsTableOf, decides, map-all, mapped, mapped-one, pairs-some, pairs-none, told}
 use Rattle.lowering.proofs.tables.verdict_pairs.Goals as goal
 use Rattle.lowering.proofs.tables.verdict_pairs.Goals.{in-Some+in_ok-push, in_default}
 

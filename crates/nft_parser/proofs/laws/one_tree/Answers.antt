@@ -1,6 +1,6 @@
 use Rattle.std.proofs.Common.{◌≡◌, ◌∙◌, inl, inr, sym, ap}
+use Rattle.std.proofs.lemmas.Option.{same_Some}
 use Rattle.nft_lexer.specs.Sign.{signs_of}
-use Rattle.token_reader.specs.steps.Laws.{some_is}
 use Rattle.nft_rulesets.specs.steps.Laws.{ruleset_at, ruleset_only}
 use Rattle.nft_parser.proofs.TextLaws.{fault_cases}
 use Rattle.nft_parser.proofs.laws.one_tree.Goals as goal
@@ -8,7 +8,7 @@ use Rattle.nft_parser.proofs.laws.one_tree.Goals as goal
 pub returns-clause-one : goal.returns-clause-one
 returns-clause-one c = λ text first second f s.
     let same : f.0 ≡ s.0 = c.one_cutting.ensures.one text f.0 s.0 f.1 s.1 in
-    some_is first second (sym (ruleset_only first (signs_of f.0) f.2) ∙ ap (λ tokens. ruleset_at (signs_of tokens)) same ∙ ruleset_only second (signs_of s.0) s.2)
+    same_Some first second (sym (ruleset_only first (signs_of f.0) f.2) ∙ ap (λ tokens. ruleset_at (signs_of tokens)) same ∙ ruleset_only second (signs_of s.0) s.2)
 
 pub returns-clause-faultless : goal.returns-clause-faultless
 returns-clause-faultless c = λ text tree fault s h.

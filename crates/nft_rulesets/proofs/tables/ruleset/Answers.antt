@@ -2,9 +2,9 @@ use Rattle.std.proofs.Common.{◌≡◌, List, Option, Some, None, sym}
 use Rattle.std.proofs.lemmas.Result.{IfOk-weaker}
 use Rattle.std.specs.Prelude.{IfSome, IsSomeAnd}
 use Rattle.std.specs.Option.{option_map}
+use Rattle.list_laws.specs.Options.{IfSome_at}
 use Rattle.nft_lexer.specs.Sign.{Sign, signs}
 use Rattle.nft_tree.specs.Tree.{TableTree, tables_of}
-use Rattle.token_reader.specs.steps.Laws.{IfSome_at}
 use Rattle.nft_rulesets.specs.Rulesets.{SpellsRuleset}
 use Rattle.nft_rulesets.specs.steps.Laws.{ruleset_at, ruleset_found, ruleset_only}
 use Rattle.nft_rulesets.proofs.tables.ruleset.Goals as goal

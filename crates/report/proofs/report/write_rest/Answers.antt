@@ -1,12 +1,13 @@
 use Rattle.std.proofs.Common.{◌++◌, append_assoc, refl}
 use Rattle.std.specs.List.{flat_map}
 use Rattle.std.proofs.lemmas.Result.{err_from_is_err_and}
+use Rattle.pcap_io.specs.steps.Written.{gets_more, gets_part}
 use Rattle.nft_tree.specs.Tree.{tables_of}
 use Rattle.report.specs.Report.{number_lines}
 use Rattle.report.specs.Standing.{note_line}
 use Rattle.report.specs.steps.Standings.{told_tables}
 use Rattle.report.specs.steps.Totals.{drops_in}
-use Rattle.report.proofs.Putting.{gets_more, gets_part, left_start, left_more, left_part, sent_all, part_empty}
+use Rattle.report.proofs.Putting.{left_start, left_more, left_part, sent_all, part_empty}
 use Rattle.report.proofs.report.write_rest.Goals as goal
 
 pub returns-in_err-put_notes-clause-wrote : goal.returns-in_err-put_notes-clause-wrote

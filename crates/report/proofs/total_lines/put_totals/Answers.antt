@@ -1,11 +1,12 @@
 use Rattle.std.proofs.Common.{◌++◌, ap, refl, ◌∙◌}
 use Rattle.std.specs.List.{flat_map}
 use Rattle.std.proofs.lemmas.Result.{err_from_is_err_and}
+use Rattle.pcap_io.specs.steps.Written.{part_same}
 use Rattle.story.specs.Outcomes.{causes}
 use Rattle.report.specs.Report.{drop_line}
 use Rattle.report.specs.steps.Totals.{drops_in}
 use Rattle.report.proofs.Texts.{puts_as}
-use Rattle.report.proofs.Putting.{left_start, left_more, left_part, left_last, part_same, gets_as}
+use Rattle.report.proofs.Putting.{left_start, left_more, left_part, left_last, gets_as}
 use Rattle.report.proofs.Summing.{bit_is, head_told, tail_told, totals_split, head_lines, tail_lines}
 use Rattle.report.proofs.total_lines.put_totals.Goals as goal
 

@@ -1,5 +1,6 @@
 use Rattle.std.proofs.Common.{rules, ◌≡◌, List, false, subst, sym, ◌∙◌}
 use Rattle.std.specs.List.{list_any}
+use Rattle.list_laws.specs.Options.{IfSome_at}
 use Rattle.nft_tree.specs.Tree.{TableTree, tables_of}
 use Rattle.box_file.specs.Box.{PlantTree}
 use Rattle.rule_names.specs.Names.{NameTwice}
@@ -9,7 +10,7 @@ use Rattle.rule_values.specs.Faults.{has_contradiction}
 use Rattle.rule_check.specs.declared.fault.CheckFault.TheVariants as faults
 use Rattle.rule_check.specs.steps.Judging.{HasNone, Tells}
 use Rattle.rule_check.proofs.Lesser.{least, least_told, none_yet, without}
-use Rattle.rule_check.proofs.Stages.{after_all, after_chains, after_cycles, after_maps, after_names, at_none, at_some, findings_of, if_some}
+use Rattle.rule_check.proofs.Stages.{after_all, after_chains, after_cycles, after_maps, after_names, at_none, at_some, findings_of}
 use Rattle.rule_check.proofs.judging.judge.Goals as goal
 
 pub returns-in_default-clause-refused : goal.returns-in_default-clause-refused
@@ -22,7 +23,7 @@ pub returns-in-Some-fault_of_names-clause-refused : goal.returns-in-Some-fault_o
 returns-in-Some-fault_of_names-clause-refused c =
     let tables : List TableTree = tables_of c.args.tree.now in
     let plant : PlantTree = c.args.plant.now in
-    let apart : NameTwice tables → ⊥ = if_some c.in_ok-names.field-0 (λ names. NameTwice tables → ⊥) _ c.in-Some.is c.in_ok-names.ensures.apart in
+    let apart : NameTwice tables → ⊥ = IfSome_at c.in_ok-names.field-0 (λ names. NameTwice tables → ⊥) _ c.in-Some.is c.in_ok-names.ensures.apart in
     let same : c.deref.result.now ≡ tables = search rules in
     least_told tables plant 2 4 c.in-Some-fault_of_names.fault c.fault_of_names.result (without tables plant faults.NameTwice apart) c.in-Some-fault_of_names.is
     (subst (λ (ts : List TableTree). Tells 2 4 ts plant c.fault_of_names.result) same (c.fault_of_names.ensures plant))
@@ -31,7 +32,7 @@ pub returns-in_default-2-clause-refused : goal.returns-in_default-2-clause-refus
 returns-in_default-2-clause-refused c =
     let tables : List TableTree = tables_of c.args.tree.now in
     let plant : PlantTree = c.args.plant.now in
-    let apart : NameTwice tables → ⊥ = if_some c.in_ok-names.field-0 (λ names. NameTwice tables → ⊥) _ c.in-Some.is c.in_ok-names.ensures.apart in
+    let apart : NameTwice tables → ⊥ = IfSome_at c.in_ok-names.field-0 (λ names. NameTwice tables → ⊥) _ c.in-Some.is c.in_ok-names.ensures.apart in
     let same : c.deref.result.now ≡ tables = search rules in
     let none4 : HasNone 1 4 tables plant = after_names tables plant c.deref.result.now c.fault_of_names.result apart same c.in_default-fault_of_names.is (c.fault_of_names.ensures plant) in
     let again : c.deref-2.result.now ≡ tables = search rules in
@@ -42,7 +43,7 @@ pub returns-in-Some-fault_of_chains-clause-refused : goal.returns-in-Some-fault_
 returns-in-Some-fault_of_chains-clause-refused c =
     let tables : List TableTree = tables_of c.args.tree.now in
     let plant : PlantTree = c.args.plant.now in
-    let apart : NameTwice tables → ⊥ = if_some c.in_ok-names.field-0 (λ names. NameTwice tables → ⊥) _ c.in-Some.is c.in_ok-names.ensures.apart in
+    let apart : NameTwice tables → ⊥ = IfSome_at c.in_ok-names.field-0 (λ names. NameTwice tables → ⊥) _ c.in-Some.is c.in_ok-names.ensures.apart in
     let same : c.deref.result.now ≡ tables = search rules in
     let none4 : HasNone 1 4 tables plant = after_names tables plant c.deref.result.now c.fault_of_names.result apart same c.in_default-fault_of_names.is (c.fault_of_names.ensures plant) in
     let again : c.deref-2.result.now ≡ tables = search rules in
@@ -55,7 +56,7 @@ pub returns-then-branch-clause-refused : goal.returns-then-branch-clause-refused
 returns-then-branch-clause-refused c =
     let tables : List TableTree = tables_of c.args.tree.now in
     let plant : PlantTree = c.args.plant.now in
-    let apart : NameTwice tables → ⊥ = if_some c.in_ok-names.field-0 (λ names. NameTwice tables → ⊥) _ c.in-Some.is c.in_ok-names.ensures.apart in
+    let apart : NameTwice tables → ⊥ = IfSome_at c.in_ok-names.field-0 (λ names. NameTwice tables → ⊥) _ c.in-Some.is c.in_ok-names.ensures.apart in
     let same : c.deref.result.now ≡ tables = search rules in
     let none4 : HasNone 1 4 tables plant = after_names tables plant c.deref.result.now c.fault_of_names.result apart same c.in_default-fault_of_names.is (c.fault_of_names.ensures plant) in
     let again : c.deref-2.result.now ≡ tables = search rules in
@@ -69,7 +70,7 @@ pub returns-in-Some-last_fault-clause-refused : goal.returns-in-Some-last_fault-
 returns-in-Some-last_fault-clause-refused c =
     let tables : List TableTree = tables_of c.args.tree.now in
     let plant : PlantTree = c.args.plant.now in
-    let apart : NameTwice tables → ⊥ = if_some c.in_ok-names.field-0 (λ names. NameTwice tables → ⊥) _ c.in-Some.is c.in_ok-names.ensures.apart in
+    let apart : NameTwice tables → ⊥ = IfSome_at c.in_ok-names.field-0 (λ names. NameTwice tables → ⊥) _ c.in-Some.is c.in_ok-names.ensures.apart in
     let same : c.deref.result.now ≡ tables = search rules in
     let none4 : HasNone 1 4 tables plant = after_names tables plant c.deref.result.now c.fault_of_names.result apart same c.in_default-fault_of_names.is (c.fault_of_names.ensures plant) in
     let again : c.deref-2.result.now ≡ tables = search rules in
@@ -85,7 +86,7 @@ pub returns-clause-fine : goal.returns-clause-fine
 returns-clause-fine c =
     let tables : List TableTree = tables_of c.args.tree.now in
     let plant : PlantTree = c.args.plant.now in
-    let apart : NameTwice tables → ⊥ = if_some c.in_ok-names.field-0 (λ names. NameTwice tables → ⊥) _ c.in-Some.is c.in_ok-names.ensures.apart in
+    let apart : NameTwice tables → ⊥ = IfSome_at c.in_ok-names.field-0 (λ names. NameTwice tables → ⊥) _ c.in-Some.is c.in_ok-names.ensures.apart in
     let same : c.deref.result.now ≡ tables = search rules in
     let none4 : HasNone 1 4 tables plant = after_names tables plant c.deref.result.now c.fault_of_names.result apart same c.in_default-fault_of_names.is (c.fault_of_names.ensures plant) in
     let again : c.deref-2.result.now ≡ tables = search rules in

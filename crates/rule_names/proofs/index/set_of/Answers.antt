@@ -1,7 +1,8 @@
 use Rattle.std.proofs.Common.{◌∙◌, sym, subst, take, arith}
+use Rattle.std.proofs.lemmas.Bool.{not-true}
 use Rattle.rule_names.specs.Names.{Repeats}
 use Rattle.rule_names.specs.steps.Index.{texts}
-use Rattle.rule_names.proofs.Twice.{Indexes, not-false, not-true, found-again, indexes-more, texts-more, texts-around}
+use Rattle.rule_names.proofs.Twice.{Indexes, not-false, found-again, indexes-more, texts-more, texts-around}
 use Rattle.rule_names.proofs.index.set_of.Goals as goal
 
 pub returns-then-not-branch-clause-is : goal.returns-then-not-branch-clause-is

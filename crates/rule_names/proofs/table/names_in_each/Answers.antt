@@ -2,9 +2,10 @@ use Rattle.std.proofs.Common.{◌≡◌, ◌∙◌, ◌++◌, ◌∷◌, [], ap�
 use Rattle.std.specs.Prelude.{All, IfSome, MatchOption}
 use Rattle.std.proofs.lemmas.Option.{MatchOption-at_none}
 use Rattle.std.proofs.lemmas.List.Elements.{All-push}
+use Rattle.list_laws.specs.Lists.{map-more}
 use Rattle.nft_tree.specs.Tree.{TableTree, table_tree}
 use Rattle.rule_names.specs.steps.Table.{IsApart, RepeatsIn}
-use Rattle.rule_names.proofs.Lists.{map-more, Contains-map}
+use Rattle.rule_names.proofs.Lists.{Contains-map}
 use Rattle.rule_names.proofs.table.names_in_each.Goals as goal
 
 pub returns-in_default-clause-is : goal.returns-in_default-clause-is

@@ -1,7 +1,8 @@
 use Rattle.std.proofs.Common.{[], ◌+◌, ◌∷◌, ◌++◌, ◌-◌, ◌∙◌, length, take, drop, subst, sym, ap, append_assoc}
+use Rattle.list_laws.specs.Lists.{parted}
 use Rattle.set_intervals.specs.Pairs.{look}
 use Rattle.set_intervals.specs.steps.Layers.{Follows}
-use Rattle.set_intervals.proofs.LayerLaws.{follows, parted, same_front}
+use Rattle.set_intervals.proofs.LayerLaws.{follows, same_front}
 use Rattle.set_intervals.proofs.overlay.append_all.Goals as goal
 
 pub loop-left-preserved : goal.loop-left-preserved

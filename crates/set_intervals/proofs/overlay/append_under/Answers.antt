@@ -1,7 +1,8 @@
 use Rattle.std.proofs.Common.{[], ◌∷◌, ◌+◌, ◌++◌, ◌-◌, ◌∙◌, length, take, drop, subst, sym, ap, arith}
+use Rattle.list_laws.specs.Lists.{parted}
 use Rattle.set_intervals.specs.Pairs.{look}
 use Rattle.set_intervals.specs.steps.Layers.{Follows}
-use Rattle.set_intervals.proofs.LayerLaws.{covered, follows, parted, passed}
+use Rattle.set_intervals.proofs.LayerLaws.{covered, follows, passed}
 use Rattle.set_intervals.proofs.overlay.append_under.Goals as goal
 
 pub returns-in_default-after-clause-looks : goal.returns-in_default-after-clause-looks

@@ -1,9 +1,10 @@
 use Rattle.std.proofs.Common.{◌≡◌, ◌∙◌, [], false, true, Ok, Err, Option, arith, List, ℕ, ap, rules, sym}
 use Rattle.std.proofs.lemmas.Result.{err_from_is_err_and}
 use Rattle.std.specs.Io.KnownBytes.{Consumes, IsAtEnd}
+use Rattle.std.proofs.lemmas.Bool.{false_from_ne_true}
 use Rattle.pcap_io.specs.declared.fault.CaptureError.TheVariants.{Refused}
 use Rattle.pcap_io.specs.Seen.{Seen, is_ready}
-use Rattle.engine.proofs.Replays.{Fetched, begun, cut, ended, halted, halted_at, interrupts_cut, interrupts_halted, interrupts_lacks, kept_up, lacks, more, not_ready, refused, torn_only}
+use Rattle.engine.proofs.Replays.{Fetched, begun, cut, ended, halted, halted_at, interrupts_cut, interrupts_halted, interrupts_lacks, kept_up, lacks, more, refused, torn_only}
 use Rattle.engine.proofs.Telling.{broke_telling}
 use Rattle.engine.proofs.replay.Replay.play.Goals as goal
 
@@ -89,7 +90,7 @@ returns-in-Err-Refused-clause-ok g c = λ start p.
 pub returns-in-Err-Device-clause-interrupted : goal.returns-in-Err-Device-clause-interrupted
 returns-in-Err-Device-clause-interrupted g c = λ start p.
     let unready : is_ready c.each.self.records ≡ false =
-    not_ready _ (λ ready. c.in-Err-Device.ensures.held (search rules) (ap is_ready c.keep_up.ensures.same.1 ∙ ready) (ap Err c.in-Err-Device.field-0-is)) in
+    false_from_ne_true _ (λ ready. c.in-Err-Device.ensures.held (search rules) (ap is_ready c.keep_up.ensures.same.1 ∙ ready) (ap Err c.in-Err-Device.field-0-is)) in
     interrupts_cut start _ _ _ _ _ c.args.capture.now.failures c.next.new.reader.failures (search rules)
     (cut c.each.self c.keep_up.new.self c.next.new.self start _ _ _ _ _ _ _ _ (c.each.invariant.carried start p) c.keep_up.ensures.same.1
     (ap (λ (s : Seen). s.format) c.keep_up.ensures.same.1 ∙ c.each.invariant.format)

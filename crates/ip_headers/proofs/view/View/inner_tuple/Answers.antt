@@ -1,12 +1,9 @@
-use Rattle.std.proofs.Common.{◌≡◌, ℕ, ◌-◌, List, length, take, drop, Bool, true, Option, None, sym, ap, ◌∙◌, arith}
+use Rattle.std.proofs.Common.{◌≡◌, drop, Bool, true, Option, None, sym, ap, ◌∙◌, arith}
 use Rattle.std.specs.Prelude.{if◌then◌else◌}
-use Rattle.std.proofs.lemmas.Grind.{common_steps}
+use Rattle.list_laws.specs.Lists.{rest_from}
 use Rattle.ip_headers.specs.declared.tuple.Tuple.{Tuple}
 use Rattle.ip_headers.specs.Tuple.{is_error, inner_of, inner_tuple}
 use Rattle.ip_headers.proofs.view.View.inner_tuple.Goals as goal
-
-rest_from : (bytes : List ℕ) (i : ℕ) → take (length bytes - i) (drop i bytes) ≡ drop i bytes
-rest_from bytes i = grind (arith, common_steps)
 
 chosen : (test : Bool) (found : Option Tuple) → test ≡ true → found ≡ (if test then found else None)
 chosen test found is = grind (arith, is)

@@ -1,10 +1,10 @@
 use Rattle.std.proofs.Common.{◌≡◌, List, Some, inl, inr, refl, rules}
+use Rattle.list_laws.specs.Options.{option_cases, ◌>>=◌}
 use Rattle.nft_lexer.specs.declared.token.Mark.TheVariants.{Colon}
 use Rattle.nft_lexer.specs.Sign.{Sign}
 use Rattle.token_reader.specs.Grammar.{sign, ◌⨾◌, ◌◃◌}
 use Rattle.token_reader.specs.Readers.{ahead}
-use Rattle.token_reader.specs.steps.Laws.{option_cases}
-use Rattle.token_reader.specs.steps.Reading.{◌>>=◌, after_mark}
+use Rattle.token_reader.specs.steps.Reading.{after_mark}
 use Rattle.nft_expressions.specs.Elements.{range, comment, map_data, pair}
 use Rattle.nft_expressions.proofs.maps.MapPairPart.read.Goals as goal
 

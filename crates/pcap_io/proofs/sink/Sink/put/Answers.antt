@@ -1,9 +1,10 @@
 use Rattle.std.proofs.Common.{[], ◌++◌, ap, subst, ◌∙◌}
 use Rattle.std.proofs.lemmas.Result.{err_from_is_err_and}
+use Rattle.pcap_io.specs.steps.Written.{part_first}
 use Rattle.pcap_io.specs.Counting.{AppendsPart}
 use Rattle.pcap_io.specs.Sll2.{sll2_record, sent}
 use Rattle.pcap_io.specs.Waiting.{Gets}
-use Rattle.pcap_io.proofs.Parts.{part_first, drained, left_waiting, waits_more}
+use Rattle.pcap_io.proofs.Parts.{drained, left_waiting, waits_more}
 use Rattle.pcap_io.proofs.sink.Sink.put.Goals as goal
 use Rattle.pcap_io.proofs.sink.Sink.put.Goals.{then-len-length+in_ok-write_whole, else-len-length}
 

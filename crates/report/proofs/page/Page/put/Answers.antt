@@ -1,5 +1,6 @@
 use Rattle.std.proofs.lemmas.Result.{err_from_is_err_and}
-use Rattle.report.proofs.Putting.{part_first, puts_past}
+use Rattle.pcap_io.specs.steps.Written.{part_first}
+use Rattle.report.proofs.Putting.{puts_past}
 use Rattle.report.proofs.page.Page.put.Goals as goal
 
 pub returns-in_err-send-clause-puts : goal.returns-in_err-send-clause-puts

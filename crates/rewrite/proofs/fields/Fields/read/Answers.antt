@@ -1,6 +1,7 @@
 use Rattle.std.proofs.Common.{◌≡◌, ◌+◌, ◌-◌, ◌*◌, ◌%◌, ◌≤◌, ℕ, List, take, drop, length, get_or, refl, ap, ◌∙◌, arith}
 use Rattle.std.proofs.lemmas.List.{get_or-drop}
 use Rattle.std.proofs.lemmas.Grind.{common_steps}
+use Rattle.list_laws.specs.Lists.{rest_from}
 use Rattle.byteorder.specs.Endian.{big_number}
 use Rattle.ip_headers.specs.Bytes.{number_at, word_at}
 use Rattle.rewrite.specs.declared.fields.Fields.{Fields}
@@ -13,9 +14,6 @@ number_read bytes i number whole read = grind (arith, common_steps, read)
 
 word_read : (bytes : List ℕ) (i word : ℕ) → i + 2 ≤ length bytes → word ≡ big_number 2 (take (length bytes - i) (drop i bytes)) → word ≡ word_at bytes i
 word_read bytes i word whole read = grind (arith, common_steps, read)
-
-rest_is : (bytes : List ℕ) (i : ℕ) → take (length bytes - i) (drop i bytes) ≡ drop i bytes
-rest_is bytes i = grind (arith, common_steps)
 
 abbrev made : ℕ → ℕ → ℕ → ℕ → Carried → Fields
 made from to left sum what = record { source = from; destination = to; ttl = left; checksum = sum; carried = what }
@@ -34,7 +32,7 @@ returns-clause-fields c =
     (number_read p (start + 12) c.read_u32.result (omega (arith, long)) c.read_u32.ensures)
     (number_read p (start + 16) c.read_u32-2.result (omega (arith, long)) c.read_u32-2.ensures)
     (word_read p (start + 10) c.read_u16.result (omega (arith, long)) c.read_u16.ensures)
-    (rw (ninth, first) (c.read.ensures ∙ ap (λ l. carried_of (get_or p (start + 9) 0) l) (rest_is p (start + get_or p start 0 % 16 * 4))))
+    (rw (ninth, first) (c.read.ensures ∙ ap (λ l. carried_of (get_or p (start + 9) 0) l) (rest_from p (start + get_or p start 0 % 16 * 4))))
 
 pub returns-clause-bytes : goal.returns-clause-bytes
 returns-clause-bytes c = λ i. omega (arith, c.type_inv.packet i)

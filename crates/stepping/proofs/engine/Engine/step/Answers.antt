@@ -1,7 +1,7 @@
 use Rattle.std.proofs.Common.{◌≤◌, ◌+◌, ℕ, length, ap, refl, subst, ◌∙◌, arith}
 use Rattle.conntrack.specs.declared.limits.Limits.{Limits}
 use Rattle.conntrack.specs.Held.{live_at}
-use Rattle.filter_vm.specs.Machine.{Told}
+use Rattle.filter_vm.specs.Machine.{Ran}
 use Rattle.story.specs.Setup.{Setup, limits_of}
 use Rattle.stepping.specs.Next.{answered}
 use Rattle.stepping.specs.Stands.{Shown, told_of}
@@ -28,7 +28,7 @@ invariant_of-self g c =
       limited = c.fate-ended.ensures.limits ∙ c.age_all.ensures.limits ∙ c.self.invariant.limited;
       fresh = tt;
       early = omega (arith, c.max-now.ensures, c.args.record.now.early, c.self.invariant.early);
-      few = omega (arith, c.fate-ended.ensures.spent.events, c.costs.ensures, ap (λ (t : Told). length t.events) c.clear-2.ensures);
+      few = omega (arith, c.fate-ended.ensures.spent.events, c.costs.ensures, ap (λ (t : Ran). length t.events) c.clear-2.ensures);
       small = c.fate-ended.ensures.small;
       later = rw follows.held (none_later-after c.none_later.ensures.packet now follows.id (answered _ has.arrived) has.fate.count _ aged);
       room = λ ready. absurd (never ready);

@@ -1,0 +1,5 @@
+pub mod Tests
+pub mod Options
+pub mod Lists
+pub mod Elements
+pub mod Decisions

@@ -1,0 +1,3 @@
+//! Laws of lists, tests and options that the proofs of many crates rest on, beside those of the
+//! standard library.
+#![tactic(auto)]
