@@ -1,0 +1,217 @@
+-- The map from tuples to slots, and what a packet belongs to.
+use Rattle.std.proofs.Common.{◌≡◌, ◌≢◌, ℕ, List, [], ◌∷◌, Option, Some, None, Bool, true, false, cond, refl, sym, ap, ◌∙◌, subst, inl, inr, eq-eqb}
+use Rattle.std.proofs.lemmas.Bool.{or_from, or_left, or_right, or_parts, and_from, and_parts, not_from_false, cases_eq}
+use Rattle.std.proofs.lemmas.Option.{same_Some, none-some}
+use Rattle.futures.specs.LinkedLists.{IsIn, IsApart}
+use Rattle.conntrack.specs.declared.connection.Held.{Held}
+use Rattle.ip_headers.specs.declared.tuple.Tuple.{Tuple}
+use Rattle.ip_headers.specs.declared.tuple.Endpoint.{Endpoint}
+use Rattle.ip_headers.specs.declared.tuple.Kind.{Kind}
+use Rattle.ip_headers.specs.declared.tuple.Kind.TheVariants.{Udp, Tcp, Ask, Answer, Other}
+use Rattle.conntrack.specs.Held.{is_incoming, is_taken, are_apart}
+use Rattle.ip_headers.specs.Same.{same_tuple, same_kind, same_endpoint}
+use Rattle.ip_headers.specs.steps.Equal.{same_kind-true, same_endpoint-true}
+use Rattle.aged_tracker.specs.steps.Rings.{held_in, cons_held}
+use Rattle.aged_tracker.specs.steps.Table.{Sets}
+use Rattle.aged_tracker.specs.steps.Keyed.{IsKeyed}
+use Rattle.aged_tracker.proofs.Members.{either_bool, either_or, not_both, any_none, any_some}
+
+same_kind-refl : (k : Kind) → same_kind k k ≡ true
+same_kind-refl Udp = refl
+same_kind-refl Tcp = refl
+same_kind-refl Ask = refl
+same_kind-refl Answer = refl
+same_kind-refl (Other n) = eq-eqb n n refl
+
+same_endpoint-refl : (e : Endpoint) → same_endpoint e e ≡ true
+same_endpoint-refl e = and_from _ _ (eq-eqb e.address e.address refl) (eq-eqb e.port e.port refl)
+
+pub same_tuple-refl : (t : Tuple) → same_tuple t t ≡ true
+same_tuple-refl t = and_from _ _ (same_kind-refl t.kind) (and_from _ _ (same_endpoint-refl t.source) (same_endpoint-refl t.destination))
+
+pub same_tuple-true : (a b : Tuple) → same_tuple a b ≡ true → a ≡ b
+same_tuple-true a b h =
+    let kinds = and_parts _ _ h in
+    let ends = and_parts _ _ kinds.1 in
+    let kind : a.kind ≡ b.kind = same_kind-true _ _ kinds.0 in
+    let from : a.source ≡ b.source = same_endpoint-true _ _ ends.0 in
+    let to : a.destination ≡ b.destination = same_endpoint-true _ _ ends.1 in
+    ap (λ x. record { kind = x; source = a.source; destination = a.destination }) kind
+    ∙ ap (λ x. record { kind = b.kind; source = x; destination = a.destination }) from
+    ∙ ap (λ x. record { kind = b.kind; source = b.source; destination = x }) to
+
+pub incoming-original : (h : Held) → is_incoming h.original h ≡ true
+incoming-original h = or_left _ _ (same_tuple-refl h.original)
+
+pub incoming-reply : (h : Held) → is_incoming h.reply h ≡ true
+incoming-reply h = or_right _ _ (same_tuple-refl h.reply)
+
+module _ (s : ℕ → Option Held) (at : Tuple → Option ℕ) (keyed : IsKeyed s at) where
+  pub owner_at : (key : ℕ) (h : Held) (tuple : Tuple) → s key ≡ Some h → is_incoming tuple h ≡ true → at tuple ≡ Some key
+  owner_at key h tuple is owned =
+      elim (either_or (same_tuple h.original tuple) (same_tuple h.reply tuple) owned) [
+        | inl e ↦ ap at (sym (same_tuple-true h.original tuple e)) ∙ keyed.original key h is
+        | inr e ↦ ap at (sym (same_tuple-true h.reply tuple e)) ∙ keyed.reply key h is
+      ]
+
+  pub one_owner : (key other : ℕ) (h x : Held) (tuple : Tuple) → s key ≡ Some h → s other ≡ Some x → is_incoming tuple h ≡ true → is_incoming tuple x ≡ true → key ≡ other
+  one_owner key other h x tuple is is' owned owned' =
+      same_Some key other (sym (owner_at key h tuple is owned) ∙ owner_at other x tuple is' owned')
+
+  pub no_owner : (tuple : Tuple) → at tuple ≡ None → (key : ℕ) (h : Held) → s key ≡ Some h → is_incoming tuple h ≡ false
+  no_owner tuple none key h is =
+      elim (either_bool (is_incoming tuple h)) [
+        | inl t ↦ absurd (none-some key (sym none ∙ owner_at key h tuple is t))
+        | inr f ↦ f
+      ]
+
+  pub taken_none : (keys : List ℕ) (tuple : Tuple) → at tuple ≡ None → is_taken tuple (held_in s keys) ≡ false
+  taken_none keys tuple none = any_none (is_incoming tuple) s keys (λ k x found is. no_owner tuple none k x is)
+
+  pub taken_some : (keys : List ℕ) (tuple : Tuple) (key : ℕ) → at tuple ≡ Some key → ((k : ℕ) (h : Held) → s k ≡ Some h → IsIn k keys) → is_taken tuple (held_in s keys) ≡ true
+  taken_some keys tuple key is listed =
+      let owner = keyed.found tuple key is in
+      any_some (is_incoming tuple) s keys key owner.0 (listed key owner.0 owner.1.0) owner.1.0 owner.1.1
+
+  pub free_at : (keys : List ℕ) (tuple : Tuple) → is_taken tuple (held_in s keys) ≡ false → ((k : ℕ) (h : Held) → s k ≡ Some h → IsIn k keys) → at tuple ≡ None
+  free_at keys tuple free listed = by_slot (at tuple) refl
+    where
+      by_slot : (o : Option ℕ) → at tuple ≡ o → at tuple ≡ None
+      by_slot None is = is
+      by_slot (Some key) is = absurd (not_both _ (taken_some keys tuple key is listed) free)
+
+  apart_step : (o : Option Held) (rest : List Held) → ((x : Held) → o ≡ Some x → (is_taken x.original rest ≡ false) × (is_taken x.reply rest ≡ false)) → are_apart rest ≡ true → are_apart (cons_held o rest) ≡ true
+  apart_step None rest free apart = apart
+  apart_step (Some x) rest free apart = and_from _ _ (not_from_false _ (or_from _ _ (free x refl).0 (free x refl).1)) apart
+
+  pub apart_held : (keys : List ℕ) → IsApart keys → are_apart (held_in s keys) ≡ true
+  apart_held [] apart = refl
+  apart_held (k ∷ keys) apart =
+      let free : (x : Held) (tuple : Tuple) → s k ≡ Some x → is_incoming tuple x ≡ true → is_taken tuple (held_in s keys) ≡ false =
+      λ x tuple is owned. any_none (is_incoming tuple) s keys (λ j y found at'.
+      elim (either_bool (is_incoming tuple y)) [
+        | inl t ↦ absurd (apart.0 (subst (λ i. IsIn i keys) (one_owner j k y x tuple at' is t owned) found))
+        | inr f ↦ f
+      ]) in
+      apart_step (s k) (held_in s keys)
+      (λ x is. (free x x.original is (incoming-original x), free x x.reply is (incoming-reply x)))
+      (apart_held keys apart.1)
+
+cond_true : {X : Type 0} (b : Bool) (x y : X) → b ≡ true → cond b x y ≡ x
+cond_true b x y e = rw e refl
+
+cond_false : {X : Type 0} (b : Bool) (x y : X) → b ≡ false → cond b x y ≡ y
+cond_false b x y e = rw e refl
+
+-- a connection in a slot that was free
+module _ (old new : ℕ → Option Held) (at at' : Tuple → Option ℕ) (key : ℕ) (h : Held) (keyed : IsKeyed old at) (updates : Sets old new key (Some h)) (free : old key ≡ None) (o : at h.original ≡ None) (r : at h.reply ≡ None)
+    (now : (q : Tuple) → at' q ≡ cond (same_tuple h.reply q) (Some key) (cond (same_tuple h.original q) (Some key) (at q))) where
+  not_it : (k : ℕ) (x : Held) (tuple : Tuple) → old k ≡ Some x → is_incoming tuple x ≡ true → at' tuple ≡ Some k
+  not_it k x tuple is owned =
+      let was = owner_at old at keyed k x tuple is owned in
+      let differs : (q : Tuple) → at q ≡ None → same_tuple q tuple ≡ false =
+      λ q none. elim (either_bool (same_tuple q tuple)) [
+        | inl e ↦ absurd (none-some k (sym none ∙ ap at (same_tuple-true q tuple e) ∙ was))
+        | inr f ↦ f
+      ] in
+      now tuple ∙ cond_false _ _ _ (differs h.reply r) ∙ cond_false _ _ _ (differs h.original o) ∙ was
+
+  is_it : (tuple : Tuple) → is_incoming tuple h ≡ true → at' tuple ≡ Some key
+  is_it tuple owned =
+      elim (either_bool (same_tuple h.reply tuple)) [
+        | inl e ↦ now tuple ∙ cond_true _ _ _ e
+        | inr f ↦ elim (either_or (same_tuple h.original tuple) (same_tuple h.reply tuple) owned) [
+          | inl e ↦ now tuple ∙ cond_false _ _ _ f ∙ cond_true _ _ _ e
+          | inr e ↦ not_both _ e f
+        ]
+      ]
+
+  either_slot : (P : ℕ → Held → Type 0) → P key h → ((k : ℕ) (x : Held) → old k ≡ Some x → P k x) → (k : ℕ) (x : Held) → new k ≡ Some x → P k x
+  either_slot P this that k x is =
+      elim (cases_eq k key) [
+        | inl e ↦
+            let same : h ≡ x = same_Some h x (sym updates.changed ∙ ap new (sym e) ∙ is) in
+            subst (λ j. P j x) (sym e) (subst (P key) same this)
+        | inr d ↦ that k x (sym (updates.others k d) ∙ is)
+      ]
+
+  pub keyed_begun : IsKeyed new at'
+  keyed_begun =
+      record {
+        found = λ tuple k is. elim (either_bool (is_incoming tuple h)) [
+          | inl e ↦
+              let same : key ≡ k = same_Some key k (sym (is_it tuple e) ∙ is) in
+              (h, (ap new (sym same) ∙ updates.changed, e))
+          | inr f ↦
+              let parts = or_parts (same_tuple h.original tuple) (same_tuple h.reply tuple) f in
+              let was = keyed.found tuple k (sym (now tuple ∙ cond_false (same_tuple h.reply tuple) (Some key) _ parts.1 ∙ cond_false (same_tuple h.original tuple) (Some key) (at tuple) parts.0) ∙ is) in
+              (was.0, (updates.others k (λ e. none-some was.0 (sym free ∙ ap old (sym e) ∙ was.1.0)) ∙ was.1.0, was.1.1))
+        ];
+        original = either_slot (λ k x. at' x.original ≡ Some k) (is_it h.original (incoming-original h)) (λ k x is. not_it k x x.original is (incoming-original x));
+        reply = either_slot (λ k x. at' x.reply ≡ Some k) (is_it h.reply (incoming-reply h)) (λ k x is. not_it k x x.reply is (incoming-reply x));
+      }
+
+-- a connection that leaves its slot
+module _ (old new : ℕ → Option Held) (at at' : Tuple → Option ℕ) (key : ℕ) (h : Held) (keyed : IsKeyed old at) (updates : Sets old new key None) (is : old key ≡ Some h)
+    (now : (q : Tuple) → at' q ≡ cond (same_tuple h.reply q) None (cond (same_tuple h.original q) None (at q))) where
+  still : (k : ℕ) (x : Held) → new k ≡ Some x → (k ≢ key) × (old k ≡ Some x)
+  still k x is' =
+      let differs : k ≢ key = λ e. none-some x (sym updates.changed ∙ ap new (sym e) ∙ is') in
+      (differs, sym (updates.others k differs) ∙ is')
+
+  still_at : (k : ℕ) (x : Held) (tuple : Tuple) → new k ≡ Some x → is_incoming tuple x ≡ true → at' tuple ≡ Some k
+  still_at k x tuple is' owned =
+      let was = still k x is' in
+      let other : is_incoming tuple h ≡ false = elim (either_bool (is_incoming tuple h)) [
+        | inl t ↦ absurd (was.0 (one_owner old at keyed k key x h tuple was.1 is owned t))
+        | inr f ↦ f
+      ] in
+      let parts = or_parts (same_tuple h.original tuple) (same_tuple h.reply tuple) other in
+      now tuple ∙ cond_false (same_tuple h.reply tuple) None _ parts.1 ∙ cond_false (same_tuple h.original tuple) None (at tuple) parts.0 ∙ owner_at old at keyed k x tuple was.1 owned
+
+  pub keyed_ended : IsKeyed new at'
+  keyed_ended =
+      record {
+        found = λ tuple k is'.
+            elim (either_bool (same_tuple h.reply tuple)) [
+              | inl e ↦ absurd (none-some k (sym (now tuple ∙ cond_true _ _ _ e) ∙ is'))
+              | inr f ↦ elim (either_bool (same_tuple h.original tuple)) [
+                | inl e ↦ absurd (none-some k (sym (now tuple ∙ cond_false _ _ _ f ∙ cond_true _ _ _ e) ∙ is'))
+                | inr g ↦
+                    let was = keyed.found tuple k (sym (now tuple ∙ cond_false _ _ _ f ∙ cond_false _ _ _ g) ∙ is') in
+                    let differs : k ≢ key = λ e.
+                    let same : was.0 ≡ h = same_Some was.0 h (sym was.1.0 ∙ ap old e ∙ is) in
+                    not_both (is_incoming tuple h) (ap (is_incoming tuple) (sym same) ∙ was.1.1) (or_from _ _ g f) in
+                    (was.0, (updates.others k differs ∙ was.1.0, was.1.1))
+              ]
+            ];
+        original = λ k x is'. still_at k x x.original is' (incoming-original x);
+        reply = λ k x is'. still_at k x x.reply is' (incoming-reply x);
+      }
+
+-- a connection that keeps its tuples
+module _ (old new : ℕ → Option Held) (at : Tuple → Option ℕ) (key : ℕ) (h h' : Held) (keyed : IsKeyed old at) (updates : Sets old new key (Some h')) (is : old key ≡ Some h) (o : h'.original ≡ h.original) (r : h'.reply ≡ h.reply) where
+  before : (k : ℕ) (x : Held) → new k ≡ Some x → (y : Held) × ((old k ≡ Some y) × ((x.original ≡ y.original) × (x.reply ≡ y.reply)))
+  before k x is' =
+      elim (cases_eq k key) [
+        | inl e ↦
+            let same : h' ≡ x = same_Some h' x (sym updates.changed ∙ ap new (sym e) ∙ is') in
+            (h, (ap old e ∙ is, (ap (λ (z : Held). z.original) (sym same) ∙ o, ap (λ (z : Held). z.reply) (sym same) ∙ r)))
+        | inr d ↦ (x, (sym (updates.others k d) ∙ is', (refl, refl)))
+      ]
+
+  pub keyed_touched : IsKeyed new at
+  keyed_touched =
+      record {
+        found = λ tuple k is'.
+            let was = keyed.found tuple k is' in
+            elim (cases_eq k key) [
+              | inl e ↦
+                  let same : was.0 ≡ h = same_Some was.0 h (sym was.1.0 ∙ ap old e ∙ is) in
+                  let owned : is_incoming tuple h ≡ true = ap (is_incoming tuple) (sym same) ∙ was.1.1 in
+                  (h', (ap new e ∙ updates.changed, rw (o, r) owned))
+              | inr d ↦ (was.0, (updates.others k d ∙ was.1.0, was.1.1))
+            ];
+        original = λ k x is'. let b = before k x is' in ap at b.1.1.0 ∙ keyed.original k b.0 b.1.0;
+        reply = λ k x is'. let b = before k x is' in ap at b.1.1.1 ∙ keyed.reply k b.0 b.1.0;
+      }

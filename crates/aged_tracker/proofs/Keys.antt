@@ -1,0 +1,107 @@
+-- Lists of keys, each of which has a key once.
+use Rattle.std.proofs.Common.{◌≡◌, ◌≢◌, ◌⊎◌, ℕ, ◌≤◌, List, [], ◌∷◌, ◌++◌, slice_get, Some, None, refl, sym, ap, ◌∙◌, subst, inl, inr, arith}
+use Rattle.std.proofs.lemmas.Bool.{cases_eq, cond-true, not_from_false}
+use Rattle.std.proofs.lemmas.Bool.{ne_eqb}
+use Rattle.std.proofs.lemmas.Option.{same_Some, none-some}
+use Rattle.futures.specs.LinkedLists.{without, IsIn, IsApart}
+use Rattle.futures.proofs.LinkLemmas.{without_head, IsIn-without}
+use Rattle.aged_tracker.specs.steps.Table.{IsRising}
+
+pub without_past : (key first : ℕ) (rest : List ℕ) → first ≢ key → without key (first ∷ rest) ≡ first ∷ without key rest
+without_past key first rest other = cond-true _ _ _ (not_from_false _ (ne_eqb first key other))
+
+pub IsIn-without_kept : (key other : ℕ) (keys : List ℕ) → IsIn other keys → other ≢ key → IsIn other (without key keys)
+IsIn-without_kept key other [] found differs = absurd found
+IsIn-without_kept key other (first ∷ rest) found differs =
+    elim (cases_eq first key) [
+      | inl same ↦
+          subst (IsIn other) (sym (without_head key first rest same))
+          (elim found [
+            | inl here ↦ absurd (differs (sym here ∙ same))
+            | inr there ↦ IsIn-without_kept key other rest there differs
+          ])
+      | inr apart ↦
+          subst (IsIn other) (sym (without_past key first rest apart))
+          (elim found [ inl here ↦ inl here | inr there ↦ inr (IsIn-without_kept key other rest there differs) ])
+    ]
+
+pub IsApart-without : (key : ℕ) (keys : List ℕ) → IsApart keys → IsApart (without key keys)
+IsApart-without key [] apart = tt
+IsApart-without key (first ∷ rest) apart =
+    elim (cases_eq first key) [
+      | inl same ↦ subst IsApart (sym (without_head key first rest same)) (IsApart-without key rest apart.1)
+      | inr differs ↦
+          subst IsApart (sym (without_past key first rest differs))
+          (λ found. apart.0 (IsIn-without key first rest found).0, IsApart-without key rest apart.1)
+    ]
+
+pub IsIn-push : (key other : ℕ) (keys : List ℕ) → IsIn other (keys ++ key ∷ []) → IsIn other keys ⊎ (key ≡ other)
+IsIn-push key other [] found = elim found [ inl here ↦ inr here | inr nowhere ↦ absurd nowhere ]
+IsIn-push key other (first ∷ rest) found =
+    elim found [
+      | inl here ↦ inl (inl here)
+      | inr there ↦ elim (IsIn-push key other rest there) [ inl old ↦ inl (inr old) | inr new ↦ inr new ]
+    ]
+
+pub IsIn-push_kept : (key other : ℕ) (keys : List ℕ) → IsIn other keys → IsIn other (keys ++ key ∷ [])
+IsIn-push_kept key other [] found = absurd found
+IsIn-push_kept key other (first ∷ rest) found =
+    elim found [ inl here ↦ inl here | inr there ↦ inr (IsIn-push_kept key other rest there) ]
+
+pub IsIn-push_last : (key : ℕ) (keys : List ℕ) → IsIn key (keys ++ key ∷ [])
+IsIn-push_last key [] = inl refl
+IsIn-push_last key (first ∷ rest) = inr (IsIn-push_last key rest)
+
+pub IsApart-push : (key : ℕ) (keys : List ℕ) → IsApart keys → ¬ IsIn key keys → IsApart (keys ++ key ∷ [])
+IsApart-push key [] apart absent = (λ nowhere. nowhere, tt)
+IsApart-push key (first ∷ rest) apart absent = (
+  λ found. elim (IsIn-push key first rest found) [ inl old ↦ apart.0 old | inr new ↦ absent (inl (sym new)) ],
+  IsApart-push key rest apart.1 (λ there. absent (inr there)),
+)
+
+-- the front is the least
+pub IsRising-front : (f : ℕ → ℕ) (keys : List ℕ) (front key : ℕ) → IsRising f keys → slice_get keys 0 ≡ Some front → IsIn key keys → f front ≤ f key
+IsRising-front f [] front key rising is found = absurd found
+IsRising-front f (first ∷ rest) front key rising is found =
+    let same : first ≡ front = same_Some first front is in
+    elim found [
+      | inl here ↦ let e : f front ≡ f key = ap f (sym same ∙ here) in omega (arith, e)
+      | inr there ↦ let e : f front ≡ f first = ap f (sym same) in omega (arith, e, rising.0 key there)
+    ]
+
+-- an empty list has no front
+pub none_in : (keys : List ℕ) (key : ℕ) → slice_get keys 0 ≡ None → ¬ IsIn key keys
+none_in [] key is found = found
+none_in (first ∷ rest) key is found = absurd (none-some first (sym is))
+
+pub front_in : (keys : List ℕ) (key : ℕ) → slice_get keys 0 ≡ Some key → IsIn key keys
+front_in [] key is = absurd (none-some key is)
+front_in (first ∷ rest) key is = inl (same_Some first key is)
+
+pub IsRising-without : (f : ℕ → ℕ) (key : ℕ) (keys : List ℕ) → IsRising f keys → IsRising f (without key keys)
+IsRising-without f key [] rising = tt
+IsRising-without f key (first ∷ rest) rising =
+    elim (cases_eq first key) [
+      | inl same ↦ subst (IsRising f) (sym (without_head key first rest same)) (IsRising-without f key rest rising.1)
+      | inr differs ↦
+          subst (IsRising f) (sym (without_past key first rest differs))
+          (λ other found. rising.0 other (IsIn-without key other rest found).0, IsRising-without f key rest rising.1)
+    ]
+
+pub IsRising-push : (f : ℕ → ℕ) (key : ℕ) (keys : List ℕ) → IsRising f keys → ((other : ℕ) → IsIn other keys → f other ≤ f key) → IsRising f (keys ++ key ∷ [])
+IsRising-push f key [] rising least = (λ other nowhere. absurd nowhere, tt)
+IsRising-push f key (first ∷ rest) rising least = (
+  λ other found. elim (IsIn-push key other rest found) [
+    | inl old ↦ rising.0 other old
+    | inr new ↦ let e : f key ≡ f other = ap f new in omega (arith, e, least first (inl refl))
+  ],
+  IsRising-push f key rest rising.1 (λ other found. least other (inr found)),
+)
+
+-- other moments that agree at the keys of the list
+pub IsRising-same : (f g : ℕ → ℕ) (keys : List ℕ) → ((key : ℕ) → IsIn key keys → g key ≡ f key) → IsRising f keys → IsRising g keys
+IsRising-same f g [] same rising = tt
+IsRising-same f g (first ∷ rest) same rising = (
+  λ other found. omega (arith, same first (inl refl), same other (inr found), rising.0 other found),
+  IsRising-same f g rest (λ key found. same key (inr found)) rising.1,
+)

@@ -1,0 +1,16 @@
+pub mod Keys
+pub mod HeldLists
+pub mod Links
+pub mod Moved
+pub mod Walks
+pub mod Kept
+pub mod Filed
+pub mod Tables
+pub mod Linked
+pub mod Turns
+pub mod Dead
+pub mod Members
+pub mod Keyed
+pub mod Found
+pub mod Whole
+pub mod Same

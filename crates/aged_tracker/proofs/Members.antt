@@ -1,0 +1,77 @@
+-- Searches in what is held.
+use Rattle.std.proofs.Common.{◌≡◌, ◌⊎◌, ℕ, List, [], ◌∷◌, Option, Some, None, Bool, true, false, ◌||◌, refl, sym, ap, ◌∙◌, subst, inl, inr}
+use Rattle.std.specs.List.{find, list_any}
+use Rattle.std.proofs.lemmas.Bool.{or_from, or_left, or_right, and_from, not_from_false, cases_eq, ne_eqb}
+use Rattle.futures.specs.LinkedLists.{IsIn, IsApart}
+use Rattle.conntrack.specs.declared.connection.Held.{Held}
+use Rattle.conntrack.specs.Held.{same_id, has_id, has_distinct_ids}
+use Rattle.aged_tracker.specs.steps.Rings.{held_in, cons_held}
+use Rattle.aged_tracker.proofs.Tables.{IsNamed}
+
+pub either_bool : (b : Bool) → (b ≡ true) ⊎ (b ≡ false)
+either_bool true = inl refl
+either_bool false = inr refl
+
+pub either_or : (a b : Bool) → (a || b) ≡ true → (a ≡ true) ⊎ (b ≡ true)
+either_or true b h = inl refl
+either_or false b h = inr h
+
+pub not_both : {P : Type 0} (b : Bool) → b ≡ true → b ≡ false → P
+not_both b t f = absurd cc
+
+module _ (f : Held → Bool) (s : ℕ → Option Held) where
+  none_step : (o : Option Held) (rest : List Held) → ((x : Held) → o ≡ Some x → f x ≡ false) → list_any f rest ≡ false → list_any f (cons_held o rest) ≡ false
+  none_step None rest fails none = none
+  none_step (Some x) rest fails none = or_from _ _ (fails x refl) none
+
+  pub any_none : (keys : List ℕ) → ((k : ℕ) (x : Held) → IsIn k keys → s k ≡ Some x → f x ≡ false) → list_any f (held_in s keys) ≡ false
+  any_none [] fails = refl
+  any_none (k ∷ keys) fails =
+      none_step (s k) (held_in s keys) (λ x is. fails k x (inl refl) is) (any_none keys (λ j x found is. fails j x (inr found) is))
+
+  some_step : (o : Option Held) (rest : List Held) → list_any f rest ≡ true → list_any f (cons_held o rest) ≡ true
+  some_step None rest some = some
+  some_step (Some x) rest some = or_right _ _ some
+
+  pub any_some : (keys : List ℕ) (k : ℕ) (x : Held) → IsIn k keys → s k ≡ Some x → f x ≡ true → list_any f (held_in s keys) ≡ true
+  any_some [] k x found is passes = absurd found
+  any_some (j ∷ keys) k x found is passes =
+      elim found [
+        | inl here ↦
+            let at : s j ≡ Some x = ap s here ∙ is in
+            ap (λ o. list_any f (cons_held o (held_in s keys))) at ∙ or_left _ _ passes
+        | inr there ↦ some_step (s j) (held_in s keys) (any_some keys k x there is passes)
+      ]
+
+  find_fails : (o : Option Held) (rest : List Held) → ((x : Held) → o ≡ Some x → f x ≡ false) → find f (cons_held o rest) ≡ find f rest
+  find_fails None rest fails = refl
+  find_fails (Some x) rest fails = rw (fails x refl) refl
+
+  pub find_none : (keys : List ℕ) → ((k : ℕ) (x : Held) → s k ≡ Some x → f x ≡ false) → find f (held_in s keys) ≡ None
+  find_none [] fails = refl
+  find_none (k ∷ keys) fails = find_fails (s k) (held_in s keys) (λ x is. fails k x is) ∙ find_none keys fails
+
+  find_here : (x : Held) (rest : List Held) → f x ≡ true → find f (x ∷ rest) ≡ Some x
+  find_here x rest passes = rw passes refl
+
+  pub find_only : (keys : List ℕ) (key : ℕ) (h : Held) → IsIn key keys → s key ≡ Some h → f h ≡ true → ((k : ℕ) (x : Held) → s k ≡ Some x → f x ≡ true → k ≡ key) → find f (held_in s keys) ≡ Some h
+  find_only [] key h found is passes only = absurd found
+  find_only (k ∷ keys) key h found is passes only =
+      elim (cases_eq k key) [
+        | inl e ↦ ap (λ o. find f (cons_held o (held_in s keys))) (ap s e ∙ is) ∙ find_here h (held_in s keys) passes
+        | inr d ↦
+            find_fails (s k) (held_in s keys) (λ x at. elim (either_bool (f x)) [ inl t ↦ absurd (d (only k x at t)) | inr e ↦ e ])
+            ∙ elim found [ inl here ↦ absurd (d here) | inr there ↦ find_only keys key h there is passes only ]
+      ]
+
+-- slots have distinct names
+distinct_step : (o : Option Held) (rest : List Held) → ((x : Held) → o ≡ Some x → has_id x.id rest ≡ false) → has_distinct_ids rest ≡ true → has_distinct_ids (cons_held o rest) ≡ true
+distinct_step None rest apart distinct = distinct
+distinct_step (Some x) rest apart distinct = and_from _ _ (not_from_false _ (apart x refl)) distinct
+
+pub distinct_held : (s : ℕ → Option Held) (keys : List ℕ) → IsNamed s → IsApart keys → has_distinct_ids (held_in s keys) ≡ true
+distinct_held s [] named apart = refl
+distinct_held s (k ∷ keys) named apart =
+    distinct_step (s k) (held_in s keys)
+    (λ x is. any_none (same_id x.id) s keys (λ j y found at. ne_eqb y.id.0 x.id.0 (λ e. apart.0 (subst (λ i. IsIn i keys) (sym (named j y at) ∙ e ∙ named k x is) found))))
+    (distinct_held s keys named apart.1)

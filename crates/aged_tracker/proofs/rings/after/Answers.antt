@@ -1,0 +1,10 @@
+use Rattle.std.proofs.Common.{ap, ◌∙◌}
+use Rattle.aged_tracker.specs.declared.slot.Link.{Link}
+use Rattle.aged_tracker.specs.steps.Rings.{number, key_at, next_of, prev_of}
+use Rattle.aged_tracker.proofs.Walks.{chain_after}
+use Rattle.aged_tracker.proofs.rings.after.Goals as goal
+
+pub returns : goal.returns
+returns c list before rest range ring =
+    c.key_at.ensures ∙ ap (λ (l : Link). key_at (number l.next)) c.link_at.ensures
+    ∙ chain_after c.args.thread ((next_of c.args.thread) c.args.slots.now c.args.heads.now) ((prev_of c.args.thread) c.args.slots.now c.args.heads.now) list list c.args.key before rest range ring.chained

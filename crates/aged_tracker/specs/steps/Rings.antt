@@ -1,0 +1,172 @@
+-- Rings of links through the slots of a slab, each through its head. A slot is in a ring of each thread.
+use Rattle.std.specs.Prelude.{◌≡◌, ◌≢◌, ℕ, zero, suc, ◌+◌, ◌-◌, ◌<◌, ◌≤◌, nat_lt, if◌then◌else◌, List, [], ◌∷◌, ◌++◌}
+use Rattle.std.specs.Prelude.{length, Option, Some, None, IsSome, option_map, slice_index_or}
+use Rattle.slab.specs.Slab.{Slab, get, slab_len}
+use Rattle.futures.specs.LinkedLists.{without}
+use Rattle.futures.specs.Links as ring
+use Rattle.conntrack.specs.declared.connection.Held.{Held}
+use Rattle.aged_tracker.specs.declared.slot.At.{At}
+use Rattle.aged_tracker.specs.declared.slot.At.TheVariants.{Head, Key}
+use Rattle.aged_tracker.specs.declared.slot.Knot.{Knot}
+use Rattle.aged_tracker.specs.declared.slot.Link.{Link}
+use Rattle.aged_tracker.specs.declared.slot.Slot.{Slot}
+use Rattle.aged_tracker.specs.declared.slot.Thread.{Thread}
+use Rattle.aged_tracker.specs.declared.slot.Thread.TheVariants.{Queues, Order}
+
+-- ---- slots
+
+abbrev pub knot_of : Thread → Slot → Knot
+knot_of Queues slot = slot.queue
+knot_of Order slot = slot.order
+
+abbrev pub with_knot : Thread → Knot → Slot → Slot
+with_knot Queues knot slot = record slot { queue = knot }
+with_knot Order knot slot = record slot { order = knot }
+
+abbrev pub other_thread : Thread → Thread
+other_thread Queues = Order
+other_thread Order = Queues
+
+abbrev pub with_link : Thread → Link → Slot → Slot
+with_link thread link slot = with_knot thread (record { list = (knot_of thread slot).list; link = link }) slot
+
+abbrev pub with_list : Thread → Option ℕ → Slot → Slot
+with_list thread list slot = with_knot thread (record { list = list; link = (knot_of thread slot).link }) slot
+
+abbrev pub held_of : Slot → Held
+held_of slot = slot.held
+
+-- what is held in a slot
+abbrev pub held_at : Slab Slot → ℕ → Option Held
+held_at slots key = option_map held_of (get slots key)
+
+abbrev pub cons_held : Option Held → List Held → List Held
+cons_held None held = held
+cons_held (Some h) held = h ∷ held
+
+-- what is held at these keys
+abbrev pub held_in : (ℕ → Option Held) → List ℕ → List Held
+held_in at [] = []
+held_in at (key ∷ keys) = cons_held (at key) (held_in at keys)
+
+-- ---- places
+
+-- the heads are numbered first, then the slots
+abbrev pub number : At → ℕ
+number (Head list) = list
+number (Key key) = 5 + key
+
+abbrev pub no_link : Link
+no_link = record { prev = Head 0; next = Head 0 }
+
+abbrev pub link_by : Thread → Option Slot → Link
+link_by thread None = no_link
+link_by thread (Some slot) = (knot_of thread slot).link
+
+-- the link at a place
+abbrev pub link_at : Thread → Slab Slot → List Link → ℕ → Link
+link_at thread slots heads place =
+    if nat_lt place 5 then slice_index_or heads place no_link else link_by thread (get slots (place - 5))
+
+abbrev pub next_of : Thread → Slab Slot → List Link → ℕ → ℕ
+next_of thread slots heads place = number (link_at thread slots heads place).next
+
+abbrev pub prev_of : Thread → Slab Slot → List Link → ℕ → ℕ
+prev_of thread slots heads place = number (link_at thread slots heads place).prev
+
+abbrev pub owner_by : Thread → Option Slot → Option ℕ
+owner_by thread None = None
+owner_by thread (Some slot) = (knot_of thread slot).list
+
+-- the list that a slot is in
+abbrev pub owner_of : Thread → Slab Slot → ℕ → Option ℕ
+owner_of thread slots key = owner_by thread (get slots key)
+
+-- the ring through a head holds these keys, each once, in this order: all that are owned by it
+abbrev pub IsRing : Thread → Slab Slot → List Link → ℕ → List ℕ → Type 0
+IsRing thread slots heads list keys =
+    ring.IsRing (next_of thread slots heads) (prev_of thread slots heads) 5 (owner_of thread slots) list keys
+
+-- the place is there
+abbrev pub IsPlace : Slab Slot → ℕ → Type 0
+IsPlace slots place = 5 ≤ place → IsSome (get slots (place - 5))
+
+-- the link at one place is this, and every other is as it was
+pub record Relinks (old new : ℕ → Link) (place : ℕ) (link : Link) : Type 0 where
+  pub here : new place ≡ link
+  pub others : (other : ℕ) → other ≢ place → new other ≡ old other
+
+-- a slot but for its neighbours in a thread
+abbrev pub bare : Thread → Slot → Option ℕ × (Held × Knot)
+bare thread slot = ((knot_of thread slot).list, (slot.held, knot_of (other_thread thread) slot))
+
+abbrev pub SameBare : Thread → Slab Slot → Slab Slot → Type 0
+SameBare thread old new = (key : ℕ) → option_map (bare thread) (get new key) ≡ option_map (bare thread) (get old key)
+
+-- a slot but for its place in a thread
+abbrev pub aside : Thread → Slot → Held × Knot
+aside thread slot = (slot.held, knot_of (other_thread thread) slot)
+
+abbrev pub SameAside : Thread → Slab Slot → Slab Slot → Type 0
+SameAside thread old new = (key : ℕ) → option_map (aside thread) (get new key) ≡ option_map (aside thread) (get old key)
+
+-- ---- lists
+
+-- the key at a place, where that is no head
+abbrev pub key_at : ℕ → Option ℕ
+key_at place = if nat_lt place 5 then None else Some (place - 5)
+
+-- the keys read off the links after a place, at most so many, as far as the next head
+abbrev pub walk : (ℕ → ℕ) → ℕ → ℕ → List ℕ
+walk next zero from = []
+walk next (suc more) from = if nat_lt (next from) 5 then [] else (next from - 5) ∷ walk next more (next from)
+
+-- the keys of a list
+abbrev pub keys_of : Thread → Slab Slot → List Link → ℕ → List ℕ
+keys_of thread slots heads list = walk (next_of thread slots heads) (length slots.slots) list
+
+-- each list of a thread is a ring
+abbrev pub IsRings : Thread → Slab Slot → List Link → Type 0
+IsRings thread slots heads = (list : ℕ) → list < 5 → IsRing thread slots heads list (keys_of thread slots heads list)
+
+-- the keys of each list of a thread, and the list of each key
+pub record Lists : Type 0 where
+  pub items : ℕ → List ℕ
+  pub list_of : ℕ → Option ℕ
+
+abbrev pub lists_of : Thread → Slab Slot → List Link → Lists
+lists_of thread slots heads = record {
+  items = λ list. if nat_lt list 5 then keys_of thread slots heads list else [];
+  list_of = owner_of thread slots;
+}
+
+-- a key is in one of the lists
+abbrev pub IsOwned : Thread → Slab Slot → ℕ → Type 0
+IsOwned thread slots key = (list : ℕ) × ((list < 5) × (owner_of thread slots key ≡ Some list))
+
+-- the key left its list, and all else stays
+pub record Unlinks (old new : Lists) (key list : ℕ) : Type 0 where
+  pub moved : new.list_of key ≡ None
+  pub rest : (other : ℕ) → other ≢ key → new.list_of other ≡ old.list_of other
+  pub left : new.items list ≡ without key (old.items list)
+  pub others : (other : ℕ) → other ≢ list → new.items other ≡ old.items other
+
+-- the key was put last in a list, and all else stays
+pub record Pushes (old new : Lists) (key list : ℕ) : Type 0 where
+  pub moved : new.list_of key ≡ Some list
+  pub rest : (other : ℕ) → other ≢ key → new.list_of other ≡ old.list_of other
+  pub last : new.items list ≡ old.items list ++ key ∷ []
+  pub others : (other : ℕ) → other ≢ list → new.items other ≡ old.items other
+
+-- all lists stay
+pub record SameLists (old new : Lists) : Type 0 where
+  pub items : (list : ℕ) → new.items list ≡ old.items list
+  pub list_of : (key : ℕ) → new.list_of key ≡ old.list_of key
+
+-- slots
+abbrev pub Slots : Type 0
+Slots = Slab Slot
+
+-- as many slots are in use, and as many fit
+abbrev pub SameSize : Slab Slot → Slab Slot → Type 0
+SameSize old new = (slab_len new ≡ slab_len old) × (new.capacity ≡ old.capacity)

@@ -1,0 +1,128 @@
+-- A table of connections: slots, one list through all of them in order of beginning, and a queue for each idle limit.
+use Rattle.std.specs.Prelude.{◌≡◌, ◌≢◌, ℕ, ◌<◌, ◌≤◌, Bool, true, nat_lt, ◌==◌, if◌then◌else◌, List, [], ◌∷◌}
+use Rattle.std.specs.Prelude.{Option, Some, None, option_map, slice_get, slice_index_or}
+use Rattle.slab.specs.Slab.{slab_len}
+use Rattle.futures.specs.LinkedLists.{IsIn, IsApart}
+use Rattle.ip_headers.specs.declared.tuple.Kind.{Kind}
+use Rattle.ip_headers.specs.declared.tuple.Kind.TheVariants.{Tcp, Udp, Ask, Answer, Other}
+use Rattle.conntrack.specs.declared.connection.Phase.{Phase}
+use Rattle.conntrack.specs.declared.connection.Phase.TheVariants.{Opening, Established, Closing}
+use Rattle.conntrack.specs.declared.connection.Held.{Held}
+use Rattle.conntrack.specs.declared.limits.Limits.{Limits}
+use Rattle.conntrack.specs.Phases.{phase_of, seconds}
+use Rattle.conntrack.specs.Held.{is_live}
+use Rattle.aged_tracker.specs.declared.aged_slots.AgedSlots.{AgedSlots}
+use Rattle.aged_tracker.specs.declared.slot.Thread.TheVariants.{Queues, Order}
+use Rattle.aged_tracker.specs.steps.Rings.{Lists, held_at, held_in, lists_of, IsRings}
+
+-- ---- queues
+
+-- the queue of a kind and phase
+abbrev pub queue_by : Kind → Phase → ℕ
+queue_by Udp phase = 0
+queue_by Tcp Established = 1
+queue_by Tcp Opening = 2
+queue_by Tcp Closing = 2
+queue_by Ask phase = 3
+queue_by Answer phase = 3
+queue_by (Other number) phase = 4
+
+abbrev pub queue_of : Held → ℕ
+queue_of h = queue_by h.original.kind (phase_of h)
+
+-- for how many nanoseconds a connection of the queue is live
+abbrev pub limit_at : Limits → ℕ → ℕ
+limit_at limits q =
+    if q == 0 then seconds limits.udp
+    else (if q == 1 then seconds limits.established
+    else (if q == 2 then seconds limits.transitory
+    else (if q == 3 then seconds limits.ask
+    else seconds limits.other)))
+
+-- ---- lists
+
+-- the keys of a list
+abbrev pub keys_in : Lists → ℕ → List ℕ
+keys_in lists list = lists.items list
+
+-- the list of a key
+abbrev pub owner_in : Lists → ℕ → Option ℕ
+owner_in lists key = lists.list_of key
+
+-- each key that is to be in a list is in that list, once, and no other key is in a list
+pub record IsFiled (lists : Lists) (place : ℕ → Option ℕ) : Type 0 where
+  pub owner : (key : ℕ) → owner_in lists key ≡ place key
+  pub listed : (key list : ℕ) → place key ≡ Some list → IsIn key (keys_in lists list)
+  pub placed : (key list : ℕ) → IsIn key (keys_in lists list) → place key ≡ Some list
+  pub apart : (list : ℕ) → IsApart (keys_in lists list)
+
+-- the first list for each slot in use
+abbrev pub order_place : (ℕ → Option Held) → ℕ → Option ℕ
+order_place slots key = option_map (λ h. 0) (slots key)
+
+abbrev pub queue_place : (ℕ → Option Held) → ℕ → Option ℕ
+queue_place slots key = option_map queue_of (slots key)
+
+abbrev pub last_by : Option Held → ℕ
+last_by None = 0
+last_by (Some h) = h.last
+
+-- the moment of the last packet of the connection in a slot
+abbrev pub last_at : (ℕ → Option Held) → ℕ → ℕ
+last_at slots key = last_by (slots key)
+
+-- the moments don't fall
+abbrev pub IsRising : (ℕ → ℕ) → List ℕ → Type 0
+IsRising f [] = Unit {0}
+IsRising f (key ∷ keys) = ((other : ℕ) → IsIn other keys → f key ≤ f other) × IsRising f keys
+
+-- each slot's connection has its key for a name, is in the order of beginning and in its queue, and each queue is by
+-- last packets
+pub record IsLinked (slots : ℕ → Option Held) (begun kinds : Lists) : Type 0 where
+  pub named : (key : ℕ) (h : Held) → slots key ≡ Some h → h.id.0 ≡ key
+  pub order : IsFiled begun (order_place slots)
+  pub queues : IsFiled kinds (queue_place slots)
+  pub rising : (q : ℕ) → IsRising (last_at slots) (keys_in kinds q)
+
+-- the moment of a queue's front
+abbrev pub IsOldest : (ℕ → Option Held) → Lists → ℕ → ℕ → Type 0
+IsOldest slots queues q moment = (key : ℕ) → slice_get (keys_in queues q) 0 ≡ Some key → moment ≡ last_at slots key
+
+-- ---- the table
+
+-- what is held in a slot
+abbrev pub slots_of : AgedSlots → ℕ → Option Held
+slots_of t = held_at t.slots
+
+abbrev pub order_of : AgedSlots → Lists
+order_of t = lists_of Order t.slots t.order
+
+abbrev pub queues_of : AgedSlots → Lists
+queues_of t = lists_of Queues t.slots t.queues
+
+-- all that is held, in order of beginning
+abbrev pub held_by : AgedSlots → List Held
+held_by t = held_in (slots_of t) (keys_in (order_of t) 0)
+
+pub record IsTable (t : AgedSlots) : Type 0 where
+  pub order_rings : IsRings Order t.slots t.order
+  pub queue_rings : IsRings Queues t.slots t.queues
+  pub linked : IsLinked (slots_of t) (order_of t) (queues_of t)
+  pub oldest : (q : ℕ) → q < 5 → IsOldest (slots_of t) (queues_of t) q (slice_index_or t.oldest q 0)
+
+-- whether one more takes no memory
+abbrev pub has_room : AgedSlots → Bool
+has_room t = nat_lt (slab_len t.slots) t.slots.capacity
+
+-- a slot's connection is this, and every other slot's is as it was
+pub record Sets (old new : ℕ → Option Held) (key : ℕ) (slot : Option Held) : Type 0 where
+  pub changed : new key ≡ slot
+  pub others : (other : ℕ) → other ≢ key → new other ≡ old other
+
+-- every connection of the queue is live
+abbrev pub IsLiveQueue : Limits → (ℕ → Option Held) → ℕ → ℕ → Type 0
+IsLiveQueue limits slots now q =
+    (key : ℕ) (h : Held) → slots key ≡ Some h → queue_of h ≡ q → is_live limits now h ≡ true
+
+abbrev pub IsAllLive : Limits → (ℕ → Option Held) → ℕ → Type 0
+IsAllLive limits slots now = (key : ℕ) (h : Held) → slots key ≡ Some h → is_live limits now h ≡ true

@@ -1,0 +1,351 @@
+//! The slots, and the lists that go through them.
+ghost use Rattle.std.specs.Prelude.{◌≡◌, ◌+◌, ◌<◌, ◌≤◌, ◌++◌, ◌∷◌, [], ℕ, nat_lt, IsTrue, IsSome, IfOk, OnOk, Some, None, IfSome, IfNone, false, true, map};
+ghost use Rattle.slab.specs.Slab.{get, slab_len, ContainsKey, Updates};
+ghost use Rattle.conntrack.specs.Held.{begun_with, connection_of, is_live, touched, touched_at, without, IsNoneLater};
+ghost use Rattle.aged_tracker.specs.steps.Rings.{keys_of, lists_of, held_at, held_in, owner_of, IsRings, SameSize};
+ghost use Rattle.aged_tracker.specs.steps.Table.{has_room, held_by, limit_at, queue_of, slots_of, IsAllLive, IsLiveQueue, IsOldest, IsTable, Sets};
+ghost use Rattle.aged_tracker.specs.declared.slot.Thread.TheVariants.{Queues, Order};
+ghost use Rattle.aged_tracker.specs.declared.slot.Slot.{Slot as Slotted};
+
+use crate::rings::{LISTS, after, empty_heads, front, push_back, unlink, untied};
+use crate::slot::{Link, Slot, Thread};
+use conntrack::{ConnId, Connection, Direction, Flags, Held, Limits, Memory, Moment, Phase, Steps};
+use ip_headers::Kind;
+use slab::Slab;
+use std::alloc::Global;
+
+// The queues, one for each idle limit.
+const UDP: usize = 0;
+
+const ESTABLISHED: usize = 1;
+
+const TRANSITORY: usize = 2;
+
+const ASK: usize = 3;
+
+const OTHER: usize = 4;
+
+/// The slots, a list through all of them in order of beginning, and a queue for each idle limit.
+/// `steps` counts each slot that a call reads or writes; nobody else has the slots.
+#[derive(Drop)]
+pub struct AgedSlots {
+    slots: Slab<Slot>,
+    order: [Link; LISTS],
+    queues: [Link; LISTS],
+    // The moment of the last packet of each queue's front, so that no slot need be read to learn
+    // that none is dead.
+    oldest: [Moment; LISTS],
+}
+
+/// The queue that a connection belongs to.
+fn queue_of(held: &Held) -> usize
+    ensures queue { result ≡ queue_of held.now }
+    ensures range { result < 5 }
+{
+    match (held.original.kind, held.phase()) {
+        (Kind::Udp, _) => UDP,
+        (Kind::Tcp, Phase::Established) => ESTABLISHED,
+        (Kind::Tcp, Phase::Opening | Phase::Closing) => TRANSITORY,
+        (Kind::Ask | Kind::Answer, _) => ASK,
+        (Kind::Other(_), _) => OTHER,
+    }
+}
+
+/// For how long a connection of the queue is live.
+fn limit_at(limits: Limits, queue: usize) -> u64
+    ensures { result ≡ limit_at limits queue }
+{
+    match queue {
+        UDP => limits.limit_by(Kind::Udp, Phase::Opening),
+        ESTABLISHED => limits.limit_by(Kind::Tcp, Phase::Established),
+        TRANSITORY => limits.limit_by(Kind::Tcp, Phase::Opening),
+        ASK => limits.limit_by(Kind::Ask, Phase::Opening),
+        _ => limits.limit_by(Kind::Other(0), Phase::Opening),
+    }
+}
+
+/// The moment of the last packet of a queue's front.
+fn oldest_of(slots: &Slab<Slot>, queues: &[Link; LISTS], queue: usize, steps: &mut Steps) -> Moment
+    requires range { queue < 5 }
+    requires rings { IsRings Queues slots.now queues.now }
+    ensures oldest { IsOldest (held_at slots.now) (lists_of Queues slots.now queues.now) queue result }
+    ensures rises { steps.old ≤ steps.new }
+    ensures steps { steps.new ≤ steps.old + 1 }
+{
+    match front(slots, queues, Thread::Queues, queue) {
+        None => 0,
+        Some(key) => {
+            steps.tick();
+            match slots.get(key) {
+                None => 0,
+                Some(slot) => slot.held.last,
+            }
+        }
+    }
+}
+
+/// Counts one more packet of the connection in a slot, and answers its queue then.
+fn touch_slot(
+    slots: &mut Slab<Slot>,
+    key: usize,
+    direction: Direction,
+    flags: Flags,
+    mark: u32,
+    now: Moment,
+    steps: &mut Steps,
+) -> usize
+    requires { ContainsKey slots.old key }
+    ensures slots { IfSome (get slots.old key) (λ s. Updates slots.old slots.new key (Some (record s { held = touched direction flags mark now s.held }))) }
+    ensures queue { IfSome (get slots.old key) (λ s. result ≡ queue_of (touched direction flags mark now s.held)) }
+    ensures range { result < 5 }
+    ensures size { SameSize slots.old slots.new }
+    ensures rises { steps.old ≤ steps.new }
+    ensures steps { steps.new ≤ steps.old + 1 }
+{
+    steps.tick();
+    match slots.get_mut(key) {
+        Some(slot) => {
+            slot.held.touch(direction, flags, mark, now);
+            queue_of(&slot.held)
+        }
+        None => unreachable!(),
+    }
+}
+
+/// Fills a free slot, which is in no list.
+fn fill(slots: &mut Slab<Slot>, held: Held, steps: &mut Steps) -> usize
+    requires { IsTrue (nat_lt (slab_len slots.old) slots.old.capacity) }
+    ensures key { result ≡ slots.old.vacant_key }
+    ensures free { get slots.old result ≡ None }
+    ensures updates { (slot : Slotted) × (Updates slots.old slots.new result (Some slot) × (slot.held ≡ held) × (slot.queue.list ≡ None) × (slot.order.list ≡ None)) }
+    ensures rises { steps.old ≤ steps.new }
+    ensures steps { steps.new ≤ steps.old + 1 }
+{
+    steps.tick();
+    slots.insert_reserved(Slot {
+        held,
+        queue: untied(),
+        order: untied(),
+    })
+}
+
+impl AgedSlots {
+    /// No slots.
+    pub fn new(alloc: Global) -> Self
+        ensures table { IsTable result }
+        ensures held { held_by result ≡ [] }
+        ensures slots { (key : ℕ) → slots_of result key ≡ None }
+    {
+        AgedSlots {
+            slots: Slab::new(alloc),
+            order: empty_heads(),
+            queues: empty_heads(),
+            oldest: [0; LISTS],
+        }
+    }
+
+    /// What a slot holds.
+    pub fn read(&self, key: usize, steps: &mut Steps) -> Held
+        requires { IsSome (slots_of self.now key) }
+        ensures held { slots_of self.now key ≡ Some result }
+        ensures rises { steps.old ≤ steps.new }
+        ensures steps { steps.new ≤ steps.old + 1 }
+    {
+        steps.tick();
+        match self.slots.get(key) {
+            Some(slot) => slot.held,
+            None => unreachable!(),
+        }
+    }
+
+    /// Counts one more packet of a connection, which goes to the end of its queue.
+    pub fn touch(
+        &mut self,
+        id: ConnId,
+        direction: Direction,
+        flags: Flags,
+        mark: u32,
+        now: Moment,
+        steps: &mut Steps,
+    )
+        requires table { IsTable self.old }
+        requires is_held { IsSome (slots_of self.old id.0) }
+        requires later { IsNoneLater now (held_by self.old) }
+        ensures table { IsTable self.new }
+        ensures held { held_by self.new ≡ touched_at id direction flags mark now (held_by self.old) }
+        ensures slots { IfSome (slots_of self.old id.0) (λ h. Sets (slots_of self.old) (slots_of self.new) id.0 (Some (touched direction flags mark now h))) }
+        ensures room { IsTrue (has_room self.old) → IsTrue (has_room self.new) }
+        ensures rises { steps.old ≤ steps.new }
+        ensures steps { steps.new ≤ steps.old + 8 }
+    {
+        let key = id.0;
+        let left = unlink(
+            &mut self.slots,
+            &mut self.queues,
+            Thread::Queues,
+            key,
+            steps,
+        );
+        let queue = touch_slot(&mut self.slots, key, direction, flags, mark, now, steps);
+        push_back(
+            &mut self.slots,
+            &mut self.queues,
+            Thread::Queues,
+            queue,
+            key,
+            steps,
+        );
+        self.oldest[left] = oldest_of(&self.slots, &self.queues, left, steps);
+        self.oldest[queue] = oldest_of(&self.slots, &self.queues, queue, steps);
+    }
+
+    /// Begins a connection, last in the order and in its queue.
+    pub fn insert(&mut self, connection: Connection, flags: Flags, steps: &mut Steps) -> ConnId
+        requires table { IsTable self.old }
+        requires room { IsTrue (has_room self.old) }
+        requires later { IsNoneLater connection.last (held_by self.old) }
+        ensures table { IsTable self.new }
+        ensures held { held_by self.new ≡ held_by self.old ++ begun_with result connection flags ∷ [] }
+        ensures free { slots_of self.old result.0 ≡ None }
+        ensures slots { Sets (slots_of self.old) (slots_of self.new) result.0 (Some (begun_with result connection flags)) }
+        ensures rises { steps.old ≤ steps.new }
+        ensures steps { steps.new ≤ steps.old + 6 }
+    {
+        let held = Held {
+            id: ConnId(self.slots.vacant_key()),
+            original: connection.original,
+            reply: connection.reply,
+            mark: connection.mark,
+            last: connection.last,
+            from_original: flags,
+            from_reply: Flags::none(),
+            replied: false,
+            source: connection.source,
+            dest: connection.dest,
+        };
+        let queue = queue_of(&held);
+        let key = fill(&mut self.slots, held, steps);
+        push_back(
+            &mut self.slots,
+            &mut self.order,
+            Thread::Order,
+            0,
+            key,
+            steps,
+        );
+        push_back(
+            &mut self.slots,
+            &mut self.queues,
+            Thread::Queues,
+            queue,
+            key,
+            steps,
+        );
+        self.oldest[queue] = oldest_of(&self.slots, &self.queues, queue, steps);
+        held.id
+    }
+
+    /// Takes a connection out of its slot and its lists.
+    pub fn remove(&mut self, id: ConnId, steps: &mut Steps) -> Held
+        requires table { IsTable self.old }
+        requires is_held { IsSome (slots_of self.old id.0) }
+        ensures table { IsTable self.new }
+        ensures held { held_by self.new ≡ without id (held_by self.old) }
+        ensures value { slots_of self.old id.0 ≡ Some result }
+        ensures slots { Sets (slots_of self.old) (slots_of self.new) id.0 None }
+        ensures room { IsTrue (has_room self.new) }
+        ensures rises { steps.old ≤ steps.new }
+        ensures steps { steps.new ≤ steps.old + 8 }
+    {
+        let key = id.0;
+        let left = unlink(
+            &mut self.slots,
+            &mut self.queues,
+            Thread::Queues,
+            key,
+            steps,
+        );
+        unlink(&mut self.slots, &mut self.order, Thread::Order, key, steps);
+        steps.tick();
+        let slot = self.slots.remove(key);
+        self.oldest[left] = oldest_of(&self.slots, &self.queues, left, steps);
+        slot.held
+    }
+
+    /// The front of a queue, where it is dead. No slot is visited.
+    fn dead_front(&self, limits: Limits, queue: usize, now: Moment) -> Option<ConnId>
+        requires table { IsTable self.now }
+        requires range { queue < 5 }
+        ensures some { IfSome result (λ id. IfSome (slots_of self.now id.0) (λ h. is_live limits now h ≡ false) × IsSome (slots_of self.now id.0)) }
+        ensures none { IfNone result (IsLiveQueue limits (slots_of self.now) now queue) }
+    {
+        match front(&self.slots, &self.queues, Thread::Queues, queue) {
+            None => None,
+            Some(key) => {
+                if now.saturating_sub(self.oldest[queue]) < limit_at(limits, queue) {
+                    None
+                } else {
+                    Some(ConnId(key))
+                }
+            }
+        }
+    }
+
+    /// One that is dead. No slot is visited.
+    pub fn dead(&self, limits: Limits, now: Moment) -> Option<ConnId>
+        requires { IsTable self.now }
+        ensures some { IfSome result (λ id. IfSome (slots_of self.now id.0) (λ h. is_live limits now h ≡ false) × IsSome (slots_of self.now id.0)) }
+        ensures none { IfNone result (IsAllLive limits (slots_of self.now) now) }
+    {
+        for queue in 0..LISTS {
+            let front = self.dead_front(limits, queue, now);
+            if front.is_some() {
+                return front;
+            }
+        }
+        None
+    }
+
+    /// Makes room for one more.
+    pub fn reserve_one(&mut self) -> Result<(), Memory>
+        requires table { IsTable self.old }
+        ensures table { IsTable self.new }
+        ensures held { held_by self.new ≡ held_by self.old }
+        ensures slots { (key : ℕ) → slots_of self.new key ≡ slots_of self.old key }
+        ensures room { OnOk result (IsTrue (has_room self.new)) }
+        ensures kept { IsTrue (has_room self.old) → IsTrue (has_room self.new) }
+    {
+        match self.slots.reserve(1) {
+            Ok(()) => Ok(()),
+            Err(_) => Err(Memory),
+        }
+    }
+
+    /// All connections, in order of beginning.
+    pub fn list(&self, alloc: Global) -> Result<Vec<Connection>, Memory>
+        requires { IsTable self.now }
+        ensures { IfOk result (λ all. all.items ≡ map connection_of (held_by self.now)) }
+    {
+        let mut all = Vec::new(alloc);
+        let mut place = front(&self.slots, &self.order, Thread::Order, 0);
+        while let Some(key) = place {
+            let connection = connection_at(&self.slots, key);
+            if all.push(connection).is_err() {
+                return Err(Memory);
+            }
+            place = after(&self.slots, &self.order, Thread::Order, key);
+        }
+        Ok(all)
+    }
+}
+
+/// The connection in a slot, as it is listed.
+fn connection_at(slots: &Slab<Slot>, key: usize) -> Connection
+    requires { ContainsKey slots.now key }
+    ensures { IfSome (held_at slots.now key) (λ h. result ≡ connection_of h) }
+{
+    match slots.get(key) {
+        Some(slot) => slot.held.connection(),
+        None => unreachable!(),
+    }
+}

@@ -1,0 +1,206 @@
+//! A table of connections whose calls visit few slots.
+ghost use Rattle.std.specs.Prelude.{◌≡◌, ◌+◌, ◌<◌, ◌≤◌, IsTrue, Some, None, cond, is_some};
+ghost use Rattle.conntrack.specs.Held.{are_apart, belongs_in, has_distinct_ids, live_at};
+ghost use Rattle.std.specs.HashMap.{get, spare};
+ghost use Rattle.ip_headers.specs.Same.{same_tuple};
+ghost use Rattle.ip_headers.specs.declared.tuple.Tuple.{Tuple as Tupled};
+ghost use Rattle.aged_tracker.specs.steps.Keyed.{belonging_of};
+
+use crate::aged_slots::AgedSlots;
+use conntrack::laws::names_aside;
+use conntrack::{
+    Aged, BeginError, Belonging, ConnId, Connection, Direction, Flags, Held, LIMIT, Limits, Memory,
+    Moment, Place, Steps, Tracker,
+};
+use ip_headers::Tuple;
+use std::alloc::Global;
+use std::collections::HashMap;
+use std::marker::Model;
+
+/// Keeps connections in slots, which are found by their incoming tuples and aged by queues: a call
+/// visits at most 8 slots, however many are held.
+#[derive(Drop)]
+pub struct AgedTracker {
+    slots: AgedSlots,
+    // The slot of the connection that a tuple is an incoming tuple of.
+    keys: HashMap<Tuple, usize>,
+    live: usize,
+    limits: Limits,
+}
+
+impl Model for AgedTracker {
+    ghost use Rattle.std.specs.Prelude.{◌&&◌, nat_lt};
+    ghost use Rattle.std.specs.HashMap.{get, spare};
+    ghost use Rattle.ip_headers.specs.Same.{same_tuple};
+    ghost use Rattle.aged_tracker.specs.View.{Aged as Seen};
+    ghost use Rattle.aged_tracker.specs.steps.Table.{held_by, has_room};
+    ghost use Rattle.aged_tracker.specs.steps.Keyed.{IsAged};
+
+    ghost Value = { Seen };
+
+    ghost view = { λ t. record { limits = t.limits; held = held_by t.slots; room = has_room t.slots && nat_lt 1 (spare t.keys) } };
+
+    ghost invariant = { λ t. IsAged t.slots (get same_tuple t.keys) t.live };
+}
+
+impl AgedTracker {
+    /// What a packet with this tuple and these flags belongs to at a moment.
+    fn find(&self, tuple: Tuple, flags: Flags, now: Moment, steps: &mut Steps) -> Belonging
+        ensures belonging { result ≡ belongs_in (live_at self.now.limits now self.now.held) tuple flags }
+        ensures distinct { IsTrue (has_distinct_ids self.now.held) }
+        ensures apart { IsTrue (are_apart self.now.held) }
+        ensures rises { steps.old ≤ steps.new }
+        ensures steps { steps.new ≤ steps.old + 1 }
+    {
+        match key_of(&self.keys, tuple) {
+            None => Belonging::Nowhere,
+            Some(key) => belonging(&self.slots.read(key, steps), self.limits, tuple, flags, now),
+        }
+    }
+}
+
+impl Tracker for AgedTracker {
+    ghost use Rattle.std.specs.Prelude.{Some};
+
+    ghost held = { λ t. t.held };
+
+    ghost limits = { λ t. t.limits };
+
+    ghost has_room = { λ t. t.room };
+
+    ghost most_slots = { Some 8 };
+
+    fn new(alloc: Global, idle: Limits) -> Self {
+        AgedTracker {
+            slots: AgedSlots::new(alloc),
+            keys: HashMap::new(alloc),
+            live: 0,
+            limits: idle,
+        }
+    }
+
+    fn look(&self, tuple: Tuple, flags: Flags, now: Moment, steps: &mut Steps) -> Belonging {
+        names_aside();
+        self.find(tuple, flags, now, steps)
+    }
+
+    fn touch(
+        &mut self,
+        id: ConnId,
+        direction: Direction,
+        flags: Flags,
+        mark: u32,
+        now: Moment,
+        steps: &mut Steps,
+    ) {
+        self.slots.touch(id, direction, flags, mark, now, steps);
+    }
+
+    fn reserve_one(&mut self) -> Result<(), Memory> {
+        self.slots.reserve_one()?;
+        match self.keys.reserve(2) {
+            Ok(()) => Ok(()),
+            Err(_) => Err(Memory),
+        }
+    }
+
+    fn begin(
+        &mut self,
+        connection: Connection,
+        flags: Flags,
+        steps: &mut Steps,
+    ) -> Result<ConnId, BeginError> {
+        if self.live >= LIMIT {
+            return Err(BeginError::Full);
+        }
+        if leads(&self.keys, connection.reply) {
+            return Err(BeginError::Clash);
+        }
+        let id = self.slots.insert(connection, flags, steps);
+        put(&mut self.keys, connection.original, id.0);
+        put(&mut self.keys, connection.reply, id.0);
+        self.live += 1;
+        Ok(id)
+    }
+
+    fn end(&mut self, id: ConnId, steps: &mut Steps) -> Aged {
+        let held = self.slots.remove(id, steps);
+        forget(&mut self.keys, held.original);
+        forget(&mut self.keys, held.reply);
+        self.live -= 1;
+        held.aged()
+    }
+
+    fn age(&mut self, now: Moment, steps: &mut Steps) -> Option<Aged> {
+        match self.slots.dead(self.limits, now) {
+            None => None,
+            Some(id) => Some(self.end(id, steps)),
+        }
+    }
+
+    fn live(&self) -> usize {
+        self.live
+    }
+
+    fn list(&self, alloc: Global) -> Result<Vec<Connection>, Memory> {
+        self.slots.list(alloc)
+    }
+}
+
+/// Lets a tuple lead to a slot.
+fn put(keys: &mut HashMap<Tuple, usize>, tuple: Tuple, key: usize)
+    requires { 0 < spare keys.old }
+    ensures keys { (q : Tupled) → get same_tuple keys.new q ≡ cond (same_tuple tuple q) (Some key) (get same_tuple keys.old q) }
+    ensures spare { spare keys.old ≤ spare keys.new + 1 }
+{
+    match keys.insert(tuple, key) {
+        Ok(_) => (),
+        Err(_) => unreachable!(),
+    }
+}
+
+/// Lets a tuple lead nowhere.
+fn forget(keys: &mut HashMap<Tuple, usize>, tuple: Tuple)
+    ensures keys { (q : Tupled) → get same_tuple keys.new q ≡ cond (same_tuple tuple q) None (get same_tuple keys.old q) }
+    ensures spare { spare keys.old ≤ spare keys.new }
+{
+    keys.remove(&tuple);
+}
+
+/// The slot that a tuple leads to.
+fn key_of(keys: &HashMap<Tuple, usize>, tuple: Tuple) -> Option<usize>
+    ensures { result ≡ get same_tuple keys.now tuple }
+{
+    keys.get(&tuple).copied()
+}
+
+/// Whether a tuple leads to a slot.
+fn leads(keys: &HashMap<Tuple, usize>, tuple: Tuple) -> bool
+    ensures { result ≡ is_some (get same_tuple keys.now tuple) }
+{
+    keys.contains_key(&tuple)
+}
+
+/// What a packet with a tuple belongs to, where it is an incoming tuple of this connection.
+fn belonging(held: &Held, limits: Limits, tuple: Tuple, flags: Flags, now: Moment) -> Belonging
+    ensures { result ≡ belonging_of limits now tuple flags held.now }
+{
+    if !held.is_live(limits, now) {
+        Belonging::Nowhere
+    } else if is_same(held.original, tuple) {
+        if flags.is_lone_syn() && held.is_closing() {
+            Belonging::Ends(held.id)
+        } else {
+            Belonging::Found(Place::of(held, Direction::Original))
+        }
+    } else {
+        Belonging::Found(Place::of(held, Direction::Reply))
+    }
+}
+
+/// Whether two tuples are one.
+fn is_same(one: Tuple, other: Tuple) -> bool
+    ensures { result ≡ same_tuple one other }
+{
+    one == other
+}
