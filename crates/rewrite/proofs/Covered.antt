@@ -98,14 +98,14 @@ is_pair start p d = record {
 
 -- ---- the words of a part
 
-covers_to : (words : Words) (before after later : List ℕ) → later ≡ after → Covers words before after → Covers words before later
+pub covers_to : (words : Words) (before after later : List ℕ) → later ≡ after → Covers words before after → Covers words before later
 covers_to words before after later e c = record {
   same = λ h. c.same h ∙ sym e;
   other = λ same. c.other (same ∙ e);
   sum = ap (λ l. words_sum l + words.old) e ∙ c.sum;
 }
 
-scaled : (a b : ℕ) → a * 256 ≡ b * 256 → a ≡ b
+pub scaled : (a b : ℕ) → a * 256 ≡ b * 256 → a ≡ b
 scaled a b e = omega (arith, e)
 
 head_covered : (head : List ℕ) (source destination left from to ttl : ℕ) → IsHead head → source ≡ number_at head 12 → destination ≡ number_at head 16 → left ≡ get_or head 8 0

@@ -11,8 +11,8 @@ use Rattle.rewrite.specs.declared.change.Numbers.{Numbers}
 use Rattle.rewrite.specs.declared.change.Numbers.TheVariants.{Ports, Identifier}
 use Rattle.rewrite.specs.declared.fields.Carried.{Carried}
 use Rattle.rewrite.specs.declared.fields.Carried.TheVariants.{Tcp, Udp, Icmp, Other}
-use Rattle.rewrite.specs.Rewritten.{carried_in, header_in, if_named, pseudo_in, put_right, put_right_if_made, replaced, rewritten, right_carried, same_bytes, with_destination, with_numbers, with_ports, with_source, with_ttl}
-use Rattle.rewrite.specs.steps.Fields.{HasFields, carried_of, len_of}
+use Rattle.rewrite.specs.Rewritten.{carried_in, header_in, if_named, pseudo_in, put_right, put_right_if_made, replaced, right_carried, right_datagram, same_bytes, with_destination, with_numbers, with_ports, with_source, with_ttl}
+use Rattle.rewrite.specs.steps.Fields.{HasFields, carried_of, len_of, tcp_checksum_of}
 use Rattle.rewrite.proofs.Places.{length-word, length-number}
 
 -- ---- a packet that passes the tests has all fields
@@ -32,14 +32,18 @@ judged a b c payload = if a then tcp_is_wrong payload else (if b then udp_is_wro
 abbrev shown : Bool → Bool → Bool → Carried → Carried → Carried → Carried
 shown a b c x y z = if a then x else (if b then y else (if c then z else Other))
 
-enough : (a b c : Bool) (payload : List ℕ) (from to sum one other udp id icmp : ℕ) → judged a b c payload ≡ false → len_of (shown a b c (Tcp from to sum) (Udp one other udp) (Icmp id icmp)) ≤ length payload
-enough true b c payload from to sum one other udp id icmp right = tcp_long payload right
+pub tcp_fields : (from to n : ℕ) (sum : Option ℕ) → 18 ≤ n → len_of (Tcp from to sum) ≤ n
+tcp_fields from to n None long = omega (arith, long)
+tcp_fields from to n (Some sum) long = long
+
+enough : (a b c : Bool) (payload : List ℕ) (from to : ℕ) (sum : Option ℕ) (one other udp id icmp : ℕ) → judged a b c payload ≡ false → len_of (shown a b c (Tcp from to sum) (Udp one other udp) (Icmp id icmp)) ≤ length payload
+enough true b c payload from to sum one other udp id icmp right = tcp_fields from to (length payload) sum (tcp_long payload right)
 enough false true c payload from to sum one other udp id icmp right = udp_long payload right
 enough false false true payload from to sum one other udp id icmp right = icmp_long payload right
 enough false false false payload from to sum one other udp id icmp right = omega arith
 
 enough_of : (number : ℕ) (payload rest : List ℕ) → transport_is_wrong number payload ≡ false → len_of (carried_of number rest) ≤ length payload
-enough_of number payload rest right = enough (number == 6) (number == 17) (number == 1) payload (word_at rest 0) (word_at rest 2) (word_at rest 16) (word_at rest 0) (word_at rest 2) (word_at rest 6) (word_at rest 4) (word_at rest 2) right
+enough_of number payload rest right = enough (number == 6) (number == 17) (number == 1) payload (word_at rest 0) (word_at rest 2) (tcp_checksum_of rest) (word_at rest 0) (word_at rest 2) (word_at rest 6) (word_at rest 4) (word_at rest 2) right
 
 pub has_fields : (p : List ℕ) → Passes p → HasFields 0 p
 has_fields p ok =
@@ -59,7 +63,7 @@ length-if : (b : Bool) (xs ys : List ℕ) → length xs ≡ length ys → length
 length-if true xs ys e = e
 length-if false xs ys e = refl
 
-length-either : (b : Bool) (xs ys zs : List ℕ) → length xs ≡ length zs → length ys ≡ length zs → length (if b then xs else ys) ≡ length zs
+pub length-either : (b : Bool) (xs ys zs : List ℕ) → length xs ≡ length zs → length ys ≡ length zs → length (if b then xs else ys) ≡ length zs
 length-either true xs ys zs e f = e
 length-either false xs ys zs e f = f
 
@@ -91,8 +95,5 @@ length-carried start old now =
     (length-either (protocol_at start old == 17) (put_right_if_made (pseudo_in start) (payload_at start old + 6) old now) _ now (length-put_if_made (pseudo_in start) (payload_at start old + 6) old now)
     (length-either (protocol_at start old == 1) (put_right (carried_in start) (payload_at start old + 2) old now) now now (length-put (carried_in start) (payload_at start old + 2) old now) refl))
 
-pub length-rewritten : (p : List ℕ) (change : Change) → length (rewritten p change) ≡ length p
-unfolding rewritten
-length-rewritten p change =
-    let now = replaced 0 p change in
-    length-put (header_in 0) 10 p (right_carried 0 p now) ∙ length-carried 0 p now ∙ length-replaced 0 p change
+pub length-datagram : (start : ℕ) (old now : List ℕ) → length (right_datagram start old now) ≡ length now
+length-datagram start old now = length-put (header_in start) (start + 10) old (right_carried start old now) ∙ length-carried start old now

@@ -10,3 +10,5 @@ pub mod Kept
 pub mod Passed
 pub mod Between
 pub mod Weighed
+pub mod Exchanged
+pub mod Inward

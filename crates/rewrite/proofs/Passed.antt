@@ -12,8 +12,7 @@ use Rattle.rewrite.specs.Rewritten.{header_in, replaced}
 use Rattle.rewrite.proofs.Sums.{still_ones}
 use Rattle.rewrite.proofs.Places.{byte_apart, word_in, word_of_part}
 use Rattle.rewrite.proofs.Kept.{StandsAt, put_keeps}
-use Rattle.rewrite.proofs.Lengths.{has_fields, length-carried, length-put, length-replaced}
-use Rattle.rewrite.proofs.Whole.{of_tcp}
+use Rattle.rewrite.proofs.Lengths.{length-carried, length-put, length-replaced}
 use Rattle.rewrite.proofs.Sent.{righted, righted_header, sent, sent_byte, sent_tcp_byte, sent_udp_byte, timed, timed_byte}
 
 -- ---- the sum of the header
@@ -64,9 +63,6 @@ payload_byte xs h n i lt = get_or-drop h (take n xs) i 0 ∙ get_or-take n xs (h
 payload_len : (xs ys : List ℕ) (h n : ℕ) → length xs ≡ length ys → length (drop h (take n xs)) ≡ length (drop h (take n ys))
 payload_len xs ys h n e = omega (arith, e, length-drop h (take n xs), length-drop h (take n ys), length-take n xs, length-take n ys)
 
-pub tcp_room : (p : List ℕ) → Passes p → protocol p ≡ 6 → payload_at 0 p + 18 ≤ length p
-tcp_room p ok six = rw (of_tcp (protocol p) p (payload_at 0 p) six) at (has_fields p ok).whole
-
 -- bytes 12 of TCP and 4 and 5 of UDP are within
 tcp_long : (payload : List ℕ) → transport_is_wrong 6 payload ≡ false → 20 ≤ length payload
 tcp_long payload right = grind (arith, right)
@@ -76,6 +72,9 @@ udp_long payload right = grind (arith, right)
 
 pub within : (p : List ℕ) → Passes p → length (payload_of p) + header_len p ≤ total_len p
 within p ok = omega (arith, length-drop (header_len p) (take (total_len p) p), length-take (total_len p) p, ok.head.head, ok.head.whole)
+
+pub tcp_room : (p : List ℕ) → Passes p → protocol p ≡ 6 → payload_at 0 p + 18 ≤ length p
+tcp_room p ok six = omega (arith, tcp_long (payload_of p) (rw six at ok.carried), within p ok, ok.head.whole)
 
 pub length-sent : (p : List ℕ) (change : Change) → length (sent p change) ≡ length p
 length-sent p change = length-put (header_in 0) 10 p (righted p change) ∙ length-carried 0 p (replaced 0 p change) ∙ length-replaced 0 p change

@@ -3,6 +3,7 @@ use Rattle.std.proofs.Common.{◌≡◌, ℕ, ◌+◌, ◌-◌, ◌/◌, ◌%◌
 use Rattle.std.proofs.lemmas.List.{set-get_or, drop-set-lt, drop-set-add, take-set-le, get_or-take, get_or-drop}
 use Rattle.std.proofs.Math.Seq.{take-set-lt}
 use Rattle.std.proofs.lemmas.Grind.{common_steps}
+use Rattle.byteorder.specs.Endian.{big_number}
 use Rattle.ip_headers.specs.Bytes.{word_at, number_at, with_word, with_number}
 
 -- ---- what was written is read back, and else what was there
@@ -145,3 +146,7 @@ word_of_rest xs a i j is =
     let high : get_or (drop a xs) i 0 ≡ get_or xs j 0 = rw is (get_or-drop a xs i 0) in
     let low : get_or (drop a xs) (i + 1) 0 ≡ get_or xs (j + 1) 0 = rw next (get_or-drop a xs (i + 1) 0) in
     omega (arith, high, low)
+
+-- a word read of all that follows a place
+pub word_read : (bytes : List ℕ) (i word : ℕ) → i + 2 ≤ length bytes → word ≡ big_number 2 (take (length bytes - i) (drop i bytes)) → word ≡ word_at bytes i
+word_read bytes i word whole read = grind (arith, common_steps, read)

@@ -23,7 +23,7 @@ pub named_byte : {A : Type 0} (write : List ℕ → A → List ℕ) (bytes : Lis
 named_byte write bytes None k same = refl
 named_byte write bytes (Some x) k same = same x
 
-either_byte : (b : Bool) (xs ys zs : List ℕ) (k : ℕ) → get_or xs k 0 ≡ get_or zs k 0 → get_or ys k 0 ≡ get_or zs k 0 → get_or (if b then xs else ys) k 0 ≡ get_or zs k 0
+pub either_byte : (b : Bool) (xs ys zs : List ℕ) (k : ℕ) → get_or xs k 0 ≡ get_or zs k 0 → get_or ys k 0 ≡ get_or zs k 0 → get_or (if b then xs else ys) k 0 ≡ get_or zs k 0
 either_byte true xs ys zs k e f = e
 either_byte false xs ys zs k e f = f
 
@@ -42,18 +42,18 @@ pub put_if_made_byte : (over : List ℕ → List ℕ) (place : ℕ) (old now : L
 put_if_made_byte over place old now k apart = either_byte (same_bytes (over old) (over now) || word_at old place == 0) now _ now k refl (byte_apart now place _ k apart)
 
 -- the numbers of what is carried stand behind the header
-pub numbers_byte : (bytes : List ℕ) (numbers : Numbers) (k : ℕ) → k < payload_at 0 bytes → get_or (with_numbers 0 bytes numbers) k 0 ≡ get_or bytes k 0
-numbers_byte bytes (Ports from to) k lt =
-    let place = payload_at 0 bytes in
+pub numbers_byte : (start : ℕ) (bytes : List ℕ) (numbers : Numbers) (k : ℕ) → k < payload_at start bytes → get_or (with_numbers start bytes numbers) k 0 ≡ get_or bytes k 0
+numbers_byte start bytes (Ports from to) k lt =
+    let place = payload_at start bytes in
     either_byte _ (with_ports place bytes from to) bytes bytes k (byte_apart (with_word bytes place from) (place + 2) to k (inl (omega (arith, lt))) ∙ byte_apart bytes place from k (inl lt)) refl
-numbers_byte bytes (Identifier number) k lt = either_byte _ _ bytes bytes k (byte_apart bytes (payload_at 0 bytes + 4) number k (inl (omega (arith, lt)))) refl
+numbers_byte start bytes (Identifier number) k lt = either_byte _ _ bytes bytes k (byte_apart bytes (payload_at start bytes + 4) number k (inl (omega (arith, lt)))) refl
 
-carried_byte : (old now : List ℕ) (k : ℕ) → k < payload_at 0 old → get_or (right_carried 0 old now) k 0 ≡ get_or now k 0
-carried_byte old now k lt =
-    let place = payload_at 0 old in
-    either_byte _ (put_right (pseudo_in 0) (place + 16) old now) _ now k (put_byte (pseudo_in 0) (place + 16) old now k (inl (omega (arith, lt))))
-    (either_byte (protocol_at 0 old == 17) (put_right_if_made (pseudo_in 0) (place + 6) old now) _ now k (put_if_made_byte (pseudo_in 0) (place + 6) old now k (inl (omega (arith, lt))))
-    (either_byte (protocol_at 0 old == 1) (put_right (carried_in 0) (place + 2) old now) now now k (put_byte (carried_in 0) (place + 2) old now k (inl (omega (arith, lt)))) refl))
+pub carried_byte : (start : ℕ) (old now : List ℕ) (k : ℕ) → k < payload_at start old → get_or (right_carried start old now) k 0 ≡ get_or now k 0
+carried_byte start old now k lt =
+    let place = payload_at start old in
+    either_byte _ (put_right (pseudo_in start) (place + 16) old now) _ now k (put_byte (pseudo_in start) (place + 16) old now k (inl (omega (arith, lt))))
+    (either_byte (protocol_at start old == 17) (put_right_if_made (pseudo_in start) (place + 6) old now) _ now k (put_if_made_byte (pseudo_in start) (place + 6) old now k (inl (omega (arith, lt))))
+    (either_byte (protocol_at start old == 1) (put_right (carried_in start) (place + 2) old now) now now k (put_byte (carried_in start) (place + 2) old now k (inl (omega (arith, lt)))) refl))
 
 -- ---- the header: its bytes but its checksum's are those of the datagram with another header
 
@@ -73,8 +73,8 @@ righted p change = right_carried 0 p (replaced 0 p change)
 pub righted_header : (p : List ℕ) (change : Change) (k : ℕ) → k < payload_at 0 p → get_or (righted p change) k 0 ≡ get_or (timed p change) k 0
 righted_header p change k lt =
     let t = timed p change in
-    carried_byte p (replaced 0 p change) k lt
-    ∙ named_byte (with_numbers 0) t change.numbers k (λ n. numbers_byte t n k (rw (timed_payload p change) lt))
+    carried_byte 0 p (replaced 0 p change) k lt
+    ∙ named_byte (with_numbers 0) t change.numbers k (λ n. numbers_byte 0 t n k (rw (timed_payload p change) lt))
 
 pub sent_header : (p : List ℕ) (change : Change) (k : ℕ) → k < payload_at 0 p → (k < 10) ⊎ (11 < k) → get_or (sent p change) k 0 ≡ get_or (timed p change) k 0
 sent_header p change k lt apart =

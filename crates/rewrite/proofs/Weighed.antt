@@ -20,11 +20,11 @@ use Rattle.rewrite.proofs.Between.{icmp_long, udp_long}
 
 -- ---- where what is carried begins stays
 
-payload_same : (xs ys : List ℕ) → get_or xs 0 0 ≡ get_or ys 0 0 → payload_at 0 xs ≡ payload_at 0 ys
+pub payload_same : (xs ys : List ℕ) → get_or xs 0 0 ≡ get_or ys 0 0 → payload_at 0 xs ≡ payload_at 0 ys
 payload_same xs ys e = ap (λ b. 0 + b % 16 * 4) e
 
 replaced_front : (p : List ℕ) (change : Change) (k : ℕ) → k < payload_at 0 p → get_or (replaced 0 p change) k 0 ≡ get_or (timed p change) k 0
-replaced_front p change k lt = named_byte (with_numbers 0) (timed p change) change.numbers k (λ n. numbers_byte (timed p change) n k (rw (timed_payload p change) lt))
+replaced_front p change k lt = named_byte (with_numbers 0) (timed p change) change.numbers k (λ n. numbers_byte 0 (timed p change) n k (rw (timed_payload p change) lt))
 
 replaced_payload : (p : List ℕ) (change : Change) → 20 ≤ payload_at 0 p → payload_at 0 (replaced 0 p change) ≡ payload_at 0 p
 replaced_payload p change long = payload_same (replaced 0 p change) p (replaced_front p change 0 (omega (arith, long)) ∙ timed_byte p change 0 (omega arith) (inl (omega arith)))
@@ -96,7 +96,7 @@ pseudo_stands p now k long here room even same =
       even = even;
     }
 
-carried_stands : (p now : List ℕ) → payload_at 0 p + 4 ≤ length now → 20 ≤ payload_at 0 p → payload_at 0 now ≡ payload_at 0 p → word_at now (payload_at 0 p + 2) ≡ word_at p (payload_at 0 p + 2) → StandsAt (carried_in 0) (payload_at 0 p + 2) 2 p now
+pub carried_stands : (p now : List ℕ) → payload_at 0 p + 4 ≤ length now → 20 ≤ payload_at 0 p → payload_at 0 now ≡ payload_at 0 p → word_at now (payload_at 0 p + 2) ≡ word_at p (payload_at 0 p + 2) → StandsAt (carried_in 0) (payload_at 0 p + 2) 2 p now
 carried_stands p now room long here same =
     let place = payload_at 0 p in
     let now_is : carried_in 0 now ≡ drop place now = ap (λ n. drop n now) here in

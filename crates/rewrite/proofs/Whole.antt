@@ -1,7 +1,8 @@
 -- The fields of a datagram, changed one by one and written, are the datagram as it is sent on.
-use Rattle.std.proofs.Common.{◌≡◌, ℕ, ◌+◌, ◌<◌, ◌≤◌, inl, inr, ⊎_elim, Option, Some, None, List, length, get_or, set, drop, true, false, refl, sym, ap, ◌∙◌, arith}
+use Rattle.std.proofs.Common.{◌≡◌, ℕ, ◌+◌, ◌<◌, ◌≤◌, inl, inr, ⊎_elim, Option, Some, None, List, length, length-drop, get_or, set, drop, true, false, refl, sym, ap, ◌∙◌, arith}
 use Rattle.std.specs.Prelude.{◌==◌, ◌||◌, unwrap_or}
-use Rattle.std.proofs.lemmas.Bool.{ne_eqb, le-leb, cases_eq, or_from}
+use lib.Dec.{leb}
+use Rattle.std.proofs.lemmas.Bool.{ne_eqb, le-leb, lt-leb, cases_eq, cases_lt, or_from}
 use Rattle.std.proofs.lemmas.List.{set-get_or, get_or-drop}
 use Rattle.ip_headers.specs.Bytes.{byte_at, word_at, number_at, with_word, with_number}
 use Rattle.ip_headers.specs.Header.{header_len, payload_at, protocol_at}
@@ -11,7 +12,7 @@ use Rattle.rewrite.specs.declared.change.Numbers.TheVariants.{Ports, Identifier}
 use Rattle.rewrite.specs.declared.fields.Carried.{Carried}
 use Rattle.rewrite.specs.declared.fields.Carried.TheVariants.{Tcp, Udp, Icmp, Other}
 use Rattle.rewrite.specs.Rewritten.{carried_in, header_in, if_named, pseudo_in, put_right, put_right_if_made, replaced, right_carried, right_datagram, right_header, with_numbers, with_ports, with_ttl}
-use Rattle.rewrite.specs.steps.Fields.{carried_of, changed_carried, changed_fields, fields_at, identifier_named, len_of, ports_named, renewed, with_carried, with_fields}
+use Rattle.rewrite.specs.steps.Fields.{carried_of, changed_carried, changed_fields, fields_at, identifier_named, len_of, ports_named, renewed, tcp_checksum_of, with_carried, with_fields}
 use Rattle.rewrite.proofs.Places.{byte_apart, Bytes4, number_byte_apart, number_apart, number_kept, word_kept, word_after, byte_of_part, word_of_rest}
 use Rattle.rewrite.proofs.Parts.{bytes4, ports_kept}
 use Rattle.rewrite.proofs.Corrected.{put_right-is, put_right_if_made-is}
@@ -69,7 +70,9 @@ replaced_header start p change d =
 -- ---- the header's checksum
 
 carried_head : (start n place : ℕ) (t : List ℕ) (c : Carried) → start + n ≤ place → head_of start n (with_carried place t c) ≡ head_of start n t
-carried_head start n place t (Tcp from to checksum) le =
+carried_head start n place t (Tcp from to None) le =
+    word_after (with_word t place from) start n (place + 2) to (omega (arith, le)) ∙ word_after t start n place from le
+carried_head start n place t (Tcp from to (Some checksum)) le =
     word_after (with_ports place t from to) start n (place + 16) checksum (omega (arith, le)) ∙ word_after (with_word t place from) start n (place + 2) to (omega (arith, le)) ∙ word_after t start n place from le
 carried_head start n place t (Udp from to checksum) le =
     word_after (with_ports place t from to) start n (place + 6) checksum (omega (arith, le)) ∙ word_after (with_word t place from) start n (place + 2) to (omega (arith, le)) ∙ word_after t start n place from le
@@ -153,6 +156,9 @@ IsCarried start p from to ttl numbers =
 pub by_tcp : (start : ℕ) (old now : List ℕ) → protocol_at start old ≡ 6 → payload_at start old + 18 ≤ length old → right_carried start old now ≡ put_right (pseudo_in start) (payload_at start old + 16) old now
 by_tcp start old now is room = rw (is, le-leb _ _ room) refl
 
+pub by_cut_tcp : (start : ℕ) (old now : List ℕ) → protocol_at start old ≡ 6 → length old < payload_at start old + 18 → right_carried start old now ≡ now
+by_cut_tcp start old now is cut = rw (is, lt-leb _ _ cut) refl
+
 pub by_udp : (start : ℕ) (old now : List ℕ) → protocol_at start old ≡ 17 → right_carried start old now ≡ put_right_if_made (pseudo_in start) (payload_at start old + 6) old now
 by_udp start old now is = rw is refl
 
@@ -163,16 +169,34 @@ pub by_other : (start : ℕ) (old now : List ℕ) → (protocol_at start old == 
 by_other start old now a b c = rw (a, b, c) refl
 
 -- the fields of each
-pub of_tcp : (number : ℕ) (p : List ℕ) (place : ℕ) → number ≡ 6 → carried_of number (drop place p) ≡ Tcp (word_at p place) (word_at p (place + 2)) (word_at p (place + 16))
-of_tcp number p place is = rw (is, sym (word_of_rest p place 0 place (omega arith)), sym (word_of_rest p place 2 (place + 2) refl), sym (word_of_rest p place 16 (place + 16) refl)) refl
+tcp_sum : (p : List ℕ) (place : ℕ) → place + 18 ≤ length p → tcp_checksum_of (drop place p) ≡ Some (word_at p (place + 16))
+tcp_sum p place room =
+    let there : leb 18 (length (drop place p)) ≡ true = le-leb _ _ (omega (arith, room, length-drop place p)) in
+    rw (there, sym (word_of_rest p place 16 (place + 16) refl)) refl
 
-of_udp : (number : ℕ) (p : List ℕ) (place : ℕ) → number ≡ 17 → carried_of number (drop place p) ≡ Udp (word_at p place) (word_at p (place + 2)) (word_at p (place + 6))
+tcp_no_sum : (p : List ℕ) (place : ℕ) → length p < place + 18 → tcp_checksum_of (drop place p) ≡ None
+tcp_no_sum p place cut =
+    let gone : leb 18 (length (drop place p)) ≡ false = lt-leb _ _ (omega (arith, cut, length-drop place p)) in
+    rw gone refl
+
+of_tcp_by : (number : ℕ) (p : List ℕ) (place : ℕ) (sum : Option ℕ) → number ≡ 6 → tcp_checksum_of (drop place p) ≡ sum → carried_of number (drop place p) ≡ Tcp (word_at p place) (word_at p (place + 2)) sum
+of_tcp_by number p place sum is e =
+    rw (is, sym (word_of_rest p place 0 place (omega arith)), sym (word_of_rest p place 2 (place + 2) refl)) (ap (λ o. Tcp (word_at (drop place p) 0) (word_at (drop place p) 2) o) e)
+
+pub of_tcp : (number : ℕ) (p : List ℕ) (place : ℕ) → number ≡ 6 → place + 18 ≤ length p → carried_of number (drop place p) ≡ Tcp (word_at p place) (word_at p (place + 2)) (Some (word_at p (place + 16)))
+of_tcp number p place is room = of_tcp_by number p place (Some (word_at p (place + 16))) is (tcp_sum p place room)
+
+-- of a segment that was cut
+pub of_cut_tcp : (number : ℕ) (p : List ℕ) (place : ℕ) → number ≡ 6 → length p < place + 18 → carried_of number (drop place p) ≡ Tcp (word_at p place) (word_at p (place + 2)) None
+of_cut_tcp number p place is cut = of_tcp_by number p place None is (tcp_no_sum p place cut)
+
+pub of_udp : (number : ℕ) (p : List ℕ) (place : ℕ) → number ≡ 17 → carried_of number (drop place p) ≡ Udp (word_at p place) (word_at p (place + 2)) (word_at p (place + 6))
 of_udp number p place is = rw (is, sym (word_of_rest p place 0 place (omega arith)), sym (word_of_rest p place 2 (place + 2) refl), sym (word_of_rest p place 6 (place + 6) refl)) refl
 
-of_icmp : (number : ℕ) (p : List ℕ) (place : ℕ) → number ≡ 1 → carried_of number (drop place p) ≡ Icmp (word_at p (place + 4)) (word_at p (place + 2))
+pub of_icmp : (number : ℕ) (p : List ℕ) (place : ℕ) → number ≡ 1 → carried_of number (drop place p) ≡ Icmp (word_at p (place + 4)) (word_at p (place + 2))
 of_icmp number p place is = rw (is, sym (word_of_rest p place 4 (place + 4) refl), sym (word_of_rest p place 2 (place + 2) refl)) refl
 
-of_other : (number : ℕ) (rest : List ℕ) → (number == 6) ≡ false → (number == 17) ≡ false → (number == 1) ≡ false → carried_of number rest ≡ Other
+pub of_other : (number : ℕ) (rest : List ℕ) → (number == 6) ≡ false → (number == 17) ≡ false → (number == 1) ≡ false → carried_of number rest ≡ Other
 of_other number rest a b c = rw (a, b, c) refl
 
 carried_tcp : (start : ℕ) (p : List ℕ) (from to ttl : ℕ) (numbers : Option Numbers) → IsDatagram start p → payload_at start p + 18 ≤ length p → protocol_at start p ≡ 6 → IsCarried start p from to ttl numbers
@@ -185,7 +209,18 @@ carried_tcp start p from to ttl numbers d room is =
     let written : if_named (with_numbers start) t numbers ≡ now = write_ports numbers start t 6 place (word_at p place) (word_at p (place + 2)) (b.protocol ∙ is) b.payload refl refl (ports_kept_behind start p t b) in
     let right = put_right-is (pseudo_in start) (place + 16) p now _ (pseudo_covered start p from to ttl ports.0 ports.1 d (omega (arith, room))) (kept_past_ports start p t ports.0 ports.1 (place + 16) b (omega arith)) in
     ap (λ l. right_carried start p l) written ∙ by_tcp start p now is room ∙ right
-    ∙ ap (λ c. with_carried place t (changed_carried numbers (pair_words start p from to) c)) (sym (of_tcp (protocol_at start p) p place is))
+    ∙ ap (λ c. with_carried place t (changed_carried numbers (pair_words start p from to) c)) (sym (of_tcp (protocol_at start p) p place is room))
+
+carried_cut_tcp : (start : ℕ) (p : List ℕ) (from to ttl : ℕ) (numbers : Option Numbers) → IsDatagram start p → length p < payload_at start p + 18 → protocol_at start p ≡ 6 → IsCarried start p from to ttl numbers
+carried_cut_tcp start p from to ttl numbers d cut is =
+    let place = payload_at start p in
+    let t = timed start p from to ttl in
+    let b = timed_behind start p from to ttl d in
+    let ports = ports_named numbers (word_at p place) (word_at p (place + 2)) in
+    let now = with_ports place t ports.0 ports.1 in
+    let written : if_named (with_numbers start) t numbers ≡ now = write_ports numbers start t 6 place (word_at p place) (word_at p (place + 2)) (b.protocol ∙ is) b.payload refl refl (ports_kept_behind start p t b) in
+    ap (λ l. right_carried start p l) written ∙ by_cut_tcp start p now is cut
+    ∙ ap (λ c. with_carried place t (changed_carried numbers (pair_words start p from to) c)) (sym (of_cut_tcp (protocol_at start p) p place is cut))
 
 carried_udp : (start : ℕ) (p : List ℕ) (from to ttl : ℕ) (numbers : Option Numbers) → IsDatagram start p → payload_at start p + 8 ≤ length p → protocol_at start p ≡ 17 → IsCarried start p from to ttl numbers
 carried_udp start p from to ttl numbers d room is =
@@ -224,7 +259,10 @@ is_carried start p from to ttl numbers d room =
     let number = protocol_at start p in
     let place = payload_at start p in
     ⊎_elim
-    (λ six. carried_tcp start p from to ttl numbers d (rw (of_tcp number p place six) at room) six)
+    (λ six. ⊎_elim
+    (λ cut. carried_cut_tcp start p from to ttl numbers d cut six)
+    (λ long. carried_tcp start p from to ttl numbers d long six)
+    (cases_lt (length p) (place + 18)))
     (λ not_six. ⊎_elim
     (λ seventeen. carried_udp start p from to ttl numbers d (rw (of_udp number p place seventeen) at room) seventeen)
     (λ not_seventeen. ⊎_elim

@@ -22,6 +22,7 @@ between t remaining = record {
   destination = Some t.destination.address;
   numbers = numbers_by t.kind t.source.port t.destination.port;
   ttl = remaining;
+  inner = None;
 }
 
 -- a port is 0 where its kind has none

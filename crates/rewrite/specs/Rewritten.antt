@@ -1,10 +1,13 @@
 -- A packet as it is sent on: the named fields replaced, each checksum over a changed word corrected for the change
 -- (RFC 1624), and no other byte changed (RFC 3022, section 4.1).
 use Rattle.std.specs.Prelude.{ℕ, ◌+◌, ◌-◌, ◌%◌, ◌==◌, ◌&&◌, ◌||◌, nat_le, Bool, true, false, List, [], ◌∷◌, ◌++◌}
-use Rattle.std.specs.Prelude.{length, take, drop, slice_set, Option, Some, None, if◌then◌else◌}
+use Rattle.std.specs.Prelude.{length, take, drop, slice_set, is_some, Option, Some, None, if◌then◌else◌}
 use Rattle.ip_headers.specs.Bytes.{word_at, with_word, with_number}
 use Rattle.ip_headers.specs.Sum.{words_sum}
 use Rattle.ip_headers.specs.Header.{header, protocol_at, payload_at}
+use Rattle.ip_headers.specs.Tuple.{inner_tuple_of}
+use Rattle.ip_headers.specs.declared.tuple.Tuple.{Tuple}
+use Rattle.rewrite.specs.Ends.{between}
 use Rattle.rewrite.specs.declared.change.Change.{Change}
 use Rattle.rewrite.specs.declared.change.Numbers.{Numbers}
 use Rattle.rewrite.specs.declared.change.Numbers.TheVariants.{Ports, Identifier}
@@ -103,7 +106,27 @@ right_header start old now = put_right (header_in start) (start + 10) old now
 abbrev pub right_datagram : ℕ → List ℕ → List ℕ → List ℕ
 right_datagram start old now = right_header start old (right_carried start old now)
 
+-- ---- the datagram that an ICMP error is about (RFC 5508, section 4.2)
+
+-- it begins behind the error's 8 bytes (RFC 792)
+abbrev pub inner_at : List ℕ → ℕ
+inner_at packet = payload_at 0 packet + 8
+
+-- a datagram between other ends, its own checksums corrected; its TTL stays
+abbrev pub with_ends : ℕ → List ℕ → Tuple → List ℕ
+with_ends start bytes t = right_datagram start bytes (replaced start bytes (between t None))
+
+-- an error about a datagram between other ends: the error's own checksum covers it
+abbrev pub with_inner : List ℕ → Tuple → List ℕ
+with_inner packet t =
+    if is_some (inner_tuple_of packet)
+    then put_right (carried_in 0) (payload_at 0 packet + 2) packet (with_ends (inner_at packet) packet t)
+    else packet
+
 -- ---- the packet
 
+-- first the datagram that it is about, then its own fields
 unfoldable pub rewritten : List ℕ → Change → List ℕ
-rewritten packet change = right_datagram 0 packet (replaced 0 packet change)
+rewritten packet change =
+    let inward = if_named with_inner packet change.inner in
+    right_datagram 0 inward (replaced 0 inward change)

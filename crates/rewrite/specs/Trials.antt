@@ -1,5 +1,7 @@
--- The packets of the trials, word by word. A is 192.168.1.10, B is 198.51.100.7 and E is 203.0.113.1.
+-- The packets of the trials, word by word. A is 192.168.1.10, B is 198.51.100.7, E is 203.0.113.1, and R, a router, is
+-- 198.51.100.1.
 use Rattle.std.specs.Prelude.{ℕ, ◌/◌, ◌%◌, List, [], ◌∷◌, ◌++◌, Some, None}
+use Rattle.ip_headers.specs.declared.tuple.Kind.{Kind}
 use Rattle.rewrite.specs.declared.change.Change.{Change}
 use Rattle.rewrite.specs.declared.change.Numbers.TheVariants.{Ports, Identifier}
 
@@ -42,21 +44,57 @@ odd time header high low port checksum =
     in_words (0x4600 ∷ 37 ∷ 1 ∷ 0 ∷ time ∷ header ∷ high ∷ low ∷ 0xc633 ∷ 0x6407 ∷ 0x0101 ∷ 0x0101 ∷ port ∷ 53 ∷ 13
     ∷ checksum ∷ 0x6869 ∷ 0x7465 ∷ []) ++ 0x21 ∷ []
 
+-- from R an error of ICMP: B can't be reached. The words of the TTL, of the header's checksum and of the destination,
+-- the error's checksum, and the words of the datagram that it is about
+abbrev pub unreachable : ℕ → ℕ → List ℕ → ℕ → List ℕ → List ℕ
+unreachable time header to checksum about =
+    in_words ((0x4500 ∷ 56 ∷ 2 ∷ 0 ∷ time ∷ header ∷ 0xc633 ∷ 0x6401 ∷ []) ++ to ++ 0x0301 ∷ checksum ∷ 0 ∷ 0 ∷ about)
+
+-- UDP to B, port 5000 to 53, one hop on: the words of the header's checksum and of the source, and the checksum of UDP
+abbrev pub about_udp : ℕ → List ℕ → ℕ → List ℕ
+about_udp header from checksum =
+    (0x4500 ∷ 28 ∷ 1 ∷ 0 ∷ 0x3f11 ∷ header ∷ from) ++ 0xc633 ∷ 0x6407 ∷ 5000 ∷ 53 ∷ 8 ∷ checksum ∷ []
+
+-- TCP to B, port 5000 to 80, one hop on, of which the first 8 bytes came back
+abbrev pub about_tcp : ℕ → List ℕ → List ℕ
+about_tcp header from =
+    (0x4500 ∷ 40 ∷ 1 ∷ 0 ∷ 0x3f06 ∷ header ∷ from) ++ 0xc633 ∷ 0x6407 ∷ 5000 ∷ 80 ∷ 0 ∷ 0 ∷ []
+
+abbrev pub a : List ℕ
+a = 0xc0a8 ∷ 0x010a ∷ []
+
+abbrev pub e : List ℕ
+e = 0xcb00 ∷ 0x7101 ∷ []
+
 -- the TTL alone
 abbrev pub one_hop : Change
-one_hop = record { source = None; destination = None; numbers = None; ttl = Some 63 }
+one_hop = record { source = None; destination = None; numbers = None; ttl = Some 63; inner = None }
 
 -- the source becomes E
 abbrev pub from_e : Change
-from_e = record { source = Some 0xcb007101; destination = None; numbers = None; ttl = Some 63 }
+from_e = record { source = Some 0xcb007101; destination = None; numbers = None; ttl = Some 63; inner = None }
 
 abbrev pub from_e_port_8000 : Change
 from_e_port_8000 =
-    record { source = Some 0xcb007101; destination = None; numbers = Some (Ports 8000 53); ttl = Some 63 }
+    record { source = Some 0xcb007101; destination = None; numbers = Some (Ports 8000 53); ttl = Some 63; inner = None }
 
 -- the addresses change places
 abbrev pub swapped : Change
-swapped = record { source = Some 0xc6336407; destination = Some 0xc0a8010a; numbers = None; ttl = None }
+swapped = record { source = Some 0xc6336407; destination = Some 0xc0a8010a; numbers = None; ttl = None; inner = None }
 
 abbrev pub identifier_2 : Change
-identifier_2 = record { source = None; destination = None; numbers = Some (Identifier 2); ttl = None }
+identifier_2 = record { source = None; destination = None; numbers = Some (Identifier 2); ttl = None; inner = None }
+
+-- to A, about a datagram of this kind from A, port 5000, to this port of B
+abbrev pub back_to_a : Kind → ℕ → Change
+back_to_a carried to = record {
+  source = None;
+  destination = Some 0xc0a8010a;
+  numbers = None;
+  ttl = Some 63;
+  inner = Some (record {
+    kind = carried;
+    source = record { address = 0xc0a8010a; port = 5000 };
+    destination = record { address = 0xc6336407; port = to };
+  });
+}

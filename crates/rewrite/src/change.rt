@@ -1,4 +1,8 @@
 //! What is to be other in a packet.
+ghost use Rattle.std.specs.Prelude.{◌≡◌};
+ghost use Rattle.rewrite.specs.Ends.{between, numbers_by};
+
+use ip_headers::{Kind, Tuple};
 
 /// The numbers that tell the ends of a packet apart, besides its addresses.
 #[derive(Clone, Copy, Debug, PartialEq, Eq)]
@@ -20,4 +24,35 @@ pub struct Change {
     pub numbers: Option<Numbers>,
     /// The time to live.
     pub ttl: Option<u8>,
+    /// Of an ICMP error: the ends between which the datagram goes that it is about; where the packet
+    /// is about none that can be read, nothing of it changes.
+    pub inner: Option<Tuple>,
+}
+
+impl Change {
+    /// The packet is to go between the ends of a tuple, with this time to live or its own.
+    pub fn between(tuple: Tuple, ttl: Option<u8>) -> Change
+        ensures { result ≡ between tuple ttl }
+    {
+        Change {
+            source: Some(tuple.source.address),
+            destination: Some(tuple.destination.address),
+            numbers: numbers_of(&tuple),
+            ttl,
+            inner: None,
+        }
+    }
+}
+
+/// The numbers of a tuple: ports, or the identifier at the end that asks.
+fn numbers_of(tuple: &Tuple) -> Option<Numbers>
+    ensures { result ≡ numbers_by tuple.now.kind tuple.now.source.port tuple.now.destination.port }
+{
+    let (from, to) = (tuple.source.port, tuple.destination.port);
+    match tuple.kind {
+        Kind::Tcp | Kind::Udp => Some(Numbers::Ports(from, to)),
+        Kind::Ask => Some(Numbers::Identifier(from)),
+        Kind::Answer => Some(Numbers::Identifier(to)),
+        Kind::Other(_) => None,
+    }
 }

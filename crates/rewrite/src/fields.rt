@@ -1,7 +1,7 @@
 //! The fields of a datagram that a change may replace.
 ghost use Rattle.std.specs.Prelude.{◌≡◌, ◌+◌, ◌<◌, ◌≤◌, ℕ, drop, length, slice_index};
 ghost use Rattle.ip_headers.specs.Header.{payload_at, header_len};
-ghost use Rattle.rewrite.specs.steps.Fields.{address_change, carried_of, changed_carried, changed_fields, fields_at, identifier_named, len_of, port_change, ports_named, ttl_change, with_fields, HasFields};
+ghost use Rattle.rewrite.specs.steps.Fields.{address_change, carried_of, carried_words, changed_carried, changed_fields, fields_at, fields_change, identifier_named, len_of, port_change, ports_named, tcp_checksum_of, ttl_change, with_fields, HasFields};
 
 use crate::change::{Change, Numbers};
 use crate::checksum::Words;
@@ -22,9 +22,21 @@ pub(crate) struct Fields {
 /// Those of what a datagram carries.
 #[derive(Clone, Copy)]
 pub(crate) enum Carried {
-    Tcp { from: u16, to: u16, checksum: u16 },
-    Udp { from: u16, to: u16, checksum: u16 },
-    Icmp { identifier: u16, checksum: u16 },
+    /// Of a segment that was cut the checksum may be missing.
+    Tcp {
+        from: u16,
+        to: u16,
+        checksum: Option<u16>,
+    },
+    Udp {
+        from: u16,
+        to: u16,
+        checksum: u16,
+    },
+    Icmp {
+        identifier: u16,
+        checksum: u16,
+    },
     Other,
 }
 
@@ -68,6 +80,22 @@ impl Fields {
         }
     }
 
+    /// The words of the datagram that others take the place of.
+    pub(crate) fn words_to(&self, new: &Fields) -> Words
+        ensures { result ≡ fields_change self.now new.now }
+    {
+        let (first, second, checksum) = self.carried.words();
+        let (new_first, new_second, new_checksum) = new.carried.words();
+        // The TTL is the high byte of its word.
+        Words::number(self.source, new.source)
+            .and(Words::number(self.destination, new.destination))
+            .and(Words::word(self.ttl as u16 * 256, new.ttl as u16 * 256))
+            .and(Words::word(first, new_first))
+            .and(Words::word(second, new_second))
+            .and(Words::word(checksum, new_checksum))
+            .and(Words::word(self.checksum, new.checksum))
+    }
+
     /// Writes them into the datagram that begins at a place.
     pub(crate) fn write(&self, packet: &mut [u8], start: usize)
         requires long { 20 ≤ header_len (drop start packet.old) }
@@ -82,7 +110,9 @@ impl Fields {
             Carried::Tcp { from, to, checksum } => {
                 parts.set_source_port(from);
                 parts.set_destination_port(to);
-                parts.set_tcp_checksum(checksum);
+                if let Some(checksum) = checksum {
+                    parts.set_tcp_checksum(checksum);
+                }
             }
             Carried::Udp { from, to, checksum } => {
                 parts.set_source_port(from);
@@ -112,7 +142,7 @@ impl Carried {
             6 => Carried::Tcp {
                 from: BigEndian::read_u16(payload),
                 to: BigEndian::read_u16(&payload[2..]),
-                checksum: BigEndian::read_u16(&payload[16..]),
+                checksum: tcp_checksum(payload),
             },
             17 => Carried::Udp {
                 from: BigEndian::read_u16(payload),
@@ -124,6 +154,21 @@ impl Carried {
                 checksum: BigEndian::read_u16(&payload[2..]),
             },
             _ => Carried::Other,
+        }
+    }
+
+    /// Their words, 0 where there are fewer than three.
+    fn words(&self) -> (u16, u16, u16)
+        ensures { result ≡ carried_words self.now }
+    {
+        match *self {
+            Carried::Tcp { from, to, checksum } => (from, to, checksum.unwrap_or(0)),
+            Carried::Udp { from, to, checksum } => (from, to, checksum),
+            Carried::Icmp {
+                identifier,
+                checksum,
+            } => (identifier, 0, checksum),
+            Carried::Other => (0, 0, 0),
         }
     }
 
@@ -141,7 +186,7 @@ impl Carried {
                 Carried::Tcp {
                     from: ports.0,
                     to: ports.1,
-                    checksum: words.renew(checksum),
+                    checksum: checksum.map(|checksum| words.renew(checksum)),
                 }
             }
             Carried::Udp { from, to, checksum } => {
@@ -166,6 +211,16 @@ impl Carried {
             Carried::Other => Carried::Other,
         }
     }
+}
+
+/// The checksum of a segment of TCP, if so much of it is there.
+fn tcp_checksum(segment: &[u8]) -> Option<u16>
+    ensures { result ≡ tcp_checksum_of segment.now }
+{
+    if segment.len() < 18 {
+        return None;
+    }
+    Some(BigEndian::read_u16(&segment[16..]))
 }
 
 /// The ports that are named, or else these.

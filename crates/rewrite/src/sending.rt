@@ -1,16 +1,19 @@
 //! Packets as they are sent on.
 ghost use Rattle.std.specs.Prelude.{◌≡◌, ◌+◌, ◌<◌, ◌≤◌, ◌++◌, length, OnOk, OnErr, vec_len, vec_capacity};
-ghost use Rattle.rewrite.specs.Rewritten.{replaced, rewritten, right_datagram};
+ghost use Rattle.ip_headers.specs.Header.{payload_at};
+ghost use Rattle.rewrite.specs.Rewritten.{carried_in, inner_at, put_right, replaced, rewritten, right_datagram, with_ends};
 ghost use Rattle.rewrite.specs.steps.Fields.{HasFields};
 
 use crate::change::Change;
 use crate::fields::Fields;
-use ip_headers::View;
+use byteorder::{BigEndian, ByteOrder};
 use ip_headers::laws::no_fault;
+use ip_headers::{PartsMut, Tuple, View};
 use std::alloc::AllocError;
 
 /// Appends the packet as it leaves: the named fields replaced, each checksum over a changed word
 /// corrected for the change (RFC 1624), all else as it came. A wrong checksum stays as wrong as it was.
+/// Of an ICMP error the same becomes of the datagram that it is about (RFC 5508, section 4.2).
 ///
 /// What is read and written doesn't grow with the packet, but for the one copy. `Err` comes only where
 /// the buffer had to grow and couldn't, which it hadn't where it had room for 65,535 bytes more; then
@@ -24,11 +27,41 @@ pub fn emit(view: &View, change: &Change, out: &mut Vec<u8>) -> Result<(), Alloc
     // So a buffer that was reserved once stays large enough for every packet.
     ensures capacity { vec_capacity out.old ≤ vec_capacity out.new }
 {
-    no_fault();
     let before = out.len();
     out.extend_from_slice(view.packet)?;
-    rewrite(&mut out[before..], 0, change);
+    rewrite_packet(&mut out[before..], view, change);
     Ok(())
+}
+
+/// Changes a packet, of which this is the view: first the datagram that it is about, if that can be
+/// read, then its own fields.
+fn rewrite_packet(packet: &mut [u8], view: &View, change: &Change)
+    requires { packet.old ≡ view.now.packet.now }
+    ensures { packet.new ≡ rewritten packet.old change.now }
+{
+    no_fault();
+    if let Some(tuple) = view.inner_tuple().and(change.inner) {
+        rewrite_inner(packet, view.header.len(), tuple);
+    }
+    rewrite(packet, 0, change);
+}
+
+/// Changes the datagram that an ICMP error is about, and the error's own checksum, which covers it.
+/// What the packet carries begins at `payload`.
+fn rewrite_inner(packet: &mut [u8], payload: usize, tuple: Tuple)
+    requires payload { payload ≡ payload_at 0 packet.old }
+    requires long { 20 ≤ payload }
+    requires fields { HasFields (inner_at packet.old) packet.old }
+    ensures { packet.new ≡ put_right (carried_in 0) (payload_at 0 packet.old + 2) packet.old (with_ends (inner_at packet.old) packet.old tuple) }
+{
+    // The datagram follows the 8 bytes that begin every error.
+    let start = payload + 8;
+    let old = Fields::read(packet, start);
+    let new = old.changed(&Change::between(tuple, None));
+    let checksum = BigEndian::read_u16(&packet[payload + 2..]);
+    new.write(packet, start);
+    let mut parts = PartsMut::new(packet, 0);
+    parts.set_icmp_checksum(old.words_to(&new).renew(checksum));
 }
 
 /// Changes the datagram that begins at a place of a packet, its checksums with it.

@@ -1,7 +1,8 @@
 //! Packets with what is sent on of them, each as the contract of a function that does nothing.
 ghost use Rattle.std.specs.Prelude.{◌≡◌};
+ghost use Rattle.ip_headers.specs.declared.tuple.Kind.TheVariants.{Tcp, Udp};
 ghost use Rattle.rewrite.specs.Rewritten.{rewritten};
-ghost use Rattle.rewrite.specs.Trials.{a_to_b, b_to_a, e_to_b, echo, from_e, from_e_port_8000, identifier_2, odd, one_hop, swapped, tcp, udp};
+ghost use Rattle.rewrite.specs.Trials.{a, a_to_b, about_tcp, about_udp, b_to_a, back_to_a, e, e_to_b, echo, from_e, from_e_port_8000, identifier_2, odd, one_hop, swapped, tcp, udp, unreachable};
 
 /// One hop further, and translated: UDP without a checksum stays without one.
 pub fn plain_packet()
@@ -23,4 +24,11 @@ pub fn checksum_change()
 pub fn other_packets()
     ensures odd { rewritten (odd 0x4011 0x8bd8 0xc0a8 0x010a 5000 0x025b) from_e_port_8000 ≡ odd 0x3f11 0x1289 0xcb00 0x7101 8000 0x7c53 }
     ensures echo { rewritten (echo 0x4001 0x8ef3 0xe5ca 0x1234) identifier_2 ≡ echo 0x4001 0x8ef3 0xf7fc 2 }
+{}
+
+/// An error comes back through a translator: what it is about is as it was sent. Of a segment of TCP
+/// that was cut the checksum isn't there.
+pub fn error_back()
+    ensures udp { rewritten (unreachable 0x4001 0x148d e 0x5389 (about_udp 0x1594 e 0x95b0)) (back_to_a Udp 53) ≡ unreachable 0x3f01 0x8fdc a 0xd939 (about_udp 0x8fe3 a 0x1000) }
+    ensures cut { rewritten (unreachable 0x4001 0x148d e 0xe926 (about_tcp 0x1593 e)) (back_to_a Tcp 80) ≡ unreachable 0x3f01 0x8fdc a 0xe926 (about_tcp 0x8fe2 a) }
 {}

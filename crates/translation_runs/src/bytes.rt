@@ -25,6 +25,7 @@ fn appends_what_is_sent_on(rt: HostRuntime) -> Result<(), Fail> {
         destination: None,
         numbers: Some(Numbers::Ports(5002, 53)),
         ttl: Some(63),
+        inner: None,
     };
     emit(&view, &change, &mut out)?;
     let mut wanted = Vec::new(rt.alloc());

@@ -1,6 +1,7 @@
 -- The fields of a datagram that a change may replace, as numbers.
-use Rattle.std.specs.Prelude.{ℕ, ◌+◌, ◌*◌, ◌/◌, ◌%◌, ◌≤◌, ◌==◌, ◌&&◌, ◌||◌, List, length, drop, slice_set, Option}
-use Rattle.std.specs.Prelude.{Some, None, unwrap_or, if◌then◌else◌}
+use Rattle.std.specs.Prelude.{ℕ, ◌+◌, ◌*◌, ◌/◌, ◌%◌, ◌≤◌, ◌==◌, ◌&&◌, ◌||◌, nat_le, List, length, drop, slice_set}
+use Rattle.std.specs.Prelude.{Option, Some, None, unwrap_or, if◌then◌else◌}
+use Rattle.std.specs.Option.{option_map}
 use Rattle.ip_headers.specs.Bytes.{byte_at, word_at, number_at, with_word, with_number}
 use Rattle.ip_headers.specs.Header.{header_len, protocol_at, payload_at}
 use Rattle.rewrite.specs.declared.change.Change.{Change}
@@ -37,9 +38,13 @@ renewed_if_made words checksum =
 
 -- ---- fields
 
+-- of a segment that was cut the checksum may be missing
+abbrev pub tcp_checksum_of : List ℕ → Option ℕ
+tcp_checksum_of segment = if nat_le 18 (length segment) then Some (word_at segment 16) else None
+
 abbrev pub carried_of : ℕ → List ℕ → Carried
 carried_of number payload =
-    if number == 6 then Tcp (word_at payload 0) (word_at payload 2) (word_at payload 16)
+    if number == 6 then Tcp (word_at payload 0) (word_at payload 2) (tcp_checksum_of payload)
     else (if number == 17 then Udp (word_at payload 0) (word_at payload 2) (word_at payload 6)
     else (if number == 1 then Icmp (word_at payload 4) (word_at payload 2)
     else Other))
@@ -55,7 +60,8 @@ fields_at start bytes = record {
 
 -- how many bytes the fields of what is carried take
 abbrev pub len_of : Carried → ℕ
-len_of (Tcp from to checksum) = 18
+len_of (Tcp from to None) = 4
+len_of (Tcp from to (Some checksum)) = 18
 len_of (Udp from to checksum) = 8
 len_of (Icmp identifier checksum) = 6
 len_of Other = 0
@@ -83,7 +89,7 @@ port_change one other = both (word_change one.0 other.0) (word_change one.1 othe
 abbrev pub changed_carried : Option Numbers → Words → Carried → Carried
 changed_carried numbers addresses (Tcp from to checksum) =
     let ports = ports_named numbers from to in
-    Tcp ports.0 ports.1 (renewed (both addresses (port_change (from, to) ports)) checksum)
+    Tcp ports.0 ports.1 (option_map (renewed (both addresses (port_change (from, to) ports))) checksum)
 changed_carried numbers addresses (Udp from to checksum) =
     let ports = ports_named numbers from to in
     Udp ports.0 ports.1 (renewed_if_made (both addresses (port_change (from, to) ports)) checksum)
@@ -111,10 +117,33 @@ changed_fields change fields = record {
   carried = changed_carried change.numbers (address_change fields change) fields.carried;
 }
 
+-- ---- the words of a datagram that others take the place of
+
+-- of what is carried: 0 where there are fewer than three
+abbrev pub carried_words : Carried → ℕ × ℕ × ℕ
+carried_words (Tcp from to checksum) = (from, to, unwrap_or checksum 0)
+carried_words (Udp from to checksum) = (from, to, checksum)
+carried_words (Icmp identifier checksum) = (identifier, 0, checksum)
+carried_words Other = (0, 0, 0)
+
+abbrev pub and_carried : Words → ℕ × ℕ × ℕ → ℕ × ℕ × ℕ → Words
+and_carried words old new =
+    both (both (both words (word_change old.0 new.0)) (word_change old.1 new.1)) (word_change old.2 new.2)
+
+-- in the order in which they are written
+abbrev pub fields_change : Fields → Fields → Words
+fields_change old new =
+    let addresses = both (number_change old.source new.source) (number_change old.destination new.destination) in
+    let timed = both addresses (word_change (old.ttl * 256) (new.ttl * 256)) in
+    both (and_carried timed (carried_words old.carried) (carried_words new.carried))
+    (word_change old.checksum new.checksum)
+
 -- ---- the fields written
 
 abbrev pub with_carried : ℕ → List ℕ → Carried → List ℕ
-with_carried place bytes (Tcp from to checksum) = with_word (with_ports place bytes from to) (place + 16) checksum
+with_carried place bytes (Tcp from to None) = with_ports place bytes from to
+with_carried place bytes (Tcp from to (Some checksum)) =
+    with_word (with_ports place bytes from to) (place + 16) checksum
 with_carried place bytes (Udp from to checksum) = with_word (with_ports place bytes from to) (place + 6) checksum
 with_carried place bytes (Icmp identifier checksum) =
     with_word (with_word bytes (place + 4) identifier) (place + 2) checksum

@@ -1,10 +1,9 @@
-use Rattle.std.proofs.Common.{◌≡◌, ℕ, ◌-◌, List, [], ◌++◌, length, take, drop, sym, ap, subst, ◌∙◌, arith}
+use Rattle.std.proofs.Common.{◌≡◌, ℕ, ◌-◌, List, [], ◌++◌, length, take, drop, ap, ◌∙◌, arith}
 use Rattle.std.proofs.lemmas.Grind.{common_steps}
 use Rattle.std.proofs.lemmas.List.{take_at}
 use borrow.Rule.Slice.PartMut.{post_of}
-use Rattle.rewrite.specs.Rewritten.{replaced, rewritten, right_datagram}
-use Rattle.rewrite.specs.steps.Fields.{HasFields}
-use Rattle.rewrite.proofs.Lengths.{has_fields, length-rewritten}
+use Rattle.rewrite.specs.Rewritten.{rewritten}
+use Rattle.rewrite.proofs.Inward.{length-rewritten}
 use Rattle.rewrite.proofs.sending.emit.Goals as goal
 
 patched : (old packet d new items : List ℕ) (n s k : ℕ) → d ≡ old ++ packet → s ≡ length old → length new ≡ length packet → n ≡ length d → take n (take s d ++ (new ++ post_of s (length d - s) d) ++ drop k items) ≡ old ++ new
@@ -18,18 +17,17 @@ patched old packet d new items n s k is start same len =
 lent : (old packet d : List ℕ) (s : ℕ) → d ≡ old ++ packet → s ≡ length old → take (length d - s) (drop s d) ≡ packet
 lent old packet d s is start = grind (arith, common_steps)
 
-pub rewrite-requires : goal.rewrite-requires
-rewrite-requires c =
+pub rewrite_packet-requires : goal.rewrite_packet-requires
+rewrite_packet-requires c =
     let old = c.args.out.now.items in
     let packet = c.args.view.now.packet.now in
     let d = c.deref_mut.result.now in
     let s = c.len-before.result in
     let is : d ≡ old ++ packet = grind (arith, common_steps) in
     let start : s ≡ length old = omega arith in
-    subst (λ l. HasFields 0 l) (sym (lent old packet d s is start)) (has_fields packet (c.no_fault.ensures.passes packet c.args.view.now.whole))
+    lent old packet d s is start
 
 pub returns-clause-ok : goal.returns-clause-ok
-unfolding rewritten
 returns-clause-ok c =
     let old = c.args.out.now.items in
     let packet = c.args.view.now.packet.now in
@@ -39,8 +37,9 @@ returns-clause-ok c =
     let is : d ≡ old ++ packet = grind (arith, common_steps) in
     let start : s ≡ length old = omega arith in
     let part : take (length d - s) (drop s d) ≡ packet = lent old packet d s is start in
-    let same : length c.rewrite.new.packet ≡ length packet = grind (arith, part) in
-    patched old packet d c.rewrite.new.packet c.extend_from_slice.new.self.items _ s _ is start same (omega (arith, c.deref_mut.ensures.len)) ∙ ap (λ l. old ++ l) (c.rewrite.ensures ∙ ap (λ l. right_datagram 0 l (replaced 0 l change)) part)
+    let sent : c.rewrite_packet.new.packet ≡ rewritten packet change = c.rewrite_packet.ensures ∙ ap (λ l. rewritten l change) part in
+    let same : length c.rewrite_packet.new.packet ≡ length packet = ap (λ l. length l) sent ∙ length-rewritten packet change in
+    patched old packet d c.rewrite_packet.new.packet c.extend_from_slice.new.self.items _ s _ is start same (omega (arith, c.deref_mut.ensures.len)) ∙ ap (λ l. old ++ l) sent
 
 pub returns-in_err-extend_from_slice-clause-same_length : goal.returns-in_err-extend_from_slice-clause-same_length
 returns-in_err-extend_from_slice-clause-same_length c = length-rewritten c.args.view.now.packet.now c.args.change.now

@@ -3,17 +3,15 @@ use Rattle.std.proofs.lemmas.List.{get_or-drop}
 use Rattle.std.proofs.lemmas.Grind.{common_steps}
 use Rattle.list_laws.specs.Lists.{rest_from}
 use Rattle.byteorder.specs.Endian.{big_number}
-use Rattle.ip_headers.specs.Bytes.{number_at, word_at}
+use Rattle.ip_headers.specs.Bytes.{number_at}
 use Rattle.rewrite.specs.declared.fields.Fields.{Fields}
 use Rattle.rewrite.specs.declared.fields.Carried.{Carried}
 use Rattle.rewrite.specs.steps.Fields.{carried_of}
+use Rattle.rewrite.proofs.Places.{word_read}
 use Rattle.rewrite.proofs.fields.Fields.read.Goals as goal
 
 number_read : (bytes : List ℕ) (i number : ℕ) → i + 4 ≤ length bytes → number ≡ big_number 4 (take (length bytes - i) (drop i bytes)) → number ≡ number_at bytes i
 number_read bytes i number whole read = grind (arith, common_steps, read)
-
-word_read : (bytes : List ℕ) (i word : ℕ) → i + 2 ≤ length bytes → word ≡ big_number 2 (take (length bytes - i) (drop i bytes)) → word ≡ word_at bytes i
-word_read bytes i word whole read = grind (arith, common_steps, read)
 
 abbrev made : ℕ → ℕ → ℕ → ℕ → Carried → Fields
 made from to left sum what = record { source = from; destination = to; ttl = left; checksum = sum; carried = what }
