@@ -3,7 +3,9 @@ ghost use Rattle.std.specs.Prelude.{◌≡◌, ◌+◌, ◌<◌, ◌≤◌, ◌�
 ghost use Rattle.ip_headers.specs.declared.tuple.Mapping.{Mapping};
 ghost use Rattle.conntrack.specs.declared.connection.ConnId.{ConnId};
 ghost use Rattle.conntrack.specs.Held.{IsNoneLater, begun_with, belongs_in, connection_of, has_distinct_ids, has_id, is_taken, live_at, most_held, touched_at};
+ghost use Rattle.conntrack.specs.Phases.{no_flags};
 ghost use Rattle.conntrack.specs.Updates.{after_end};
+ghost use Rattle.ip_headers.specs.Tuple.{inverse};
 ghost use Rattle.nat_mapping.specs.Mappings.{HoldsSame, IsOneToOne, holders_of};
 ghost use Rattle.translation.specs.Fitting.{Fits, IsFitting};
 ghost use Rattle.translation.specs.Mapped.{listed, mappings_in};
@@ -115,6 +117,17 @@ impl<T: Tracker> ConnectionTable<T> {
         // Nothing is translated yet, and what is held is one to one.
         self.mappings.one_to_one();
         belonging
+    }
+
+    /// What an ICMP error about a packet with this tuple belongs to, at a moment at which all that is
+    /// held is live: what the way back of that packet does. It ends no connection.
+    pub fn look_up_error(&self, inner: Tuple, now: Moment) -> Belonging
+        requires live { live_at self.now.limits now self.now.held ≡ self.now.held }
+        ensures { result ≡ belongs_in self.now.held (inverse inner) no_flags }
+    {
+        let mut steps = Steps::new();
+        self.tracker
+            .look(inner.inverse(), Flags::none(), now, &mut steps)
     }
 
     /// The mappings that are held: those that the connections held were begun with.

@@ -335,21 +335,21 @@ module _ (setup : Setup) (live : List Held) (lookup : Option Lookup) (a : Arrive
   mappings = mappings_beside live lookup
 
   abbrev known : End → Facts
-  known early = with_tracking (tracking_of (way_of lookup)) early.facts
+  known early = with_tracking (tracking_of (way_of live a.packet lookup)) early.facts
 
   -- what the early chains make of it
   abbrev FaresBy : Fate → End → Type 0
   FaresBy fate early =
       (Stops early.ending → fate ≡ unseen (stopped_at early))
-      × (GoesOn early.ending → FaresIn setup live lookup early fate)
+      × (GoesOn early.ending → FaresIn setup live lookup a.packet early fate)
 
   module _ (one : OneChains setup) where
     -- its course is one, and the last step follows from it
-    one_in : (early : End) (fate other : Fate) → FaresIn setup live lookup early fate
-        → FaresIn setup live lookup early other → fate ≡ other
+    one_in : (early : End) (fate other : Fate) → FaresIn setup live lookup a.packet early fate
+        → FaresIn setup live lookup a.packet early other → fate ≡ other
     one_in early fate other x y =
         let same : x.course ≡ y.course =
-        one_leads setup mappings one (way_of lookup) (known early) early.events x.course y.course x.leads
+        one_leads setup mappings one (way_of live a.packet lookup) (known early) early.events x.course y.course x.leads
         y.leads in
         x.is ∙ ap (settled lookup) same ∙ sym y.is
 
@@ -368,9 +368,9 @@ module _ (setup : Setup) (live : List Held) (lookup : Option Lookup) (a : Arrive
         (goes_on x.early.ending) refl
 
   module _ (ends : SomeChains setup) where
-    some_in : (early : End) → (fate : Fate) × FaresIn setup live lookup early fate
+    some_in : (early : End) → (fate : Fate) × FaresIn setup live lookup a.packet early fate
     some_in early =
-        let q = some_leads setup mappings ends (way_of lookup) (known early) early.events in
+        let q = some_leads setup mappings ends (way_of live a.packet lookup) (known early) early.events in
         (settled lookup q.0, record { course = q.0; leads = q.1; is = refl })
 
     some_from : (early : End) → (b : Bool) → goes_on early.ending ≡ b → (fate : Fate) × FaresBy fate early

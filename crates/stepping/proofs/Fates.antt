@@ -5,7 +5,7 @@ use Rattle.ip_headers.specs.declared.tuple.Tuple.{Tuple}
 use Rattle.ip_headers.specs.Header.{transport_of}
 use Rattle.ip_headers.specs.Tuple.{tuple_of}
 use Rattle.conntrack.specs.declared.belonging.Belonging.{Belonging}
-use Rattle.conntrack.specs.declared.belonging.Belonging.TheVariants.{Nowhere}
+use Rattle.conntrack.specs.declared.belonging.Belonging.TheVariants.{Nowhere, Ends, Found}
 use Rattle.conntrack.specs.declared.connection.ConnId.{ConnId}
 use Rattle.conntrack.specs.declared.connection.Flags.{Flags}
 use Rattle.conntrack.specs.declared.connection.Held.{Held}
@@ -26,10 +26,11 @@ use Rattle.stepping.specs.declared.settling.Settled.{Settled}
 use Rattle.stepping.specs.declared.sought.Sought.{Sought}
 use Rattle.translation.specs.declared.way.Draft.{Draft}
 use Rattle.translation.specs.declared.way.Way.{Way}
-use Rattle.translation.specs.declared.way.Way.TheVariants.{Within, First, Astray}
-use Rattle.translation.specs.Ways.{tracking_of, untranslated}
+use Rattle.translation.specs.declared.way.Way.TheVariants.{Within, About, First, Astray}
+use Rattle.ip_headers.specs.Tuple.{inner_tuple_of}
+use Rattle.translation.specs.Ways.{error_way, tracking_of, untranslated}
 use Rattle.stepping.specs.Carried.{Arrived, Carries, arriving, interface_facts, packet_facts, with_tracking}
-use Rattle.stepping.specs.Lookups.{Lookup, flags_in, look_up, lookup_of, mappings_beside, others_in, sought_of, way_of}
+use Rattle.stepping.specs.Lookups.{Lookup, error_belonging, flags_in, look_up, lookup_of, mappings_beside, others_in, sought_of, way_of}
 use Rattle.stepping.specs.Courses.{Course, Leads, dropped, stop_cause, stopped_at}
 use Rattle.stepping.specs.LastStep.{Fate, begun_unless, counted_by, refusal, reply_to, settled, settled_as, unseen}
 use Rattle.stepping.specs.Next.{tracked_by}
@@ -89,13 +90,8 @@ module _ (now : ℕ) (old : List Held) where
   happened_so : (way : Way) (others : List Held) (course : Course) → course.events ≡ (counted_by way others course).events
   happened_so (Within place) others course = refl
   happened_so (First draft) others course = begun_happened (refusal (reply_to draft) others) others draft course
+  happened_so (About of) others course = refl
   happened_so Astray others course = refl
-
-  -- a packet without a tuple isn't of a connection, whatever becomes of it
-  astray_is : (way : Way) → untranslated way ≡ Astray → way ≡ Astray
-  astray_is Astray same = refl
-  astray_is (Within place) same = cc
-  astray_is (First draft) same = cc
 
   goes_by : (answer : Result Settled Cause) (fate : Fate) → way_in answer ≡ fate.way → GoesBy answer fate
   goes_by (Ok settled) fate is = is
@@ -106,18 +102,31 @@ module _ (now : ℕ) (old : List Held) where
     pub follows : Follows now lookup old new (outcome_in answer) (begun_in answer) events fate
     pub goes : GoesBy answer fate
 
-  settled_follows : (sought : Option Sought) (flags : Flags) (led : Led) (way : Way) (new : List Held) (answer : Result Settled Cause) (events : List Event)
+  -- a packet without a tuple counts for no connection, also where it is an error about one
+  settled_unseen : (b : Belonging) (flags : Flags) (led : Led) (way : Way) (new : List Held) (answer : Result Settled Cause) (events : List Event)
+      → untranslated way ≡ untranslated (error_way b) → Settles now flags led Nowhere way old new answer → IsSettled None new answer events (settled None (course_of (Ok led) way events))
+  settled_unseen b flags led Astray new answer events same by = record {
+    follows = record { ends = by.outcome events; happened = refl; begins = by.begun events; id = no_id; held = by.held events };
+    goes = goes_by answer _ (by.goes events);
+  }
+  settled_unseen b flags led (About of) new answer events same by = record {
+    follows = record { ends = by.outcome events; happened = refl; begins = by.begun events; id = no_id; held = by.held events };
+    goes = goes_by answer _ (by.goes events);
+  }
+  settled_unseen Nowhere flags led (Within of) new answer events same by = cc
+  settled_unseen (Ends id) flags led (Within of) new answer events same by = cc
+  settled_unseen (Found place) flags led (Within of) new answer events same by = cc
+  settled_unseen Nowhere flags led (First d) new answer events same by = cc
+  settled_unseen (Ends id) flags led (First d) new answer events same by = cc
+  settled_unseen (Found place) flags led (First d) new answer events same by = cc
+
+  settled_follows : (p : List ℕ) (sought : Option Sought) (flags : Flags) (led : Led) (way : Way) (new : List Held) (answer : Result Settled Cause) (events : List Event)
       → (let lookup = option_map (look_up old) sought in
-      ((s : Sought) → sought ≡ Some s → s.flags ≡ flags) → untranslated way ≡ untranslated (way_of lookup) → Settles now flags led (belonging_in lookup) way (others_in old lookup) new answer
+      ((s : Sought) → sought ≡ Some s → s.flags ≡ flags) → untranslated way ≡ untranslated (way_of old p lookup) → Settles now flags led (belonging_in lookup) way (others_in old lookup) new answer
       → IsSettled lookup new answer events (settled lookup (course_of (Ok led) way events)))
-  settled_follows None flags led way new answer events has same settles =
-      let is = astray_is way same in
-      let by : Settles now flags led Nowhere Astray old new answer = rw (← is) settles in
-      rw is (record {
-        follows = record { ends = by.outcome events; happened = refl; begins = by.begun events; id = no_id; held = by.held events };
-        goes = goes_by answer _ (by.goes events);
-      })
-  settled_follows (Some s) flags led way new answer events has same settles =
+  settled_follows p None flags led way new answer events has same settles =
+      settled_unseen (error_belonging old (inner_tuple_of p)) flags led way new answer events same settles
+  settled_follows p (Some s) flags led way new answer events has same settles =
       let course = course_of (Ok led) way events in
       let b = (look_up old s).belonging in
       let agree = agrees settles.id now s old course b way same in
@@ -155,7 +164,7 @@ module _ (setup : Setup) (a : Arrived) (f : Facts) (es : List Event) (known : f 
 
   -- what they let through is led, and the last step follows
   module _ (g : Facts) (between : List Event) (comes : Comes (Early setup.plant setup.rules) f es (Ok tt) g between) (now : ℕ) (old : List Held) (sought : Option Sought) (is : sought ≡ sought_of a.packet)
-      (way : Way) (way_is : way ≡ way_of (option_map (look_up old) sought)) where
+      (way : Way) (way_is : way ≡ way_of old a.packet (option_map (look_up old) sought)) where
     abbrev lookup : Option Lookup
     lookup = option_map (look_up old) sought
 
@@ -170,7 +179,7 @@ module _ (setup : Setup) (a : Arrived) (f : Facts) (es : List Event) (known : f 
         → Fared setup a now old new answer events
     led_so course new answer events leads ends =
         let on = on_by comes.end.ending comes.answered in
-        let leads_so : Leads setup (mappings_beside old lookup) (way_of lookup) (with_tracking (tracking_of (way_of lookup)) comes.end.facts) comes.end.events course = rw (← way_is, ← comes.left, ← comes.happened) leads in
+        let leads_so : Leads setup (mappings_beside old lookup) (way_of old a.packet lookup) (with_tracking (tracking_of (way_of old a.packet lookup)) comes.end.facts) comes.end.events course = rw (← way_is, ← comes.left, ← comes.happened) leads in
         record {
           fate = settled lookup course;
           fares = record {
@@ -179,7 +188,7 @@ module _ (setup : Setup) (a : Arrived) (f : Facts) (es : List Event) (known : f 
             stopped = λ stops. absurd (stops on);
             goes_on = λ _. record {
               course = course;
-              leads = subst (λ (l : Option Lookup). Leads setup (mappings_beside old l) (way_of l) (with_tracking (tracking_of (way_of l)) comes.end.facts) comes.end.events course) same_lookup leads_so;
+              leads = subst (λ (l : Option Lookup). Leads setup (mappings_beside old l) (way_of old a.packet l) (with_tracking (tracking_of (way_of old a.packet l)) comes.end.facts) comes.end.events course) same_lookup leads_so;
               is = ap (λ (l : Option Lookup). settled l course) same_lookup;
             };
           };
@@ -204,7 +213,7 @@ module _ (setup : Setup) (a : Arrived) (f : Facts) (es : List Event) (known : f 
         → untranslated after ≡ untranslated way → LeadsTo (course_of (Ok led) after events) → Settles now flags led b after (others_in old lookup) new answer → Fared setup a now old new answer events
     is_settled flags led b after new answer events same belongs one leads settles =
         led_so (course_of (Ok led) after events) new answer events leads
-        (settled_follows now old sought flags led after new answer events (has_flags flags same (tuple_of a.packet) (sym is)) (one ∙ ap untranslated way_is) (subst (λ (b : Belonging). Settles now flags led b after (others_in old lookup) new answer) belongs settles))
+        (settled_follows now old a.packet sought flags led after new answer events (has_flags flags same (tuple_of a.packet) (sym is)) (one ∙ ap untranslated way_is) (subst (λ (b : Belonging). Settles now flags led b after (others_in old lookup) new answer) belongs settles))
 
 -- ---- a record
 

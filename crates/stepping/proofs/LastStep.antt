@@ -20,8 +20,10 @@ use Rattle.stepping.specs.declared.sought.Sought.{Sought}
 use Rattle.translation.specs.declared.way.Draft.{Draft}
 use Rattle.translation.specs.declared.way.Membership.{Membership}
 use Rattle.translation.specs.declared.way.Way.{Way}
-use Rattle.translation.specs.declared.way.Way.TheVariants.{Within, First, Astray}
-use Rattle.translation.specs.Ways.{draft_of, first_way, untranslated, way_by}
+use Rattle.translation.specs.declared.way.Way.TheVariants.{Within, About, First, Astray}
+use Rattle.ip_headers.specs.declared.tuple.Mapping.{Mapping}
+use Rattle.translation.specs.Fitting.{Fits}
+use Rattle.translation.specs.Ways.{draft_of, error_way, first_way, untranslated, way_by}
 use Rattle.connection_table.specs.Table.{IsOpen, begun_as}
 use Rattle.stepping.specs.Lookups.{Lookup}
 use Rattle.stepping.specs.Courses.{Course}
@@ -53,6 +55,9 @@ module _ (now : ℕ) (flags : Flags) (led : Led) (old : List Held) where
 
   pub settles_astray : (b : Belonging) → Settles now flags led b Astray old old (Ok (record { bound = led.bound; begun = false; way = Astray }))
   settles_astray b = record { id = no_id; outcome = λ events. refl; held = λ events. refl; begun = λ events. refl; goes = λ events. refl }
+
+  pub settles_about : (b : Belonging) (of : Membership) → Settles now flags led b (About of) old old (Ok (record { bound = led.bound; begun = false; way = About of }))
+  settles_about b of = record { id = no_id; outcome = λ events. refl; held = λ events. refl; begun = λ events. refl; goes = λ events. refl }
 
   module _ (b : Belonging) (draft : Draft) where
     abbrev course : List Event → Course
@@ -96,6 +101,7 @@ after_uncounted (Ends e) id p held = refl
 abbrev original_or : Tuple → Way → Tuple
 original_or t (First d) = d.original
 original_or t (Within of) = t
+original_or t (About of) = t
 original_or t Astray = t
 
 same_original : (d e : Draft) → First (draft_of d.original) ≡ First (draft_of e.original) → d.original ≡ e.original
@@ -106,26 +112,41 @@ first_open : (b : Belonging) (held : List Held) (state : State) (t : Tuple) (way
     → untranslated way ≡ untranslated (first_way state t) → IsOpenFor b way held
 first_open b held states.New t (First d) free same = rw (same_original d (draft_of t) same) free
 first_open b held states.New t (Within of) free same = cc
+first_open b held states.New t (About of) free same = tt
 first_open b held states.New t Astray free same = cc
 first_open b held states.Established t (First d) free same = cc
 first_open b held states.Established t (Within of) free same = cc
+first_open b held states.Established t (About of) free same = tt
 first_open b held states.Established t Astray free same = tt
 first_open b held states.Invalid t (First d) free same = cc
 first_open b held states.Invalid t (Within of) free same = cc
+first_open b held states.Invalid t (About of) free same = tt
 first_open b held states.Invalid t Astray free same = tt
 
 pub still_open : (t : Tuple) (b : Belonging) (held : List Held) (way : Way) → IsOpen t b held
     → untranslated way ≡ untranslated (way_by t b) → IsOpenFor b way held
 still_open t (Found place) held (Within of) at same = at
 still_open t (Found place) held (First d) at same = cc
+still_open t (Found place) held (About of) at same = tt
 still_open t (Found place) held Astray at same = tt
 still_open t Nowhere held way at same = first_open Nowhere held (first_state t.kind) t way at same
 still_open t (Ends id) held way at same = first_open (Ends id) held (first_state t.kind) t way at same
 
-pub astray_open : (held : List Held) (way : Way) → untranslated way ≡ Astray → IsOpenFor Nowhere way held
-astray_open held Astray same = tt
-astray_open held (Within of) same = cc
-astray_open held (First d) same = cc
+-- a packet that isn't looked up may be an error, which counts for no connection
+pub error_open : (b : Belonging) (held : List Held) (way : Way) → untranslated way ≡ untranslated (error_way b) → IsOpenFor Nowhere way held
+error_open b held Astray same = tt
+error_open b held (About of) same = tt
+error_open Nowhere held (Within of) same = cc
+error_open (Ends id) held (Within of) same = cc
+error_open (Found place) held (Within of) same = cc
+error_open Nowhere held (First d) same = cc
+error_open (Ends id) held (First d) same = cc
+error_open (Found place) held (First d) same = cc
+
+pub error_fits : (b : Belonging) (mappings : List Mapping) → Fits (error_way b) mappings
+error_fits Nowhere mappings = tt
+error_fits (Ends id) mappings = tt
+error_fits (Found place) mappings = tt
 
 -- a packet that counts so beside the others counts so among all that were held, and it is recorded whether it begins one
 module _ (id : ConnId) (now : ℕ) (s : Sought) (b : Belonging) (old : List Held) where
@@ -155,28 +176,35 @@ module _ (id : ConnId) (now : ℕ) (s : Sought) (old : List Held) (course : Cour
   nowhere : (state : State) (way : Way) → untranslated way ≡ untranslated (first_way state s.tuple) → AgreesSo Nowhere way
   nowhere states.New (First d) same = first_nowhere id now s old d (same_original d (draft_of s.tuple) same) (refusal (reply_to d) old) old course
   nowhere states.New (Within of) same = cc
+  nowhere states.New (About of) same = cc
   nowhere states.New Astray same = cc
   nowhere states.Established (First d) same = cc
   nowhere states.Established (Within of) same = cc
+  nowhere states.Established (About of) same = cc
   nowhere states.Established Astray same = record { held = refl; begun = refl }
   nowhere states.Invalid (First d) same = cc
   nowhere states.Invalid (Within of) same = cc
+  nowhere states.Invalid (About of) same = cc
   nowhere states.Invalid Astray same = record { held = refl; begun = refl }
 
   ends : (e : ConnId) (state : State) (way : Way) → untranslated way ≡ untranslated (first_way state s.tuple) → AgreesSo (Ends e) way
   ends e states.New (First d) same = first_ends id now s old d (same_original d (draft_of s.tuple) same) e (refusal (reply_to d) (without e old)) (without e old) course
   ends e states.New (Within of) same = cc
+  ends e states.New (About of) same = cc
   ends e states.New Astray same = cc
   ends e states.Established (First d) same = cc
   ends e states.Established (Within of) same = cc
+  ends e states.Established (About of) same = cc
   ends e states.Established Astray same = record { held = refl; begun = refl }
   ends e states.Invalid (First d) same = cc
   ends e states.Invalid (Within of) same = cc
+  ends e states.Invalid (About of) same = cc
   ends e states.Invalid Astray same = record { held = refl; begun = refl }
 
   pub agrees : (b : Belonging) (way : Way) → untranslated way ≡ untranslated (way_by s.tuple b) → AgreesSo b way
   agrees (Found place) (Within of) same = record { held = refl; begun = refl }
   agrees (Found place) (First d) same = cc
+  agrees (Found place) (About of) same = cc
   agrees (Found place) Astray same = cc
   agrees Nowhere way same = nowhere (first_state s.tuple.kind) way same
   agrees (Ends e) way same = ends e (first_state s.tuple.kind) way same

@@ -30,11 +30,13 @@ use Rattle.ip_headers.specs.declared.tuple.Mapping.{Mapping}
 use Rattle.rule_meaning.specs.Hooks.{End}
 use Rattle.translation.specs.declared.way.Draft.{Draft}
 use Rattle.translation.specs.declared.way.Way.{Way}
-use Rattle.translation.specs.declared.way.Way.TheVariants.{Within, First, Astray}
+use Rattle.translation.specs.declared.way.Way.TheVariants.{Within, About, First, Astray}
 use Rattle.translation.specs.Mapped.{mappings_in}
-use Rattle.translation.specs.Ways.{tracking_of, way_by}
+use Rattle.ip_headers.specs.Tuple.{inner_tuple_of, inverse}
+use Rattle.conntrack.specs.Phases.{no_flags}
+use Rattle.translation.specs.Ways.{error_way, tracking_of, way_by}
 use Rattle.stepping.specs.Carried.{Arrived, with_tracking}
-use Rattle.stepping.specs.Lookups.{Lookup, look_up, lookup_of, mappings_beside, sought_of, way_of}
+use Rattle.stepping.specs.Lookups.{Lookup, error_belonging, look_up, lookup_of, mappings_beside, sought_of, way_of}
 use Rattle.stepping.specs.Courses.{Course, Leads, dropped}
 use Rattle.stepping.specs.LastStep.{Fate, begun_unless, counted_by, fresh_in, refusal, reply_to, settled, settled_as, uncounted}
 use Rattle.stepping.specs.Next.{FaresAs, FaresIn, Next, answered, at_moment, entry_of, leaving, live_at_record, moment_after, tracked_by}
@@ -95,6 +97,11 @@ first_alike t Nowhere = refl
 first_alike t (Ends id) = refl
 first_alike t (Found place) = refl
 
+error_alike : (b : Belonging) → error_way b ≡ error_way (nameless_belonging b)
+error_alike Nowhere = refl
+error_alike (Ends id) = refl
+error_alike (Found place) = refl
+
 -- whether a connection is begun
 begins_nameless : (b : Belonging) (p : Arrival) (count : Confirmation) → does_begin (what_of_packet b p count) ≡ does_begin (what_of_packet (nameless_belonging b) p count)
 begins_nameless b p Unconfirmed = refl
@@ -139,6 +146,7 @@ module _ (alike : AreAlike) where
   counted_beside : (way : Way) (held live : List Held) (course : Course) → map nameless held ≡ map nameless live → counted_by way held course ≡ counted_by way live course
   counted_beside (Within of) held live course same = refl
   counted_beside (First draft) held live course same = begun_beside draft held live course same
+  counted_beside (About of) held live course same = refl
   counted_beside Astray held live course same = refl
 
 module _ (alike : AreAlike) (held live : List Held) (same : map nameless held ≡ map nameless live) (d : IsTrue (has_distinct_ids held)) (d' : IsTrue (has_distinct_ids live)) where
@@ -167,9 +175,15 @@ module _ (alike : AreAlike) (held live : List Held) (same : map nameless held �
   in_live sought = option_map (look_up live) sought
 
   -- how it stands to connections
-  way_same : (sought : Option Sought) → way_of (in_held sought) ≡ way_of (in_live sought)
-  way_same None = refl
-  way_same (Some s) =
+  error_same : (inner : Option Tuple) → error_way (error_belonging held inner) ≡ error_way (error_belonging live inner)
+  error_same None = refl
+  error_same (Some t) =
+      error_alike (belongs_in held (inverse t) no_flags) ∙ ap error_way (alike.belonging held live (inverse t) no_flags same)
+      ∙ sym (error_alike (belongs_in live (inverse t) no_flags))
+
+  way_same : (p : List ℕ) (sought : Option Sought) → way_of held p (in_held sought) ≡ way_of live p (in_live sought)
+  way_same p None = error_same (inner_tuple_of p)
+  way_same p (Some s) =
       first_alike s.tuple (one s).belonging ∙ ap (way_by s.tuple) (belongs_same s) ∙ sym (first_alike s.tuple (other s).belonging)
 
   -- the mappings that are live then
@@ -196,12 +210,12 @@ module _ (alike : AreAlike) (held live : List Held) (same : map nameless held �
   began_alike now (Err cause) count = refl
 
   -- how it is led
-  leads_same : (setup : Setup) (sought : Option Sought) (early : End) (course : Course)
-      → Leads setup (mappings_beside held (in_held sought)) (way_of (in_held sought)) (with_tracking (tracking_of (way_of (in_held sought))) early.facts) early.events course
-      → Leads setup (mappings_beside live (in_live sought)) (way_of (in_live sought)) (with_tracking (tracking_of (way_of (in_live sought))) early.facts) early.events course
-  leads_same setup sought early course leads =
-      subst (λ (way : Way). Leads setup (mappings_beside live (in_live sought)) way (with_tracking (tracking_of way) early.facts) early.events course) (way_same sought)
-      (subst (λ (mappings : List Mapping). Leads setup mappings (way_of (in_held sought)) (with_tracking (tracking_of (way_of (in_held sought))) early.facts) early.events course) (beside_same sought) leads)
+  leads_same : (setup : Setup) (p : List ℕ) (sought : Option Sought) (early : End) (course : Course)
+      → Leads setup (mappings_beside held (in_held sought)) (way_of held p (in_held sought)) (with_tracking (tracking_of (way_of held p (in_held sought))) early.facts) early.events course
+      → Leads setup (mappings_beside live (in_live sought)) (way_of live p (in_live sought)) (with_tracking (tracking_of (way_of live p (in_live sought))) early.facts) early.events course
+  leads_same setup p sought early course leads =
+      subst (λ (way : Way). Leads setup (mappings_beside live (in_live sought)) way (with_tracking (tracking_of way) early.facts) early.events course) (way_same p sought)
+      (subst (λ (mappings : List Mapping). Leads setup mappings (way_of held p (in_held sought)) (with_tracking (tracking_of (way_of held p (in_held sought))) early.facts) early.events course) (beside_same sought) leads)
 
   -- how it fares
   pub fares_same : (setup : Setup) (arrived : Result Arrived Cause) (fate : Fate) → FaresAs setup held (answered held arrived) arrived fate → FaresAs setup live (answered live arrived) arrived fate
@@ -210,10 +224,10 @@ module _ (alike : AreAlike) (held live : List Held) (same : map nameless held �
     early = fares.early;
     first = fares.first;
     stopped = fares.stopped;
-    goes_on = λ on. let before : FaresIn setup held (lookup_of held a.packet) fares.early fate = fares.goes_on on in
+    goes_on = λ on. let before : FaresIn setup held (lookup_of held a.packet) a.packet fares.early fate = fares.goes_on on in
         record {
           course = before.course;
-          leads = leads_same setup (sought_of a.packet) fares.early before.course before.leads;
+          leads = leads_same setup a.packet (sought_of a.packet) fares.early before.course before.leads;
           is = before.is ∙ settled_same (sought_of a.packet) before.course;
         };
   }

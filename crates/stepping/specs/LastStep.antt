@@ -14,7 +14,7 @@ use Rattle.story.specs.declared.outcome.Outcome.{Outcome}
 use Rattle.story.specs.declared.outcome.Outcome.TheVariants.{Passed, Local, Dropped}
 use Rattle.translation.specs.declared.way.Draft.{Draft}
 use Rattle.translation.specs.declared.way.Way.{Way}
-use Rattle.translation.specs.declared.way.Way.TheVariants.{Within, First, Astray}
+use Rattle.translation.specs.declared.way.Way.TheVariants.{Within, About, First, Astray}
 use Rattle.translation.specs.Mapped.{mappings_in}
 use Rattle.stepping.specs.Lookups.{Lookup}
 use Rattle.stepping.specs.Courses.{Course, dropped}
@@ -91,6 +91,8 @@ begun_unless (Some cause) others draft course = uncounted (dropped cause course.
 abbrev pub counted_by : Way → List Held → Course → Fate
 counted_by (Within of) others course = counted of.reply course
 counted_by (First draft) others course = begun_unless (refusal (reply_to draft) others) others draft course
+-- an error is none of its connection's packets
+counted_by (About of) others course = uncounted course
 counted_by Astray others course = uncounted course
 
 -- one that doesn't changes nothing of its connection (own)

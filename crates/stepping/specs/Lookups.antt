@@ -5,17 +5,18 @@ use Rattle.ip_headers.specs.declared.transport.Transport.{Transport}
 use Rattle.ip_headers.specs.declared.transport.Transport.TheVariants as transports
 use Rattle.ip_headers.specs.declared.tuple.Mapping.{Mapping}
 use Rattle.ip_headers.specs.Header.{transport_of}
-use Rattle.ip_headers.specs.Tuple.{tuple_of}
+use Rattle.ip_headers.specs.Tuple.{inner_tuple_of, inverse, tuple_of}
+use Rattle.ip_headers.specs.declared.tuple.Tuple.{Tuple}
 use Rattle.conntrack.specs.declared.belonging.Belonging.{Belonging}
+use Rattle.conntrack.specs.declared.belonging.Belonging.TheVariants.{Nowhere}
 use Rattle.conntrack.specs.declared.connection.Flags.{Flags}
 use Rattle.conntrack.specs.declared.connection.Held.{Held}
 use Rattle.conntrack.specs.Phases.{flags_of, no_flags}
 use Rattle.conntrack.specs.Held.{belongs_in}
 use Rattle.conntrack.specs.Updates.{after_end}
 use Rattle.translation.specs.declared.way.Way.{Way}
-use Rattle.translation.specs.declared.way.Way.TheVariants.{Astray}
 use Rattle.translation.specs.Mapped.{mappings_in}
-use Rattle.translation.specs.Ways.{way_by}
+use Rattle.translation.specs.Ways.{error_way, way_by}
 use Rattle.stepping.specs.declared.sought.Sought.{Sought}
 
 -- ---- what it is looked up by
@@ -59,8 +60,15 @@ others_in live (Some l) = l.others
 abbrev pub mappings_beside : List Held → Option Lookup → List Mapping
 mappings_beside live lookup = mappings_in (others_in live lookup)
 
--- ---- its way: within a connection, as the first of one, or neither
+-- ---- its way: within a connection, about one, as the first of one, or none of these
 
-abbrev pub way_of : Option Lookup → Way
-way_of None = Astray
-way_of (Some l) = way_by l.sought.tuple l.belonging
+-- an ICMP error belongs where the way back of the packet does that it is about, if it is about one that has a tuple
+-- (RFC 5508, section 4.2); whether that was a lone SYN isn't asked
+abbrev pub error_belonging : List Held → Option Tuple → Belonging
+error_belonging live None = Nowhere
+error_belonging live (Some t) = belongs_in live (inverse t) no_flags
+
+-- of a packet, by its look-up; what isn't looked up may be an error
+abbrev pub way_of : List Held → List ℕ → Option Lookup → Way
+way_of live p None = error_way (error_belonging live (inner_tuple_of p))
+way_of live p (Some l) = way_by l.sought.tuple l.belonging

@@ -28,11 +28,11 @@ use Rattle.stepping.specs.LastStep.{Fate, settled, unseen}
 
 -- a packet that the early chains let through, of which the connections alive answer this: the rules lead it, and the
 -- last step follows
-pub record FaresIn (setup : Setup) (live : List Held) (lookup : Option Lookup) (early : End) (fate : Fate)
+pub record FaresIn (setup : Setup) (live : List Held) (lookup : Option Lookup) (p : List ℕ) (early : End) (fate : Fate)
     : Type 0 where
   pub course : Course
-  pub leads : Leads setup (mappings_beside live lookup) (way_of lookup)
-      (with_tracking (tracking_of (way_of lookup)) early.facts) early.events course
+  pub leads : Leads setup (mappings_beside live lookup) (way_of live p lookup)
+      (with_tracking (tracking_of (way_of live p lookup)) early.facts) early.events course
   pub is : fate ≡ settled lookup course
 
 -- the early chains come first: what they drop isn't looked up
@@ -41,7 +41,7 @@ pub record Fares (setup : Setup) (live : List Held) (lookup : Option Lookup) (a 
   pub early : End
   pub first : Early setup.plant setup.rules (arriving setup a) [] early
   pub stopped : Stops early.ending → fate ≡ unseen (stopped_at early)
-  pub goes_on : GoesOn early.ending → FaresIn setup live lookup early fate
+  pub goes_on : GoesOn early.ending → FaresIn setup live lookup a.packet early fate
 
 -- what carries no packet is dropped for its cause, and nothing happens
 abbrev pub FaresAs : Setup → List Held → Option Lookup → Result Arrived Cause → Fate → Type 0
@@ -62,7 +62,7 @@ length_of (Err cause) = 0
 
 -- the packet as it is sent on: with the tuple of its connection, and its TTL lowered
 abbrev pub sent_on : List ℕ → Way → Outcome → List ℕ
-sent_on p way (Passed interface) = rewritten p (change_of way (ttl p - 1))
+sent_on p way (Passed interface) = rewritten p (change_of way p (ttl p - 1))
 sent_on p way Local = []
 sent_on p way (Dropped cause) = []
 

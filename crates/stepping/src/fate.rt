@@ -100,7 +100,7 @@ fn pass<T: Tracker>(
     let view = &incoming.view;
     let mut facts = arriving(view, incoming.input);
     setup.run(Part::Early, &mut facts, events)?;
-    let looked = look_up(connections, sought_of(view), now);
+    let looked = look_up(connections, sought_of(view), view, now);
     let mut way = looked.way;
     note_tracking(&mut facts, way.tracking());
     let led = lead(setup, connections.mappings(), &mut way, &mut facts, events)?;
@@ -119,7 +119,7 @@ fn send(view: &View, way: &Way, bound: Bound, packet: &mut Vec<u8>)
     let Bound::Passed(_) = bound else {
         return;
     };
-    let change = way.change(view.ttl().saturating_sub(1));
+    let change = way.change(view, view.ttl().saturating_sub(1));
     let Ok(()) = emit(view, &change, packet) else {
         unreachable!()
     };

@@ -52,6 +52,8 @@ pub fn settle<T: Tracker>(
             Ok(settled)
         }
         Way::First(draft) => begin(connections, draft, flags, led, now),
+        // An error is none of its connection's packets.
+        Way::About(_) => Ok(settled),
         Way::Astray => Ok(settled),
     }
 }

@@ -4,7 +4,7 @@ use Rattle.ip_headers.specs.declared.tuple.Mapping.{Mapping}
 use Rattle.nat_mapping.specs.Mappings.{IsOneToOne}
 use Rattle.translation.specs.declared.way.Draft.{Draft}
 use Rattle.translation.specs.declared.way.Way.{Way}
-use Rattle.translation.specs.declared.way.Way.TheVariants.{Within, First, Astray}
+use Rattle.translation.specs.declared.way.Way.TheVariants.{Within, About, First, Astray}
 use Rattle.translation.specs.Mapped.{listed}
 
 -- among these live mappings: with its source's they stay one to one, and the one of its destination is one of them
@@ -16,4 +16,5 @@ pub record IsFitting (draft : Draft) (mappings : List Mapping) : Type 0 where
 abbrev pub Fits : Way → List Mapping → Type 0
 Fits (First draft) mappings = IsFitting draft mappings
 Fits (Within of) mappings = Unit {0}
+Fits (About of) mappings = Unit {0}
 Fits Astray mappings = Unit {0}

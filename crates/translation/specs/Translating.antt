@@ -17,7 +17,7 @@ use Rattle.rule_meaning.specs.declared.event.Ending.{Ending}
 use Rattle.rule_meaning.specs.declared.event.Ending.TheVariants.{Accepted, Dropped, Translated}
 use Rattle.translation.specs.declared.way.Draft.{Draft}
 use Rattle.translation.specs.declared.way.Way.{Way}
-use Rattle.translation.specs.declared.way.Way.TheVariants.{Within, First, Astray}
+use Rattle.translation.specs.declared.way.Way.TheVariants.{Within, About, First, Astray}
 use Rattle.translation.specs.declared.external.Outside.{Outside}
 
 -- only TCP and UDP have ports; the identifier of an echo isn't one
@@ -76,6 +76,7 @@ draft_to plant mappings f draft Dropped = draft
 abbrev pub way_to : PlantTree → List Mapping → Facts → Way → Ending → Way
 way_to plant mappings f (First draft) ending = First (draft_to plant mappings f draft ending)
 way_to plant mappings f (Within of) ending = Within of
+way_to plant mappings f (About of) ending = About of
 way_to plant mappings f Astray ending = Astray
 
 -- ---- the source
@@ -134,4 +135,5 @@ abbrev pub way_from : PlantTree → List Mapping → Facts → Way → Ending �
 way_from plant mappings f (First draft) ending =
     option_map (λ after. First after) (draft_from mappings draft (outside plant f draft ending))
 way_from plant mappings f (Within of) ending = Some (Within of)
+way_from plant mappings f (About of) ending = Some (About of)
 way_from plant mappings f Astray ending = Some Astray

@@ -1,9 +1,10 @@
 -- How a packet stands to connections, between which endpoints it goes by now, and what rules may read of that.
-use Rattle.std.specs.Prelude.{ℕ, Bool, false, not, ◌||◌, if◌then◌else◌, Some, None}
+use Rattle.std.specs.Prelude.{ℕ, Bool, false, not, ◌||◌, ◌==◌, if◌then◌else◌, List, Some, None}
 use Rattle.ip_headers.specs.declared.transport.Transport.{Transport}
 use Rattle.ip_headers.specs.declared.transport.Transport.TheVariants as transports
 use Rattle.ip_headers.specs.declared.tuple.Endpoint.{Endpoint}
 use Rattle.ip_headers.specs.declared.tuple.Tuple.{Tuple}
+use Rattle.ip_headers.specs.Header.{source, destination}
 use Rattle.ip_headers.specs.Same.{same_endpoint}
 use Rattle.ip_headers.specs.Tuple.{inverse}
 use Rattle.rewrite.specs.declared.change.Change.{Change}
@@ -28,9 +29,17 @@ use Rattle.rule_meaning.specs.declared.facts.Tracking.TheVariants.{Unknown, Inva
 use Rattle.translation.specs.declared.way.Draft.{Draft}
 use Rattle.translation.specs.declared.way.Membership.{Membership}
 use Rattle.translation.specs.declared.way.Way.{Way}
-use Rattle.translation.specs.declared.way.Way.TheVariants.{Within, First, Astray}
+use Rattle.translation.specs.declared.way.Way.TheVariants.{Within, About, First, Astray}
 
 -- ---- the tuples of a connection
+
+-- with this one the packets of a direction come
+abbrev pub incoming_by : Direction → Tuple → Tuple → Tuple
+incoming_by sides.Original original reply = original
+incoming_by sides.Reply original reply = reply
+
+abbrev pub incoming : Membership → Tuple
+incoming of = incoming_by of.direction of.original of.reply
 
 -- with this one the packets of a direction leave: the inverse of the one with which those of the other direction come
 abbrev pub outgoing_by : Direction → Tuple → Tuple → Tuple
@@ -66,9 +75,16 @@ abbrev pub way_by : Tuple → Belonging → Way
 way_by t (Found place) = Within (membership_of place)
 way_by t other = first_way (first_state t.kind) t
 
+-- an ICMP error is about a packet of a connection where the way back of that packet is one of the connection
+-- (RFC 5508, section 4.2); else it is of none
+abbrev pub error_way : Belonging → Way
+error_way (Found place) = About (membership_of place)
+error_way other = Astray
+
 -- as it was when it was found, before anything was translated
 abbrev pub untranslated : Way → Way
 untranslated (Within of) = Within of
+untranslated (About of) = About of
 untranslated (First draft) = First (draft_of draft.original)
 untranslated Astray = Astray
 
@@ -84,12 +100,12 @@ is_answered of = is_reply of.direction || of.replied
 
 -- of the connection that it belongs to: in direction original its packets leave with the inverse of the reply tuple, so
 -- an end is translated where that differs from the one received
-abbrev pub known_of : ConnectionState → Membership → Tracking
-known_of state of = Known (record {
+abbrev pub known_of : ConnectionState → Bool → Membership → Tracking
+known_of state seen_reply of = Known (record {
   state = state;
   direction = direction_of of.direction;
   mark = of.mark;
-  seen_reply = is_answered of;
+  seen_reply = seen_reply;
   source_translated = not (same_endpoint (inverse of.reply).source of.original.source);
   destination_translated = not (same_endpoint (inverse of.reply).destination of.original.destination);
 })
@@ -112,7 +128,9 @@ first_known draft = drafted draft (record {
 })
 
 abbrev pub tracking_of : Way → Tracking
-tracking_of (Within of) = known_of (if is_answered of then states.Established else states.New) of
+tracking_of (Within of) = known_of (if is_answered of then states.Established else states.New) (is_answered of) of
+-- an error isn't a reply itself
+tracking_of (About of) = known_of states.Related of.replied of
 tracking_of (First draft) = Known (first_known draft)
 tracking_of Astray = Invalid
 
@@ -122,6 +140,7 @@ tracking_on (First draft) (Known c) = Known (drafted draft c)
 tracking_on (First draft) Unknown = Unknown
 tracking_on (First draft) Invalid = Invalid
 tracking_on (Within of) tracking = tracking
+tracking_on (About of) tracking = tracking
 tracking_on Astray tracking = tracking
 
 -- ---- what rules may read of its headers
@@ -144,15 +163,26 @@ packet_from e p = record p { source = e.address; transport = with_source_port e.
 abbrev pub packet_to : Endpoint → Packet → Packet
 packet_to e p = record p { destination = e.address; transport = with_destination_port e.port p.transport }
 
+-- an error comes from a host on the way, and goes to the one that sent the packet: its own addresses are translated
+-- where they are those of its connection's packets (RFC 5508, section 4.2)
+abbrev pub outer_source : Membership → ℕ → ℕ
+outer_source of address = if address == (incoming of).source.address then (outgoing of).source.address else address
+
+abbrev pub outer_destination : Membership → ℕ → ℕ
+outer_destination of address =
+    if address == (incoming of).destination.address then (outgoing of).destination.address else address
+
 -- going to where its connection leads by now
 abbrev pub headers_to : Way → Packet → Packet
 headers_to (Within of) p = packet_to (outgoing of).destination p
+headers_to (About of) p = record p { destination = outer_destination of p.destination }
 headers_to (First draft) p = packet_to draft.tuple.destination p
 headers_to Astray p = p
 
 -- coming from where its connection begins by now
 abbrev pub headers_from : Way → Packet → Packet
 headers_from (Within of) p = packet_from (outgoing of).source p
+headers_from (About of) p = record p { source = outer_source of p.source }
 headers_from (First draft) p = packet_from draft.tuple.source p
 headers_from Astray p = p
 
@@ -166,8 +196,16 @@ facts_from way f = record f { packet = headers_from way f.packet; tracking = tra
 
 -- ---- what becomes of its bytes
 
--- a packet that leaves with this TTL has the tuple with which the packets of its connection leave
-abbrev pub change_of : Way → ℕ → Change
-change_of (Within of) ttl = between (outgoing of) (Some ttl)
-change_of (First draft) ttl = between draft.tuple (Some ttl)
-change_of Astray ttl = record { source = None; destination = None; numbers = None; ttl = Some ttl }
+-- a packet that leaves with this TTL has the tuple with which the packets of its connection leave; an error is then
+-- about one that came back with it
+abbrev pub change_of : Way → List ℕ → ℕ → Change
+change_of (Within of) packet ttl = between (outgoing of) (Some ttl)
+change_of (About of) packet ttl = record {
+  source = Some (outer_source of (source packet));
+  destination = Some (outer_destination of (destination packet));
+  numbers = None;
+  ttl = Some ttl;
+  inner = Some (inverse (outgoing of));
+}
+change_of (First draft) packet ttl = between draft.tuple (Some ttl)
+change_of Astray packet ttl = record { source = None; destination = None; numbers = None; ttl = Some ttl; inner = None }

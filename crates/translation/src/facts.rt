@@ -1,8 +1,8 @@
 //! What rules may read of a packet that was translated.
 ghost use Rattle.std.specs.Prelude.{◌≡◌};
-ghost use Rattle.translation.specs.Ways.{facts_from, facts_to, packet_from, packet_to, tracking_on, with_destination_port, with_source_port};
+ghost use Rattle.translation.specs.Ways.{facts_from, facts_to, outer_destination, outer_source, packet_from, packet_to, tracking_on, with_destination_port, with_source_port};
 
-use crate::way::{Way, outgoing};
+use crate::way::{Membership, Way, incoming, outgoing};
 use ip_headers::{Endpoint, Transport};
 use rule_meaning::{Facts, Packet, Tracking};
 
@@ -13,6 +13,10 @@ pub fn turn_to(way: &Way, facts: &mut Facts)
 {
     facts.packet = match way {
         Way::Within(membership) => packet_to(outgoing(membership).destination, facts.packet),
+        Way::About(membership) => Packet {
+            destination: outer_destination(membership, facts.packet.destination),
+            ..facts.packet
+        },
         Way::First(draft) => packet_to(draft.tuple.destination, facts.packet),
         Way::Astray => facts.packet,
     };
@@ -26,6 +30,10 @@ pub fn turn_from(way: &Way, facts: &mut Facts)
 {
     facts.packet = match way {
         Way::Within(membership) => packet_from(outgoing(membership).source, facts.packet),
+        Way::About(membership) => Packet {
+            source: outer_source(membership, facts.packet.source),
+            ..facts.packet
+        },
         Way::First(draft) => packet_from(draft.tuple.source, facts.packet),
         Way::Astray => facts.packet,
     };
@@ -41,6 +49,28 @@ fn tracking_on(way: &Way, tracking: Tracking) -> Tracking
             Tracking::Known(draft.drafted(connection))
         }
         (_, same) => same,
+    }
+}
+
+/// The source of an ICMP error about a packet of the connection, where it comes with this one.
+pub(crate) fn outer_source(membership: &Membership, address: u32) -> u32
+    ensures { result ≡ outer_source membership.now address }
+{
+    if address == incoming(membership).source.address {
+        outgoing(membership).source.address
+    } else {
+        address
+    }
+}
+
+/// Its destination likewise.
+pub(crate) fn outer_destination(membership: &Membership, address: u32) -> u32
+    ensures { result ≡ outer_destination membership.now address }
+{
+    if address == incoming(membership).destination.address {
+        outgoing(membership).destination.address
+    } else {
+        address
     }
 }
 

@@ -1,8 +1,8 @@
 //! How a packet stands to connections, and what rules may read of that.
 ghost use Rattle.std.specs.Prelude.{◌≡◌, if◌then◌else◌};
 ghost use Rattle.rule_meaning.specs.declared.facts.ConnectionState.TheVariants as states;
-ghost use Rattle.translation.specs.declared.way.Way.TheVariants.{First, Within};
-ghost use Rattle.translation.specs.Ways.{direction_of, draft_of, drafted, membership_of, outgoing, tracking_of, way_by};
+ghost use Rattle.translation.specs.declared.way.Way.TheVariants.{First};
+ghost use Rattle.translation.specs.Ways.{direction_of, draft_of, drafted, error_way, incoming, known_of, membership_of, outgoing, tracking_of, way_by};
 
 use conntrack::{Belonging, Direction, Place};
 use ip_headers::{Kind, Mapping, Tuple};
@@ -43,6 +43,8 @@ pub struct Membership {
 pub enum Way {
     /// It belongs to this connection.
     Within(Membership),
+    /// It is an ICMP error about a packet of this connection, in the direction in which the error goes.
+    About(Membership),
     /// It belongs to none, and begins this one if it goes through.
     First(Draft),
     /// It belongs to none and begins none.
@@ -91,12 +93,29 @@ impl Way {
         }
     }
 
+    /// The way of an ICMP error, where the way back of the packet that it is about belongs so.
+    pub fn of_error(belonging: Belonging) -> Way
+        ensures { result ≡ error_way belonging }
+    {
+        match belonging {
+            Belonging::Found(place) => Way::About(membership_of(&place)),
+            Belonging::Nowhere | Belonging::Ends(_) => Way::Astray,
+        }
+    }
+
     /// What rules may read of the connection of a packet on this way.
     pub fn tracking(&self) -> Tracking
         ensures { result ≡ tracking_of self.now }
     {
         match self {
-            Way::Within(membership) => known_of(membership),
+            Way::Within(membership) => {
+                let answered = membership.direction == Direction::Reply || membership.replied;
+                known_of(state_of(answered), answered, membership)
+            }
+            // An error is no reply itself.
+            Way::About(membership) => {
+                known_of(ConnectionState::Related, membership.replied, membership)
+            }
             Way::First(draft) => first_known(draft),
             Way::Astray => Tracking::Invalid,
         }
@@ -115,6 +134,16 @@ fn membership_of(place: &Place) -> Membership
     }
 }
 
+/// The tuple with which the packets of a direction come.
+pub(crate) fn incoming(membership: &Membership) -> Tuple
+    ensures { result ≡ incoming membership.now }
+{
+    match membership.direction {
+        Direction::Original => membership.original,
+        Direction::Reply => membership.reply,
+    }
+}
+
 /// The tuple with which the packets of a direction leave.
 pub(crate) fn outgoing(membership: &Membership) -> Tuple
     ensures { result ≡ outgoing membership.now }
@@ -127,17 +156,16 @@ pub(crate) fn outgoing(membership: &Membership) -> Tuple
 
 /// What is known of the connection that a packet belongs to. An end of it is translated where its
 /// packets leave with another than they came with.
-fn known_of(membership: &Membership) -> Tracking
-    ensures { result ≡ tracking_of (Within membership.now) }
+fn known_of(state: ConnectionState, seen_reply: bool, membership: &Membership) -> Tracking
+    ensures { result ≡ known_of state seen_reply membership.now }
 {
-    let answered = membership.direction == Direction::Reply || membership.replied;
     let leaving = membership.reply.inverse();
     let original = membership.original;
     Tracking::Known(Connection {
-        state: state_of(answered),
+        state,
         direction: direction_of(membership.direction),
         mark: membership.mark,
-        seen_reply: answered,
+        seen_reply,
         source_translated: leaving.source != original.source,
         destination_translated: leaving.destination != original.destination,
     })

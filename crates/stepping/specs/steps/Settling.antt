@@ -15,7 +15,7 @@ use Rattle.story.specs.declared.outcome.Outcome.TheVariants.{Dropped}
 use Rattle.stepping.specs.declared.leading.Led.{Led}
 use Rattle.stepping.specs.declared.settling.Settled.{Settled}
 use Rattle.translation.specs.declared.way.Way.{Way}
-use Rattle.translation.specs.declared.way.Way.TheVariants.{Within, First, Astray}
+use Rattle.translation.specs.declared.way.Way.TheVariants.{Within, About, First, Astray}
 use Rattle.stepping.specs.Lookups.{Lookup}
 use Rattle.stepping.specs.LastStep.{Fate, counted_by}
 use Rattle.stepping.specs.steps.Leading.{course_of, outcome_of}
@@ -34,6 +34,7 @@ IsHeld (Ends id) held = Unit {0}
 abbrev pub IsOpenFor : Belonging → Way → List Held → Type 0
 IsOpenFor b (Within of) held = IsHeld b held
 IsOpenFor b (First draft) held = is_taken draft.original held ≡ false
+IsOpenFor b (About of) held = Unit {0}
 IsOpenFor b Astray held = Unit {0}
 
 -- ---- what is held after it
@@ -58,6 +59,7 @@ counts_in id flags now b (First draft) (Confirmed mark reply source dest) held =
       dest = dest;
     } in
     held ++ begun_with id connection flags ∷ []
+counts_in id flags now b (About of) (Confirmed mark reply source dest) held = held
 counts_in id flags now b Astray (Confirmed mark reply source dest) held = held
 
 abbrev pub held_by : ConnId → Flags → ℕ → Belonging → Way → Option Confirmation → List Held → List Held
