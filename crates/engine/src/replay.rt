@@ -12,7 +12,7 @@ ghost use Rattle.engine.specs.steps.Replayed.{AllTold, Broke, Interrupts, IsStop
 ghost use Rattle.engine.specs.steps.Written.{Ended, Finished, Unfinished, torn_at};
 
 use crate::fault::RunFault;
-use conntrack::ListTracker;
+use aged_tracker::AgedTracker;
 use pcap_io::{Capture, CaptureError, CaptureFault, Counted, DeviceFailed, Sink, SinkError};
 use report::Report;
 use std::alloc::Global;
@@ -25,7 +25,7 @@ const MOST_WAITING: usize = 4096;
 /// A run among the records of its capture.
 #[derive(Drop)]
 pub(crate) struct Replay {
-    engine: Engine<ListTracker>,
+    engine: Engine<AgedTracker>,
     numbers: Report,
     records: Capture,
     sink: Sink,
@@ -35,7 +35,7 @@ impl Replay {
     /// Before the first record: the header of the capture to write waits or is written.
     pub(crate) fn new<W: Write>(
         alloc: Global,
-        engine: Engine<ListTracker>,
+        engine: Engine<AgedTracker>,
         records: Capture,
         trace: bool,
         sent: &mut Counted<W>,

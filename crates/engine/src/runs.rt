@@ -13,8 +13,8 @@ ghost use Rattle.engine.specs.steps.Written.{IsWithin, SaysWithin, Told};
 use crate::fault::RunFault;
 use crate::inputs::checked;
 use crate::replay::Replay;
+use aged_tracker::AgedTracker;
 use box_file::one_box;
-use conntrack::ListTracker;
 use nft_parser::one_tree;
 use pcap_io::{Capture, CaptureError, Counted, one_reading};
 use std::alloc::Global;
@@ -98,7 +98,7 @@ pub fn run<R: Read, W: Write, W2: Write>(
 /// Writes the capture and the report of an accepted capture, and flushes both writers.
 fn write_texts<R: Read, W: Write, W2: Write>(
     alloc: Global,
-    engine: Engine<ListTracker>,
+    engine: Engine<AgedTracker>,
     records: Capture,
     trace: bool,
     capture: &mut Counted<R>,
