@@ -14,17 +14,6 @@ route 0.0.0.0/0 wan
 default lan
 ";
 
-/// Answers come in from `wan`, and only hosts of `lan` begin connections.
-pub const FIREWALL: &str = "table ip fw {
- chain in { type filter hook input priority filter; policy drop;
- }
- chain fwd { type filter hook forward priority filter; policy drop;
-  ct state established,related accept
-  iifname \"lan\" accept
- }
-}
-";
-
 /// A run, and what it has to give.
 #[derive(Clone, Copy)]
 pub struct Row<'a> {
@@ -136,13 +125,5 @@ pub fn gives<R: Abort + AllocGlobal>(rt: &R, row: &Row<'_>, number: usize) -> Re
     assert!(rt; status.as_str() == "nftrun: done", "{status} for {rules}");
     assert!(rt; told == report.as_str(), "row {number}, {rules}: {told}");
     assert!(rt; given.sent == sent, "packets of row {number}, {rules}");
-    Ok(())
-}
-
-/// Each run has to give what its row tells.
-pub fn give<R: Abort + AllocGlobal>(rt: &R, rows: &[Row<'_>]) -> Result<(), Fail> {
-    for (number, row) in rows.iter().enumerate() {
-        gives(rt, row, number)?;
-    }
     Ok(())
 }

@@ -2,20 +2,12 @@
 #![tactic(auto)]
 
 #[cfg(test)]
-mod answers;
-#[cfg(test)]
-mod dropped;
-#[cfg(test)]
 mod given;
-#[cfg(test)]
-mod limits;
 #[cfg(test)]
 mod listed;
 #[cfg(test)]
 mod packets;
 #[cfg(test)]
 mod searched;
-#[cfg(test)]
-mod selectors;
 #[cfg(test)]
 mod stories;

@@ -46,7 +46,7 @@ fn kind(load: Load) -> Kind {
         Load::Tcp(_) => Kind::Tcp,
         Load::Ask => Kind::Ask,
         Load::Other(protocol) => Kind::Other(protocol),
-        Load::Answer | Load::Unreachable | Load::NotIp => Kind::Answer,
+        Load::Answer => Kind::Answer,
     }
 }
 

@@ -15,23 +15,6 @@ pub struct End {
     pub port: u16,
 }
 
-/// 192.168.1.10:5000.
-pub const INSIDE: End = End {
-    address: 0xc0a8_010a,
-    port: 5000,
-};
-
-/// 198.51.100.7:53, and its other ports.
-pub const OUTSIDE: End = End {
-    address: 0xc633_6407,
-    port: 53,
-};
-
-pub const WEB: End = End {
-    port: 80,
-    ..OUTSIDE
-};
-
 /// Control bits of TCP.
 pub const FIN: u8 = 1;
 
@@ -52,13 +35,8 @@ pub enum Load {
     Ask,
     /// Its reply.
     Answer,
-    /// The ICMP error that the destination of a UDP datagram from `INSIDE` to `OUTSIDE` can't be
-    /// reached.
-    Unreachable,
     /// Nothing, by this protocol.
     Other(u8),
-    /// No packet of IPv4.
-    NotIp,
 }
 
 /// A record.
@@ -74,51 +52,13 @@ pub struct Came {
     pub load: Load,
 }
 
-/// At 0 seconds: UDP that leaves by `wan`, and its answer.
-pub const OUT: Came = Came {
-    at: (0, 0),
-    by: LAN,
-    from: INSIDE,
-    to: OUTSIDE,
-    ttl: 64,
-    load: Load::Udp,
-};
-
-pub const BACK: Came = Came {
-    by: WAN,
-    from: OUTSIDE,
-    to: INSIDE,
-    ..OUT
-};
-
-/// TCP with SYN, and the answer with SYN and ACK.
-pub const SYN_OUT: Came = Came {
-    to: WEB,
-    load: Load::Tcp(SYN),
-    ..OUT
-};
-
-pub const SYN_ACK_BACK: Came = Came {
-    from: WEB,
-    load: Load::Tcp(SYN | ACK),
-    ..BACK
-};
-
-/// A record that carries no packet.
-pub const NO_PACKET: Came = Came {
-    load: Load::NotIp,
-    ..OUT
-};
-
 impl Came {
     /// The length of the packet in bytes.
     pub fn length(&self) -> u16 {
         match self.load {
             Load::Udp | Load::Ask | Load::Answer => 28,
             Load::Tcp(_) => 40,
-            Load::Unreachable => 56,
             Load::Other(_) => 20,
-            Load::NotIp => 0,
         }
     }
 
@@ -127,9 +67,8 @@ impl Came {
         match self.load {
             Load::Udp => 17,
             Load::Tcp(_) => 6,
-            Load::Ask | Load::Answer | Load::Unreachable => 1,
+            Load::Ask | Load::Answer => 1,
             Load::Other(protocol) => protocol,
-            Load::NotIp => 0,
         }
     }
 
@@ -189,8 +128,7 @@ impl Came {
             }
             Load::Ask => put_echo(all, 8, self.from.port)?,
             Load::Answer => put_echo(all, 0, self.to.port)?,
-            Load::Unreachable => put_error(all)?,
-            Load::Other(_) | Load::NotIp => {}
+            Load::Other(_) => {}
         }
         Ok(())
     }
@@ -216,18 +154,11 @@ impl Came {
     /// Appends the record as it comes.
     pub fn put(&self, all: &mut Vec<u8>) -> Result<(), Fail> {
         self.put_record(all, self.length())?;
-        if self.load == Load::NotIp {
-            all.extend_from_slice(&[0x86, 0xdd, 0, 0])?;
-        } else {
-            all.extend_from_slice(&[8, 0, 0, 0])?;
-        }
+        all.extend_from_slice(&[8, 0, 0, 0])?;
         all.extend_from_slice(&self.by.to_be_bytes())?;
         all.extend_from_slice(&[0, 1, 0, 6, 2, 0, 0, 0, 0, 1, 0, 0])?;
-        if self.load != Load::NotIp {
-            all.extend_from_slice(&self.header(self.ttl))?;
-            self.put_load(all)?;
-        }
-        Ok(())
+        all.extend_from_slice(&self.header(self.ttl))?;
+        self.put_load(all)
     }
 
     /// Appends the record as its packet leaves.
@@ -246,15 +177,6 @@ fn put_echo(all: &mut Vec<u8>, message: u8, identifier: u16) -> Result<(), Fail>
     all.extend_from_slice(&[message, 0, 0, 0])?;
     all.extend_from_slice(&identifier.to_be_bytes())?;
     all.extend_from_slice(&[0, 1])?;
-    Ok(())
-}
-
-/// Appends the error of type 3 for a datagram from 192.168.1.10:5000 to 198.51.100.7:53.
-fn put_error(all: &mut Vec<u8>) -> Result<(), Fail> {
-    all.extend_from_slice(&[3, 1, 0, 0, 0, 0, 0, 0])?;
-    all.extend_from_slice(&[0x45, 0, 0, 28, 0, 1, 0, 0, 63, 17, 0x8f, 0xe3])?;
-    all.extend_from_slice(&[192, 168, 1, 10, 198, 51, 100, 7])?;
-    all.extend_from_slice(&[0x13, 0x88, 0, 53, 0, 8, 0, 0])?;
     Ok(())
 }
 

@@ -57,9 +57,7 @@ fn ends_of(came: &Came) -> (End, End) {
         Load::Udp | Load::Tcp(_) => (from, to),
         Load::Ask => (from, End { port: 0, ..to }),
         Load::Answer => (End { port: 0, ..from }, to),
-        Load::Unreachable | Load::Other(_) | Load::NotIp => {
-            (End { port: 0, ..from }, End { port: 0, ..to })
-        }
+        Load::Other(_) => { (End { port: 0, ..from }, End { port: 0, ..to }) }
     }
 }
 
@@ -271,7 +269,7 @@ pub fn next(past: &[Past], came: Came) -> Past {
             ..unknown
         },
         Belonging::Nowhere => match came.load {
-            Load::Answer | Load::Unreachable => unknown,
+            Load::Answer => unknown,
             _ => Past {
                 state: State::New,
                 connection: kept(&unknown, place),

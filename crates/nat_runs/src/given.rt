@@ -1,5 +1,4 @@
 //! Runs, and what each one has to give.
-use crate::packets::{Came, Left, capture, capture_left};
 use engine::run;
 use pcap_io::Counted;
 use program::Status;
@@ -29,18 +28,6 @@ table ip fw {
  }
 }
 ";
-
-/// A run, and what it has to give.
-#[derive(Clone, Copy)]
-pub struct Row<'a> {
-    pub rules: &'a str,
-    pub came: &'a [Came],
-    pub left: &'a [Left],
-    /// The lines before the totals.
-    pub told: &'a str,
-    /// The totals that aren't 0, but for the number of records and of those that leave.
-    pub totals: &'a [(&'a str, usize)],
-}
 
 /// What a run gives.
 #[derive(Drop)]
@@ -135,26 +122,5 @@ pub fn has<R: Abort + AllocGlobal>(
     assert!(rt; status.as_str() == "nftrun: done", "{status}: {name}");
     assert!(rt; told == report, "{name}: {told}");
     assert!(rt; given.sent.as_slice() == sent, "packets: {name}");
-    Ok(())
-}
-
-/// The run has to give what its row tells.
-fn gives<R: Abort + AllocGlobal>(rt: &R, row: &Row<'_>, number: usize) -> Result<(), Fail> {
-    let capture = capture(rt.alloc(), row.came)?;
-    let given = run_over(rt.alloc(), row.rules, BOX, &capture, false);
-    let mut totals = row.totals.to_vec(rt.alloc())?;
-    totals.push(("records", row.came.len()))?;
-    totals.push(("passed", row.left.len()))?;
-    let report = report(rt.alloc(), row.told, &totals)?;
-    let sent = capture_left(rt.alloc(), row.came, row.left)?;
-    let name = format!(in rt.alloc(); "row {number} of {}", row.rules)?;
-    has(rt, &given, &sent, report.as_str(), name.as_str())
-}
-
-/// Each run has to give what its row tells.
-pub fn give<R: Abort + AllocGlobal>(rt: &R, rows: &[Row<'_>]) -> Result<(), Fail> {
-    for (number, row) in rows.iter().enumerate() {
-        gives(rt, row, number)?;
-    }
     Ok(())
 }

@@ -3,19 +3,11 @@
 #![tactic(auto)]
 
 #[cfg(test)]
-mod answers;
-#[cfg(test)]
-mod bytes;
-#[cfg(test)]
 mod given;
 #[cfg(test)]
 mod listed;
 #[cfg(test)]
 mod packets;
-#[cfg(test)]
-mod ports;
-#[cfg(test)]
-mod ruled;
 #[cfg(test)]
 mod searched;
 #[cfg(test)]

@@ -13,21 +13,15 @@ pub const WAN: u32 = 3;
 #[derive(Clone, Copy, PartialEq, Eq)]
 pub struct End(pub u32, pub u16);
 
-/// Hosts of `lan`: 192.168.1.10, .11 and .20.
+/// Hosts of `lan`: 192.168.1.10 and .11.
 pub const A: u32 = 0xc0a8_010a;
 
 pub const A2: u32 = 0xc0a8_010b;
 
-pub const SERVER: u32 = 0xc0a8_0114;
-
-/// Hosts behind `wan`: 198.51.100.7 and .9.
+/// A host behind `wan`: 198.51.100.7.
 pub const B: u32 = 0xc633_6407;
 
-pub const B2: u32 = 0xc633_6409;
-
-/// The box at `lan`, 192.168.1.1, and at `wan`, 203.0.113.1.
-pub const GATE: u32 = 0xc0a8_0101;
-
+/// The box at `wan`, 203.0.113.1.
 pub const E: u32 = 0xcb00_7101;
 
 /// Control bits of TCP.
@@ -68,7 +62,7 @@ pub struct Came {
     pub load: Load,
 }
 
-/// At 0 seconds: UDP that leaves by `wan`, and its answer.
+/// At 0 seconds: UDP that leaves by `wan`.
 pub const OUT: Came = Came {
     at: (0, 0),
     by: LAN,
@@ -76,32 +70,6 @@ pub const OUT: Came = Came {
     to: End(B, 53),
     ttl: 64,
     load: Load::Udp,
-};
-
-pub const BACK: Came = Came {
-    by: WAN,
-    from: End(B, 53),
-    to: End(E, 5000),
-    ..OUT
-};
-
-/// TCP with SYN, and the answer with SYN and ACK.
-pub const SYN_OUT: Came = Came {
-    to: End(B, 80),
-    load: Load::Tcp(SYN),
-    ..OUT
-};
-
-pub const SYN_ACK_BACK: Came = Came {
-    from: End(B, 80),
-    load: Load::Tcp(SYN | ACK),
-    ..BACK
-};
-
-/// A record that carries no packet.
-pub const NO_PACKET: Came = Came {
-    load: Load::NotIp,
-    ..OUT
 };
 
 /// The header of UDP behind what its checksum covers before it: addresses, protocol and length
@@ -247,7 +215,7 @@ pub struct Left(pub usize, pub End, pub End);
 const IN_HEADER: &str = "4d3cb2a1020004000000000000000000ffff000014010000";
 
 /// The same with snaplen 262,144, as it is written.
-pub const OUT_HEADER: &str = "4d3cb2a10200040000000000000000000000040014010000";
+const OUT_HEADER: &str = "4d3cb2a10200040000000000000000000000040014010000";
 
 /// A capture of these records.
 pub fn capture(alloc: Global, came: &[Came]) -> Result<Vec<u8>, Fail> {
