@@ -26,6 +26,10 @@ use Rattle.engine.specs.steps.Written.{Ended, Finished, IsWithin, SaysWithin, To
 use Rattle.engine.proofs.Stories.{story_length}
 use Rattle.engine.proofs.Known.{nothing}
 
+-- what is Ok is no Err, whatever it holds
+pub not_err : {A : Type 0} {B : Type 0} {x : A} {e : B} → (let ok : Result A B = Ok x in ok ≡ Err e) → ⊥
+not_err is = cc
+
 -- ---- how the records stop
 
 abbrev IsCapture : RunFault → Type 0

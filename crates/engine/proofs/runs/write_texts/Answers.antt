@@ -3,7 +3,7 @@ use Rattle.std.proofs.lemmas.Result.{err_from_is_err_and}
 use Rattle.engine.specs.Left.{Devices}
 use Rattle.engine.specs.steps.Replayed.{Interrupts, Replayed, Start, ending_at}
 use Rattle.engine.specs.steps.Written.{start_of}
-use Rattle.engine.proofs.Texts.{as_opened, failed_after, failed_ending, fault_as, interrupted_by_none, interrupted_within, no_device, refused_by_none, says_begun, says_ended, says_interrupted, told_all, untouched, within_end}
+use Rattle.engine.proofs.Texts.{as_opened, failed_after, failed_ending, fault_as, interrupted_by_none, interrupted_within, no_device, not_err, refused_by_none, says_begun, says_ended, says_interrupted, told_all, untouched, within_end}
 use Rattle.engine.proofs.runs.write_texts.Goals as goal
 
 pub returns-in_err-replay-clause-left : goal.returns-in_err-replay-clause-left
@@ -31,7 +31,7 @@ returns-in_err-torn-clause-left g c =
     let new : Devices = record { unread = g.R.Read.remaining c.play.new.capture.inner; sent = g.W.Write.contents c.finish.new.sent.inner; report = g.W2.Write.contents c.finish.new.report.inner; reads_failed = c.play.new.capture.failures; sends_failed = c.finish.new.sent.failures; reports_failed = c.finish.new.report.failures } in
     let start : Start = start_of c.args.engine.setup c.args.trace old in
     let q = err_from_is_err_and c.from_residual-in_err-torn.result c.from_residual-in_err-torn.ensures.1 in
-    let calm = c.in_ok-stop.ensures.calm (λ e. cc) in
+    let calm = c.in_ok-stop.ensures.calm not_err in
     rw q.1 (rw q.2 (says_ended c.play.new.self _ _ _ _ (g.W.Write.contents c.play.new.sent.inner) (g.W2.Write.contents c.play.new.report.inner) c.in_ok-stop.stop old new c.play.new.report.failures c.in_err-torn.field-0.0
     c.in_ok-stop.ensures.stop c.in_err-torn.ensures.kinds calm.0 calm.2 (λ story s. c.in_err-torn.ensures.ended start story s)
     (as_opened c.in_ok-replay.replay.records c.args.records _
@@ -41,9 +41,9 @@ returns-in_err-torn-clause-left g c =
 pub returns-in_err-torn-clause-calm : goal.returns-in_err-torn-clause-calm
 returns-in_err-torn-clause-calm g c = λ other.
     let q = err_from_is_err_and c.from_residual-in_err-torn.result c.from_residual-in_err-torn.ensures.1 in
-    let calm = c.in_ok-stop.ensures.calm (λ e. cc) in
+    let calm = c.in_ok-stop.ensures.calm not_err in
     let calm_after = c.in_err-torn.ensures.calm (λ e. other (q.1 ∙ ap Err q.2 ∙ fault_as c.in_err-torn.field-0.0 _ e)) in
-    let calm_before = c.in_ok-replay.ensures.calm (λ e. cc) in
+    let calm_before = c.in_ok-replay.ensures.calm not_err in
     (calm.0, calm_after.0 ∙ calm.1 ∙ calm_before, calm_after.1 ∙ calm.2)
 
 pub returns-clause-ok : goal.returns-clause-ok
@@ -62,7 +62,7 @@ pub returns-in_err-stop-clause-calm : goal.returns-in_err-stop-clause-calm
 returns-in_err-stop-clause-calm g c = λ other.
     let q = err_from_is_err_and c.from_residual-in_err-stop.result c.from_residual-in_err-stop.ensures.1 in
     let calm = c.in_err-stop.ensures.calm (λ e. other (q.1 ∙ ap Err q.2 ∙ fault_as c.in_err-stop.field-0.0 _ e)) in
-    let calm_before = c.in_ok-replay.ensures.calm (λ e. cc) in
+    let calm_before = c.in_ok-replay.ensures.calm not_err in
     (calm.0, calm.1 ∙ calm_before, calm.2)
 
 pub returns-in_err-torn-clause-within : goal.returns-in_err-torn-clause-within
@@ -88,7 +88,7 @@ returns-in_err-torn-clause-refused g c =
 pub returns-in_err-stop-clause-device : goal.returns-in_err-stop-clause-device
 returns-in_err-stop-clause-device g c = λ is.
     let q = err_from_is_err_and c.from_residual-in_err-stop.result c.from_residual-in_err-stop.ensures.1 in
-    let calm_before = c.in_ok-replay.ensures.calm (λ e. cc) in
+    let calm_before = c.in_ok-replay.ensures.calm not_err in
     failed_after _ _ _ _ _ _ _ calm_before (c.in_err-stop.ensures.device (fault_as c.in_err-stop.field-0.0 _ (sym (q.1 ∙ ap Err q.2) ∙ is)))
 
 pub returns-in_err-torn-clause-memory : goal.returns-in_err-torn-clause-memory
@@ -99,6 +99,6 @@ returns-in_err-torn-clause-memory g c = λ is.
 pub returns-in_err-torn-clause-device : goal.returns-in_err-torn-clause-device
 returns-in_err-torn-clause-device g c = λ is.
     let q = err_from_is_err_and c.from_residual-in_err-torn.result c.from_residual-in_err-torn.ensures.1 in
-    let calm = c.in_ok-stop.ensures.calm (λ e. cc) in
-    let calm_before = c.in_ok-replay.ensures.calm (λ e. cc) in
+    let calm = c.in_ok-stop.ensures.calm not_err in
+    let calm_before = c.in_ok-replay.ensures.calm not_err in
     failed_ending _ _ _ _ _ _ _ _ calm.0 (calm.1 ∙ calm_before) calm.2 (c.in_err-torn.ensures.device (fault_as c.in_err-torn.field-0.0 _ (sym (q.1 ∙ ap Err q.2) ∙ is)))
