@@ -11,7 +11,7 @@ use Rattle.conntrack.specs.declared.connection.Phase.{Phase}
 use Rattle.conntrack.specs.declared.connection.Phase.TheVariants.{Opening, Established, Closing}
 use Rattle.conntrack.specs.Held.{is_live, limit_of}
 use Rattle.conntrack.specs.Phases.{limit_by, phase_of}
-use Rattle.conntrack.specs.declared.limits.Limits.{Limits}
+use Rattle.box_file.specs.declared.limits.Limits.{Limits}
 use Rattle.aged_tracker.specs.declared.aged_slots.AgedSlots.{AgedSlots}
 use Rattle.aged_tracker.specs.steps.Table.{queue_by, queue_of, keys_in, slots_of, queues_of, IsTable, IsLiveQueue, IsAllLive, limit_at, last_at, last_by}
 use Rattle.aged_tracker.proofs.Keys.{IsRising-front, none_in, front_in}

@@ -15,7 +15,7 @@ use Rattle.conntrack.specs.declared.belonging.Belonging.TheVariants.{Nowhere, Fo
 use Rattle.ip_headers.specs.Same.{same_tuple}
 use Rattle.conntrack.specs.Held.{is_incoming, is_live, live_at, belongs_in, belonging_by, place_of, of_original, of_reply, same_id, has_id, has_distinct_ids, without}
 use Rattle.list_laws.specs.Lists.{find-filter}
-use Rattle.conntrack.specs.declared.limits.Limits.{Limits}
+use Rattle.box_file.specs.declared.limits.Limits.{Limits}
 use Rattle.aged_tracker.specs.steps.Rings.{held_in, cons_held}
 use Rattle.aged_tracker.specs.steps.Table.{IsAllLive}
 use Rattle.aged_tracker.specs.steps.Keyed.{IsKeyed, belonging_of}

@@ -1,7 +1,7 @@
 -- What a contract sees of an `AgedTracker`.
 use Rattle.std.specs.Prelude.{Bool, List}
 use Rattle.conntrack.specs.declared.connection.Held.{Held}
-use Rattle.conntrack.specs.declared.limits.Limits.{Limits}
+use Rattle.box_file.specs.declared.limits.Limits.{Limits}
 
 -- for how long its connections may be idle, what it holds, in order of beginning, and whether one more takes no memory
 pub record Aged : Type 0 where

@@ -9,7 +9,10 @@ ghost use Rattle.aged_tracker.specs.declared.slot.Slot.{Slot as Slotted};
 
 use crate::rings::{LISTS, after, empty_heads, front, push_back, unlink, untied};
 use crate::slot::{Link, Slot, Thread};
-use conntrack::{ConnId, Connection, Direction, Flags, Held, Limits, Memory, Moment, Phase, Steps};
+use box_file::Limits;
+use conntrack::{
+    ConnId, Connection, Direction, Flags, Held, Memory, Moment, Phase, Steps, limit_by,
+};
 use ip_headers::Kind;
 use slab::Slab;
 use std::alloc::Global;
@@ -56,11 +59,11 @@ fn limit_at(limits: Limits, queue: usize) -> u64
     ensures { result ≡ limit_at limits queue }
 {
     match queue {
-        UDP => limits.limit_by(Kind::Udp, Phase::Opening),
-        ESTABLISHED => limits.limit_by(Kind::Tcp, Phase::Established),
-        TRANSITORY => limits.limit_by(Kind::Tcp, Phase::Opening),
-        ASK => limits.limit_by(Kind::Ask, Phase::Opening),
-        _ => limits.limit_by(Kind::Other(0), Phase::Opening),
+        UDP => limit_by(limits, Kind::Udp, Phase::Opening),
+        ESTABLISHED => limit_by(limits, Kind::Tcp, Phase::Established),
+        TRANSITORY => limit_by(limits, Kind::Tcp, Phase::Opening),
+        ASK => limit_by(limits, Kind::Ask, Phase::Opening),
+        _ => limit_by(limits, Kind::Other(0), Phase::Opening),
     }
 }
 

@@ -7,10 +7,11 @@ ghost use Rattle.ip_headers.specs.declared.tuple.Tuple.{Tuple as Tupled};
 ghost use Rattle.aged_tracker.specs.steps.Keyed.{belonging_of};
 
 use crate::aged_slots::AgedSlots;
+use box_file::Limits;
 use conntrack::laws::names_aside;
 use conntrack::{
-    Aged, BeginError, Belonging, ConnId, Connection, Direction, Flags, Held, LIMIT, Limits, Memory,
-    Moment, Place, Steps, Tracker,
+    Aged, BeginError, Belonging, ConnId, Connection, Direction, Flags, Held, LIMIT, Memory, Moment,
+    Place, Steps, Tracker,
 };
 use ip_headers::Tuple;
 use std::alloc::Global;

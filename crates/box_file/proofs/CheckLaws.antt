@@ -6,11 +6,12 @@ use Rattle.std.specs.Borrow.{Bor}
 use Rattle.list_laws.specs.Tests.{and-flip}
 use Rattle.box_file.specs.declared.line.InterfaceLine.{InterfaceLine}
 use Rattle.box_file.specs.declared.line.RouteLine.{RouteLine}
+use Rattle.box_file.specs.declared.idle_line.IdleLine.{IdleLine}
 use Rattle.box_file.specs.declared.line.Line as kept
 use Rattle.box_file.specs.declared.line.Line.TheVariants as lines
 use Rattle.box_file.specs.steps.Reading.{line_tree}
-use Rattle.box_file.specs.Box.{Interface, NamedRoute, Line, interface_line, route_line, default_line, IsName, each_is_line, interface_in, route_in, default_in, interfaces_in, routes_in, defaults_in, same_text, some_two, two_names, two_indexes, same_address, same_prefix, is_named, is_unknown, is_repeated, has_unknown}
-use Rattle.box_file.specs.steps.Tests.{two_values, is_missing, key_of, index_and_name, name_and_index, prefix_key, EachNamed, EachShort, EachName}
+use Rattle.box_file.specs.Box.{Interface, NamedRoute, Idle, Line, interface_line, route_line, default_line, idle_line, IsName, each_is_line, interface_in, route_in, default_in, idle_in, interfaces_in, routes_in, defaults_in, same_text, some_two, two_names, two_indexes, same_address, same_prefix, same_kind, is_named, is_unknown, is_repeated, has_unknown}
+use Rattle.box_file.specs.steps.Tests.{two_values, is_missing, key_of, index_and_name, name_and_index, prefix_key, kind_key, EachNamed, EachShort, EachName}
 use Rattle.box_file.proofs.RepeatLaws.{any-append, eqb_flip}
 use Rattle.box_file.proofs.KeyLaws.{same_key, digits_agree}
 
@@ -21,18 +22,21 @@ each_named [] h = tt
 each_named (interface_line i ∷ ls) h = (h.0.2, each_named ls h.1)
 each_named (route_line r ∷ ls) h = each_named ls h.1
 each_named (default_line n ∷ ls) h = each_named ls h.1
+each_named (idle_line i ∷ ls) h = each_named ls h.1
 
 pub each_short : (ls : List Line) → each_is_line ls → EachShort (routes_in ls)
 each_short [] h = tt
 each_short (interface_line i ∷ ls) h = each_short ls h.1
 each_short (route_line r ∷ ls) h = ((h.0.3, h.0.1), each_short ls h.1)
 each_short (default_line n ∷ ls) h = each_short ls h.1
+each_short (idle_line i ∷ ls) h = each_short ls h.1
 
 pub each_name : (ls : List Line) → each_is_line ls → EachName (defaults_in ls)
 each_name [] h = tt
 each_name (interface_line i ∷ ls) h = each_name ls h.1
 each_name (route_line r ∷ ls) h = each_name ls h.1
 each_name (default_line n ∷ ls) h = (h.0, each_name ls h.1)
+each_name (idle_line i ∷ ls) h = each_name ls h.1
 
 -- ---- repeats
 
@@ -94,24 +98,20 @@ unknown_names is rs ns k h g = any-append (is_missing (map (λ i. key_of i.name)
 
 -- ---- repeats, test by test
 
-pub first_repeats : (a b c d : Bool) → a ≡ true → a || b || c || d ≡ true
-first_repeats true b c d e = refl
-first_repeats false b c d e = absurd cc
+pub first_repeats : (a b c d e : Bool) → a ≡ true → a || b || c || d || e ≡ true
+first_repeats a b c d e h = rw h refl
 
-pub second_repeats : (a b c d : Bool) → b ≡ true → a || b || c || d ≡ true
-second_repeats true true c d e = refl
-second_repeats false true c d e = refl
-second_repeats a false c d e = absurd cc
+pub second_repeats : (a b c d e : Bool) → a ≡ false → b ≡ true → a || b || c || d || e ≡ true
+second_repeats a b c d e f h = rw (f, h) refl
 
-pub third_repeats : (a b c d : Bool) → c ≡ true → a || b || c || d ≡ true
-third_repeats true true true d e = refl
-third_repeats true false true d e = refl
-third_repeats false true true d e = refl
-third_repeats false false true d e = refl
-third_repeats a b false d e = absurd cc
+pub third_repeats : (a b c d e : Bool) → a ≡ false → b ≡ false → c ≡ true → a || b || c || d || e ≡ true
+third_repeats a b c d e f g h = rw (f, g, h) refl
 
-pub last_repeats : (a b c d : Bool) → a ≡ false → b ≡ false → c ≡ false → a || b || c || d ≡ d
-last_repeats a b c d e f g = rw (e, f, g) refl
+pub fourth_repeats : (a b c d e : Bool) → a ≡ false → b ≡ false → c ≡ false → d ≡ true → a || b || c || d || e ≡ true
+fourth_repeats a b c d e f g h i = rw (f, g, h, i) refl
+
+pub last_repeats : (a b c d e : Bool) → a ≡ false → b ≡ false → c ≡ false → d ≡ false → a || b || c || d || e ≡ e
+last_repeats a b c d e f g h i = rw (f, g, h, i) refl
 
 -- ---- lines of another kind
 
@@ -119,16 +119,25 @@ pub no_interface : (l : kept.Line) → ((i : InterfaceLine) → l ≡ lines.Inte
 no_interface (lines.Interface i) h = absurd (h i refl)
 no_interface (lines.Route r) h = refl
 no_interface (lines.Default n) h = refl
+no_interface (lines.Idle i) h = refl
 
 pub no_route : (l : kept.Line) → ((r : RouteLine) → l ≡ lines.Route r → ⊥) → route_in (line_tree l) ≡ None
 no_route (lines.Interface i) h = refl
 no_route (lines.Route r) h = absurd (h r refl)
 no_route (lines.Default n) h = refl
+no_route (lines.Idle i) h = refl
 
 pub no_default : (l : kept.Line) → ((n : Bor (List ℕ)) → l ≡ lines.Default n → ⊥) → default_in (line_tree l) ≡ None
 no_default (lines.Interface i) h = refl
 no_default (lines.Route r) h = refl
 no_default (lines.Default n) h = absurd (h n refl)
+no_default (lines.Idle i) h = refl
+
+pub no_idle : (l : kept.Line) → ((i : IdleLine) → l ≡ lines.Idle i → ⊥) → idle_in (line_tree l) ≡ None
+no_idle (lines.Interface i) h = refl
+no_idle (lines.Route r) h = refl
+no_idle (lines.Default n) h = refl
+no_idle (lines.Idle i) h = absurd (h i refl)
 
 -- ---- what the code's lists tell
 
@@ -150,17 +159,34 @@ two_indexes_told is ps r v h e told f = sym (told ∙ ap (some_two two_values) e
 pub addresses_told : (is : List Interface) (ns : List ℕ) (r v : Bool) → ns ≡ map (λ i. i.address) is → r ≡ some_two nat_eq ns → r ≡ v → some_two same_address is ≡ v
 addresses_told is ns r v e told f = sym (told ∙ ap (some_two nat_eq) e ∙ addresses_twice is) ∙ f
 
-pub names_repeat : (is : List Interface) (rs : List NamedRoute) → some_two two_names is ≡ true → true ≡ is_repeated is rs
-names_repeat is rs e = sym (first_repeats (some_two two_names is) (some_two two_indexes is) (some_two same_address is) (some_two same_prefix rs) e)
+pub prefixes_told : (rs : List NamedRoute) (ns : List ℕ) (r v : Bool) → EachShort rs → ns ≡ map prefix_key rs → r ≡ some_two nat_eq ns → r ≡ v → some_two same_prefix rs ≡ v
+prefixes_told rs ns r v h e told f = sym (told ∙ ap (some_two nat_eq) e ∙ prefixes_twice rs h) ∙ f
 
-pub indexes_repeat : (is : List Interface) (rs : List NamedRoute) → some_two two_indexes is ≡ true → true ≡ is_repeated is rs
-indexes_repeat is rs e = sym (second_repeats (some_two two_names is) (some_two two_indexes is) (some_two same_address is) (some_two same_prefix rs) e)
+any-kinds : (i : Idle) (js : List Idle) → list_any (nat_eq (kind_key i)) (map kind_key js) ≡ list_any (same_kind i) js
+any-kinds i [] = refl
+any-kinds i (j ∷ js) = ap (λ v. same_kind i j || v) (any-kinds i js)
 
-pub addresses_repeat : (is : List Interface) (rs : List NamedRoute) → some_two same_address is ≡ true → true ≡ is_repeated is rs
-addresses_repeat is rs e = sym (third_repeats (some_two two_names is) (some_two two_indexes is) (some_two same_address is) (some_two same_prefix rs) e)
+kinds_twice : (js : List Idle) → some_two nat_eq (map kind_key js) ≡ some_two same_kind js
+kinds_twice [] = refl
+kinds_twice (j ∷ js) = rw (any-kinds j js, kinds_twice js) refl
 
-pub prefixes_repeat : (is : List Interface) (rs : List NamedRoute) (ns : List ℕ) (r : Bool) → EachShort rs → some_two two_names is ≡ false → some_two two_indexes is ≡ false → some_two same_address is ≡ false → ns ≡ map prefix_key rs → r ≡ some_two nat_eq ns → r ≡ is_repeated is rs
-prefixes_repeat is rs ns r h a b c e told = told ∙ ap (some_two nat_eq) e ∙ prefixes_twice rs h ∙ sym (last_repeats (some_two two_names is) (some_two two_indexes is) (some_two same_address is) (some_two same_prefix rs) a b c)
+-- each test as far as it is reached, and what they tell together
+module _ (is : List Interface) (rs : List NamedRoute) (js : List Idle) where
+  pub names_repeat : some_two two_names is ≡ true → true ≡ is_repeated is rs js
+  names_repeat a = sym (first_repeats (some_two two_names is) (some_two two_indexes is) (some_two same_address is) (some_two same_prefix rs) (some_two same_kind js) a)
+
+  pub indexes_repeat : some_two two_names is ≡ false → some_two two_indexes is ≡ true → true ≡ is_repeated is rs js
+  indexes_repeat a b = sym (second_repeats (some_two two_names is) (some_two two_indexes is) (some_two same_address is) (some_two same_prefix rs) (some_two same_kind js) a b)
+
+  pub addresses_repeat : some_two two_names is ≡ false → some_two two_indexes is ≡ false → some_two same_address is ≡ true → true ≡ is_repeated is rs js
+  addresses_repeat a b c = sym (third_repeats (some_two two_names is) (some_two two_indexes is) (some_two same_address is) (some_two same_prefix rs) (some_two same_kind js) a b c)
+
+  pub prefixes_repeat : some_two two_names is ≡ false → some_two two_indexes is ≡ false → some_two same_address is ≡ false → some_two same_prefix rs ≡ true → true ≡ is_repeated is rs js
+  prefixes_repeat a b c d = sym (fourth_repeats (some_two two_names is) (some_two two_indexes is) (some_two same_address is) (some_two same_prefix rs) (some_two same_kind js) a b c d)
+
+  pub kinds_repeat : (ns : List ℕ) (r : Bool) → some_two two_names is ≡ false → some_two two_indexes is ≡ false → some_two same_address is ≡ false → some_two same_prefix rs ≡ false → ns ≡ map kind_key js → r ≡ some_two nat_eq ns → r ≡ is_repeated is rs js
+  kinds_repeat ns r a b c d e told =
+      told ∙ ap (some_two nat_eq) e ∙ kinds_twice js ∙ sym (last_repeats (some_two two_names is) (some_two two_indexes is) (some_two same_address is) (some_two same_prefix rs) (some_two same_kind js) a b c d)
 
 pub unknown_told : (is : List Interface) (rs : List NamedRoute) (ns : List (List ℕ)) (known used : List ℕ) (r : Bool) → EachNamed is → EachShort rs → EachName ns → known ≡ map (λ i. key_of i.name) is → used ≡ map (λ r. key_of r.name) rs ++ map key_of ns → r ≡ list_any (is_missing known) used → r ≡ has_unknown is rs ns
 unknown_told is rs ns known used r k h g ek eu told =

@@ -8,4 +8,5 @@ pub mod CheckLaws
 pub mod ListLaws
 pub mod BestLaws
 pub mod PlantLaws
+pub mod IdleLaws
 pub mod BoxLaws

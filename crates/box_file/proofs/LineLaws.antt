@@ -10,9 +10,12 @@ use Rattle.std.proofs.lemmas.Bool.Decides.{nat_tests}
 use Rattle.std.proofs.lemmas.Fmt.{digits_decimal, digits_value-decimal, decimal-digits_value, decimal_nonempty, first_decimal, length-decimal-le}
 use Rattle.std.specs.Option.{option_map}
 use Rattle.list_laws.specs.Options.{if_found, bind_found}
-use Rattle.box_file.specs.Text.{has_some, words_of, lines_of, dotted, dotted_prefix}
-use Rattle.box_file.specs.Box.{Interface, NamedRoute, Line, interface_line, route_line, default_line, words_in, is_name_byte, IsName, IsLine, each_is_line, same_text, Reads}
-use Rattle.box_file.specs.steps.Reading.{uncons, has_none, onto, cut, is_numeral, number_in, is_name, name_in, octet_in, address_in, prefixed_in, interface_words, route_words, default_words, line_of, line_in, all_in, lines_in}
+use Rattle.box_file.specs.declared.idle_line.IdleKind.{IdleKind}
+use Rattle.box_file.specs.declared.idle_line.IdleKind.TheVariants as kinds
+use Rattle.box_file.specs.Text.{has_some, words_of, lines_of, dotted, dotted_prefix, is_numeral}
+use Rattle.box_file.specs.Idle.{word_of}
+use Rattle.box_file.specs.Box.{Interface, NamedRoute, Idle, Line, interface_line, route_line, default_line, idle_line, words_in, is_name_byte, IsName, IsLine, each_is_line, same_text, Reads}
+use Rattle.box_file.specs.steps.Reading.{uncons, has_none, onto, cut, number_in, is_name, name_in, octet_in, address_in, prefixed_in, interface_words, route_words, default_words, kind_in, idle_words, line_of, line_in, all_in, lines_in}
 use Rattle.box_file.proofs.NumberLaws.{digits, numeral_digits}
 
 -- ---- steps
@@ -281,6 +284,34 @@ same_text-true (x ∷ xs) (y ∷ ys) e =
     let tail : xs ≡ ys = same_text-true xs ys p.1 in
     cc
 
+kind_by : (word : List ℕ) (k : IdleKind) (o : Option IdleKind) → IfSome o (λ l. word_of l ≡ word) → IfSome (cond (same_text word (word_of k)) (Some k) o) (λ l. word_of l ≡ word)
+kind_by word k o h = choice_found (λ l. word_of l ≡ word) (same_text word (word_of k)) (Some k) o (λ e. sym (same_text-true word (word_of k) e)) h
+
+kind_found : (word : List ℕ) → IfSome (kind_in word) (λ k. word_of k ≡ word)
+kind_found word =
+    kind_by word kinds.Udp _ (kind_by word kinds.Established _ (kind_by word kinds.Transitory _ (kind_by word kinds.Ask _ (kind_by word kinds.Other None tt))))
+
+kind_only : (k : IdleKind) → kind_in (word_of k) ≡ Some k
+kind_only kinds.Udp = refl
+kind_only kinds.Established = refl
+kind_only kinds.Transitory = refl
+kind_only kinds.Ask = refl
+kind_only kinds.Other = refl
+
+idle_found : (ws : List (List ℕ)) → IfSome (idle_words ws) (λ l. IsLine l × (words_in l ≡ codes "idle" ∷ ws))
+unfolding idle_words
+idle_found ws =
+    bind_found _ (uncons ws) _ (uncons_found ws) (λ a ea.
+    bind_found _ (uncons a.1) _ (uncons_found a.1) (λ b eb.
+    bind_found _ (kind_in a.0) _ (kind_found a.0) (λ k ek.
+    if_found _ (has_none b.1 && is_numeral b.0) (idle_line (record { kind = k; digits = b.0 })) (λ e.
+    let f = and_parts (has_none b.1) (is_numeral b.0) e in
+    (f.1, rw (ea, eb, none_left b.1 f.0, ek) refl)))))
+
+idle_only : (i : Idle) → IsLine (idle_line i) → idle_words (word_of i.kind ∷ i.digits ∷ []) ≡ Some (idle_line i)
+unfolding idle_words
+idle_only i h = rw (kind_only i.kind, h) refl
+
 -- the word in front is this one, and a reader finds what follows it
 after_word : (word w : List ℕ) (ws : List (List ℕ)) (o : Option Line) → same_text word w ≡ true → IfSome o (λ l. IsLine l × (words_in l ≡ w ∷ ws)) → IfSome o (λ l. IsLine l × (words_in l ≡ word ∷ ws))
 after_word word w ws o e h = rw (same_text-true word w e) h
@@ -289,7 +320,8 @@ line_of_found : (word : List ℕ) (ws : List (List ℕ)) → IfSome (line_of wor
 line_of_found word ws =
     choice_found _ (same_text word (codes "interface")) (interface_words ws) _ (λ e. after_word word (codes "interface") ws _ e (interface_found ws))
     (choice_found _ (same_text word (codes "route")) (route_words ws) _ (λ e. after_word word (codes "route") ws _ e (route_found ws))
-    (choice_found _ (same_text word (codes "default")) (default_words ws) None (λ e. after_word word (codes "default") ws _ e (default_found ws)) tt))
+    (choice_found _ (same_text word (codes "default")) (default_words ws) _ (λ e. after_word word (codes "default") ws _ e (default_found ws))
+    (choice_found _ (same_text word (codes "idle")) (idle_words ws) None (λ e. after_word word (codes "idle") ws _ e (idle_found ws)) tt)))
 
 line_found : (ws : List (List ℕ)) → IfSome (line_in ws) (λ l. IsLine l × (words_in l ≡ ws))
 unfolding line_in
@@ -300,6 +332,7 @@ unfolding line_in
 line_only (interface_line i) h = interface_only i h
 line_only (route_line r) h = route_only r h
 line_only (default_line n) h = default_only n h
+line_only (idle_line i) h = idle_only i h
 
 -- ---- texts
 

@@ -15,7 +15,8 @@ use Rattle.std.proofs.lemmas.Str.{IsUtf8-from_ascii}
 use Rattle.std.proofs.lemmas.Str.Parse.{IsNumeralModel, numerals_by_value, parse_digits}
 use Rattle.std.specs.Option.{option_map}
 use Rattle.box_file.specs.Box.{same_text}
-use Rattle.box_file.specs.steps.Reading.{onto, cut, is_numeral, number_in}
+use Rattle.box_file.specs.steps.Reading.{onto, cut, number_in}
+use Rattle.box_file.specs.Text.{is_numeral}
 
 -- ---- cutting
 

@@ -4,7 +4,7 @@ use Rattle.std.specs.Prelude.{filter, find, unwrap_or, IfSome, is_some}
 use Rattle.std.specs.List.{list_any, filter_map}
 use Rattle.std.specs.Option.{option_map}
 use Rattle.std.proofs.lemmas.Bool.{or_parts}
-use Rattle.box_file.specs.Box.{Interface, NamedRoute, RouteTo, Line, interface_line, route_line, default_line, each_is_line, IsIndex, interfaces_in, routes_in, defaults_in, route_to, is_named, is_unknown, is_misformed, known_index, entering_of, covers, greatest, best_way}
+use Rattle.box_file.specs.Box.{Interface, NamedRoute, RouteTo, Line, interface_line, route_line, default_line, idle_line, each_is_line, IsIndex, interfaces_in, routes_in, defaults_in, route_to, is_named, is_unknown, is_misformed, known_index, entering_of, covers, greatest, best_way}
 use Rattle.set_intervals.specs.declared.range.Range.{Range}
 use Rattle.box_file.specs.steps.Best.{GivesBest}
 use Rattle.box_file.specs.steps.Plant.{EachIndexed, EachWay, KnowsNames}
@@ -16,6 +16,7 @@ each_indexed [] h = tt
 each_indexed (interface_line i ∷ ls) h = ((h.0.0, h.0.1), each_indexed ls h.1)
 each_indexed (route_line r ∷ ls) h = each_indexed ls h.1
 each_indexed (default_line n ∷ ls) h = each_indexed ls h.1
+each_indexed (idle_line i ∷ ls) h = each_indexed ls h.1
 
 -- what a search finds has a number
 found_step : (p : Interface → Bool) (i : Interface) (is : List Interface) (b : Bool) → IsIndex i.index → IfSome (option_map (λ j. j.index) (find p is)) IsIndex → IfSome (option_map (λ (j : Interface). j.index) (cond b (Some i) (find p is))) IsIndex
@@ -46,6 +47,7 @@ way_numbers is h (route_line r ∷ ls) k e =
     let p = or_parts (is_unknown is r.name) (list_any (λ (s : NamedRoute). is_unknown is s.name) (routes_in ls)) e in
     (known_number r.name is h (not_unknown r.name is (list_any (is_named r.name) is) refl p.0), way_numbers is h ls k.1 p.1)
 way_numbers is h (default_line n ∷ ls) k e = way_numbers is h ls k.1 e
+way_numbers is h (idle_line i ∷ ls) k e = way_numbers is h ls k.1 e
 
 pub each_way : (ls : List Line) → each_is_line ls → KnowsNames ls → EachWay (filter_map (route_to (interfaces_in ls)) ls)
 each_way ls h k = way_numbers (interfaces_in ls) (each_indexed ls h) ls h (or_parts _ _ k.known).0

@@ -1,4 +1,4 @@
--- What a box file says: interfaces with their addresses, routes, the entering interface.
+-- What a box file says: interfaces with their addresses, routes, the entering interface, idle limits.
 use Rattle.std.specs.Prelude.{◌≡◌, ℕ, ◌-◌, ◌/◌, ◌%◌, ◌^◌, ◌<◌, ◌==◌, ◌&&◌, ◌||◌, not, nat_lt, Bool, true, false, List}
 use Rattle.std.specs.Prelude.{[], ◌∷◌, length, map, filter, find, max, ◌⊎◌, Option, Some, None, unwrap_or}
 use Rattle.std.specs.Prelude.{if◌then◌else◌, IsTrue, codes}
@@ -6,11 +6,15 @@ use Rattle.std.specs.List.{filter_map, list_any, list_all}
 use Rattle.std.specs.Option.{option_map}
 use Rattle.std.specs.Char.{is_ascii_alphanumeric}
 use Rattle.std.specs.Fmt.{decimal}
+use Rattle.std.specs.Str.Parse.{digits_value}
 use Rattle.box_file.specs.declared.fault.BoxFault.{BoxFault}
-use Rattle.box_file.specs.declared.fault.BoxFault.TheVariants.{Form, Repeated, UnknownName, TooLarge}
+use Rattle.box_file.specs.declared.fault.BoxFault.TheVariants.{Form, Repeated, UnknownName, TooLarge, OutOfRange}
 use Rattle.box_file.specs.declared.fault.BoxError.{BoxError}
 use Rattle.box_file.specs.declared.fault.BoxError.TheVariants.{Refused, Memory}
-use Rattle.box_file.specs.Text.{has_some, words_of, lines_of, dotted_prefix}
+use Rattle.box_file.specs.declared.idle_line.IdleKind.{IdleKind}
+use Rattle.box_file.specs.declared.limits.Limits.{Limits}
+use Rattle.box_file.specs.Text.{has_some, words_of, lines_of, dotted_prefix, is_numeral}
+use Rattle.box_file.specs.Idle.{word_of, is_same_kind, limit_for, usual_limits, least_for, greatest_idle}
 
 -- ---- lines
 
@@ -27,16 +31,23 @@ pub record NamedRoute : Type 0 where
   pub prefix : ℕ
   pub name : List ℕ
 
+-- for how long connections of a kind may be idle, in seconds: a number of any size, digit by digit
+pub record Idle : Type 0 where
+  pub kind : IdleKind
+  pub digits : List ℕ
+
 pub data Line : Type 0 where
   interface_line : Interface → Line
   route_line : NamedRoute → Line
   default_line : List ℕ → Line
+  idle_line : Idle → Line
 
--- `interface 2 lan 192.168.1.1/24`, `route 0.0.0.0/0 wan`, `default lan`
+-- `interface 2 lan 192.168.1.1/24`, `route 0.0.0.0/0 wan`, `default lan`, `idle udp 120`
 abbrev pub words_in : Line → List (List ℕ)
 words_in (interface_line i) = codes "interface" ∷ decimal i.index ∷ i.name ∷ dotted_prefix i.address i.prefix ∷ []
 words_in (route_line r) = codes "route" ∷ dotted_prefix r.address r.prefix ∷ r.name ∷ []
 words_in (default_line n) = codes "default" ∷ n ∷ []
+words_in (idle_line i) = codes "idle" ∷ word_of i.kind ∷ i.digits ∷ []
 
 -- a letter, a digit, `_`, `-` or `.`
 abbrev pub is_name_byte : ℕ → Bool
@@ -53,6 +64,8 @@ IsLine (interface_line i) =
 -- the host bits of a route are zero
 IsLine (route_line r) = (r.address < 2 ^ 32) × (r.prefix < 33) × (r.address % 2 ^ (32 - r.prefix) ≡ 0) × IsName r.name
 IsLine (default_line n) = IsName n
+-- its number has no leading zero, as no number of a box file
+IsLine (idle_line i) = IsTrue (is_numeral i.digits)
 
 abbrev pub each_is_line : List Line → Type 0
 each_is_line [] = Unit {0}
@@ -69,16 +82,25 @@ abbrev pub interface_in : Line → Option Interface
 interface_in (interface_line i) = Some i
 interface_in (route_line r) = None
 interface_in (default_line n) = None
+interface_in (idle_line i) = None
 
 abbrev pub route_in : Line → Option NamedRoute
 route_in (interface_line i) = None
 route_in (route_line r) = Some r
 route_in (default_line n) = None
+route_in (idle_line i) = None
 
 abbrev pub default_in : Line → Option (List ℕ)
 default_in (interface_line i) = None
 default_in (route_line r) = None
 default_in (default_line n) = Some n
+default_in (idle_line i) = None
+
+abbrev pub idle_in : Line → Option Idle
+idle_in (interface_line i) = None
+idle_in (route_line r) = None
+idle_in (default_line n) = None
+idle_in (idle_line i) = Some i
 
 abbrev pub interfaces_in : List Line → List Interface
 interfaces_in = filter_map interface_in
@@ -88,6 +110,9 @@ routes_in = filter_map route_in
 
 abbrev pub defaults_in : List Line → List (List ℕ)
 defaults_in = filter_map default_in
+
+abbrev pub idles_in : List Line → List Idle
+idles_in = filter_map idle_in
 
 -- ---- faults
 
@@ -114,6 +139,9 @@ same_address i j = i.address == j.address
 abbrev pub same_prefix : NamedRoute → NamedRoute → Bool
 same_prefix r s = r.address == s.address && r.prefix == s.prefix
 
+abbrev pub same_kind : Idle → Idle → Bool
+same_kind i j = is_same_kind i.kind j.kind
+
 abbrev pub is_named : List ℕ → Interface → Bool
 is_named n i = same_text i.name n
 
@@ -125,11 +153,12 @@ is_unknown interfaces n = not (list_any (is_named n) interfaces)
 abbrev pub is_misformed : List (List ℕ) → Bool
 is_misformed defaults = not (length defaults == 1)
 
--- some index has two names, some name two indexes, an address stands twice, or a route's prefix
-abbrev pub is_repeated : List Interface → List NamedRoute → Bool
-is_repeated interfaces routes =
+-- some index has two names, some name two indexes, an address stands twice, or a route's prefix, or a kind of idle
+-- limit, whatever its seconds
+abbrev pub is_repeated : List Interface → List NamedRoute → List Idle → Bool
+is_repeated interfaces routes idles =
     some_two two_names interfaces || some_two two_indexes interfaces || some_two same_address interfaces
-    || some_two same_prefix routes
+    || some_two same_prefix routes || some_two same_kind idles
 
 -- a route or the default names no interface
 abbrev pub has_unknown : List Interface → List NamedRoute → List (List ℕ) → Bool
@@ -141,16 +170,24 @@ abbrev pub is_too_large : List ℕ → List Interface → List NamedRoute → Bo
 is_too_large text interfaces routes =
     nat_lt 1048576 (length text) || nat_lt 64 (length interfaces) || nat_lt 1024 (length routes)
 
+abbrev pub seconds_of : Idle → ℕ
+seconds_of i = digits_value 10 i.digits
+
+-- below the least for its kind, or above a week
+abbrev pub is_out_of_range : Idle → Bool
+is_out_of_range i = nat_lt (seconds_of i) (least_for i.kind) || nat_lt greatest_idle (seconds_of i)
+
 -- whether a text of these lines has the fault
 abbrev pub is_wrong : List ℕ → List Line → BoxFault → Bool
 is_wrong text lines Form = is_misformed (defaults_in lines)
-is_wrong text lines Repeated = is_repeated (interfaces_in lines) (routes_in lines)
+is_wrong text lines Repeated = is_repeated (interfaces_in lines) (routes_in lines) (idles_in lines)
 is_wrong text lines UnknownName = has_unknown (interfaces_in lines) (routes_in lines) (defaults_in lines)
 is_wrong text lines TooLarge = is_too_large text (interfaces_in lines) (routes_in lines)
+is_wrong text lines OutOfRange = list_any is_out_of_range (idles_in lines)
 
 -- the least of its faults
 abbrev pub least : List ℕ → List Line → Option BoxFault
-least text lines = find (is_wrong text lines) (Form ∷ Repeated ∷ UnknownName ∷ TooLarge ∷ [])
+least text lines = find (is_wrong text lines) (Form ∷ Repeated ∷ UnknownName ∷ TooLarge ∷ OutOfRange ∷ [])
 
 -- a text is refused for this fault: it is no lines, or the least that is wrong with them
 abbrev pub HasBoxFault : List ℕ → BoxFault → Type 0
@@ -178,6 +215,8 @@ pub record PlantTree : Type 0 where
   pub routes : List RouteTo
   -- the interface of the default line
   pub entering : ℕ
+  -- for how long connections may be idle
+  pub idle : Limits
 
 -- the index of the interface of a name
 abbrev pub index_of : List Interface → List ℕ → Option ℕ
@@ -193,18 +232,32 @@ route_to interfaces (interface_line i) = Some (record { address = i.address; pre
 route_to interfaces (route_line r) =
     Some (record { address = r.address; prefix = r.prefix; interface = known_index interfaces r.name })
 route_to interfaces (default_line n) = None
+route_to interfaces (idle_line i) = None
 
 -- the index of the interface that the first default names
 abbrev pub entering_of : List Interface → List (List ℕ) → ℕ
 entering_of interfaces [] = 0
 entering_of interfaces (n ∷ ns) = known_index interfaces n
 
-abbrev pub plant_of : List Line → PlantTree
-plant_of lines =
+abbrev pub is_of_kind : IdleKind → Idle → Bool
+is_of_kind kind i = is_same_kind i.kind kind
+
+-- the seconds that the first line of the kind says, and where there is none the usual ones
+abbrev pub idle_for : List Idle → IdleKind → ℕ
+idle_for idles kind = unwrap_or (option_map seconds_of (find (is_of_kind kind) idles)) (limit_for usual_limits kind)
+
+-- the limits are those that the lines say
+abbrev pub AreLimits : List Idle → Limits → Type 0
+AreLimits idles limits = (kind : IdleKind) → limit_for limits kind ≡ idle_for idles kind
+
+-- what the lines mean, with the limits that they say
+abbrev pub plant_of : List Line → Limits → PlantTree
+plant_of lines idle =
     record {
       interfaces = interfaces_in lines;
       routes = filter_map (route_to (interfaces_in lines)) lines;
       entering = entering_of (interfaces_in lines) (defaults_in lines);
+      idle = idle;
     }
 
 -- a text without fault, and what it means
@@ -212,7 +265,8 @@ pub record IsBox (text : List ℕ) (plant : PlantTree) : Type 0 where
   pub lines : List Line
   pub read : Reads text lines
   pub faultless : least text lines ≡ None
-  pub meant : plant ≡ plant_of lines
+  pub limits : AreLimits (idles_in lines) plant.idle
+  pub meant : plant ≡ plant_of lines plant.idle
 
 -- ---- look-ups
 

@@ -1,3 +1,4 @@
 pub mod Text
+pub mod Idle
 pub mod Box
 pub mod steps

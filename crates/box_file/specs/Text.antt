@@ -1,5 +1,7 @@
 -- A text as lines, a line as words, a number and an address as they are written.
-use Rattle.std.specs.Prelude.{ℕ, ◌/◌, ◌%◌, ◌==◌, ◌||◌, Bool, true, false, List, [], ◌∷◌, ◌++◌, filter, if◌then◌else◌}
+use Rattle.std.specs.Prelude.{ℕ, ◌/◌, ◌%◌, ◌==◌, ◌&&◌, ◌||◌, not, Bool, true, false, List, [], ◌∷◌, ◌++◌, length, filter, if◌then◌else◌}
+use Rattle.std.specs.List.{list_all}
+use Rattle.std.specs.Char.{is_ascii_digit}
 use Rattle.std.specs.Fmt.{decimal}
 
 -- a byte put before the first part
@@ -34,6 +36,11 @@ words_of line = filter has_some (parts_of is_blank (before_comment line))
 
 abbrev pub lines_of : List ℕ → List (List ℕ)
 lines_of = parts_of is_newline
+
+-- digits, without a leading zero
+abbrev pub is_numeral : List ℕ → Bool
+is_numeral [] = false
+is_numeral (d ∷ ds) = list_all is_ascii_digit (d ∷ ds) && (not (d == 48) || length ds == 0)
 
 -- an address as it is written: four numbers with a dot between each two, the highest byte first
 abbrev pub dotted : ℕ → List ℕ

@@ -1,10 +1,13 @@
 //! Finds what the lines of a box file are refused for.
 ghost use Rattle.std.specs.Prelude.{◌≡◌, ◌++◌, map, length, IfOk};
-ghost use Rattle.box_file.specs.Box.{interfaces_in, routes_in, defaults_in, each_is_line, is_repeated, has_unknown, is_too_large, least};
-ghost use Rattle.box_file.specs.steps.Reading.{interface_tree, route_tree, line_tree};
-ghost use Rattle.box_file.specs.steps.Tests.{key_of, index_and_name, name_and_index, prefix_key, EachNamed, EachShort, EachName};
+ghost use Rattle.std.specs.List.{list_any};
+ghost use Rattle.box_file.specs.Box.{interfaces_in, routes_in, defaults_in, idles_in, each_is_line, is_out_of_range, is_repeated, has_unknown, is_too_large, least};
+ghost use Rattle.box_file.specs.steps.Reading.{interface_tree, route_tree, idle_tree, line_tree};
+ghost use Rattle.box_file.specs.steps.Tests.{key_of, index_and_name, name_and_index, prefix_key, kind_key, EachNamed, EachShort, EachName};
 
 use crate::fault::BoxFault;
+use crate::idle::is_out_of_range;
+use crate::idle_line::IdleLine;
 use crate::line::{InterfaceLine, Line, RouteLine};
 use crate::repeats::{has_twice, has_two_values, has_unknown};
 use std::alloc::{AllocError, Global};
@@ -54,6 +57,19 @@ pub fn defaults<'t>(alloc: Global, lines: &[Line<'t>]) -> Result<Vec<&'t [u8]>, 
     for line in lines {
         if let Line::Default(name) = line {
             found.push(*name)?;
+        }
+    }
+    Ok(found)
+}
+
+/// The idle lines among the lines.
+pub fn idles<'t>(alloc: Global, lines: &[Line<'t>]) -> Result<Vec<IdleLine<'t>>, AllocError>
+    ensures { IfOk result (λ v. map idle_tree v.items ≡ idles_in (map line_tree lines.now)) }
+{
+    let mut found = Vec::new(alloc);
+    for line in lines {
+        if let Line::Idle(idle) = line {
+            found.push(*idle)?;
         }
     }
     Ok(found)
@@ -153,17 +169,29 @@ fn used_names(
     Ok(found)
 }
 
-/// Whether an index has two names, a name two indexes, or an address or a route's prefix stands
-/// twice.
+/// The kinds of the idle lines as numbers.
+fn kinds(alloc: Global, idles: &[IdleLine]) -> Result<Vec<u128>, AllocError>
+    ensures { IfOk result (λ v. v.items ≡ map kind_key (map idle_tree idles.now)) }
+{
+    let mut found = Vec::new(alloc);
+    for idle in idles {
+        found.push(idle.kind.number())?;
+    }
+    Ok(found)
+}
+
+/// Whether an index has two names, a name two indexes, or an address, a route's prefix or a kind of
+/// idle limit stands twice.
 fn is_repeated(
     alloc: Global,
     interfaces: &[InterfaceLine],
     routes: &[RouteLine],
+    idles: &[IdleLine],
 ) -> Result<bool, AllocError>
     requires named { EachNamed (map interface_tree interfaces.now) }
     requires short { EachShort (map route_tree routes.now) }
     ensures { IfOk result (λ r. r
-        ≡ is_repeated (map interface_tree interfaces.now) (map route_tree routes.now)) }
+        ≡ is_repeated (map interface_tree interfaces.now) (map route_tree routes.now) (map idle_tree idles.now)) }
 {
     let by_index = index_names(alloc, interfaces)?;
     if has_two_values(alloc, &by_index)? {
@@ -178,7 +206,11 @@ fn is_repeated(
         return Ok(true);
     }
     let networks = prefixes(alloc, routes)?;
-    has_twice(alloc, &networks)
+    if has_twice(alloc, &networks)? {
+        return Ok(true);
+    }
+    let kinds = kinds(alloc, idles)?;
+    has_twice(alloc, &kinds)
 }
 
 /// Whether a route or the default names no interface.
@@ -206,6 +238,13 @@ fn is_too_large(text: &[u8], interfaces: &[InterfaceLine], routes: &[RouteLine])
     text.len() > MOST_BYTES || interfaces.len() > MOST_INTERFACES || routes.len() > MOST_ROUTES
 }
 
+/// Whether an idle limit is out of its range.
+fn has_out_of_range(idles: &[IdleLine]) -> bool
+    ensures { result ≡ list_any is_out_of_range (map idle_tree idles.now) }
+{
+    idles.iter().any(|idle| is_out_of_range(idle))
+}
+
 /// The least fault that applies, of a text that is these lines.
 pub fn fault_of(alloc: Global, text: &[u8], lines: &[Line]) -> Result<Option<BoxFault>, AllocError>
     requires { each_is_line (map line_tree lines.now) }
@@ -214,10 +253,11 @@ pub fn fault_of(alloc: Global, text: &[u8], lines: &[Line]) -> Result<Option<Box
     let interfaces = interfaces(alloc, lines)?;
     let routes = routes(alloc, lines)?;
     let defaults = defaults(alloc, lines)?;
+    let idles = idles(alloc, lines)?;
     if defaults.len() != 1 {
         return Ok(Some(BoxFault::Form));
     }
-    if is_repeated(alloc, &interfaces, &routes)? {
+    if is_repeated(alloc, &interfaces, &routes, &idles)? {
         return Ok(Some(BoxFault::Repeated));
     }
     if names_none(alloc, &interfaces, &routes, &defaults)? {
@@ -225,6 +265,9 @@ pub fn fault_of(alloc: Global, text: &[u8], lines: &[Line]) -> Result<Option<Box
     }
     if is_too_large(text, &interfaces, &routes) {
         return Ok(Some(BoxFault::TooLarge));
+    }
+    if has_out_of_range(&idles) {
+        return Ok(Some(BoxFault::OutOfRange));
     }
     Ok(None)
 }

@@ -5,10 +5,11 @@ use thiserror::Error;
 /// What a box file is refused for: the least that applies.
 #[derive(Clone, Copy, Debug, PartialEq, Eq, Error)]
 pub enum BoxFault {
-    /// A line isn't one of the three forms, or there isn't exactly one default.
+    /// A line isn't one of the four forms, or there isn't exactly one default.
     #[error("B1")]
     Form,
-    /// An index has two names, a name two indexes, an address or a route's prefix stands twice.
+    /// An index has two names, a name two indexes, an address, a route's prefix or a kind of idle
+    /// limit stands twice.
     #[error("B2")]
     Repeated,
     /// A route or the default names no interface.
@@ -17,6 +18,9 @@ pub enum BoxFault {
     /// Over 1,048,576 bytes, 64 interface lines or 1024 route lines.
     #[error("B4")]
     TooLarge,
+    /// An idle limit is below the least for its kind, or over 604,800 seconds.
+    #[error("B5")]
+    OutOfRange,
 }
 
 /// Why there is no plant.

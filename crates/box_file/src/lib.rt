@@ -4,7 +4,10 @@
 
 mod checks;
 mod fault;
+mod idle;
+mod idle_line;
 mod laws;
+mod limits;
 mod line;
 mod numbers;
 mod plant;
@@ -14,4 +17,5 @@ mod words;
 
 pub use fault::{BoxError, BoxFault};
 pub use laws::{one_box, some_box};
+pub use limits::Limits;
 pub use plant::{IfIndex, Plant};

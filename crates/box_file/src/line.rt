@@ -2,9 +2,10 @@
 ghost use Rattle.std.specs.Prelude.{◌≡◌, map, IfOk};
 ghost use Rattle.std.specs.Option.{option_map};
 ghost use Rattle.box_file.specs.Text.{words_of};
-ghost use Rattle.box_file.specs.steps.Reading.{has_none, interface_words, route_words, default_words, line_of, lines_in, line_tree};
+ghost use Rattle.box_file.specs.steps.Reading.{has_none, interface_words, route_words, default_words, idle_words, kind_in, line_of, lines_in, line_tree};
 
-use crate::numbers::{is_network, name, number, prefixed};
+use crate::idle_line::{IdleKind, IdleLine};
+use crate::numbers::{is_network, is_numeral, name, number, prefixed};
 use crate::words::{first_line, word};
 use std::alloc::{AllocError, Global};
 
@@ -32,6 +33,7 @@ pub enum Line<'t> {
     Route(RouteLine<'t>),
     /// `default lan`, with the name alone.
     Default(&'t [u8]),
+    Idle(IdleLine<'t>),
 }
 
 /// Whether no word follows.
@@ -98,6 +100,40 @@ fn default(rest: &[u8]) -> Option<Line<'_>>
     }
 }
 
+/// The kind that the word names.
+fn idle_kind(word: &[u8]) -> Option<IdleKind>
+    ensures { result ≡ kind_in word.now }
+{
+    if word == b"udp".as_slice() {
+        Some(IdleKind::Udp)
+    } else if word == b"established".as_slice() {
+        Some(IdleKind::Established)
+    } else if word == b"transitory".as_slice() {
+        Some(IdleKind::Transitory)
+    } else if word == b"ask".as_slice() {
+        Some(IdleKind::Ask)
+    } else if word == b"other".as_slice() {
+        Some(IdleKind::Other)
+    } else {
+        None
+    }
+}
+
+/// What follows `idle`.
+#[tactic(auto, unfolding(crate::specs::steps::Reading::idle_words))]
+fn idle(rest: &[u8]) -> Option<Line<'_>>
+    ensures { option_map line_tree result ≡ idle_words (words_of rest.now) }
+{
+    let (kind, rest) = word(rest)?;
+    let (seconds, rest) = word(rest)?;
+    let kind = idle_kind(kind)?;
+    if is_end(rest) && is_numeral(seconds) {
+        Some(Line::Idle(IdleLine { kind, seconds }))
+    } else {
+        None
+    }
+}
+
 /// The line that begins with the word, and goes on with what follows it.
 fn line_of<'t>(first: &[u8], rest: &'t [u8]) -> Option<Line<'t>>
     ensures { option_map line_tree result ≡ line_of first.now (words_of rest.now) }
@@ -108,6 +144,8 @@ fn line_of<'t>(first: &[u8], rest: &'t [u8]) -> Option<Line<'t>>
         route(rest)
     } else if first == b"default".as_slice() {
         default(rest)
+    } else if first == b"idle".as_slice() {
+        idle(rest)
     } else {
         None
     }

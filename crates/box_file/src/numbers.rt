@@ -4,7 +4,8 @@ ghost use Rattle.std.specs.List.{list_all};
 ghost use Rattle.std.specs.Option.{option_map};
 ghost use Rattle.std.specs.Char.{is_ascii_digit};
 ghost use Rattle.box_file.specs.Box.{is_name_byte};
-ghost use Rattle.box_file.specs.steps.Reading.{is_name, is_numeral, number_in, name_in, octet_in, address_in, prefixed_in};
+ghost use Rattle.box_file.specs.Text.{is_numeral};
+ghost use Rattle.box_file.specs.steps.Reading.{is_name, number_in, name_in, octet_in, address_in, prefixed_in};
 
 use crate::words::cut;
 use std::str;
@@ -19,7 +20,7 @@ fn is_digits(bytes: &[u8]) -> bool
 }
 
 /// Whether the bytes are digits, without a leading zero.
-fn is_numeral(bytes: &[u8]) -> bool
+pub fn is_numeral(bytes: &[u8]) -> bool
     ensures { result ≡ is_numeral bytes.now }
 {
     match bytes {

@@ -1,14 +1,16 @@
 //! A box: its interfaces, its routes, the interface that packets enter by.
 ghost use Rattle.std.specs.Prelude.{◌≡◌, map, find, unwrap_or, false, IfOk, IfErr, IfSome};
-ghost use Rattle.std.specs.List.{filter_map};
+ghost use Rattle.std.specs.List.{filter_map, list_any};
 ghost use Rattle.std.specs.Option.{option_map};
-ghost use Rattle.box_file.specs.Box.{has_address, has_index, is_named, index_of, known_index, route_to, entering_of, plant_of, IsBox, IsBoxRefusal, IsIndex, route, is_own, owner, first_address, named, name_of, each_is_line};
+ghost use Rattle.box_file.specs.Box.{has_address, has_index, is_named, index_of, known_index, route_to, entering_of, AreLimits, plant_of, idles_in, is_out_of_range, IsBox, IsBoxRefusal, IsIndex, route, is_own, owner, first_address, named, name_of, each_is_line};
 ghost use Rattle.box_file.specs.steps.Reading.{interface_tree, line_tree};
 ghost use Rattle.box_file.specs.steps.Best.{way_tree};
 ghost use Rattle.box_file.specs.steps.Plant.{interface_of, KnowsNames};
 
-use crate::checks::{defaults, fault_of, interfaces};
+use crate::checks::{defaults, fault_of, idles, interfaces};
 use crate::fault::{BoxError, BoxFault};
+use crate::idle::limits;
+use crate::limits::Limits;
 use crate::line::{InterfaceLine, Line, lines};
 use crate::routes::{Route, table};
 use crate::words::same_text;
@@ -42,6 +44,8 @@ pub struct Plant {
     table: Intervals<IfIndex>,
     /// The interface that packets of a capture without interfaces enter by.
     entering: IfIndex,
+    /// For how long connections may be idle.
+    idle: Limits,
 }
 
 impl Model for Plant {
@@ -50,7 +54,7 @@ impl Model for Plant {
 
     ghost Value = { PlantTree };
 
-    ghost view = { λ p. plant_tree p.interfaces.items p.routes.items p.entering };
+    ghost view = { λ p. plant_tree p.interfaces.items p.routes.items p.entering p.idle };
 
     ghost invariant = { λ p. IsSound p.interfaces.items p.routes.items p.table p.entering };
 }
@@ -109,7 +113,7 @@ fn route_to(interfaces: &[InterfaceLine], line: &Line) -> Option<Route>
             prefix: route.prefix,
             interface: known_index(interfaces, route.name),
         }),
-        Line::Default(_) => None,
+        Line::Default(_) | Line::Idle(_) => None,
     }
 }
 
@@ -145,7 +149,9 @@ fn entering(interfaces: &[InterfaceLine], defaults: &[&[u8]]) -> IfIndex
 fn plant_of(alloc: Global, lines: &[Line]) -> Result<Plant, AllocError>
     requires lines { each_is_line (map line_tree lines.now) }
     requires names { KnowsNames (map line_tree lines.now) }
-    ensures { IfOk result (λ plant. plant ≡ plant_of (map line_tree lines.now)) }
+    requires range { list_any is_out_of_range (idles_in (map line_tree lines.now)) ≡ false }
+    ensures value { IfOk result (λ plant. plant ≡ plant_of (map line_tree lines.now) plant.idle) }
+    ensures limits { IfOk result (λ plant. AreLimits (idles_in (map line_tree lines.now)) plant.idle) }
 {
     let found = interfaces(alloc, lines)?;
     let defaults = defaults(alloc, lines)?;
@@ -153,11 +159,14 @@ fn plant_of(alloc: Global, lines: &[Line]) -> Result<Plant, AllocError>
     let interfaces = copied(alloc, &found)?;
     let routes = routes(alloc, &found, lines)?;
     let table = table(alloc, &routes)?;
+    let idle_lines = idles(alloc, lines)?;
+    let idle = limits(&idle_lines);
     Ok(Plant {
         interfaces,
         routes,
         table,
         entering,
+        idle,
     })
 }
 
@@ -280,5 +289,13 @@ impl Plant {
         ensures index { IsIndex result }
     {
         self.entering
+    }
+
+    /// For how long connections may be idle: as the text says, and of a kind that it doesn't name as
+    /// is usual.
+    pub fn idle(&self) -> Limits
+        ensures { result ≡ self.now.idle }
+    {
+        self.idle
     }
 }

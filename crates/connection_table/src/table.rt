@@ -12,9 +12,10 @@ ghost use Rattle.translation.specs.Mapped.{listed, mappings_in};
 ghost use Rattle.translation.specs.Ways.{way_by};
 ghost use Rattle.connection_table.specs.Table.{IsOpen, begun_as};
 
+use box_file::Limits;
 use conntrack::laws::{looked_up, none_later};
 use conntrack::{
-    Aged, BeginError, Belonging, Connection, Flags, Limits, Memory, Moment, Place, Steps, Tracker,
+    Aged, BeginError, Belonging, Connection, Flags, Memory, Moment, Place, Steps, Tracker,
 };
 use ip_headers::{Mapping as Mapped, Tuple};
 use nat_mapping::Mappings;
@@ -211,7 +212,7 @@ impl<T: Tracker> ConnectionTable<T> {
 /// One holder more of a mapping, if there is one, for which there is room.
 fn hold(mappings: &mut Mappings, mapping: Option<Mapped>)
     requires one_to_one { IsOneToOne (listed mapping ++ mappings.old.held) }
-    requires few { (m : Mapping) → holders_of m mappings.old.held ≤ 131072 }
+    requires few { (m : Mapping) → holders_of m mappings.old.held ≤ 2097152 }
     requires room { 0 < mappings.old.room }
     ensures held { HoldsSame (listed mapping ++ mappings.old.held) mappings.new.held }
     ensures room { mappings.old.room ≤ mappings.new.room + 1 }

@@ -13,7 +13,7 @@ use Rattle.conntrack.specs.declared.connection.Held.{Held}
 use Rattle.conntrack.specs.declared.connection.ConnId.{ConnId}
 use Rattle.conntrack.specs.declared.connection.Flags.{Flags}
 use Rattle.conntrack.specs.declared.connection.Direction.{Direction}
-use Rattle.conntrack.specs.declared.limits.Limits.{Limits}
+use Rattle.box_file.specs.declared.limits.Limits.{Limits}
 use Rattle.conntrack.specs.Held.{has_id, same_id, has_distinct_ids, touched, touched_at, is_live, live_at, begun_with, limit_of}
 use Rattle.conntrack.specs.Phases.{limit_by, phase_of}
 use Rattle.conntrack.specs.Stories.{Tracked, What, Nothing, Begins, Touches, is_that, live_list}

@@ -13,7 +13,7 @@ use Rattle.conntrack.specs.declared.connection.ConnId.{ConnId}
 use Rattle.ip_headers.specs.declared.tuple.Tuple.{Tuple}
 use Rattle.conntrack.specs.declared.connection.Flags.{Flags}
 use Rattle.conntrack.specs.declared.connection.Direction.{Direction}
-use Rattle.conntrack.specs.declared.limits.Limits.{Limits}
+use Rattle.box_file.specs.declared.limits.Limits.{Limits}
 use Rattle.conntrack.specs.Held.{has_id, same_id, has_distinct_ids, touched, touched_at, without, is_live, live_at, is_taken, is_incoming, are_apart}
 use Rattle.conntrack.specs.steps.Names.{has_ids_below}
 use Rattle.ip_headers.specs.Same.{same_tuple}

@@ -11,7 +11,7 @@ use Rattle.ip_headers.specs.Same.{same_tuple}
 use Rattle.conntrack.specs.Phases.{is_lone_syn, is_closing}
 use Rattle.conntrack.specs.declared.belonging.Belonging.TheVariants.{Ends, Found}
 use Rattle.conntrack.specs.declared.connection.Direction.TheVariants.{Original}
-use Rattle.conntrack.specs.declared.limits.Limits.{Limits}
+use Rattle.box_file.specs.declared.limits.Limits.{Limits}
 use Rattle.conntrack.specs.Stories.{Tracked, StandsAt, belongs, live_list}
 
 pub option_map-find : {A B : Type 0} (f : A → B) (p : B → Bool) (xs : List A) → option_map f (find (λ x. p (f x)) xs) ≡ find p (map f xs)

@@ -8,7 +8,7 @@ use Rattle.std.proofs.lemmas.List.Elements.{filter-append}
 use Rattle.std.proofs.Math.Bool.{or-false}
 use Rattle.conntrack.specs.declared.connection.Direction.{Direction}
 use Rattle.conntrack.specs.declared.connection.Flags.{Flags}
-use Rattle.conntrack.specs.declared.limits.Limits.{Limits}
+use Rattle.box_file.specs.declared.limits.Limits.{Limits}
 use Rattle.conntrack.specs.Held.{is_live, live_at, touched, begun_with}
 use Rattle.conntrack.specs.Stories.{Beginning, Tracked, What, Nothing, Begins, Touches, begun_in, number_if_begins, is_ended, is_that, connection_in, told, beginning_of, entries_of, does_touch, live_list}
 use Rattle.conntrack.specs.steps.Changes.{unended, changed_by, connection_begun, touched_if, begun_by}

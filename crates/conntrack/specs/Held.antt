@@ -13,7 +13,7 @@ use Rattle.conntrack.specs.declared.connection.Direction.{Direction}
 use Rattle.conntrack.specs.declared.connection.Direction.TheVariants.{Original, Reply}
 use Rattle.conntrack.specs.declared.connection.Flags.{Flags}
 use Rattle.conntrack.specs.declared.connection.Held.{Held}
-use Rattle.conntrack.specs.declared.limits.Limits.{Limits}
+use Rattle.box_file.specs.declared.limits.Limits.{Limits}
 use Rattle.conntrack.specs.declared.belonging.Belonging.{Belonging}
 use Rattle.conntrack.specs.declared.belonging.Belonging.TheVariants.{Nowhere, Ends, Found}
 use Rattle.conntrack.specs.declared.belonging.Place.{Place}
@@ -148,7 +148,7 @@ taken_out id held = option_map aged_of (find (same_id id) held)
 
 -- so many are held at most (own)
 abbrev pub most_held : ℕ
-most_held = 65536
+most_held = 1048576
 
 -- ---- what a packet belongs to
 

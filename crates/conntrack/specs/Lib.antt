@@ -1,5 +1,4 @@
 pub mod Tuples
-pub mod Limits
 pub mod Phases
 pub mod Held
 pub mod Stories

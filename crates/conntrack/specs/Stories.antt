@@ -10,7 +10,7 @@ use Rattle.conntrack.specs.declared.connection.Direction.TheVariants.{Original}
 use Rattle.conntrack.specs.declared.connection.Flags.{Flags}
 use Rattle.conntrack.specs.declared.connection.Held.{Held}
 use Rattle.conntrack.specs.declared.connection.Phase.{Phase}
-use Rattle.conntrack.specs.declared.limits.Limits.{Limits}
+use Rattle.box_file.specs.declared.limits.Limits.{Limits}
 use Rattle.conntrack.specs.declared.belonging.Belonging.{Belonging}
 use Rattle.conntrack.specs.Phases.{phase_by}
 use Rattle.conntrack.specs.Held.{is_original, is_reply, is_live, live_at, belongs_in, nameless}

@@ -7,9 +7,9 @@ use Rattle.ip_headers.specs.Tuple.{inverse}
 use Rattle.conntrack.specs.declared.connection.Direction.{Direction}
 use Rattle.conntrack.specs.declared.connection.Direction.TheVariants.{Original, Reply}
 use Rattle.conntrack.specs.declared.connection.Flags.{Flags}
-use Rattle.conntrack.specs.declared.limits.Limits.{Limits}
+use Rattle.box_file.specs.declared.limits.Limits.{Limits}
 use Rattle.conntrack.specs.Phases.{flags_of, no_flags, seconds}
-use Rattle.conntrack.specs.Limits.{usual_limits}
+use Rattle.box_file.specs.Idle.{usual_limits}
 use Rattle.conntrack.specs.Stories.{Tracked, What, Nothing, Begins, Touches, live_list}
 
 -- ---- tuples

@@ -3,7 +3,8 @@ ghost use Rattle.std.specs.Prelude.{◌≡◌, true};
 ghost use Rattle.conntrack.specs.Phases.{flags_of, is_closing, is_lone_syn, no_flags, phase_by, phase_of, seen_more};
 ghost use Rattle.conntrack.specs.Held.{aged_of, connection_of, is_live, limit_of, touched};
 
-use crate::limits::Limits;
+use crate::limits::limit_by;
+use box_file::Limits;
 use ip_headers::{Mapping, Tuple};
 
 /// In nanoseconds since 1970.
@@ -163,7 +164,7 @@ impl Held {
     pub fn limit(&self, limits: Limits) -> u64
         ensures { result ≡ limit_of limits self.now }
     {
-        limits.limit_by(self.original.kind, self.phase())
+        limit_by(limits, self.original.kind, self.phase())
     }
 
     /// Whether it is live at a moment: less than its limit has passed since its last packet.

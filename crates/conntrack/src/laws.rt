@@ -5,7 +5,7 @@ ghost use Rattle.ip_headers.specs.declared.tuple.Tuple.{Tuple};
 ghost use Rattle.conntrack.specs.declared.connection.ConnId.{ConnId};
 ghost use Rattle.conntrack.specs.declared.connection.Flags.{Flags};
 ghost use Rattle.conntrack.specs.declared.connection.Held.{Held};
-ghost use Rattle.conntrack.specs.declared.limits.Limits.{Limits};
+ghost use Rattle.box_file.specs.declared.limits.Limits.{Limits};
 ghost use Rattle.conntrack.specs.declared.belonging.Belonging.{Belonging};
 ghost use Rattle.conntrack.specs.declared.belonging.Belonging.TheVariants.{Ends, Found, Nowhere};
 ghost use Rattle.conntrack.specs.declared.belonging.Place.{Place};

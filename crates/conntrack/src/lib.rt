@@ -12,7 +12,7 @@ pub mod trials;
 
 pub use belonging::{Belonging, Place, State};
 pub use connection::{Aged, ConnId, Connection, Direction, Flags, Held, Moment, Phase};
-pub use limits::Limits;
+pub use limits::limit_by;
 pub use list_tracker::ListTracker;
 pub use step_count::Steps;
 pub use tracker::{BeginError, LIMIT, Memory, Tracker};

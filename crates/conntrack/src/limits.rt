@@ -1,68 +1,23 @@
 //! For how long connections may be idle.
-ghost use Rattle.std.specs.Prelude.{◌&&◌, IsTrue, nat_lt};
+ghost use Rattle.std.specs.Prelude.{◌≡◌};
+ghost use Rattle.conntrack.specs.Phases.{limit_by};
 
 use crate::connection::Phase;
+use box_file::Limits;
 use ip_headers::Kind;
 
 const NANOSECONDS_IN_SECOND: u64 = 1_000_000_000;
 
-// The least for an established connection of TCP: two hours and four minutes (RFC 5382, REQ-5).
-const USUAL_ESTABLISHED: u32 = 7_440;
-// The least for one of TCP that opens or closes: four minutes (RFC 5382, REQ-5).
-const USUAL_TRANSITORY: u32 = 240;
-// What is recommended for UDP: five minutes (RFC 4787, REQ-5).
-const USUAL_UDP: u32 = 300;
-// The least for an echo: one minute (RFC 5508, REQ-2).
-const USUAL_ASK: u32 = 60;
-// For other protocols no RFC says: ten minutes.
-const USUAL_OTHER: u32 = 600;
-
-/// For how many seconds after its last packet a connection is live. No limit is 0: a connection is
-/// live at the moment of its packet.
-#[derive(Clone, Copy)]
-pub struct Limits {
-    /// Of TCP, once it is established.
-    pub established: u32,
-    /// Of TCP, while it opens and while it closes.
-    pub transitory: u32,
-    /// Of UDP.
-    pub udp: u32,
-    /// Of ICMP, begun by an ask for an echo.
-    pub ask: u32,
-    /// Of another protocol.
-    pub other: u32,
-    pub ghost positive: { IsTrue (nat_lt 0 established && nat_lt 0 transitory && nat_lt 0 udp && nat_lt 0 ask && nat_lt 0 other) },
-}
-
-impl Limits {
-    ghost use Rattle.std.specs.Prelude.{◌≡◌};
-    ghost use Rattle.conntrack.specs.Limits.{usual_limits};
-    ghost use Rattle.conntrack.specs.Phases.{limit_by};
-
-    /// Those of a box where nothing else is said.
-    pub fn usual() -> Self
-        ensures { result ≡ usual_limits }
-    {
-        Limits {
-            established: USUAL_ESTABLISHED,
-            transitory: USUAL_TRANSITORY,
-            udp: USUAL_UDP,
-            ask: USUAL_ASK,
-            other: USUAL_OTHER,
-        }
-    }
-
-    /// For how many nanoseconds a connection of this kind that is so far may be idle.
-    pub fn limit_by(self, kind: Kind, phase: Phase) -> u64
-        ensures { result ≡ limit_by self kind phase }
-    {
-        let seconds = match (kind, phase) {
-            (Kind::Udp, _) => self.udp,
-            (Kind::Tcp, Phase::Established) => self.established,
-            (Kind::Tcp, Phase::Opening | Phase::Closing) => self.transitory,
-            (Kind::Ask | Kind::Answer, _) => self.ask,
-            (Kind::Other(_), _) => self.other,
-        };
-        u64::from(seconds) * NANOSECONDS_IN_SECOND
-    }
+/// For how many nanoseconds a connection of this kind that is so far may be idle.
+pub fn limit_by(limits: Limits, kind: Kind, phase: Phase) -> u64
+    ensures { result ≡ limit_by limits kind phase }
+{
+    let seconds = match (kind, phase) {
+        (Kind::Udp, _) => limits.udp,
+        (Kind::Tcp, Phase::Established) => limits.established,
+        (Kind::Tcp, Phase::Opening | Phase::Closing) => limits.transitory,
+        (Kind::Ask | Kind::Answer, _) => limits.ask,
+        (Kind::Other(_), _) => limits.other,
+    };
+    u64::from(seconds) * NANOSECONDS_IN_SECOND
 }

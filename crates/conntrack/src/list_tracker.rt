@@ -7,9 +7,9 @@ ghost use Rattle.conntrack.specs.Held.{are_apart, belongs_in, has_distinct_ids, 
 
 use crate::belonging::{Belonging, Place};
 use crate::connection::{Aged, ConnId, Connection, Direction, Flags, Held, Moment};
-use crate::limits::Limits;
 use crate::step_count::Steps;
 use crate::tracker::{BeginError, LIMIT, Memory, Tracker};
+use box_file::Limits;
 use ip_headers::Tuple;
 use std::alloc::Global;
 

@@ -5,14 +5,14 @@ ghost use Rattle.conntrack.specs.Stories.{Tracked, StandsAt, belongs};
 
 use crate::belonging::Belonging;
 use crate::connection::{Aged, ConnId, Connection, Direction, Flags, Moment};
-use crate::limits::Limits;
 use crate::step_count::Steps;
+use box_file::Limits;
 use ip_headers::Tuple;
 use std::alloc::Global;
 use thiserror::Error;
 
 /// How many connections are held at most.
-pub const LIMIT: usize = 65_536;
+pub const LIMIT: usize = 1_048_576;
 
 /// There was no room to grow.
 #[derive(Clone, Copy, Debug, PartialEq, Eq, Error)]
@@ -35,7 +35,7 @@ pub enum BeginError {
 /// are facts of the table that a call is made on, which the call hands out, and no results of it.
 pub trait Tracker: Drop {
     ghost use Rattle.conntrack.specs.declared.connection.Held.{Held};
-    ghost use Rattle.conntrack.specs.declared.limits.Limits.{Limits};
+    ghost use Rattle.box_file.specs.declared.limits.Limits.{Limits};
 
     /// What it holds, in order of beginning, the dead that weren't taken out included.
     ghost held: { Self → List Held };

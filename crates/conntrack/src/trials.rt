@@ -7,7 +7,7 @@ ghost use Rattle.conntrack.specs.declared.belonging.State.TheVariants as states;
 ghost use Rattle.conntrack.specs.declared.connection.Direction.TheVariants as ways;
 ghost use Rattle.conntrack.specs.declared.connection.Phase.TheVariants as phases;
 ghost use Rattle.conntrack.specs.Phases.{no_flags, seconds};
-ghost use Rattle.conntrack.specs.Limits.{usual_limits};
+ghost use Rattle.box_file.specs.Idle.{usual_limits};
 ghost use Rattle.conntrack.specs.Held.{state_of};
 ghost use Rattle.conntrack.specs.Stories.{belongs, phase};
 ghost use Rattle.conntrack.specs.Trials.{alive_at, alive_by, asked, begins, begins_anew, begins_as_one, crossed, fin_ack, from_a, is_dropped, opened, opening, plain_ack, question, refused, sends, short_limits, syn, syn_ack, web};

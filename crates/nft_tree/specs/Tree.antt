@@ -150,6 +150,7 @@ pub data Statement : Type 0 where
   matching : MatchTree → Statement
   counter : Option CounterStart → Statement
   log : Option Text → Statement
+  notrack : Statement
   set_mark : MarkField → OperandTree → Statement
   verdict_map : Selector → MapRefTree → Statement
   verdict : VerdictTree → Statement
@@ -290,6 +291,7 @@ abbrev pub statement : Stmt → Statement
 statement (stmts.Match m) = matching (match_tree m)
 statement (stmts.Counter start) = counter start
 statement (stmts.Log text) = log (option_map (λ t. t.items) text)
+statement stmts.NoTrack = notrack
 statement (stmts.SetMark m o) = set_mark m (operand_tree o)
 statement (stmts.VerdictMap s m) = verdict_map s (map_ref_tree m)
 statement (stmts.Verdict v) = verdict (verdict_tree v)

@@ -114,7 +114,8 @@ selector_width selectors.CtStatus = 32
 
 -- ---- bits
 
--- the bits of a connection's state (NF_CT_STATE_INVALID_BIT and NF_CT_STATE_BIT of linux/netfilter/nf_conntrack_common.h)
+-- the bits of a connection's state (NF_CT_STATE_INVALID_BIT, NF_CT_STATE_BIT and
+-- NF_CT_STATE_UNTRACKED_BIT of linux/netfilter/nf_conntrack_common.h)
 abbrev pub STATE_INVALID : ℕ
 STATE_INVALID = 1
 
@@ -126,6 +127,9 @@ STATE_RELATED = 4
 
 abbrev pub STATE_NEW : ℕ
 STATE_NEW = 8
+
+abbrev pub STATE_UNTRACKED : ℕ
+STATE_UNTRACKED = 64
 
 -- the bits of its status (IPS_SEEN_REPLY, IPS_SRC_NAT and IPS_DST_NAT there)
 abbrev pub STATUS_SEEN_REPLY : ℕ
@@ -197,6 +201,7 @@ words_of value_types.CtState =
     ∷ (codes "established", STATE_ESTABLISHED)
     ∷ (codes "related", STATE_RELATED)
     ∷ (codes "new", STATE_NEW)
+    ∷ (codes "untracked", STATE_UNTRACKED)
     ∷ []
 words_of value_types.CtDirection = (codes "original", 0) ∷ (codes "reply", 1) ∷ []
 words_of value_types.CtStatus =

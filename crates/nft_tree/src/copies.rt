@@ -135,6 +135,7 @@ impl Stmt {
             Stmt::Match(test) => Stmt::Match(test.try_clone()?),
             Stmt::Counter(start) => Stmt::Counter(*start),
             Stmt::Log(prefix) => Stmt::Log(prefix.clone()?),
+            Stmt::NoTrack => Stmt::NoTrack,
             Stmt::SetMark(mark, operand) => Stmt::SetMark(*mark, operand.try_clone()?),
             Stmt::VerdictMap(selector, map) => Stmt::VerdictMap(*selector, map.try_clone()?),
             Stmt::Verdict(verdict) => Stmt::Verdict(verdict.try_clone()?),

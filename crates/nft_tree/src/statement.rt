@@ -11,6 +11,8 @@ pub enum Stmt {
     Counter(Option<CounterStart>),
     /// `log`, with its prefix
     Log(Option<Vec<u8>>),
+    /// `notrack`
+    NoTrack,
     /// `meta mark set`, `ct mark set`
     SetMark(MarkField, Operand),
     /// `SELECTOR vmap MAP`
@@ -27,6 +29,7 @@ impl Drop for Stmt {
             Stmt::Match(_) => {}
             Stmt::Counter(_) => {}
             Stmt::Log(_) => {}
+            Stmt::NoTrack => {}
             Stmt::SetMark(_, _) => {}
             Stmt::VerdictMap(_, _) => {}
             Stmt::Verdict(_) => {}

@@ -72,11 +72,12 @@ static ICMP_TYPES: [(&[u8], u32); 15] = [
 
 static FAMILIES: [(&[u8], u32); 2] = [(b"ipv4", 2), (b"ipv6", 10)];
 
-static CT_STATES: [(&[u8], u32); 4] = [
+static CT_STATES: [(&[u8], u32); 5] = [
     (b"invalid", 1),
     (b"established", 2),
     (b"related", 4),
     (b"new", 8),
+    (b"untracked", 64),
 ];
 
 static CT_DIRECTIONS: [(&[u8], u32); 2] = [(b"original", 0), (b"reply", 1)];

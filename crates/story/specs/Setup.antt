@@ -2,14 +2,13 @@
 use Rattle.std.specs.Prelude.{List}
 use Rattle.nft_tree.specs.Tree.{TableTree}
 use Rattle.box_file.specs.Box.{PlantTree}
-use Rattle.conntrack.specs.declared.limits.Limits.{Limits}
-use Rattle.conntrack.specs.Limits.{usual_limits}
+use Rattle.box_file.specs.declared.limits.Limits.{Limits}
 
 -- its rules and its plant
 pub record Setup : Type 0 where
   pub rules : List TableTree
   pub plant : PlantTree
 
--- for how long its connections may be idle: the same for every box today; all that speaks of them asks the setup
+-- for how long its connections may be idle
 abbrev pub limits_of : Setup → Limits
-limits_of setup = usual_limits
+limits_of setup = setup.plant.idle

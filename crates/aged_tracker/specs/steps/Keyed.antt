@@ -7,7 +7,7 @@ use Rattle.conntrack.specs.declared.connection.Flags.{Flags}
 use Rattle.conntrack.specs.declared.connection.Direction.TheVariants.{Reply}
 use Rattle.conntrack.specs.declared.belonging.Belonging.{Belonging}
 use Rattle.conntrack.specs.declared.belonging.Belonging.TheVariants.{Nowhere, Found}
-use Rattle.conntrack.specs.declared.limits.Limits.{Limits}
+use Rattle.box_file.specs.declared.limits.Limits.{Limits}
 use Rattle.conntrack.specs.Held.{belonging_by, is_incoming, is_live, place_of}
 use Rattle.aged_tracker.specs.declared.aged_slots.AgedSlots.{AgedSlots}
 use Rattle.aged_tracker.specs.steps.Table.{IsTable, held_by, slots_of}

@@ -8,7 +8,7 @@ use Rattle.ip_headers.specs.declared.tuple.Kind.TheVariants.{Tcp, Udp, Ask, Answ
 use Rattle.conntrack.specs.declared.connection.Phase.{Phase}
 use Rattle.conntrack.specs.declared.connection.Phase.TheVariants.{Opening, Established, Closing}
 use Rattle.conntrack.specs.declared.connection.Held.{Held}
-use Rattle.conntrack.specs.declared.limits.Limits.{Limits}
+use Rattle.box_file.specs.declared.limits.Limits.{Limits}
 use Rattle.conntrack.specs.Phases.{phase_of, seconds}
 use Rattle.conntrack.specs.Held.{is_live}
 use Rattle.aged_tracker.specs.declared.aged_slots.AgedSlots.{AgedSlots}

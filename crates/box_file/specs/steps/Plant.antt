@@ -3,14 +3,15 @@ use Rattle.std.specs.Prelude.{◌≡◌, false, List, [], ◌∷◌, map, ℕ}
 use Rattle.box_file.specs.declared.plant.Interface as kept
 use Rattle.set_intervals.specs.declared.range.Range.{Range}
 use Rattle.box_file.specs.declared.routes.Route.{Route}
+use Rattle.box_file.specs.declared.limits.Limits.{Limits}
 use Rattle.box_file.specs.Box.{Interface, RouteTo, PlantTree, Line, IsIndex, interfaces_in, routes_in, defaults_in, is_misformed, has_unknown}
 use Rattle.box_file.specs.steps.Best.{way_tree, GivesBest}
 
 abbrev pub interface_of : kept.Interface → Interface
 interface_of i = record { index = i.index; name = i.name.items; address = i.address; prefix = i.prefix }
 
-abbrev pub plant_tree : List kept.Interface → List Route → ℕ → PlantTree
-plant_tree interfaces routes entering = record { interfaces = map interface_of interfaces; routes = map way_tree routes; entering = entering }
+abbrev pub plant_tree : List kept.Interface → List Route → ℕ → Limits → PlantTree
+plant_tree interfaces routes entering idle = record { interfaces = map interface_of interfaces; routes = map way_tree routes; entering = entering; idle = idle }
 
 abbrev pub EachIndexed : List Interface → Type 0
 EachIndexed [] = Unit {0}

@@ -2,15 +2,18 @@
 use Rattle.std.specs.Prelude.{ℕ, ◌+◌, ◌*◌, ◌-◌, ◌^◌, ◌%◌, ◌==◌, ◌&&◌, ◌||◌, not, nat_lt, Bool, true, false, List, [], ◌∷◌, length, map, filter, Option, Some, None, unwrap_or, if◌then◌else◌, codes}
 use Rattle.std.specs.List.{list_all}
 use Rattle.std.specs.Option.{option_map}
-use Rattle.std.specs.Char.{is_ascii_digit}
 use Rattle.std.specs.Str.Parse.{digits_value}
 use Rattle.list_laws.specs.Options.{◌>>=◌}
 use Rattle.box_file.specs.declared.line.InterfaceLine.{InterfaceLine}
 use Rattle.box_file.specs.declared.line.RouteLine.{RouteLine}
+use Rattle.box_file.specs.declared.idle_line.IdleLine.{IdleLine}
+use Rattle.box_file.specs.declared.idle_line.IdleKind.{IdleKind}
+use Rattle.box_file.specs.declared.idle_line.IdleKind.TheVariants as kinds
 use Rattle.box_file.specs.declared.line.Line as kept
 use Rattle.box_file.specs.declared.line.Line.TheVariants as lines
-use Rattle.box_file.specs.Text.{is_blank, has_some, words_of, lines_of}
-use Rattle.box_file.specs.Box.{Interface, NamedRoute, Line, interface_line, route_line, default_line, is_name_byte, same_text}
+use Rattle.box_file.specs.Text.{is_blank, is_numeral, has_some, words_of, lines_of}
+use Rattle.box_file.specs.Idle.{word_of}
+use Rattle.box_file.specs.Box.{Interface, NamedRoute, Idle, Line, interface_line, route_line, default_line, idle_line, is_name_byte, same_text}
 
 -- ---- lines without where their names lie in memory
 
@@ -20,10 +23,14 @@ interface_tree i = record { index = i.index; name = i.name.now; address = i.addr
 abbrev pub route_tree : RouteLine → NamedRoute
 route_tree r = record { address = r.address; prefix = r.prefix; name = r.name.now }
 
+abbrev pub idle_tree : IdleLine → Idle
+idle_tree i = record { kind = i.kind; digits = i.seconds.now }
+
 abbrev pub line_tree : kept.Line → Line
 line_tree (lines.Interface i) = interface_line (interface_tree i)
 line_tree (lines.Route r) = route_line (route_tree r)
 line_tree (lines.Default n) = default_line n.now
+line_tree (lines.Idle i) = idle_line (idle_tree i)
 
 -- ---- steps
 
@@ -56,11 +63,6 @@ abbrev pub ends_word : ℕ → Bool
 ends_word b = is_blank b || b == 35
 
 -- ---- numbers, names, addresses
-
--- digits, without a leading zero
-abbrev pub is_numeral : List ℕ → Bool
-is_numeral [] = false
-is_numeral (d ∷ ds) = list_all is_ascii_digit (d ∷ ds) && (not (d == 48) || length ds == 0)
 
 -- the number that all of the bytes write
 unfoldable pub number_in : List ℕ → Option ℕ
@@ -124,13 +126,32 @@ default_words ws = do
   name ← name_in a.0
   if has_none a.1 then Some (default_line name) else None
 
+-- the kind of a word
+abbrev pub kind_in : List ℕ → Option IdleKind
+kind_in word =
+    if same_text word (word_of kinds.Udp) then Some kinds.Udp
+    else (if same_text word (word_of kinds.Established) then Some kinds.Established
+    else (if same_text word (word_of kinds.Transitory) then Some kinds.Transitory
+    else (if same_text word (word_of kinds.Ask) then Some kinds.Ask
+    else (if same_text word (word_of kinds.Other) then Some kinds.Other
+    else None))))
+
+-- the words behind `idle`
+unfoldable pub idle_words : List (List ℕ) → Option Line
+idle_words ws = do
+  a ← uncons ws
+  b ← uncons a.1
+  kind ← kind_in a.0
+  if has_none b.1 && is_numeral b.0 then Some (idle_line (record { kind = kind; digits = b.0 })) else None
+
 -- the line that begins with the word
 abbrev pub line_of : List ℕ → List (List ℕ) → Option Line
 line_of word ws =
     if same_text word (codes "interface") then interface_words ws
     else (if same_text word (codes "route") then route_words ws
     else (if same_text word (codes "default") then default_words ws
-    else None))
+    else (if same_text word (codes "idle") then idle_words ws
+    else None)))
 
 unfoldable pub line_in : List (List ℕ) → Option Line
 line_in ws = uncons ws >>= λ a. line_of a.0 a.1

@@ -1,7 +1,8 @@
 -- What the tests of the lines compute: names as numbers, pairs of numbers.
 use Rattle.std.specs.Prelude.{ℕ, ◌+◌, ◌*◌, ◌<◌, ◌%◌, ◌^◌, ◌==◌, ◌&&◌, not, nat_eq, Bool, List, [], ◌∷◌, fold, reverse, Option, Some, None, if◌then◌else◌}
 use Rattle.std.specs.List.{list_any}
-use Rattle.box_file.specs.Box.{Interface, NamedRoute, IsName}
+use Rattle.box_file.specs.Box.{Interface, NamedRoute, Idle, IsName}
+use Rattle.box_file.specs.Idle.{number_of}
 
 -- one key with two values
 abbrev pub two_values : ℕ × ℕ → ℕ × ℕ → Bool
@@ -32,6 +33,10 @@ name_and_index i = (key_of i.name, i.index)
 -- a prefix as one number
 abbrev pub prefix_key : NamedRoute → ℕ
 prefix_key r = r.address * 256 + r.prefix
+
+-- the kind of an idle limit as a number
+abbrev pub kind_key : Idle → ℕ
+kind_key i = number_of i.kind
 
 -- ---- what lines say, list by list
 

@@ -1,12 +1,17 @@
 use Rattle.std.proofs.Common.{◌≡◌, ℕ, List, map, ap, ◌∙◌}
 use Rattle.std.specs.Borrow.{Bor}
 use Rattle.std.specs.List.{filter_map}
-use Rattle.box_file.specs.Box.{Interface, interfaces_in, defaults_in, route_to, entering_of}
-use Rattle.box_file.specs.steps.Reading.{interface_tree, line_tree}
+use Rattle.box_file.specs.Box.{Idle, Interface, interfaces_in, defaults_in, idles_in, idle_for, route_to, entering_of}
+use Rattle.box_file.specs.steps.Reading.{interface_tree, idle_tree, line_tree}
 use Rattle.box_file.specs.steps.Best.{way_tree}
 use Rattle.box_file.specs.steps.Plant.{interface_of}
 use Rattle.box_file.proofs.PlantLaws.{each_indexed, each_way, entry_is_index, sound_indexes, sound_ways, sound_entry, sound_table}
 use Rattle.box_file.proofs.plant.plant_of.Goals as goal
+
+pub returns-clause-limits : goal.returns-clause-limits
+returns-clause-limits c k =
+    let said : map idle_tree c.deref-6.result.now ≡ idles_in (map line_tree c.args.lines.now) = ap (map idle_tree) c.deref-6.ensures.value ∙ c.in_ok-idle_lines.ensures in
+    c.limits-idle.ensures k ∙ ap (λ (is : List Idle). idle_for is k) said
 
 pub invariant_of-result : goal.invariant_of-result
 invariant_of-result c =

@@ -23,8 +23,8 @@ among_others draft mappings fits m (inl first) =
     Contains-append_right (listed draft.source) mappings m (fits.among m (listed_is draft.dest m first))
 among_others draft mappings fits m (inr other) = other
 
-few_held : (held : List Held) (mappings : List Mapping) → HoldsSame (mappings_in held) mappings → length held < 65536
-    → (m : Mapping) → holders_of m mappings ≤ 131070
+few_held : (held : List Held) (mappings : List Mapping) → HoldsSame (mappings_in held) mappings → length held < 1048576
+    → (m : Mapping) → holders_of m mappings ≤ 2097150
 few_held held mappings same few m =
     omega (arith, same m, holders-le-length m (mappings_in held), length-mappings_in held)
 
@@ -32,8 +32,8 @@ fits_there : (draft : Draft) (one other : List Held) → one ≡ other → IsFit
     → IsFitting draft (mappings_in one)
 fits_there draft one other same fits = rw same fits
 
-not_full : (id : ConnId) (n : ℕ) → (65536 ≤ n → ◌≡◌ {A = Result ConnId BeginError} (Ok id) (Err Full)) → n < 65536
-not_full id n full = elim (cases_lt n 65536) [ inl few ↦ few | inr many ↦ let e = full many in cc ]
+not_full : (id : ConnId) (n : ℕ) → (1048576 ≤ n → ◌≡◌ {A = Result ConnId BeginError} (Ok id) (Err Full)) → n < 1048576
+not_full id n full = elim (cases_lt n 1048576) [ inl few ↦ few | inr many ↦ let e = full many in cc ]
 
 pub hold-requires-clause-one_to_one : goal.hold-requires-clause-one_to_one
 hold-requires-clause-one_to_one g c =

@@ -1,0 +1,67 @@
+//! What the idle lines say.
+ghost use Rattle.std.specs.Prelude.{◌≡◌, ◌<◌, ◌≤◌, ◌^◌, false, find, map};
+ghost use Rattle.std.specs.List.{list_any};
+ghost use Rattle.std.specs.Option.{option_map};
+ghost use Rattle.box_file.specs.Idle.{limit_for, usual_limits};
+ghost use Rattle.box_file.specs.Box.{AreLimits, idle_for, is_of_kind, is_out_of_range, seconds_of};
+ghost use Rattle.box_file.specs.steps.Reading.{idle_tree};
+
+use crate::idle_line::{GREATEST, IdleKind, IdleLine};
+use crate::limits::Limits;
+use crate::numbers::number;
+
+/// The seconds that the line says, or where they are more than a `u32` holds the greatest of these.
+fn seconds(line: &IdleLine) -> u32
+    ensures small { seconds_of (idle_tree line.now) < 2 ^ 32 → result ≡ seconds_of (idle_tree line.now) }
+    ensures large { 2 ^ 32 ≤ seconds_of (idle_tree line.now) → result ≡ 4294967295 }
+{
+    number(line.seconds).unwrap_or(u32::MAX)
+}
+
+/// Whether the seconds are below the least for the line's kind, or above a week.
+pub fn is_out_of_range(line: &IdleLine) -> bool
+    ensures { result ≡ is_out_of_range (idle_tree line.now) }
+{
+    let seconds = seconds(line);
+    seconds < line.kind.least() || GREATEST < seconds
+}
+
+/// The first line of the kind.
+fn with_kind<'i, 't>(lines: &'i [IdleLine<'t>], kind: IdleKind) -> Option<&'i IdleLine<'t>>
+    ensures { option_map (λ i. idle_tree i.now) result ≡ find (is_of_kind kind) (map idle_tree lines.now) }
+{
+    let mut rest = lines;
+    while let [line, others @ ..] = rest {
+        if line.kind == kind {
+            return Some(line);
+        }
+        rest = others;
+    }
+    None
+}
+
+/// The seconds that the lines, which are all in range, say for the kind.
+fn limit(lines: &[IdleLine], kind: IdleKind) -> u32
+    requires { list_any is_out_of_range (map idle_tree lines.now) ≡ false }
+    ensures value { result ≡ idle_for (map idle_tree lines.now) kind }
+    ensures positive { 0 < result }
+{
+    match with_kind(lines, kind) {
+        Some(line) => seconds(line),
+        None => Limits::usual().of(kind),
+    }
+}
+
+/// What the lines, which are all in range, say for each kind.
+pub fn limits(lines: &[IdleLine]) -> Limits
+    requires { list_any is_out_of_range (map idle_tree lines.now) ≡ false }
+    ensures { AreLimits (map idle_tree lines.now) result }
+{
+    Limits {
+        established: limit(lines, IdleKind::Established),
+        transitory: limit(lines, IdleKind::Transitory),
+        udp: limit(lines, IdleKind::Udp),
+        ask: limit(lines, IdleKind::Ask),
+        other: limit(lines, IdleKind::Other),
+    }
+}
