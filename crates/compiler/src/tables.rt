@@ -40,6 +40,7 @@ fn table_code(
         add_rules(alloc, plant, names, number, &chain.rules, &mut code)?;
         rest = others;
     }
+    code.steps.index(alloc)?;
     Ok(code)
 }
 

@@ -3,3 +3,5 @@ pub mod Joins
 pub mod Sayings
 pub mod Moves
 pub mod Guarding
+pub mod Seeking
+pub mod Finding

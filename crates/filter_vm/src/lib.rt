@@ -5,10 +5,12 @@
 mod actions;
 mod code;
 mod events;
+mod finding;
 mod guards;
 mod joined;
 mod machine;
 mod reading;
+mod runs;
 mod stack;
 
 pub use code::{Action, Code, Instruction, Lookups, Operand, Start, Step, TableCode};

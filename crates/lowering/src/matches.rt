@@ -126,24 +126,28 @@ pub(crate) fn test_packet(
     ensures says { IfOk result (LowersTo lookups.new (λ f. passes_if (holds (scope_of plant.now names.now) (match_tree test.now) f))) }
 {
     const FLAGS: Selector = Selector::TcpFlags;
-    Ok(match test {
-        Match::Compare(selector, operator, range) => compare(plant, *selector, *operator, range),
-        Match::In(selectors, set) => Action::Within(
+    match test {
+        Match::Compare(selector, operator, range) => {
+            Ok(compare(plant, *selector, *operator, range))
+        }
+        Match::In(selectors, set) => Ok(Action::Within(
             selectors.clone()?,
             set_number(alloc, plant, names, selectors, set, lookups)?,
-        ),
-        Match::NotIn(selectors, set) => Action::Without(
+        )),
+        Match::NotIn(selectors, set) => Ok(Action::Without(
             selectors.clone()?,
             set_number(alloc, plant, names, selectors, set, lookups)?,
-        ),
-        Match::Bits(field, how, words) => test_bits(*field, *how, words),
-        Match::AnyFlag(flags) => Action::BitsUnequal(FLAGS, flags_of(flags), 0),
-        Match::ExactFlags(flags) => equals(FLAGS, flags_of(flags)),
+        )),
+        Match::Bits(field, how, words) => Ok(test_bits(*field, *how, words)),
+        Match::AnyFlag(flags) => Ok(Action::BitsUnequal(FLAGS, flags_of(flags), 0)),
+        Match::ExactFlags(flags) => Ok(equals(FLAGS, flags_of(flags))),
         Match::MaskedFlags(masked) => {
-            Action::BitsEqual(FLAGS, flags_of(&masked.mask), flags_of(&masked.wanted))
+            let (mask, wanted) = (flags_of(&masked.mask), flags_of(&masked.wanted));
+            Ok(Action::BitsEqual(FLAGS, mask, wanted))
         }
         Match::MaskedFlagsUnequal(masked) => {
-            Action::BitsUnequal(FLAGS, flags_of(&masked.mask), flags_of(&masked.wanted))
+            let (mask, wanted) = (flags_of(&masked.mask), flags_of(&masked.wanted));
+            Ok(Action::BitsUnequal(FLAGS, mask, wanted))
         }
-    })
+    }
 }

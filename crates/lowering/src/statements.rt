@@ -77,6 +77,7 @@ pub fn action(
         Stmt::Match(test) => test_packet(alloc, plant, names, test, lookups),
         Stmt::Counter(_) => Ok(Action::Count(place)),
         Stmt::Log(_) => Ok(Action::Log(place)),
+        Stmt::NoTrack => Ok(Action::NoTrack),
         Stmt::SetMark(field, operand) => {
             let source = mark_source(alloc, plant, names, *field, operand, lookups)?;
             Ok(Action::SetMark(*field, source))
