@@ -1,0 +1,178 @@
+-- What is true of translation in every story that grows from nothing, whatever its records are.
+use Rattle.std.specs.Prelude.{◌≡◌, ◌≢◌, ◌↔◌, ℕ, ◌-◌, ◌<◌, Bool, true, false, ◌&&◌, if◌then◌else◌, IsTrue, List}
+use Rattle.std.specs.Prelude.{◌∷◌, map, Some, None, Ok}
+use Rattle.std.specs.List.{Contains, list_any}
+use Rattle.box_file.specs.Box.{owner}
+use Rattle.ip_headers.specs.declared.tuple.Mapping.{Mapping}
+use Rattle.ip_headers.specs.declared.tuple.Tuple.{Tuple}
+use Rattle.ip_headers.specs.Same.{same_tuple}
+use Rattle.ip_headers.specs.Tuple.{inverse, tuple_of}
+use Rattle.conntrack.specs.declared.belonging.Belonging.{Belonging}
+use Rattle.conntrack.specs.declared.belonging.Belonging.TheVariants.{Ends, Found}
+use Rattle.conntrack.specs.declared.connection.Direction.TheVariants.{Original, Reply}
+use Rattle.conntrack.specs.declared.connection.Flags.{Flags}
+use Rattle.conntrack.specs.declared.connection.Held.{Held}
+use Rattle.conntrack.specs.Phases.{is_closing, is_lone_syn}
+use Rattle.conntrack.specs.Held.{are_apart, belongs_in, is_incoming, limit_of, place_of}
+use Rattle.conntrack.specs.Stories.{What, Begins, Touches, begun_in, connection_in, does_begin, is_ended}
+use Rattle.conntrack.specs.Updates.{after_end}
+use Rattle.pcap_io.specs.Pcap.{Recorded}
+use Rattle.port_pool.specs.Candidates.{alike}
+use Rattle.nat_mapping.specs.Mappings.{source_of}
+use Rattle.rule_meaning.specs.declared.event.Decision.{Decision}
+use Rattle.rule_meaning.specs.declared.event.Decision.TheVariants.{Translate}
+use Rattle.rule_meaning.specs.declared.event.Event.{Event}
+use Rattle.rule_meaning.specs.declared.event.Event.TheVariants.{Took}
+use Rattle.story.specs.declared.outcome.Outcome.TheVariants.{Passed}
+use Rattle.story.specs.Setup.{Setup, limits_of}
+use Rattle.story.specs.Story.{Entry, tracked_of}
+use Rattle.translation.specs.Mapped.{mappings_in}
+use Rattle.translation.specs.Translating.{has_ports, is_index}
+use Rattle.stepping.specs.Carried.{Arrived, Carries}
+use Rattle.stepping.specs.Next.{Next, live_at_record}
+use Rattle.translation_laws.specs.Stories.{IsStory, Always, alive_at, mappings_at, latest_choice}
+
+-- ---- each entry of a story is the next one after the story before it, so what is said of the next entry after a story
+-- is said of each
+
+abbrev pub EntriesFollow : Setup → Type 0
+EntriesFollow setup =
+    (story : List Entry) (e : Entry) → IsStory setup (e ∷ story)
+    → IsStory setup story × ((r : Recorded) × Next setup story r e)
+
+-- ---- no two live connections have an incoming tuple in common
+
+abbrev pub AreApart : Setup → Type 0
+AreApart setup = Always setup (λ story now. IsTrue (are_apart (alive_at setup story now)))
+
+-- ---- no external endpoint of a kind stands for two internal ones (RFC 4787, REQ-3; RFC 5382, REQ-7)
+
+abbrev pub OneInternal : Setup → Type 0
+OneInternal setup =
+    Always setup (λ story now. (m n : Mapping) → Contains (mappings_at setup story now) m
+    → Contains (mappings_at setup story now) n → m.kind ≡ n.kind → m.external ≡ n.external → m.internal ≡ n.internal)
+
+-- ---- live connections whose sources were mapped from one internal endpoint at one external address have one external
+-- port, wherever they go (RFC 4787, REQ-1; RFC 5382, REQ-1)
+
+abbrev pub OnePort : Setup → Type 0
+OnePort setup =
+    Always setup (λ story now. (g h : Held) (m n : Mapping) → Contains (alive_at setup story now) g
+    → Contains (alive_at setup story now) h → g.source ≡ Some m → h.source ≡ Some n → m.kind ≡ n.kind
+    → m.internal ≡ n.internal → m.external.address ≡ n.external.address → m.external.port ≡ n.external.port)
+
+-- ---- a port keeps class and parity of the one that it stands for, where no ports were named when it was chosen
+-- (RFC 4787, REQ-3 and REQ-4)
+
+abbrev pub KeepsClass : Setup → Type 0
+KeepsClass setup =
+    Always setup (λ story now. (m : Mapping) → Contains (mappings_at setup story now) m → has_ports m.kind ≡ true
+    → latest_choice m story ≡ Some false → IsTrue (alike m.internal.port m.external.port))
+
+-- so this speaks of every live mapping: its port was chosen afresh once
+abbrev pub WasChosen : Setup → Type 0
+WasChosen setup =
+    Always setup (λ story now. (m : Mapping) → Contains (mappings_at setup story now) m → latest_choice m story ≢ None)
+
+-- ---- a packet is given to the connection that has its tuple, and to no other
+
+-- a lone SYN in direction original ends it
+abbrev pub does_end : Held → Tuple → Flags → Bool
+does_end h t flags = same_tuple h.original t && (is_lone_syn flags && is_closing h)
+
+-- what a packet with one of its tuples belongs to, as if no other connection were there
+abbrev pub given_to : Held → Tuple → Flags → Belonging
+given_to h t flags =
+    if does_end h t flags then Ends h.id
+    else (if same_tuple h.original t then Found (place_of h Original) else Found (place_of h Reply))
+
+abbrev pub GivenToOne : Setup → Type 0
+GivenToOne setup =
+    Always setup (λ story now. (h : Held) (t : Tuple) (flags : Flags) → Contains (alive_at setup story now) h
+    → IsTrue (is_incoming t h) → belongs_in (alive_at setup story now) t flags ≡ given_to h t flags)
+
+-- ---- and where it passes it leaves with the way back of that connection's other tuple
+
+-- it counts as a packet of that one
+abbrev pub touch_of : Held → Tuple → What
+touch_of h t = if same_tuple h.original t then Touches h.id.0 Original else Touches h.id.0 Reply
+
+pub record GoesWith (h : Held) (t : Tuple) (e : Entry) : Type 0 where
+  pub touched : e.tracked.what ≡ touch_of h t
+  pub original : same_tuple h.original t ≡ true → tuple_of e.packet ≡ Some (inverse h.reply)
+  pub reply : same_tuple h.reply t ≡ true → tuple_of e.packet ≡ Some (inverse h.original)
+
+-- of a packet that came with this tuple and was looked up by it
+abbrev pub LeavesTranslated : Setup → Type 0
+LeavesTranslated setup =
+    (story : List Entry) → IsStory setup story → (r : Recorded) (e : Entry) → Next setup story r e
+    → (t : Tuple) → e.sought ≡ Some t
+    → (h : Held) → Contains (live_at_record setup story r) h → IsTrue (is_incoming t h)
+    → does_end h t e.tracked.flags ≡ false
+    → (interface : ℕ) → e.outcome ≡ Passed interface → GoesWith h t e
+
+-- ---- a connection that no lone SYN ended is alive exactly while less than its limit has passed since its last packet
+
+abbrev pub names_of : List Held → List ℕ
+names_of held = map (λ h. h.id.0) held
+
+abbrev pub LivesOn : Setup → Type 0
+LivesOn setup =
+    Always setup (λ story now. (c : ℕ) → Contains (begun_in (tracked_of story)) c
+    → is_ended c (tracked_of story) ≡ false
+    → Contains (names_of (alive_at setup story now)) c
+    ↔ (now - (connection_in c (tracked_of story)).last
+    < limit_of (limits_of setup) (connection_in c (tracked_of story))))
+
+-- ---- hairpinning (RFC 4787, REQ-9; RFC 5382, REQ-8)
+
+abbrev pub is_translation : Decision → Bool
+is_translation (Translate t) = true
+is_translation other = false
+
+-- a NAT statement acted
+abbrev pub did_translate : Event → Bool
+did_translate (Took rule decision) = is_translation decision
+did_translate other = false
+
+-- the mappings that are live when a packet's destination is translated: not those of a connection that its own lone SYN
+-- ended
+abbrev pub mappings_before : Setup → List Entry → Recorded → Tuple → Flags → List Mapping
+mappings_before setup story r t flags =
+    let live = live_at_record setup story r in
+    mappings_in (after_end (belongs_in live t flags) live)
+
+-- from these ends to the internal endpoint of the mapping, from this port of its external address
+abbrev pub turned_back : Tuple → Mapping → ℕ → Tuple
+turned_back t m port =
+    record { kind = t.kind; source = record { address = m.external.address; port = port }; destination = m.internal }
+
+-- a packet with tuple t turned back by mapping m: between these ends it leaves, and its connection holds these mappings
+pub record TurnsBack (t : Tuple) (m : Mapping) (mappings : List Mapping) (e : Entry) : Type 0 where
+  -- the port that its source has at that address, or else gets there
+  pub port : ℕ
+  pub chosen : source_of t.kind t.source m.external.address None mappings ≡ Some port
+  pub began : e.tracked.what ≡ Begins (record {
+    original = t;
+    reply = inverse (turned_back t m port);
+    source = Some (record {
+      kind = t.kind;
+      internal = t.source;
+      external = record { address = m.external.address; port = port };
+    });
+    dest = Some m;
+  })
+  pub left : tuple_of e.packet ≡ Some (turned_back t m port)
+
+-- a packet to the external endpoint of a live mapping of its kind that enters by another interface than the owner of
+-- that address, begins a connection without any NAT statement having acted, and passes
+abbrev pub Hairpins : Setup → Type 0
+Hairpins setup =
+    (story : List Entry) → IsStory setup story → (r : Recorded) (e : Entry) → Next setup story r e
+    → (a : Arrived) → Carries setup r (Ok a)
+    → (t : Tuple) → e.sought ≡ Some t → has_ports t.kind ≡ true
+    → (m : Mapping) → Contains (mappings_before setup story r t e.tracked.flags) m → m.kind ≡ t.kind
+    → m.external ≡ t.destination → is_index a.interface (owner setup.plant m.external.address) ≡ false
+    → IsTrue (does_begin e.tracked.what) → list_any did_translate e.events ≡ false
+    → (interface : ℕ) → e.outcome ≡ Passed interface
+    → TurnsBack t m (mappings_before setup story r t e.tracked.flags) e
