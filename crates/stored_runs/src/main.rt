@@ -1,13 +1,22 @@
-//! Runs that are written down in `data/`, each with the packets that leave and the report that it has to
-//! give: it tells of each that gives something else, and how many there were.
+//! The program does what its words ask for, as `nftrun`: a run over a capture that is torn, into a file that
+//! is longer than what is written. Then OUT's bytes are printed, and in the end its status is handed on.
+//!
+//! Between the two come runs that are written down in `data/`, each with the packets that leave and the report
+//! that it has to give: it tells of each that gives something else, and how many there were.
 //!
 //! A file of rows has a line `row NAME` for each, and below it `rules FILE`, or `nft RULESET` once or more,
 //! where each of these has to give the same; `box FILE` where that isn't `box.txt`; `trace` where one is
 //! asked for; a line `in ..` for each record and a line `out ..` for each packet that leaves, as
-//! `notation` has them, or bytes behind them in hexadecimal digits, `captured ..` and `written ..`; `line ..`
-//! for each line of the report before the totals, and the totals that aren't 0; `records` and `passed` are
-//! the numbers of the lines `in` and `out` where they aren't told. `again NAME` begins a row with the records of the one
-//! before, of which the same leave. `#` begins a comment.
+//! `notation` has them, or bytes behind them in hexadecimal digits, `captured ..` and `written ..`, also the
+//! capture's `header ..`; `leaves ..` for each record of which `passes NUMBER ..` tells that its packet leaves
+//! so; `line ..` for each line of the report before the totals, and the totals that aren't 0; `records` and
+//! `passed` are the numbers of the lines `in` and `out` where they aren't told. A run ends with `done`, or
+//! with `status ..`; with `broken ..` there are no totals, and with `refused ..` nothing is written at all.
+//! `pace NUMBER`: each call gives or takes so many bytes at most, and `slowly`: 1, 2, 3, 5 or 7 at most have
+//! to give the same. `reads NUMBER`: so many calls of the reader work, and the next one fails.
+//!
+//! `again NAME` begins a row with the records of the one before, of which the same leave, and `anew NAME` one
+//! with those records, of which none leaves. `#` begins a comment.
 #![tactic(auto)]
 
 mod notation;
@@ -16,24 +25,38 @@ mod records;
 mod rows;
 
 use anyhow::Result;
-use rows::{Row, run_over};
+use rows::{Given, Row, run_over};
+use std::process::ExitCode;
 use std::{fs, str};
 
+/// OUT of the run of the program.
+const OUTPUT: &str = "longer.pcap";
+
 /// The files of rows.
-const FILES: [&str; 4] = [
+const FILES: [&str; 10] = [
     "connections.rows",
     "limits.rows",
     "translation.rows",
     "errors.rows",
+    "notrack.rows",
+    "captures.rows",
+    "ends.rows",
+    "reports.rows",
+    "rules.rows",
+    "stories.rows",
 ];
 
-fn main(rt: HostRuntime) -> Result<()> {
+fn main(rt: HostRuntime) -> Result<ExitCode> {
+    let status = program::start(&rt);
+    let sent = fs::read(&rt, OUTPUT)?;
+    let digits = hex::encode(rt.alloc(), sent)?;
+    println!(rt; "{digits}")?;
     for file in FILES {
         let text = fs::read_to_string(&rt, file)?;
         let number = run_all(&rt, text.as_str())?;
         println!(rt; "{file}: {number} runs")?;
     }
-    Ok(())
+    Ok(ExitCode::from(status))
 }
 
 /// Runs all rows of a text, and answers how many there are.
@@ -53,6 +76,10 @@ fn run_all(rt: &HostRuntime, text: &str) -> Result<u64> {
             if let Some(name) = line.strip_prefix("again ") {
                 try_row(rt, open)?;
                 open.again(rt.alloc(), name);
+                number = number.saturating_add(1);
+            } else if let Some(name) = line.strip_prefix("anew ") {
+                try_row(rt, open)?;
+                open.anew(rt.alloc(), name);
                 number = number.saturating_add(1);
             } else if !open.take(rt.alloc(), line)? {
                 println!(rt; "can't be read: {line}")?;
@@ -79,13 +106,28 @@ fn try_row(rt: &HostRuntime, row: &Row<'_>) -> Result<()> {
     Ok(())
 }
 
-/// Runs a row with these rules, and tells where it gives something else.
+/// How many bytes each call of a slow run takes or gives at most.
+const PACES: [usize; 5] = [1, 2, 3, 5, 7];
+
+/// Runs a row with these rules, at each pace that it asks for.
 fn try_rules(rt: &HostRuntime, row: &Row<'_>, rules: &[u8], plant: &[u8]) -> Result<()> {
     let capture = row.capture(rt.alloc())?;
-    let given = run_over(rt.alloc(), rules, plant, &capture, row.trace);
+    let given = run_over(rt.alloc(), row, rules, plant, &capture, row.pace);
+    compare(rt, row, &given)?;
+    if row.slowly {
+        for most in &PACES {
+            let given = run_over(rt.alloc(), row, rules, plant, &capture, *most);
+            compare(rt, row, &given)?;
+        }
+    }
+    Ok(())
+}
+
+/// Tells where a run gave something else.
+fn compare(rt: &HostRuntime, row: &Row<'_>, given: &Given) -> Result<()> {
     let name = row.name;
     let status = format!(in rt.alloc(); "{}", given.status)?;
-    if status.as_str() != "nftrun: done" {
+    if status.as_str().strip_prefix("nftrun: ").unwrap_or("") != row.status {
         println!(rt; "{name}: {status}")?;
     }
     let wanted = row.report(rt.alloc())?;

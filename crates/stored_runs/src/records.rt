@@ -106,7 +106,7 @@ fn between(flow: Flow, ends: Option<(End, End)>) -> Flow {
 
 /// The lowest byte first, nanoseconds, version 2.4, LINKTYPE_LINUX_SLL2; snaplen 65,535, and as it is
 /// written 262,144.
-const IN_HEADER: [u8; 24] = [
+pub const IN_HEADER: [u8; 24] = [
     0x4d, 0x3c, 0xb2, 0xa1, 2, 0, 4, 0, 0, 0, 0, 0, 0, 0, 0, 0, 0xff, 0xff, 0, 0, 20, 1, 0, 0,
 ];
 
@@ -114,10 +114,10 @@ const OUT_HEADER: [u8; 24] = [
     0x4d, 0x3c, 0xb2, 0xa1, 2, 0, 4, 0, 0, 0, 0, 0, 0, 0, 0, 0, 0, 0, 4, 0, 20, 1, 0, 0,
 ];
 
-/// A capture of these records.
-pub fn capture(alloc: Global, came: &[Came]) -> Result<Vec<u8>, AllocError> {
+/// A capture of these records behind a header.
+pub fn capture(alloc: Global, header: &[u8], came: &[Came]) -> Result<Vec<u8>, AllocError> {
     let mut all = Vec::new(alloc);
-    all.extend_from_slice(&IN_HEADER)?;
+    all.extend_from_slice(header)?;
     for one in came {
         one.put(alloc, &mut all)?;
     }

@@ -1,10 +1,11 @@
 //! Runs that are written down, each with what it has to give.
 use crate::notation::{came, left};
-use crate::records::{Came, Left, capture, capture_left};
+use crate::records::{Came, IN_HEADER, Left, capture, capture_left};
 use engine::run;
-use pcap_io::Counted;
+use pcap_io::{Counted, Failing, Slow};
 use program::Status;
 use std::alloc::{AllocError, Global};
+use std::str::SplitWhitespace;
 
 /// The totals of a report, in their order.
 const TOTALS: [&str; 23] = [
@@ -33,6 +34,17 @@ const TOTALS: [&str; 23] = [
     "torn",
 ];
 
+/// What a run leaves behind the lines that it tells of its records.
+#[derive(Clone, Copy)]
+pub enum Ending {
+    /// The totals.
+    Totals,
+    /// Nothing: a record is refused.
+    Nothing,
+    /// The run is refused before anything is written, the header of a capture too.
+    Refused,
+}
+
 /// A run, and what it has to give.
 #[derive(Drop)]
 pub struct Row<'t> {
@@ -44,11 +56,23 @@ pub struct Row<'t> {
     pub rulesets: Vec<&'t str>,
     /// Whether a trace is asked for.
     pub trace: bool,
+    /// How many bytes a call takes or gives at most, and whether fewer have to give the same.
+    pub pace: usize,
+    pub slowly: bool,
+    /// How many calls of the reader work, before one fails.
+    pub reads: usize,
+    /// How the program would end.
+    pub status: &'t str,
+    ending: Ending,
+    /// The header of the capture, where it is another one than usual.
+    header: Option<Vec<u8>>,
     came: Vec<Came>,
     left: Vec<Left>,
     /// Bytes behind those of the records that come and of those that leave.
     captured: Vec<u8>,
     written: Vec<u8>,
+    /// The records of packets, as they leave if they do.
+    leaving: Vec<Vec<u8>>,
     /// The lines of the report before the totals.
     lines: String,
     /// The totals that aren't 0, and where they aren't the numbers of `came` and `left` those of records
@@ -72,10 +96,17 @@ impl<'t> Row<'t> {
             plant: "box.txt",
             rulesets: Vec::new(alloc),
             trace: false,
+            pace: usize::MAX,
+            slowly: false,
+            reads: usize::MAX,
+            status: "done",
+            ending: Ending::Totals,
+            header: None,
             came: Vec::new(alloc),
             left: Vec::new(alloc),
             captured: Vec::new(alloc),
             written: Vec::new(alloc),
+            leaving: Vec::new(alloc),
             lines: String::new(alloc),
             totals: Vec::new(alloc),
         }
@@ -87,8 +118,20 @@ impl<'t> Row<'t> {
         self.rules = None;
         self.rulesets = Vec::new(alloc);
         self.trace = false;
+        self.pace = usize::MAX;
+        self.slowly = false;
+        self.reads = usize::MAX;
+        self.status = "done";
+        self.ending = Ending::Totals;
         self.lines = String::new(alloc);
         self.totals = Vec::new(alloc);
+    }
+
+    /// Another row with the same records, of which none leaves.
+    pub fn anew(&mut self, alloc: Global, name: &'t str) {
+        self.again(alloc, name);
+        self.left = Vec::new(alloc);
+        self.written = Vec::new(alloc);
     }
 
     /// Takes one line of the row; `false` where it can't be read.
@@ -97,16 +140,18 @@ impl<'t> Row<'t> {
         match words.next() {
             Some("rules") => self.rules = words.next(),
             Some("nft") => self.rulesets.push(rest(line, "nft "))?,
-            Some("captured") => match hex::decode(alloc, rest(line, "captured ")) {
-                Ok(bytes) => self.captured.extend_from_slice(&bytes)?,
-                Err(_) => return Ok(false),
-            },
-            Some("written") => match hex::decode(alloc, rest(line, "written ")) {
-                Ok(bytes) => self.written.extend_from_slice(&bytes)?,
-                Err(_) => return Ok(false),
-            },
             Some("box") => self.plant = words.next().unwrap_or(""),
             Some("trace") => self.trace = true,
+            Some("slowly") => self.slowly = true,
+            Some("pace") => self.pace = number(&mut words),
+            Some("reads") => self.reads = number(&mut words),
+            Some("status") => self.end(rest(line, "status "), Ending::Totals),
+            Some("broken") => self.end(rest(line, "broken "), Ending::Nothing),
+            Some("refused") => self.end(rest(line, "refused "), Ending::Refused),
+            Some("header" | "captured" | "written" | "leaves") => {
+                return self.take_bytes(alloc, line);
+            }
+            Some("passes") => return self.pass(words),
             Some("in") => match came(&mut words) {
                 Some(one) => self.came.push(one)?,
                 None => return Ok(false),
@@ -125,15 +170,58 @@ impl<'t> Row<'t> {
         Ok(true)
     }
 
+    /// It ends with this status.
+    fn end(&mut self, status: &'t str, ending: Ending) {
+        self.status = status;
+        self.ending = ending;
+    }
+
+    /// Takes a line with a word and bytes; `false` where it can't be read.
+    fn take_bytes(&mut self, alloc: Global, line: &str) -> Result<bool, AllocError> {
+        let (word, digits) = line.split_once(' ').unwrap_or((line, ""));
+        let bytes = match hex::decode(alloc, digits) {
+            Ok(bytes) => bytes,
+            Err(_) => return Ok(false),
+        };
+        match word {
+            "header" => self.header = Some(bytes),
+            "captured" => self.captured.extend_from_slice(&bytes)?,
+            "written" => self.written.extend_from_slice(&bytes)?,
+            _ => self.leaving.push(bytes)?,
+        }
+        Ok(true)
+    }
+
+    /// The packets with these numbers leave; `false` where there is none.
+    fn pass(&mut self, words: SplitWhitespace<'_>) -> Result<bool, AllocError> {
+        for word in words {
+            let Ok(number) = word.parse::<usize>() else {
+                return Ok(false);
+            };
+            match self.leaving.get(number) {
+                Some(bytes) => self.written.extend_from_slice(bytes)?,
+                None => return Ok(false),
+            }
+        }
+        Ok(true)
+    }
+
     /// The capture that comes.
     pub fn capture(&self, alloc: Global) -> Result<Vec<u8>, AllocError> {
-        let mut all = capture(alloc, &self.came)?;
+        let header = match &self.header {
+            Some(header) => header.as_slice(),
+            None => &IN_HEADER,
+        };
+        let mut all = capture(alloc, header, &self.came)?;
         all.extend_from_slice(&self.captured)?;
         Ok(all)
     }
 
     /// The capture that is to be written.
     pub fn sent(&self, alloc: Global) -> Result<Vec<u8>, AllocError> {
+        if let Ending::Refused = self.ending {
+            return Ok(Vec::new(alloc));
+        }
         let mut all = capture_left(alloc, &self.came, &self.left)?;
         all.extend_from_slice(&self.written)?;
         Ok(all)
@@ -141,6 +229,14 @@ impl<'t> Row<'t> {
 
     /// The report that is to be written.
     pub fn report(&self, alloc: Global) -> Result<String, AllocError> {
+        match self.ending {
+            Ending::Totals => self.with_totals(alloc),
+            Ending::Nothing | Ending::Refused => self.lines.clone(),
+        }
+    }
+
+    /// The lines and the totals behind them.
+    fn with_totals(&self, alloc: Global) -> Result<String, AllocError> {
         let mut text = self.lines.clone()?;
         for name in TOTALS {
             let number = match (name, self.total(name)) {
@@ -168,16 +264,32 @@ impl<'t> Row<'t> {
     }
 }
 
+/// The number that is the next word; 0 where it is none.
+fn number(words: &mut SplitWhitespace<'_>) -> usize {
+    match words.next() {
+        Some(word) => word.parse::<usize>().unwrap_or(0),
+        None => 0,
+    }
+}
+
 /// What stands in a line behind its first word.
 fn rest<'t>(line: &'t str, word: &str) -> &'t str {
     line.strip_prefix(word).unwrap_or("")
 }
 
-/// A run of the rules on the box over the capture.
-pub fn run_over(alloc: Global, rules: &[u8], plant: &[u8], capture: &[u8], trace: bool) -> Given {
-    let mut reader = Counted::new(capture);
-    let mut sent = Counted::new(Vec::new(alloc));
-    let mut report = Counted::new(Vec::new(alloc));
+/// A run of the row with these rules on this box over the capture, of which each call takes or gives so
+/// many bytes at most.
+pub fn run_over(
+    alloc: Global,
+    row: &Row<'_>,
+    rules: &[u8],
+    plant: &[u8],
+    capture: &[u8],
+    most: usize,
+) -> Given {
+    let mut reader = Counted::new(Failing::new(Slow::new(capture, most), row.reads));
+    let mut sent = Counted::new(Slow::new(Vec::new(alloc), most));
+    let mut report = Counted::new(Slow::new(Vec::new(alloc), most));
     let answer = run(
         alloc,
         rules,
@@ -185,7 +297,7 @@ pub fn run_over(alloc: Global, rules: &[u8], plant: &[u8], capture: &[u8], trace
         &mut reader,
         &mut sent,
         &mut report,
-        trace,
+        row.trace,
     );
     let status = match answer {
         Ok(summary) => Status::of(Ok(summary.torn)),
@@ -193,7 +305,7 @@ pub fn run_over(alloc: Global, rules: &[u8], plant: &[u8], capture: &[u8], trace
     };
     Given {
         status,
-        sent: sent.into_inner(),
-        report: report.into_inner(),
+        sent: sent.into_inner().into_inner(),
+        report: report.into_inner().into_inner(),
     }
 }

@@ -1,17 +1,11 @@
 //! Rulesets judged before they are loaded: for each fault the nearest texts that have it and that
 //! don't, worked out by hand.
-use crate::given::repeated;
+use crate::given::{BOX, repeated};
 use engine::judge;
 use program::Status;
 use std::alloc::Global;
 use std::process::Abort;
 use std::test::Fail;
-
-const BOX: &[u8] = b"interface 2 lan 192.168.1.1/24
-interface 3 wan 203.0.113.1/24
-route 0.0.0.0/0 wan
-default lan
-";
 
 /// A ruleset, and what its check prints.
 type Row<'a> = (&'a [u8], &'a str);

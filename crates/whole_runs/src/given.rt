@@ -1,8 +1,17 @@
-//! What tests share: a packet and its records, texts of pieces, and the line of a status.
+//! What tests share: a packet and its records, texts of pieces, runs with slow and failing calls, and the
+//! line of a status.
+use engine::run;
+use pcap_io::{Calls, Counted, Failing, Slow};
 use program::Status;
 use std::alloc::Global;
 use std::process::Abort;
 use std::test::Fail;
+
+pub const BOX: &[u8] = b"interface 2 lan 192.168.1.1/24
+interface 3 wan 203.0.113.1/24
+route 0.0.0.0/0 wan
+default lan
+";
 
 /// Magic a1b2c3d4, which tells microseconds, version 2.4, LINKTYPE_RAW.
 pub const HEADER: &str = "d4c3b2a1020004000000000000000000ffff000065000000";
@@ -54,4 +63,82 @@ pub fn shows<R: Abort + AllocGlobal>(rt: &R, status: Status, line: &str) -> Resu
     let text = format!(in rt.alloc(); "{status}")?;
     assert!(rt; text.as_str() == line, "{text}");
     Ok(())
+}
+
+/// How the reader and the two writers work.
+#[derive(Clone, Copy)]
+pub struct Working {
+    /// At most so many bytes a call.
+    pub most: usize,
+    /// After so many calls one fails: of the reader, the writer of packets, the writer of the report.
+    pub calls: [usize; 3],
+}
+
+/// All calls work.
+pub fn fine(most: usize) -> Working {
+    Working {
+        most,
+        calls: [usize::MAX; 3],
+    }
+}
+
+/// What a run gives.
+#[derive(Drop)]
+pub struct Given {
+    /// What the program would end with.
+    pub status: Status,
+    /// What the writer of packets holds.
+    pub sent: Vec<u8>,
+    /// What the writer of the report holds.
+    pub report: Vec<u8>,
+    /// How many calls failed, of all three.
+    pub failures: [u64; 3],
+    /// How many calls of each there were, flushes too.
+    pub calls: [u64; 3],
+}
+
+fn writer(alloc: Global, working: Working, calls: usize) -> Counted<Calls<Failing<Slow<Vec<u8>>>>> {
+    let slow = Slow::new(Vec::new(alloc), working.most);
+    Counted::new(Calls::new(Failing::new(slow, calls)))
+}
+
+/// A run of these rules on this box over this capture.
+pub fn run_over(
+    alloc: Global,
+    rules: &[u8],
+    plant: &[u8],
+    capture: &[u8],
+    trace: bool,
+    working: Working,
+) -> Given {
+    let [reads, sends, reports] = working.calls;
+    let slow = Slow::new(capture, working.most);
+    let mut reader = Counted::new(Calls::new(Failing::new(slow, reads)));
+    let mut sent = writer(alloc, working, sends);
+    let mut report = writer(alloc, working, reports);
+    let answer = run(
+        alloc,
+        rules,
+        plant,
+        &mut reader,
+        &mut sent,
+        &mut report,
+        trace,
+    );
+    let status = match answer {
+        Ok(summary) => Status::of(Ok(summary.torn)),
+        Err(fault) => Status::of(Err(&fault)),
+    };
+    let failures = [reader.failures(), sent.failures(), report.failures()];
+    let reader = reader.into_inner();
+    let sent = sent.into_inner();
+    let report = report.into_inner();
+    let calls = [reader.calls(), sent.calls(), report.calls()];
+    Given {
+        status,
+        sent: sent.into_inner().into_inner().into_inner(),
+        report: report.into_inner().into_inner().into_inner(),
+        failures,
+        calls,
+    }
 }

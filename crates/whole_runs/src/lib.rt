@@ -1,23 +1,15 @@
-//! Texts read into trees, and whole runs over captures in memory, compared byte for byte.
+//! Whole runs with calls that fail, and of the sizes that users have; rulesets judged; the program.
 #![tactic(auto)]
 
-#[cfg(test)]
-mod boxes;
-#[cfg(test)]
-mod captures;
 #[cfg(test)]
 mod checks;
 #[cfg(test)]
 mod given;
 #[cfg(test)]
-mod headers;
-#[cfg(test)]
-mod lexing;
-#[cfg(test)]
-mod parts;
+mod listed;
 #[cfg(test)]
 mod programs;
 #[cfg(test)]
-mod runs;
+mod sizes;
 #[cfg(test)]
-mod texts;
+mod stops;

@@ -445,7 +445,7 @@ fn words_ask_for_a_task_or_are_refused(rt: HostRuntime) -> Result<(), Fail> {
 }
 
 /// Each status, the line that the program can print, and the exit status.
-const STATUSES: [(Status, &str, u8); 25] = [
+const STATUSES: [(Status, &str, u8); 26] = [
     (Status::Success, "nftrun: done", 0),
     (
         Status::Rules(RulesFault::Text(TextFault::Cutting(LexFault::Byte { line: 1 }))),
@@ -494,6 +494,7 @@ const STATUSES: [(Status, &str, u8); 25] = [
     (Status::Box(BoxFault::Repeated), "nftrun: box B2", 3),
     (Status::Box(BoxFault::UnknownName), "nftrun: box B3", 3),
     (Status::Box(BoxFault::TooLarge), "nftrun: box B4", 3),
+    (Status::Box(BoxFault::OutOfRange), "nftrun: box B5", 3),
     (
         Status::Capture(CaptureFault::Magic),
         "nftrun: capture P1",

@@ -1,0 +1,202 @@
+//! The connections that an engine lists, whether it keeps them in a plain list or in slots as `run` does.
+use crate::given::{BOX, bytes};
+use aged_tracker::AgedTracker;
+use box_file::Plant;
+use conntrack::{Connection, ListTracker, Tracker};
+use ip_headers::{Endpoint, Kind, Mapping, Tuple};
+use nft_parser::parse;
+use pcap_io::{LinkType, Record};
+use rule_check::check;
+use std::alloc::Global;
+use std::test::Fail;
+use stepping::Engine;
+
+const ROUTER: &[u8] =
+    b"table ip nat { chain post { type nat hook postrouting priority srcnat; oifname \"wan\" masquerade } }";
+
+/// Cooked headers: by `lan`, and by `wan`.
+const BY_LAN: &str = "0800000000000002000100060200000000010000";
+
+const BY_WAN: &str = "0800000000000003000100060200000000010000";
+
+/// A moment in nanoseconds, a link header and a packet.
+type Sent = (u64, &'static str, &'static str);
+
+/// From 192.168.1.11:6000 to 198.51.100.7:53; to the end 203.0.113.1:6000 that it then has outside from
+/// 192.168.1.10:5000, and from itself.
+const TO_ONESELF: [Sent; 3] = [
+    (
+        0,
+        BY_LAN,
+        "4500001c0000000040118ee3c0a8010bc63364071770003500080000",
+    ),
+    (
+        0,
+        BY_LAN,
+        "4500001c0000000040117d1dc0a8010acb0071011388177000080000",
+    ),
+    (
+        0,
+        BY_LAN,
+        "4500001c0000000040117d1cc0a8010bcb0071011770177000080000",
+    ),
+];
+
+/// UDP from 192.168.1.10:5000 to 198.51.100.7:53 and to 198.51.100.9:53, and from 192.168.1.11:5000 to
+/// 198.51.100.7:53.
+const FIRST: &str = "4500001c0000000040118ee4c0a8010ac63364071388003500080000";
+
+const ELSEWHERE: &str = "4500001c0000000040118ee2c0a8010ac63364091388003500080000";
+
+const OF_ANOTHER: &str = "4500001c0000000040118ee3c0a8010bc63364071388003500080000";
+
+/// TCP between 192.168.1.10:5000 and 198.51.100.7:80: a SYN, and a RST with ACK to 203.0.113.1:5000.
+const SYN: &str =
+    "450000280000000040068ee3c0a8010ac63364071388005000000000000000005002000000000000";
+
+const REFUSED: &str =
+    "450000280000000040061494c6336407cb0071010050138800000000000000005014000000000000";
+
+const BEFORE_THE_LIMIT: u64 = 299_999_999_999;
+
+const AT_THE_LIMIT: u64 = 300_000_000_000;
+
+/// 192.168.1.10:5000 and .11:6000, and the latter's end outside.
+const OTHER: Endpoint = Endpoint {
+    address: 0xc0a8_010a,
+    port: 5000,
+};
+
+const HOST: Endpoint = Endpoint {
+    address: 0xc0a8_010b,
+    port: 6000,
+};
+
+const OUTSIDE: Endpoint = Endpoint {
+    address: 0xcb00_7101,
+    port: 6000,
+};
+
+const NAME_SERVER: Endpoint = Endpoint {
+    address: 0xc633_6407,
+    port: 53,
+};
+
+const OTHER_SERVER: Endpoint = Endpoint {
+    address: 0xc633_6409,
+    port: 53,
+};
+
+const WEB_SERVER: Endpoint = Endpoint {
+    address: 0xc633_6407,
+    port: 80,
+};
+
+/// The reply tuples of the connections that are listed behind these records, in order of beginning:
+/// whatever it sends to, an internal end has one port outside; another host gets the next port of that
+/// parity, unless the first one's connection is over; a SYN opens a connection anew that was reset.
+const LISTED: [(&[Sent], &[(Kind, Endpoint, u16)]); 4] = [
+    (
+        &[
+            (0, BY_LAN, FIRST),
+            (0, BY_LAN, ELSEWHERE),
+            (0, BY_LAN, OF_ANOTHER),
+        ],
+        &[
+            (Kind::Udp, NAME_SERVER, 5000),
+            (Kind::Udp, OTHER_SERVER, 5000),
+            (Kind::Udp, NAME_SERVER, 5002),
+        ],
+    ),
+    (
+        &[(0, BY_LAN, FIRST), (BEFORE_THE_LIMIT, BY_LAN, OF_ANOTHER)],
+        &[
+            (Kind::Udp, NAME_SERVER, 5000),
+            (Kind::Udp, NAME_SERVER, 5002),
+        ],
+    ),
+    (
+        &[(0, BY_LAN, FIRST), (AT_THE_LIMIT, BY_LAN, OF_ANOTHER)],
+        &[(Kind::Udp, NAME_SERVER, 5000)],
+    ),
+    (
+        &[(0, BY_LAN, SYN), (0, BY_WAN, REFUSED), (0, BY_LAN, SYN)],
+        &[(Kind::Tcp, WEB_SERVER, 5000)],
+    ),
+];
+
+/// What a router lists behind these records.
+fn listed_after<T: Tracker>(alloc: Global, records: &[Sent]) -> Result<Vec<Connection>, Fail> {
+    let tree = parse(alloc, ROUTER)?;
+    let plant = Plant::read(alloc, BOX)?;
+    let checked = check(alloc, tree, plant)?;
+    let mut engine: Engine<T> = Engine::new(alloc, checked)?;
+    for &(moment, link, packet) in records {
+        let bytes = bytes(alloc, &[link, packet])?;
+        if engine.records() < 4_294_967_296 && moment < 4_294_967_296_000_000_000 {
+            engine.step(&Record {
+                moment,
+                link_type: LinkType::Sll2,
+                bytes: &bytes,
+            })?;
+        }
+    }
+    Ok(engine.connections(alloc)?)
+}
+
+fn between(kind: Kind, source: Endpoint, destination: Endpoint) -> Tuple {
+    Tuple {
+        kind,
+        source,
+        destination,
+    }
+}
+
+/// Whether just these are listed, in this order.
+fn are_listed(all: &[Connection], replies: &[(Kind, Endpoint, u16)]) -> bool {
+    all.len() == replies.len()
+        && all.iter().zip(replies).all(|(connection, &(kind, peer, port))| {
+            connection.reply == between(kind, peer, Endpoint { port, ..OUTSIDE })
+        })
+}
+
+#[test]
+fn live_connections_are_listed(rt: HostRuntime) -> Result<(), Fail> {
+    for (records, replies) in &LISTED {
+        let in_a_list = listed_after::<ListTracker>(rt.alloc(), records)?;
+        assert!(rt; are_listed(&in_a_list, replies));
+        let in_slots = listed_after::<AgedTracker>(rt.alloc(), records)?;
+        assert!(rt; are_listed(&in_slots, replies));
+    }
+    Ok(())
+}
+
+/// A host reaches its own end outside: packets back come as the first one does, and the connection
+/// is none that clashes with itself.
+#[test]
+fn a_connection_to_oneself_is_listed(rt: HostRuntime) -> Result<(), Fail> {
+    let all = listed_after::<ListTracker>(rt.alloc(), &TO_ONESELF)?;
+    assert_eq!(rt; all.len(), 3);
+    let mapping = Some(Mapping {
+        kind: Kind::Udp,
+        internal: HOST,
+        external: OUTSIDE,
+    });
+    assert!(rt; all[0].source == mapping && all[0].dest == None);
+    assert!(rt; all[1].dest == mapping);
+    assert!(rt;
+        all[1].original == between(Kind::Udp, OTHER, OUTSIDE)
+            && all[1].reply
+                == between(
+                    Kind::Udp,
+                    HOST,
+                    Endpoint {
+                        port: 5000,
+                        ..OUTSIDE
+                    }
+                )
+    );
+    assert!(rt; all[2].original == all[2].reply);
+    assert!(rt; all[2].source == mapping && all[2].dest == mapping);
+    Ok(())
+}
