@@ -68,6 +68,10 @@ counter =
 unfoldable pub log : Grammar Statement
 log = made tree.log (keyword (codes "log") ▹ maybe (keyword (codes "prefix") ▹ a_string))
 
+-- "notrack"
+unfoldable pub notrack : Grammar Statement
+notrack = made (λ _. tree.notrack) (keyword (codes "notrack"))
+
 -- ("meta" | "ct") "mark" "set" operand
 unfoldable pub set_mark : Grammar Statement
 set_mark =
@@ -79,8 +83,8 @@ verdict_map = made (λ x. tree.verdict_map x.0 x.1) (selector ⨾ keyword (codes
 
 unfoldable pub statement : Grammar Statement
 statement =
-    counter ∣ log ∣ made tree.verdict verdict ∣ made tree.nat nat ∣ set_mark ∣ verdict_map ∣ made tree.matching
-    matching
+    counter ∣ log ∣ notrack ∣ made tree.verdict verdict ∣ made tree.nat nat ∣ set_mark ∣ verdict_map ∣ made
+    tree.matching matching
 
 -- rule = stmt {stmt} ["comment" STRING]
 unfoldable pub rule : Grammar RuleTree

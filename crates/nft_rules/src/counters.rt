@@ -1,10 +1,10 @@
-//! Counters and logs.
-#![tactic(auto, unfolding(crate::specs::Rules::counter, crate::specs::Rules::log))]
+//! Counters, logs and `notrack`.
+#![tactic(auto, unfolding(crate::specs::Rules::counter, crate::specs::Rules::log, crate::specs::Rules::notrack))]
 
 ghost use Rattle.std.specs.Prelude.{IfOk};
 ghost use Rattle.nft_tree.specs.Tree.{statement};
 ghost use Rattle.token_reader.specs.Readers.{IsRead};
-ghost use Rattle.nft_rules.specs.Rules.{counter, log};
+ghost use Rattle.nft_rules.specs.Rules.{counter, log, notrack};
 
 use nft_lexer::Token;
 use nft_tree::{CounterStart, Memory, Stmt};
@@ -39,4 +39,12 @@ pub(crate) fn log(
         Some((text, end)) => Ok(Some((Stmt::Log(Some(Vec::from_slice(alloc, text)?)), end))),
         None => Ok(Some((Stmt::Log(None), at))),
     }
+}
+
+/// "notrack"
+pub(crate) fn notrack(tokens: &[Token], at: usize) -> Option<(Stmt, usize)>
+    ensures { IsRead statement notrack.read tokens.now at result }
+{
+    let at = after_word(tokens, at, b"notrack")?;
+    Some((Stmt::NoTrack, at))
 }

@@ -6,7 +6,7 @@ ghost use Rattle.token_reader.specs.Readers.{IsRead};
 ghost use Rattle.nft_rules.specs.Matches as matches;
 ghost use Rattle.nft_rules.specs.Rules as rules;
 
-use crate::counters::{counter, log};
+use crate::counters::{counter, log, notrack};
 use crate::marks::{mark_field, operand};
 use crate::matches::match_after;
 use crate::nat::nat;
@@ -39,7 +39,7 @@ fn selected(alloc: Global, tokens: &[Token], at: usize) -> Result<Option<(Stmt, 
     Ok(Some((Stmt::Match(found), end)))
 }
 
-/// stmt = counter | log | verdict | nat | setmark | vmap | match
+/// stmt = counter | log | notrack | verdict | nat | setmark | vmap | match
 pub(crate) struct AnyStatement;
 
 impl Part for AnyStatement {
@@ -59,6 +59,9 @@ impl Part for AnyStatement {
             return Ok(Some(found));
         }
         if let Some(found) = log(alloc, tokens, at)? {
+            return Ok(Some(found));
+        }
+        if let Some(found) = notrack(tokens, at) {
             return Ok(Some(found));
         }
         if let Some((found, end)) = verdict(alloc, tokens, at)? {

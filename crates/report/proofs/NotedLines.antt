@@ -21,6 +21,7 @@ event_told rules true n (events.Closed chain policy) = append-nil _
 event_told rules false n (events.Closed chain policy) = refl
 event_told rules trace n (events.Counted at) = refl
 event_told rules trace n (events.Marked field value) = refl
+event_told rules trace n events.Untracked = refl
 
 events_told : (rules : List TableTree) (trace : Bool) (n : ℕ) (es : List Event) → flat_map (note_line rules) (noted_events trace n es) ≡ flat_map (event_line rules trace n) es
 events_told rules trace n [] = refl

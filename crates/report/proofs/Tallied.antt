@@ -115,6 +115,7 @@ event_at : (size : ℕ) (e : Event) (at : Place) (ts : Tallies) (t : Tally) → 
 event_at size (events.Counted p) at ts t is a b = counted_at size p at ts ∙ changed_grown size (same_place p at) (tally_at ts at) t is a b
 event_at size (events.Logged p) at ts t is a b = is ∙ ap Some (not_grown size t)
 event_at size (events.Marked field value) at ts t is a b = is ∙ ap Some (not_grown size t)
+event_at size events.Untracked at ts t is a b = is ∙ ap Some (not_grown size t)
 event_at size (events.Took rule decision) at ts t is a b = is ∙ ap Some (not_grown size t)
 event_at size (events.Closed chain policy) at ts t is a b = is ∙ ap Some (not_grown size t)
 
@@ -158,6 +159,7 @@ within_event : (size p b : ℕ) (e : Event) (ts : Tallies) → AllWithin p b ts 
 within_event size p b (events.Counted place) ts were = λ at t is. changed_within size p b (same_place place at) (tally_at ts at) t (were at) (sym (counted_at size place at ts) ∙ is)
 within_event size p b (events.Logged place) ts were = wider p b (p + 1) (b + size) ts (omega arith) (omega arith) were
 within_event size p b (events.Marked field value) ts were = wider p b (p + 1) (b + size) ts (omega arith) (omega arith) were
+within_event size p b events.Untracked ts were = wider p b (p + 1) (b + size) ts (omega arith) (omega arith) were
 within_event size p b (events.Took rule decision) ts were = wider p b (p + 1) (b + size) ts (omega arith) (omega arith) were
 within_event size p b (events.Closed chain policy) ts were = wider p b (p + 1) (b + size) ts (omega arith) (omega arith) were
 

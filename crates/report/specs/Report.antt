@@ -119,6 +119,7 @@ event_line rules trace n (events.Closed chain policy) =
     cond trace (on_chain rules chain.table chain.chain (policy_line n policy)) []
 event_line rules trace n (events.Counted place) = []
 event_line rules trace n (events.Marked field value) = []
+event_line rules trace n events.Untracked = []
 
 abbrev pub outcome_word : Outcome → Text
 outcome_word (Passed interface) = codes "passed"

@@ -23,7 +23,7 @@ use Rattle.rule_meaning.specs.declared.event.Translation.{Translation}
 use Rattle.rule_meaning.specs.Selectors.{value}
 use Rattle.rule_meaning.specs.Sets.{Scope, spans, data_verdict, pair_gives, pairs_give, declared_gives, map_gives, looked_up}
 use Rattle.rule_meaning.specs.Matches.{holds}
-use Rattle.rule_meaning.specs.Statements.{Saying, pass, fail, note, give, passes_if, with_value, chain_number, decision_of, operand_number, writes, writes_connection, translation_of, says}
+use Rattle.rule_meaning.specs.Statements.{Saying, pass, fail, note, give, passes_if, with_value, chain_number, decision_of, operand_number, skips_tracking, writes, writes_connection, translation_of, says}
 
 -- an element has the verdict
 abbrev pub Among : List PairTree → VerdictTree → Type 0
@@ -117,8 +117,17 @@ module _ (t : TableTree) where
 
   connection_marked : (s : Statement) (f : Facts) (x : Tracking) (n : ℕ) → Says s (writes_connection f x n)
   connection_marked s f tracking.Unknown n = tt
+  connection_marked s f tracking.Skipped n = tt
+  connection_marked s f tracking.Untracked n = tt
   connection_marked s f tracking.Invalid n = tt
   connection_marked s f (tracking.Known c) n = tt
+
+  passed_untracked : (f : Facts) (known : Tracking) → Says tree.notrack (skips_tracking f known)
+  passed_untracked f tracking.Unknown = tt
+  passed_untracked f tracking.Skipped = tt
+  passed_untracked f tracking.Untracked = tt
+  passed_untracked f tracking.Invalid = tt
+  passed_untracked f (tracking.Known c) = tt
 
   marked : (s : Statement) (field : MarkField) (f : Facts) (o : Option ℕ) → Says s (with_value (writes field f) o)
   marked s field f None = tt
@@ -142,6 +151,7 @@ module _ (t : TableTree) where
     said (tree.matching m) at f = matched (tree.matching m) (holds scope m f)
     said (tree.counter start) at f = tt
     said (tree.log text) at f = tt
+    said tree.notrack at f = passed_untracked f f.tracking
     said (tree.set_mark field operand) at f = marked (tree.set_mark field operand) field f (operand_number scope operand f)
     said (tree.verdict_map x m) at f = verdict_said (tree.verdict_map x m) (looked_up data_verdict scope x m f) (by_map x m (value x f))
     said (tree.verdict v) at f = chosen (tree.verdict v) v itself

@@ -4,6 +4,7 @@ use Rattle.std.specs.Option.{option_map, option_and_then}
 use Rattle.nft_tree.specs.declared.selector.Selector.{Selector}
 use Rattle.nft_tree.specs.declared.selector.Selector.TheVariants as selectors
 use Rattle.nft_tree.specs.Words.{selector_width, STATE_INVALID, STATE_ESTABLISHED, STATE_RELATED, STATE_NEW}
+use Rattle.nft_tree.specs.Words.{STATE_UNTRACKED}
 use Rattle.nft_tree.specs.Words.{STATUS_SEEN_REPLY, STATUS_SNAT, STATUS_DNAT}
 use Rattle.ip_headers.specs.declared.transport.Transport.{Transport}
 use Rattle.ip_headers.specs.declared.transport.Transport.TheVariants as transports
@@ -35,7 +36,8 @@ abbrev pub udp_destination : Transport → Option ℕ
 udp_destination (transports.Udp source destination) = Some destination
 udp_destination _ = None
 
--- ---- the connection: an invalid packet has a state and nothing else; before it is looked for there is nothing
+-- ---- the connection: an invalid or an untracked packet has a state and nothing else; before the place at which one is
+-- looked for there is nothing
 
 abbrev pub state_bit : ConnectionState → ℕ
 state_bit states.Established = STATE_ESTABLISHED
@@ -44,6 +46,8 @@ state_bit states.New = STATE_NEW
 
 abbrev pub ct_state : Tracking → Option ℕ
 ct_state tracking.Unknown = None
+ct_state tracking.Skipped = None
+ct_state tracking.Untracked = Some STATE_UNTRACKED
 ct_state tracking.Invalid = Some STATE_INVALID
 ct_state (tracking.Known c) = Some (state_bit c.state)
 

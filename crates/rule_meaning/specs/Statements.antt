@@ -89,6 +89,13 @@ abbrev pub writes : MarkField → Facts → ℕ → Saying
 writes marks.Meta f n = note (events.Marked marks.Meta n) (record f { mark = n })
 writes marks.Ct f n = writes_connection f f.tracking n
 
+-- ---- notrack
+
+-- a packet whose connection hasn't been looked for yet has none looked for; behind that place it is too late
+abbrev pub skips_tracking : Facts → Tracking → Saying
+skips_tracking f tracking.Unknown = note events.Untracked (record f { tracking = tracking.Skipped })
+skips_tracking f _ = pass
+
 -- ---- translation
 
 abbrev pub ports_of : PortRange → Ports
@@ -117,6 +124,7 @@ abbrev pub says : Scope → Place → Statement → Facts → Saying
 says scope place (tree.matching m) f = passes_if (holds scope m f)
 says scope place (tree.counter start) f = note (events.Counted place) f
 says scope place (tree.log text) f = note (events.Logged place) f
+says scope place tree.notrack f = skips_tracking f f.tracking
 says scope place (tree.set_mark field operand) f = with_value (writes field f) (operand_number scope operand f)
 says scope place (tree.verdict_map s m) f =
     with_value (λ v. give (decision_of scope.table v)) (looked_up data_verdict scope s m f)

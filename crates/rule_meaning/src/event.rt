@@ -55,6 +55,8 @@ pub enum Event {
     Counted(Place),
     /// A `log` statement told of it.
     Logged(Place),
+    /// A `notrack` statement had it pass untracked.
+    Untracked,
     /// A mark was written.
     Marked(MarkField, u32),
     /// A rule decided.

@@ -44,6 +44,10 @@ pub struct Interface {
 pub enum Tracking {
     /// Nothing: it hasn't been looked for yet.
     Unknown,
+    /// Nothing: it isn't to be looked for.
+    Skipped,
+    /// Nothing: it wasn't looked for.
+    Untracked,
     /// The packet belongs to none and begins none.
     Invalid,
     /// The packet belongs to one, begins one, or tells of an error of one.

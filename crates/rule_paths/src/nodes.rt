@@ -78,9 +78,12 @@ fn statement_edges(alloc: Global, names: &TableNames, stmt: &Stmt) -> Result<Vec
             one_or_none(alloc, Some(to_map))
         }
         Stmt::VerdictMap(_, MapRef::Anonymous(pairs)) => pair_edges(alloc, names, pairs),
-        Stmt::Match(_) | Stmt::Counter(_) | Stmt::Log(_) | Stmt::SetMark(_, _) | Stmt::Nat(_) => {
-            Ok(Vec::new(alloc))
-        }
+        Stmt::Match(_)
+        | Stmt::Counter(_)
+        | Stmt::Log(_)
+        | Stmt::NoTrack
+        | Stmt::SetMark(_, _)
+        | Stmt::Nat(_) => Ok(Vec::new(alloc)),
     }
 }
 

@@ -22,6 +22,7 @@ use Rattle.rule_meaning.specs.declared.facts.Facts.{Facts}
 use Rattle.rule_meaning.specs.declared.facts.Interface.{Interface}
 use Rattle.rule_meaning.specs.declared.facts.Tracking.{Tracking}
 use Rattle.rule_meaning.specs.declared.facts.Tracking.TheVariants as tracking
+use Rattle.box_file.specs.Idle.{usual_limits}
 use Rattle.rule_meaning.specs.declared.facts.Connection.{Connection}
 use Rattle.rule_meaning.specs.declared.facts.ConnectionState.{ConnectionState}
 use Rattle.rule_meaning.specs.declared.facts.ConnectionState.TheVariants as states
@@ -39,6 +40,7 @@ box = record {
       record { index = 3; name = codes "wan"; address = ip 203 0 113 1; prefix = 24 } ∷ [];
   routes = record { address = 0; prefix = 0; interface = 3 } ∷ [];
   entering = 2;
+  idle = usual_limits;
 }
 
 -- ---- packets

@@ -67,6 +67,11 @@ marking field o =
     one_table (forwards policies.Accept ((tree.set_mark field o ∷ counter ∷ []) ∷
     (tree.matching (tree.compare selectors.MetaMark operators.Equal (number 7)) ∷ drop ∷ []) ∷ []) ∷ [])
 
+-- chain fwd { type filter hook forward priority 0; policy accept; notrack counter; notrack }
+abbrev pub untracking : List TableTree
+untracking =
+    one_table (forwards policies.Accept ((tree.notrack ∷ counter ∷ []) ∷ (tree.notrack ∷ []) ∷ []) ∷ [])
+
 -- udp dport map { PORT : 7 }
 abbrev pub seven_at : ℕ → OperandTree
 seven_at n =

@@ -181,6 +181,16 @@ pub fn connections_marked()
     ensures without_operand { Forward box (trials.marking marks.Ct (trials.seven_at 54)) (tracked tracking.Invalid) [] (accepted (tracked tracking.Invalid) (closed 0 policies.Accept ∷ [])) }
 {}
 
+/// `notrack counter`, and `notrack` again: where nothing is known of a packet's connection the first has it
+/// pass untracked, and elsewhere it does nothing. That a packet is untracked is read where it is known.
+pub fn passed_untracked()
+    ensures unknown { Forward box trials.untracking (tracked tracking.Unknown) [] (accepted (tracked tracking.Skipped) (events.Untracked ∷ counted 0 1 2 ∷ closed 0 policies.Accept ∷ [])) }
+    ensures known { Forward box trials.untracking plain [] (accepted plain (counted 0 1 2 ∷ closed 0 policies.Accept ∷ [])) }
+    ensures invalid { Forward box trials.untracking (tracked tracking.Invalid) [] (accepted (tracked tracking.Invalid) (counted 0 1 2 ∷ closed 0 policies.Accept ∷ [])) }
+    ensures read { Drops (trials.state bit_tests.Any (codes "untracked" ∷ [])) (tracked tracking.Untracked) × Drops (trials.state bit_tests.None (codes "new" ∷ [])) (tracked tracking.Untracked) × Spares (trials.state bit_tests.Exactly (codes "untracked" ∷ codes "new" ∷ [])) (tracked tracking.Untracked) }
+    ensures not_read { Spares (trials.state bit_tests.Any (codes "untracked" ∷ [])) (tracked tracking.Skipped) × Spares (trials.state bit_tests.None (codes "untracked" ∷ [])) (tracked tracking.Skipped) × Spares (tree.compare selectors.CtMark operators.Unequal (number 7)) (tracked tracking.Untracked) }
+{}
+
 /// What statements translate to; an address that a map doesn't give makes the statement fail.
 pub fn translations()
     ensures masquerade { Translating hooks.Postrouting box (trials.translating hooks.Postrouting (tree.masquerade None)) plain [] (translated (translations.Masquerade None) plain (counted 0 1 1 ∷ took 0 1 (decisions.Translate (translations.Masquerade None)) ∷ [])) }

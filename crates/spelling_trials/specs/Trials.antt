@@ -276,6 +276,13 @@ mark_by_source = uncommented (
     ∷ tree.counter None
     ∷ [])
 
+-- udp dport 53 notrack
+abbrev pub names_untracked_tokens : List Sign → List Sign
+names_untracked_tokens rest = word (codes "udp") ∷ word (codes "dport") ∷ number 53 ∷ word (codes "notrack") ∷ rest
+
+abbrev pub names_untracked : RuleTree
+names_untracked = uncommented (equals selectors.UdpDestination (tree.number 53) ∷ tree.notrack ∷ [])
+
 -- ip saddr != 10.0.0.0/8 tcp sport >= 1024 log prefix "high" redirect to :8080
 abbrev pub outside_logged_tokens : List Sign → List Sign
 outside_logged_tokens rest =

@@ -61,6 +61,8 @@ pub fn other_rules()
     ensures connection_marked { (rest : List Sign) → SpellsRule trials.connection_marked (trials.connection_marked_tokens rest) rest }
     // `meta mark set ip saddr map { 10.0.0.1 - 10.0.0.9 : 16 } counter`: a mark looked up by a range of addresses.
     ensures mark_by_source { (rest : List Sign) → SpellsRule trials.mark_by_source (trials.mark_by_source_tokens rest) rest }
+    // `udp dport 53 notrack`: a word alone.
+    ensures names_untracked { (rest : List Sign) → SpellsRule trials.names_untracked (trials.names_untracked_tokens rest) rest }
     // `ip saddr != 10.0.0.0/8 tcp sport >= 1024 log prefix "high" redirect to :8080`: a prefix, an order, a text to log and a port.
     ensures outside_logged { (rest : List Sign) → SpellsRule trials.outside_logged (trials.outside_logged_tokens rest) rest }
 {}

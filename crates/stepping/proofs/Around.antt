@@ -12,7 +12,7 @@ use Rattle.rule_meaning.specs.Laws.{AtMostOneEnd}
 use Rattle.rule_laws.specs.Ends.{Ends}
 use Rattle.story.specs.Setup.{Setup}
 use Rattle.translation.specs.declared.way.Way.{Way}
-use Rattle.translation.specs.declared.way.Way.TheVariants.{Within, About, First, Astray}
+use Rattle.translation.specs.declared.way.Way.TheVariants.{Within, About, First, Astray, Untracked}
 use Rattle.translation.specs.Ways.{facts_to, facts_from}
 use Rattle.translation.specs.Translating.{way_to, way_from}
 use Rattle.stepping.specs.Translated.{Asked, Redirects, Sources, passed_on, sourced}
@@ -103,6 +103,7 @@ module _ (setup : Setup) where
     one_asked hook (Within of) f es end other r s = r ∙ sym s
     one_asked hook (About of) f es end other r s = r ∙ sym s
     one_asked hook Astray f es end other r s = r ∙ sym s
+    one_asked hook Untracked f es end other r s = r ∙ sym s
 
   module _ (some : SomeChains setup) where
     some_asked : (hook : Hook) (way : Way) → Ends (Asked setup hook way)
@@ -110,6 +111,7 @@ module _ (setup : Setup) where
     some_asked hook (Within of) f es = (record { ending = Accepted; facts = f; events = es }, refl)
     some_asked hook (About of) f es = (record { ending = Accepted; facts = f; events = es }, refl)
     some_asked hook Astray f es = (record { ending = Accepted; facts = f; events = es }, refl)
+    some_asked hook Untracked f es = (record { ending = Accepted; facts = f; events = es }, refl)
 
   module _ (mappings : List Mapping) (way : Way) where
     -- its way then, and how the step ends, by what was asked

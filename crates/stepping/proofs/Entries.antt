@@ -25,7 +25,7 @@ use Rattle.translation.specs.declared.way.Way.{Way}
 use Rattle.translation.specs.Ways.{tracking_of}
 use Rattle.stepping.specs.Carried as carried
 use Rattle.stepping.specs.Carried.{Arrived, Carries, arriving, departing, entered, link_cause, cause_of, with_tracking}
-use Rattle.stepping.specs.Lookups.{Lookup, mappings_beside, way_of}
+use Rattle.stepping.specs.Lookups.{Lookup, mappings_beside, unless_skipped, way_of, way_unless_skipped}
 use Rattle.stepping.specs.Courses as courses
 use Rattle.stepping.specs.Courses.{Course, Delivers, DepartsBy, LeadsOn, LeadsBy, Leads, dropped, through, stopped_at}
 use Rattle.stepping.specs.LastStep.{Fate, settled, unseen}
@@ -331,27 +331,34 @@ module _ (setup : Setup) (mappings : List Mapping) where
 -- ---- how it fares
 
 module _ (setup : Setup) (live : List Held) (lookup : Option Lookup) (a : Arrived) where
-  abbrev mappings : List Mapping
-  mappings = mappings_beside live lookup
+  abbrev asked : End → Option Lookup
+  asked early = unless_skipped early.facts.tracking lookup
+
+  abbrev mappings : End → List Mapping
+  mappings early = mappings_beside live (asked early)
+
+  abbrev way : End → Way
+  way early = way_unless_skipped early.facts.tracking (way_of live a.packet lookup)
 
   abbrev known : End → Facts
-  known early = with_tracking (tracking_of (way_of live a.packet lookup)) early.facts
+  known early = with_tracking (tracking_of (way early)) early.facts
+
+  abbrev FaresOn : End → Fate → Type 0
+  FaresOn early fate = FaresIn setup live (asked early) (way early) early fate
 
   -- what the early chains make of it
   abbrev FaresBy : Fate → End → Type 0
   FaresBy fate early =
       (Stops early.ending → fate ≡ unseen (stopped_at early))
-      × (GoesOn early.ending → FaresIn setup live lookup a.packet early fate)
+      × (GoesOn early.ending → FaresOn early fate)
 
   module _ (one : OneChains setup) where
     -- its course is one, and the last step follows from it
-    one_in : (early : End) (fate other : Fate) → FaresIn setup live lookup a.packet early fate
-        → FaresIn setup live lookup a.packet early other → fate ≡ other
+    one_in : (early : End) (fate other : Fate) → FaresOn early fate → FaresOn early other → fate ≡ other
     one_in early fate other x y =
         let same : x.course ≡ y.course =
-        one_leads setup mappings one (way_of live a.packet lookup) (known early) early.events x.course y.course x.leads
-        y.leads in
-        x.is ∙ ap (settled lookup) same ∙ sym y.is
+        one_leads setup (mappings early) one (way early) (known early) early.events x.course y.course x.leads y.leads in
+        x.is ∙ ap (settled (asked early)) same ∙ sym y.is
 
     one_from : (early : End) (fate other : Fate) → FaresBy fate early → FaresBy other early → (b : Bool)
         → goes_on early.ending ≡ b → fate ≡ other
@@ -368,10 +375,10 @@ module _ (setup : Setup) (live : List Held) (lookup : Option Lookup) (a : Arrive
         (goes_on x.early.ending) refl
 
   module _ (ends : SomeChains setup) where
-    some_in : (early : End) → (fate : Fate) × FaresIn setup live lookup a.packet early fate
+    some_in : (early : End) → (fate : Fate) × FaresOn early fate
     some_in early =
-        let q = some_leads setup mappings ends (way_of live a.packet lookup) (known early) early.events in
-        (settled lookup q.0, record { course = q.0; leads = q.1; is = refl })
+        let q = some_leads setup (mappings early) ends (way early) (known early) early.events in
+        (settled (asked early) q.0, record { course = q.0; leads = q.1; is = refl })
 
     some_from : (early : End) → (b : Bool) → goes_on early.ending ≡ b → (fate : Fate) × FaresBy fate early
     some_from early true is =

@@ -20,7 +20,7 @@ use Rattle.stepping.specs.declared.sought.Sought.{Sought}
 use Rattle.translation.specs.declared.way.Draft.{Draft}
 use Rattle.translation.specs.declared.way.Membership.{Membership}
 use Rattle.translation.specs.declared.way.Way.{Way}
-use Rattle.translation.specs.declared.way.Way.TheVariants.{Within, About, First, Astray}
+use Rattle.translation.specs.declared.way.Way.TheVariants.{Within, About, First, Astray, Untracked}
 use Rattle.ip_headers.specs.declared.tuple.Mapping.{Mapping}
 use Rattle.translation.specs.Fitting.{Fits}
 use Rattle.translation.specs.Ways.{draft_of, error_way, first_way, untranslated, way_by}
@@ -58,6 +58,9 @@ module _ (now : ℕ) (flags : Flags) (led : Led) (old : List Held) where
 
   pub settles_about : (b : Belonging) (of : Membership) → Settles now flags led b (About of) old old (Ok (record { bound = led.bound; begun = false; way = About of }))
   settles_about b of = record { id = no_id; outcome = λ events. refl; held = λ events. refl; begun = λ events. refl; goes = λ events. refl }
+
+  pub settles_untracked : (b : Belonging) → Settles now flags led b Untracked old old (Ok (record { bound = led.bound; begun = false; way = Untracked }))
+  settles_untracked b = record { id = no_id; outcome = λ events. refl; held = λ events. refl; begun = λ events. refl; goes = λ events. refl }
 
   module _ (b : Belonging) (draft : Draft) where
     abbrev course : List Event → Course
@@ -103,6 +106,7 @@ original_or t (First d) = d.original
 original_or t (Within of) = t
 original_or t (About of) = t
 original_or t Astray = t
+original_or t Untracked = t
 
 same_original : (d e : Draft) → First (draft_of d.original) ≡ First (draft_of e.original) → d.original ≡ e.original
 same_original d e same = ap (original_or e.original) same
@@ -114,14 +118,17 @@ first_open b held states.New t (First d) free same = rw (same_original d (draft_
 first_open b held states.New t (Within of) free same = cc
 first_open b held states.New t (About of) free same = tt
 first_open b held states.New t Astray free same = cc
+first_open b held states.New t Untracked free same = tt
 first_open b held states.Established t (First d) free same = cc
 first_open b held states.Established t (Within of) free same = cc
 first_open b held states.Established t (About of) free same = tt
 first_open b held states.Established t Astray free same = tt
+first_open b held states.Established t Untracked free same = tt
 first_open b held states.Invalid t (First d) free same = cc
 first_open b held states.Invalid t (Within of) free same = cc
 first_open b held states.Invalid t (About of) free same = tt
 first_open b held states.Invalid t Astray free same = tt
+first_open b held states.Invalid t Untracked free same = tt
 
 pub still_open : (t : Tuple) (b : Belonging) (held : List Held) (way : Way) → IsOpen t b held
     → untranslated way ≡ untranslated (way_by t b) → IsOpenFor b way held
@@ -129,12 +136,14 @@ still_open t (Found place) held (Within of) at same = at
 still_open t (Found place) held (First d) at same = cc
 still_open t (Found place) held (About of) at same = tt
 still_open t (Found place) held Astray at same = tt
+still_open t (Found place) held Untracked at same = tt
 still_open t Nowhere held way at same = first_open Nowhere held (first_state t.kind) t way at same
 still_open t (Ends id) held way at same = first_open (Ends id) held (first_state t.kind) t way at same
 
 -- a packet that isn't looked up may be an error, which counts for no connection
 pub error_open : (b : Belonging) (held : List Held) (way : Way) → untranslated way ≡ untranslated (error_way b) → IsOpenFor Nowhere way held
 error_open b held Astray same = tt
+error_open b held Untracked same = tt
 error_open b held (About of) same = tt
 error_open Nowhere held (Within of) same = cc
 error_open (Ends id) held (Within of) same = cc
@@ -142,6 +151,14 @@ error_open (Found place) held (Within of) same = cc
 error_open Nowhere held (First d) same = cc
 error_open (Ends id) held (First d) same = cc
 error_open (Found place) held (First d) same = cc
+
+-- nor does one that passes untracked
+pub untracked_open : (held : List Held) (way : Way) → untranslated way ≡ untranslated Untracked → IsOpenFor Nowhere way held
+untracked_open held Untracked same = tt
+untracked_open held Astray same = tt
+untracked_open held (About of) same = tt
+untracked_open held (Within of) same = cc
+untracked_open held (First d) same = cc
 
 pub error_fits : (b : Belonging) (mappings : List Mapping) → Fits (error_way b) mappings
 error_fits Nowhere mappings = tt
@@ -178,33 +195,40 @@ module _ (id : ConnId) (now : ℕ) (s : Sought) (old : List Held) (course : Cour
   nowhere states.New (Within of) same = cc
   nowhere states.New (About of) same = cc
   nowhere states.New Astray same = cc
+  nowhere states.New Untracked same = cc
   nowhere states.Established (First d) same = cc
   nowhere states.Established (Within of) same = cc
   nowhere states.Established (About of) same = cc
   nowhere states.Established Astray same = record { held = refl; begun = refl }
+  nowhere states.Established Untracked same = cc
   nowhere states.Invalid (First d) same = cc
   nowhere states.Invalid (Within of) same = cc
   nowhere states.Invalid (About of) same = cc
   nowhere states.Invalid Astray same = record { held = refl; begun = refl }
+  nowhere states.Invalid Untracked same = cc
 
   ends : (e : ConnId) (state : State) (way : Way) → untranslated way ≡ untranslated (first_way state s.tuple) → AgreesSo (Ends e) way
   ends e states.New (First d) same = first_ends id now s old d (same_original d (draft_of s.tuple) same) e (refusal (reply_to d) (without e old)) (without e old) course
   ends e states.New (Within of) same = cc
   ends e states.New (About of) same = cc
   ends e states.New Astray same = cc
+  ends e states.New Untracked same = cc
   ends e states.Established (First d) same = cc
   ends e states.Established (Within of) same = cc
   ends e states.Established (About of) same = cc
   ends e states.Established Astray same = record { held = refl; begun = refl }
+  ends e states.Established Untracked same = cc
   ends e states.Invalid (First d) same = cc
   ends e states.Invalid (Within of) same = cc
   ends e states.Invalid (About of) same = cc
   ends e states.Invalid Astray same = record { held = refl; begun = refl }
+  ends e states.Invalid Untracked same = cc
 
   pub agrees : (b : Belonging) (way : Way) → untranslated way ≡ untranslated (way_by s.tuple b) → AgreesSo b way
   agrees (Found place) (Within of) same = record { held = refl; begun = refl }
   agrees (Found place) (First d) same = cc
   agrees (Found place) (About of) same = cc
   agrees (Found place) Astray same = cc
+  agrees (Found place) Untracked same = cc
   agrees Nowhere way same = nowhere (first_state s.tuple.kind) way same
   agrees (Ends e) way same = ends e (first_state s.tuple.kind) way same

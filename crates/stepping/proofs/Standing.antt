@@ -9,13 +9,15 @@ use Rattle.conntrack.specs.declared.belonging.Belonging.TheVariants.{Nowhere, En
 use Rattle.conntrack.specs.declared.connection.ConnId.{ConnId}
 use Rattle.conntrack.specs.declared.connection.Flags.{Flags}
 use Rattle.conntrack.specs.declared.connection.Held.{Held}
-use Rattle.conntrack.specs.declared.limits.Limits.{Limits}
+use Rattle.box_file.specs.declared.limits.Limits.{Limits}
 use Rattle.conntrack.specs.Held.{IsNoneLater, belongs_in, has_distinct_ids, is_live, is_taken, live_at, most_held, nameless, nameless_belonging}
 use Rattle.conntrack.specs.Stories as connections
 use Rattle.conntrack.specs.Stories.{belongs, does_begin, live_list}
 use Rattle.conntrack.specs.Updates as updates
 use Rattle.conntrack.specs.Updates.{Arrival, Confirmation, Unconfirmed, Confirmed, after_end, after_packet, entry_at, what_of_packet}
 use Rattle.pcap_io.specs.Pcap.{Recorded}
+use Rattle.rule_meaning.specs.declared.facts.Tracking.{Tracking}
+use Rattle.rule_meaning.specs.declared.facts.Tracking.TheVariants.{Skipped}
 use Rattle.rule_meaning.specs.declared.event.Event.{Event}
 use Rattle.story.specs.declared.outcome.Cause.{Cause}
 use Rattle.story.specs.declared.outcome.Cause.TheVariants as causes
@@ -30,13 +32,13 @@ use Rattle.ip_headers.specs.declared.tuple.Mapping.{Mapping}
 use Rattle.rule_meaning.specs.Hooks.{End}
 use Rattle.translation.specs.declared.way.Draft.{Draft}
 use Rattle.translation.specs.declared.way.Way.{Way}
-use Rattle.translation.specs.declared.way.Way.TheVariants.{Within, About, First, Astray}
+use Rattle.translation.specs.declared.way.Way.TheVariants.{Within, About, First, Astray, Untracked}
 use Rattle.translation.specs.Mapped.{mappings_in}
 use Rattle.ip_headers.specs.Tuple.{inner_tuple_of, inverse}
 use Rattle.conntrack.specs.Phases.{no_flags}
 use Rattle.translation.specs.Ways.{error_way, tracking_of, way_by}
 use Rattle.stepping.specs.Carried.{Arrived, with_tracking}
-use Rattle.stepping.specs.Lookups.{Lookup, error_belonging, look_up, lookup_of, mappings_beside, sought_of, way_of}
+use Rattle.stepping.specs.Lookups.{Lookup, error_belonging, look_up, mappings_beside, sought_of, unless_skipped, way_of, way_unless_skipped}
 use Rattle.stepping.specs.Courses.{Course, Leads, dropped}
 use Rattle.stepping.specs.LastStep.{Fate, begun_unless, counted_by, fresh_in, refusal, reply_to, settled, settled_as, uncounted}
 use Rattle.stepping.specs.Next.{FaresAs, FaresIn, Next, answered, at_moment, entry_of, leaving, live_at_record, moment_after, tracked_by}
@@ -148,6 +150,7 @@ module _ (alike : AreAlike) where
   counted_beside (First draft) held live course same = begun_beside draft held live course same
   counted_beside (About of) held live course same = refl
   counted_beside Astray held live course same = refl
+  counted_beside Untracked held live course same = refl
 
 module _ (alike : AreAlike) (held live : List Held) (same : map nameless held ≡ map nameless live) (d : IsTrue (has_distinct_ids held)) (d' : IsTrue (has_distinct_ids live)) where
   module _ (s : Sought) where
@@ -209,13 +212,29 @@ module _ (alike : AreAlike) (held live : List Held) (same : map nameless held �
   began_alike now (Ok a) count = began_same now (sought_of a.packet) count
   began_alike now (Err cause) count = refl
 
+  -- a packet that passes untracked isn't looked up in either list
+  way_known : (known : Tracking) (p : List ℕ) (sought : Option Sought)
+      → way_unless_skipped known (way_of held p (in_held sought)) ≡ way_unless_skipped known (way_of live p (in_live sought))
+  way_known Skipped p sought = refl
+  way_known known p sought = way_same p sought
+
+  beside_known : (known : Tracking) (sought : Option Sought)
+      → mappings_beside held (unless_skipped known (in_held sought)) ≡ mappings_beside live (unless_skipped known (in_live sought))
+  beside_known Skipped sought = alike.mappings held live same
+  beside_known known sought = beside_same sought
+
+  settled_known : (known : Tracking) (sought : Option Sought) (course : Course)
+      → settled (unless_skipped known (in_held sought)) course ≡ settled (unless_skipped known (in_live sought)) course
+  settled_known Skipped sought course = refl
+  settled_known known sought course = settled_same sought course
+
   -- how it is led
-  leads_same : (setup : Setup) (p : List ℕ) (sought : Option Sought) (early : End) (course : Course)
-      → Leads setup (mappings_beside held (in_held sought)) (way_of held p (in_held sought)) (with_tracking (tracking_of (way_of held p (in_held sought))) early.facts) early.events course
-      → Leads setup (mappings_beside live (in_live sought)) (way_of live p (in_live sought)) (with_tracking (tracking_of (way_of live p (in_live sought))) early.facts) early.events course
-  leads_same setup p sought early course leads =
-      subst (λ (way : Way). Leads setup (mappings_beside live (in_live sought)) way (with_tracking (tracking_of way) early.facts) early.events course) (way_same p sought)
-      (subst (λ (mappings : List Mapping). Leads setup mappings (way_of held p (in_held sought)) (with_tracking (tracking_of (way_of held p (in_held sought))) early.facts) early.events course) (beside_same sought) leads)
+  leads_same : (setup : Setup) (mappings beside : List Mapping) (way after : Way) (early : End) (course : Course) → mappings ≡ beside → way ≡ after
+      → Leads setup mappings way (with_tracking (tracking_of way) early.facts) early.events course
+      → Leads setup beside after (with_tracking (tracking_of after) early.facts) early.events course
+  leads_same setup mappings beside way after early course m w leads =
+      subst (λ (way : Way). Leads setup beside way (with_tracking (tracking_of way) early.facts) early.events course) w
+      (subst (λ (mappings : List Mapping). Leads setup mappings way (with_tracking (tracking_of way) early.facts) early.events course) m leads)
 
   -- how it fares
   pub fares_same : (setup : Setup) (arrived : Result Arrived Cause) (fate : Fate) → FaresAs setup held (answered held arrived) arrived fate → FaresAs setup live (answered live arrived) arrived fate
@@ -224,11 +243,14 @@ module _ (alike : AreAlike) (held live : List Held) (same : map nameless held �
     early = fares.early;
     first = fares.first;
     stopped = fares.stopped;
-    goes_on = λ on. let before : FaresIn setup held (lookup_of held a.packet) a.packet fares.early fate = fares.goes_on on in
+    goes_on = λ on.
+        let known = fares.early.facts.tracking in
+        let sought = sought_of a.packet in
+        let before : FaresIn setup held (unless_skipped known (in_held sought)) (way_unless_skipped known (way_of held a.packet (in_held sought))) fares.early fate = fares.goes_on on in
         record {
           course = before.course;
-          leads = leads_same setup a.packet (sought_of a.packet) fares.early before.course before.leads;
-          is = before.is ∙ settled_same (sought_of a.packet) before.course;
+          leads = leads_same setup _ _ _ _ fares.early before.course (beside_known known sought) (way_known known a.packet sought) before.leads;
+          is = before.is ∙ settled_known known sought before.course;
         };
   }
 

@@ -3,7 +3,7 @@ use Rattle.std.specs.Prelude.{◌≡◌, ℕ, ◌<◌, ◌≤◌, true, false, L
 use Rattle.box_file.specs.Box.{is_own, route}
 use Rattle.rule_meaning.specs.declared.facts.Facts.{Facts}
 use Rattle.rule_meaning.specs.declared.facts.Tracking.{Tracking}
-use Rattle.rule_meaning.specs.declared.facts.Tracking.TheVariants.{Unknown, Invalid, Known}
+use Rattle.rule_meaning.specs.declared.facts.Tracking.TheVariants.{Unknown, Skipped, Untracked, Invalid, Known}
 use Rattle.rule_meaning.specs.declared.event.Event.{Event}
 use Rattle.rule_meaning.specs.declared.event.Ending.{Ending}
 use Rattle.rule_meaning.specs.declared.event.Ending.TheVariants.{Accepted, Translated}
@@ -32,6 +32,8 @@ pub record Course : Type 0 where
 abbrev pub mark_in : Tracking → ℕ
 mark_in (Known c) = c.mark
 mark_in Unknown = 0
+mark_in Skipped = 0
+mark_in Untracked = 0
 mark_in Invalid = 0
 
 abbrev pub dropped : Cause → List Event → Course

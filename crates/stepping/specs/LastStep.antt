@@ -14,7 +14,7 @@ use Rattle.story.specs.declared.outcome.Outcome.{Outcome}
 use Rattle.story.specs.declared.outcome.Outcome.TheVariants.{Passed, Local, Dropped}
 use Rattle.translation.specs.declared.way.Draft.{Draft}
 use Rattle.translation.specs.declared.way.Way.{Way}
-use Rattle.translation.specs.declared.way.Way.TheVariants.{Within, About, First, Astray}
+use Rattle.translation.specs.declared.way.Way.TheVariants.{Within, About, First, Astray, Untracked}
 use Rattle.translation.specs.Mapped.{mappings_in}
 use Rattle.stepping.specs.Lookups.{Lookup}
 use Rattle.stepping.specs.Courses.{Course, dropped}
@@ -94,6 +94,7 @@ counted_by (First draft) others course = begun_unless (refusal (reply_to draft) 
 -- an error is none of its connection's packets
 counted_by (About of) others course = uncounted course
 counted_by Astray others course = uncounted course
+counted_by Untracked others course = uncounted course
 
 -- one that doesn't changes nothing of its connection (own)
 abbrev pub settled_as : Outcome → List Held → Course → Fate

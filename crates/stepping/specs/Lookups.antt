@@ -14,7 +14,10 @@ use Rattle.conntrack.specs.declared.connection.Held.{Held}
 use Rattle.conntrack.specs.Phases.{flags_of, no_flags}
 use Rattle.conntrack.specs.Held.{belongs_in}
 use Rattle.conntrack.specs.Updates.{after_end}
+use Rattle.rule_meaning.specs.declared.facts.Tracking.{Tracking}
+use Rattle.rule_meaning.specs.declared.facts.Tracking.TheVariants.{Skipped}
 use Rattle.translation.specs.declared.way.Way.{Way}
+use Rattle.translation.specs.declared.way.Way.TheVariants.{Untracked}
 use Rattle.translation.specs.Mapped.{mappings_in}
 use Rattle.translation.specs.Ways.{error_way, way_by}
 use Rattle.stepping.specs.declared.sought.Sought.{Sought}
@@ -60,6 +63,12 @@ others_in live (Some l) = l.others
 abbrev pub mappings_beside : List Held → Option Lookup → List Mapping
 mappings_beside live lookup = mappings_in (others_in live lookup)
 
+-- a packet that a rule of the early chains had pass untracked isn't looked up, whatever it carries (nft(8), "NOTRACK
+-- STATEMENT"): it ends no connection either
+abbrev pub unless_skipped : Tracking → Option Lookup → Option Lookup
+unless_skipped Skipped lookup = None
+unless_skipped _ lookup = lookup
+
 -- ---- its way: within a connection, about one, as the first of one, or none of these
 
 -- an ICMP error belongs where the way back of the packet does that it is about, if it is about one that has a tuple
@@ -72,3 +81,8 @@ error_belonging live (Some t) = belongs_in live (inverse t) no_flags
 abbrev pub way_of : List Held → List ℕ → Option Lookup → Way
 way_of live p None = error_way (error_belonging live (inner_tuple_of p))
 way_of live p (Some l) = way_by l.sought.tuple l.belonging
+
+-- untracked, where a rule of the early chains had it pass so
+abbrev pub way_unless_skipped : Tracking → Way → Way
+way_unless_skipped Skipped way = Untracked
+way_unless_skipped _ way = way

@@ -20,35 +20,36 @@ use Rattle.stepping.specs.declared.sought.Sought.{Sought}
 use Rattle.stepping.specs.Carried.{Arrived, Carries, arriving, with_tracking}
 use Rattle.translation.specs.declared.way.Way.{Way}
 use Rattle.translation.specs.Ways.{change_of, tracking_of}
-use Rattle.stepping.specs.Lookups.{Lookup, lookup_of, mappings_beside, way_of}
+use Rattle.stepping.specs.Lookups.{Lookup, lookup_of, mappings_beside, unless_skipped, way_of, way_unless_skipped}
 use Rattle.stepping.specs.Courses.{Course, Leads, dropped, stopped_at}
 use Rattle.stepping.specs.LastStep.{Fate, settled, unseen}
 
 -- ---- how a packet fares
 
--- a packet that the early chains let through, of which the connections alive answer this: the rules lead it, and the
--- last step follows
-pub record FaresIn (setup : Setup) (live : List Held) (lookup : Option Lookup) (p : List ℕ) (early : End) (fate : Fate)
+-- a packet that the early chains let through, of which the connections alive answer this, and which stands so to them:
+-- the rules lead it, and the last step follows
+pub record FaresIn (setup : Setup) (live : List Held) (lookup : Option Lookup) (way : Way) (early : End) (fate : Fate)
     : Type 0 where
   pub course : Course
-  pub leads : Leads setup (mappings_beside live lookup) (way_of live p lookup)
-      (with_tracking (tracking_of (way_of live p lookup)) early.facts) early.events course
+  pub leads : Leads setup (mappings_beside live lookup) way (with_tracking (tracking_of way) early.facts) early.events
+      course
   pub is : fate ≡ settled lookup course
 
--- the early chains come first: what they drop isn't looked up
+-- the early chains come first: what they drop isn't looked up, nor what they have pass untracked
 pub record Fares (setup : Setup) (live : List Held) (lookup : Option Lookup) (a : Arrived) (fate : Fate)
     : Type 0 where
   pub early : End
   pub first : Early setup.plant setup.rules (arriving setup a) [] early
   pub stopped : Stops early.ending → fate ≡ unseen (stopped_at early)
-  pub goes_on : GoesOn early.ending → FaresIn setup live lookup a.packet early fate
+  pub goes_on : GoesOn early.ending → FaresIn setup live (unless_skipped early.facts.tracking lookup)
+      (way_unless_skipped early.facts.tracking (way_of live a.packet lookup)) early fate
 
 -- what carries no packet is dropped for its cause, and nothing happens
 abbrev pub FaresAs : Setup → List Held → Option Lookup → Result Arrived Cause → Fate → Type 0
 FaresAs setup live lookup (Ok a) fate = Fares setup live lookup a fate
 FaresAs setup live lookup (Err cause) fate = fate ≡ unseen (dropped cause [])
 
--- what the connections alive answer for it
+-- what the connections alive answer for it, if they are asked
 abbrev pub answered : List Held → Result Arrived Cause → Option Lookup
 answered live (Ok a) = lookup_of live a.packet
 answered live (Err cause) = None
@@ -113,7 +114,7 @@ pub record Next (setup : Setup) (story : List Entry) (r : Recorded) (e : Entry) 
   -- the packet that the record carries, or why it carries none
   pub arrived : Result Arrived Cause
   pub carried : Carries setup r arrived
-  -- what the connections alive answer for it
+  -- what the connections alive answer for it, if they are asked
   pub lookup : Option Lookup
   pub looked : lookup ≡ answered (live_at_record setup story r) arrived
   -- what becomes of it

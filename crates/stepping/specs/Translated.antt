@@ -11,7 +11,7 @@ use Rattle.rule_meaning.specs.declared.event.Ending.TheVariants.{Accepted, Dropp
 use Rattle.rule_meaning.specs.Hooks.{Passage, End, Nothing, Translating}
 use Rattle.story.specs.Setup.{Setup}
 use Rattle.translation.specs.declared.way.Way.{Way}
-use Rattle.translation.specs.declared.way.Way.TheVariants.{Within, About, First, Astray}
+use Rattle.translation.specs.declared.way.Way.TheVariants.{Within, About, First, Astray, Untracked}
 use Rattle.translation.specs.Ways.{facts_to, facts_from}
 use Rattle.translation.specs.Translating.{way_to, way_from}
 
@@ -21,6 +21,7 @@ Asked setup hook (First draft) = Translating hook setup.plant setup.rules
 Asked setup hook (Within of) = Nothing
 Asked setup hook (About of) = Nothing
 Asked setup hook Astray = Nothing
+Asked setup hook Untracked = Nothing
 
 -- what they drop goes no further; all else goes on
 abbrev pub passed_on : Ending → Ending

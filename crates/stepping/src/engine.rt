@@ -13,7 +13,7 @@ use crate::fate::{Ended, fate, way_of};
 use crate::setup::Setup;
 use connection_table::ConnectionTable;
 use conntrack::laws::{names_aside, none_later, one_entry_more};
-use conntrack::{Connection, Limits, Tracker};
+use conntrack::{Connection, Tracker};
 use hook_runs::Events;
 use nft_tree::Ruleset;
 use pcap_io::{Leaving, Record};
@@ -64,11 +64,12 @@ impl<T: Tracker> Engine<T> {
         ensures none { IfOk result (λ engine. Stands engine []) }
     {
         let setup = Setup::new(alloc, checked)?;
+        let idle = setup.plant().idle();
         let events = Events::new(alloc)?;
         let packet = Vec::with_capacity(alloc, MOST_PACKET_BYTES)?;
         Ok(Engine {
             setup,
-            connections: ConnectionTable::new(alloc, Limits::usual()),
+            connections: ConnectionTable::new(alloc, idle),
             records: 0,
             latest: 0,
             events,

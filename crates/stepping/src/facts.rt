@@ -72,7 +72,8 @@ pub fn mark_in(tracking: Tracking) -> u32
 {
     match tracking {
         Tracking::Known(connection) => connection.mark,
-        Tracking::Unknown | Tracking::Invalid => 0,
+        Tracking::Unknown | Tracking::Skipped => 0,
+        Tracking::Untracked | Tracking::Invalid => 0,
     }
 }
 

@@ -8,13 +8,14 @@ ghost use Rattle.translation.specs.declared.way.Way.{Way as TheWay};
 ghost use Rattle.translation.specs.Ways.{untranslated};
 ghost use Rattle.ip_headers.specs.Tuple.{inner_tuple_of};
 ghost use Rattle.translation.specs.Ways.{error_way};
-ghost use Rattle.stepping.specs.Lookups.{error_belonging, look_up, others_in, way_of};
+ghost use Rattle.stepping.specs.Lookups.{error_belonging, look_up, lookup_of, others_in, unless_skipped, way_of, way_unless_skipped};
 ghost use Rattle.stepping.specs.steps.Settling.{IsOpenFor, belonging_in};
 
-use crate::sought::Sought;
+use crate::sought::{Sought, sought_of};
 use connection_table::ConnectionTable;
 use conntrack::{Belonging, Moment, Tracker};
 use ip_headers::View;
+use rule_meaning::Tracking;
 use translation::Way;
 
 /// What the look-up of a packet found.
@@ -26,10 +27,42 @@ pub struct Looked {
     pub way: Way,
 }
 
+/// Looks a packet up at a moment at which all that is held is live, unless a rule had it pass
+/// untracked: then nothing is asked of connections, whatever it carries.
+pub fn look_for<T: Tracker>(
+    connections: &mut ConnectionTable<T>,
+    tracking: Tracking,
+    view: &View,
+    now: Moment,
+) -> Looked
+    requires live { live_at connections.old.limits now connections.old.held ≡ connections.old.held }
+    requires later { IsNoneLater now connections.old.held }
+    requires room { IsTrue connections.old.has_room }
+    ensures belonging { result.belonging ≡ belonging_in (unless_skipped tracking (lookup_of connections.old.held view.now.packet.now)) }
+    ensures way { result.way ≡ way_unless_skipped tracking (way_of connections.old.held view.now.packet.now (lookup_of connections.old.held view.now.packet.now)) }
+    ensures held { connections.new.held ≡ others_in connections.old.held (unless_skipped tracking (lookup_of connections.old.held view.now.packet.now)) }
+    ensures limits { connections.new.limits ≡ connections.old.limits }
+    ensures later { IsNoneLater now connections.new.held }
+    ensures room { IsTrue connections.new.has_room }
+    // The last step can count it, or begin its connection, however it was translated.
+    ensures open { (after : TheWay) → untranslated after ≡ untranslated result.way → IsOpenFor result.belonging after connections.new.held }
+    ensures fits { Fits result.way (mappings_in connections.new.held) }
+{
+    match tracking {
+        Tracking::Skipped => Looked {
+            belonging: Belonging::Nowhere,
+            way: Way::Untracked,
+        },
+        Tracking::Unknown | Tracking::Untracked | Tracking::Invalid | Tracking::Known(_) => {
+            look_up(connections, sought_of(view), view, now)
+        }
+    }
+}
+
 /// Looks a packet up at a moment at which all that is held is live. A lone SYN ends the closing
 /// connection that it came on, whatever rules make of it. An ICMP error may be about a connection,
 /// of which it is none of the packets.
-pub fn look_up<T: Tracker>(
+fn look_up<T: Tracker>(
     connections: &mut ConnectionTable<T>,
     sought: Option<Sought>,
     view: &View,

@@ -55,6 +55,7 @@ pub fn settle<T: Tracker>(
         // An error is none of its connection's packets.
         Way::About(_) => Ok(settled),
         Way::Astray => Ok(settled),
+        Way::Untracked => Ok(settled),
     }
 }
 

@@ -75,7 +75,7 @@ fn ask(setup: &Setup, part: Part, way: &Way, facts: &mut Facts, events: &mut Eve
 {
     match way {
         Way::First(_) => setup.hooks.run(part, facts, events),
-        Way::Within(_) | Way::About(_) | Way::Astray => Ending::Accepted,
+        Way::Within(_) | Way::About(_) | Way::Astray | Way::Untracked => Ending::Accepted,
     }
 }
 

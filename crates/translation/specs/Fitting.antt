@@ -4,7 +4,7 @@ use Rattle.ip_headers.specs.declared.tuple.Mapping.{Mapping}
 use Rattle.nat_mapping.specs.Mappings.{IsOneToOne}
 use Rattle.translation.specs.declared.way.Draft.{Draft}
 use Rattle.translation.specs.declared.way.Way.{Way}
-use Rattle.translation.specs.declared.way.Way.TheVariants.{Within, About, First, Astray}
+use Rattle.translation.specs.declared.way.Way.TheVariants.{Within, About, First, Astray, Untracked}
 use Rattle.translation.specs.Mapped.{listed}
 
 -- among these live mappings: with its source's they stay one to one, and the one of its destination is one of them
@@ -18,3 +18,4 @@ Fits (First draft) mappings = IsFitting draft mappings
 Fits (Within of) mappings = Unit {0}
 Fits (About of) mappings = Unit {0}
 Fits Astray mappings = Unit {0}
+Fits Untracked mappings = Unit {0}

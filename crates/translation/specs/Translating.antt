@@ -17,7 +17,7 @@ use Rattle.rule_meaning.specs.declared.event.Ending.{Ending}
 use Rattle.rule_meaning.specs.declared.event.Ending.TheVariants.{Accepted, Dropped, Translated}
 use Rattle.translation.specs.declared.way.Draft.{Draft}
 use Rattle.translation.specs.declared.way.Way.{Way}
-use Rattle.translation.specs.declared.way.Way.TheVariants.{Within, About, First, Astray}
+use Rattle.translation.specs.declared.way.Way.TheVariants.{Within, About, First, Astray, Untracked}
 use Rattle.translation.specs.declared.external.Outside.{Outside}
 
 -- only TCP and UDP have ports; the identifier of an echo isn't one
@@ -78,6 +78,7 @@ way_to plant mappings f (First draft) ending = First (draft_to plant mappings f 
 way_to plant mappings f (Within of) ending = Within of
 way_to plant mappings f (About of) ending = About of
 way_to plant mappings f Astray ending = Astray
+way_to plant mappings f Untracked ending = Untracked
 
 -- ---- the source
 
@@ -137,3 +138,4 @@ way_from plant mappings f (First draft) ending =
 way_from plant mappings f (Within of) ending = Some (Within of)
 way_from plant mappings f (About of) ending = Some (About of)
 way_from plant mappings f Astray ending = Some Astray
+way_from plant mappings f Untracked ending = Some Untracked

@@ -25,11 +25,12 @@ use Rattle.rule_meaning.specs.declared.facts.ConnectionState.TheVariants as stat
 use Rattle.rule_meaning.specs.declared.facts.Direction as facts_direction
 use Rattle.rule_meaning.specs.declared.facts.Direction.TheVariants as directions
 use Rattle.rule_meaning.specs.declared.facts.Tracking.{Tracking}
-use Rattle.rule_meaning.specs.declared.facts.Tracking.TheVariants.{Unknown, Invalid, Known}
+use Rattle.rule_meaning.specs.declared.facts.Tracking.TheVariants.{Unknown, Skipped, Invalid, Known}
+use Rattle.rule_meaning.specs.declared.facts.Tracking.TheVariants as trackings
 use Rattle.translation.specs.declared.way.Draft.{Draft}
 use Rattle.translation.specs.declared.way.Membership.{Membership}
 use Rattle.translation.specs.declared.way.Way.{Way}
-use Rattle.translation.specs.declared.way.Way.TheVariants.{Within, About, First, Astray}
+use Rattle.translation.specs.declared.way.Way.TheVariants.{Within, About, First, Astray, Untracked}
 
 -- ---- the tuples of a connection
 
@@ -87,6 +88,7 @@ untranslated (Within of) = Within of
 untranslated (About of) = About of
 untranslated (First draft) = First (draft_of draft.original)
 untranslated Astray = Astray
+untranslated Untracked = Untracked
 
 -- ---- what rules may read of its connection (nft(8), "Conntrack expressions")
 
@@ -133,15 +135,19 @@ tracking_of (Within of) = known_of (if is_answered of then states.Established el
 tracking_of (About of) = known_of states.Related of.replied of
 tracking_of (First draft) = Known (first_known draft)
 tracking_of Astray = Invalid
+tracking_of Untracked = trackings.Untracked
 
 -- once a packet that is to begin a connection was translated: what rules wrote stays
 abbrev pub tracking_on : Way → Tracking → Tracking
 tracking_on (First draft) (Known c) = Known (drafted draft c)
 tracking_on (First draft) Unknown = Unknown
+tracking_on (First draft) Skipped = Skipped
+tracking_on (First draft) trackings.Untracked = trackings.Untracked
 tracking_on (First draft) Invalid = Invalid
 tracking_on (Within of) tracking = tracking
 tracking_on (About of) tracking = tracking
 tracking_on Astray tracking = tracking
+tracking_on Untracked tracking = tracking
 
 -- ---- what rules may read of its headers
 
@@ -178,6 +184,7 @@ headers_to (Within of) p = packet_to (outgoing of).destination p
 headers_to (About of) p = record p { destination = outer_destination of p.destination }
 headers_to (First draft) p = packet_to draft.tuple.destination p
 headers_to Astray p = p
+headers_to Untracked p = p
 
 -- coming from where its connection begins by now
 abbrev pub headers_from : Way → Packet → Packet
@@ -185,6 +192,7 @@ headers_from (Within of) p = packet_from (outgoing of).source p
 headers_from (About of) p = record p { source = outer_source of p.source }
 headers_from (First draft) p = packet_from draft.tuple.source p
 headers_from Astray p = p
+headers_from Untracked p = p
 
 -- once its destination was translated
 abbrev pub facts_to : Way → Facts → Facts
@@ -195,6 +203,10 @@ abbrev pub facts_from : Way → Facts → Facts
 facts_from way f = record f { packet = headers_from way f.packet; tracking = tracking_on way f.tracking }
 
 -- ---- what becomes of its bytes
+
+-- nothing but its TTL is another
+abbrev pub ttl_alone : ℕ → Change
+ttl_alone ttl = record { source = None; destination = None; numbers = None; ttl = Some ttl; inner = None }
 
 -- a packet that leaves with this TTL has the tuple with which the packets of its connection leave; an error is then
 -- about one that came back with it
@@ -208,4 +220,5 @@ change_of (About of) packet ttl = record {
   inner = Some (inverse (outgoing of));
 }
 change_of (First draft) packet ttl = between draft.tuple (Some ttl)
-change_of Astray packet ttl = record { source = None; destination = None; numbers = None; ttl = Some ttl; inner = None }
+change_of Astray packet ttl = ttl_alone ttl
+change_of Untracked packet ttl = ttl_alone ttl

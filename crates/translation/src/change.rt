@@ -26,7 +26,7 @@ impl Way {
                 inner: Some(outgoing(membership).inverse()),
             },
             Way::First(draft) => between(draft.tuple, ttl),
-            Way::Astray => Change {
+            Way::Astray | Way::Untracked => Change {
                 source: None,
                 destination: None,
                 numbers: None,

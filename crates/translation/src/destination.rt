@@ -31,7 +31,7 @@ pub fn redirected(
 {
     match way {
         Way::First(draft) => Way::First(draft_to(plant, mappings, facts, *draft, ending)),
-        Way::Within(_) | Way::About(_) | Way::Astray => *way,
+        Way::Within(_) | Way::About(_) | Way::Astray | Way::Untracked => *way,
     }
 }
 

@@ -18,7 +18,7 @@ pub fn turn_to(way: &Way, facts: &mut Facts)
             ..facts.packet
         },
         Way::First(draft) => packet_to(draft.tuple.destination, facts.packet),
-        Way::Astray => facts.packet,
+        Way::Astray | Way::Untracked => facts.packet,
     };
     facts.tracking = tracking_on(way, facts.tracking);
 }
@@ -35,7 +35,7 @@ pub fn turn_from(way: &Way, facts: &mut Facts)
             ..facts.packet
         },
         Way::First(draft) => packet_from(draft.tuple.source, facts.packet),
-        Way::Astray => facts.packet,
+        Way::Astray | Way::Untracked => facts.packet,
     };
     facts.tracking = tracking_on(way, facts.tracking);
 }

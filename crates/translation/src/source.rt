@@ -36,7 +36,7 @@ pub fn mapped(
             let outside = asked(plant, facts, draft, ending);
             Some(Way::First(draft_from(mappings, *draft, outside)?))
         }
-        Way::Within(_) | Way::About(_) | Way::Astray => Some(*way),
+        Way::Within(_) | Way::About(_) | Way::Astray | Way::Untracked => Some(*way),
     }
 }
 

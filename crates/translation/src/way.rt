@@ -49,6 +49,8 @@ pub enum Way {
     First(Draft),
     /// It belongs to none and begins none.
     Astray,
+    /// It wasn't looked up: a rule had it pass untracked.
+    Untracked,
 }
 
 impl Draft {
@@ -118,6 +120,7 @@ impl Way {
             }
             Way::First(draft) => first_known(draft),
             Way::Astray => Tracking::Invalid,
+            Way::Untracked => Tracking::Untracked,
         }
     }
 }

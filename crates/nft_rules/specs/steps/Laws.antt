@@ -19,7 +19,7 @@ use Rattle.nft_expressions.specs.Elements.{range, comment, verdict, elements, se
 use Rattle.nft_expressions.specs.steps.Laws.{lawful_comment, lawful_verdict, lawful_map_ref}
 use Rattle.nft_rules.specs.Matches.{matching, words, flag_list, masked, flag_group, flags, flag, equality}
 use Rattle.nft_rules.specs.steps.MatchLaws.{lawful_matching, match_word}
-use Rattle.nft_rules.specs.Rules.{look, mark_field, operand, ports, to_word, target, nat, counter, log, set_mark, verdict_map, statement, rule, Stops}
+use Rattle.nft_rules.specs.Rules.{look, mark_field, operand, ports, to_word, target, nat, counter, log, notrack, set_mark, verdict_map, statement, rule, Stops}
 use Rattle.nft_rules.specs.Rules.{ended_rule}
 
 lawful_look : Lawful look
@@ -61,6 +61,10 @@ lawful_counter =
 lawful_log : Lawful log
 unfolding log
 lawful_log = lawful_made _ (lawful_after (lawful_keyword _) (lawful_maybe (lawful_after (lawful_keyword _) lawful_string refl) refl) refl)
+
+lawful_notrack : Lawful notrack
+unfolding notrack
+lawful_notrack = lawful_made _ (lawful_keyword _)
 
 -- ---- a statement that begins with a selector
 
@@ -104,10 +108,11 @@ no_verdict_map m y from to mid e none ((s, map), same, (a, es, (b, vmap, em))) =
     absurd (cc (plain, stood))
 
 pub lawful_statement : Lawful statement
-unfolding statement counter log verdict nat set_mark verdict_map selector selectors matching
+unfolding statement counter log notrack verdict nat set_mark verdict_map selector selectors matching
 lawful_statement =
     lawful_either lawful_counter
     (lawful_either lawful_log
+    (lawful_either lawful_notrack
     (lawful_either (lawful_made _ lawful_verdict)
     (lawful_either (lawful_made _ lawful_nat)
     (lawful_first lawful_set_mark
@@ -117,18 +122,18 @@ lawful_statement =
       | inl v ↦ not_both x y from to mid v s
       | inr m ↦ no_set_mark m.0 y from to mid m.2 (neither matching.follow [] to (neither verdict_map.follow (matching.follow ++ []) to (neither (verdict_map.follow ++ (matching.follow ++ [])) [] to none).0).1).0 s
     ]))
-    refl refl) refl refl) refl refl) refl refl
+    refl refl) refl refl) refl refl) refl refl) refl refl
 
 -- a statement begins with a word
 pub no_statement : (ts : List Sign) → word_at ts ≡ None → statement.read ts ≡ None
-unfolding statement counter log verdict nat set_mark verdict_map selector matching
+unfolding statement counter log notrack verdict nat set_mark verdict_map selector matching
 no_statement (word w ∷ ts) none = absurd cc
 no_statement ts none = refl
 
 -- ---- rules
 
 lawful_unended : Lawful rule
-unfolding rule statement comment counter log verdict nat set_mark verdict_map operand to_word ports look selector selectors map_ref pairs matching words flag_list masked flag_group flags flag equality range set_ref elements
+unfolding rule statement comment counter log notrack verdict nat set_mark verdict_map operand to_word ports look selector selectors map_ref pairs matching words flag_list masked flag_group flags flag equality range set_ref elements
 lawful_unended = lawful_made _ (lawful_then lawful_statement (lawful_then (lawful_many lawful_statement refl refl) lawful_comment refl) refl)
 
 -- what stops a rule
@@ -143,7 +148,7 @@ stop_stands (mark CloseBrace ∷ ts) e = refl
 stop_stands ts e = absurd cc
 
 pub lawful_rule : Lawful ended_rule
-unfolding ended_rule rule statement comment counter log verdict nat set_mark verdict_map operand to_word ports look selector selectors map_ref pairs matching words flag_list masked flag_group flags flag equality range set_ref elements
+unfolding ended_rule rule statement comment counter log notrack verdict nat set_mark verdict_map operand to_word ports look selector selectors map_ref pairs matching words flag_list masked flag_group flags flag equality range set_ref elements
 lawful_rule = record {
   found = λ ts. bind_found _ (rule.read ts) _ (lawful_unended.found ts) (λ r e. if_found _ (stops r.1) r (λ stop. (e, stop)));
   only = λ r from to e none. rw (lawful_unended.only r from to e.0 (stands_apart rule.follow stop_front to refl (stop_stands to e.1)), e.1) refl;

@@ -19,7 +19,7 @@ use Rattle.token_reader.specs.steps.TokenLaws.{word_found}
 use Rattle.token_reader.specs.steps.Lawful.{Lawful, shortens, begins, unread, stands_left, stands_right, lawful_keyword, lawful_sign, lawful_word, lawful_number, lawful_string, lawful_ends, lawful_some_ends, lawful_then, lawful_after, lawful_before, lawful_either, lawful_maybe, lawful_many, lawful_made, lawful_one_of, lawful_lines}
 use Rattle.nft_expressions.specs.Selectors.{selector, selectors}
 use Rattle.nft_expressions.specs.Elements.{verdict}
-use Rattle.nft_rules.specs.Rules.{counter, log, nat, set_mark, verdict_map, statement, rule, ended_rule}
+use Rattle.nft_rules.specs.Rules.{counter, log, notrack, nat, set_mark, verdict_map, statement, rule, ended_rule}
 use Rattle.nft_rules.specs.Matches.{matching}
 use Rattle.nft_rules.specs.steps.Laws.{lawful_rule}
 use Rattle.nft_rulesets.specs.Sets.{named_set, named_map, block}
@@ -64,11 +64,11 @@ lawful_head =
 -- ---- chains
 
 lawful_rules : Lawful rules
-unfolding rules ended_rule rule statement counter log verdict nat set_mark verdict_map matching selector selectors
+unfolding rules ended_rule rule statement counter log notrack verdict nat set_mark verdict_map matching selector selectors
 lawful_rules = lawful_made _ (lawful_maybe (lawful_lines lawful_rule refl refl refl) refl)
 
 pub lawful_chain : Lawful chain
-unfolding chain note comment head priority policy rules ended_rule rule statement counter log verdict nat set_mark verdict_map matching selector selectors
+unfolding chain note comment head priority policy rules ended_rule rule statement counter log notrack verdict nat set_mark verdict_map matching selector selectors
 lawful_chain =
     lawful_made _ (lawful_after (lawful_keyword _) (lawful_then lawful_word (
     lawful_after (lawful_sign _) (lawful_after lawful_ends (

@@ -15,6 +15,7 @@ noted_event trace n (events.Took rule decision) = cond trace (Some (notes.Took n
 noted_event trace n (events.Closed chain policy) = cond trace (Some (notes.Closed n chain policy)) None
 noted_event trace n (events.Counted at) = None
 noted_event trace n (events.Marked field value) = None
+noted_event trace n events.Untracked = None
 
 abbrev pub noted_end : Bool → ℕ → Outcome → List Note
 noted_end trace n outcome = cond trace (notes.Ended n outcome ∷ []) []

@@ -66,6 +66,7 @@ abbrev pub counted_event : ℕ → Event → Tallies → Tallies
 counted_event length (events.Counted at) tallies = counted length at tallies
 counted_event length (events.Logged at) tallies = tallies
 counted_event length (events.Marked field value) tallies = tallies
+counted_event length events.Untracked tallies = tallies
 counted_event length (events.Took rule decision) tallies = tallies
 counted_event length (events.Closed chain policy) tallies = tallies
 

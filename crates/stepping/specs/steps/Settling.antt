@@ -15,7 +15,7 @@ use Rattle.story.specs.declared.outcome.Outcome.TheVariants.{Dropped}
 use Rattle.stepping.specs.declared.leading.Led.{Led}
 use Rattle.stepping.specs.declared.settling.Settled.{Settled}
 use Rattle.translation.specs.declared.way.Way.{Way}
-use Rattle.translation.specs.declared.way.Way.TheVariants.{Within, About, First, Astray}
+use Rattle.translation.specs.declared.way.Way.TheVariants.{Within, About, First, Astray, Untracked}
 use Rattle.stepping.specs.Lookups.{Lookup}
 use Rattle.stepping.specs.LastStep.{Fate, counted_by}
 use Rattle.stepping.specs.steps.Leading.{course_of, outcome_of}
@@ -36,6 +36,7 @@ IsOpenFor b (Within of) held = IsHeld b held
 IsOpenFor b (First draft) held = is_taken draft.original held ≡ false
 IsOpenFor b (About of) held = Unit {0}
 IsOpenFor b Astray held = Unit {0}
+IsOpenFor b Untracked held = Unit {0}
 
 -- ---- what is held after it
 
@@ -61,6 +62,7 @@ counts_in id flags now b (First draft) (Confirmed mark reply source dest) held =
     held ++ begun_with id connection flags ∷ []
 counts_in id flags now b (About of) (Confirmed mark reply source dest) held = held
 counts_in id flags now b Astray (Confirmed mark reply source dest) held = held
+counts_in id flags now b Untracked (Confirmed mark reply source dest) held = held
 
 abbrev pub held_by : ConnId → Flags → ℕ → Belonging → Way → Option Confirmation → List Held → List Held
 held_by id flags now b way None held = held

@@ -91,6 +91,11 @@ returns-in_err-stop-clause-device g c = λ is.
     let calm_before = c.in_ok-replay.ensures.calm not_err in
     failed_after _ _ _ _ _ _ _ calm_before (c.in_err-stop.ensures.device (fault_as c.in_err-stop.field-0.0 _ (sym (q.1 ∙ ap Err q.2) ∙ is)))
 
+pub returns-in_err-stop-clause-memory : goal.returns-in_err-stop-clause-memory
+returns-in_err-stop-clause-memory g c = λ is.
+    let q = err_from_is_err_and c.from_residual-in_err-stop.result c.from_residual-in_err-stop.ensures.1 in
+    inr (c.in_err-stop.ensures.flushed (fault_as c.in_err-stop.field-0.0 _ (sym (q.1 ∙ ap Err q.2) ∙ is)))
+
 pub returns-in_err-torn-clause-memory : goal.returns-in_err-torn-clause-memory
 returns-in_err-torn-clause-memory g c = λ is.
     let q = err_from_is_err_and c.from_residual-in_err-torn.result c.from_residual-in_err-torn.ensures.1 in

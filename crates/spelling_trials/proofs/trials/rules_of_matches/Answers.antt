@@ -4,12 +4,12 @@ use Rattle.nft_expressions.specs.Selectors.{selector}
 use Rattle.nft_expressions.specs.Elements.{range, key, element, comment, verdict, elements, set_ref}
 use Rattle.nft_expressions.specs.steps.Reading.{one_or_prefix, range_after, joined_after, key_after, enclosed_at, listed_at, up_to_brace_at}
 use Rattle.nft_rules.specs.Matches.{equality, inequality, operator, comparison, words, bits, flag, flags, flag_group, flag_list, masked, one_test, set_test, matching}
-use Rattle.nft_rules.specs.Rules.{nat, counter, log, set_mark, verdict_map, statement}
+use Rattle.nft_rules.specs.Rules.{nat, counter, log, notrack, set_mark, verdict_map, statement}
 use Rattle.spelling_trials.proofs.Spellings.{plain_said}
 use Rattle.spelling_trials.proofs.trials.rules_of_matches.Goals as goal
 
 pub returns : goal.returns
-unfolding many_at selector one_or_prefix range_after joined_after key_after enclosed_at listed_at up_to_brace_at range key element comment verdict elements set_ref equality inequality operator comparison words bits flag flags flag_group flag_list masked one_test set_test matching nat counter log set_mark verdict_map statement
+unfolding many_at selector one_or_prefix range_after joined_after key_after enclosed_at listed_at up_to_brace_at range key element comment verdict elements set_ref equality inequality operator comparison words bits flag flags flag_group flag_list masked one_test set_test matching nat counter log notrack set_mark verdict_map statement
 returns c = record {
   port_is_22 = λ rest. plain_said _ _ _ rest (_, refl, (_, refl, refl));
   port_is_not_22 = λ rest. plain_said _ _ _ rest (_, refl, (_, refl, refl));

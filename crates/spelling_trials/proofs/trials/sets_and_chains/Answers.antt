@@ -4,7 +4,7 @@ use Rattle.nft_expressions.specs.Selectors.{selector, selectors}
 use Rattle.nft_expressions.specs.Elements.{range, key, element, comment, verdict, map_data, pair, elements, pairs, set_ref, map_ref}
 use Rattle.nft_expressions.specs.steps.Reading.{one_or_prefix, range_after, joined_after, key_after, enclosed_at, listed_at, up_to_brace_at}
 use Rattle.nft_rules.specs.Matches.{equality, inequality, operator, comparison, one_test, set_test, matching}
-use Rattle.nft_rules.specs.Rules.{nat, counter, log, set_mark, verdict_map, statement, rule}
+use Rattle.nft_rules.specs.Rules.{nat, counter, log, notrack, set_mark, verdict_map, statement, rule}
 use Rattle.nft_rules.specs.Rules.{ended_rule}
 use Rattle.nft_rulesets.specs.Sets.{value_type, value_types, set_type, data_selector, map_type, set_flags, other_field, any_field, block, named_set, named_map}
 use Rattle.nft_rulesets.specs.Chains as chains
@@ -16,7 +16,7 @@ use Rattle.spelling_trials.proofs.Spellings.{said}
 use Rattle.spelling_trials.proofs.trials.sets_and_chains.Goals as goal
 
 pub returns : goal.returns
-unfolding many_at selector selectors one_or_prefix range_after joined_after key_after enclosed_at listed_at up_to_brace_at range key element comment verdict map_data pair elements pairs set_ref map_ref equality inequality operator comparison one_test set_test matching nat counter log set_mark verdict_map statement value_type value_types set_type data_selector map_type set_flags other_field any_field block named_set named_map chains.comment note priority policy head rules chain ended_rule rule
+unfolding many_at selector selectors one_or_prefix range_after joined_after key_after enclosed_at listed_at up_to_brace_at range key element comment verdict map_data pair elements pairs set_ref map_ref equality inequality operator comparison one_test set_test matching nat counter log notrack set_mark verdict_map statement value_type value_types set_type data_selector map_type set_flags other_field any_field block named_set named_map chains.comment note priority policy head rules chain ended_rule rule
 returns c = record {
   private_networks = λ rest. said elements lawful_elements _ _ _ refl;
   local_network = λ rest. said named_set lawful_set _ _ rest refl;

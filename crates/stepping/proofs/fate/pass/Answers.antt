@@ -13,7 +13,7 @@ returns-in_err-run-clause-fared g c =
     rw (q.1, q.2) (is_dropped setup a c.arriving-facts.result c.args.events.now.events known c.requires.none _ _ _ c.args.now c.args.connections.now.held c.in_err-run.ensures.comes)
 
 pub settle-requires-clause-fits : goal.settle-requires-clause-fits
-settle-requires-clause-fits g c = c.in_ok-led.ensures.fits _ c.mappings.ensures c.look_up-looked.ensures.fits
+settle-requires-clause-fits g c = c.in_ok-led.ensures.fits _ c.mappings.ensures c.look_for-looked.ensures.fits
 
 pub returns-in_err-led-clause-fared : goal.returns-in_err-led-clause-fared
 returns-in_err-led-clause-fared g c =
@@ -21,19 +21,19 @@ returns-in_err-led-clause-fared g c =
     let setup = setup_in c.args.setup.now.hooks in
     let a = arrived_of c.args.incoming.now in
     let known = arrives_so setup a c.args.incoming.now.input c.arriving-facts.result c.arriving-facts.ensures c.requires.known in
-    let looked = c.look_up-looked in
+    let looked = c.look_for-looked in
     let leads = rw (c.note_tracking.ensures, c.tracking.ensures, looked.ensures.held) at (c.in_err-led.ensures.leads _ c.mappings.ensures) in
     rw (q.1, q.2) (is_stopped setup a c.arriving-facts.result c.args.events.now.events known c.requires.none c.run.new.facts _ c.in_ok-run.ensures.comes c.args.now c.args.connections.now.held
-    c.sought_of.result c.sought_of.ensures looked.result.way looked.ensures.way _ _ _ leads looked.ensures.held)
+    looked.result.way looked.ensures.way _ _ _ leads looked.ensures.held)
 
 pub returns-clause-fared : goal.returns-clause-fared
 returns-clause-fared g c =
     let setup = setup_in c.args.setup.now.hooks in
     let a = arrived_of c.args.incoming.now in
     let known = arrives_so setup a c.args.incoming.now.input c.arriving-facts.result c.arriving-facts.ensures c.requires.known in
-    let looked = c.look_up-looked in
+    let looked = c.look_for-looked in
     let leads = rw (c.note_tracking.ensures, c.tracking.ensures, looked.ensures.held) at (c.in_ok-led.ensures.leads _ c.mappings.ensures) in
     let settles = rw looked.ensures.held at c.settle.ensures.settles in
     let flags = rw c.transport.ensures at c.flags_in-flags.ensures in
     is_settled setup a c.arriving-facts.result c.args.events.now.events known c.requires.none c.run.new.facts _ c.in_ok-run.ensures.comes c.args.now c.args.connections.now.held
-    c.sought_of.result c.sought_of.ensures looked.result.way looked.ensures.way c.flags_in-flags.result c.in_ok-led.led looked.result.belonging c.lead.new.way _ _ _ flags looked.ensures.belonging c.in_ok-led.ensures.same leads settles
+    looked.result.way looked.ensures.way c.flags_in-flags.result c.in_ok-led.led looked.result.belonging c.lead.new.way _ _ _ flags looked.ensures.belonging c.in_ok-led.ensures.same leads settles
