@@ -15,6 +15,16 @@ const OTHER: &str = "4500001c0001000040118ee2c0a8010bc63364071388003500080000";
 
 const OTHER_OUT: &str = "4500001c000100003f118fe2c0a8010bc63364071388003500080000";
 
+/// The totals of a run in which packets leave or are dropped by rules alone.
+#[derive(Clone, Copy)]
+struct Totals {
+    records: u32,
+    passed: u32,
+    rule: u32,
+    /// All that were begun live.
+    connections: u32,
+}
+
 /// A run, and what it has to give.
 #[derive(Clone, Copy)]
 struct Row<'a> {
@@ -26,41 +36,39 @@ struct Row<'a> {
     sent: &'a [&'a str],
     /// The lines before the totals.
     told: &'a str,
-    /// The totals of records, of packets that leave, that a rule drops, and of connections, all of which
-    /// live; a run that is refused has none.
-    totals: Option<[u32; 4]>,
+    /// A run that is refused has none.
+    totals: Option<Totals>,
     /// The calls of both writers, where they are told.
     calls: Option<[u64; 2]>,
 }
 
-/// A packet that passes.
-const DONE: Row<'static> = Row {
-    rules: b"",
-    plant: BOX,
-    trace: false,
-    capture: &[HEADER, AT_1_5, PLAIN],
-    line: "nftrun: done",
-    sent: &[OUT_HEADER, OUT_AT_1_5, PLAIN_OUT],
-    told: "",
-    totals: Some([1, 1, 0, 1]),
-    calls: None,
-};
+/// The lines of these totals.
+fn push_totals(text: &mut String, totals: Totals) -> Result<(), Fail> {
+    let Totals {
+        records,
+        passed,
+        rule,
+        connections,
+    } = totals;
+    writeln!(text, "records {records}")?;
+    writeln!(text, "passed {passed}")?;
+    text.push_str("local 0\ndrop link 0\ndrop interface 0\ndrop notip 0\ndrop short 0\n")?;
+    text.push_str("drop version 0\ndrop hlen 0\ndrop length 0\ndrop truncated 0\n")?;
+    text.push_str("drop checksum 0\ndrop fragment 0\ndrop transport 0\n")?;
+    writeln!(text, "drop rule {rule}")?;
+    text.push_str("drop route 0\ndrop ttl 0\ndrop noport 0\ndrop full 0\ndrop clash 0\n")?;
+    writeln!(text, "begun {connections}")?;
+    writeln!(text, "live {connections}")?;
+    text.push_str("torn 0\n")?;
+    Ok(())
+}
 
 /// These lines, and behind them the totals.
-fn report(alloc: Global, told: &str, totals: Option<[u32; 4]>) -> Result<String, Fail> {
+fn report(alloc: Global, told: &str, totals: Option<Totals>) -> Result<String, Fail> {
     let mut text = String::new(alloc);
     text.push_str(told)?;
-    if let Some([records, passed, rule, connections]) = totals {
-        writeln!(text, "records {records}")?;
-        writeln!(text, "passed {passed}")?;
-        text.push_str("local 0\ndrop link 0\ndrop interface 0\ndrop notip 0\ndrop short 0\n")?;
-        text.push_str("drop version 0\ndrop hlen 0\ndrop length 0\ndrop truncated 0\n")?;
-        text.push_str("drop checksum 0\ndrop fragment 0\ndrop transport 0\n")?;
-        writeln!(text, "drop rule {rule}")?;
-        text.push_str("drop route 0\ndrop ttl 0\ndrop noport 0\ndrop full 0\ndrop clash 0\n")?;
-        writeln!(text, "begun {connections}")?;
-        writeln!(text, "live {connections}")?;
-        text.push_str("torn 0\n")?;
+    if let Some(totals) = totals {
+        push_totals(&mut text, totals)?;
     }
     Ok(text)
 }
@@ -140,17 +148,40 @@ fn thousands_of_records_take_few_calls(rt: HostRuntime) -> Result<(), Fail> {
     let sent_pair = [OUT_AT_1_5, PLAIN_OUT, OUT_AT_1_5, OTHER_OUT];
     let all = repeated(rt.alloc(), &[OUT_HEADER], &sent_pair, 2_500, &[])?;
     let half = repeated(rt.alloc(), &[OUT_HEADER], &sent_pair[2..], 2_500, &[])?;
-    let mut row = DONE;
-    row.capture = &capture;
-    row.sent = &all;
-    row.totals = Some([5_000, 5_000, 0, 2]);
-    row.calls = Some([5, 2]);
-    gives(&rt, &row)?;
-    row.rules = &rules;
-    row.sent = &half;
-    row.totals = Some([5_000, 2_500, 2_500, 1]);
-    row.calls = Some([4, 2]);
-    gives(&rt, &row)
+    let passed = Row {
+        rules: b"",
+        plant: BOX,
+        trace: false,
+        capture: &capture,
+        line: "nftrun: done",
+        sent: &all,
+        told: "",
+        totals: Some(Totals {
+            records: 5_000,
+            passed: 5_000,
+            rule: 0,
+            connections: 2,
+        }),
+        calls: Some([5, 2]),
+    };
+    gives(&rt, &passed)?;
+    let dropped = Row {
+        rules: &rules,
+        plant: BOX,
+        trace: false,
+        capture: &capture,
+        line: "nftrun: done",
+        sent: &half,
+        told: "",
+        totals: Some(Totals {
+            records: 5_000,
+            passed: 2_500,
+            rule: 2_500,
+            connections: 1,
+        }),
+        calls: Some([4, 2]),
+    };
+    gives(&rt, &dropped)
 }
 
 /// More is told of them than waits until the last one is read.
@@ -165,13 +196,22 @@ fn thousands_of_records_are_told_and_sent(rt: HostRuntime) -> Result<(), Fail> {
         writeln!(told, "trace {number} ip t fwd 1 accept")?;
         writeln!(told, "trace {number} outcome passed")?;
     }
-    let mut row = DONE;
-    row.rules = b"table t { chain fwd { type filter hook forward priority 0; log accept; } }";
-    row.trace = true;
-    row.capture = &capture;
-    row.sent = &sent;
-    row.told = &told;
-    row.totals = Some([5_000, 5_000, 0, 1]);
+    let row = Row {
+        rules: b"table t { chain fwd { type filter hook forward priority 0; log accept; } }",
+        plant: BOX,
+        trace: true,
+        capture: &capture,
+        line: "nftrun: done",
+        sent: &sent,
+        told: &told,
+        totals: Some(Totals {
+            records: 5_000,
+            passed: 5_000,
+            rule: 0,
+            connections: 1,
+        }),
+        calls: None,
+    };
     gives(&rt, &row)
 }
 
@@ -191,8 +231,21 @@ fn the_most_rules_are_run_and_told(rt: HostRuntime) -> Result<(), Fail> {
     for number in 0..16_384u32 {
         writeln!(told, "counter ip t c{number} 1 1 packets 1 bytes 28")?;
     }
-    let mut row = DONE;
-    row.rules = rules.as_bytes();
-    row.told = &told;
+    let row = Row {
+        rules: rules.as_bytes(),
+        plant: BOX,
+        trace: false,
+        capture: &[HEADER, AT_1_5, PLAIN],
+        line: "nftrun: done",
+        sent: &[OUT_HEADER, OUT_AT_1_5, PLAIN_OUT],
+        told: &told,
+        totals: Some(Totals {
+            records: 1,
+            passed: 1,
+            rule: 0,
+            connections: 1,
+        }),
+        calls: None,
+    };
     gives(&rt, &row)
 }
