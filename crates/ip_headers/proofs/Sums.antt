@@ -1,11 +1,61 @@
 -- Sums of words, byte by byte and by their carries.
-use Rattle.std.proofs.Common.{◌≡◌, ℕ, zero, suc, ◌+◌, ◌*◌, ◌<◌, List, [], ◌∷◌, length, get_or, drop, drop-cons, add-one, Bool, true, false, refl, ap, ◌∙◌, arith}
+use Rattle.std.proofs.Common.{◌≡◌, ℕ, zero, suc, ◌+◌, ◌*◌, ◌<◌, ◌≤◌, List, [], ◌∷◌, length, get_or, take, drop, drop-cons, add-one, Bool, true, false, refl, ap, ◌∙◌, arith, ◌++◌, map, Fits, w8, w32}
 use mathlib.Core.Bool.{not}
+use Rattle.std.specs.Simd.Lanes.{sum_l, fold_l, zip2, Each1, Each2}
+use Rattle.std.proofs.lemmas.Simd.{fold-sum}
 use Rattle.std.specs.Prelude.{All}
 use Rattle.ip_headers.specs.Sum.{words_sum, folded, ones_sum_of, ones_add, carried}
 
 pub add_folded : (a b : ℕ) → b < 65536 → ones_add (folded a) b ≡ folded (a + b)
 add_folded a b small = grind arith
+
+pub folded_again : (a b : ℕ) → folded (folded a + b) ≡ folded (a + b)
+folded_again a b = grind arith
+
+-- whole words, and what follows them
+pub words_sum_append : (n : ℕ) (xs ys : List ℕ) → length xs ≡ n * 2 → words_sum (xs ++ ys) ≡ words_sum xs + words_sum ys
+words_sum_append zero [] ys e = omega arith
+words_sum_append zero (x ∷ xs) ys e = absurd (omega arith)
+words_sum_append (suc n) [] ys e = absurd (omega arith)
+words_sum_append (suc n) (x ∷ []) ys e = absurd (omega arith)
+words_sum_append (suc n) (x ∷ y ∷ xs) ys e = omega (arith, words_sum_append n xs ys (omega arith))
+
+-- a high byte counts 256 times
+abbrev pub weights : ℕ → List ℕ
+weights zero = []
+weights (suc n) = 256 ∷ 1 ∷ weights n
+
+pub weighted : (n : ℕ) (xs : List ℕ) → length xs ≡ n * 2 → sum_l (zip2 (λ a b. a * b) xs (weights n)) ≡ words_sum xs
+weighted zero [] e = refl
+weighted zero (x ∷ xs) e = absurd (omega arith)
+weighted (suc n) [] e = absurd (omega arith)
+weighted (suc n) (x ∷ []) e = absurd (omega arith)
+weighted (suc n) (x ∷ y ∷ xs) e = omega (arith, weighted n xs (omega arith))
+
+-- the lanes' sum is that of the words
+pub block_words : (n : ℕ) (xs : List ℕ) → length xs ≡ n * 2 → fold_l (λ s x. s + x) 0 (zip2 (λ a b. a * b) xs (weights n)) ≡ words_sum xs
+block_words n xs long = omega (arith, fold-sum 0 (zip2 (λ a b. a * b) xs (weights n)), weighted n xs long)
+
+pub words_small : (n : ℕ) (xs : List ℕ) → length xs ≡ n * 2 → Each1 (Fits w8) xs → words_sum xs ≤ n * 65535
+words_small zero [] e small = omega arith
+words_small zero (x ∷ xs) e small = absurd (omega arith)
+words_small (suc n) [] e small = absurd (omega arith)
+words_small (suc n) (x ∷ []) e small = absurd (omega arith)
+words_small (suc n) (x ∷ y ∷ xs) e small = omega (arith, small.0.fits, small.1.0.fits, words_small n xs (omega arith) small.1.1)
+
+pub products_fit : (n : ℕ) (xs : List ℕ) → length xs ≡ n * 2 → Each1 (Fits w8) xs → Each2 (λ a b. Fits w32 (a * b)) xs (weights n)
+products_fit zero [] e small = tt
+products_fit zero (x ∷ xs) e small = absurd (omega arith)
+products_fit (suc n) [] e small = absurd (omega arith)
+products_fit (suc n) (x ∷ []) e small = absurd (omega arith)
+products_fit (suc n) (x ∷ y ∷ xs) e small = (record { fits = omega (arith, small.0.fits) }, (record { fits = omega (arith, small.1.0.fits) }, products_fit n xs (omega arith) small.1.1))
+
+-- lanes that are loaded and widened have the bytes' numbers
+pub lanes_are : (n : ℕ) (xs : List ℕ) → length xs ≡ n → map (λ x. x) (take n xs) ≡ xs
+lanes_are zero [] e = refl
+lanes_are zero (x ∷ xs) e = absurd (omega arith)
+lanes_are (suc n) [] e = refl
+lanes_are (suc n) (x ∷ xs) e = ap (λ n. x ∷ n) (lanes_are n xs (omega arith))
 
 -- the sum of bytes of which the first is a high or a low byte
 abbrev pub placed : Bool → List ℕ → ℕ
@@ -31,7 +81,7 @@ placed_cons false x xs = refl
 pub placed_step : (high : Bool) (xs : List ℕ) (i : ℕ) → i < length xs → placed high (drop i xs) ≡ at_place high (get_or xs i 0) + placed (not high) (drop (i + 1) xs)
 placed_step high xs i lt = rw (drop-cons xs i 0 lt, add-one) (placed_cons high _ _)
 
-add_folded_right : (a b : ℕ) → a < 65536 → ones_add a (folded b) ≡ folded (a + b)
+pub add_folded_right : (a b : ℕ) → a < 65536 → ones_add a (folded b) ≡ folded (a + b)
 add_folded_right a b small = grind arith
 
 pub carried_is : (xs : List ℕ) → ((i : ℕ) → get_or xs i 0 < 256) → carried xs ≡ ones_sum_of xs

@@ -20,6 +20,32 @@ fn sums(rt: HostRuntime) {
     }
 }
 
+/// The sum as the C code of RFC 1071, section 4.1, makes it.
+fn plain_sum(bytes: &[u8]) -> u16 {
+    let mut sum = 0u32;
+    for pair in bytes.chunks(2) {
+        let word = match pair {
+            [high, low] => u16::from_be_bytes([*high, *low]),
+            [high] => u16::from_be_bytes([*high, 0]),
+            _ => 0,
+        };
+        sum = sum.wrapping_add(word as u32);
+    }
+    let folded = (sum & 0xffff).wrapping_add(sum >> 16);
+    (folded & 0xffff).wrapping_add(folded >> 16) as u16
+}
+
+/// Of each length, by blocks and what is left of one.
+#[test]
+fn sums_of_each_length(rt: HostRuntime) -> Result<(), Fail> {
+    let mut bytes = Vec::new(rt.alloc());
+    for number in 0..201u8 {
+        assert_eq!(rt; ones_sum(&bytes), plain_sum(&bytes), "{number}");
+        bytes.push(number.wrapping_mul(151) ^ 0xa5)?;
+    }
+    Ok(())
+}
+
 #[test]
 fn reads_in_place(rt: HostRuntime) -> Result<(), Fail> {
     let packet = bytes(rt.alloc(), &[PLAIN])?;

@@ -1,8 +1,10 @@
-use Rattle.std.proofs.Common.{◌≡◌, ◌+◌, ◌<◌, drop}
+use Rattle.std.proofs.Common.{◌≡◌, ◌+◌, ◌<◌, length}
 use Rattle.ip_headers.specs.Sum.{words_sum, folded}
-use Rattle.ip_headers.proofs.Sums.{placed}
 use Rattle.ip_headers.proofs.sum.ones_sum.Given as goal
 
 -- what remains is the rest of the sum
-abbrev pub invariant-loop-byte : goal.invariant-loop-byte
-invariant-loop-byte l = record { small : l.sum < 65536; same : folded (l.sum + placed l.is_high (drop l.byte-index l.bytes)) ≡ folded (words_sum l.bytes) }
+abbrev pub invariant-loop-block : goal.invariant-loop-block
+invariant-loop-block l = record { small : l.sum < 65536; same : folded (l.sum + words_sum l.rest) ≡ folded (words_sum l.bytes) }
+
+abbrev pub decreases-loop-block : goal.decreases-loop-block
+decreases-loop-block l = length l.rest
