@@ -1,11 +1,10 @@
 -- Each entry of a story follows the story before it.
-use Rattle.std.proofs.Common.{◌≡◌, List, [], ◌∷◌, ◌⊎◌, inl, inr, sym, subst}
+use Rattle.std.proofs.Common.{◌≡◌, List, [], ◌∷◌, ◌++◌, ◌⊎◌, inl, inr, refl, sym, ap, subst}
 use Rattle.pcap_io.specs.Pcap.{Recorded}
 use Rattle.story.specs.Setup.{Setup}
 use Rattle.story.specs.Story.{Entry}
 use Rattle.stepping.specs.Next.{Grows, Next}
-use Rattle.translation_laws.specs.Stories.{IsStory}
-use Rattle.translation_laws.specs.Laws.{EntriesFollow}
+use Rattle.translation_laws.specs.Stories.{EntriesFollow, IsStory}
 
 same_first : (e other : Entry) (story others : List Entry) → e ∷ story ≡ other ∷ others → e ≡ other
 same_first e other story others same = cc
@@ -39,9 +38,23 @@ module _ (setup : Setup) (story : List Entry) (e : Entry) where
           )
       by_first (inr b) = inr (r ∷ b.0, (g.0, g.1, b.1), b.2)
 
-pub entries_follow : (setup : Setup) → EntriesFollow setup
-entries_follow setup story e is = by_first (grown_before setup story e is.records [] is.grows)
+before_last : (setup : Setup) (story : List Entry) (e : Entry) → IsStory setup (e ∷ story) → IsStory setup story × ((r : Recorded) × Next setup story r e)
+before_last setup story e is = by_first (grown_before setup story e is.records [] is.grows)
   where
     by_first : ([] ≡ e ∷ story) ⊎ Before setup story e [] → IsStory setup story × ((r : Recorded) × Next setup story r e)
     by_first (inl none) = absurd (none_grown e story none)
     by_first (inr b) = (record { records = b.0; grows = b.1 }, b.2)
+
+one_more : (setup : Setup) (records : List Recorded) (first story : List Entry) (r : Recorded) (e : Entry)
+    → Grows setup first records story → Next setup story r e → Grows setup first (records ++ r ∷ []) (e ∷ story)
+one_more setup [] first story r e g n = (e, subst (λ (s : List Entry). Next setup s r e) g n, ap (λ (s : List Entry). e ∷ s) g)
+one_more setup (x ∷ records) first story r e g n = (g.0, g.1, one_more setup records (g.0 ∷ first) story r e g.2 n)
+
+pub no_records : (setup : Setup) → IsStory setup []
+no_records setup = record { records = []; grows = refl }
+
+pub entries_follow : (setup : Setup) → EntriesFollow setup
+entries_follow setup story e = (
+  before_last setup story e,
+  λ so. record { records = so.0.records ++ so.1.0 ∷ []; grows = one_more setup so.0.records [] story so.1.0 e so.0.grows so.1.1 },
+)

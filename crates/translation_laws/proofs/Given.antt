@@ -25,7 +25,7 @@ same_tuple-true a b h =
     ∙ ap (λ x. record { kind = b.kind; source = x; destination = a.destination }) from
     ∙ ap (λ x. record { kind = b.kind; source = b.source; destination = x }) to
 
-taken_by : (t : Tuple) (held : List Held) (h : Held) → Contains held h → is_incoming t h ≡ true → is_taken t held ≡ true
+pub taken_by : (t : Tuple) (held : List Held) (h : Held) → Contains held h → is_incoming t h ≡ true → is_taken t held ≡ true
 taken_by t [] h among incoming = absurd (omega (arith, among.1))
 taken_by t (x ∷ held) h among incoming = by_place (λ k. taken_by t held h k incoming) (Contains-cases x held h among)
   where
@@ -45,16 +45,16 @@ none_original : (t : Tuple) (held : List Held) → is_taken t held ≡ false →
 none_original t [] free = refl
 none_original t (x ∷ held) free = grind (arith, none_original t held)
 
+abbrev pub Parts : Held → List Held → Type 0
+Parts x held = (is_taken x.original held ≡ false) × (is_taken x.reply held ≡ false) × (are_apart held ≡ true)
+
+pub parts : (x : Held) (held : List Held) → are_apart (x ∷ held) ≡ true → Parts x held
+parts x held apart =
+    let two = and_parts (not (is_taken x.original held || is_taken x.reply held)) (are_apart held) apart in
+    let neither = not-true (is_taken x.original held || is_taken x.reply held) two.0 in
+    (grind (arith, neither), grind (arith, neither), two.1)
+
 module _ (t : Tuple) where
-  abbrev Parts : Held → List Held → Type 0
-  Parts x held = (is_taken x.original held ≡ false) × (is_taken x.reply held ≡ false) × (are_apart held ≡ true)
-
-  parts : (x : Held) (held : List Held) → are_apart (x ∷ held) ≡ true → Parts x held
-  parts x held apart =
-      let two = and_parts (not (is_taken x.original held || is_taken x.reply held)) (are_apart held) apart in
-      let neither = not-true (is_taken x.original held || is_taken x.reply held) two.0 in
-      (grind (arith, neither), grind (arith, neither), two.1)
-
   by_original : (held : List Held) (h : Held) → are_apart held ≡ true → Contains held h → same_tuple h.original t ≡ true → of_original held t ≡ Some h
   by_original [] h apart among is = absurd (omega (arith, among.1))
   by_original (x ∷ held) h apart among is = by_place (λ k. by_original held h (parts x held apart).2 k is) (Contains-cases x held h among)

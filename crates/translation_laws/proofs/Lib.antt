@@ -7,6 +7,7 @@ mod Lifted
 mod Drafts
 mod Kept
 mod Given
+mod Listed
 mod Lives
 mod Finds
 mod Made

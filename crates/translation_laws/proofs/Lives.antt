@@ -9,7 +9,7 @@ use Rattle.list_laws.specs.Elements.{Contains-cases, Contains-tail}
 use Rattle.conntrack.specs.Held.{is_live}
 use Rattle.conntrack.specs.Stories.{Tracked, begun_in, connection_in, is_alive, is_ended}
 use Rattle.story.specs.Setup.{Setup, limits_of}
-use Rattle.story.specs.Story.{tracked_of}
+use Rattle.story.specs.Story.{Entry, tracked_of}
 use Rattle.translation_laws.specs.Laws.{LivesOn, names_of}
 
 their_names : (story : List Tracked) (cs : List ℕ) → names_of (map (λ c. connection_in c story) cs) ≡ cs
@@ -45,8 +45,8 @@ so_below : (m n : ℕ) → m < n → nat_lt m n ≡ true
 so_below m n lt = grind (arith, nat_tests)
 
 -- a connection that wasn't ended is listed exactly while its last packet is less than its limit ago
-pub lives_always : (setup : Setup) → LivesOn setup
-lives_always setup story is now le c among unended =
+pub lives_always : (setup : Setup) (story : List Entry) (now : ℕ) → LivesOn setup story now
+lives_always setup story now c among unended =
     let alive : ℕ → Bool = λ k. is_alive (limits_of setup) k (tracked_of story) now in
     let same = their_names (tracked_of story) (filter alive (begun_in (tracked_of story))) in (
       λ listed. below_so _ _ (and_parts (not (is_ended c (tracked_of story))) (is_live (limits_of setup) now (connection_in c (tracked_of story))) (filter_passes alive (begun_in (tracked_of story)) c (subst (λ (l : List ℕ). Contains l c) same listed))).1,

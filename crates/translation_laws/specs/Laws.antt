@@ -1,6 +1,6 @@
 -- What is true of translation in every story that grows from nothing, whatever its records are.
-use Rattle.std.specs.Prelude.{◌≡◌, ◌≢◌, ◌↔◌, ℕ, ◌-◌, ◌<◌, Bool, true, false, ◌&&◌, if◌then◌else◌, IsTrue, List}
-use Rattle.std.specs.Prelude.{◌∷◌, map, Some, None, Ok}
+use Rattle.std.specs.Prelude.{◌≡◌, ◌≢◌, ◌↔◌, ◌⊎◌, ℕ, ◌-◌, ◌<◌, ◌≤◌, Bool, true, false, ◌&&◌, if◌then◌else◌, IsTrue}
+use Rattle.std.specs.Prelude.{List, [], ◌∷◌, map, Some, None, Ok}
 use Rattle.std.specs.List.{Contains, list_any}
 use Rattle.box_file.specs.Box.{owner}
 use Rattle.ip_headers.specs.declared.tuple.Mapping.{Mapping}
@@ -9,11 +9,12 @@ use Rattle.ip_headers.specs.Same.{same_tuple}
 use Rattle.ip_headers.specs.Tuple.{inverse, tuple_of}
 use Rattle.conntrack.specs.declared.belonging.Belonging.{Belonging}
 use Rattle.conntrack.specs.declared.belonging.Belonging.TheVariants.{Ends, Found}
+use Rattle.conntrack.specs.declared.connection.Connection.{Connection}
 use Rattle.conntrack.specs.declared.connection.Direction.TheVariants.{Original, Reply}
 use Rattle.conntrack.specs.declared.connection.Flags.{Flags}
 use Rattle.conntrack.specs.declared.connection.Held.{Held}
 use Rattle.conntrack.specs.Phases.{is_closing, is_lone_syn}
-use Rattle.conntrack.specs.Held.{are_apart, belongs_in, is_incoming, limit_of, place_of}
+use Rattle.conntrack.specs.Held.{belongs_in, is_incoming, limit_of, place_of}
 use Rattle.conntrack.specs.Stories.{What, Begins, Touches, begun_in, connection_in, does_begin, is_ended}
 use Rattle.conntrack.specs.Updates.{after_end}
 use Rattle.pcap_io.specs.Pcap.{Recorded}
@@ -25,54 +26,54 @@ use Rattle.rule_meaning.specs.declared.event.Event.{Event}
 use Rattle.rule_meaning.specs.declared.event.Event.TheVariants.{Took}
 use Rattle.story.specs.declared.outcome.Outcome.TheVariants.{Passed}
 use Rattle.story.specs.Setup.{Setup, limits_of}
-use Rattle.story.specs.Story.{Entry, tracked_of}
+use Rattle.story.specs.Story.{Entry, moment_of, tracked_of}
 use Rattle.translation.specs.Mapped.{mappings_in}
 use Rattle.translation.specs.Translating.{has_ports, is_index}
 use Rattle.stepping.specs.Carried.{Arrived, Carries}
 use Rattle.stepping.specs.Next.{Next, live_at_record}
-use Rattle.translation_laws.specs.Stories.{IsStory, Always, alive_at, mappings_at, latest_choice}
+use Rattle.translation_laws.specs.Stories.{alive_at, latest_choice, listed_at}
 
--- ---- each entry of a story is the next one after the story before it, so what is said of the next entry after a story
--- is said of each
+-- ==== of the connections that are alive at one time, as they are listed
 
-abbrev pub EntriesFollow : Setup → Type 0
-EntriesFollow setup =
-    (story : List Entry) (e : Entry) → IsStory setup (e ∷ story)
-    → IsStory setup story × ((r : Recorded) × Next setup story r e)
+abbrev pub HasIncoming : Connection → Tuple → Type 0
+HasIncoming c t = (c.original ≡ t) ⊎ (c.reply ≡ t)
 
--- ---- no two live connections have an incoming tuple in common
+abbrev pub HoldsMapping : Connection → Mapping → Type 0
+HoldsMapping c m = (c.source ≡ Some m) ⊎ (c.dest ≡ Some m)
 
-abbrev pub AreApart : Setup → Type 0
-AreApart setup = Always setup (λ story now. IsTrue (are_apart (alive_at setup story now)))
+-- no two have an incoming tuple in common; the two tuples of one may be equal
+abbrev pub AreApart : List Connection → Type 0
+AreApart [] = Unit {0}
+AreApart (c ∷ all) =
+    ((d : Connection) (t : Tuple) → Contains all d → HasIncoming c t → HasIncoming d t → ⊥) × AreApart all
 
--- ---- no external endpoint of a kind stands for two internal ones (RFC 4787, REQ-3; RFC 5382, REQ-7)
+-- no external endpoint of a kind stands for two internal ones (RFC 4787, REQ-3; RFC 5382, REQ-7)
+abbrev pub OneInternal : List Connection → Type 0
+OneInternal all =
+    (c d : Connection) (m n : Mapping) → Contains all c → Contains all d → HoldsMapping c m → HoldsMapping d n
+    → m.kind ≡ n.kind → m.external ≡ n.external → m.internal ≡ n.internal
 
-abbrev pub OneInternal : Setup → Type 0
-OneInternal setup =
-    Always setup (λ story now. (m n : Mapping) → Contains (mappings_at setup story now) m
-    → Contains (mappings_at setup story now) n → m.kind ≡ n.kind → m.external ≡ n.external → m.internal ≡ n.internal)
+-- those whose sources were mapped from one internal endpoint at one external address have one external port, wherever
+-- they go (RFC 4787, REQ-1; RFC 5382, REQ-1)
+abbrev pub OnePort : List Connection → Type 0
+OnePort all =
+    (c d : Connection) (m n : Mapping) → Contains all c → Contains all d → c.source ≡ Some m → d.source ≡ Some n
+    → m.kind ≡ n.kind → m.internal ≡ n.internal → m.external.address ≡ n.external.address
+    → m.external.port ≡ n.external.port
 
--- ---- live connections whose sources were mapped from one internal endpoint at one external address have one external
--- port, wherever they go (RFC 4787, REQ-1; RFC 5382, REQ-1)
-
-abbrev pub OnePort : Setup → Type 0
-OnePort setup =
-    Always setup (λ story now. (g h : Held) (m n : Mapping) → Contains (alive_at setup story now) g
-    → Contains (alive_at setup story now) h → g.source ≡ Some m → h.source ≡ Some n → m.kind ≡ n.kind
-    → m.internal ≡ n.internal → m.external.address ≡ n.external.address → m.external.port ≡ n.external.port)
-
--- ---- a port keeps class and parity of the one that it stands for, where no ports were named when it was chosen
+-- a port keeps class and parity of the one that it stands for, where no ports were named when it was chosen
 -- (RFC 4787, REQ-3 and REQ-4)
+abbrev pub KeepsClass : List Entry → List Connection → Type 0
+KeepsClass story all =
+    (c : Connection) (m : Mapping) → Contains all c → HoldsMapping c m → has_ports m.kind ≡ true
+    → latest_choice m story ≡ Some false → IsTrue (alike m.internal.port m.external.port)
 
-abbrev pub KeepsClass : Setup → Type 0
-KeepsClass setup =
-    Always setup (λ story now. (m : Mapping) → Contains (mappings_at setup story now) m → has_ports m.kind ≡ true
-    → latest_choice m story ≡ Some false → IsTrue (alike m.internal.port m.external.port))
+-- so this speaks of every mapping: its port was chosen afresh once
+abbrev pub WasChosen : List Entry → List Connection → Type 0
+WasChosen story all =
+    (c : Connection) (m : Mapping) → Contains all c → HoldsMapping c m → latest_choice m story ≢ None
 
--- so this speaks of every live mapping: its port was chosen afresh once
-abbrev pub WasChosen : Setup → Type 0
-WasChosen setup =
-    Always setup (λ story now. (m : Mapping) → Contains (mappings_at setup story now) m → latest_choice m story ≢ None)
+-- ==== of what is alive at a moment after a story
 
 -- ---- a packet is given to the connection that has its tuple, and to no other
 
@@ -86,12 +87,26 @@ given_to h t flags =
     if does_end h t flags then Ends h.id
     else (if same_tuple h.original t then Found (place_of h Original) else Found (place_of h Reply))
 
-abbrev pub GivenToOne : Setup → Type 0
-GivenToOne setup =
-    Always setup (λ story now. (h : Held) (t : Tuple) (flags : Flags) → Contains (alive_at setup story now) h
-    → IsTrue (is_incoming t h) → belongs_in (alive_at setup story now) t flags ≡ given_to h t flags)
+abbrev pub GivenToOne : List Held → Type 0
+GivenToOne alive =
+    (h : Held) (t : Tuple) (flags : Flags) → Contains alive h → IsTrue (is_incoming t h)
+    → belongs_in alive t flags ≡ given_to h t flags
 
--- ---- and where it passes it leaves with the way back of that connection's other tuple
+-- ---- a connection that no lone SYN ended is alive exactly while less than its limit has passed since its last packet
+
+abbrev pub names_of : List Held → List ℕ
+names_of held = map (λ h. h.id.0) held
+
+abbrev pub LivesOn : Setup → List Entry → ℕ → Type 0
+LivesOn setup story now =
+    (c : ℕ) → Contains (begun_in (tracked_of story)) c → is_ended c (tracked_of story) ≡ false
+    → Contains (names_of (alive_at setup story now)) c
+    ↔ (now - (connection_in c (tracked_of story)).last
+    < limit_of (limits_of setup) (connection_in c (tracked_of story)))
+
+-- ==== of the entry of a record after a story
+
+-- ---- a packet that was given to a connection, and passes, leaves with the way back of that connection's other tuple
 
 -- it counts as a packet of that one
 abbrev pub touch_of : Held → Tuple → What
@@ -103,26 +118,11 @@ pub record GoesWith (h : Held) (t : Tuple) (e : Entry) : Type 0 where
   pub reply : same_tuple h.reply t ≡ true → tuple_of e.packet ≡ Some (inverse h.original)
 
 -- of a packet that came with this tuple and was looked up by it
-abbrev pub LeavesTranslated : Setup → Type 0
-LeavesTranslated setup =
-    (story : List Entry) → IsStory setup story → (r : Recorded) (e : Entry) → Next setup story r e
-    → (t : Tuple) → e.sought ≡ Some t
-    → (h : Held) → Contains (live_at_record setup story r) h → IsTrue (is_incoming t h)
+abbrev pub LeavesTranslated : Setup → List Entry → Recorded → Entry → Type 0
+LeavesTranslated setup story r e =
+    (t : Tuple) → e.sought ≡ Some t → (h : Held) → Contains (live_at_record setup story r) h → IsTrue (is_incoming t h)
     → does_end h t e.tracked.flags ≡ false
     → (interface : ℕ) → e.outcome ≡ Passed interface → GoesWith h t e
-
--- ---- a connection that no lone SYN ended is alive exactly while less than its limit has passed since its last packet
-
-abbrev pub names_of : List Held → List ℕ
-names_of held = map (λ h. h.id.0) held
-
-abbrev pub LivesOn : Setup → Type 0
-LivesOn setup =
-    Always setup (λ story now. (c : ℕ) → Contains (begun_in (tracked_of story)) c
-    → is_ended c (tracked_of story) ≡ false
-    → Contains (names_of (alive_at setup story now)) c
-    ↔ (now - (connection_in c (tracked_of story)).last
-    < limit_of (limits_of setup) (connection_in c (tracked_of story))))
 
 -- ---- hairpinning (RFC 4787, REQ-9; RFC 5382, REQ-8)
 
@@ -166,13 +166,35 @@ pub record TurnsBack (t : Tuple) (m : Mapping) (mappings : List Mapping) (e : En
 
 -- a packet to the external endpoint of a live mapping of its kind that enters by another interface than the owner of
 -- that address, begins a connection without any NAT statement having acted, and passes
-abbrev pub Hairpins : Setup → Type 0
-Hairpins setup =
-    (story : List Entry) → IsStory setup story → (r : Recorded) (e : Entry) → Next setup story r e
-    → (a : Arrived) → Carries setup r (Ok a)
-    → (t : Tuple) → e.sought ≡ Some t → has_ports t.kind ≡ true
+abbrev pub Hairpins : Setup → List Entry → Recorded → Entry → Type 0
+Hairpins setup story r e =
+    (a : Arrived) → Carries setup r (Ok a) → (t : Tuple) → e.sought ≡ Some t → has_ports t.kind ≡ true
     → (m : Mapping) → Contains (mappings_before setup story r t e.tracked.flags) m → m.kind ≡ t.kind
     → m.external ≡ t.destination → is_index a.interface (owner setup.plant m.external.address) ≡ false
     → IsTrue (does_begin e.tracked.what) → list_any did_translate e.events ≡ false
     → (interface : ℕ) → e.outcome ≡ Passed interface
     → TurnsBack t m (mappings_before setup story r t e.tracked.flags) e
+
+-- ==== together
+
+-- of what is alive at a moment after a story, and of the list of it
+pub record LiveLaws (setup : Setup) (story : List Entry) (now : ℕ) (all : List Connection) : Type 0 where
+  -- just those that are alive, in the order in which they were begun
+  pub listed : all ≡ listed_at setup story now
+  pub apart : AreApart all
+  pub one_internal : OneInternal all
+  pub one_port : OnePort all
+  pub class : KeepsClass story all
+  pub chosen : WasChosen story all
+  pub given : GivenToOne (alive_at setup story now)
+  pub lives : LivesOn setup story now
+
+-- of the entry of a record after a story
+pub record EntryLaws (setup : Setup) (story : List Entry) (r : Recorded) (e : Entry) : Type 0 where
+  pub leaves : LeavesTranslated setup story r e
+  pub hairpins : Hairpins setup story r e
+
+-- of a story: at its last moment and at each later one until another record comes, and of whatever record comes
+pub record StoryLaws (setup : Setup) (story : List Entry) : Type 0 where
+  pub live : (now : ℕ) → moment_of story ≤ now → LiveLaws setup story now (listed_at setup story now)
+  pub next : (r : Recorded) (e : Entry) → Next setup story r e → EntryLaws setup story r e

@@ -1,26 +1,34 @@
 -- What the laws of translation speak of: stories that grow from nothing, and what is alive in them.
-use Rattle.std.specs.Prelude.{◌≤◌, ℕ, Bool, false, List, [], ◌∷◌, if◌then◌else◌, Option, Some, None}
+use Rattle.std.specs.Prelude.{◌↔◌, ◌≤◌, ℕ, Bool, false, List, [], ◌∷◌, map, if◌then◌else◌, Option, Some, None}
 use Rattle.ip_headers.specs.declared.tuple.Mapping.{Mapping}
+use Rattle.conntrack.specs.declared.connection.Connection.{Connection}
 use Rattle.conntrack.specs.declared.connection.Held.{Held}
+use Rattle.conntrack.specs.Held.{connection_of}
 use Rattle.conntrack.specs.Stories.{begun, live_list}
 use Rattle.nat_mapping.specs.Mappings.{same_mapping}
 use Rattle.pcap_io.specs.Pcap.{Recorded}
 use Rattle.story.specs.Setup.{Setup, limits_of}
 use Rattle.story.specs.Story.{Entry, moment_of, tracked_of}
-use Rattle.translation.specs.Mapped.{mappings_in}
-use Rattle.stepping.specs.Next.{Grows}
+use Rattle.stepping.specs.Next.{Grows, Next}
 
 -- the story of some records, from the first one on
 pub record IsStory (setup : Setup) (story : List Entry) : Type 0 where
   pub records : List Recorded
   pub grows : Grows setup [] records story
 
--- the connections that are alive at a moment, and the mappings that are live then
+-- each entry is the next one after the story before it: so what is said of the next entry after a story is said of each,
+-- and what is said of a story is said of each beginning of it
+abbrev pub EntriesFollow : Setup → Type 0
+EntriesFollow setup =
+    (story : List Entry) (e : Entry)
+    → IsStory setup (e ∷ story) ↔ (IsStory setup story × ((r : Recorded) × Next setup story r e))
+
+-- the connections that are alive at a moment, in the order in which they were begun, and as they are listed
 abbrev pub alive_at : Setup → List Entry → ℕ → List Held
 alive_at setup story now = live_list (limits_of setup) (tracked_of story) now
 
-abbrev pub mappings_at : Setup → List Entry → ℕ → List Mapping
-mappings_at setup story now = mappings_in (alive_at setup story now)
+abbrev pub listed_at : Setup → List Entry → ℕ → List Connection
+listed_at setup story now = map connection_of (alive_at setup story now)
 
 -- what holds in every story at its last moment and at each later one, until another record comes
 abbrev pub Always : Setup → (List Entry → ℕ → Type 0) → Type 0

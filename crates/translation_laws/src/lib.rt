@@ -1,9 +1,11 @@
-//! The laws of translation, over every list of records: each is a clause of the contract of a function
-//! that does nothing.
+//! The laws of translation, over every list of records, as the contract of a function that does nothing.
 #![tactic(auto)]
 
+ghost use Rattle.std.specs.Prelude.{[], List};
 ghost use Rattle.story.specs.Setup.{Setup};
-ghost use Rattle.translation_laws.specs.Laws.{AreApart, EntriesFollow, GivenToOne, Hairpins, KeepsClass, LeavesTranslated, LivesOn, OneInternal, OnePort, WasChosen};
+ghost use Rattle.story.specs.Story.{Entry};
+ghost use Rattle.translation_laws.specs.Laws.{StoryLaws};
+ghost use Rattle.translation_laws.specs.Stories.{EntriesFollow, IsStory};
 
 use conntrack::laws::{one_entry_more, still_apart};
 use ip_headers::laws::no_fault;
@@ -12,18 +14,12 @@ use port_pool::laws::ports_alike;
 use rewrite::laws::goes_between;
 
 /// What is true of translation in every story that grows from nothing, on every box, whatever its
-/// records are.
+/// records are. Nothing is such a story; each entry of one is the next after what was before it; and
+/// each obeys the laws.
 pub fn translation_laws()
+    ensures begins { (setup : Setup) → IsStory setup [] }
     ensures entries { (setup : Setup) → EntriesFollow setup }
-    ensures apart { (setup : Setup) → AreApart setup }
-    ensures one_internal { (setup : Setup) → OneInternal setup }
-    ensures one_port { (setup : Setup) → OnePort setup }
-    ensures class { (setup : Setup) → KeepsClass setup }
-    ensures chosen { (setup : Setup) → WasChosen setup }
-    ensures given { (setup : Setup) → GivenToOne setup }
-    ensures leaves { (setup : Setup) → LeavesTranslated setup }
-    ensures lives { (setup : Setup) → LivesOn setup }
-    ensures hairpins { (setup : Setup) → Hairpins setup }
+    ensures obeys { (setup : Setup) (story : List Entry) → IsStory setup story → StoryLaws setup story }
 {
     // What a story tells with one entry more.
     one_entry_more();

@@ -1,0 +1,59 @@
+-- What is true of connections is true of them as they are listed.
+use Rattle.std.proofs.Common.{◌≡◌, true, false, List, [], ◌∷◌, inl, inr, refl, sym, subst, eq-eqb}
+use Rattle.std.specs.Prelude.{map}
+use Rattle.std.specs.List.{Contains}
+use Rattle.std.proofs.lemmas.Bool.{and_from, both_ways, or_left, or_right}
+use Rattle.list_laws.specs.Elements.{Contains-unmap}
+use Rattle.ip_headers.specs.declared.tuple.Endpoint.{Endpoint}
+use Rattle.ip_headers.specs.declared.tuple.Kind.{Kind}
+use Rattle.ip_headers.specs.declared.tuple.Kind.TheVariants.{Tcp, Udp, Ask, Answer, Other}
+use Rattle.ip_headers.specs.declared.tuple.Mapping.{Mapping}
+use Rattle.ip_headers.specs.declared.tuple.Tuple.{Tuple}
+use Rattle.ip_headers.specs.Same.{same_endpoint, same_kind, same_tuple}
+use Rattle.conntrack.specs.declared.connection.Connection.{Connection}
+use Rattle.conntrack.specs.declared.connection.Held.{Held}
+use Rattle.conntrack.specs.Held.{are_apart, connection_of, is_incoming, is_taken}
+use Rattle.translation.specs.Mapped.{mappings_in}
+use Rattle.translation_laws.specs.Laws.{AreApart, HasIncoming, HoldsMapping}
+use Rattle.translation_laws.proofs.Each.{mapping_of_holder}
+use Rattle.translation_laws.proofs.Given.{parts, taken_by}
+
+same_kind-refl : (k : Kind) → same_kind k k ≡ true
+same_kind-refl Tcp = refl
+same_kind-refl Udp = refl
+same_kind-refl Ask = refl
+same_kind-refl Answer = refl
+same_kind-refl (Other n) = eq-eqb n n refl
+
+same_endpoint-refl : (e : Endpoint) → same_endpoint e e ≡ true
+same_endpoint-refl e = and_from _ _ (eq-eqb e.address e.address refl) (eq-eqb e.port e.port refl)
+
+same_tuple-refl : (t : Tuple) → same_tuple t t ≡ true
+same_tuple-refl t = and_from _ _ (same_kind-refl t.kind) (and_from _ _ (same_endpoint-refl t.source) (same_endpoint-refl t.destination))
+
+same_tuple-is : (s t : Tuple) → s ≡ t → same_tuple s t ≡ true
+same_tuple-is s t e = subst (λ (u : Tuple). same_tuple s u ≡ true) e (same_tuple-refl s)
+
+comes_to : (h : Held) (t : Tuple) → HasIncoming (connection_of h) t → is_incoming t h ≡ true
+comes_to h t (inl e) = or_left (same_tuple h.original t) (same_tuple h.reply t) (same_tuple-is h.original t e)
+comes_to h t (inr e) = or_right (same_tuple h.original t) (same_tuple h.reply t) (same_tuple-is h.reply t e)
+
+-- no tuple of the first is one of those behind it
+not_behind : (x : Held) (held : List Held) (t : Tuple) → are_apart (x ∷ held) ≡ true → HasIncoming (connection_of x) t → is_taken t held ≡ false
+not_behind x held t apart (inl e) = subst (λ (u : Tuple). is_taken u held ≡ false) e (parts x held apart).0
+not_behind x held t apart (inr e) = subst (λ (u : Tuple). is_taken u held ≡ false) e (parts x held apart).1
+
+pub apart_listed : (held : List Held) → are_apart held ≡ true → AreApart (map connection_of held)
+apart_listed [] apart = tt
+apart_listed (x ∷ held) apart = (
+  λ d t among first later.
+      let u = Contains-unmap connection_of held d among in
+      let taken = taken_by t held u.0 u.1 (comes_to u.0 t (subst (λ (c : Connection). HasIncoming c t) (sym u.2) later)) in
+      both_ways (is_taken t held) (not_behind x held t apart first) taken,
+  apart_listed held (parts x held apart).2,
+)
+
+pub listed_mapping : (held : List Held) (c : Connection) (m : Mapping) → Contains (map connection_of held) c → HoldsMapping c m → Contains (mappings_in held) m
+listed_mapping held c m among holds =
+    let u = Contains-unmap connection_of held c among in
+    mapping_of_holder held u.0 m u.1 (subst (λ (d : Connection). HoldsMapping d m) (sym u.2) holds)
