@@ -1,5 +1,5 @@
 //! The slots, and the lists that go through them.
-ghost use Rattle.std.specs.Prelude.{◌≡◌, ◌+◌, ◌<◌, ◌≤◌, ◌++◌, ◌∷◌, [], ℕ, nat_lt, IsTrue, IsSome, IfOk, OnOk, Some, None, IfSome, IfNone, false, true, map};
+ghost use Rattle.std.specs.Prelude.{◌≡◌, ◌+◌, ◌<◌, ◌≤◌, ◌++◌, ◌∷◌, [], ℕ, nat_lt, IsTrue, IsSome, IfOk, IsOk, OnOk, Some, None, IfSome, IfNone, false, true, map};
 ghost use Rattle.slab.specs.Slab.{get, slab_len, ContainsKey, Updates};
 ghost use Rattle.conntrack.specs.Held.{begun_with, connection_of, is_live, touched, touched_at, without, IsNoneLater};
 ghost use Rattle.aged_tracker.specs.steps.Rings.{keys_of, lists_of, held_at, held_in, owner_of, IsRings, SameSize};
@@ -309,7 +309,7 @@ impl AgedSlots {
         None
     }
 
-    /// Makes room for one more.
+    /// Makes room for one more. Where there is room already nothing changes.
     pub fn reserve_one(&mut self) -> Result<(), Memory>
         requires table { IsTable self.old }
         ensures table { IsTable self.new }
@@ -317,7 +317,11 @@ impl AgedSlots {
         ensures slots { (key : ℕ) → slots_of self.new key ≡ slots_of self.old key }
         ensures room { OnOk result (IsTrue (has_room self.new)) }
         ensures kept { IsTrue (has_room self.old) → IsTrue (has_room self.new) }
+        ensures spared { IsTrue (has_room self.old) → (self.new ≡ self.old) × IsOk result }
     {
+        if self.slots.len() < self.slots.capacity() {
+            return Ok(());
+        }
         match self.slots.reserve(1) {
             Ok(()) => Ok(()),
             Err(_) => Err(Memory),

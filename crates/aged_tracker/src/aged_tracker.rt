@@ -16,6 +16,7 @@ use conntrack::{
 use ip_headers::Tuple;
 use std::alloc::Global;
 use std::collections::HashMap;
+use std::hash::RandomState;
 use std::marker::Model;
 
 /// Keeps connections in slots, which are found by their incoming tuples and aged by queues: a call
@@ -24,7 +25,7 @@ use std::marker::Model;
 pub struct AgedTracker {
     slots: AgedSlots,
     // The slot of the connection that a tuple is an incoming tuple of.
-    keys: HashMap<Tuple, usize>,
+    keys: HashMap<Tuple, usize, RandomState>,
     live: usize,
     limits: Limits,
 }
@@ -71,10 +72,10 @@ impl Tracker for AgedTracker {
 
     ghost most_slots = { Some 8 };
 
-    fn new(alloc: Global, idle: Limits) -> Self {
+    fn new(alloc: Global, hasher: RandomState, idle: Limits) -> Self {
         AgedTracker {
             slots: AgedSlots::new(alloc),
-            keys: HashMap::new(alloc),
+            keys: HashMap::with_hasher(alloc, hasher),
             live: 0,
             limits: idle,
         }
@@ -99,6 +100,9 @@ impl Tracker for AgedTracker {
 
     fn reserve_one(&mut self) -> Result<(), Memory> {
         self.slots.reserve_one()?;
+        if spare_of(&self.keys) >= 2 {
+            return Ok(());
+        }
         match self.keys.reserve(2) {
             Ok(()) => Ok(()),
             Err(_) => Err(Memory),
@@ -149,7 +153,7 @@ impl Tracker for AgedTracker {
 }
 
 /// Lets a tuple lead to a slot.
-fn put(keys: &mut HashMap<Tuple, usize>, tuple: Tuple, key: usize)
+fn put(keys: &mut HashMap<Tuple, usize, RandomState>, tuple: Tuple, key: usize)
     requires { 0 < spare keys.old }
     ensures keys { (q : Tupled) → get same_tuple keys.new q ≡ cond (same_tuple tuple q) (Some key) (get same_tuple keys.old q) }
     ensures spare { spare keys.old ≤ spare keys.new + 1 }
@@ -160,8 +164,15 @@ fn put(keys: &mut HashMap<Tuple, usize>, tuple: Tuple, key: usize)
     }
 }
 
+/// How many more tuples can lead to a slot.
+fn spare_of(keys: &HashMap<Tuple, usize, RandomState>) -> usize
+    ensures { result ≡ spare keys.now }
+{
+    keys.capacity() - keys.len()
+}
+
 /// Lets a tuple lead nowhere.
-fn forget(keys: &mut HashMap<Tuple, usize>, tuple: Tuple)
+fn forget(keys: &mut HashMap<Tuple, usize, RandomState>, tuple: Tuple)
     ensures keys { (q : Tupled) → get same_tuple keys.new q ≡ cond (same_tuple tuple q) None (get same_tuple keys.old q) }
     ensures spare { spare keys.old ≤ spare keys.new }
 {
@@ -169,14 +180,14 @@ fn forget(keys: &mut HashMap<Tuple, usize>, tuple: Tuple)
 }
 
 /// The slot that a tuple leads to.
-fn key_of(keys: &HashMap<Tuple, usize>, tuple: Tuple) -> Option<usize>
+fn key_of(keys: &HashMap<Tuple, usize, RandomState>, tuple: Tuple) -> Option<usize>
     ensures { result ≡ get same_tuple keys.now tuple }
 {
     keys.get(&tuple).copied()
 }
 
 /// Whether a tuple leads to a slot.
-fn leads(keys: &HashMap<Tuple, usize>, tuple: Tuple) -> bool
+fn leads(keys: &HashMap<Tuple, usize, RandomState>, tuple: Tuple) -> bool
     ensures { result ≡ is_some (get same_tuple keys.now tuple) }
 {
     keys.contains_key(&tuple)

@@ -1,5 +1,5 @@
 //! A table of connections and of their mappings.
-ghost use Rattle.std.specs.Prelude.{◌≡◌, ◌+◌, ◌<◌, ◌≤◌, ◌↔◌, ◌++◌, ◌∷◌, [], ℕ, IsTrue, List, false, length, map, IfOk, OnErr, OnOk, Err};
+ghost use Rattle.std.specs.Prelude.{◌≡◌, ◌+◌, ◌<◌, ◌≤◌, ◌↔◌, ◌++◌, ◌∷◌, [], ℕ, IsTrue, List, false, length, map, IfOk, IsOk, OnErr, OnOk, Err};
 ghost use Rattle.ip_headers.specs.declared.tuple.Mapping.{Mapping};
 ghost use Rattle.conntrack.specs.declared.connection.ConnId.{ConnId};
 ghost use Rattle.conntrack.specs.Held.{IsNoneLater, begun_with, belongs_in, connection_of, has_distinct_ids, has_id, is_taken, live_at, most_held, touched_at};
@@ -21,6 +21,7 @@ use ip_headers::{Mapping as Mapped, Tuple};
 use nat_mapping::Mappings;
 use nat_mapping::laws::{same_answers, stays_one_to_one};
 use std::alloc::{AllocError, Global};
+use std::hash::RandomState;
 use std::marker::Model;
 use translation::Draft;
 
@@ -45,24 +46,26 @@ impl<T: Tracker> Model for ConnectionTable<T> {
 }
 
 impl<T: Tracker> ConnectionTable<T> {
-    /// An empty table, whose connections may be idle for so long. It takes no memory.
-    pub fn new(alloc: Global, idle: Limits) -> Self
+    /// An empty table, whose connections may be idle for so long. It takes no memory. Its hash tables hash
+    /// by `hasher`; no answer depends on the keys.
+    pub fn new(alloc: Global, hasher: RandomState, idle: Limits) -> Self
         ensures held { result.held ≡ [] }
         ensures limits { result.limits ≡ idle }
     {
         ConnectionTable {
-            tracker: T::new(alloc, idle),
-            mappings: Mappings::new(alloc),
+            tracker: T::new(alloc, hasher, idle),
+            mappings: Mappings::new(alloc, hasher),
         }
     }
 
-    /// Room for the next connection and its mappings. On `Err`, which comes only for want of memory,
-    /// what is held stays.
+    /// Room for the next connection and its mappings. Where there is room already nothing changes. On
+    /// `Err`, which comes only for want of memory, what is held stays.
     pub fn reserve(&mut self) -> Result<(), AllocError>
         ensures held { self.new.held ≡ self.old.held }
         ensures limits { self.new.limits ≡ self.old.limits }
         ensures room { OnOk result (IsTrue self.new.has_room) }
         ensures kept { IsTrue self.old.has_room → IsTrue self.new.has_room }
+        ensures spared { IsTrue self.old.has_room → (self.new ≡ self.old) × IsOk result }
     {
         let Ok(()) = self.tracker.reserve_one() else {
             return Err(AllocError);

@@ -12,6 +12,7 @@ use crate::tracker::{BeginError, LIMIT, Memory, Tracker};
 use box_file::Limits;
 use ip_headers::Tuple;
 use std::alloc::Global;
+use std::hash::RandomState;
 
 /// Keeps connections in a list, in order of beginning. Each call goes through the whole list.
 #[derive(Drop)]
@@ -181,7 +182,8 @@ impl Tracker for ListTracker {
 
     ghost most_slots = { None };
 
-    fn new(alloc: Global, idle: Limits) -> Self {
+    // It hashes nothing.
+    fn new(alloc: Global, _hasher: RandomState, idle: Limits) -> Self {
         ListTracker {
             conns: Vec::new(alloc),
             limits: idle,
@@ -208,6 +210,9 @@ impl Tracker for ListTracker {
     }
 
     fn reserve_one(&mut self) -> Result<(), Memory> {
+        if self.conns.len() < self.conns.capacity() {
+            return Ok(());
+        }
         match self.conns.reserve(1) {
             Ok(()) => Ok(()),
             Err(_) => Err(Memory),

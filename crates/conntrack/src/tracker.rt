@@ -1,5 +1,5 @@
 //! What a table of connections does.
-ghost use Rattle.std.specs.Prelude.{◌≡◌, ◌+◌, ◌<◌, ◌≤◌, ◌↔◌, ℕ, Bool, IsTrue, List, [], ◌++◌, ◌∷◌, Option, length, map, false, Some, IfOk, OnOk, OnErr, IfSome, IfNone};
+ghost use Rattle.std.specs.Prelude.{◌≡◌, ◌+◌, ◌<◌, ◌≤◌, ◌↔◌, ℕ, Bool, IsTrue, List, [], ◌++◌, ◌∷◌, Option, length, map, false, Some, IfOk, IsOk, OnOk, OnErr, IfSome, IfNone};
 ghost use Rattle.conntrack.specs.Held.{IsNoneLater, IsWithin, are_apart, begun_with, belongs_in, connection_of, has_distinct_ids, has_id, is_taken, live_at, most_held, nameless_belonging, taken_out, touched_at, without};
 ghost use Rattle.conntrack.specs.Stories.{Tracked, StandsAt, belongs};
 
@@ -9,6 +9,7 @@ use crate::step_count::Steps;
 use box_file::Limits;
 use ip_headers::Tuple;
 use std::alloc::Global;
+use std::hash::RandomState;
 use thiserror::Error;
 
 /// How many connections are held at most.
@@ -49,8 +50,9 @@ pub trait Tracker: Drop {
     /// How many slots a call may visit, if that is bounded.
     ghost most_slots: { Option ℕ };
 
-    /// An empty table, whose connections may be idle for so long.
-    fn new(alloc: Global, idle: Limits) -> Self
+    /// An empty table, whose connections may be idle for so long. A table that hashes tuples does so by
+    /// `hasher`, whose keys nobody who sends packets knows; no answer depends on them.
+    fn new(alloc: Global, hasher: RandomState, idle: Limits) -> Self
     where
         Self: Sized,
         ensures held { held result ≡ [] }
@@ -82,12 +84,14 @@ pub trait Tracker: Drop {
         ensures room { IsTrue (has_room self.old) → IsTrue (has_room self.new) }
         ensures steps { IsWithin most_slots steps.old steps.new };
 
-    /// Makes room for the next `begin` that answers `Ok`; `Memory` where there was none to be had.
+    /// Makes room for the next `begin` that answers `Ok`; `Memory` where there was none to be had. Where
+    /// there is room already nothing changes.
     fn reserve_one(&mut self) -> Result<(), Memory>
         ensures held { held self.new ≡ held self.old }
         ensures limits { limits self.new ≡ limits self.old }
         ensures room { OnOk result (IsTrue (has_room self.new)) }
-        ensures kept { IsTrue (has_room self.old) → IsTrue (has_room self.new) };
+        ensures kept { IsTrue (has_room self.old) → IsTrue (has_room self.new) }
+        ensures spared { IsTrue (has_room self.old) → (self.new ≡ self.old) × IsOk result };
 
     /// Begins a connection with its first packet, which had these flags: `Full` where as many are
     /// held as can be, else `Clash` where its reply tuple is an incoming tuple of another; then

@@ -18,6 +18,7 @@ use box_file::one_box;
 use nft_parser::one_tree;
 use pcap_io::{Capture, CaptureError, Counted, one_reading};
 use std::alloc::Global;
+use std::hash::RandomState;
 use std::io::{Read, Write};
 use stepping::{Engine, one_entry};
 
@@ -32,6 +33,9 @@ pub struct Summary {
 
 /// Takes each packet of a capture through a ruleset, as a forwarding box with these interfaces
 /// and routes would, and writes the packets that leave and a report.
+///
+/// The tables of connections and of mappings hash by `hasher`: its keys decide how long look-ups take
+/// where a capture was made to slow them down, and nothing that is written.
 ///
 /// `rules` is the text of a ruleset of nft(8), `plant` that of a box file. Refusals come in this
 /// order: the rules' text, the box file, the rules' tree, the capture's header, its records.
@@ -48,6 +52,7 @@ pub struct Summary {
 /// report tells each decision, and how each record ends.
 pub fn run<R: Read, W: Write, W2: Write>(
     alloc: Global,
+    hasher: RandomState,
     rules: &[u8],
     plant: &[u8],
     capture: &mut Counted<R>,
@@ -91,7 +96,7 @@ pub fn run<R: Read, W: Write, W2: Write>(
     one_box();
     one_reading();
     one_entry();
-    let engine = Engine::new(alloc, checked)?;
+    let engine = Engine::new(alloc, hasher, checked)?;
     write_texts(alloc, engine, records, trace, capture, sent, report)
 }
 

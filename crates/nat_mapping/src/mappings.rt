@@ -15,11 +15,13 @@ use crate::keys::{
 use crate::pools::Pools;
 use crate::tables::{
     change_source, drop_inbound, drop_source, find_inbound, find_source, put_inbound, put_source,
+    spare_inbounds, spare_sources,
 };
 use ip_headers::{Endpoint, Kind, Mapping};
 use port_pool::Range;
 use std::alloc::Global;
 use std::collections::HashMap;
+use std::hash::RandomState;
 use std::marker::Model;
 use thiserror::Error;
 
@@ -40,8 +42,8 @@ pub enum MapError {
 /// are held.
 #[derive(Drop)]
 pub struct Mappings {
-    sources: HashMap<SourceKey, Holding>,
-    inbounds: HashMap<InboundKey, Endpoint>,
+    sources: HashMap<SourceKey, Holding, RandomState>,
+    inbounds: HashMap<InboundKey, Endpoint, RandomState>,
     pools: Pools,
 }
 
@@ -64,15 +66,16 @@ impl Model for Mappings {
 }
 
 impl Mappings {
-    /// Nothing is held. It takes no memory.
-    pub fn new(alloc: Global) -> Self
+    /// Nothing is held. It takes no memory. Its tables hash by `hasher`, whose keys nobody who sends packets
+    /// knows; no answer depends on them.
+    pub fn new(alloc: Global, hasher: RandomState) -> Self
         ensures held { result.held ≡ [] }
         ensures pools { result.pools ≡ 0 }
     {
         Self {
-            sources: HashMap::new(alloc),
-            inbounds: HashMap::new(alloc),
-            pools: Pools::new(alloc),
+            sources: HashMap::with_hasher(alloc, hasher),
+            inbounds: HashMap::with_hasher(alloc, hasher),
+            pools: Pools::new(alloc, hasher),
         }
     }
 
@@ -129,7 +132,8 @@ impl Mappings {
         self.pools.count()
     }
 
-    /// Room for the two mappings of one connection, each at an external address of its own.
+    /// Room for the two mappings of one connection, each at an external address of its own. Where there
+    /// is room already nothing changes.
     ///
     /// # Errors
     ///
@@ -138,9 +142,17 @@ impl Mappings {
         ensures held { HoldsSame self.old.held self.new.held }
         ensures ok { OnOk result (2 ≤ self.new.room) }
         ensures room { self.old.room ≤ self.new.room }
-        ensures succeeds { 2 ≤ self.old.room → IsOk result }
+        ensures spared { 2 ≤ self.old.room → (self.new ≡ self.old) × IsOk result }
     {
         self.reserve(2)
+    }
+
+    /// For how many more mappings there is room.
+    fn room(&self) -> usize
+        ensures { result ≡ self.now.room }
+    {
+        let tables = spare_sources(&self.sources).min(spare_inbounds(&self.inbounds));
+        tables.min(self.pools.room())
     }
 
     fn reserve(&mut self, mappings: usize) -> Result<(), Memory>
@@ -148,8 +160,11 @@ impl Mappings {
         ensures held { HoldsSame self.old.held self.new.held }
         ensures ok { OnOk result (mappings ≤ self.new.room) }
         ensures room { self.old.room ≤ self.new.room }
-        ensures succeeds { mappings ≤ self.old.room → IsOk result }
+        ensures spared { mappings ≤ self.old.room → (self.new ≡ self.old) × IsOk result }
     {
+        if mappings <= self.room() {
+            return Ok(());
+        }
         if self.sources.reserve(mappings).is_err() {
             return Err(Memory);
         }
@@ -233,7 +248,7 @@ impl Mappings {
 
 /// The first candidate for an internal endpoint behind which none stands at the external address.
 fn fresh_port(
-    inbounds: &HashMap<InboundKey, Endpoint>,
+    inbounds: &HashMap<InboundKey, Endpoint, RandomState>,
     pools: &Pools,
     key: SourceKey,
     range: Option<Range>,

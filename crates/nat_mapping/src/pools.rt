@@ -13,6 +13,7 @@ use crate::keys::{PoolKey, has_pool, order};
 use port_pool::{Order, Pool, Range, first};
 use std::alloc::{AllocError, Global};
 use std::collections::HashMap;
+use std::hash::RandomState;
 
 /// So many emptied pools are kept for the next addresses: as many as one connection may begin.
 pub(crate) const SPARES: usize = 2;
@@ -21,7 +22,7 @@ pub(crate) const SPARES: usize = 2;
 /// A kind without ports has none.
 #[derive(Drop)]
 pub(crate) struct Pools {
-    pools: HashMap<PoolKey, Pool>,
+    pools: HashMap<PoolKey, Pool, RandomState>,
     spares: Vec<Pool>,
     alloc: Global,
 }
@@ -30,13 +31,13 @@ impl Pools {
     ghost use Rattle.nat_mapping.specs.steps.Pooled.{pool_count, pool_room, taken_in, IsPooled};
 
     /// All ports are free.
-    pub(crate) fn new(alloc: Global) -> Self
+    pub(crate) fn new(alloc: Global, hasher: RandomState) -> Self
         ensures taken { (key : Key) (port : ℕ) → taken_in result key port ≡ false }
         ensures pooled { IsPooled result }
         ensures none { pool_count result ≡ 0 }
     {
         Self {
-            pools: HashMap::new(alloc),
+            pools: HashMap::with_hasher(alloc, hasher),
             spares: Vec::new(alloc),
             alloc,
         }
@@ -48,6 +49,13 @@ impl Pools {
         ensures { result ≡ pool_count self.now }
     {
         self.pools.len() + self.spares.len()
+    }
+
+    /// How many pools more can begin.
+    pub(crate) fn room(&self) -> usize
+        ensures { result ≡ pool_room self.now }
+    {
+        (self.pools.capacity() - self.pools.len()).min(self.spares.len())
     }
 
     /// The first candidate that is free.
@@ -116,7 +124,7 @@ impl Pools {
 }
 
 /// Takes a port of a pool, if there is that pool.
-fn take_at(pools: &mut HashMap<PoolKey, Pool>, key: PoolKey, port: u16) -> bool
+fn take_at(pools: &mut HashMap<PoolKey, Pool, RandomState>, key: PoolKey, port: u16) -> bool
     requires free { is_taken_by (get same_pool pools.old key) port ≡ false }
     requires row { order_by (get same_pool pools.old key) ≢ Some Order.Zero }
     ensures found { result ≡ is_some (get same_pool pools.old key) }
@@ -136,7 +144,7 @@ fn take_at(pools: &mut HashMap<PoolKey, Pool>, key: PoolKey, port: u16) -> bool
 }
 
 /// Gives a port back to its pool, and tells whether no port of that pool is taken any more.
-fn give_at(pools: &mut HashMap<PoolKey, Pool>, key: PoolKey, port: u16) -> bool
+fn give_at(pools: &mut HashMap<PoolKey, Pool, RandomState>, key: PoolKey, port: u16) -> bool
     requires { is_taken_by (get same_pool pools.old key) port ≡ true }
     ensures taken { (q : Key) (p : ℕ) → is_taken_by (get same_pool pools.new q) p ≡ (if same_pool key q && p == port then false else is_taken_by (get same_pool pools.old q) p) }
     ensures orders { (q : Key) → order_by (get same_pool pools.new q) ≡ order_by (get same_pool pools.old q) }
@@ -167,7 +175,7 @@ fn begun(pool: Pool, order: Order, port: u16) -> Pool
 }
 
 /// Puts a pool where there is none.
-fn begin(pools: &mut HashMap<PoolKey, Pool>, key: PoolKey, pool: Pool)
+fn begin(pools: &mut HashMap<PoolKey, Pool, RandomState>, key: PoolKey, pool: Pool)
     requires { 0 < spare pools.old }
     ensures pools { (q : Key) → get same_pool pools.new q ≡ cond (same_pool key q) (Some pool) (get same_pool pools.old q) }
     ensures spare { spare pools.old ≤ spare pools.new + 1 }
@@ -180,7 +188,7 @@ fn begin(pools: &mut HashMap<PoolKey, Pool>, key: PoolKey, pool: Pool)
 }
 
 /// Takes a pool out.
-fn end(pools: &mut HashMap<PoolKey, Pool>, key: PoolKey) -> Option<Pool>
+fn end(pools: &mut HashMap<PoolKey, Pool, RandomState>, key: PoolKey) -> Option<Pool>
     ensures value { result ≡ get same_pool pools.old key }
     ensures pools { (q : Key) → get same_pool pools.new q ≡ cond (same_pool key q) None (get same_pool pools.old q) }
     ensures spare { spare pools.old ≤ spare pools.new }

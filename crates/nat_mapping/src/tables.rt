@@ -8,9 +8,13 @@ ghost use Rattle.nat_mapping.specs.steps.Keys.{same_inbound, same_source};
 use crate::keys::{Holding, InboundKey, SourceKey};
 use ip_headers::Endpoint;
 use std::collections::HashMap;
+use std::hash::RandomState;
 
 /// How a mapping is held.
-pub(crate) fn find_source(sources: &HashMap<SourceKey, Holding>, key: SourceKey) -> Option<Holding>
+pub(crate) fn find_source(
+    sources: &HashMap<SourceKey, Holding, RandomState>,
+    key: SourceKey,
+) -> Option<Holding>
     ensures { result ≡ get same_source sources.now key }
 {
     sources.get(&key).copied()
@@ -18,7 +22,7 @@ pub(crate) fn find_source(sources: &HashMap<SourceKey, Holding>, key: SourceKey)
 
 /// Which internal endpoint stands behind an external one.
 pub(crate) fn find_inbound(
-    inbounds: &HashMap<InboundKey, Endpoint>,
+    inbounds: &HashMap<InboundKey, Endpoint, RandomState>,
     key: InboundKey,
 ) -> Option<Endpoint>
     ensures { result ≡ get same_inbound inbounds.now key }
@@ -26,9 +30,23 @@ pub(crate) fn find_inbound(
     inbounds.get(&key).copied()
 }
 
+/// How many mappings more can begin.
+pub(crate) fn spare_sources(sources: &HashMap<SourceKey, Holding, RandomState>) -> usize
+    ensures { result ≡ spare sources.now }
+{
+    sources.capacity() - sources.len()
+}
+
+/// Behind how many more external endpoints an internal one can stand.
+pub(crate) fn spare_inbounds(inbounds: &HashMap<InboundKey, Endpoint, RandomState>) -> usize
+    ensures { result ≡ spare inbounds.now }
+{
+    inbounds.capacity() - inbounds.len()
+}
+
 /// Changes how a mapping is held.
 pub(crate) fn change_source(
-    sources: &mut HashMap<SourceKey, Holding>,
+    sources: &mut HashMap<SourceKey, Holding, RandomState>,
     key: SourceKey,
     holding: Holding,
 )
@@ -44,7 +62,7 @@ pub(crate) fn change_source(
 
 /// Begins a mapping.
 pub(crate) fn put_source(
-    sources: &mut HashMap<SourceKey, Holding>,
+    sources: &mut HashMap<SourceKey, Holding, RandomState>,
     key: SourceKey,
     holding: Holding,
 )
@@ -60,7 +78,7 @@ pub(crate) fn put_source(
 }
 
 /// Ends a mapping.
-pub(crate) fn drop_source(sources: &mut HashMap<SourceKey, Holding>, key: SourceKey)
+pub(crate) fn drop_source(sources: &mut HashMap<SourceKey, Holding, RandomState>, key: SourceKey)
     ensures values { (q : ByInternal) → get same_source sources.new q ≡ cond (same_source key q) None (get same_source sources.old q) }
     ensures spare { spare sources.old ≤ spare sources.new }
     ensures unique { IsUnique same_source sources.new }
@@ -70,7 +88,7 @@ pub(crate) fn drop_source(sources: &mut HashMap<SourceKey, Holding>, key: Source
 
 /// Lets an internal endpoint stand behind an external one.
 pub(crate) fn put_inbound(
-    inbounds: &mut HashMap<InboundKey, Endpoint>,
+    inbounds: &mut HashMap<InboundKey, Endpoint, RandomState>,
     key: InboundKey,
     internal: Endpoint,
 )
@@ -85,7 +103,10 @@ pub(crate) fn put_inbound(
 }
 
 /// Lets none stand behind it.
-pub(crate) fn drop_inbound(inbounds: &mut HashMap<InboundKey, Endpoint>, key: InboundKey)
+pub(crate) fn drop_inbound(
+    inbounds: &mut HashMap<InboundKey, Endpoint, RandomState>,
+    key: InboundKey,
+)
     ensures values { (q : ByExternal) → get same_inbound inbounds.new q ≡ cond (same_inbound key q) None (get same_inbound inbounds.old q) }
     ensures spare { spare inbounds.old ≤ spare inbounds.new }
 {

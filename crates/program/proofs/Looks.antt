@@ -8,7 +8,7 @@ use Rattle.std.specs.IoError.{error_kind}
 use Rattle.std.specs.declared.io.Error.{Error}
 use Rattle.command_line.specs.declared.task.ReplayTask.{ReplayTask}
 use Rattle.program.specs.Calls.{Call, Text, identify}
-use Rattle.program.specs.Replaying.{Compares, Creates, GoesOn, compared, unless_absent}
+use Rattle.program.specs.Replaying.{Compares, Draws, GoesOn, compared, unless_absent}
 use Rattle.program.specs.Status.{of_error}
 use Rattle.program.specs.declared.identity.FileIdentity.{FileIdentity}
 use Rattle.program.specs.declared.status.Status.{Status}
@@ -25,6 +25,6 @@ looks-at {A = A} text out items n d answer verdict Next later status within same
 -- a look at OUT that fails is the only one
 pub fails : (I O : Type 0) (task : ReplayTask) (error : Error) (result : Result ⊤ Status) → result ≡ unless_absent (error_kind error) (of_error error) → Guarded {I = I} {O = O} task (identify task.paths.output.now (Err error) ∷ []) result
 fails I O task error (Ok _) is = λ rules box input later status on.
-    let Goes : Result ⊤ Status → Type 0 = λ r. GoesOn r (Creates {O = O} task rules box input) later status in (refl, subst Goes is on)
+    let Goes : Result ⊤ Status → Type 0 = λ r. GoesOn r (Draws {O = O} task rules box input) later status in (refl, subst Goes is on)
 fails I O task error (Err end) is = λ rules box input.
-    let Goes : Result ⊤ Status → Type 0 = λ r. GoesOn r (Creates {O = O} task rules box input) [] end in (refl, subst Goes is (refl, refl))
+    let Goes : Result ⊤ Status → Type 0 = λ r. GoesOn r (Draws {O = O} task rules box input) [] end in (refl, subst Goes is (refl, refl))

@@ -4,31 +4,38 @@ use Rattle.std.specs.IoError.{error_kind}
 use Rattle.std.specs.declared.io.Error.{Error}
 use Rattle.std.specs.declared.io.ErrorKind.{ErrorKind}
 use Rattle.std.specs.declared.io.ErrorKind.TheVariants.{NotFound}
+use Rattle.std.specs.declared.random_state.RandomState.{RandomState}
 use Rattle.command_line.specs.declared.task.Paths.{Paths}
 use Rattle.command_line.specs.declared.task.ReplayTask.{ReplayTask}
-use Rattle.program.specs.Calls.{Call, Text, read, open_input, identify, create, run}
+use Rattle.program.specs.Calls.{Call, Text, read, open_input, identify, draw_keys, create, run}
 use Rattle.program.specs.Identity.{is_same_file}
 use Rattle.program.specs.Status.{of_fault, of_end, of_error}
 use Rattle.program.specs.declared.identity.FileIdentity.{FileIdentity}
 use Rattle.program.specs.declared.status.Status.{Status}
 use Rattle.program.specs.declared.status.Status.TheVariants.{SameFile}
 
--- the run gets the ruleset's text as rules, the box file's as box, the files that were opened and the flag that was
--- asked for, and nothing is called after it; of_end tells whether the capture's end is torn
-abbrev pub Runs : {I O : Type 0} → Bool → Text → Text → I → O → List (Call I O) → Status → Type 0
-Runs traced rules box input output (run r b i i' o o' t (Err fault) ∷ []) status =
-    (r ≡ rules) × (b ≡ box) × (i ≡ input) × (o ≡ output) × (t ≡ traced) × (status ≡ of_fault fault)
-Runs traced rules box input output (run r b i i' o o' t (Ok torn) ∷ []) status =
-    (r ≡ rules) × (b ≡ box) × (i ≡ input) × (o ≡ output) × (t ≡ traced) × (status ≡ of_end torn)
-Runs _ _ _ _ _ _ _ = ⊥
+-- the run gets the keys that were drawn, the ruleset's text as rules, the box file's as box, the files that were opened
+-- and the flag that was asked for, and nothing is called after it; of_end tells whether the capture's end is torn
+abbrev pub Runs : {I O : Type 0} → Bool → RandomState → Text → Text → I → O → List (Call I O) → Status → Type 0
+Runs traced keys rules box input output (run k r b i i' o o' t (Err fault) ∷ []) status =
+    (k ≡ keys) × (r ≡ rules) × (b ≡ box) × (i ≡ input) × (o ≡ output) × (t ≡ traced) × (status ≡ of_fault fault)
+Runs traced keys rules box input output (run k r b i i' o o' t (Ok torn) ∷ []) status =
+    (k ≡ keys) × (r ≡ rules) × (b ≡ box) × (i ≡ input) × (o ≡ output) × (t ≡ traced) × (status ≡ of_end torn)
+Runs _ _ _ _ _ _ _ _ = ⊥
 
--- OUT is created, where nothing stands against it
-abbrev pub Creates : {I O : Type 0} → ReplayTask → Text → Text → I → List (Call I O) → Status → Type 0
-Creates task rules box input (create path (Err error) ∷ []) status =
+-- OUT is created
+abbrev pub Creates : {I O : Type 0} → ReplayTask → RandomState → Text → Text → I → List (Call I O) → Status → Type 0
+Creates task keys rules box input (create path (Err error) ∷ []) status =
     (path ≡ task.paths.output.now) × (status ≡ of_error error)
-Creates task rules box input (create path (Ok output) ∷ calls) status =
-    (path ≡ task.paths.output.now) × Runs task.trace rules box input output calls status
-Creates _ _ _ _ _ _ = ⊥
+Creates task keys rules box input (create path (Ok output) ∷ calls) status =
+    (path ≡ task.paths.output.now) × Runs task.trace keys rules box input output calls status
+Creates _ _ _ _ _ _ _ = ⊥
+
+-- keys are drawn, where nothing stands against OUT; where the system gives none, OUT isn't created
+abbrev pub Draws : {I O : Type 0} → ReplayTask → Text → Text → I → List (Call I O) → Status → Type 0
+Draws task rules box input (draw_keys (Err error) ∷ []) status = status ≡ of_error error
+Draws task rules box input (draw_keys (Ok keys) ∷ calls) status = Creates task keys rules box input calls status
+Draws _ _ _ _ _ _ = ⊥
 
 -- what ends the run is its status, and no call follows; else the next calls come
 abbrev pub GoesOn : {C : Type 0} → Result ⊤ Status → (List C → Status → Type 0) → List C → Status → Type 0
@@ -74,7 +81,7 @@ abbrev pub Opens : {I O : Type 0} → ReplayTask → Text → Text → List (Cal
 Opens task rules box (open_input path (Err error) ∷ []) status =
     (path ≡ task.paths.input.now) × (status ≡ of_error error)
 Opens task rules box (open_input path (Ok input) ∷ calls) status =
-    (path ≡ task.paths.input.now) × Guards task.paths (Creates task rules box input) calls status
+    (path ≡ task.paths.input.now) × Guards task.paths (Draws task rules box input) calls status
 Opens _ _ _ _ _ = ⊥
 
 -- BOX is read whole

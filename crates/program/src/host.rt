@@ -3,6 +3,7 @@ use crate::identity::FileIdentity;
 use crate::status::Status;
 use clap::Error;
 use engine::{Counts, RunFault};
+use std::hash::RandomState;
 use std::io;
 
 /// What stands around the program: its words, the files by their paths, the run and the judgement
@@ -16,7 +17,7 @@ pub trait Host {
     ghost use Rattle.std.specs.Prelude.{◌≡◌};
     ghost use Rattle.std.specs.Result.{result_map_both};
     ghost use Rattle.clap.specs.Values.{kind_of};
-    ghost use Rattle.program.specs.Calls.{Call, words, read, open_input, identify, create, run, judge, announce, tell, explain, texts_of, bytes_of};
+    ghost use Rattle.program.specs.Calls.{Call, words, read, open_input, identify, draw_keys, create, run, judge, announce, tell, explain, texts_of, bytes_of};
 
     /// A capture open for reading.
     type Input: Drop;
@@ -49,21 +50,27 @@ pub trait Host {
     fn identify(&mut self, path: &str) -> io::Result<FileIdentity>
         ensures { happens self.old (identify path.now result) self.new };
 
+    /// Random keys of the system, by which the hash tables of a run hash.
+    fn draw_keys(&mut self) -> io::Result<RandomState>
+        ensures { happens self.old (draw_keys result) self.new };
+
     /// Creates a file, or empties it, and opens it for writing.
     fn create(&mut self, path: &str) -> io::Result<Self::Output>
         ensures { happens self.old (create path.now result) self.new };
 
     /// Takes the capture through the ruleset on a box, writes what leaves and prints the report,
-    /// with each decision where `trace` says so. Tells whether the capture's end is torn.
+    /// with each decision where `trace` says so. Its hash tables hash by `hasher`. Tells whether the
+    /// capture's end is torn.
     fn run(
         &mut self,
+        hasher: RandomState,
         rules: &[u8],
         plant: &[u8],
         input: &mut Self::Input,
         output: &mut Self::Output,
         trace: bool,
     ) -> Result<bool, RunFault>
-        ensures { happens self.old (run rules.now plant.now input.old input.new output.old output.new trace result) self.new };
+        ensures { happens self.old (run hasher rules.now plant.now input.old input.new output.old output.new trace result) self.new };
 
     /// Judges a ruleset on a box, and counts what it has.
     fn judge(&mut self, rules: &[u8], plant: &[u8]) -> Result<Counts, RunFault>

@@ -20,9 +20,9 @@ const STANDARD_OUTPUT: &str = "/dev/stdout";
 /// Takes the capture IN through the ruleset RULES on the box BOX, and writes OUT.
 ///
 /// RULES and BOX are read whole, IN is opened, OUT is compared with the three of them and with
-/// standard output, and is created last, only if all went well and it is the same regular file as
-/// none of them: a fault before leaves it as it was. The run tells each decision where the task
-/// says so.
+/// standard output, random keys are drawn for the hash tables of the run, and OUT is created last,
+/// only if all went well and it is the same regular file as none of them: a fault before leaves it as
+/// it was. The run tells each decision where the task says so.
 pub fn replay<H: Host>(host: &mut H, task: &ReplayTask<'_>) -> Status
     // These are all calls, in their order, and the status is that of the one that failed, or the run's.
     ensures { (calls : List (Call H.Input H.Output)) × Leads H.happens host.old calls host.new × Replays task.now calls result }
@@ -41,8 +41,9 @@ fn try_replay<H: Host>(host: &mut H, task: &ReplayTask<'_>) -> Result<bool, Stat
     let plant = host.read(paths.plant)?;
     let mut input = host.open(paths.input)?;
     guard_output(host, task)?;
+    let hasher = host.draw_keys()?;
     let mut output = host.create(paths.output)?;
-    let torn = host.run(&rules, &plant, &mut input, &mut output, task.trace)?;
+    let torn = host.run(hasher, &rules, &plant, &mut input, &mut output, task.trace)?;
     Ok(torn)
 }
 

@@ -7,7 +7,9 @@ use clap::Error;
 use engine::{Counts, RunFault};
 use pcap_io::Counted;
 use std::env::{self, Env};
+use std::hash::RandomState;
 use std::os::unix::fs::MetadataExt;
+use std::random::RandomSource;
 use std::rt::Files;
 use std::{fs, io};
 
@@ -17,7 +19,7 @@ struct System<'a, R> {
     rt: &'a R,
 }
 
-impl<R: Env + Files + Print + Eprint + AllocGlobal> Host for System<'_, R> {
+impl<R: Env + Files + Print + Eprint + RandomSource + AllocGlobal> Host for System<'_, R> {
     ghost use Rattle.program.specs.steps.Promised.{Promised};
 
     type Input = Counted<R::File>;
@@ -50,12 +52,17 @@ impl<R: Env + Files + Print + Eprint + AllocGlobal> Host for System<'_, R> {
         })
     }
 
+    fn draw_keys(&mut self) -> io::Result<RandomState> {
+        RandomState::new(self.rt)
+    }
+
     fn create(&mut self, path: &str) -> io::Result<Self::Output> {
         Ok(Counted::new(fs::create(self.rt, path)?))
     }
 
     fn run(
         &mut self,
+        hasher: RandomState,
         rules: &[u8],
         plant: &[u8],
         input: &mut Self::Input,
@@ -65,6 +72,7 @@ impl<R: Env + Files + Print + Eprint + AllocGlobal> Host for System<'_, R> {
         let mut report = Counted::new(io::writer(self.rt));
         let summary = engine::run(
             self.rt.alloc(),
+            hasher,
             rules,
             plant,
             input,
@@ -98,6 +106,6 @@ impl<R: Env + Files + Print + Eprint + AllocGlobal> Host for System<'_, R> {
 }
 
 /// Does what the process's own words ask for, and answers its exit status.
-pub fn start<R: Env + Files + Print + Eprint + AllocGlobal>(rt: &R) -> u8 {
+pub fn start<R: Env + Files + Print + Eprint + RandomSource + AllocGlobal>(rt: &R) -> u8 {
     perform(rt.alloc(), &mut System { rt })
 }

@@ -8,6 +8,7 @@ use nat_mapping::laws::{inbound_is_held, stays_one_to_one};
 use nat_mapping::{MapError, Mappings, Memory};
 use port_pool::Range;
 use std::alloc::Global;
+use std::hash::RandomState;
 use std::process::Abort;
 use std::test::Fail;
 
@@ -23,10 +24,10 @@ fn end(address: u32, port: u16) -> Endpoint {
 }
 
 /// A table that holds nothing.
-fn empty(alloc: Global) -> Mappings
+fn empty(alloc: Global, hasher: RandomState) -> Mappings
     ensures few { (m : Mapped) → holders_of m result.held ≤ 0 }
 {
-    Mappings::new(alloc)
+    Mappings::new(alloc, hasher)
 }
 
 /// Gives an internal endpoint its port at an external address, and holds the mapping to it.
@@ -77,7 +78,7 @@ fn released(table: &mut Mappings, kind: Kind, external: Endpoint, number: usize)
 /// frees it.
 #[test]
 fn one_port_each(rt: HostRuntime) -> Result<(), Fail> {
-    let mut table = empty(rt.alloc());
+    let mut table = empty(rt.alloc(), RandomState::new(&rt)?);
     assert_eq!(rt; table.inbound(Kind::Udp, end(E, 5000)), None);
     assert_eq!(rt;
         held(&mut table, Kind::Udp, end(A, 5000), E, 0)?,
@@ -108,7 +109,7 @@ fn one_port_each(rt: HostRuntime) -> Result<(), Fail> {
 /// Ports of one kind say nothing of those of another; a protocol without ports has one mapping.
 #[test]
 fn kinds_stand_apart(rt: HostRuntime) -> Result<(), Fail> {
-    let mut table = empty(rt.alloc());
+    let mut table = empty(rt.alloc(), RandomState::new(&rt)?);
     let gre = Kind::Other(47);
     assert_eq!(rt;
         held(&mut table, Kind::Udp, end(A, 5000), E, 0)?,
@@ -139,7 +140,7 @@ fn kinds_stand_apart(rt: HostRuntime) -> Result<(), Fail> {
 /// Where all ports of a range are held there is none, but for one who has one already.
 #[test]
 fn a_range_runs_out(rt: HostRuntime) -> Result<(), Fail> {
-    let mut table = empty(rt.alloc());
+    let mut table = empty(rt.alloc(), RandomState::new(&rt)?);
     let one = Some(Range {
         low: 5000,
         high: 5000,
@@ -190,7 +191,7 @@ fn connection<R: Abort + AllocGlobal>(rt: &R, table: &mut Mappings, address: u32
 /// With each call for memory refused in turn.
 #[test]
 fn only_reserving_wants_memory(rt: HostRuntime) -> Result<(), Fail> {
-    let mut table = empty(rt.alloc());
+    let mut table = empty(rt.alloc(), RandomState::new(&rt)?);
     if held(&mut table, Kind::Udp, end(A, 5000), E, 0).is_err() {
         assert_eq!(rt; table.inbound(Kind::Udp, end(E, 5000)), None);
         return Ok(());

@@ -19,6 +19,7 @@ use nft_tree::Ruleset;
 use pcap_io::{Leaving, Record};
 use rule_check::Checked;
 use std::alloc::{AllocError, Global};
+use std::hash::RandomState;
 use std::marker::Model;
 use story::Outcome;
 use translation::laws::names_aside as mappings_aside;
@@ -58,8 +59,9 @@ impl<T: Tracker> Model for Engine<T> {
 
 impl<T: Tracker> Engine<T> {
     /// Before the first record: the rules are compiled, and there is room for what may happen while
-    /// they run. On `Err`, which comes only for want of memory, the ruleset is dropped.
-    pub fn new(alloc: Global, checked: Checked) -> Result<Self, AllocError>
+    /// they run. Its hash tables hash by `hasher`; nothing that it tells depends on the keys. On `Err`,
+    /// which comes only for want of memory, the ruleset is dropped.
+    pub fn new(alloc: Global, hasher: RandomState, checked: Checked) -> Result<Self, AllocError>
         ensures setup { IfOk result (λ engine. engine.setup ≡ setup_of checked) }
         ensures none { IfOk result (λ engine. Stands engine []) }
     {
@@ -69,7 +71,7 @@ impl<T: Tracker> Engine<T> {
         let packet = Vec::with_capacity(alloc, MOST_PACKET_BYTES)?;
         Ok(Engine {
             setup,
-            connections: ConnectionTable::new(alloc, idle),
+            connections: ConnectionTable::new(alloc, hasher, idle),
             records: 0,
             latest: 0,
             events,
@@ -79,12 +81,12 @@ impl<T: Tracker> Engine<T> {
         })
     }
 
-    /// Makes room for what the next record may need. On `Err`, which comes only for want of memory,
-    /// the engine is as it was.
+    /// Makes room for what the next record may need. Where it is there already nothing changes. On `Err`,
+    /// which comes only for want of memory, the engine is as it was.
     pub fn reserve(&mut self) -> Result<(), AllocError>
         ensures ok { OnOk result (self.new ≡ record self.old { ready = true }) }
         ensures err { OnErr result (self.new ≡ self.old) }
-        ensures kept { IsTrue self.old.ready → IsOk result }
+        ensures spared { IsTrue self.old.ready → (self.new ≡ self.old) × IsOk result }
     {
         if self.ready {
             return Ok(());

@@ -26,6 +26,7 @@ mod rows;
 
 use anyhow::Result;
 use rows::{Given, Row, run_over};
+use std::hash::RandomState;
 use std::process::ExitCode;
 use std::{fs, str};
 
@@ -112,11 +113,13 @@ const PACES: [usize; 5] = [1, 2, 3, 5, 7];
 /// Runs a row with these rules, at each pace that it asks for.
 fn try_rules(rt: &HostRuntime, row: &Row<'_>, rules: &[u8], plant: &[u8]) -> Result<()> {
     let capture = row.capture(rt.alloc())?;
-    let given = run_over(rt.alloc(), row, rules, plant, &capture, row.pace);
+    // Drawn anew for each row: no answer depends on them.
+    let hasher = RandomState::new(rt)?;
+    let given = run_over(rt.alloc(), hasher, row, rules, plant, &capture, row.pace);
     compare(rt, row, &given)?;
     if row.slowly {
         for most in &PACES {
-            let given = run_over(rt.alloc(), row, rules, plant, &capture, *most);
+            let given = run_over(rt.alloc(), hasher, row, rules, plant, &capture, *most);
             compare(rt, row, &given)?;
         }
     }

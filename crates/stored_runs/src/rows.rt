@@ -5,6 +5,7 @@ use engine::run;
 use pcap_io::{Counted, Failing, Slow};
 use program::Status;
 use std::alloc::{AllocError, Global};
+use std::hash::RandomState;
 use std::str::SplitWhitespace;
 
 /// The totals of a report, in their order.
@@ -281,6 +282,7 @@ fn rest<'t>(line: &'t str, word: &str) -> &'t str {
 /// many bytes at most.
 pub fn run_over(
     alloc: Global,
+    hasher: RandomState,
     row: &Row<'_>,
     rules: &[u8],
     plant: &[u8],
@@ -292,6 +294,7 @@ pub fn run_over(
     let mut report = Counted::new(Slow::new(Vec::new(alloc), most));
     let answer = run(
         alloc,
+        hasher,
         rules,
         plant,
         &mut reader,

@@ -1,10 +1,13 @@
 //! What tests share: a packet and its records, texts of pieces, runs with slow and failing calls, and the
 //! line of a status.
-use engine::run;
+use engine::{RunFault, run};
 use pcap_io::{Calls, Counted, Failing, Slow};
 use program::Status;
 use std::alloc::Global;
+use std::hash::RandomState;
+use std::io;
 use std::process::Abort;
+use std::random::RandomSource;
 use std::test::Fail;
 
 pub const BOX: &[u8] = b"interface 2 lan 192.168.1.1/24
@@ -65,6 +68,20 @@ pub fn shows<R: Abort + AllocGlobal>(rt: &R, status: Status, line: &str) -> Resu
     Ok(())
 }
 
+/// Leaves bytes as they are, so that the keys are the same in each run.
+struct Fixed;
+
+impl RandomSource for Fixed {
+    fn fill_bytes(&self, _buf: &mut [u8]) -> io::Result<()> {
+        Ok(())
+    }
+}
+
+/// The keys by which tests hash. No answer depends on them.
+pub fn hasher() -> io::Result<RandomState> {
+    RandomState::new(&Fixed)
+}
+
 /// How the reader and the two writers work.
 #[derive(Clone, Copy)]
 pub struct Working {
@@ -116,15 +133,19 @@ pub fn run_over(
     let mut reader = Counted::new(Calls::new(Failing::new(slow, reads)));
     let mut sent = writer(alloc, working, sends);
     let mut report = writer(alloc, working, reports);
-    let answer = run(
-        alloc,
-        rules,
-        plant,
-        &mut reader,
-        &mut sent,
-        &mut report,
-        trace,
-    );
+    let answer = match hasher() {
+        Ok(hasher) => run(
+            alloc,
+            hasher,
+            rules,
+            plant,
+            &mut reader,
+            &mut sent,
+            &mut report,
+            trace,
+        ),
+        Err(_) => Err(RunFault::Device),
+    };
     let status = match answer {
         Ok(summary) => Status::of(Ok(summary.torn)),
         Err(fault) => Status::of(Err(&fault)),

@@ -1,5 +1,5 @@
 //! The connections that an engine lists, whether it keeps them in a plain list or in slots as `run` does.
-use crate::given::{BOX, bytes};
+use crate::given::{BOX, bytes, hasher};
 use aged_tracker::AgedTracker;
 use box_file::Plant;
 use conntrack::{Connection, ListTracker, Tracker};
@@ -130,7 +130,7 @@ fn listed_after<T: Tracker>(alloc: Global, records: &[Sent]) -> Result<Vec<Conne
     let tree = parse(alloc, ROUTER)?;
     let plant = Plant::read(alloc, BOX)?;
     let checked = check(alloc, tree, plant)?;
-    let mut engine: Engine<T> = Engine::new(alloc, checked)?;
+    let mut engine: Engine<T> = Engine::new(alloc, hasher()?, checked)?;
     for &(moment, link, packet) in records {
         let bytes = bytes(alloc, &[link, packet])?;
         if engine.records() < 4_294_967_296 && moment < 4_294_967_296_000_000_000 {

@@ -1,5 +1,5 @@
 //! The program over a host that records its calls, its words, and each line that it can print.
-use crate::given::shows;
+use crate::given::{hasher, shows};
 use box_file::BoxFault;
 use clap::Error;
 use clap::error::ErrorKind;
@@ -11,6 +11,7 @@ use pcap_io::CaptureFault;
 use program::{FileIdentity, Host, Status, perform};
 use rule_check::CheckFault;
 use std::alloc::Global;
+use std::hash::RandomState;
 use std::io;
 use std::process::Abort;
 use std::test::Fail;
@@ -25,7 +26,7 @@ const RUN: &[&str] = &["nftrun", "run", "rules", "box", "in", "out"];
 const CHECK: &[&str] = &["nftrun", "check", "rules", "box"];
 
 /// The calls of a run that succeeds.
-const CALLS: [&str; 11] = [
+const CALLS: [&str; 12] = [
     "words\n",
     "read rules\n",
     "read box\n",
@@ -35,6 +36,7 @@ const CALLS: [&str; 11] = [
     "identify box\n",
     "identify in\n",
     "identify /dev/stdout\n",
+    "draw keys\n",
     "create out\n",
     "run rules box\n",
 ];
@@ -71,7 +73,7 @@ const DONE: Row = Row {
         chains: 2,
         rules: 3,
     }),
-    count: 11,
+    count: 12,
     last: "",
     code: 0,
 };
@@ -143,12 +145,18 @@ impl Host for Recorder {
         })
     }
 
+    fn draw_keys(&mut self) -> io::Result<RandomState> {
+        self.note(&[b"draw keys"])?;
+        hasher()
+    }
+
     fn create(&mut self, path: &str) -> io::Result<()> {
         self.note(&[b"create ", path.as_bytes()])
     }
 
     fn run(
         &mut self,
+        _hasher: RandomState,
         rules: &[u8],
         plant: &[u8],
         _input: &mut (),
@@ -219,7 +227,7 @@ const ROWS: [Row; 20] = [
     DONE,
     Row {
         words: &["nftrun", "run", "--trace", "rules", "box", "in", "out"],
-        count: 10,
+        count: 11,
         last: "run rules box traced\n",
         ..DONE
     },
@@ -284,7 +292,7 @@ const ROWS: [Row; 20] = [
     Row {
         failing: Some((4, io::ErrorKind::NotFound)),
         count: 5,
-        last: "create out\nrun rules box\n",
+        last: "draw keys\ncreate out\nrun rules box\n",
         ..DONE
     },
     Row {
@@ -305,7 +313,7 @@ const ROWS: [Row; 20] = [
         ..DONE
     },
     Row {
-        failing: Some((11, io::ErrorKind::BrokenPipe)),
+        failing: Some((12, io::ErrorKind::BrokenPipe)),
         outcome: Err(RunFault::Device),
         last: "tell nftrun: device\n",
         code: 5,
@@ -344,7 +352,7 @@ fn the_program_makes_these_calls(rt: HostRuntime) -> Result<(), Fail> {
 
 #[test]
 fn no_call_follows_one_that_failed(rt: HostRuntime) -> Result<(), Fail> {
-    for call in 0..11 {
+    for call in 0..12 {
         for (kind, last, code) in [
             (io::ErrorKind::PermissionDenied, "tell nftrun: device\n", 5),
             (io::ErrorKind::OutOfMemory, "tell nftrun: memory\n", 6),

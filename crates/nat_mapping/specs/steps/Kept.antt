@@ -2,8 +2,7 @@
 use Rattle.std.specs.Prelude.{◌≡◌, ℕ, ◌<◌, Bool, true, ◌==◌, List, [], ◌∷◌, ◌++◌, Option, Some, None, is_some}
 use Rattle.std.specs.Prelude.{if◌then◌else◌, replicate}
 use Rattle.std.specs.HashMap.{HashMap, get, IsUnique}
-use Rattle.std.specs.declared.hash.FoldHasher.{FoldHasher}
-use Rattle.std.specs.declared.hash.BuildHasherDefault.{BuildHasherDefault}
+use Rattle.std.specs.declared.random_state.RandomState.{RandomState}
 use Rattle.ip_headers.specs.declared.tuple.Endpoint.{Endpoint}
 use Rattle.ip_headers.specs.declared.tuple.Mapping.{Mapping}
 use Rattle.nat_mapping.specs.declared.keys.SourceKey.{SourceKey}
@@ -17,10 +16,10 @@ use Rattle.nat_mapping.specs.steps.Keys.{source_at, source_key_of}
 use Rattle.nat_mapping.specs.steps.Pooled.{taken_in, IsPooled}
 
 abbrev pub Sources : Type 0
-Sources = HashMap SourceKey Holding (BuildHasherDefault FoldHasher)
+Sources = HashMap SourceKey Holding RandomState
 
 abbrev pub Inbounds : Type 0
-Inbounds = HashMap InboundKey Endpoint (BuildHasherDefault FoldHasher)
+Inbounds = HashMap InboundKey Endpoint RandomState
 
 -- all that is held, by the entries of the table
 unfoldable pub held_by : List (SourceKey × Holding) → List Mapping

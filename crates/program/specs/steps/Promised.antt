@@ -7,10 +7,10 @@ use Rattle.program.specs.Calls.{Call, run, judge}
 
 -- a run and a judgement do what the engine promises; of the other calls nothing is known
 abbrev pub Promised : {I O : Type 0} → (I → Option (List ℕ)) → (O → Option (List ℕ)) → Call I O → Type 0
-Promised remaining contents (run rules box input _ output output' traced (Ok torn)) =
+Promised remaining contents (run _ rules box input _ output output' traced (Ok torn)) =
     IfSome (remaining input) (λ capture. (count : ℕ) × (report : Option (List ℕ)) × (report' : Option (List ℕ))
     × Wrote rules box capture traced count torn (contents output) (contents output') report report')
-Promised remaining contents (run rules box input _ _ _ _ (Err fault)) = Refuses rules box (remaining input) fault
+Promised remaining contents (run _ rules box input _ _ _ _ (Err fault)) = Refuses rules box (remaining input) fault
 Promised remaining contents (judge rules box (Ok counts)) = Judged rules box counts
 Promised remaining contents (judge rules box (Err fault)) = Misjudged rules box fault
 Promised _ _ _ = Unit {0}

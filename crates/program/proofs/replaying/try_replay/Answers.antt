@@ -1,7 +1,7 @@
 -- Each return shows the calls that led to it, and where each stands in its order.
 use Rattle.std.proofs.Common.{[], ◌∷◌, ◌++◌, refl}
 use Rattle.std.proofs.lemmas.Result.{err_from_is_err_and}
-use Rattle.program.specs.Calls.{read, open_input, create, run}
+use Rattle.program.specs.Calls.{read, open_input, draw_keys, create, run}
 use Rattle.program.proofs.Chains.{Leads-append}
 use Rattle.program.proofs.replaying.try_replay.Goals as goal
 
@@ -34,11 +34,11 @@ returns-in_err-guard_output g c =
       (refl, (refl, (refl, looked.2 _ _ _))),
     )
 
-pub returns-in_err-output : goal.returns-in_err-output
-returns-in_err-output g c =
-    let p = err_from_is_err_and c.from_residual-in_err-output.result c.from_residual-in_err-output.ensures.1 in
+pub returns-in_err-hasher : goal.returns-in_err-hasher
+returns-in_err-hasher g c =
+    let p = err_from_is_err_and c.from_residual-in_err-hasher.result c.from_residual-in_err-hasher.ensures.1 in
     let looked = c.in_ok-guard_output.ensures in
-    let later = create _ _ ∷ [] in
+    let later = draw_keys _ ∷ [] in
     rw p.1 (
       read _ _ ∷ read _ _ ∷ open_input _ _ ∷ looked.0 ++ later,
       (
@@ -47,7 +47,26 @@ returns-in_err-output g c =
         (
           _,
           c.in_ok-plant.ensures,
-          (_, c.in_ok-input.ensures, Leads-append g.H.Host.happens _ _ _ looked.0 _ looked.1 (_, c.in_err-output.ensures, refl)),
+          (_, c.in_ok-input.ensures, Leads-append g.H.Host.happens _ _ _ looked.0 _ looked.1 (_, c.in_err-hasher.ensures, refl)),
+        ),
+      ),
+      (refl, (refl, (refl, looked.2 _ _ _ later _ p.2))),
+    )
+
+pub returns-in_err-output : goal.returns-in_err-output
+returns-in_err-output g c =
+    let p = err_from_is_err_and c.from_residual-in_err-output.result c.from_residual-in_err-output.ensures.1 in
+    let looked = c.in_ok-guard_output.ensures in
+    let later = draw_keys _ ∷ create _ _ ∷ [] in
+    rw p.1 (
+      read _ _ ∷ read _ _ ∷ open_input _ _ ∷ looked.0 ++ later,
+      (
+        _,
+        c.in_ok-rules.ensures,
+        (
+          _,
+          c.in_ok-plant.ensures,
+          (_, c.in_ok-input.ensures, Leads-append g.H.Host.happens _ _ _ looked.0 _ looked.1 (_, c.in_ok-hasher.ensures, (_, c.in_err-output.ensures, refl))),
         ),
       ),
       (refl, (refl, (refl, looked.2 _ _ _ later _ (refl, p.2)))),
@@ -57,7 +76,7 @@ pub returns-in_err-torn : goal.returns-in_err-torn
 returns-in_err-torn g c =
     let p = err_from_is_err_and c.from_residual-in_err-torn.result c.from_residual-in_err-torn.ensures.1 in
     let looked = c.in_ok-guard_output.ensures in
-    let later = create _ _ ∷ run _ _ _ _ _ _ _ _ ∷ [] in
+    let later = draw_keys _ ∷ create _ _ ∷ run _ _ _ _ _ _ _ _ _ ∷ [] in
     rw p.1 (
       read _ _ ∷ read _ _ ∷ open_input _ _ ∷ looked.0 ++ later,
       (
@@ -77,7 +96,7 @@ returns-in_err-torn g c =
         refl,
         (
           refl,
-          (refl, looked.2 _ _ _ later _ (refl, (c.deref.ensures.value, c.deref-2.ensures.value, refl, refl, refl, p.2))),
+          (refl, looked.2 _ _ _ later _ (refl, (refl, c.deref.ensures.value, c.deref-2.ensures.value, refl, refl, refl, p.2))),
         ),
       ),
     )
@@ -85,7 +104,7 @@ returns-in_err-torn g c =
 pub returns : goal.returns
 returns g c =
     let looked = c.in_ok-guard_output.ensures in
-    let later = create _ _ ∷ run _ _ _ _ _ _ _ _ ∷ [] in (
+    let later = draw_keys _ ∷ create _ _ ∷ run _ _ _ _ _ _ _ _ _ ∷ [] in (
       read _ _ ∷ read _ _ ∷ open_input _ _ ∷ looked.0 ++ later,
       (
         _,
@@ -104,7 +123,7 @@ returns g c =
         refl,
         (
           refl,
-          (refl, looked.2 _ _ _ later _ (refl, (c.deref.ensures.value, c.deref-2.ensures.value, refl, refl, refl, refl))),
+          (refl, looked.2 _ _ _ later _ (refl, (refl, c.deref.ensures.value, c.deref-2.ensures.value, refl, refl, refl, refl))),
         ),
       ),
     )
