@@ -88,7 +88,7 @@ returns-in_err-torn g c =
           (
             _,
             c.in_ok-input.ensures,
-            Leads-append g.H.Host.happens _ _ _ looked.0 _ looked.1 (_, c.in_ok-output.ensures, (_, c.in_err-torn.ensures, refl)),
+            Leads-append g.H.Host.happens _ _ _ looked.0 _ looked.1 (_, c.in_ok-hasher.ensures, (_, c.in_ok-output.ensures, (_, c.in_err-torn.ensures, refl))),
           ),
         ),
       ),
@@ -115,7 +115,7 @@ returns g c =
           (
             _,
             c.in_ok-input.ensures,
-            Leads-append g.H.Host.happens _ _ _ looked.0 _ looked.1 (_, c.in_ok-output.ensures, (_, c.in_ok-torn.ensures, refl)),
+            Leads-append g.H.Host.happens _ _ _ looked.0 _ looked.1 (_, c.in_ok-hasher.ensures, (_, c.in_ok-output.ensures, (_, c.in_ok-torn.ensures, refl))),
           ),
         ),
       ),
