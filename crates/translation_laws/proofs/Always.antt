@@ -1,5 +1,6 @@
 -- The laws, in every story.
-use Rattle.std.proofs.Common.{◌≡◌, ◌≢◌, ℕ, true, false, IsTrue, List, None, Result, Ok, Err, inl, refl, sym, ap, subst, ◌∙◌}
+use Rattle.std.specs.Prelude.{max}
+use Rattle.std.proofs.Common.{◌≤◌, arith, ◌≡◌, ◌≢◌, ℕ, true, false, IsTrue, List, None, Result, Ok, Err, inl, refl, sym, ap, subst, ◌∙◌}
 use Rattle.std.specs.List.{All, Contains}
 use Rattle.std.proofs.lemmas.List.Elements.{All-contains}
 use Rattle.box_file.specs.Box.{owner}
@@ -11,7 +12,7 @@ use Rattle.nat_mapping.specs.Mappings.{IsOneToOne}
 use Rattle.story.specs.declared.outcome.Cause.{Cause}
 use Rattle.pcap_io.specs.Pcap.{Recorded}
 use Rattle.story.specs.Setup.{Setup}
-use Rattle.story.specs.Story.{Entry}
+use Rattle.story.specs.Story.{Entry, moment_of}
 use Rattle.translation.specs.Mapped.{mappings_in}
 use Rattle.translation.specs.Translating.{has_ports, is_index}
 use Rattle.stepping.specs.Carried.{Arrived}
@@ -123,5 +124,11 @@ module _ (known : Known) (setup : Setup) where
   pub story_obeys : (story : List Entry) → IsStory setup story → StoryLaws setup story
   story_obeys story is = record {
     live = live_always story is;
-    next = λ r e n. record { leaves = leaves_so story is r e n; hairpins = hairpins_so story is r e n };
+    next = λ r e n.
+        let reached : moment_of story ≤ max (moment_of story) r.moment = omega arith in record {
+          given = given_always story is (moment_after story r) reached;
+          lives = lives_always setup story (moment_after story r);
+          leaves = leaves_so story is r e n;
+          hairpins = hairpins_so story is r e n;
+        };
   }

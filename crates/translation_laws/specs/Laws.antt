@@ -30,7 +30,7 @@ use Rattle.story.specs.Story.{Entry, moment_of, tracked_of}
 use Rattle.translation.specs.Mapped.{mappings_in}
 use Rattle.translation.specs.Translating.{has_ports, is_index}
 use Rattle.stepping.specs.Carried.{Arrived, Carries}
-use Rattle.stepping.specs.Next.{Next, live_at_record}
+use Rattle.stepping.specs.Next.{Next, live_at_record, moment_after}
 use Rattle.translation_laws.specs.Stories.{alive_at, latest_choice, listed_at}
 
 -- ==== of the connections that are alive at one time, as they are listed
@@ -189,8 +189,10 @@ pub record LiveLaws (setup : Setup) (story : List Entry) (now : ℕ) (all : List
   pub given : GivenToOne (alive_at setup story now)
   pub lives : LivesOn setup story now
 
--- of the entry of a record after a story
+-- of the entry of a record after a story, and of what is alive when that record comes
 pub record EntryLaws (setup : Setup) (story : List Entry) (r : Recorded) (e : Entry) : Type 0 where
+  pub given : GivenToOne (live_at_record setup story r)
+  pub lives : LivesOn setup story (moment_after story r)
   pub leaves : LeavesTranslated setup story r e
   pub hairpins : Hairpins setup story r e
 
