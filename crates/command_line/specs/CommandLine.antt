@@ -72,3 +72,25 @@ is_well_formed (program ∷ name ∷ rest) =
     bytes_eq name (codes "run") && is_run rest
     || (bytes_eq name (codes "check") && is_check rest || bytes_eq name (codes "explain") && is_explain rest)
 is_well_formed _ = false
+
+-- the words after the program's name ask for explanations: `--explain` stands before any `--`
+abbrev pub has_explain : List Text → Bool
+has_explain [] = false
+has_explain (word ∷ rest) =
+    if bytes_eq word (codes "--") then false else (bytes_eq word (codes "--explain") || has_explain rest)
+
+-- these words without the first `--explain` before any `--`
+abbrev pub without_explain : List Text → List Text
+without_explain [] = []
+without_explain (word ∷ rest) = if bytes_eq word (codes "--") then word ∷ rest
+    else (if bytes_eq word (codes "--explain") then rest else word ∷ without_explain rest)
+
+-- all words ask for explanations
+abbrev pub is_explained : List Text → Bool
+is_explained [] = false
+is_explained (program ∷ rest) = has_explain rest
+
+-- all words, without the one that asks for explanations
+abbrev pub task_words : List Text → List Text
+task_words [] = []
+task_words (program ∷ rest) = program ∷ without_explain rest
