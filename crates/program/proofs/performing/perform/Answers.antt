@@ -1,5 +1,5 @@
 -- The words come first, and then all that is done with them.
-use Rattle.std.proofs.Common.{◌≡◌, ◌∙◌, ◌++◌, Bool, List, [], ◌∷◌, ap, inr, map, refl, string_bytes, subst}
+use Rattle.std.proofs.Common.{◌≡◌, ◌∙◌, ◌++◌, Bool, List, Ok, [], ◌∷◌, ap, inr, map, refl, string_bytes, subst}
 use Rattle.clap.specs.declared.error.kind.ErrorKind.TheVariants.{OutOfMemory}
 use Rattle.command_line.specs.CommandLine.{is_explained, task_words}
 use Rattle.program.specs.Calls.{Text, words}
@@ -24,9 +24,16 @@ returns-in-Ok-slices_of g c =
     let same = ap (map (λ slice. slice.now)) c.deref-in-Ok-slices_of.ensures.value ∙ c.take_explain-explained.ensures.left ∙ ap task_words given in
     let Words : List Text → Type 0 = λ texts. Acts c.take_explain-explained.result texts ends.0 ends.1 ends.2 in
     let Asked : Bool → Type 0 = λ explained. Acts explained (task_words (map string_bytes c.in-Ok.words.items)) ends.0 ends.1 ends.2 in (
-      words _ ∷ acted.0,
+      words (Ok (map string_bytes c.in-Ok.words.items)) ∷ acted.0,
       (_, c.in-Ok.ensures, acted.1),
-      (words _ ∷ ends.0, ends.1, ends.2, subst Asked asked (subst Words same ends.3), ap (λ calls. words _ ∷ calls) ends.4, ends.5),
+      (
+        words (Ok (map string_bytes c.in-Ok.words.items)) ∷ ends.0,
+        ends.1,
+        ends.2,
+        subst Asked asked (subst Words same ends.3),
+        ap (λ calls. words (Ok (map string_bytes c.in-Ok.words.items)) ∷ calls) ends.4,
+        ends.5,
+      ),
     )
 
 pub returns : goal.returns
