@@ -1,5 +1,5 @@
 -- A well-formed list of words has no fault.
-use Rattle.std.proofs.Common.{◌++◌, ◌==◌, ◌≡◌, ◌∙◌, ◌&&◌, inl, inr, ℕ, Bool, cond, codes, true, false, refl, sym, ap, ap₂, subst, List, [], ◌∷◌, Some, None, true≢false}
+use Rattle.std.proofs.Common.{◌++◌, ◌==◌, ◌≡◌, ◌∙◌, ◌&&◌, ◌||◌, inl, inr, ℕ, Bool, cond, codes, true, false, refl, sym, ap, ap₂, subst, List, [], ◌∷◌, Some, None, true≢false}
 use Rattle.std.specs.Prelude.{fold, option_and_then}
 use Rattle.std.specs.Option.{option_map_or}
 use Rattle.std.specs.Str.{bytes_eq}
@@ -12,9 +12,9 @@ use Rattle.clap.specs.Simple.{Shape}
 use Rattle.clap.specs.Faults.{bundle_fault, check_fault, defaults_fault, fault_of, flag_word_fault, level_fault, other_fault, settle_fault, step_fault, walk_fault}
 use Rattle.clap.proofs.OnLiterals.{clap_on_literals}
 use Rattle.clap.proofs.WalkLemmas.{both}
-use Rattle.command_line.specs.CommandLine.{are_four_paths, is_check, is_plain_word, is_run, is_well_formed}
+use Rattle.command_line.specs.CommandLine.{are_four_paths, is_check, is_explain, is_plain_word, is_run, is_well_formed}
 use Rattle.command_line.specs.steps.Program.{program_app}
-use Rattle.command_line.proofs.Reading.{at, check, held1, run, standing}
+use Rattle.command_line.proofs.Reading.{at, check, held1, run, standing, telling}
 use Rattle.command_line.proofs.Rows.{row, told}
 
 dashes_plain : (b : Bool) → (b && false) ≡ false
@@ -160,14 +160,35 @@ run_passes program (word ∷ rest) e = elim (or_cases (bytes_eq word (codes "--t
   | inr plain ↦ paths_pass program (word ∷ rest) plain
 ]
 
+one_plain : (a : Text) → is_plain_word a ≡ true → level_fault telling [] nothing_held (a ∷ []) false [] ≡ []
+unfolding clap_on_literals
+one_plain a pa =
+    let one = plain_turn telling 1 a nothing_held [] pa in
+    let ended : Kinds → Walk → Kinds = λ k w. or_else k (or_else (settle_fault telling.rules telling.args_override_self w.held)
+    (or_else (defaults_fault (settled telling.rules w.held).rows telling.rules) (check_fault telling (finished telling.rules w.held) false))) in
+    ap₂ ended one.0 one.1
+
+telling_passes : (program : Text) (rest : List Text) → is_explain rest ≡ true → fault_of program_app (program ∷ codes "explain" ∷ rest) ≡ []
+unfolding clap_on_literals
+telling_passes program (a ∷ []) e = ap (λ k. or_else k []) (one_plain a e)
+telling_passes program (dashes ∷ a ∷ []) e =
+    let plain : fault_of program_app (program ∷ codes "explain" ∷ codes "--" ∷ a ∷ []) ≡ [] = refl in
+    subst (λ (t : Text). fault_of program_app (program ∷ codes "explain" ∷ t ∷ a ∷ []) ≡ []) (sym ((bytes_eq-Decides dashes (codes "--")).0 e)) plain
+telling_passes program _ e = absurd (true≢false (sym e))
+
 pub words_pass : (words : List Text) → is_well_formed words ≡ true → fault_of program_app words ≡ []
 words_pass [] e = absurd (true≢false (sym e))
 words_pass (program ∷ []) e = absurd (true≢false (sym e))
-words_pass (program ∷ name ∷ rest) e = elim (or_cases (bytes_eq name (codes "run") && is_run rest) (bytes_eq name (codes "check") && is_check rest) e) [
+words_pass (program ∷ name ∷ rest) e = elim (or_cases (bytes_eq name (codes "run") && is_run rest) (bytes_eq name (codes "check") && is_check rest || bytes_eq name (codes "explain") && is_explain rest) e) [
   | inl run_formed ↦
       let p = both (bytes_eq name (codes "run")) (is_run rest) run_formed in
       subst (λ (t : Text). fault_of program_app (program ∷ t ∷ rest) ≡ []) (sym ((bytes_eq-Decides name (codes "run")).0 p.0)) (run_passes program rest p.1)
-  | inr check_formed ↦
-      let p = both (bytes_eq name (codes "check")) (is_check rest) check_formed in
-      subst (λ (t : Text). fault_of program_app (program ∷ t ∷ rest) ≡ []) (sym ((bytes_eq-Decides name (codes "check")).0 p.0)) (check_passes program rest p.1)
+  | inr other ↦ elim (or_cases (bytes_eq name (codes "check") && is_check rest) (bytes_eq name (codes "explain") && is_explain rest) other) [
+    | inl check_formed ↦
+        let p = both (bytes_eq name (codes "check")) (is_check rest) check_formed in
+        subst (λ (t : Text). fault_of program_app (program ∷ t ∷ rest) ≡ []) (sym ((bytes_eq-Decides name (codes "check")).0 p.0)) (check_passes program rest p.1)
+    | inr formed ↦
+        let p = both (bytes_eq name (codes "explain")) (is_explain rest) formed in
+        subst (λ (t : Text). fault_of program_app (program ∷ t ∷ rest) ≡ []) (sym ((bytes_eq-Decides name (codes "explain")).0 p.0)) (telling_passes program rest p.1)
+  ]
 ]

@@ -1,3 +1,4 @@
 pub mod Complete
+pub mod Explaining
 pub mod Reading
 pub mod Rows

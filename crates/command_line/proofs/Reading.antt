@@ -9,7 +9,7 @@ use Rattle.std.specs.List.{list_any, before_first, position_or_len}
 use Rattle.std.proofs.lemmas.List.{take_all}
 use Rattle.clap.specs.Lexer.{has_byte, long_of, long_of_rest, short_of, strip_byte}
 use Rattle.clap.specs.Walk.{Held, Names, Outcome, Row, Rule, Step, Text, Walk, after_flag, after_step, with_values, has_row, one_of, row_text, pushed, settled, settled_rows, used, with_default, subcommand_met, idle, plain, value, trailing, arg_by_index, arg_by_long, arg_by_short, bundle_met, bundle_step, finished, first_of, long_or_other, nothing_held, short_or_plain, subcommand_or_other, to_positional, walk, walk_from, walked}
-use Rattle.clap.specs.Simple.{App, Shape, built, entered, filled, help_rule, names_of, new_shape, subcommand_of, with_index}
+use Rattle.clap.specs.Simple.{App, Shape, built, entered, filled, help_rule, version_rule, names_of, new_shape, subcommand_of, with_index}
 use Rattle.clap.specs.Kinds.{Kinds, check_kinds, or_else}
 use Rattle.clap.specs.Facts.{explicit_source}
 use Rattle.clap.specs.Faults.{bundle_step_fault, check_fault, defaults_fault, entered_fault, fault_of, settle_fault, flag_word_fault, flags_fault, level_fault, long_fault, other_fault, short_fault, step_fault, turn_fault, walk_fault}
@@ -39,7 +39,7 @@ use Rattle.clap.proofs.WalkLemmas.{one_text-rows}
 use Rattle.command_line.specs.CommandLine.{Asks, has_trace, operands, without_trace}
 use Rattle.command_line.specs.steps.Program.{path_rule, program_app, trace_rule}
 use Rattle.command_line.proofs.Rows.{Ends, Rows, appended, appended_anew, ends_told, ends_untold, has_row-at, no_rows, row, row_at, source_of, row_of_path, told, untold, with_input, with_output, with_plant, with_rules, with_told}
-use Rattle.command_line.specs.declared.task.Task.TheVariants.{Run, Check}
+use Rattle.command_line.specs.declared.task.Task.TheVariants.{Run, Check, Explain}
 use Rattle.clap.specs.declared.parser.matches.ValueSource.TheVariants.{CommandLine, DefaultValue}
 
 -- ---- lists of kinds
@@ -125,11 +125,17 @@ run = slice_index_or whole.subs 0 (new_shape [])
 abbrev pub check : Shape
 check = slice_index_or whole.subs 1 (new_shape [])
 
+abbrev pub telling : Shape
+telling = slice_index_or whole.subs 2 (new_shape [])
+
 abbrev pub names : Names
 names = names_of whole
 
 abbrev help : Rule
 help = with_index 1 (filled help_rule)
+
+abbrev version : Rule
+version = with_index 1 (filled version_rule)
 
 help_long : (c : List Rule) (b : Bool) (v : Option Text) (h : Held) → long_fault c false (cond b (Some help) None) v h ≡ [] → ⊥
 help_long c true (Some x) h e = not_nil _ _ e
@@ -140,8 +146,20 @@ help_short : (c : List Rule) (b : Bool) (rest : Text) (h : Held) (next : Held �
 help_short c true rest h next e = not_nil _ _ (then_nil _ _ (first_nil _ _ e))
 help_short c false rest h next e = not_nil _ _ e
 
+shown_long : (c : List Rule) (b d : Bool) (v : Option Text) (h : Held) → long_fault c false (cond b (Some help) (cond d (Some version) None)) v h ≡ [] → ⊥
+shown_long c true d (Some x) h e = not_nil _ _ e
+shown_long c true d None h e = not_nil _ _ (then_nil _ _ e)
+shown_long c false true (Some x) h e = not_nil _ _ e
+shown_long c false true None h e = not_nil _ _ (then_nil _ _ e)
+shown_long c false false v h e = not_nil _ _ e
+
+shown_short : (c : List Rule) (b d : Bool) (rest : Text) (h : Held) (next : Held → Kinds) → short_fault c false (cond b (Some help) (cond d (Some version) None)) rest h next ≡ [] → ⊥
+shown_short c true d rest h next e = not_nil _ _ (then_nil _ _ (first_nil _ _ e))
+shown_short c false true rest h next e = not_nil _ _ (then_nil _ _ (first_nil _ _ e))
+shown_short c false false rest h next e = not_nil _ _ e
+
 top_asks : AsksHelp top
-top_asks x rest h next e = help_short top.rules (104 == x || false) rest h next e
+top_asks x rest h next e = shown_short top.rules (104 == x || false) (86 == x || false) rest h next e
 
 run_asks : AsksHelp run
 run_asks x rest h next e = help_short run.rules (104 == x || false) rest h next e
@@ -149,8 +167,14 @@ run_asks x rest h next e = help_short run.rules (104 == x || false) rest h next 
 check_asks : AsksHelp check
 check_asks x rest h next e = help_short check.rules (104 == x || false) rest h next e
 
+telling_asks : AsksHelp telling
+telling_asks x rest h next e = help_short telling.rules (104 == x || false) rest h next e
+
 top_long : (word : Text) → NoLong top word
-top_long word q h is e = help_long top.rules (bytes_eq (codes "help") q.0 || false) q.1 h e
+top_long word q h is e = shown_long top.rules (bytes_eq (codes "help") q.0 || false) (bytes_eq (codes "version") q.0 || false) q.1 h e
+
+telling_long : (word : Text) → NoLong telling word
+telling_long word q h is e = help_long telling.rules (bytes_eq (codes "help") q.0 || false) q.1 h e
 
 check_long : (word : Text) → NoLong check word
 check_long word q h is e = help_long check.rules (bytes_eq (codes "help") q.0 || false) q.1 h e
@@ -269,6 +293,9 @@ held1 a = at [] (Some (codes "rules", a ∷ []))
 abbrev pub held2 : Text → Text → Held
 held2 a b = at (row (codes "rules") a ∷ []) (Some (codes "plant", b ∷ []))
 
+abbrev pub held_code : Text → Held
+held_code a = at [] (Some (codes "code", a ∷ []))
+
 abbrev pub two : Text → Text → List Row
 two a b = row (codes "rules") a ∷ row (codes "plant") b ∷ []
 
@@ -278,6 +305,9 @@ IsRun ops met rows = (a : Text) × (b : Text) × (c : Text) × (d : Text) × (op
 
 abbrev pub IsCheck : List Text → List Row → Type 0
 IsCheck ops rows = (a : Text) × (b : Text) × (ops ≡ a ∷ b ∷ []) × (rows ≡ two a b)
+
+abbrev pub IsTelling : List Text → List Row → Type 0
+IsTelling ops rows = (a : Text) × (ops ≡ a ∷ []) × (rows ≡ row (codes "code") a ∷ [])
 
 -- where the walk ends with nothing that is required missing, the operands are the values
 abbrev Gives : Shape → (List Text → List Row → Type 0) → List Text → Walk → Type 0
@@ -600,25 +630,40 @@ checked0 t [] e = λ bad. not_nil _ _ bad
 checked0 t (word ∷ rest) e = turn check check_asks [] None 1 t word (check_long word) rest (standing (held1 word) 2) (Gives check IsCheck)
     (λ u. ap (standing (held1 word) 2) (or-false u)) e (checked0 true rest) (λ left _. checked1 word t rest left)
 
+telling1 : (a : Text) (t : Bool) (rest : List Text) → walk_fault telling [] (standing (held_code a) 2 t) rest ≡ []
+    → Gives telling IsTelling (a ∷ operands_from t rest) (end_of telling (standing (held_code a) 2 t) rest)
+telling1 a t [] e = λ _. (a, ap (λ (l : List Text). a ∷ l) (none_left t), refl)
+telling1 a t (word ∷ rest) e = turn telling telling_asks (held_code a).rows (held_code a).pending 2 t word (telling_long word) rest (standing (held_code a) 2) (λ ops w. Gives telling IsTelling (a ∷ ops) w)
+    (λ u. refl) e (telling1 a true rest) (λ _ bad. not_nil _ _ bad)
+
+telling0 : (t : Bool) (rest : List Text) → walk_fault telling [] (standing nothing_held 1 t) rest ≡ []
+    → Gives telling IsTelling (operands_from t rest) (end_of telling (standing nothing_held 1 t) rest)
+telling0 t [] e = λ bad. not_nil _ _ bad
+telling0 t (word ∷ rest) e = turn telling telling_asks [] None 1 t word (telling_long word) rest (standing (held_code word) 2) (Gives telling IsTelling)
+    (λ u. ap (standing (held_code word) 2) (or-false u)) e (telling0 true rest) (λ left _. telling1 word t rest left)
+
 -- ---- all the words
 
--- a word before any subcommand names `run`, `check` or `help`, or no subcommand
+-- a word before any subcommand names `run`, `check`, `explain` or `help`, or no subcommand
 abbrev Named : Text → Option Text → Type 0
 Named word met = ((word ≡ codes "run") × (met ≡ Some (codes "run"))) ⊎ (((word ≡ codes "check") × (met ≡ Some (codes "check")))
-    ⊎ ((met ≡ Some (codes "help")) ⊎ (met ≡ None)))
+    ⊎ (((word ≡ codes "explain") × (met ≡ Some (codes "explain"))) ⊎ ((met ≡ Some (codes "help")) ⊎ (met ≡ None))))
 
-abbrev name_by : Bool → Bool → Bool → Option Text
-name_by r c h = option_map (λ (s : Text × List Text). s.0)
-    (cond (r || false) (Some (codes "run", [])) (cond (c || false) (Some (codes "check", [])) (cond (h || false) (Some (codes "help", [])) None)))
+abbrev name_by : Bool → Bool → Bool → Bool → Option Text
+name_by r c x h = option_map (λ (s : Text × List Text). s.0)
+    (cond (r || false) (Some (codes "run", [])) (cond (c || false) (Some (codes "check", []))
+    (cond (x || false) (Some (codes "explain", [])) (cond (h || false) (Some (codes "help", [])) None))))
 
 met_name : (word : Text) → Named word (subcommand_met names idle word)
-met_name word = go (bytes_eq (codes "run") word) refl (bytes_eq (codes "check") word) refl (bytes_eq (codes "help") word)
+met_name word = go (bytes_eq (codes "run") word) refl (bytes_eq (codes "check") word) refl (bytes_eq (codes "explain") word) refl (bytes_eq (codes "help") word)
   where
-    go : (r : Bool) → bytes_eq (codes "run") word ≡ r → (c : Bool) → bytes_eq (codes "check") word ≡ c → (h : Bool) → Named word (name_by r c h)
-    go true e c f h = inl (sym ((bytes_eq-Decides (codes "run") word).0 e), refl)
-    go false e true f h = inr (inl (sym ((bytes_eq-Decides (codes "check") word).0 f), refl))
-    go false e false f true = inr (inr (inl refl))
-    go false e false f false = inr (inr (inr refl))
+    go : (r : Bool) → bytes_eq (codes "run") word ≡ r → (c : Bool) → bytes_eq (codes "check") word ≡ c
+        → (x : Bool) → bytes_eq (codes "explain") word ≡ x → (h : Bool) → Named word (name_by r c x h)
+    go true e c f x g h = inl (sym ((bytes_eq-Decides (codes "run") word).0 e), refl)
+    go false e true f x g h = inr (inl (sym ((bytes_eq-Decides (codes "check") word).0 f), refl))
+    go false e false f true g h = inr (inr (inl (sym ((bytes_eq-Decides (codes "explain") word).0 g), refl)))
+    go false e false f false g true = inr (inr (inr (inl refl)))
+    go false e false f false g false = inr (inr (inr (inr refl)))
 
 -- what may be at fault once the words are walked
 abbrev later : Walk → Kinds
@@ -640,7 +685,8 @@ first = standing nothing_held 1 false
 
 -- a subcommand's name, the words after it and the rows that it has of them
 abbrev pub IsTask : Text → List Text → List Row → Type 0
-IsTask name rest rows = ((name ≡ codes "run") × IsRun (operands (without_trace rest)) (has_trace rest) rows) ⊎ ((name ≡ codes "check") × IsCheck (operands rest) rows)
+IsTask name rest rows = ((name ≡ codes "run") × IsRun (operands (without_trace rest)) (has_trace rest) rows)
+    ⊎ (((name ≡ codes "check") × IsCheck (operands rest) rows) ⊎ ((name ≡ codes "explain") × IsTelling (operands rest) rows))
 
 -- without a fault the words are a subcommand's name and its values
 abbrev pub Reads : List Text → Option (Text × List Text) → Type 0
@@ -665,7 +711,12 @@ run_reads rest e =
 check_reads : (rest : List Text) → entered_fault whole (Some (codes "check", rest)) ≡ [] → Reads (codes "check" ∷ rest) (Some (codes "check", rest))
 check_reads rest e =
     let level = level_nil check rest e in
-    (codes "check", rest, _, refl, refl, inr (refl, checked0 false rest level.0 level.1))
+    (codes "check", rest, _, refl, refl, inr (inl (refl, checked0 false rest level.0 level.1)))
+
+telling_reads : (rest : List Text) → entered_fault whole (Some (codes "explain", rest)) ≡ [] → Reads (codes "explain" ∷ rest) (Some (codes "explain", rest))
+telling_reads rest e =
+    let level = level_nil telling rest e in
+    (codes "explain", rest, _, refl, refl, inr (inr (refl, telling0 false rest level.0 level.1)))
 
 stray : (rest : List Text) → walk_fault top names (standing nothing_held 1 true) rest ≡ [] → ended (fold (walked top.rules names) (standing nothing_held 1 true) rest) ≡ [] → ⊥
 unfolding walked walk_fault
@@ -704,8 +755,9 @@ words_read (word ∷ rest) e end =
     elim (met_name word) [
       | inl q ↦ task (codes "run") q.0 q.1 (run_reads rest)
       | inr (inl q) ↦ task (codes "check") q.0 q.1 (check_reads rest)
-      | inr (inr (inl q)) ↦ not_nil _ _ (no_other (Some (codes "help")) (subst Q q here))
-      | inr (inr (inr q)) ↦
+      | inr (inr (inl q)) ↦ task (codes "explain") q.0 q.1 (telling_reads rest)
+      | inr (inr (inr (inl q))) ↦ not_nil _ _ (no_other (Some (codes "help")) (subst Q q here))
+      | inr (inr (inr (inr q))) ↦
           let fine = subst Q q here in
           elim (word_is top top_asks 1 word (top_long word) [] None (no_other None fine)) [
             | inl d ↦ absurd (stray rest (subst L d.1 (subst (λ (o : Option Text). L (met o)) q left)) (subst E d.1 (subst (λ (o : Option Text). E (met o)) q end)))
@@ -776,17 +828,28 @@ has_read app words m name rows is fault matches found =
 
 -- the name tells which task it is
 pub is_run_task : (words : List Text) (name : Text) (rows : List Row) (got : HasRead words name rows) → bytes_eq name (codes "check") ≡ false
+    → bytes_eq name (codes "explain") ≡ false
     → (words ≡ got.0 ∷ codes "run" ∷ got.1) × IsRun (operands (without_trace got.1)) (has_trace got.1) rows
-is_run_task words name rows got other = elim got.3 [
+is_run_task words name rows got other last = elim got.3 [
   | inl q ↦ (got.2 ∙ ap (λ (n : Text). got.0 ∷ n ∷ got.1) q.0, q.1)
-  | inr q ↦ absurd (true≢false (subst (λ (n : Text). bytes_eq n (codes "check") ≡ false) q.0 other))
+  | inr (inl q) ↦ absurd (true≢false (subst (λ (n : Text). bytes_eq n (codes "check") ≡ false) q.0 other))
+  | inr (inr q) ↦ absurd (true≢false (subst (λ (n : Text). bytes_eq n (codes "explain") ≡ false) q.0 last))
 ]
 
 pub is_check_task : (words : List Text) (name : Text) (rows : List Row) (got : HasRead words name rows) → bytes_eq name (codes "check") ≡ true
     → (words ≡ got.0 ∷ codes "check" ∷ got.1) × IsCheck (operands got.1) rows
 is_check_task words name rows got same = elim got.3 [
   | inl q ↦ absurd (true≢false (sym (subst (λ (n : Text). bytes_eq n (codes "check") ≡ true) q.0 same)))
-  | inr q ↦ (got.2 ∙ ap (λ (n : Text). got.0 ∷ n ∷ got.1) q.0, q.1)
+  | inr (inl q) ↦ (got.2 ∙ ap (λ (n : Text). got.0 ∷ n ∷ got.1) q.0, q.1)
+  | inr (inr q) ↦ absurd (true≢false (sym (subst (λ (n : Text). bytes_eq n (codes "check") ≡ true) q.0 same)))
+]
+
+pub is_telling_task : (words : List Text) (name : Text) (rows : List Row) (got : HasRead words name rows) → bytes_eq name (codes "explain") ≡ true
+    → (words ≡ got.0 ∷ codes "explain" ∷ got.1) × IsTelling (operands got.1) rows
+is_telling_task words name rows got same = elim got.3 [
+  | inl q ↦ absurd (true≢false (sym (subst (λ (n : Text). bytes_eq n (codes "explain") ≡ true) q.0 same)))
+  | inr (inl q) ↦ absurd (true≢false (sym (subst (λ (n : Text). bytes_eq n (codes "explain") ≡ true) q.0 same)))
+  | inr (inr q) ↦ (got.2 ∙ ap (λ (n : Text). got.0 ∷ n ∷ got.1) q.0, q.1)
 ]
 
 -- the value of a path, by its place in the rows
@@ -839,6 +902,12 @@ pub asks_check : (words rest : List Text) (program a b : Text) (r p : Bor Text) 
 asks_check words rest program a b r p is ops er ep =
     subst (λ (ws : List Text). Asks ws (Check (record { rules = r; plant = p }))) (sym is)
     (refl, ops ∙ λ j. sym er j ∷ sym ep j ∷ [])
+
+pub asks_telling : (words rest : List Text) (program a : Text) (code : Bor Text) → words ≡ program ∷ codes "explain" ∷ rest → operands rest ≡ a ∷ []
+    → code.now ≡ a → Asks words (Explain code)
+asks_telling words rest program a code is ops e =
+    subst (λ (ws : List Text). Asks ws (Explain code)) (sym is)
+    (refl, ops ∙ λ j. sym e j ∷ [])
 
 pub refused : (app : App) (words : List Text) (e : Error) → app ≡ program_app → (is_simple_and_free app ≡ true → HasKind (fault_of app words) e)
     → fault_of program_app words ≡ [] → kind_of e ≡ OutOfMemory

@@ -4,11 +4,14 @@ ghost use Rattle.std.specs.Option.{IsSome};
 ghost use Rattle.clap.specs.Words.{app_of, first_value, found_of, kind_of, rule_of, shape_of};
 ghost use Rattle.clap.specs.declared.builder.command.Command.TheViews.{out-Command};
 ghost use Rattle.command_line.specs.CommandLine.{Asks, is_well_formed};
-ghost use Rattle.command_line.specs.steps.Program.{check_shape, path_rule, paths_shape, program_app, run_shape, trace_rule};
+ghost use Rattle.command_line.specs.steps.Program.{check_shape, explain_shape, path_rule, paths_shape, program_app, run_shape, top_app, trace_rule};
 
 use clap::error::ErrorKind;
 use clap::{Arg, ArgAction, ArgMatches, Command, Error};
 use std::alloc::{AllocError, Global};
+
+/// What `--version` tells.
+const VERSION: &str = "1.0.0";
 
 /// What the words ask for.
 #[derive(Clone, Copy)]
@@ -17,6 +20,8 @@ pub enum Task<'a> {
     Run(ReplayTask<'a>),
     /// `check RULES BOX`: judge a ruleset before it is loaded.
     Check(Texts<'a>),
+    /// `explain CODE`: tell what a code means.
+    Explain(&'a str),
 }
 
 /// A run, as the words ask for it.
@@ -52,7 +57,7 @@ pub struct Texts<'a> {
 /// What the words ask for, of which the first is the program's name.
 ///
 /// The other words are `run` and four paths, in the order RULES, BOX, IN, OUT, or `check` and two,
-/// in the order RULES, BOX. A path that begins with a hyphen stands after a word `--`, which is no
+/// in the order RULES, BOX, or `explain` and a code. A path or a code that begins with a hyphen stands after a word `--`, which is no
 /// path itself; `-` alone is a path. The words of a run may have `--trace` once, at any place before
 /// the first `--`; behind it `--trace` is a path.
 ///
@@ -70,6 +75,9 @@ pub fn read_task<'a>(alloc: Global, words: &'a [&'a str]) -> Result<Task<'a>, Er
             rules: value_of(given, "rules"),
             plant: value_of(given, "plant"),
         }));
+    }
+    if name == "explain" {
+        return Ok(Task::Explain(value_of(given, "code")));
     }
     Ok(Task::Run(ReplayTask {
         trace: given.get_flag("trace"),
@@ -93,11 +101,21 @@ fn value_of<'a>(given: &ArgMatches<'a>, id: &str) -> &'a str
 fn program<'a>(alloc: Global) -> Result<Command<'a>, AllocError>
     ensures { IfOk result (λ c. app_of c ≡ program_app) }
 {
+    top(alloc)
+        .subcommand(run(alloc)?)?
+        .subcommand(check(alloc)?)?
+        .subcommand(explain(alloc)?)
+}
+
+// `--explain` is taken out of the words before they are read, so that help tells of it here.
+fn top<'a>(alloc: Global) -> Command<'a>
+    ensures { app_of result ≡ top_app }
+{
     Command::new(alloc, "nftrun")
         .about("Shows what each packet of a capture would meet in a ruleset of nft(8)")
+        .after_help("With --explain, run and check tell what a fault means, and where it is.")
+        .version(VERSION)
         .subcommand_required(true)
-        .subcommand(run(alloc)?)?
-        .subcommand(check(alloc)?)
 }
 
 fn run<'a>(alloc: Global) -> Result<Command<'a>, AllocError>
@@ -129,6 +147,16 @@ fn check<'a>(alloc: Global) -> Result<Command<'a>, AllocError>
         .about("Judges a ruleset before it is loaded")
         .arg(rules(alloc))?
         .arg(plant(alloc))
+}
+
+fn explain<'a>(alloc: Global) -> Result<Command<'a>, AllocError>
+    ensures shape { IfOk result (λ c. shape_of c ≡ explain_shape) }
+    ensures local { IfOk result (λ c. (out-Command c).has_globals ≡ false) }
+{
+    let code = path(alloc, "code", "CODE", "A code, such as E05, N12, B2 or P4");
+    Command::new(alloc, "explain")
+        .about("Tells what a code means")
+        .arg(code)
 }
 
 fn rules<'a>(alloc: Global) -> Arg<'a>

@@ -3,6 +3,7 @@ use Rattle.std.specs.Prelude.{◌≡◌, ℕ, Bool, List, [], ◌∷◌, Result,
 use Rattle.std.specs.declared.io.Error.{Error}
 use Rattle.std.specs.declared.random_state.RandomState.{RandomState}
 use Rattle.clap.specs.declared.error.kind.ErrorKind.{ErrorKind}
+use Rattle.command_line.specs.declared.task.Task.{Task}
 use Rattle.engine.specs.declared.fault.RunFault.{RunFault}
 use Rattle.engine.specs.declared.judging.Counts.{Counts}
 use Rattle.program.specs.declared.identity.FileIdentity.{FileIdentity}
@@ -35,6 +36,10 @@ pub data Call (Input Output : Type 0) : Type 0 where
   announce : Counts → Result ⊤ Error → Call Input Output
   -- the line of a status
   tell : Status → Call Input Output
+  -- what a status of a task means, and where its fault is
+  clarify : Status → Task → Call Input Output
+  -- what a code means
+  show : Text → Result ⊤ Error → Call Input Output
   -- what clap says of the words
   explain : ErrorKind → Result ⊤ Error → Call Input Output
 

@@ -1,17 +1,17 @@
 -- What the program does: the calls in their order, and the exit status.
-use Rattle.std.specs.Prelude.{◌≡◌, ◌⊎◌, ◌++◌, ℕ, true, List, [], ◌∷◌, Ok, Err, if◌then◌else◌}
+use Rattle.std.specs.Prelude.{◌≡◌, ◌⊎◌, ◌++◌, ◌&&◌, ℕ, Bool, true, false, List, [], ◌∷◌, Ok, Err, if◌then◌else◌}
 use Rattle.clap.specs.declared.error.kind.ErrorKind.{ErrorKind}
 use Rattle.clap.specs.declared.error.kind.ErrorKind.TheVariants.{DisplayHelp, DisplayVersion, OutOfMemory}
-use Rattle.command_line.specs.CommandLine.{Asks, is_well_formed}
-use Rattle.command_line.specs.declared.task.ReplayTask.{ReplayTask}
-use Rattle.command_line.specs.declared.task.Task.TheVariants.{Run, Check}
-use Rattle.command_line.specs.declared.task.Texts.{Texts}
-use Rattle.program.specs.Calls.{Call, Text, words, explain, tell}
+use Rattle.command_line.specs.CommandLine.{Asks, is_explained, is_well_formed, task_words}
+use Rattle.command_line.specs.declared.task.Task.{Task}
+use Rattle.command_line.specs.declared.task.Task.TheVariants.{Run, Check, Explain}
+use Rattle.explanations.specs.Codes.{is_code}
+use Rattle.program.specs.Calls.{Call, Text, words, clarify, explain, show, tell}
 use Rattle.program.specs.Examining.{Examines}
 use Rattle.program.specs.Replaying.{Replays}
 use Rattle.program.specs.Status.{code_of, has_line, of_error, of_words_error}
 use Rattle.program.specs.declared.status.Status.{Status}
-use Rattle.program.specs.declared.status.Status.TheVariants.{Success, Usage, Memory}
+use Rattle.program.specs.declared.status.Status.TheVariants.{Success, Usage, NoCode, Memory}
 
 -- what was asked for is shown with status 0; words that are no task end with the usage's
 abbrev pub shown : ErrorKind → Status
@@ -26,26 +26,42 @@ Explains kind (explain k (Ok _) ∷ []) status = (k ≡ kind) × (status ≡ sho
 Explains kind (explain k (Err error) ∷ []) status = (k ≡ kind) × (status ≡ of_error error)
 Explains _ _ _ = ⊥
 
--- the words ask for a run or for a check, or they are no task; words of the right form are none only where there was
--- no room to grow
-abbrev pub Acts : {I O : Type 0} → List Text → List (Call I O) → Status → Type 0
-Acts given calls status =
-    ((task : ReplayTask) × Asks given (Run task) × Replays task calls status)
-    ⊎ (((texts : Texts) × Asks given (Check texts) × Examines texts calls status)
-    ⊎ ((kind : ErrorKind) × (is_well_formed given ≡ true → kind ≡ OutOfMemory) × Explains kind calls status))
+-- what a code means is shown; another word is none
+abbrev pub Shows : {I O : Type 0} → Text → List (Call I O) → Status → Type 0
+Shows code [] status = (is_code code ≡ false) × (status ≡ NoCode)
+Shows code (show c (Ok _) ∷ []) status = (is_code code ≡ true) × (c ≡ code) × (status ≡ Success)
+Shows code (show c (Err error) ∷ []) status = (is_code code ≡ true) × (c ≡ code) × (status ≡ of_error error)
+Shows _ _ _ = ⊥
 
--- the words are had, and then it is done what they ask for
-abbrev pub Does : {I O : Type 0} → List (Call I O) → Status → Type 0
-Does (words (Err error) ∷ []) status = status ≡ of_words_error error
-Does (words (Ok given) ∷ calls) status = Acts given calls status
-Does _ _ = ⊥
+-- a run, a check, or what a code means
+abbrev pub Serves : {I O : Type 0} → Task → List (Call I O) → Status → Type 0
+Serves (Run task) calls status = Replays task calls status
+Serves (Check texts) calls status = Examines texts calls status
+Serves (Explain code) calls status = Shows code.now calls status
 
 -- the line of a status that has one
 abbrev pub lines_of : {I O : Type 0} → Status → List (Call I O)
 lines_of status = if has_line status then tell status ∷ [] else []
 
--- all that is called, with the line of the status last, and the exit status
+-- with `--explain`, what the status means, where it has a line
+abbrev pub added : {I O : Type 0} → Bool → Task → Status → List (Call I O)
+added explained task status = if explained && has_line status then clarify status task ∷ [] else []
+
+-- what the words ask for is done, or they are no task; words of the right form are none only where there was no room to
+-- grow. `--explain` is in none of these words: all that it does is to add a call, which follows the line
+abbrev pub Acts : {I O : Type 0} → Bool → List Text → List (Call I O) → Status → List (Call I O) → Type 0
+Acts explained given calls status last =
+    ((task : Task) × Asks given task × Serves task calls status × (last ≡ added explained task status))
+    ⊎ ((kind : ErrorKind) × (is_well_formed given ≡ true → kind ≡ OutOfMemory) × Explains kind calls status × (last ≡ []))
+
+-- the words are had, and then it is done what they ask for
+abbrev pub Does : {I O : Type 0} → List (Call I O) → Status → List (Call I O) → Type 0
+Does (words (Err error) ∷ []) status last = (status ≡ of_words_error error) × (last ≡ [])
+Does (words (Ok given) ∷ calls) status last = Acts (is_explained given) (task_words given) calls status last
+Does _ _ _ = ⊥
+
+-- all that is called, with the line of the status and what is added to it last, and the exit status
 abbrev pub Performs : {I O : Type 0} → List (Call I O) → ℕ → Type 0
 Performs {I = I} {O = O} calls code =
-    (before : List (Call I O)) × (status : Status) × Does before status
-    × (calls ≡ before ++ lines_of status) × (code ≡ code_of status)
+    (before : List (Call I O)) × (status : Status) × (last : List (Call I O)) × Does before status last
+    × (calls ≡ before ++ (lines_of status ++ last)) × (code ≡ code_of status)

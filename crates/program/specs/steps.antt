@@ -2,3 +2,4 @@
 pub mod Settled
 pub mod Guarded
 pub mod Promised
+pub mod Ending

@@ -2,7 +2,9 @@
 use crate::identity::FileIdentity;
 use crate::status::Status;
 use clap::Error;
+use command_line::Task;
 use engine::{Counts, RunFault};
+use explanations::Explanation;
 use std::hash::RandomState;
 use std::io;
 
@@ -17,7 +19,7 @@ pub trait Host {
     ghost use Rattle.std.specs.Prelude.{◌≡◌};
     ghost use Rattle.std.specs.Result.{result_map_both};
     ghost use Rattle.clap.specs.Values.{kind_of};
-    ghost use Rattle.program.specs.Calls.{Call, words, read, open_input, identify, draw_keys, create, run, judge, announce, tell, explain, texts_of, bytes_of};
+    ghost use Rattle.program.specs.Calls.{Call, words, read, open_input, identify, draw_keys, create, run, judge, announce, tell, clarify, show, explain, texts_of, bytes_of};
 
     /// A capture open for reading.
     type Input: Drop;
@@ -83,6 +85,15 @@ pub trait Host {
     /// Prints the status's line to standard error. Where it can't, the exit status still tells.
     fn tell(&mut self, status: Status)
         ensures { happens self.old (tell status) self.new };
+
+    /// Prints what the status of a task means to standard error, and where its fault is, as far as
+    /// another look at the task's files shows. A place is a help and no promise.
+    fn clarify(&mut self, status: Status, task: &Task<'_>)
+        ensures { happens self.old (clarify status task.now) self.new };
+
+    /// Prints what a code means to standard output.
+    fn show(&mut self, explanation: &Explanation) -> io::Result<()>
+        ensures { happens self.old (show explanation.now.code.now result) self.new };
 
     /// Prints the usage, or the help that was asked for.
     fn explain(&mut self, error: &Error) -> io::Result<()>

@@ -1,6 +1,7 @@
 //! What the program does with its words, its files and its two outputs.
 #![tactic(auto)]
 
+mod clarifying;
 mod examining;
 mod host;
 mod identity;

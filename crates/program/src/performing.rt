@@ -1,8 +1,10 @@
 //! What the program does.
 ghost use Rattle.std.specs.Prelude.{◌≡◌, List, IfOk, map, string_bytes};
+ghost use Rattle.program.specs.Status.{code_of};
+ghost use Rattle.program.specs.steps.Ending.{Ends};
 ghost use Rattle.clap.specs.Values.{kind_of};
 ghost use Rattle.program.specs.Calls.{Call, Leads};
-ghost use Rattle.program.specs.Performing.{Acts, Does, Explains, Performs, shown};
+ghost use Rattle.program.specs.Performing.{Explains, Performs, Serves, Shows, added, lines_of, shown};
 
 use crate::examining::examine;
 use crate::host::Host;
@@ -10,32 +12,25 @@ use crate::replaying::replay;
 use crate::status::Status;
 use clap::Error;
 use clap::error::ErrorKind;
-use command_line::{Task, read_task};
+use command_line::{Task, read_task, take_explain};
 use std::alloc::{AllocError, Global};
 
-/// Does what the process's words ask for, prints the line of a status that has one, and answers
-/// the exit status.
+/// Does what the process's words ask for, prints the line of a status that has one, behind it what
+/// it means where `--explain` asks for that, and answers the exit status.
 pub fn perform<H: Host>(alloc: Global, host: &mut H) -> u8
-    // These are all calls, in their order, the line last.
+    // These are all calls, in their order, the line and what is added to it last.
     ensures { (calls : List (Call H.Input H.Output)) × Leads H.happens host.old calls host.new × Performs calls result }
-{
-    let status = act(alloc, host);
-    if status.has_line() {
-        host.tell(status);
-    }
-    status.code()
-}
-
-fn act<H: Host>(alloc: Global, host: &mut H) -> Status
-    ensures { (calls : List (Call H.Input H.Output)) × Leads H.happens host.old calls host.new × Does calls result }
 {
     let words = match host.words() {
         Ok(words) => words,
-        Err(error) => return Status::of_words(&error),
+        Err(error) => return end(host, Status::of_words(&error)),
     };
     match slices_of(alloc, &words) {
-        Ok(slices) => act_on(alloc, host, &slices),
-        Err(_) => Status::Memory,
+        Ok(mut slices) => {
+            let explained = take_explain(&mut slices);
+            act(alloc, host, &slices, explained)
+        }
+        Err(_) => end(host, Status::Memory),
     }
 }
 
@@ -49,13 +44,63 @@ fn slices_of<'a>(alloc: Global, words: &'a [String]) -> Result<Vec<&'a str>, All
     Ok(slices)
 }
 
-fn act_on<H: Host>(alloc: Global, host: &mut H, words: &[&str]) -> Status
-    ensures { (calls : List (Call H.Input H.Output)) × Leads H.happens host.old calls host.new × Acts (map (λ w. w.now) words.entry.now) calls result }
+/// Prints the line of a status that has one, and answers its exit status.
+fn end<H: Host>(host: &mut H, status: Status) -> u8
+    ensures { Leads H.happens host.old (lines_of status) host.new × (result ≡ code_of status) }
+{
+    if status.has_line() {
+        host.tell(status);
+    }
+    status.code()
+}
+
+fn act<H: Host>(alloc: Global, host: &mut H, words: &[&str], explained: bool) -> u8
+    ensures { (calls : List (Call H.Input H.Output)) × Leads H.happens host.old calls host.new × Ends explained (map (λ w. w.now) words.entry.now) calls result }
 {
     match read_task(alloc, words) {
-        Ok(Task::Run(task)) => replay(host, &task),
-        Ok(Task::Check(texts)) => examine(host, &texts),
-        Err(error) => explain(host, &error),
+        Ok(task) => {
+            let status = serve(host, &task);
+            let code = end(host, status);
+            clarify(host, explained, status, &task);
+            code
+        }
+        Err(error) => {
+            let status = explain(host, &error);
+            end(host, status)
+        }
+    }
+}
+
+/// Does what a task asks for.
+fn serve<H: Host>(host: &mut H, task: &Task<'_>) -> Status
+    ensures { (calls : List (Call H.Input H.Output)) × Leads H.happens host.old calls host.new × Serves task.now calls result }
+{
+    match task {
+        Task::Run(task) => replay(host, task),
+        Task::Check(texts) => examine(host, texts),
+        Task::Explain(code) => show(host, code),
+    }
+}
+
+/// Says what the status means, where that was asked for and there is a line.
+fn clarify<H: Host>(host: &mut H, explained: bool, status: Status, task: &Task<'_>)
+    ensures { Leads H.happens host.old (added explained task.now status) host.new }
+{
+    if explained && status.has_line() {
+        host.clarify(status, task);
+    }
+}
+
+/// Shows what a code means.
+fn show<H: Host>(host: &mut H, code: &str) -> Status
+    ensures { (calls : List (Call H.Input H.Output)) × Leads H.happens host.old calls host.new × Shows code.now calls result }
+{
+    let Some(explanation) = explanations::explain(code) else {
+        return Status::NoCode;
+    };
+    match host.show(&explanation) {
+        Ok(()) => Status::Success,
+        Err(error) => Status::of_io(&error),
     }
 }
 

@@ -19,6 +19,8 @@ pub enum Status {
     NotText,
     /// OUT leads to the same regular file as RULES, BOX, IN or standard output.
     SameFile,
+    /// The word behind `explain` is no code.
+    NoCode,
     Box(BoxFault),
     Capture(CaptureFault),
     Device,
@@ -77,7 +79,7 @@ impl Status {
         match self {
             Status::Success => 0,
             Status::Rules(_) => 1,
-            Status::Usage | Status::NotText | Status::SameFile => 2,
+            Status::Usage | Status::NotText | Status::SameFile | Status::NoCode => 2,
             Status::Box(_) => 3,
             Status::Capture(_) => 4,
             Status::Device => 5,
@@ -119,6 +121,9 @@ impl fmt::Display for Status {
             Status::NotText => f.write_str("nftrun: usage: a word isn't UTF-8"),
             Status::SameFile => f.write_str(
                 "nftrun: usage: OUT is the same file as RULES, BOX, IN or standard output",
+            ),
+            Status::NoCode => f.write_str(
+                "nftrun: usage: CODE is one of E01 to E06, B1 to B5, N01 to N15, P1 to P5 and P7",
             ),
             Status::Box(fault) => write!(f, "nftrun: box {fault}"),
             Status::Capture(fault) => write!(f, "nftrun: capture {fault}"),

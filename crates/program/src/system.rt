@@ -1,10 +1,13 @@
 //! The system's own files and outputs, and the run and the judgement over them.
+use crate::clarifying::clarify;
 use crate::host::Host;
 use crate::identity::FileIdentity;
 use crate::performing::perform;
 use crate::status::Status;
 use clap::Error;
+use command_line::Task;
 use engine::{Counts, RunFault};
+use explanations::Explanation;
 use pcap_io::Counted;
 use std::env::{self, Env};
 use std::hash::RandomState;
@@ -98,6 +101,18 @@ impl<R: Env + Files + Print + Eprint + RandomSource + AllocGlobal> Host for Syst
     fn tell(&mut self, status: Status) {
         let rt = self.rt;
         let _ = eprintln!(rt; "{status}");
+    }
+
+    fn clarify(&mut self, status: Status, task: &Task<'_>) {
+        clarify(self.rt, status, task);
+    }
+
+    fn show(&mut self, explanation: &Explanation) -> io::Result<()> {
+        let rt = self.rt;
+        println!(rt;
+            "{}: {}\n\n{}",
+            explanation.code, explanation.sentence, explanation.paragraph
+        )
     }
 
     fn explain(&mut self, error: &Error) -> io::Result<()> {

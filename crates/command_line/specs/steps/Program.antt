@@ -26,11 +26,19 @@ check_app = with_rule (with_rule (new_app (codes "check")) (path_rule (codes "ru
 abbrev pub check_shape : Shape
 check_shape = check_app.top
 
+abbrev pub explain_shape : Shape
+explain_shape = (with_rule (new_app (codes "explain")) (path_rule (codes "code"))).top
+
+abbrev pub top_app : App
+top_app = record (new_app (codes "nftrun")) {
+  top = record (new_app (codes "nftrun")).top { subcommand_required = true; has_version = true };
+}
+
 abbrev pub program_app : App
 program_app = with_subcommand
     (with_subcommand
-    (record (new_app (codes "nftrun")) {
-      top = record (new_app (codes "nftrun")).top { subcommand_required = true };
-    })
+    (with_subcommand
+    top_app
     run_shape)
-    check_shape
+    check_shape)
+    explain_shape
