@@ -5,6 +5,7 @@ use clap::Error;
 use clap::error::ErrorKind;
 use command_line::{Task, read_task};
 use engine::{Counts, RulesFault, RunFault};
+use explanations::Explanation;
 use nft_lexer::LexFault;
 use nft_parser::TextFault;
 use pcap_io::CaptureFault;
@@ -20,6 +21,12 @@ const SAME_FILE: &str = "nftrun: usage: OUT is the same file as RULES, BOX, IN o
 
 const TOLD_SAME_FILE: &str =
     "tell nftrun: usage: OUT is the same file as RULES, BOX, IN or standard output\n";
+
+const NO_CODE: &str =
+    "nftrun: usage: CODE is one of E01 to E06, B1 to B5, N01 to N15, P1 to P5 and P7";
+
+const TOLD_NO_CODE: &str =
+    "tell nftrun: usage: CODE is one of E01 to E06, B1 to B5, N01 to N15, P1 to P5 and P7\n";
 
 const RUN: &[&str] = &["nftrun", "run", "rules", "box", "in", "out"];
 
@@ -193,6 +200,21 @@ impl Host for Recorder {
         }
     }
 
+    fn clarify(&mut self, status: Status, task: &Task<'_>) {
+        let name = match task {
+            Task::Run(_) => "run",
+            Task::Check(_) => "check",
+            Task::Explain(_) => "explain",
+        };
+        if let Ok(line) = format!(in self.alloc; "clarify {name} {status}") {
+            let _ = self.note(&[line.as_str().as_bytes()]);
+        }
+    }
+
+    fn show(&mut self, explanation: &Explanation) -> io::Result<()> {
+        self.note(&[b"show ", explanation.code.as_bytes()])
+    }
+
     fn explain(&mut self, error: &Error) -> io::Result<()> {
         match error.exit_code() {
             0 => self.note(&[b"explain help"]),
@@ -223,7 +245,8 @@ fn ends<R: Abort + AllocGlobal>(rt: &R, row: Row) -> Result<(), Fail> {
 /// it reads, or over the report; one whose files are devices; one whose OUT isn't there, and one whose
 /// standard output isn't; words that can't be read; a fault of a run; a line that can't be told, which changes nothing; words that are no
 /// task, and help. A check; one that refuses; a box that can't be read; a line that can't be printed.
-const ROWS: [Row; 20] = [
+/// What a fault means, where there is one and that is asked for; a path `--explain`; what a code means.
+const ROWS: [Row; 27] = [
     DONE,
     Row {
         words: &["nftrun", "run", "--trace", "rules", "box", "in", "out"],
@@ -340,6 +363,51 @@ const ROWS: [Row; 20] = [
         code: 5,
         ..DONE
     },
+    Row {
+        words: &["nftrun", "check", "--explain", "rules", "box"],
+        judged: Err(RunFault::Rules(RulesFault::Check(CheckFault::TooCostly))),
+        last: "judge rules box\ntell nftrun: rules N06\nclarify check nftrun: rules N06\n",
+        code: 1,
+        ..CHECKED
+    },
+    Row {
+        words: &["nftrun", "run", "rules", "box", "--explain", "in", "out"],
+        outcome: Ok(true),
+        last: "tell nftrun: capture torn\nclarify run nftrun: capture torn\n",
+        code: 7,
+        ..DONE
+    },
+    Row {
+        words: &["nftrun", "run", "--explain", "rules", "box", "in", "out"],
+        ..DONE
+    },
+    Row {
+        words: &["nftrun", "check", "--", "--explain", "box"],
+        count: 1,
+        last: "read --explain\nread box\njudge --explain box\nannounce 1 2 3\n",
+        ..CHECKED
+    },
+    Row {
+        words: &["nftrun", "explain", "N12"],
+        count: 1,
+        last: "show N12\n",
+        ..DONE
+    },
+    Row {
+        words: &["nftrun", "explain", "N12"],
+        failing: Some((1, io::ErrorKind::BrokenPipe)),
+        count: 1,
+        last: "show N12\ntell nftrun: device\n",
+        code: 5,
+        ..DONE
+    },
+    Row {
+        words: &["nftrun", "explain", "N16"],
+        count: 1,
+        last: TOLD_NO_CODE,
+        code: 2,
+        ..DONE
+    },
 ];
 
 #[test]
@@ -371,7 +439,7 @@ fn no_call_follows_one_that_failed(rt: HostRuntime) -> Result<(), Fail> {
 }
 
 /// Words, and the paths of the task that they ask for, or the kind and the exit status of the error.
-const WORDS: [(&[&str], Result<&str, (ErrorKind, i32)>); 17] = [
+const WORDS: [(&[&str], Result<&str, (ErrorKind, i32)>); 20] = [
     (&["nftrun", "check", "r", "b"], Ok("r b")),
     (&["nftrun", "check", "--", "-r", "b"], Ok("-r b")),
     (
@@ -417,6 +485,12 @@ const WORDS: [(&[&str], Result<&str, (ErrorKind, i32)>); 17] = [
         &["nftrun", "run", "r"],
         Err((ErrorKind::MissingRequiredArgument, 2)),
     ),
+    (&["nftrun", "explain", "E05"], Ok("E05")),
+    (
+        &["nftrun", "explain"],
+        Err((ErrorKind::MissingRequiredArgument, 2)),
+    ),
+    (&["nftrun", "--version"], Err((ErrorKind::DisplayVersion, 0))),
     (&["nftrun", "--help"], Err((ErrorKind::DisplayHelp, 0))),
     (
         &["nftrun", "run", "--help"],
@@ -441,6 +515,9 @@ fn words_ask_for_a_task_or_are_refused(rt: HostRuntime) -> Result<(), Fail> {
                 let text = format!(in rt.alloc(); "{} {}", texts.rules, texts.plant)?;
                 assert!(&rt; *wanted == Ok(text.as_str()), "{text}");
             }
+            Ok(Task::Explain(code)) => {
+                assert!(&rt; *wanted == Ok(code), "{code}");
+            }
             Err(error) => {
                 assert!(&rt; *wanted == Err((error.kind(), error.exit_code())));
                 let text = format!(in rt.alloc(); "{error}")?;
@@ -453,7 +530,7 @@ fn words_ask_for_a_task_or_are_refused(rt: HostRuntime) -> Result<(), Fail> {
 }
 
 /// Each status, the line that the program can print, and the exit status.
-const STATUSES: [(Status, &str, u8); 26] = [
+const STATUSES: [(Status, &str, u8); 27] = [
     (Status::Success, "nftrun: done", 0),
     (
         Status::Rules(RulesFault::Text(TextFault::Cutting(LexFault::Byte { line: 1 }))),
@@ -498,6 +575,7 @@ const STATUSES: [(Status, &str, u8); 26] = [
     (Status::Usage, "nftrun: usage", 2),
     (Status::NotText, "nftrun: usage: a word isn't UTF-8", 2),
     (Status::SameFile, SAME_FILE, 2),
+    (Status::NoCode, NO_CODE, 2),
     (Status::Box(BoxFault::Form), "nftrun: box B1", 3),
     (Status::Box(BoxFault::Repeated), "nftrun: box B2", 3),
     (Status::Box(BoxFault::UnknownName), "nftrun: box B3", 3),
