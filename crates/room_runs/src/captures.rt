@@ -1,6 +1,6 @@
 //! Captures as pcap-savefile(5) lays them out, read and written.
 use crate::given::{AT_1_5, HEADER, OUT_AT_1_5, OUT_HEADER, PLAIN, bytes, repeated};
-use pcap_io::{Calls, Capture, CaptureError, CaptureFault, Counted, Failing, Leaving, Sink};
+use pcap_io::{Calls, Capture, CaptureError, CaptureFault, Counted, Failing, Leaving, Sink, Slow};
 use std::io::{Read, Write};
 use std::process::Abort;
 use std::test::Fail;
@@ -10,14 +10,21 @@ const EARLIER: &str = "0000000000000000010000000400000045";
 
 /// How many records the capture has, or its first fault, which comes again.
 fn count_records<R: Abort + AllocGlobal>(rt: &R, bytes: &[u8]) -> Result<u64, CaptureError> {
-    let mut reader = Counted::new(bytes);
-    let mut capture = Capture::open(rt.alloc(), &mut reader)?;
+    count_read(rt, &mut Counted::new(bytes))
+}
+
+/// The same of what a reader gives.
+fn count_read<R: Abort + AllocGlobal, I: Read>(
+    rt: &R,
+    reader: &mut Counted<I>,
+) -> Result<u64, CaptureError> {
+    let mut capture = Capture::open(rt.alloc(), reader)?;
     for count in 0..9 {
-        match capture.next(&mut reader) {
+        match capture.next(reader) {
             Ok(true) => {}
             Ok(false) => return Ok(count),
             Err(error) => {
-                assert!(rt; capture.next(&mut reader) == Err(error));
+                assert!(rt; capture.next(reader) == Err(error));
                 assert!(rt; capture.record().is_none());
                 return Err(error);
             }
@@ -73,6 +80,29 @@ fn records_are_counted_or_refused(rt: HostRuntime) -> Result<(), Fail> {
         capture.truncate(length);
         let found = count_records(&rt, &capture);
         assert!(&rt; found == wanted, "byte {place} of {length}");
+    }
+    Ok(())
+}
+
+/// Each read of 9 bytes fails in turn: that is answered, it is answered again, and nothing is read again.
+#[test]
+fn a_read_that_fails_is_told_again(rt: HostRuntime) -> Result<(), Fail> {
+    let capture = bytes(rt.alloc(), &[HEADER, AT_1_5, PLAIN, AT_1_5, PLAIN])?;
+    // 112 bytes take 13 reads, and the end is seen by one more.
+    for fails in 0..15usize {
+        let slow = Slow::new(capture.as_slice(), 9);
+        let mut reader = Counted::new(Calls::new(Failing::new(slow, fails)));
+        let told = count_read(&rt, &mut reader);
+        let wanted = match fails {
+            14 => Ok(2),
+            _ => Err(CaptureError::Device),
+        };
+        assert!(&rt; told == wanted, "read {fails}");
+        let calls = reader.into_inner().calls();
+        assert!(&rt;
+            usize::try_from(calls) == Ok(fails.min(13) + 1),
+            "read {fails}"
+        );
     }
     Ok(())
 }

@@ -22,6 +22,30 @@ fn a_port_is_chosen_taken_and_given(rt: HostRuntime) -> Result<(), Fail> {
     Ok(())
 }
 
+/// Every port of the class and parity of 1024 is taken: none is left for 1024, one for 1025, and one that is
+/// given is found, wherever it lies.
+#[test]
+fn all_ports_of_a_parity_are_taken(rt: HostRuntime) -> Result<(), Fail> {
+    let mut pool = Pool::new(rt.alloc(), Order::Ports)?;
+    for half in 512..32_768u16 {
+        let port = half * 2;
+        assert_eq!(rt; pool.choose(1024, None), Some(port));
+        if !pool.is_taken(port) {
+            pool.take(port);
+        }
+    }
+    assert_eq!(rt; pool.choose(1024, None), None);
+    assert_eq!(rt; pool.choose(65_534, None), None);
+    assert_eq!(rt; pool.choose(1025, None), Some(1025));
+    assert_eq!(rt; pool.choose(1022, None), Some(1022));
+    if pool.is_taken(40_000) {
+        pool.give(40_000);
+    }
+    assert_eq!(rt; pool.choose(1024, None), Some(40_000));
+    assert_eq!(rt; pool.choose(65_534, None), Some(40_000));
+    Ok(())
+}
+
 #[test]
 fn an_identifier_is_chosen_and_taken(rt: HostRuntime) -> Result<(), Fail> {
     let mut pool = Pool::new(rt.alloc(), Order::Identifiers)?;
