@@ -17,7 +17,7 @@ use Rattle.translation.specs.Mapped.{mappings_in}
 use Rattle.translation.specs.Translating.{has_ports, is_index}
 use Rattle.stepping.specs.Carried.{Arrived}
 use Rattle.stepping.specs.Next.{Next, live_at_record, moment_after}
-use Rattle.translation_laws.specs.Stories.{Always, IsStory, alive_at, latest_choice, listed_at}
+use Rattle.translation_laws.specs.Stories.{IsStory, alive_at, latest_choice, listed_at}
 use Rattle.translation_laws.specs.Laws.{AreApart, GivenToOne, Hairpins, KeepsClass, LeavesTranslated, LiveLaws, OneInternal, OnePort, StoryLaws, TurnsBack, WasChosen, mappings_before}
 use Rattle.translation_laws.proofs.Carried.{one_carried}
 use Rattle.translation_laws.proofs.Chosen.{AllChosen, CandidatesAlike, HasClass, chosen_kept, class_kept}
@@ -27,7 +27,7 @@ use Rattle.translation_laws.proofs.Hairpins.{turns_back}
 use Rattle.translation_laws.proofs.Listed.{apart_listed, listed_mapping}
 use Rattle.translation_laws.proofs.Lives.{lives_always}
 use Rattle.translation_laws.proofs.Kept.{MappingLaws, StillApart, after_one, apart_kept, one_to_one_kept}
-use Rattle.translation_laws.proofs.Lifted.{OneEntryMore, lifted, lifted_before}
+use Rattle.translation_laws.proofs.Lifted.{Always, OneEntryMore, lifted, lifted_before}
 use Rattle.translation_laws.proofs.Leaves.{SendingLaws, goes_with}
 use Rattle.translation_laws.proofs.Made.{IsMade, made_kept}
 use Rattle.translation_laws.proofs.Passing.{passes_with}

@@ -14,9 +14,13 @@ use Rattle.story.specs.Story.{Entry, moment_of, tracked_of}
 use Rattle.stepping.specs.declared.sought.Sought.{Sought}
 use Rattle.stepping.specs.Lookups.{sought_of}
 use Rattle.stepping.specs.Next.{Grows, Next, at_moment, live_at_record, moment_after}
-use Rattle.translation_laws.specs.Stories.{Always, IsStory, alive_at}
+use Rattle.translation_laws.specs.Stories.{IsStory, alive_at}
 use Rattle.translation_laws.proofs.Begun.{IsCounted}
 use Rattle.translation_laws.proofs.Follows.{Follows, unseen_so, seen_so, next_follows}
+
+-- what holds in every story at its last moment and at each later one, until another record comes
+abbrev pub Always : Setup → (List Entry → ℕ → Type 0) → Type 0
+Always setup holds = (story : List Entry) → IsStory setup story → (now : ℕ) → moment_of story ≤ now → holds story now
 
 -- what is known of stories with one entry more
 pub record OneEntryMore : Type 0 where

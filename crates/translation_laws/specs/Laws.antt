@@ -33,7 +33,7 @@ use Rattle.stepping.specs.Carried.{Arrived, Carries}
 use Rattle.stepping.specs.Next.{Next, live_at_record, moment_after}
 use Rattle.translation_laws.specs.Stories.{alive_at, latest_choice, listed_at}
 
--- ==== of the connections that are alive at one time, as they are listed
+-- ---- of the connections that are alive at one time, as they are listed
 
 abbrev pub HasIncoming : Connection → Tuple → Type 0
 HasIncoming c t = (c.original ≡ t) ⊎ (c.reply ≡ t)
@@ -73,9 +73,7 @@ abbrev pub WasChosen : List Entry → List Connection → Type 0
 WasChosen story all =
     (c : Connection) (m : Mapping) → Contains all c → HoldsMapping c m → latest_choice m story ≢ None
 
--- ==== of what is alive at a moment after a story
-
--- ---- a packet is given to the connection that has its tuple, and to no other
+-- ---- of what is alive at a moment after a story
 
 -- a lone SYN in direction original ends it
 abbrev pub does_end : Held → Tuple → Flags → Bool
@@ -87,16 +85,16 @@ given_to h t flags =
     if does_end h t flags then Ends h.id
     else (if same_tuple h.original t then Found (place_of h Original) else Found (place_of h Reply))
 
+-- a packet is given to the connection that has its tuple, and to no other
 abbrev pub GivenToOne : List Held → Type 0
 GivenToOne alive =
     (h : Held) (t : Tuple) (flags : Flags) → Contains alive h → IsTrue (is_incoming t h)
     → belongs_in alive t flags ≡ given_to h t flags
 
--- ---- a connection that no lone SYN ended is alive exactly while less than its limit has passed since its last packet
-
 abbrev pub names_of : List Held → List ℕ
 names_of held = map (λ h. h.id.0) held
 
+-- a connection that no lone SYN ended is alive exactly while less than its limit has passed since its last packet
 abbrev pub LivesOn : Setup → List Entry → ℕ → Type 0
 LivesOn setup story now =
     (c : ℕ) → Contains (begun_in (tracked_of story)) c → is_ended c (tracked_of story) ≡ false
@@ -104,27 +102,24 @@ LivesOn setup story now =
     ↔ (now - (connection_in c (tracked_of story)).last
     < limit_of (limits_of setup) (connection_in c (tracked_of story)))
 
--- ==== of the entry of a record after a story
+-- ---- of the entry of a record after a story
 
--- ---- a packet that was given to a connection, and passes, leaves with the way back of that connection's other tuple
-
--- it counts as a packet of that one
+-- what a packet with this tuple is recorded as that counts for this connection
 abbrev pub touch_of : Held → Tuple → What
 touch_of h t = if same_tuple h.original t then Touches h.id.0 Original else Touches h.id.0 Reply
 
+-- it counts for that connection, and leaves with the way back of its other tuple
 pub record GoesWith (h : Held) (t : Tuple) (e : Entry) : Type 0 where
   pub touched : e.tracked.what ≡ touch_of h t
   pub original : same_tuple h.original t ≡ true → tuple_of e.packet ≡ Some (inverse h.reply)
   pub reply : same_tuple h.reply t ≡ true → tuple_of e.packet ≡ Some (inverse h.original)
 
--- of a packet that came with this tuple and was looked up by it
+-- so does a packet that came with a tuple of a live connection, was looked up by it, doesn't end it, and passes
 abbrev pub LeavesTranslated : Setup → List Entry → Recorded → Entry → Type 0
 LeavesTranslated setup story r e =
     (t : Tuple) → e.sought ≡ Some t → (h : Held) → Contains (live_at_record setup story r) h → IsTrue (is_incoming t h)
     → does_end h t e.tracked.flags ≡ false
     → (interface : ℕ) → e.outcome ≡ Passed interface → GoesWith h t e
-
--- ---- hairpinning (RFC 4787, REQ-9; RFC 5382, REQ-8)
 
 abbrev pub is_translation : Decision → Bool
 is_translation (Translate t) = true
@@ -165,7 +160,8 @@ pub record TurnsBack (t : Tuple) (m : Mapping) (mappings : List Mapping) (e : En
   pub left : tuple_of e.packet ≡ Some (turned_back t m port)
 
 -- a packet to the external endpoint of a live mapping of its kind that enters by another interface than the owner of
--- that address, begins a connection without any NAT statement having acted, and passes
+-- that address, begins a connection without any NAT statement having acted, and passes: hairpinning (RFC 4787, REQ-9;
+-- RFC 5382, REQ-8)
 abbrev pub Hairpins : Setup → List Entry → Recorded → Entry → Type 0
 Hairpins setup story r e =
     (a : Arrived) → Carries setup r (Ok a) → (t : Tuple) → e.sought ≡ Some t → has_ports t.kind ≡ true
@@ -175,7 +171,7 @@ Hairpins setup story r e =
     → (interface : ℕ) → e.outcome ≡ Passed interface
     → TurnsBack t m (mappings_before setup story r t e.tracked.flags) e
 
--- ==== together
+-- ---- together
 
 -- of what is alive at a moment after a story, and of the list of it
 pub record LiveLaws (setup : Setup) (story : List Entry) (now : ℕ) (all : List Connection) : Type 0 where

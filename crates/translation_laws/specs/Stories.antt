@@ -1,5 +1,5 @@
 -- What the laws of translation speak of: stories that grow from nothing, and what is alive in them.
-use Rattle.std.specs.Prelude.{◌↔◌, ◌≤◌, ℕ, Bool, false, List, [], ◌∷◌, map, if◌then◌else◌, Option, Some, None}
+use Rattle.std.specs.Prelude.{◌↔◌, ℕ, Bool, false, List, [], ◌∷◌, map, if◌then◌else◌, Option, Some, None}
 use Rattle.ip_headers.specs.declared.tuple.Mapping.{Mapping}
 use Rattle.conntrack.specs.declared.connection.Connection.{Connection}
 use Rattle.conntrack.specs.declared.connection.Held.{Held}
@@ -8,7 +8,7 @@ use Rattle.conntrack.specs.Stories.{begun, live_list}
 use Rattle.nat_mapping.specs.Mappings.{same_mapping}
 use Rattle.pcap_io.specs.Pcap.{Recorded}
 use Rattle.story.specs.Setup.{Setup, limits_of}
-use Rattle.story.specs.Story.{Entry, moment_of, tracked_of}
+use Rattle.story.specs.Story.{Entry, tracked_of}
 use Rattle.stepping.specs.Next.{Grows, Next}
 
 -- the story of some records, from the first one on
@@ -29,10 +29,6 @@ alive_at setup story now = live_list (limits_of setup) (tracked_of story) now
 
 abbrev pub listed_at : Setup → List Entry → ℕ → List Connection
 listed_at setup story now = map connection_of (alive_at setup story now)
-
--- what holds in every story at its last moment and at each later one, until another record comes
-abbrev pub Always : Setup → (List Entry → ℕ → Type 0) → Type 0
-Always setup holds = (story : List Entry) → IsStory setup story → (now : ℕ) → moment_of story ≤ now → holds story now
 
 -- ---- when the port of a mapping was chosen
 
