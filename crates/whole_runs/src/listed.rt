@@ -11,8 +11,9 @@ use std::alloc::Global;
 use std::test::Fail;
 use stepping::Engine;
 
+/// What leaves by `wan` gets a mark for its connection.
 const ROUTER: &[u8] =
-    b"table ip nat { chain post { type nat hook postrouting priority srcnat; oifname \"wan\" masquerade } }";
+    b"table ip nat { chain post { type nat hook postrouting priority srcnat; oifname \"wan\" ct mark set 7 masquerade } }";
 
 /// Cooked headers: by `lan`, and by `wan`.
 const BY_LAN: &str = "0800000000000002000100060200000000010000";
@@ -61,9 +62,14 @@ const BEFORE_THE_LIMIT: u64 = 299_999_999_999;
 
 const AT_THE_LIMIT: u64 = 300_000_000_000;
 
-/// 192.168.1.10:5000 and .11:6000, and the latter's end outside.
+/// 192.168.1.10:5000, .11:5000 and .11:6000, and the last one's end outside.
 const OTHER: Endpoint = Endpoint {
     address: 0xc0a8_010a,
+    port: 5000,
+};
+
+const NEIGHBOUR: Endpoint = Endpoint {
+    address: 0xc0a8_010b,
     port: 5000,
 };
 
@@ -92,10 +98,14 @@ const WEB_SERVER: Endpoint = Endpoint {
     port: 80,
 };
 
-/// The reply tuples of the connections that are listed behind these records, in order of beginning:
-/// whatever it sends to, an internal end has one port outside; another host gets the next port of that
-/// parity, unless the first one's connection is over; a SYN opens a connection anew that was reset.
-const LISTED: [(&[Sent], &[(Kind, Endpoint, u16)]); 4] = [
+/// A connection from inside: its kind, the end that began it and the one that it was sent to, the port
+/// that it has outside and the moment of its last packet.
+type Masqueraded = (Kind, Endpoint, Endpoint, u16, u64);
+
+/// The connections that are listed behind these records, in order of beginning: whatever it sends to, an
+/// internal end has one port outside; another host gets the next port of that parity, unless the first
+/// one's connection is over; a SYN opens a connection anew that was reset.
+const LISTED: [(&[Sent], &[Masqueraded]); 4] = [
     (
         &[
             (0, BY_LAN, FIRST),
@@ -103,25 +113,25 @@ const LISTED: [(&[Sent], &[(Kind, Endpoint, u16)]); 4] = [
             (0, BY_LAN, OF_ANOTHER),
         ],
         &[
-            (Kind::Udp, NAME_SERVER, 5000),
-            (Kind::Udp, OTHER_SERVER, 5000),
-            (Kind::Udp, NAME_SERVER, 5002),
+            (Kind::Udp, OTHER, NAME_SERVER, 5000, 0),
+            (Kind::Udp, OTHER, OTHER_SERVER, 5000, 0),
+            (Kind::Udp, NEIGHBOUR, NAME_SERVER, 5002, 0),
         ],
     ),
     (
         &[(0, BY_LAN, FIRST), (BEFORE_THE_LIMIT, BY_LAN, OF_ANOTHER)],
         &[
-            (Kind::Udp, NAME_SERVER, 5000),
-            (Kind::Udp, NAME_SERVER, 5002),
+            (Kind::Udp, OTHER, NAME_SERVER, 5000, 0),
+            (Kind::Udp, NEIGHBOUR, NAME_SERVER, 5002, BEFORE_THE_LIMIT),
         ],
     ),
     (
         &[(0, BY_LAN, FIRST), (AT_THE_LIMIT, BY_LAN, OF_ANOTHER)],
-        &[(Kind::Udp, NAME_SERVER, 5000)],
+        &[(Kind::Udp, NEIGHBOUR, NAME_SERVER, 5000, AT_THE_LIMIT)],
     ),
     (
-        &[(0, BY_LAN, SYN), (0, BY_WAN, REFUSED), (0, BY_LAN, SYN)],
-        &[(Kind::Tcp, WEB_SERVER, 5000)],
+        &[(0, BY_LAN, SYN), (1, BY_WAN, REFUSED), (2, BY_LAN, SYN)],
+        &[(Kind::Tcp, OTHER, WEB_SERVER, 5000, 2)],
     ),
 ];
 
@@ -152,21 +162,40 @@ fn between(kind: Kind, source: Endpoint, destination: Endpoint) -> Tuple {
     }
 }
 
+/// The connection of a host inside that is masqueraded.
+fn masqueraded(connection: Masqueraded) -> Connection {
+    let (kind, internal, peer, port, last) = connection;
+    let external = Endpoint { port, ..OUTSIDE };
+    Connection {
+        original: between(kind, internal, peer),
+        reply: between(kind, peer, external),
+        mark: 7,
+        last,
+        source: Some(Mapping {
+            kind,
+            internal,
+            external,
+        }),
+        dest: None,
+    }
+}
+
 /// Whether just these are listed, in this order.
-fn are_listed(all: &[Connection], replies: &[(Kind, Endpoint, u16)]) -> bool {
-    all.len() == replies.len()
-        && all.iter().zip(replies).all(|(connection, &(kind, peer, port))| {
-            connection.reply == between(kind, peer, Endpoint { port, ..OUTSIDE })
-        })
+fn are_listed(all: &[Connection], expected: &[Masqueraded]) -> bool {
+    all.len() == expected.len()
+        && all
+            .iter()
+            .zip(expected)
+            .all(|(connection, &told)| *connection == masqueraded(told))
 }
 
 #[test]
 fn live_connections_are_listed(rt: HostRuntime) -> Result<(), Fail> {
-    for (records, replies) in &LISTED {
+    for (records, expected) in &LISTED {
         let in_a_list = listed_after::<ListTracker>(rt.alloc(), records)?;
-        assert!(rt; are_listed(&in_a_list, replies));
+        assert!(rt; are_listed(&in_a_list, expected));
         let in_slots = listed_after::<AgedTracker>(rt.alloc(), records)?;
-        assert!(rt; are_listed(&in_slots, replies));
+        assert!(rt; are_listed(&in_slots, expected));
     }
     Ok(())
 }
