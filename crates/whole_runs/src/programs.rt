@@ -5,6 +5,7 @@ use clap::Error;
 use clap::error::ErrorKind;
 use command_line::{Task, read_task};
 use engine::{Counts, RulesFault, RunFault};
+use explanations::Explanation;
 use nft_lexer::LexFault;
 use nft_parser::TextFault;
 use pcap_io::CaptureFault;
@@ -185,6 +186,21 @@ impl Host for Recorder {
         }
     }
 
+    fn clarify(&mut self, status: Status, task: &Task<'_>) {
+        let name: &[u8] = match task {
+            Task::Run(_) => b"run",
+            Task::Check(_) => b"check",
+            Task::Explain(_) => b"explain",
+        };
+        if let Ok(line) = format!(in self.alloc; "{status}") {
+            let _ = self.note(&[b"clarify ", name, b" ", line.as_str().as_bytes()]);
+        }
+    }
+
+    fn show(&mut self, explanation: &Explanation) -> io::Result<()> {
+        self.note(&[b"show ", explanation.code.as_bytes()])
+    }
+
     fn explain(&mut self, error: &Error) -> io::Result<()> {
         match error.exit_code() {
             0 => self.note(&[b"explain help"]),
@@ -215,7 +231,7 @@ fn ends<R: Abort + AllocGlobal>(rt: &R, row: Row) -> Result<(), Fail> {
 /// it reads, or over the report; one whose files are devices; one whose OUT isn't there, and one whose
 /// standard output isn't; words that can't be read; a fault of a run; a line that can't be told, which changes nothing; words that are no
 /// task, and help. A check; one that refuses; a box that can't be read; a line that can't be printed.
-const ROWS: [Row; 20] = [
+const ROWS: [Row; 24] = [
     DONE,
     Row {
         words: &["nftrun", "run", "--trace", "rules", "box", "in", "out"],
@@ -229,6 +245,30 @@ const ROWS: [Row; 20] = [
         last: "judge rules box\ntell nftrun: rules N06\n",
         code: 1,
         ..CHECKED
+    },
+    Row {
+        words: &["nftrun", "check", "--explain", "rules", "box"],
+        judged: Err(RunFault::Rules(RulesFault::Check(CheckFault::TooCostly))),
+        last: "judge rules box\ntell nftrun: rules N06\nclarify check nftrun: rules N06\n",
+        code: 1,
+        ..CHECKED
+    },
+    Row {
+        words: &["nftrun", "check", "rules", "--explain", "box"],
+        ..CHECKED
+    },
+    Row {
+        words: &["nftrun", "explain", "N06"],
+        count: 1,
+        last: "show N06\n",
+        ..DONE
+    },
+    Row {
+        words: &["nftrun", "explain", "N16"],
+        count: 1,
+        last: "tell nftrun: usage: CODE is one of E01 to E06, B1 to B5, N01 to N15, P1 to P5 and P7\n",
+        code: 2,
+        ..DONE
     },
     Row {
         failing: Some((2, io::ErrorKind::NotFound)),
@@ -363,7 +403,7 @@ fn no_call_follows_one_that_failed(rt: HostRuntime) -> Result<(), Fail> {
 }
 
 /// Words, and the paths of the task that they ask for, or the kind and the exit status of the error.
-const WORDS: [(&[&str], Result<&str, (ErrorKind, i32)>); 17] = [
+const WORDS: [(&[&str], Result<&str, (ErrorKind, i32)>); 19] = [
     (&["nftrun", "check", "r", "b"], Ok("r b")),
     (&["nftrun", "check", "--", "-r", "b"], Ok("-r b")),
     (
@@ -409,6 +449,11 @@ const WORDS: [(&[&str], Result<&str, (ErrorKind, i32)>); 17] = [
         &["nftrun", "run", "r"],
         Err((ErrorKind::MissingRequiredArgument, 2)),
     ),
+    (&["nftrun", "explain", "N12"], Ok("N12")),
+    (
+        &["nftrun", "--version"],
+        Err((ErrorKind::DisplayVersion, 0)),
+    ),
     (&["nftrun", "--help"], Err((ErrorKind::DisplayHelp, 0))),
     (
         &["nftrun", "run", "--help"],
@@ -432,6 +477,9 @@ fn words_ask_for_a_task_or_are_refused(rt: HostRuntime) -> Result<(), Fail> {
             Ok(Task::Check(texts)) => {
                 let text = format!(in rt.alloc(); "{} {}", texts.rules, texts.plant)?;
                 assert!(&rt; *wanted == Ok(text.as_str()), "{text}");
+            }
+            Ok(Task::Explain(code)) => {
+                assert!(&rt; *wanted == Ok(code), "{code}");
             }
             Err(error) => {
                 assert!(&rt; *wanted == Err((error.kind(), error.exit_code())));
