@@ -7,6 +7,7 @@ mod host;
 mod identity;
 mod performing;
 mod replaying;
+mod searching;
 mod status;
 mod system;
 

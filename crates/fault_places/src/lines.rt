@@ -1,0 +1,43 @@
+//! The lines of a box file.
+ghost use Rattle.std.specs.Prelude.{◌≤◌, IfOk, length};
+ghost use Rattle.fault_places.specs.Within.{AllWithin};
+
+use crate::parts::{Level, Span, has_at};
+use std::alloc::{AllocError, Global};
+
+/// Whether a line is sought: an `interface` line is a declaration, and what is neither that nor the
+/// `default` line stands for a rule.
+fn is_sought(text: &[u8], level: Level, start: usize) -> bool {
+    let declares = has_at(text, start, b"interface");
+    match level {
+        Level::Rules => !declares && !has_at(text, start, b"default"),
+        Level::Declarations => declares,
+    }
+}
+
+/// The lines of a box file that stand for rules, or its `interface` lines, in their order.
+///
+/// # Errors
+/// `AllocError` where there is no room to grow.
+pub fn box_lines(alloc: Global, text: &[u8], level: Level) -> Result<Vec<Span>, AllocError>
+    // Each lies within the text.
+    ensures { IfOk result (λ parts. AllWithin (length text.entry.now) parts.items) }
+{
+    let mut parts = Vec::new(alloc);
+    let mut start = 0;
+    for (place, byte) in text.iter().enumerate() {
+        if *byte == b'\n' {
+            if is_sought(text, level, start) {
+                parts.push(Span { start, end: place })?;
+            }
+            start = place + 1;
+        }
+    }
+    if start < text.len() && is_sought(text, level, start) {
+        parts.push(Span {
+            start,
+            end: text.len(),
+        })?;
+    }
+    Ok(parts)
+}

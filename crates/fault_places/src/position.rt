@@ -1,0 +1,53 @@
+//! The line and the column of an offset.
+ghost use Rattle.std.specs.Prelude.{◌≡◌, ◌≤◌, ◌+◌, length};
+
+/// Where an offset stands in a text, and the line that has it.
+#[derive(Clone, Copy)]
+pub struct Position {
+    /// The number of the line, from 1.
+    pub line: usize,
+    /// The column in bytes, from 1.
+    pub column: usize,
+    /// The offsets at which the line begins and ends.
+    pub start: usize,
+    pub end: usize,
+}
+
+/// The position of an offset of a text.
+pub fn place_at(text: &[u8], offset: usize) -> Position
+    requires { offset ≤ length text.now }
+    ensures begins { result.start ≤ offset }
+    ensures ends { result.end ≤ length text.now }
+    ensures ordered { result.start ≤ result.end }
+    ensures lines { result.line ≤ offset + 1 }
+    ensures columns { result.start + result.column ≡ offset + 1 }
+{
+    let mut line = 0;
+    let mut start = 0;
+    for place in 0..offset {
+        if text[place] == b'\n' {
+            line += 1;
+            start = place + 1;
+        }
+    }
+    Position {
+        line: line + 1,
+        column: offset - start + 1,
+        start,
+        end: line_end(text, offset),
+    }
+}
+
+// The offset at which the line that has this offset ends.
+fn line_end(text: &[u8], offset: usize) -> usize
+    requires { offset ≤ length text.now }
+    ensures within { result ≤ length text.now }
+    ensures behind { offset ≤ result }
+{
+    for place in offset..text.len() {
+        if text[place] == b'\n' {
+            return place;
+        }
+    }
+    text.len()
+}
