@@ -490,7 +490,10 @@ const WORDS: [(&[&str], Result<&str, (ErrorKind, i32)>); 20] = [
         &["nftrun", "explain"],
         Err((ErrorKind::MissingRequiredArgument, 2)),
     ),
-    (&["nftrun", "--version"], Err((ErrorKind::DisplayVersion, 0))),
+    (
+        &["nftrun", "--version"],
+        Err((ErrorKind::DisplayVersion, 0)),
+    ),
     (&["nftrun", "--help"], Err((ErrorKind::DisplayHelp, 0))),
     (
         &["nftrun", "run", "--help"],
