@@ -45,6 +45,4 @@ loop-rest-preserved c =
 pub returns : goal.returns
 returns c =
     let tree : Bor Chain → ChainTree = λ b. chain_tree b.now in
-    let now = c.loop-rest.code in
-    let stands = chains_all c.args.plant.now c.args.table c.args.names.now _ now (ap (map tree) (nothing_left c.loop-rest.rest.now c.in_default.len_below)) c.loop-rest.invariant.placed in
-    subst (λ s. IsTableCode c.args.plant.now c.args.table c.args.names.now (record { steps = s; places = now.places; lookups = now.lookups })) (sym c.index.ensures) stands
+    chains_all c.args.plant.now c.args.table c.args.names.now _ c.loop-rest.code (ap (map tree) (nothing_left c.loop-rest.rest.now c.in_default.len_below)) c.loop-rest.invariant.placed
