@@ -6,7 +6,7 @@ use Rattle.nft_tree.specs.Tree.{ChainTree, RuleTree, chain_tree, rule_tree}
 use Rattle.nft_tree.specs.Parts.{chains_of}
 use Rattle.rule_meaning.specs.Runs.{named}
 use Rattle.filter_vm.specs.declared.code.TableCode.{TableCode}
-use Rattle.compiler.specs.Placed.{RulesAt, IsTableCode}
+use Rattle.compiler.specs.Placed.{RulesAt}
 use Rattle.compiler.specs.steps.Adding.{Adds}
 use Rattle.compiler.proofs.AddLaws.{declared_kept, nothing_left, none_later}
 use Rattle.compiler.proofs.TableLaws.{chain_misfits, chain_rules_wrong, types_free, bounds_free, chains_none, chains_more, chains_all}
