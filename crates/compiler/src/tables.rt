@@ -8,7 +8,7 @@ ghost use Rattle.compiler.specs.Placed.{AreTableCodes, IsTableCode};
 
 use crate::rules::{add_rules, short};
 use box_file::Plant;
-use filter_vm::{Steps, TableCode};
+use filter_vm::{IndexedTable, Steps, TableCode};
 use lowering::declared;
 use rule_meaning::ChainNo;
 use rule_names::TableNames;
@@ -40,7 +40,6 @@ fn table_code(
         add_rules(alloc, plant, names, number, &chain.rules, &mut code)?;
         rest = others;
     }
-    code.steps.index(alloc)?;
     Ok(code)
 }
 
@@ -49,7 +48,7 @@ pub(crate) fn table_codes(
     alloc: Global,
     plant: &Plant,
     names: &[TableNames],
-) -> Result<Vec<TableCode>, AllocError>
+) -> Result<Vec<IndexedTable>, AllocError>
     requires types { list_any table_misfits names.now ≡ false }
     requires bounds { list_any (has_wrong_value plant.now) names.now ≡ false }
     ensures { IfOk result (λ codes. AreTableCodes plant.now names.now codes.items) }
@@ -58,7 +57,8 @@ pub(crate) fn table_codes(
     let mut rest = names;
     while let [table, others @ ..] = rest {
         let number = short(codes.len())?;
-        codes.push(table_code(alloc, plant, table, number)?)?;
+        let code = table_code(alloc, plant, table, number)?;
+        codes.push(IndexedTable::new(alloc, code)?)?;
         rest = others;
     }
     Ok(codes)

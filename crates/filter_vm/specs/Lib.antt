@@ -1,3 +1,4 @@
 pub mod Listed
+pub mod Actions
 pub mod Machine
 pub mod steps

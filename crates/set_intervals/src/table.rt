@@ -74,6 +74,13 @@ impl<V: Copy + Eq> Intervals<V> {
         find_in(&self.pieces, key)
     }
 
+    /// Its ranges with their values.
+    pub fn pieces(&self) -> &[(Range, V)]
+        ensures { result.now ≡ self.now }
+    {
+        &self.pieces
+    }
+
     /// The number of runs: neighbours with the same value are one, however many pairs gave them.
     pub fn count(&self) -> usize
         ensures { HasRuns self.now result }

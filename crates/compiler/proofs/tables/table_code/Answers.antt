@@ -6,7 +6,7 @@ use Rattle.nft_tree.specs.Tree.{ChainTree, RuleTree, chain_tree, rule_tree}
 use Rattle.nft_tree.specs.Parts.{chains_of}
 use Rattle.rule_meaning.specs.Runs.{named}
 use Rattle.filter_vm.specs.declared.code.TableCode.{TableCode}
-use Rattle.compiler.specs.Placed.{RulesAt, IsTableCode}
+use Rattle.compiler.specs.Placed.{RulesAt}
 use Rattle.compiler.specs.steps.Adding.{Adds}
 use Rattle.compiler.proofs.AddLaws.{declared_kept, nothing_left, none_later}
 use Rattle.compiler.proofs.TableLaws.{chain_misfits, chain_rules_wrong, types_free, bounds_free, chains_none, chains_more, chains_all}
@@ -45,6 +45,4 @@ loop-rest-preserved c =
 pub returns : goal.returns
 returns c =
     let tree : Bor Chain → ChainTree = λ b. chain_tree b.now in
-    let now = c.loop-rest.code in
-    let stands = chains_all c.args.plant.now c.args.table c.args.names.now _ now (ap (map tree) (nothing_left c.loop-rest.rest.now c.in_default.len_below)) c.loop-rest.invariant.placed in
-    subst (λ s. IsTableCode c.args.plant.now c.args.table c.args.names.now (record { steps = s; places = now.places; lookups = now.lookups })) (sym c.index.ensures) stands
+    chains_all c.args.plant.now c.args.table c.args.names.now _ c.loop-rest.code (ap (map tree) (nothing_left c.loop-rest.rest.now c.in_default.len_below)) c.loop-rest.invariant.placed

@@ -17,9 +17,10 @@ loop-rest-preserved c =
     let types = ap (list_any table_misfits) (sym is) ∙ c.loop-rest.invariant.types in
     let bounds = ap (list_any (has_wrong_value c.args.plant.now)) (sym is) ∙ c.loop-rest.invariant.bounds in
     let number : c.in_ok-number.number ≡ length c.loop-rest.codes.items = c.in_ok-number.ensures ∙ c.len.ensures ∙ c.loop-rest.codes.ok.0 in
-    let stands = subst (λ n. IsTableCode c.args.plant.now n c.table-item.result c.in_ok-table_code.field-0) number c.in_ok-table_code.ensures in
+    let stands = subst (λ n. IsTableCode c.args.plant.now n c.table-item.result c.in_ok-code.code) number c.in_ok-code.ensures in
+    let indexed = subst (λ t. IsTableCode c.args.plant.now (length c.loop-rest.codes.items) c.table-item.result t) (sym c.in_ok-new.ensures) stands in
     record {
-      made = tables_more c.args.plant.now c.args.names.now rest others c.table-item.result c.loop-rest.codes.items _ c.in_ok-table_code.field-0 is c.in_ok-push.ensures.items stands c.loop-rest.invariant.made;
+      made = tables_more c.args.plant.now c.args.names.now rest others c.table-item.result c.loop-rest.codes.items _ c.in_ok-new.field-0 is c.in_ok-push.ensures.items indexed c.loop-rest.invariant.made;
       types = none_later _ _ types;
       bounds = none_later _ _ bounds;
     }

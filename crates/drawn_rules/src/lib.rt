@@ -1,0 +1,12 @@
+//! Rulesets drawn by chance, whose rules in line are sought and then tried one by one: each packet
+//! meets the same.
+#![tactic(auto)]
+
+#[cfg(test)]
+mod dice;
+#[cfg(test)]
+mod packets;
+#[cfg(test)]
+mod rules;
+#[cfg(test)]
+mod runs;
