@@ -17,7 +17,7 @@ use Rattle.aged_tracker.specs.declared.slot.Link.{Link}
 use Rattle.aged_tracker.specs.declared.slot.Slot.{Slot}
 use Rattle.aged_tracker.specs.declared.slot.Thread.{Thread}
 use Rattle.aged_tracker.specs.declared.slot.Thread.TheVariants.{Queues, Order}
-use Rattle.aged_tracker.specs.steps.Rings.{knot_of, held_of, held_at, held_in, link_by, owner_by, owner_of, lists_of, IsRings, Lists, Unlinks, Pushes, SameAside, SameLists}
+use Rattle.aged_tracker.specs.steps.Rings.{MOST_KEYS, knot_of, held_of, held_at, held_in, link_by, owner_by, owner_of, lists_of, IsRings, Lists, Unlinks, Pushes, SameAside, SameLists}
 use Rattle.aged_tracker.specs.steps.Table.{queue_of, keys_in, owner_in, slots_of, order_of, queues_of, held_by, IsTable, IsLinked, IsOldest, Sets}
 use Rattle.aged_tracker.proofs.Kept.{same_rings, same_lists, held_aside, rings_aside, lists_aside, rings_off, lists_off}
 use Rattle.aged_tracker.proofs.Tables.{held_touched}
@@ -42,6 +42,14 @@ sets_through a b c d key slot before sets after =
       others = λ k differs. after k ∙ sets.others k differs ∙ before k;
     }
 
+-- a slot's key is below a bound that all keys in use were below
+pub few_kept : (most : ℕ) (old new : ℕ → Option Held) (key : ℕ) (slot : Option Held) → Sets old new key slot → key < most → ((k : ℕ) → IsSome (old k) → k < most) → (k : ℕ) → IsSome (new k) → k < most
+few_kept most old new key slot sets below few k is =
+    elim (cases_eq k key) [
+      | inl e ↦ omega (arith, e, below)
+      | inr d ↦ few k (subst IsSome (sets.others k d) is)
+    ]
+
 pub slot_by : (slots : Slab Slot) (key : ℕ) → IsSome (held_at slots key) → IsSome (get slots key)
 slot_by slots key is = by_slot (get slots key) is
   where
@@ -54,7 +62,7 @@ slot_by slots key is = by_slot (get slots key) is
 pub grown_table : (t : AgedSlots) (slots : Slab Slot) (capacity : ℕ) → IsTable t → slots ≡ record t.slots { capacity = capacity } → IsTable (record t { slots = slots })
 grown_table t slots capacity table same =
     subst (λ (s : Slab Slot). IsTable (record t { slots = s })) (sym same)
-    (record { order_rings = table.order_rings; queue_rings = table.queue_rings; linked = table.linked; oldest = table.oldest })
+    (record { order_rings = table.order_rings; queue_rings = table.queue_rings; linked = table.linked; oldest = table.oldest; few = table.few })
 
 -- ---- a write of what is held
 
@@ -190,6 +198,7 @@ module _ (t : AgedSlots) (s1 s2 s3 : Slab Slot) (q1 q3 : List Link) (id : ConnId
             queue_rings = rings3;
             linked = subst (λ o. IsLinked (held_at s3) o kinds') (sym one_order) linked;
             oldest = oldest;
+            few = few_kept MOST_KEYS (slots_of t) (held_at s3) id.0 (Some h') sets (table.few id.0 some) table.few;
           }
 
 -- ---- a connection that begins
@@ -246,8 +255,8 @@ module _ (t : AgedSlots) (s1 : Slab Slot) (key : ℕ) (slot : Slot) (table : IsT
       pub begun_held : held_in (held_at s3) (keys_in order' 0) ≡ held_by t ++ slot.held ∷ []
       begun_held = held_begun (slots_of t) (held_at s3) (order_of t) (queues_of t) order' kinds3 key slot.held table.linked vacant begun_sets pushed_order pushed_queue
 
-      pub begun_table : IsNoneLater now (held_by t) → slot.held.last ≡ now → IsOldest (held_at s3) kinds3 list moment → length t.oldest ≡ 5 → list < 5 → IsTable (record { slots = s3; order = o2; queues = q3; oldest = set t.oldest list moment })
-      begun_table none last front long range =
+      pub begun_table : IsNoneLater now (held_by t) → slot.held.last ≡ now → IsOldest (held_at s3) kinds3 list moment → length t.oldest ≡ 5 → list < 5 → key < MOST_KEYS → IsTable (record { slots = s3; order = o2; queues = q3; oldest = set t.oldest list moment })
+      begun_table none last front long range below =
           record {
             order_rings = rings_aside Queues s2 s3 aside3 o2 rings2;
             queue_rings = rings3;
@@ -255,6 +264,7 @@ module _ (t : AgedSlots) (s1 : Slab Slot) (key : ℕ) (slot : Slot) (table : IsT
                 (λ k. omega (arith, last, last_least (slots_of t) (order_of t) (queues_of t) now table.linked none k));
             oldest = subst (λ l. (q : ℕ) → q < 5 → IsOldest (held_at s3) kinds3 q (get_or (set t.oldest l moment) q 0)) (sym to)
                 (oldest_begun (slots_of t) (held_at s3) (order_of t) (queues_of t) order' kinds3 key slot.held table.linked vacant begun_sets pushed_order pushed_queue t.oldest moment long (omega (arith, to, range)) table.oldest (subst (λ l. IsOldest (held_at s3) kinds3 l moment) to front));
+            few = few_kept MOST_KEYS (slots_of t) (held_at s3) key (Some slot.held) begun_sets below table.few;
           }
 
 -- ---- a connection that ends
@@ -327,4 +337,5 @@ module _ (t : AgedSlots) (s1 : Slab Slot) (q1 : List Link) (id : ConnId) (list :
             linked = linked_ended (slots_of t) (held_at s3) (order_of t) (queues_of t) order4 kinds4 id slot.held table.linked ended_value ended_sets left_order left_queue;
             oldest = subst (λ l. (q : ℕ) → q < 5 → IsOldest (held_at s3) kinds4 q (get_or (set t.oldest l moment) q 0)) (sym from4)
                 (oldest_ended (slots_of t) (held_at s3) (order_of t) (queues_of t) order4 kinds4 id slot.held table.linked ended_value ended_sets left_order left_queue t.oldest moment long (omega (arith, from4, range)) table.oldest (subst (λ l. IsOldest (held_at s3) kinds4 l moment) from4 front));
+            few = few_kept MOST_KEYS (slots_of t) (held_at s3) id.0 None ended_sets (table.few id.0 (subst IsSome (sym ended_value) refl)) table.few;
           }

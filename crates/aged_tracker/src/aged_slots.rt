@@ -2,13 +2,13 @@
 ghost use Rattle.std.specs.Prelude.{◌≡◌, ◌+◌, ◌<◌, ◌≤◌, ◌++◌, ◌∷◌, [], ℕ, nat_lt, IsTrue, IsSome, IfOk, IsOk, OnOk, Some, None, IfSome, IfNone, false, true, map};
 ghost use Rattle.slab.specs.Slab.{get, slab_len, ContainsKey, Updates};
 ghost use Rattle.conntrack.specs.Held.{begun_with, connection_of, is_live, touched, touched_at, without, IsNoneLater};
-ghost use Rattle.aged_tracker.specs.steps.Rings.{keys_of, lists_of, held_at, held_in, owner_of, IsRings, SameSize};
+ghost use Rattle.aged_tracker.specs.steps.Rings.{MOST_KEYS, keys_of, lists_of, held_at, held_in, owner_of, IsRings, SameSize};
 ghost use Rattle.aged_tracker.specs.steps.Table.{has_room, held_by, limit_at, queue_of, slots_of, IsAllLive, IsLiveQueue, IsOldest, IsTable, Sets};
 ghost use Rattle.aged_tracker.specs.declared.slot.Thread.TheVariants.{Queues, Order};
 ghost use Rattle.aged_tracker.specs.declared.slot.Slot.{Slot as Slotted};
 
-use crate::rings::{LISTS, after, empty_heads, front, push_back, unlink, untied};
-use crate::slot::{Link, Slot, Thread};
+use crate::rings::{after, empty_heads, front, push_back, unlink, untied};
+use crate::slot::{LISTS, Link, MOST_KEYS, Slot, Thread};
 use box_file::Limits;
 use conntrack::{
     ConnId, Connection, Direction, Flags, Held, Memory, Moment, Phase, Steps, limit_by,
@@ -210,6 +210,7 @@ impl AgedSlots {
         ensures table { IsTable self.new }
         ensures held { held_by self.new ≡ held_by self.old ++ begun_with result connection flags ∷ [] }
         ensures free { slots_of self.old result.0 ≡ None }
+        ensures few { result.0 < MOST_KEYS }
         ensures slots { Sets (slots_of self.old) (slots_of self.new) result.0 (Some (begun_with result connection flags)) }
         ensures rises { steps.old ≤ steps.new }
         ensures steps { steps.new ≤ steps.old + 6 }
@@ -309,7 +310,8 @@ impl AgedSlots {
         None
     }
 
-    /// Makes room for one more. Where there is room already nothing changes.
+    /// Makes room for one more. Where there is room already nothing changes. No table comes to keys that
+    /// have no number, as the slab gives out vacant ones first; but its contract doesn't say so.
     pub fn reserve_one(&mut self) -> Result<(), Memory>
         requires table { IsTable self.old }
         ensures table { IsTable self.new }
@@ -319,6 +321,9 @@ impl AgedSlots {
         ensures kept { IsTrue (has_room self.old) → IsTrue (has_room self.new) }
         ensures spared { IsTrue (has_room self.old) → (self.new ≡ self.old) × IsOk result }
     {
+        if self.slots.vacant_key() >= MOST_KEYS {
+            return Err(Memory);
+        }
         if self.slots.len() < self.slots.capacity() {
             return Ok(());
         }
@@ -340,7 +345,7 @@ impl AgedSlots {
             if all.push(connection).is_err() {
                 return Err(Memory);
             }
-            place = after(&self.slots, &self.order, Thread::Order, key);
+            place = after(&self.slots, Thread::Order, key);
         }
         Ok(all)
     }

@@ -1,17 +1,50 @@
 //! A slot of the table, and how it is linked with others.
-ghost use Rattle.std.specs.Prelude.{◌≡◌};
-ghost use Rattle.aged_tracker.specs.steps.Rings.{knot_of, with_knot};
+ghost use Rattle.std.specs.Prelude.{◌≡◌, ◌+◌, ◌<◌};
+ghost use Rattle.aged_tracker.specs.steps.Rings.{MOST_KEYS, key_at, knot_of, number, with_knot};
 
 use conntrack::Held;
 
-/// The head of a list, or the slot of a key. A head past the lists counts as a slot's place, as
-/// heads and slots are numbered one after another; no link leads to one.
+/// How many lists a thread has: one for each idle limit. The order of beginning is the first one.
+pub const LISTS: usize = 5;
+
+/// How many keys slots may have, so that each place has a number of 32 bits.
+pub const MOST_KEYS: usize = 4_294_967_291;
+
+/// Where a link leads: heads and slots are numbered one after another, first the heads of the lists,
+/// then the slots by their keys. Each slot has four of these numbers, so they have 32 bits.
 #[derive(Clone, Copy)]
-pub enum At {
-    /// The head of the list with a number.
-    Head(usize),
+pub struct At(u32);
+
+impl At {
+    /// The head of a list.
+    pub fn head(list: usize) -> Self
+        requires { list < 5 }
+        ensures { number result ≡ list }
+    {
+        At(list as u32)
+    }
+
     /// The slot with a key.
-    Key(usize),
+    pub fn slot(key: usize) -> Self
+        requires { key < MOST_KEYS }
+        ensures { number result ≡ 5 + key }
+    {
+        At((LISTS + key) as u32)
+    }
+
+    /// Its number among heads and slots.
+    pub fn number(self) -> usize
+        ensures { result ≡ number self }
+    {
+        self.0 as usize
+    }
+
+    /// The key of the slot, where it is no head.
+    pub fn key(self) -> Option<usize>
+        ensures { result ≡ key_at (number self) }
+    {
+        self.number().checked_sub(LISTS)
+    }
 }
 
 /// What stands before and after in a ring.
@@ -26,8 +59,8 @@ pub struct Link {
 /// A slot's place in a list of a thread.
 #[derive(Clone, Copy)]
 pub struct Knot {
-    /// The list that it is in, if it is in one.
-    pub list: Option<usize>,
+    /// The number of the list that it is in, if it is in one.
+    pub list: Option<u8>,
     /// Its neighbours there.
     pub link: Link,
 }

@@ -1,12 +1,11 @@
 -- Rings of links through the slots of a slab, each through its head. A slot is in a ring of each thread.
-use Rattle.std.specs.Prelude.{◌≡◌, ◌≢◌, ℕ, zero, suc, ◌+◌, ◌-◌, ◌<◌, ◌≤◌, nat_lt, if◌then◌else◌, List, [], ◌∷◌, ◌++◌}
+use Rattle.std.specs.Prelude.{◌≡◌, ◌≢◌, ℕ, zero, suc, ◌-◌, ◌<◌, ◌≤◌, nat_lt, if◌then◌else◌, List, [], ◌∷◌, ◌++◌}
 use Rattle.std.specs.Prelude.{length, Option, Some, None, IsSome, option_map, slice_index_or}
 use Rattle.slab.specs.Slab.{Slab, get, slab_len}
 use Rattle.futures.specs.LinkedLists.{without}
 use Rattle.futures.specs.Links as ring
 use Rattle.conntrack.specs.declared.connection.Held.{Held}
 use Rattle.aged_tracker.specs.declared.slot.At.{At}
-use Rattle.aged_tracker.specs.declared.slot.At.TheVariants.{Head, Key}
 use Rattle.aged_tracker.specs.declared.slot.Knot.{Knot}
 use Rattle.aged_tracker.specs.declared.slot.Link.{Link}
 use Rattle.aged_tracker.specs.declared.slot.Slot.{Slot}
@@ -51,13 +50,16 @@ held_in at (key ∷ keys) = cons_held (at key) (held_in at keys)
 
 -- ---- places
 
+-- how many keys slots may have
+abbrev pub MOST_KEYS : ℕ
+MOST_KEYS = 4294967291
+
 -- the heads are numbered first, then the slots
 abbrev pub number : At → ℕ
-number (Head list) = list
-number (Key key) = 5 + key
+number at = at.0
 
 abbrev pub no_link : Link
-no_link = record { prev = Head 0; next = Head 0 }
+no_link = record { prev = record { 0 = 0 }; next = record { 0 = 0 } }
 
 abbrev pub link_by : Thread → Option Slot → Link
 link_by thread None = no_link
@@ -167,6 +169,6 @@ pub record SameLists (old new : Lists) : Type 0 where
 abbrev pub Slots : Type 0
 Slots = Slab Slot
 
--- as many slots are in use, and as many fit
+-- as many slots are in use, as many fit, and the same one is used next
 abbrev pub SameSize : Slab Slot → Slab Slot → Type 0
-SameSize old new = (slab_len new ≡ slab_len old) × (new.capacity ≡ old.capacity)
+SameSize old new = (slab_len new ≡ slab_len old) × (new.capacity ≡ old.capacity) × (new.vacant_key ≡ old.vacant_key)

@@ -1,4 +1,7 @@
-use Rattle.std.proofs.Common.{◌≡◌, ◌++◌, ◌∷◌, [], length, ap, sym, ◌∙◌, rules}
+use Rattle.std.proofs.Common.{◌≡◌, ◌<◌, nat_lt, ◌++◌, ◌∷◌, [], length, ap, sym, ◌∙◌, rules, arith}
+use Rattle.std.proofs.lemmas.Bool.{and_parts, ltb-true}
+use Rattle.slab.specs.Slab.{slab_len}
+use Rattle.aged_tracker.specs.steps.Rings.{MOST_KEYS}
 use Rattle.conntrack.specs.declared.connection.Flags.{Flags}
 use Rattle.conntrack.specs.declared.connection.Held.{Held}
 use Rattle.conntrack.specs.Held.{begun_with}
@@ -9,6 +12,12 @@ use Rattle.aged_tracker.proofs.aged_slots.AgedSlots.insert.Goals.{After-oldest_o
 
 to : (c : After-oldest_of) → c.queue_of-queue.result ≡ queue_of c.fill-key.ensures.updates.0.held
 to c = c.queue_of-queue.ensures.queue ∙ ap queue_of (sym c.fill-key.ensures.updates.1.1)
+
+few : (c : After-oldest_of) → c.fill-key.result < MOST_KEYS
+few c =
+    let both = and_parts (nat_lt (slab_len c.args.self.now.slots) c.args.self.now.slots.capacity) (nat_lt c.args.self.now.slots.vacant_key MOST_KEYS) c.requires.room in
+    let below : c.args.self.now.slots.vacant_key < MOST_KEYS = ltb-true c.args.self.now.slots.vacant_key MOST_KEYS both.1 in
+    omega (arith, below, c.fill-key.ensures.key)
 
 named : (c : After-oldest_of) → c.fill-key.ensures.updates.0.held.id.0 ≡ c.fill-key.result
 named c = ap (λ (h : Held). h.id.0) c.fill-key.ensures.updates.1.1 ∙ c.vacant_key.ensures.value ∙ sym c.fill-key.ensures.key
@@ -28,9 +37,12 @@ pub returns-clause-table : goal.returns-clause-table
 returns-clause-table c =
     let long : length c.args.self.now.oldest ≡ 5 = search rules in
     begun_table c.args.self.now c.fill-key.new.slots c.fill-key.result c.fill-key.ensures.updates.0 c.requires.table c.fill-key.ensures.free c.fill-key.ensures.updates.1.0 c.fill-key.ensures.updates.1.2 c.fill-key.ensures.updates.1.3 c.push_back.new.slots c.push_back.new.heads c.push_back.ensures.aside c.push_back-2.new.slots c.push_back-2.new.heads c.queue_of-queue.result c.oldest_of.result c.args.connection.last c.push_back.ensures.rings c.push_back.ensures.lists c.push_back-2.ensures.aside c.push_back-2.ensures.rings c.push_back-2.ensures.lists (to (goal.at.returns-clause-table c).After-oldest_of) (named (goal.at.returns-clause-table c).After-oldest_of)
-    c.requires.later (ap (λ (h : Held). h.last) c.fill-key.ensures.updates.1.1) c.oldest_of.ensures.oldest long c.queue_of-queue.ensures.range
+    c.requires.later (ap (λ (h : Held). h.last) c.fill-key.ensures.updates.1.1) c.oldest_of.ensures.oldest long c.queue_of-queue.ensures.range (few (goal.at.returns-clause-table c).After-oldest_of)
 
 pub returns-clause-held : goal.returns-clause-held
 returns-clause-held c =
     begun_held c.args.self.now c.fill-key.new.slots c.fill-key.result c.fill-key.ensures.updates.0 c.requires.table c.fill-key.ensures.free c.fill-key.ensures.updates.1.0 c.fill-key.ensures.updates.1.2 c.fill-key.ensures.updates.1.3 c.push_back.new.slots c.push_back.new.heads c.push_back.ensures.aside c.push_back-2.new.slots c.push_back-2.new.heads c.queue_of-queue.result c.oldest_of.result c.args.connection.last c.push_back.ensures.rings c.push_back.ensures.lists c.push_back-2.ensures.aside c.push_back-2.ensures.rings c.push_back-2.ensures.lists (to (goal.at.returns-clause-held c).After-oldest_of) (named (goal.at.returns-clause-held c).After-oldest_of)
     ∙ ap (λ (h : Held). held_by c.args.self.now ++ h ∷ []) (made (goal.at.returns-clause-held c).After-oldest_of)
+
+pub returns-clause-few : goal.returns-clause-few
+returns-clause-few c = omega (arith, few (goal.at.returns-clause-few c).After-oldest_of, c.fill-key.ensures.key, c.vacant_key.ensures.value)

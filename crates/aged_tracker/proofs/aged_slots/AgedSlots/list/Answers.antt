@@ -50,7 +50,7 @@ loop-place-preserved c =
     let all : c.push.new.self.items ≡ c.loop-place.all.items ++ c.connection_at-connection.result ∷ [] = search rules in
     rw (all, told)
     (read_more Order c.args.self.now.slots c.args.self.now.order 0 low (ring c.args.self.now c.requires) c.in-Some.key c.loop-place.all.items s c.after-place.result slot.0.held held
-    (c.after-place.ensures 0 s.before s.rest low (stands_ring Order c.args.self.now.slots c.args.self.now.order 0 low (ring c.args.self.now c.requires) c.in-Some.key c.loop-place.all.items s)))
+    (c.after-place.ensures c.args.self.now.order 0 s.before s.rest low (stands_ring Order c.args.self.now.slots c.args.self.now.order 0 low (ring c.args.self.now c.requires) c.in-Some.key c.loop-place.all.items s)))
 
 pub returns : goal.returns
 returns c =
