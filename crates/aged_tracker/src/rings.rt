@@ -1,9 +1,8 @@
 //! Lists of slots, each a ring through its head. `steps` counts each slot that is read or written.
-ghost use Rattle.std.specs.Prelude.{◌≡◌, ◌≢◌, ◌+◌, ◌<◌, ◌≤◌, ◌++◌, ◌∷◌, [], ℕ, List, length, map, IfOk, Some, None, IfSome, slice_get};
-ghost use Rattle.slab.specs.Slab.{get, ContainsKey, Updates, HasRoomFor};
+ghost use Rattle.std.specs.Prelude.{◌≡◌, ◌+◌, ◌<◌, ◌≤◌, ◌++◌, ◌∷◌, [], ℕ, List, Some, None, IfSome, slice_get};
+ghost use Rattle.slab.specs.Slab.{get, ContainsKey, Updates};
 ghost use Rattle.futures.specs.Links.{Joins};
-ghost use Rattle.futures.specs.LinkedLists.{without};
-ghost use Rattle.aged_tracker.specs.steps.Rings.{MOST_KEYS, number, link_at, next_of, prev_of, owner_of, key_at, keys_of, lists_of, with_list, with_link, IsOwned, IsPlace, IsRing, IsRings, Pushes, Relinks, SameAside, SameBare, SameSize, Slots, Unlinks};
+ghost use Rattle.aged_tracker.specs.steps.Rings.{MOST_KEYS, number, link_at, next_of, prev_of, owner_of, keys_of, lists_of, with_list, with_link, IsOwned, IsPlace, IsRing, IsRings, Pushes, Relinks, SameAside, SameBare, SameSize, Slots, Unlinks};
 ghost use Rattle.aged_tracker.specs.declared.slot.Link.{Link as Linked};
 ghost use Rattle.aged_tracker.specs.declared.slot.Thread.{Thread as Threaded};
 
@@ -240,33 +239,16 @@ pub fn after(slots: &Slab<Slot>, thread: Thread, key: usize) -> Option<usize>
     slot_link(slots, thread, key).next.key()
 }
 
-/// The link of a head whose list is empty.
-fn alone(list: usize) -> Link
-    requires { list < 5 }
-    ensures prev { number result.prev ≡ list }
-    ensures next { number result.next ≡ list }
-{
-    let head = At::head(list);
-    Link {
-        prev: head,
-        next: head,
-    }
-}
-
 /// The heads of empty lists.
 pub fn empty_heads() -> [Link; LISTS]
     ensures rings { (thread : Threaded) (slots : Slots) → slots.slots ≡ [] → IsRings thread slots result }
     ensures lists { (thread : Threaded) (slots : Slots) (list : ℕ) → slots.slots ≡ [] → keys_of thread slots result list ≡ [] }
 {
-    [alone(0), alone(1), alone(2), alone(3), alone(4)]
-}
-
-/// The place of a slot that is in no list.
-pub fn untied() -> Knot
-    ensures { result.list ≡ None }
-{
-    Knot {
-        list: None,
-        link: alone(0),
-    }
+    [
+        Link::alone(0),
+        Link::alone(1),
+        Link::alone(2),
+        Link::alone(3),
+        Link::alone(4),
+    ]
 }
