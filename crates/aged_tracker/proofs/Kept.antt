@@ -129,13 +129,13 @@ aside_owner : (thread : Thread) (o : Option Slot) → owner_by (other_thread thr
 aside_owner thread None = refl
 aside_owner thread (Some s) = refl
 
-aside_held : (thread : Thread) (o : Option Slot) → option_map held_of o ≡ option_map (λ (b : Held × Knot). b.0) (option_map (aside thread) o)
-aside_held thread None = refl
-aside_held thread (Some s) = refl
+aside_held : (thread : Thread) (key : ℕ) (o : Option Slot) → option_map (held_of key) o ≡ option_map (λ (b : (ℕ → Held) × Knot). b.0 key) (option_map (aside thread) o)
+aside_held thread key None = refl
+aside_held thread key (Some s) = refl
 
 module _ (thread : Thread) (old new : Slab Slot) (same : SameAside thread old new) where
   pub held_aside : (k : ℕ) → held_at new k ≡ held_at old k
-  held_aside k = aside_held thread (get new k) ∙ ap (option_map (λ (b : Held × Knot). b.0)) (same k) ∙ sym (aside_held thread (get old k))
+  held_aside k = aside_held thread k (get new k) ∙ ap (option_map (λ (b : (ℕ → Held) × Knot). b.0 k)) (same k) ∙ sym (aside_held thread k (get old k))
 
   links_aside : (k : ℕ) → link_by (other_thread thread) (get new k) ≡ link_by (other_thread thread) (get old k)
   links_aside k =

@@ -109,10 +109,10 @@ module _ (thread : Thread) where
         | inr past ↦ link_at-slot new heads p past ∙ ap (link_by thread) (updates.others (p - 5) (λ e. d (omega arith))) ∙ sym (link_at-slot old heads p past)
       ]
 
-  aside_bare : (o : Option Slot) → option_map (aside thread) o ≡ option_map (λ (b : Option ℕ × (Held × Knot)). b.1) (option_map (bare thread) o)
+  aside_bare : (o : Option Slot) → option_map (aside thread) o ≡ option_map (λ (b : Option ℕ × ((ℕ → Held) × Knot)). b.1) (option_map (bare thread) o)
   aside_bare None = refl
   aside_bare (Some s) = refl
 
   pub aside_kept : (old new : Slab Slot) → (SameBare thread) old new → (SameAside thread) old new
   aside_kept old new same k =
-      aside_bare (get new k) ∙ ap (option_map (λ (b : Option ℕ × (Held × Knot)). b.1)) (same k) ∙ sym (aside_bare (get old k))
+      aside_bare (get new k) ∙ ap (option_map (λ (b : Option ℕ × ((ℕ → Held) × Knot)). b.1)) (same k) ∙ sym (aside_bare (get old k))

@@ -17,7 +17,7 @@ use Rattle.aged_tracker.specs.declared.slot.Link.{Link}
 use Rattle.aged_tracker.specs.declared.slot.Slot.{Slot}
 use Rattle.aged_tracker.specs.declared.slot.Thread.{Thread}
 use Rattle.aged_tracker.specs.declared.slot.Thread.TheVariants.{Queues, Order}
-use Rattle.aged_tracker.specs.steps.Rings.{knot_of, held_of, held_at, held_in, link_by, owner_by, owner_of, lists_of, IsRings, Lists, Unlinks, Pushes, SameAside, SameLists}
+use Rattle.aged_tracker.specs.steps.Rings.{MOST_KEYS, IsAsLinked, noted, knot_of, held_of, held_at, held_in, link_by, owner_by, owner_of, lists_of, IsRings, Lists, Unlinks, Pushes, SameAside, SameLists}
 use Rattle.aged_tracker.specs.steps.Table.{queue_of, keys_in, owner_in, slots_of, order_of, queues_of, held_by, IsTable, IsLinked, IsOldest, Sets}
 use Rattle.aged_tracker.proofs.Kept.{same_rings, same_lists, held_aside, rings_aside, lists_aside, rings_off, lists_off}
 use Rattle.aged_tracker.proofs.Tables.{held_touched}
@@ -28,11 +28,11 @@ use Rattle.aged_tracker.proofs.Linked.{some_of, last_least, last_others, off_lef
 pub one_lists : (a b : Lists) → SameLists a b → b ≡ a
 one_lists a b same = λ i. record { items = λ l. same.items l i; list_of = λ k. same.list_of k i }
 
-pub sets_of : (old new : Slab Slot) (key : ℕ) (slot : Option Slot) → Updates old new key slot → Sets (held_at old) (held_at new) key (option_map held_of slot)
+pub sets_of : (old new : Slab Slot) (key : ℕ) (slot : Option Slot) → Updates old new key slot → Sets (held_at old) (held_at new) key (option_map (held_of key) slot)
 sets_of old new key slot updates =
     record {
-      changed = ap (option_map held_of) updates.changed;
-      others = λ k d. ap (option_map held_of) (updates.others k d);
+      changed = ap (option_map (held_of key)) updates.changed;
+      others = λ k d. ap (option_map (held_of k)) (updates.others k d);
     }
 
 pub sets_through : (a b c d : ℕ → Option Held) (key : ℕ) (slot : Option Held) → ((k : ℕ) → b k ≡ a k) → Sets b c key slot → ((k : ℕ) → d k ≡ c k) → Sets a d key slot
@@ -42,10 +42,18 @@ sets_through a b c d key slot before sets after =
       others = λ k differs. after k ∙ sets.others k differs ∙ before k;
     }
 
+-- a slot's key is below a bound that all keys in use were below
+pub few_kept : (most : ℕ) (old new : ℕ → Option Held) (key : ℕ) (slot : Option Held) → Sets old new key slot → key < most → ((k : ℕ) → IsSome (old k) → k < most) → (k : ℕ) → IsSome (new k) → k < most
+few_kept most old new key slot sets below few k is =
+    elim (cases_eq k key) [
+      | inl e ↦ omega (arith, e, below)
+      | inr d ↦ few k (subst IsSome (sets.others k d) is)
+    ]
+
 pub slot_by : (slots : Slab Slot) (key : ℕ) → IsSome (held_at slots key) → IsSome (get slots key)
 slot_by slots key is = by_slot (get slots key) is
   where
-    by_slot : (o : Option Slot) → IsSome (option_map held_of o) → IsSome o
+    by_slot : (o : Option Slot) → IsSome (option_map (held_of key) o) → IsSome o
     by_slot None is = absurd cc
     by_slot (Some s) is = refl
 
@@ -54,20 +62,20 @@ slot_by slots key is = by_slot (get slots key) is
 pub grown_table : (t : AgedSlots) (slots : Slab Slot) (capacity : ℕ) → IsTable t → slots ≡ record t.slots { capacity = capacity } → IsTable (record t { slots = slots })
 grown_table t slots capacity table same =
     subst (λ (s : Slab Slot). IsTable (record t { slots = s })) (sym same)
-    (record { order_rings = table.order_rings; queue_rings = table.queue_rings; linked = table.linked; oldest = table.oldest })
+    (record { order_rings = table.order_rings; queue_rings = table.queue_rings; linked = table.linked; oldest = table.oldest; few = table.few })
 
 -- ---- a write of what is held
 
-knot_held : (thread : Thread) (slot : Slot) (h : Held) → knot_of thread (record slot { held = h }) ≡ knot_of thread slot
-knot_held Queues slot h = refl
-knot_held Order slot h = refl
+noted_linked : (h : Held) (slot : Slot) → IsAsLinked slot (noted h slot)
+noted_linked h slot Queues = refl
+noted_linked h slot Order = refl
 
-module _ (thread : Thread) (old new : Slab Slot) (key : ℕ) (slot : Slot) (h : Held) (is : get old key ≡ Some slot) (updates : Updates old new key (Some (record slot { held = h }))) where
+module _ (thread : Thread) (old new : Slab Slot) (key : ℕ) (slot after : Slot) (linked : IsAsLinked slot after) (is : get old key ≡ Some slot) (updates : Updates old new key (Some after)) where
   links_held : (k : ℕ) → link_by thread (get new k) ≡ link_by thread (get old k)
   links_held k =
       elim (cases_eq k key) [
         | inl e ↦
-            ap (λ j. link_by thread (get new j)) e ∙ ap (link_by thread) updates.changed ∙ ap (λ (x : Knot). x.link) (knot_held thread slot h)
+            ap (λ j. link_by thread (get new j)) e ∙ ap (link_by thread) updates.changed ∙ ap (λ (x : Knot). x.link) (linked thread)
             ∙ sym (ap (λ j. link_by thread (get old j)) e ∙ ap (link_by thread) is)
         | inr d ↦ ap (link_by thread) (updates.others k d)
       ]
@@ -76,7 +84,7 @@ module _ (thread : Thread) (old new : Slab Slot) (key : ℕ) (slot : Slot) (h : 
   owners_held k =
       elim (cases_eq k key) [
         | inl e ↦
-            ap (owner_of thread new) e ∙ ap (owner_by thread) updates.changed ∙ ap (λ (x : Knot). x.list) (knot_held thread slot h)
+            ap (owner_of thread new) e ∙ ap (owner_by thread) updates.changed ∙ ap (λ (x : Knot). x.list) (linked thread)
             ∙ sym (ap (owner_of thread old) e ∙ ap (owner_by thread) is)
         | inr d ↦ ap (owner_by thread) (updates.others k d)
       ]
@@ -91,36 +99,42 @@ module _ (thread : Thread) (old new : Slab Slot) (key : ℕ) (slot : Slot) (h : 
 
 module _ (t : AgedSlots) (s1 s2 s3 : Slab Slot) (q1 q3 : List Link) (id : ConnId) (direction : Direction) (flags : Flags) (mark now list list' : ℕ) (table : IsTable t) (some : IsSome (slots_of t id.0))
     (rings1 : IsRings Queues s1 q1) (un : Unlinks (queues_of t) (lists_of Queues s1 q1) id.0 list) (owner : owner_of Queues t.slots id.0 ≡ Some list) (aside1 : SameAside Queues t.slots s1)
-    (wrote : IfSome (get s1 id.0) (λ s. Updates s1 s2 id.0 (Some (record s { held = touched direction flags mark now s.held })))) (queue : IfSome (get s1 id.0) (λ s. list' ≡ queue_of (touched direction flags mark now s.held))) where
+    (wrote : IfSome (get s1 id.0) (λ s. Updates s1 s2 id.0 (Some (noted (touched direction flags mark now (held_of id.0 s)) s)))) (queue : IfSome (get s1 id.0) (λ s. list' ≡ queue_of (touched direction flags mark now (held_of id.0 s)))) where
   abbrev pub slot1 : (s : Slot) × (get s1 id.0 ≡ Some s)
   slot1 = some_of (get s1 id.0) (slot_by s1 id.0 (subst IsSome (sym (held_aside Queues t.slots s1 aside1 id.0)) some))
 
   abbrev pub h : Held
-  h = slot1.0.held
+  h = held_of id.0 slot1.0
 
   abbrev pub h' : Held
   h' = touched direction flags mark now h
 
-  updates : Updates s1 s2 id.0 (Some (record slot1.0 { held = h' }))
+  abbrev pub slot2 : Slot
+  slot2 = noted h' slot1.0
+
+  updates : Updates s1 s2 id.0 (Some slot2)
   updates = rw slot1.1 at wrote
 
   is_h : slots_of t id.0 ≡ Some h
-  is_h = sym (held_aside Queues t.slots s1 aside1 id.0) ∙ ap (option_map held_of) slot1.1
+  is_h = sym (held_aside Queues t.slots s1 aside1 id.0) ∙ ap (option_map (held_of id.0)) slot1.1
+
+  pub touch_free : owner_of Queues s2 id.0 ≡ None
+  touch_free = owners_held Queues s1 s2 id.0 slot1.0 slot2 (noted_linked h' slot1.0) slot1.1 updates id.0 ∙ un.moved
 
   pub touch_rings : IsRings Queues s2 q1
-  touch_rings = rings_held Queues s1 s2 id.0 slot1.0 h' slot1.1 updates q1 rings1
+  touch_rings = rings_held Queues s1 s2 id.0 slot1.0 slot2 (noted_linked h' slot1.0) slot1.1 updates q1 rings1
 
   module _ (push : Pushes (lists_of Queues s2 q1) (lists_of Queues s3 q3) id.0 list') (aside3 : SameAside Queues s2 s3) where
     sets : Sets (slots_of t) (held_at s3) id.0 (Some h')
     sets =
         sets_through (slots_of t) (held_at s1) (held_at s2) (held_at s3) id.0 (Some h') (held_aside Queues t.slots s1 aside1)
-        (sets_of s1 s2 id.0 (Some (record slot1.0 { held = h' })) updates) (held_aside Queues s2 s3 aside3)
+        (sets_of s1 s2 id.0 (Some slot2) updates) (held_aside Queues s2 s3 aside3)
 
     order1 : IsRings Order s1 t.order
     order1 = rings_aside Queues t.slots s1 aside1 t.order table.order_rings
 
     order2 : IsRings Order s2 t.order
-    order2 = rings_held Order s1 s2 id.0 slot1.0 h' slot1.1 updates t.order order1
+    order2 = rings_held Order s1 s2 id.0 slot1.0 slot2 (noted_linked h' slot1.0) slot1.1 updates t.order order1
 
     order3 : IsRings Order s3 t.order
     order3 = rings_aside Queues s2 s3 aside3 t.order order2
@@ -128,7 +142,7 @@ module _ (t : AgedSlots) (s1 s2 s3 : Slab Slot) (q1 q3 : List Link) (id : ConnId
     one_order : lists_of Order s3 t.order ≡ order_of t
     one_order =
         one_lists (lists_of Order s2 t.order) (lists_of Order s3 t.order) (lists_aside Queues s2 s3 aside3 t.order order2)
-        ∙ one_lists (lists_of Order s1 t.order) (lists_of Order s2 t.order) (lists_held Order s1 s2 id.0 slot1.0 h' slot1.1 updates t.order order1)
+        ∙ one_lists (lists_of Order s1 t.order) (lists_of Order s2 t.order) (lists_held Order s1 s2 id.0 slot1.0 slot2 (noted_linked h' slot1.0) slot1.1 updates t.order order1)
         ∙ one_lists (order_of t) (lists_of Order s1 t.order) (lists_aside Queues t.slots s1 aside1 t.order table.order_rings)
 
     to : list' ≡ queue_of h'
@@ -146,7 +160,7 @@ module _ (t : AgedSlots) (s1 s2 s3 : Slab Slot) (q1 q3 : List Link) (id : ConnId
     push' : Pushes left kinds' id.0 (queue_of h')
     push' =
         subst (Pushes left kinds' id.0) to
-        (subst (λ l. Pushes l kinds' id.0 list') (one_lists left (lists_of Queues s2 q1) (lists_held Queues s1 s2 id.0 slot1.0 h' slot1.1 updates q1 rings1)) push)
+        (subst (λ l. Pushes l kinds' id.0 list') (one_lists left (lists_of Queues s2 q1) (lists_held Queues s1 s2 id.0 slot1.0 slot2 (noted_linked h' slot1.0) slot1.1 updates q1 rings1)) push)
 
     un' : Unlinks (queues_of t) left id.0 (queue_of h)
     un' = subst (Unlinks (queues_of t) left id.0) from un
@@ -190,11 +204,12 @@ module _ (t : AgedSlots) (s1 s2 s3 : Slab Slot) (q1 q3 : List Link) (id : ConnId
             queue_rings = rings3;
             linked = subst (λ o. IsLinked (held_at s3) o kinds') (sym one_order) linked;
             oldest = oldest;
+            few = few_kept MOST_KEYS (slots_of t) (held_at s3) id.0 (Some h') sets (table.few id.0 some) table.few;
           }
 
 -- ---- a connection that begins
 
-module _ (t : AgedSlots) (s1 : Slab Slot) (key : ℕ) (slot : Slot) (table : IsTable t) (free : get t.slots key ≡ None) (updates : Updates t.slots s1 key (Some slot)) (no_queue : slot.queue.list ≡ None) (no_order : slot.order.list ≡ None) where
+module _ (t : AgedSlots) (s1 : Slab Slot) (key : ℕ) (slot : Slot) (table : IsTable t) (free : get t.slots key ≡ None) (updates : Updates t.slots s1 key (Some slot)) (no_queue : (knot_of Queues slot).list ≡ None) (no_order : (knot_of Order slot).list ≡ None) where
   free_in : (thread : Thread) → owner_of thread t.slots key ≡ None
   free_in thread = ap (owner_by thread) free
 
@@ -215,10 +230,10 @@ module _ (t : AgedSlots) (s1 : Slab Slot) (key : ℕ) (slot : Slot) (table : IsT
     begun_rings = rings_aside Order s1 s2 aside2 t.queues fill_queues
 
     module _ (s3 : Slab Slot) (q3 : List Link) (list moment now : ℕ) (rings2 : IsRings Order s2 o2) (push : Pushes (lists_of Order s1 t.order) (lists_of Order s2 o2) key 0) (aside3 : SameAside Queues s2 s3) (rings3 : IsRings Queues s3 q3)
-        (push' : Pushes (lists_of Queues s2 t.queues) (lists_of Queues s3 q3) key list) (to : list ≡ queue_of slot.held) (named : slot.held.id.0 ≡ key) where
-      pub begun_sets : Sets (slots_of t) (held_at s3) key (Some slot.held)
+        (push' : Pushes (lists_of Queues s2 t.queues) (lists_of Queues s3 q3) key list) (to : list ≡ queue_of (held_of key slot)) where
+      pub begun_sets : Sets (slots_of t) (held_at s3) key (Some (held_of key slot))
       begun_sets =
-          sets_through (slots_of t) (slots_of t) (held_at s1) (held_at s3) key (Some slot.held) (λ k. refl) (sets_of t.slots s1 key (Some slot) updates)
+          sets_through (slots_of t) (slots_of t) (held_at s1) (held_at s3) key (Some (held_of key slot)) (λ k. refl) (sets_of t.slots s1 key (Some slot) updates)
           (λ k. held_aside Queues s2 s3 aside3 k ∙ held_aside Order s1 s2 aside2 k)
 
       abbrev pub order' : Lists
@@ -232,7 +247,7 @@ module _ (t : AgedSlots) (s1 : Slab Slot) (key : ℕ) (slot : Slot) (table : IsT
           subst (λ l. Pushes l order' key 0) (one_lists (order_of t) (lists_of Order s1 t.order) (lists_off Order t.slots s1 key (Some slot) updates (free_in Order) free_order t.order table.order_rings))
           (subst (λ l. Pushes (lists_of Order s1 t.order) l key 0) (sym (one_lists (lists_of Order s2 o2) order' (lists_aside Queues s2 s3 aside3 o2 rings2))) push)
 
-      pushed_queue : Pushes (queues_of t) kinds3 key (queue_of slot.held)
+      pushed_queue : Pushes (queues_of t) kinds3 key (queue_of (held_of key slot))
       pushed_queue =
           subst (Pushes (queues_of t) kinds3 key) to
           (subst (λ l. Pushes l kinds3 key list)
@@ -241,20 +256,21 @@ module _ (t : AgedSlots) (s1 : Slab Slot) (key : ℕ) (slot : Slot) (table : IsT
           push')
 
       vacant : slots_of t key ≡ None
-      vacant = ap (option_map held_of) free
+      vacant = ap (option_map (held_of key)) free
 
-      pub begun_held : held_in (held_at s3) (keys_in order' 0) ≡ held_by t ++ slot.held ∷ []
-      begun_held = held_begun (slots_of t) (held_at s3) (order_of t) (queues_of t) order' kinds3 key slot.held table.linked vacant begun_sets pushed_order pushed_queue
+      pub begun_held : held_in (held_at s3) (keys_in order' 0) ≡ held_by t ++ held_of key slot ∷ []
+      begun_held = held_begun (slots_of t) (held_at s3) (order_of t) (queues_of t) order' kinds3 key (held_of key slot) table.linked vacant begun_sets pushed_order pushed_queue
 
-      pub begun_table : IsNoneLater now (held_by t) → slot.held.last ≡ now → IsOldest (held_at s3) kinds3 list moment → length t.oldest ≡ 5 → list < 5 → IsTable (record { slots = s3; order = o2; queues = q3; oldest = set t.oldest list moment })
-      begun_table none last front long range =
+      pub begun_table : IsNoneLater now (held_by t) → slot.last ≡ now → IsOldest (held_at s3) kinds3 list moment → length t.oldest ≡ 5 → list < 5 → key < MOST_KEYS → IsTable (record { slots = s3; order = o2; queues = q3; oldest = set t.oldest list moment })
+      begun_table none last front long range below =
           record {
             order_rings = rings_aside Queues s2 s3 aside3 o2 rings2;
             queue_rings = rings3;
-            linked = linked_begun (slots_of t) (held_at s3) (order_of t) (queues_of t) order' kinds3 key slot.held table.linked vacant begun_sets pushed_order pushed_queue named
+            linked = linked_begun (slots_of t) (held_at s3) (order_of t) (queues_of t) order' kinds3 key (held_of key slot) table.linked vacant begun_sets pushed_order pushed_queue refl
                 (λ k. omega (arith, last, last_least (slots_of t) (order_of t) (queues_of t) now table.linked none k));
             oldest = subst (λ l. (q : ℕ) → q < 5 → IsOldest (held_at s3) kinds3 q (get_or (set t.oldest l moment) q 0)) (sym to)
-                (oldest_begun (slots_of t) (held_at s3) (order_of t) (queues_of t) order' kinds3 key slot.held table.linked vacant begun_sets pushed_order pushed_queue t.oldest moment long (omega (arith, to, range)) table.oldest (subst (λ l. IsOldest (held_at s3) kinds3 l moment) to front));
+                (oldest_begun (slots_of t) (held_at s3) (order_of t) (queues_of t) order' kinds3 key (held_of key slot) table.linked vacant begun_sets pushed_order pushed_queue t.oldest moment long (omega (arith, to, range)) table.oldest (subst (λ l. IsOldest (held_at s3) kinds3 l moment) to front));
+            few = few_kept MOST_KEYS (slots_of t) (held_at s3) key (Some (held_of key slot)) begun_sets below table.few;
           }
 
 -- ---- a connection that ends
@@ -277,8 +293,8 @@ module _ (t : AgedSlots) (s1 : Slab Slot) (q1 : List Link) (id : ConnId) (list :
       held_through : (k : ℕ) → held_at s2 k ≡ slots_of t k
       held_through k = held_aside Order s1 s2 aside2 k ∙ held_aside Queues t.slots s1 aside1 k
 
-      pub ended_value : slots_of t id.0 ≡ Some slot.held
-      ended_value = sym (held_through id.0) ∙ ap (option_map held_of) is
+      pub ended_value : slots_of t id.0 ≡ Some (held_of id.0 slot)
+      ended_value = sym (held_through id.0) ∙ ap (option_map (held_of id.0)) is
 
       pub ended_sets : Sets (slots_of t) (held_at s3) id.0 None
       ended_sets = sets_through (slots_of t) (held_at s2) (held_at s3) (held_at s3) id.0 None held_through (sets_of s2 s3 id.0 None updates) (λ k. refl)
@@ -289,8 +305,8 @@ module _ (t : AgedSlots) (s1 : Slab Slot) (q1 : List Link) (id : ConnId) (list :
       abbrev pub kinds4 : Lists
       kinds4 = lists_of Queues s3 q1
 
-      from4 : list ≡ queue_of slot.held
-      from4 = same_Some list (queue_of slot.held) (sym owner ∙ table.linked.queues.owner id.0 ∙ ap (λ o. option_map queue_of o) ended_value)
+      from4 : list ≡ queue_of (held_of id.0 slot)
+      from4 = same_Some list (queue_of (held_of id.0 slot)) (sym owner ∙ table.linked.queues.owner id.0 ∙ ap (λ o. option_map queue_of o) ended_value)
 
       same_order : order_of t ≡ lists_of Order s1 t.order
       same_order = sym (one_lists (order_of t) (lists_of Order s1 t.order) (lists_aside Queues t.slots s1 aside1 t.order table.order_rings))
@@ -308,7 +324,7 @@ module _ (t : AgedSlots) (s1 : Slab Slot) (q1 : List Link) (id : ConnId) (list :
           (sym (one_lists (lists_of Order s2 o2) order4 (lists_off Order s2 s3 id.0 None updates un2.moved (ap (owner_by Order) updates.changed) o2 rings2)))
           un2))
 
-      left_queue : Unlinks (queues_of t) kinds4 id.0 (queue_of slot.held)
+      left_queue : Unlinks (queues_of t) kinds4 id.0 (queue_of (held_of id.0 slot))
       left_queue =
           subst (Unlinks (queues_of t) kinds4 id.0) from4
           (subst (λ l. Unlinks (queues_of t) l id.0 list)
@@ -317,14 +333,15 @@ module _ (t : AgedSlots) (s1 : Slab Slot) (q1 : List Link) (id : ConnId) (list :
           un)
 
       pub ended_held : held_in (held_at s3) (keys_in order4 0) ≡ without id (held_by t)
-      ended_held = held_ended (slots_of t) (held_at s3) (order_of t) (queues_of t) order4 kinds4 id slot.held table.linked ended_value ended_sets left_order left_queue
+      ended_held = held_ended (slots_of t) (held_at s3) (order_of t) (queues_of t) order4 kinds4 id (held_of id.0 slot) table.linked ended_value ended_sets left_order left_queue
 
       pub ended_table : (moment : ℕ) → IsOldest (held_at s3) kinds4 list moment → length t.oldest ≡ 5 → list < 5 → IsTable (record { slots = s3; order = o2; queues = q1; oldest = set t.oldest list moment })
       ended_table moment front long range =
           record {
             order_rings = rings_off Order s2 s3 id.0 None updates un2.moved (ap (owner_by Order) updates.changed) o2 rings2;
             queue_rings = ended_rings;
-            linked = linked_ended (slots_of t) (held_at s3) (order_of t) (queues_of t) order4 kinds4 id slot.held table.linked ended_value ended_sets left_order left_queue;
+            linked = linked_ended (slots_of t) (held_at s3) (order_of t) (queues_of t) order4 kinds4 id (held_of id.0 slot) table.linked ended_value ended_sets left_order left_queue;
             oldest = subst (λ l. (q : ℕ) → q < 5 → IsOldest (held_at s3) kinds4 q (get_or (set t.oldest l moment) q 0)) (sym from4)
-                (oldest_ended (slots_of t) (held_at s3) (order_of t) (queues_of t) order4 kinds4 id slot.held table.linked ended_value ended_sets left_order left_queue t.oldest moment long (omega (arith, from4, range)) table.oldest (subst (λ l. IsOldest (held_at s3) kinds4 l moment) from4 front));
+                (oldest_ended (slots_of t) (held_at s3) (order_of t) (queues_of t) order4 kinds4 id (held_of id.0 slot) table.linked ended_value ended_sets left_order left_queue t.oldest moment long (omega (arith, from4, range)) table.oldest (subst (λ l. IsOldest (held_at s3) kinds4 l moment) from4 front));
+            few = few_kept MOST_KEYS (slots_of t) (held_at s3) id.0 None ended_sets (table.few id.0 (subst IsSome (sym ended_value) refl)) table.few;
           }

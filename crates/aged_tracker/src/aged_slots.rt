@@ -1,14 +1,13 @@
 //! The slots, and the lists that go through them.
-ghost use Rattle.std.specs.Prelude.{◌≡◌, ◌+◌, ◌<◌, ◌≤◌, ◌++◌, ◌∷◌, [], ℕ, nat_lt, IsTrue, IsSome, IfOk, IsOk, OnOk, Some, None, IfSome, IfNone, false, true, map};
+ghost use Rattle.std.specs.Prelude.{◌≡◌, ◌+◌, ◌<◌, ◌≤◌, ◌++◌, ◌∷◌, [], ℕ, nat_lt, IsTrue, IsSome, IfOk, IsOk, OnOk, Some, None, IfSome, IfNone, false, map};
 ghost use Rattle.slab.specs.Slab.{get, slab_len, ContainsKey, Updates};
 ghost use Rattle.conntrack.specs.Held.{begun_with, connection_of, is_live, touched, touched_at, without, IsNoneLater};
-ghost use Rattle.aged_tracker.specs.steps.Rings.{keys_of, lists_of, held_at, held_in, owner_of, IsRings, SameSize};
+ghost use Rattle.aged_tracker.specs.steps.Rings.{MOST_KEYS, lists_of, held_at, held_of, noted, Fills, IsRings, SameSize};
 ghost use Rattle.aged_tracker.specs.steps.Table.{has_room, held_by, limit_at, queue_of, slots_of, IsAllLive, IsLiveQueue, IsOldest, IsTable, Sets};
 ghost use Rattle.aged_tracker.specs.declared.slot.Thread.TheVariants.{Queues, Order};
-ghost use Rattle.aged_tracker.specs.declared.slot.Slot.{Slot as Slotted};
 
-use crate::rings::{LISTS, after, empty_heads, front, push_back, unlink, untied};
-use crate::slot::{Link, Slot, Thread};
+use crate::rings::{after, empty_heads, front, push_back, unlink};
+use crate::slot::{LISTS, Link, MOST_KEYS, Slot, Thread};
 use box_file::Limits;
 use conntrack::{
     ConnId, Connection, Direction, Flags, Held, Memory, Moment, Phase, Steps, limit_by,
@@ -81,7 +80,7 @@ fn oldest_of(slots: &Slab<Slot>, queues: &[Link; LISTS], queue: usize, steps: &m
             steps.tick();
             match slots.get(key) {
                 None => 0,
-                Some(slot) => slot.held.last,
+                Some(slot) => slot.last,
             }
         }
     }
@@ -98,8 +97,8 @@ fn touch_slot(
     steps: &mut Steps,
 ) -> usize
     requires { ContainsKey slots.old key }
-    ensures slots { IfSome (get slots.old key) (λ s. Updates slots.old slots.new key (Some (record s { held = touched direction flags mark now s.held }))) }
-    ensures queue { IfSome (get slots.old key) (λ s. result ≡ queue_of (touched direction flags mark now s.held)) }
+    ensures slots { IfSome (get slots.old key) (λ s. Updates slots.old slots.new key (Some (noted (touched direction flags mark now (held_of key s)) s))) }
+    ensures queue { IfSome (get slots.old key) (λ s. result ≡ queue_of (touched direction flags mark now (held_of key s))) }
     ensures range { result < 5 }
     ensures size { SameSize slots.old slots.new }
     ensures rises { steps.old ≤ steps.new }
@@ -108,28 +107,24 @@ fn touch_slot(
     steps.tick();
     match slots.get_mut(key) {
         Some(slot) => {
-            slot.held.touch(direction, flags, mark, now);
-            queue_of(&slot.held)
+            let held = slot.touch(key, direction, flags, mark, now);
+            queue_of(&held)
         }
         None => unreachable!(),
     }
 }
 
 /// Fills a free slot, which is in no list.
-fn fill(slots: &mut Slab<Slot>, held: Held, steps: &mut Steps) -> usize
+fn fill(slots: &mut Slab<Slot>, held: &Held, steps: &mut Steps) -> usize
     requires { IsTrue (nat_lt (slab_len slots.old) slots.old.capacity) }
     ensures key { result ≡ slots.old.vacant_key }
     ensures free { get slots.old result ≡ None }
-    ensures updates { (slot : Slotted) × (Updates slots.old slots.new result (Some slot) × (slot.held ≡ held) × (slot.queue.list ≡ None) × (slot.order.list ≡ None)) }
+    ensures fills { Fills slots.old slots.new result (record held.now { id = record { 0 = result } }) }
     ensures rises { steps.old ≤ steps.new }
     ensures steps { steps.new ≤ steps.old + 1 }
 {
     steps.tick();
-    slots.insert_reserved(Slot {
-        held,
-        queue: untied(),
-        order: untied(),
-    })
+    slots.insert_reserved(Slot::new(held))
 }
 
 impl AgedSlots {
@@ -156,7 +151,7 @@ impl AgedSlots {
     {
         steps.tick();
         match self.slots.get(key) {
-            Some(slot) => slot.held,
+            Some(slot) => slot.held(key),
             None => unreachable!(),
         }
     }
@@ -210,6 +205,7 @@ impl AgedSlots {
         ensures table { IsTable self.new }
         ensures held { held_by self.new ≡ held_by self.old ++ begun_with result connection flags ∷ [] }
         ensures free { slots_of self.old result.0 ≡ None }
+        ensures few { result.0 < MOST_KEYS }
         ensures slots { Sets (slots_of self.old) (slots_of self.new) result.0 (Some (begun_with result connection flags)) }
         ensures rises { steps.old ≤ steps.new }
         ensures steps { steps.new ≤ steps.old + 6 }
@@ -227,7 +223,7 @@ impl AgedSlots {
             dest: connection.dest,
         };
         let queue = queue_of(&held);
-        let key = fill(&mut self.slots, held, steps);
+        let key = fill(&mut self.slots, &held, steps);
         push_back(
             &mut self.slots,
             &mut self.order,
@@ -245,7 +241,7 @@ impl AgedSlots {
             steps,
         );
         self.oldest[queue] = oldest_of(&self.slots, &self.queues, queue, steps);
-        held.id
+        ConnId(key)
     }
 
     /// Takes a connection out of its slot and its lists.
@@ -272,7 +268,7 @@ impl AgedSlots {
         steps.tick();
         let slot = self.slots.remove(key);
         self.oldest[left] = oldest_of(&self.slots, &self.queues, left, steps);
-        slot.held
+        slot.held(key)
     }
 
     /// The front of a queue, where it is dead. No slot is visited.
@@ -309,7 +305,8 @@ impl AgedSlots {
         None
     }
 
-    /// Makes room for one more. Where there is room already nothing changes.
+    /// Makes room for one more. Where there is room already nothing changes. No table comes to keys that
+    /// have no number, as the slab gives out vacant ones first; but its contract doesn't say so.
     pub fn reserve_one(&mut self) -> Result<(), Memory>
         requires table { IsTable self.old }
         ensures table { IsTable self.new }
@@ -319,6 +316,9 @@ impl AgedSlots {
         ensures kept { IsTrue (has_room self.old) → IsTrue (has_room self.new) }
         ensures spared { IsTrue (has_room self.old) → (self.new ≡ self.old) × IsOk result }
     {
+        if self.slots.vacant_key() >= MOST_KEYS {
+            return Err(Memory);
+        }
         if self.slots.len() < self.slots.capacity() {
             return Ok(());
         }
@@ -340,7 +340,7 @@ impl AgedSlots {
             if all.push(connection).is_err() {
                 return Err(Memory);
             }
-            place = after(&self.slots, &self.order, Thread::Order, key);
+            place = after(&self.slots, Thread::Order, key);
         }
         Ok(all)
     }
@@ -352,7 +352,7 @@ fn connection_at(slots: &Slab<Slot>, key: usize) -> Connection
     ensures { IfSome (held_at slots.now key) (λ h. result ≡ connection_of h) }
 {
     match slots.get(key) {
-        Some(slot) => slot.held.connection(),
+        Some(slot) => slot.held(key).connection(),
         None => unreachable!(),
     }
 }

@@ -24,8 +24,8 @@ use std::marker::Model;
 #[derive(Drop)]
 pub struct AgedTracker {
     slots: AgedSlots,
-    // The slot of the connection that a tuple is an incoming tuple of.
-    keys: HashMap<Tuple, usize, RandomState>,
+    // The slot of the connection that a tuple is an incoming tuple of, in 32 bits as two lead to each.
+    keys: HashMap<Tuple, u32, RandomState>,
     live: usize,
     limits: Limits,
 }
@@ -122,8 +122,9 @@ impl Tracker for AgedTracker {
             return Err(BeginError::Clash);
         }
         let id = self.slots.insert(connection, flags, steps);
-        put(&mut self.keys, connection.original, id.0);
-        put(&mut self.keys, connection.reply, id.0);
+        let key = id.0 as u32;
+        put(&mut self.keys, connection.original, key);
+        put(&mut self.keys, connection.reply, key);
         self.live += 1;
         Ok(id)
     }
@@ -153,7 +154,7 @@ impl Tracker for AgedTracker {
 }
 
 /// Lets a tuple lead to a slot.
-fn put(keys: &mut HashMap<Tuple, usize, RandomState>, tuple: Tuple, key: usize)
+fn put(keys: &mut HashMap<Tuple, u32, RandomState>, tuple: Tuple, key: u32)
     requires { 0 < spare keys.old }
     ensures keys { (q : Tupled) → get same_tuple keys.new q ≡ cond (same_tuple tuple q) (Some key) (get same_tuple keys.old q) }
     ensures spare { spare keys.old ≤ spare keys.new + 1 }
@@ -165,14 +166,14 @@ fn put(keys: &mut HashMap<Tuple, usize, RandomState>, tuple: Tuple, key: usize)
 }
 
 /// How many more tuples can lead to a slot.
-fn spare_of(keys: &HashMap<Tuple, usize, RandomState>) -> usize
+fn spare_of(keys: &HashMap<Tuple, u32, RandomState>) -> usize
     ensures { result ≡ spare keys.now }
 {
     keys.capacity() - keys.len()
 }
 
 /// Lets a tuple lead nowhere.
-fn forget(keys: &mut HashMap<Tuple, usize, RandomState>, tuple: Tuple)
+fn forget(keys: &mut HashMap<Tuple, u32, RandomState>, tuple: Tuple)
     ensures keys { (q : Tupled) → get same_tuple keys.new q ≡ cond (same_tuple tuple q) None (get same_tuple keys.old q) }
     ensures spare { spare keys.old ≤ spare keys.new }
 {
@@ -180,14 +181,14 @@ fn forget(keys: &mut HashMap<Tuple, usize, RandomState>, tuple: Tuple)
 }
 
 /// The slot that a tuple leads to.
-fn key_of(keys: &HashMap<Tuple, usize, RandomState>, tuple: Tuple) -> Option<usize>
+fn key_of(keys: &HashMap<Tuple, u32, RandomState>, tuple: Tuple) -> Option<usize>
     ensures { result ≡ get same_tuple keys.now tuple }
 {
-    keys.get(&tuple).copied()
+    keys.get(&tuple).map(|key| *key as usize)
 }
 
 /// Whether a tuple leads to a slot.
-fn leads(keys: &HashMap<Tuple, usize, RandomState>, tuple: Tuple) -> bool
+fn leads(keys: &HashMap<Tuple, u32, RandomState>, tuple: Tuple) -> bool
     ensures { result ≡ is_some (get same_tuple keys.now tuple) }
 {
     keys.contains_key(&tuple)

@@ -4,6 +4,7 @@
 
 mod aged_slots;
 mod aged_tracker;
+mod ends;
 mod rings;
 mod slot;
 

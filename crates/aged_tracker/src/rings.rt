@@ -1,40 +1,30 @@
 //! Lists of slots, each a ring through its head. `steps` counts each slot that is read or written.
-ghost use Rattle.std.specs.Prelude.{◌≡◌, ◌≢◌, ◌+◌, ◌<◌, ◌≤◌, ◌++◌, ◌∷◌, [], ℕ, List, length, map, IfOk, Some, None, IfSome, slice_get};
-ghost use Rattle.slab.specs.Slab.{get, ContainsKey, Updates, HasRoomFor};
+ghost use Rattle.std.specs.Prelude.{◌≡◌, ◌+◌, ◌<◌, ◌≤◌, ◌++◌, ◌∷◌, [], ℕ, List, Some, None, IfSome, slice_get};
+ghost use Rattle.slab.specs.Slab.{get, ContainsKey, Updates};
 ghost use Rattle.futures.specs.Links.{Joins};
-ghost use Rattle.futures.specs.LinkedLists.{without};
-ghost use Rattle.aged_tracker.specs.steps.Rings.{number, link_at, next_of, prev_of, owner_of, key_at, keys_of, lists_of, with_list, with_link, IsOwned, IsPlace, IsRing, IsRings, Pushes, Relinks, SameAside, SameBare, SameSize, Slots, Unlinks};
-ghost use Rattle.aged_tracker.specs.declared.slot.At.TheVariants.{Head};
+ghost use Rattle.aged_tracker.specs.steps.Rings.{MOST_KEYS, number, link_at, next_of, prev_of, owner_of, keys_of, lists_of, with_list, with_link, IsOwned, IsPlace, IsRing, IsRings, Pushes, Relinks, SameAside, SameBare, SameSize, Slots, Unlinks};
+ghost use Rattle.aged_tracker.specs.declared.slot.Link.{Link as Linked};
 ghost use Rattle.aged_tracker.specs.declared.slot.Thread.{Thread as Threaded};
 
-use crate::slot::{At, Knot, Link, Slot, Thread};
+use crate::slot::{At, Knot, LISTS, Link, Slot, Thread};
 use conntrack::Steps;
 use slab::Slab;
-
-/// How many lists a thread has: one for each idle limit. The order of beginning is the first one.
-pub const LISTS: usize = 5;
 
 /// The link at a place.
 fn link_at(slots: &Slab<Slot>, heads: &[Link; LISTS], thread: Thread, at: At) -> Link
     requires { IsPlace slots.now (number at) }
     ensures { result ≡ link_at thread slots.now heads.now (number at) }
 {
-    match at {
-        At::Head(list) => {
-            if list < LISTS {
-                heads[list]
-            } else {
-                slot_link(slots, thread, list - LISTS)
-            }
-        }
-        At::Key(key) => slot_link(slots, thread, key),
+    match at.key() {
+        Some(key) => slot_link(slots, thread, key),
+        None => heads[at.number()],
     }
 }
 
 /// The link of a slot.
 fn slot_link(slots: &Slab<Slot>, thread: Thread, key: usize) -> Link
     requires { ContainsKey slots.now key }
-    ensures { result ≡ link_at thread slots.now [] (5 + key) }
+    ensures { (heads : List Linked) → result ≡ link_at thread slots.now heads (5 + key) }
 {
     match slots.get(key) {
         Some(slot) => slot.knot(thread).link,
@@ -77,15 +67,9 @@ fn set_link(
     ensures steps { steps.new ≤ steps.old + 1 }
     ensures head { number at < 5 → steps.new ≤ steps.old }
 {
-    match at {
-        At::Head(list) => {
-            if list < LISTS {
-                heads[list] = link;
-            } else {
-                set_slot_link(slots, thread, list - LISTS, link, steps);
-            }
-        }
-        At::Key(key) => set_slot_link(slots, thread, key, link, steps),
+    match at.key() {
+        Some(key) => set_slot_link(slots, thread, key, link, steps),
+        None => heads[at.number()] = link,
     }
 }
 
@@ -142,7 +126,7 @@ fn set_prev(
 }
 
 /// Writes which list a slot is in.
-fn set_list(slots: &mut Slab<Slot>, thread: Thread, key: usize, list: Option<usize>)
+fn set_list(slots: &mut Slab<Slot>, thread: Thread, key: usize, list: Option<u8>)
     requires { ContainsKey slots.old key }
     ensures slots { IfSome (get slots.old key) (λ s. Updates slots.old slots.new key (Some (with_list thread list s))) }
     ensures size { SameSize slots.old slots.new }
@@ -164,7 +148,7 @@ fn owner(slots: &Slab<Slot>, thread: Thread, key: usize) -> usize
 {
     match slots.get(key) {
         Some(slot) => match slot.knot(thread).list {
-            Some(list) => list,
+            Some(list) => usize::from(list),
             None => unreachable!(),
         },
         None => unreachable!(),
@@ -192,7 +176,7 @@ pub fn unlink(
 {
     steps.tick();
     let list = owner(slots, thread, key);
-    let link = link_at(slots, heads, thread, At::Key(key));
+    let link = slot_link(slots, thread, key);
     set_next(slots, heads, thread, link.prev, link.next, steps);
     set_prev(slots, heads, thread, link.next, link.prev, steps);
     set_list(slots, thread, key, None);
@@ -210,6 +194,7 @@ pub fn push_back(
 )
     requires range { list < 5 }
     requires slot { ContainsKey slots.old key }
+    requires few { key < MOST_KEYS }
     requires free { owner_of thread slots.old key ≡ None }
     requires rings { IsRings thread slots.old heads.old }
     ensures rings { IsRings thread slots.new heads.new }
@@ -219,31 +204,17 @@ pub fn push_back(
     ensures rises { steps.old ≤ steps.new }
     ensures steps { steps.new ≤ steps.old + 2 }
 {
-    let last = link_at(slots, heads, thread, At::Head(list)).prev;
+    let head = At::head(list);
+    let slot = At::slot(key);
+    let last = link_at(slots, heads, thread, head).prev;
     let own = Link {
         prev: last,
-        next: At::Head(list),
+        next: head,
     };
-    set_link(slots, heads, thread, At::Key(key), own, steps);
-    set_next(slots, heads, thread, last, At::Key(key), steps);
-    set_prev(slots, heads, thread, At::Head(list), At::Key(key), steps);
-    set_list(slots, thread, key, Some(list));
-}
-
-/// The key at a place, where that is no head.
-fn key_at(at: At) -> Option<usize>
-    ensures { result ≡ key_at (number at) }
-{
-    match at {
-        At::Head(list) => {
-            if list < LISTS {
-                None
-            } else {
-                Some(list - LISTS)
-            }
-        }
-        At::Key(key) => Some(key),
-    }
+    set_link(slots, heads, thread, slot, own, steps);
+    set_next(slots, heads, thread, last, slot, steps);
+    set_prev(slots, heads, thread, head, slot, steps);
+    set_list(slots, thread, key, Some(list as u8));
 }
 
 /// The first key of a list. No slot is visited.
@@ -257,26 +228,15 @@ pub fn front(
     requires rings { IsRings thread slots.now heads.now }
     ensures { result ≡ slice_get (keys_of thread slots.now heads.now list) 0 }
 {
-    key_at(link_at(slots, heads, thread, At::Head(list)).next)
+    link_at(slots, heads, thread, At::head(list)).next.key()
 }
 
 /// The key after a key in its list.
-pub fn after(slots: &Slab<Slot>, heads: &[Link; LISTS], thread: Thread, key: usize) -> Option<usize>
+pub fn after(slots: &Slab<Slot>, thread: Thread, key: usize) -> Option<usize>
     requires { ContainsKey slots.now key }
-    ensures { (list : ℕ) (before rest : List ℕ) → list < 5 → IsRing thread slots.now heads.now list (before ++ key ∷ rest) → result ≡ slice_get rest 0 }
+    ensures { (heads : List Linked) (list : ℕ) (before rest : List ℕ) → list < 5 → IsRing thread slots.now heads list (before ++ key ∷ rest) → result ≡ slice_get rest 0 }
 {
-    key_at(link_at(slots, heads, thread, At::Key(key)).next)
-}
-
-/// The link of a head whose list is empty.
-fn alone(list: usize) -> Link
-    ensures prev { result.prev ≡ Head list }
-    ensures next { result.next ≡ Head list }
-{
-    Link {
-        prev: At::Head(list),
-        next: At::Head(list),
-    }
+    slot_link(slots, thread, key).next.key()
 }
 
 /// The heads of empty lists.
@@ -284,15 +244,11 @@ pub fn empty_heads() -> [Link; LISTS]
     ensures rings { (thread : Threaded) (slots : Slots) → slots.slots ≡ [] → IsRings thread slots result }
     ensures lists { (thread : Threaded) (slots : Slots) (list : ℕ) → slots.slots ≡ [] → keys_of thread slots result list ≡ [] }
 {
-    [alone(0), alone(1), alone(2), alone(3), alone(4)]
-}
-
-/// The place of a slot that is in no list.
-pub fn untied() -> Knot
-    ensures { result.list ≡ None }
-{
-    Knot {
-        list: None,
-        link: alone(0),
-    }
+    [
+        Link::alone(0),
+        Link::alone(1),
+        Link::alone(2),
+        Link::alone(3),
+        Link::alone(4),
+    ]
 }

@@ -1,17 +1,54 @@
 //! A slot of the table, and how it is linked with others.
-ghost use Rattle.std.specs.Prelude.{◌≡◌};
-ghost use Rattle.aged_tracker.specs.steps.Rings.{knot_of, with_knot};
+ghost use Rattle.std.specs.Prelude.{◌≡◌, ◌+◌, ◌<◌, ℕ, None};
+ghost use Rattle.conntrack.specs.Held.{touched};
+ghost use Rattle.aged_tracker.specs.steps.Rings.{MOST_KEYS, held_of, key_at, knot_of, noted, number, with_knot};
+ghost use Rattle.aged_tracker.specs.declared.slot.Thread.TheVariants.{Queues, Order};
 
-use conntrack::Held;
+use crate::ends::Ends;
+use conntrack::{ConnId, Direction, Flags, Held, Moment};
+use std::mem::size_of;
 
-/// The head of a list, or the slot of a key. A head past the lists counts as a slot's place, as
-/// heads and slots are numbered one after another; no link leads to one.
+/// How many lists a thread has: one for each idle limit. The order of beginning is the first one.
+pub const LISTS: usize = 5;
+
+/// How many keys slots may have, so that each place has a number of 32 bits.
+pub const MOST_KEYS: usize = 4_294_967_291;
+
+/// Where a link leads: heads and slots are numbered one after another, first the heads of the lists,
+/// then the slots by their keys. Each slot has four of these numbers, so they have 32 bits.
 #[derive(Clone, Copy)]
-pub enum At {
-    /// The head of the list with a number.
-    Head(usize),
+pub struct At(u32);
+
+impl At {
+    /// The head of a list.
+    pub fn head(list: usize) -> Self
+        requires { list < 5 }
+        ensures { number result ≡ list }
+    {
+        At(list as u32)
+    }
+
     /// The slot with a key.
-    Key(usize),
+    pub fn slot(key: usize) -> Self
+        requires { key < MOST_KEYS }
+        ensures { number result ≡ 5 + key }
+    {
+        At((LISTS + key) as u32)
+    }
+
+    /// Its number among heads and slots.
+    pub fn number(self) -> usize
+        ensures { result ≡ number self }
+    {
+        self.0 as usize
+    }
+
+    /// The key of the slot, where it is no head.
+    pub fn key(self) -> Option<usize>
+        ensures { result ≡ key_at (number self) }
+    {
+        self.number().checked_sub(LISTS)
+    }
 }
 
 /// What stands before and after in a ring.
@@ -23,11 +60,26 @@ pub struct Link {
     pub next: At,
 }
 
+impl Link {
+    /// That of a head whose list is empty.
+    pub fn alone(list: usize) -> Self
+        requires { list < 5 }
+        ensures prev { number result.prev ≡ list }
+        ensures next { number result.next ≡ list }
+    {
+        let head = At::head(list);
+        Link {
+            prev: head,
+            next: head,
+        }
+    }
+}
+
 /// A slot's place in a list of a thread.
 #[derive(Clone, Copy)]
 pub struct Knot {
-    /// The list that it is in, if it is in one.
-    pub list: Option<usize>,
+    /// The number of the list that it is in, if it is in one.
+    pub list: Option<u8>,
     /// Its neighbours there.
     pub link: Link,
 }
@@ -41,25 +93,106 @@ pub enum Thread {
     Order,
 }
 
-/// A connection, with its places in its queue and in the order of beginning.
+/// A connection, with its places in its queue and in the order of beginning. Fields lie in memory in
+/// this order, those of wide alignment first, so that no room is left between them. The
+/// connection's name isn't among them: it is the slot's key.
 #[derive(Clone, Copy)]
 pub struct Slot {
-    /// The connection.
-    pub held: Held,
-    /// Its place in its queue.
-    pub queue: Knot,
-    /// Its place in the order of beginning.
-    pub order: Knot,
+    /// The moment of the connection's last packet.
+    pub last: Moment,
+    mark: u32,
+    queue: Link,
+    order: Link,
+    original: Ends,
+    reply: Ends,
+    source: Option<Ends>,
+    dest: Option<Ends>,
+    from_original: Flags,
+    from_reply: Flags,
+    replied: bool,
+    in_queue: Option<u8>,
+    in_order: Option<u8>,
 }
 
+const _: () = prove!(size_of::<Slot>() == 104);
+
 impl Slot {
+    /// A slot of a connection, in no list.
+    pub fn new(held: &Held) -> Self
+        ensures held { (key : ℕ) → held_of key result ≡ record held.now { id = record { 0 = key } } }
+        ensures queue { (knot_of Queues result).list ≡ None }
+        ensures order { (knot_of Order result).list ≡ None }
+    {
+        Slot {
+            last: held.last,
+            mark: held.mark,
+            queue: Link::alone(0),
+            order: Link::alone(0),
+            original: Ends::of_tuple(held.original),
+            reply: Ends::of_tuple(held.reply),
+            source: Ends::of_mapping(held.source),
+            dest: Ends::of_mapping(held.dest),
+            from_original: held.from_original,
+            from_reply: held.from_reply,
+            replied: held.replied,
+            in_queue: None,
+            in_order: None,
+        }
+    }
+
+    /// The connection in the slot of this key.
+    pub fn held(&self, key: usize) -> Held
+        ensures { result ≡ held_of key self.now }
+    {
+        Held {
+            id: ConnId(key),
+            original: self.original.tuple(),
+            reply: self.reply.tuple(),
+            mark: self.mark,
+            last: self.last,
+            from_original: self.from_original,
+            from_reply: self.from_reply,
+            replied: self.replied,
+            source: Ends::mapping(self.source),
+            dest: Ends::mapping(self.dest),
+        }
+    }
+
+    /// Counts one more packet of the connection in the slot of this key, and answers how it is then.
+    pub fn touch(
+        &mut self,
+        key: usize,
+        direction: Direction,
+        flags: Flags,
+        mark: u32,
+        now: Moment,
+    ) -> Held
+        ensures result { result ≡ touched direction flags mark now (held_of key self.old) }
+        ensures slot { self.new ≡ noted (touched direction flags mark now (held_of key self.old)) self.old }
+    {
+        let mut held = self.held(key);
+        held.touch(direction, flags, mark, now);
+        self.last = held.last;
+        self.mark = held.mark;
+        self.from_original = held.from_original;
+        self.from_reply = held.from_reply;
+        self.replied = held.replied;
+        held
+    }
+
     /// Its place in a list of a thread.
     pub fn knot(&self, thread: Thread) -> Knot
         ensures { result ≡ knot_of thread self.now }
     {
         match thread {
-            Thread::Queues => self.queue,
-            Thread::Order => self.order,
+            Thread::Queues => Knot {
+                list: self.in_queue,
+                link: self.queue,
+            },
+            Thread::Order => Knot {
+                list: self.in_order,
+                link: self.order,
+            },
         }
     }
 
@@ -68,8 +201,14 @@ impl Slot {
         ensures { self.new ≡ with_knot thread knot self.old }
     {
         match thread {
-            Thread::Queues => self.queue = knot,
-            Thread::Order => self.order = knot,
+            Thread::Queues => {
+                self.in_queue = knot.list;
+                self.queue = knot.link;
+            }
+            Thread::Order => {
+                self.in_order = knot.list;
+                self.order = knot.link;
+            }
         }
     }
 }

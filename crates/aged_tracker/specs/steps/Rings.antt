@@ -1,12 +1,12 @@
 -- Rings of links through the slots of a slab, each through its head. A slot is in a ring of each thread.
-use Rattle.std.specs.Prelude.{◌≡◌, ◌≢◌, ℕ, zero, suc, ◌+◌, ◌-◌, ◌<◌, ◌≤◌, nat_lt, if◌then◌else◌, List, [], ◌∷◌, ◌++◌}
+use Rattle.std.specs.Prelude.{◌≡◌, ◌≢◌, ℕ, zero, suc, ◌-◌, ◌<◌, ◌≤◌, nat_lt, if◌then◌else◌, List, [], ◌∷◌, ◌++◌}
 use Rattle.std.specs.Prelude.{length, Option, Some, None, IsSome, option_map, slice_index_or}
-use Rattle.slab.specs.Slab.{Slab, get, slab_len}
+use Rattle.slab.specs.Slab.{Slab, Updates, get, slab_len}
 use Rattle.futures.specs.LinkedLists.{without}
 use Rattle.futures.specs.Links as ring
 use Rattle.conntrack.specs.declared.connection.Held.{Held}
+use Rattle.aged_tracker.specs.steps.Ends.{mapping_of, tuple_of}
 use Rattle.aged_tracker.specs.declared.slot.At.{At}
-use Rattle.aged_tracker.specs.declared.slot.At.TheVariants.{Head, Key}
 use Rattle.aged_tracker.specs.declared.slot.Knot.{Knot}
 use Rattle.aged_tracker.specs.declared.slot.Link.{Link}
 use Rattle.aged_tracker.specs.declared.slot.Slot.{Slot}
@@ -16,12 +16,16 @@ use Rattle.aged_tracker.specs.declared.slot.Thread.TheVariants.{Queues, Order}
 -- ---- slots
 
 abbrev pub knot_of : Thread → Slot → Knot
-knot_of Queues slot = slot.queue
-knot_of Order slot = slot.order
+knot_of Queues slot = record { list = slot.in_queue; link = slot.queue }
+knot_of Order slot = record { list = slot.in_order; link = slot.order }
 
 abbrev pub with_knot : Thread → Knot → Slot → Slot
-with_knot Queues knot slot = record slot { queue = knot }
-with_knot Order knot slot = record slot { order = knot }
+with_knot Queues knot slot = record slot { in_queue = knot.list; queue = knot.link }
+with_knot Order knot slot = record slot { in_order = knot.list; order = knot.link }
+
+-- a slot in the same places of its lists
+abbrev pub IsAsLinked : Slot → Slot → Type 0
+IsAsLinked old new = (thread : Thread) → knot_of thread new ≡ knot_of thread old
 
 abbrev pub other_thread : Thread → Thread
 other_thread Queues = Order
@@ -33,16 +37,46 @@ with_link thread link slot = with_knot thread (record { list = (knot_of thread s
 abbrev pub with_list : Thread → Option ℕ → Slot → Slot
 with_list thread list slot = with_knot thread (record { list = list; link = (knot_of thread slot).link }) slot
 
-abbrev pub held_of : Slot → Held
-held_of slot = slot.held
+-- the connection in the slot of a key
+abbrev pub held_of : ℕ → Slot → Held
+held_of key slot = record {
+  id = record { 0 = key };
+  original = tuple_of slot.original;
+  reply = tuple_of slot.reply;
+  mark = slot.mark;
+  last = slot.last;
+  from_original = slot.from_original;
+  from_reply = slot.from_reply;
+  replied = slot.replied;
+  source = option_map mapping_of slot.source;
+  dest = option_map mapping_of slot.dest;
+}
 
 -- what is held in a slot
 abbrev pub held_at : Slab Slot → ℕ → Option Held
-held_at slots key = option_map held_of (get slots key)
+held_at slots key = option_map (held_of key) (get slots key)
 
 abbrev pub cons_held : Option Held → List Held → List Held
 cons_held None held = held
 cons_held (Some h) held = h ∷ held
+
+-- a slot in which a connection is noted, whose tuples and mappings it has
+abbrev pub noted : Held → Slot → Slot
+noted h slot = record slot {
+  last = h.last;
+  mark = h.mark;
+  from_original = h.from_original;
+  from_reply = h.from_reply;
+  replied = h.replied;
+}
+
+-- a slot gets this connection, and is in no list
+pub record Fills (old new : Slab Slot) (key : ℕ) (h : Held) : Type 0 where
+  pub slot : Slot
+  pub updates : Updates old new key (Some slot)
+  pub holds : held_of key slot ≡ h
+  pub no_queue : (knot_of Queues slot).list ≡ None
+  pub no_order : (knot_of Order slot).list ≡ None
 
 -- what is held at these keys
 abbrev pub held_in : (ℕ → Option Held) → List ℕ → List Held
@@ -51,13 +85,16 @@ held_in at (key ∷ keys) = cons_held (at key) (held_in at keys)
 
 -- ---- places
 
+-- how many keys slots may have
+abbrev pub MOST_KEYS : ℕ
+MOST_KEYS = 4294967291
+
 -- the heads are numbered first, then the slots
 abbrev pub number : At → ℕ
-number (Head list) = list
-number (Key key) = 5 + key
+number at = at.0
 
 abbrev pub no_link : Link
-no_link = record { prev = Head 0; next = Head 0 }
+no_link = record { prev = record { 0 = 0 }; next = record { 0 = 0 } }
 
 abbrev pub link_by : Thread → Option Slot → Link
 link_by thread None = no_link
@@ -96,16 +133,20 @@ pub record Relinks (old new : ℕ → Link) (place : ℕ) (link : Link) : Type 0
   pub here : new place ≡ link
   pub others : (other : ℕ) → other ≢ place → new other ≡ old other
 
+-- the connection in a slot of whatever key
+abbrev pub kept_of : Slot → ℕ → Held
+kept_of slot key = held_of key slot
+
 -- a slot but for its neighbours in a thread
-abbrev pub bare : Thread → Slot → Option ℕ × (Held × Knot)
-bare thread slot = ((knot_of thread slot).list, (slot.held, knot_of (other_thread thread) slot))
+abbrev pub bare : Thread → Slot → Option ℕ × ((ℕ → Held) × Knot)
+bare thread slot = ((knot_of thread slot).list, (kept_of slot, knot_of (other_thread thread) slot))
 
 abbrev pub SameBare : Thread → Slab Slot → Slab Slot → Type 0
 SameBare thread old new = (key : ℕ) → option_map (bare thread) (get new key) ≡ option_map (bare thread) (get old key)
 
 -- a slot but for its place in a thread
-abbrev pub aside : Thread → Slot → Held × Knot
-aside thread slot = (slot.held, knot_of (other_thread thread) slot)
+abbrev pub aside : Thread → Slot → (ℕ → Held) × Knot
+aside thread slot = (kept_of slot, knot_of (other_thread thread) slot)
 
 abbrev pub SameAside : Thread → Slab Slot → Slab Slot → Type 0
 SameAside thread old new = (key : ℕ) → option_map (aside thread) (get new key) ≡ option_map (aside thread) (get old key)
@@ -167,6 +208,6 @@ pub record SameLists (old new : Lists) : Type 0 where
 abbrev pub Slots : Type 0
 Slots = Slab Slot
 
--- as many slots are in use, and as many fit
+-- as many slots are in use, as many fit, and the same one is used next
 abbrev pub SameSize : Slab Slot → Slab Slot → Type 0
-SameSize old new = (slab_len new ≡ slab_len old) × (new.capacity ≡ old.capacity)
+SameSize old new = (slab_len new ≡ slab_len old) × (new.capacity ≡ old.capacity) × (new.vacant_key ≡ old.vacant_key)

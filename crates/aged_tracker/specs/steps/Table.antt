@@ -1,6 +1,6 @@
 -- A table of connections: slots, one list through all of them in order of beginning, and a queue for each idle limit.
-use Rattle.std.specs.Prelude.{◌≡◌, ◌≢◌, ℕ, ◌<◌, ◌≤◌, Bool, true, nat_lt, ◌==◌, if◌then◌else◌, List, [], ◌∷◌}
-use Rattle.std.specs.Prelude.{Option, Some, None, option_map, slice_get, slice_index_or}
+use Rattle.std.specs.Prelude.{◌≡◌, ◌≢◌, ℕ, ◌<◌, ◌≤◌, Bool, true, nat_lt, ◌&&◌, ◌==◌, if◌then◌else◌, List, [], ◌∷◌}
+use Rattle.std.specs.Prelude.{Option, Some, None, IsSome, option_map, slice_get, slice_index_or}
 use Rattle.slab.specs.Slab.{slab_len}
 use Rattle.futures.specs.LinkedLists.{IsIn, IsApart}
 use Rattle.ip_headers.specs.declared.tuple.Kind.{Kind}
@@ -13,7 +13,7 @@ use Rattle.conntrack.specs.Phases.{phase_of, seconds}
 use Rattle.conntrack.specs.Held.{is_live}
 use Rattle.aged_tracker.specs.declared.aged_slots.AgedSlots.{AgedSlots}
 use Rattle.aged_tracker.specs.declared.slot.Thread.TheVariants.{Queues, Order}
-use Rattle.aged_tracker.specs.steps.Rings.{Lists, held_at, held_in, lists_of, IsRings}
+use Rattle.aged_tracker.specs.steps.Rings.{MOST_KEYS, Lists, held_at, held_in, lists_of, IsRings}
 
 -- ---- queues
 
@@ -109,10 +109,11 @@ pub record IsTable (t : AgedSlots) : Type 0 where
   pub queue_rings : IsRings Queues t.slots t.queues
   pub linked : IsLinked (slots_of t) (order_of t) (queues_of t)
   pub oldest : (q : ℕ) → q < 5 → IsOldest (slots_of t) (queues_of t) q (slice_index_or t.oldest q 0)
+  pub few : (key : ℕ) → IsSome (slots_of t key) → key < MOST_KEYS
 
 -- whether one more takes no memory
 abbrev pub has_room : AgedSlots → Bool
-has_room t = nat_lt (slab_len t.slots) t.slots.capacity
+has_room t = nat_lt (slab_len t.slots) t.slots.capacity && nat_lt t.slots.vacant_key MOST_KEYS
 
 -- a slot's connection is this, and every other slot's is as it was
 pub record Sets (old new : ℕ → Option Held) (key : ℕ) (slot : Option Held) : Type 0 where

@@ -5,6 +5,6 @@ use Rattle.aged_tracker.proofs.Walks.{chain_after}
 use Rattle.aged_tracker.proofs.rings.after.Goals as goal
 
 pub returns : goal.returns
-returns c list before rest range ring =
-    c.key_at.ensures ∙ ap (λ (l : Link). key_at (number l.next)) c.link_at.ensures
-    ∙ chain_after c.args.thread ((next_of c.args.thread) c.args.slots.now c.args.heads.now) ((prev_of c.args.thread) c.args.slots.now c.args.heads.now) list list c.args.key before rest range ring.chained
+returns c heads list before rest range ring =
+    c.key.ensures ∙ ap (λ (l : Link). key_at (number l.next)) (c.slot_link.ensures heads)
+    ∙ chain_after c.args.thread ((next_of c.args.thread) c.args.slots.now heads) ((prev_of c.args.thread) c.args.slots.now heads) list list c.args.key before rest range ring.chained

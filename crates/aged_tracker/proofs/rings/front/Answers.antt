@@ -1,10 +1,10 @@
 use Rattle.std.proofs.Common.{ap, ◌∙◌}
 use Rattle.aged_tracker.specs.declared.slot.Link.{Link}
-use Rattle.aged_tracker.specs.steps.Rings.{number, key_at, keys_of, next_of, prev_of}
+use Rattle.aged_tracker.specs.steps.Rings.{number, key_at, link_at, keys_of, next_of, prev_of}
 use Rattle.aged_tracker.proofs.Walks.{chain_first}
 use Rattle.aged_tracker.proofs.rings.front.Goals as goal
 
 pub returns : goal.returns
 returns c =
-    c.key_at.ensures ∙ ap (λ (l : Link). key_at (number l.next)) c.link_at.ensures
+    c.key.ensures ∙ ap (λ (l : Link). key_at (number l.next)) (c.link_at.ensures ∙ ap (link_at c.args.thread c.args.slots.now c.args.heads.now) c.head.ensures)
     ∙ chain_first c.args.thread (next_of c.args.thread c.args.slots.now c.args.heads.now) (prev_of c.args.thread c.args.slots.now c.args.heads.now) c.args.list c.args.list (keys_of c.args.thread c.args.slots.now c.args.heads.now c.args.list) c.requires.range (c.requires.rings c.args.list c.requires.range).chained

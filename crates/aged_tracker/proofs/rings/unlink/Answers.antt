@@ -7,37 +7,37 @@ use Rattle.aged_tracker.proofs.Links.{bare_owner, bare_place, on_place, aside_ke
 use Rattle.aged_tracker.proofs.Moved.{Skipped, Listed, listed}
 use Rattle.aged_tracker.proofs.Kept.{rings_unlinked, lists_unlinked}
 use Rattle.aged_tracker.proofs.rings.unlink.Goals as goal
-use Rattle.aged_tracker.proofs.rings.unlink.Goals.{After-link_at-link, After-set_list}
+use Rattle.aged_tracker.proofs.rings.unlink.Goals.{After-slot_link-link, After-set_list}
 
-before : (c : After-link_at-link) → number c.link_at-link.result.prev ≡ (prev_of c.args.thread) c.args.slots.now c.args.heads.now (5 + c.args.key)
-before c = ap (λ (l : Link). number l.prev) c.link_at-link.ensures
+before : (c : After-slot_link-link) → number c.slot_link-link.result.prev ≡ (prev_of c.args.thread) c.args.slots.now c.args.heads.now (5 + c.args.key)
+before c = ap (λ (l : Link). number l.prev) (c.slot_link-link.ensures c.args.heads.now)
 
-after : (c : After-link_at-link) → number c.link_at-link.result.next ≡ (next_of c.args.thread) c.args.slots.now c.args.heads.now (5 + c.args.key)
-after c = ap (λ (l : Link). number l.next) c.link_at-link.ensures
+after : (c : After-slot_link-link) → number c.slot_link-link.result.next ≡ (next_of c.args.thread) c.args.slots.now c.args.heads.now (5 + c.args.key)
+after c = ap (λ (l : Link). number l.next) (c.slot_link-link.ensures c.args.heads.now)
 
-before_place : (c : After-link_at-link) → IsPlace c.args.slots.now (number c.link_at-link.result.prev)
+before_place : (c : After-slot_link-link) → IsPlace c.args.slots.now (number c.slot_link-link.result.prev)
 before_place c =
-    (on_place c.args.thread) c.args.slots.now c.args.heads.now c.requires.owned.0 (keys_of c.args.thread c.args.slots.now c.args.heads.now c.requires.owned.0) (number c.link_at-link.result.prev) c.requires.owned.1.0 (c.requires.rings c.requires.owned.0 c.requires.owned.1.0)
+    (on_place c.args.thread) c.args.slots.now c.args.heads.now c.requires.owned.0 (keys_of c.args.thread c.args.slots.now c.args.heads.now c.requires.owned.0) (number c.slot_link-link.result.prev) c.requires.owned.1.0 (c.requires.rings c.requires.owned.0 c.requires.owned.1.0)
     (rw (before c) (prev_on _ _ 5 c.requires.owned.0 (keys_of c.args.thread c.args.slots.now c.args.heads.now c.requires.owned.0) c.requires.owned.0 c.args.key (c.requires.rings c.requires.owned.0 c.requires.owned.1.0).chained ((c.requires.rings c.requires.owned.0 c.requires.owned.1.0).listed c.args.key c.requires.owned.1.1)))
 
-after_place : (c : After-link_at-link) → IsPlace c.args.slots.now (number c.link_at-link.result.next)
+after_place : (c : After-slot_link-link) → IsPlace c.args.slots.now (number c.slot_link-link.result.next)
 after_place c =
-    (on_place c.args.thread) c.args.slots.now c.args.heads.now c.requires.owned.0 (keys_of c.args.thread c.args.slots.now c.args.heads.now c.requires.owned.0) (number c.link_at-link.result.next) c.requires.owned.1.0 (c.requires.rings c.requires.owned.0 c.requires.owned.1.0)
+    (on_place c.args.thread) c.args.slots.now c.args.heads.now c.requires.owned.0 (keys_of c.args.thread c.args.slots.now c.args.heads.now c.requires.owned.0) (number c.slot_link-link.result.next) c.requires.owned.1.0 (c.requires.rings c.requires.owned.0 c.requires.owned.1.0)
     (rw (after c) (next_on _ _ 5 c.requires.owned.0 (keys_of c.args.thread c.args.slots.now c.args.heads.now c.requires.owned.0) c.requires.owned.0 c.args.key (c.requires.rings c.requires.owned.0 c.requires.owned.1.0).chained ((c.requires.rings c.requires.owned.0 c.requires.owned.1.0).listed c.args.key c.requires.owned.1.1)))
 
 pub set_next-requires : goal.set_next-requires
-set_next-requires c = before_place (goal.at.set_next-requires c).After-link_at-link
+set_next-requires c = before_place (goal.at.set_next-requires c).After-slot_link-link
 
 pub set_prev-requires : goal.set_prev-requires
 set_prev-requires c =
-    (bare_place c.args.thread) c.args.slots.now c.set_next.new.slots c.set_next.ensures.bare (number c.link_at-link.result.next) (after_place (goal.at.set_prev-requires c).After-link_at-link)
+    (bare_place c.args.thread) c.args.slots.now c.set_next.new.slots c.set_next.ensures.bare (number c.slot_link-link.result.next) (after_place (goal.at.set_prev-requires c).After-slot_link-link)
 
 skipped : (c : After-set_list) → Skipped c.args.thread c.args.slots.now c.set_list.new.slots c.args.heads.now c.set_prev.new.heads c.args.key
 skipped c =
     let some : IsSome (get c.set_prev.new.slots c.args.key) = search rules in
     let l : (Listed c.args.thread) c.set_prev.new.slots c.set_list.new.slots c.args.key None = (listed c.args.thread) _ _ _ _ some c.set_list.ensures.slots in
-    let b = ap (λ (l : Link). number l.prev) c.link_at-link.ensures in
-    let a = ap (λ (l : Link). number l.next) c.link_at-link.ensures in
+    let b = ap (λ (l : Link). number l.prev) (c.slot_link-link.ensures c.args.heads.now) in
+    let a = ap (λ (l : Link). number l.next) (c.slot_link-link.ensures c.args.heads.now) in
     record {
       next = record {
         here = ap (λ (x : Link). number x.next) (l.links c.set_prev.new.heads _) ∙ c.set_prev.ensures.next _ ∙ ap ((next_of c.args.thread) c.set_next.new.slots c.set_next.new.heads) (sym b) ∙ c.set_next.ensures.next.here ∙ a;

@@ -45,12 +45,12 @@ pub loop-place-preserved : goal.loop-place-preserved
 loop-place-preserved c =
     let s = here (goal.at.loop-place-preserved c).In-Some in
     let slot = some_of (get c.args.self.now.slots c.in-Some.key) (stands_slot Order c.args.self.now.slots c.args.self.now.order 0 low (ring c.args.self.now c.requires) c.in-Some.key c.loop-place.all.items s) in
-    let held : held_at c.args.self.now.slots c.in-Some.key ≡ Some slot.0.held = ap (option_map held_of) slot.1 in
-    let told : c.connection_at-connection.result ≡ connection_of slot.0.held = rw held at c.connection_at-connection.ensures in
+    let held : held_at c.args.self.now.slots c.in-Some.key ≡ Some (held_of c.in-Some.key slot.0) = ap (option_map (held_of c.in-Some.key)) slot.1 in
+    let told : c.connection_at-connection.result ≡ connection_of (held_of c.in-Some.key slot.0) = rw held at c.connection_at-connection.ensures in
     let all : c.push.new.self.items ≡ c.loop-place.all.items ++ c.connection_at-connection.result ∷ [] = search rules in
     rw (all, told)
-    (read_more Order c.args.self.now.slots c.args.self.now.order 0 low (ring c.args.self.now c.requires) c.in-Some.key c.loop-place.all.items s c.after-place.result slot.0.held held
-    (c.after-place.ensures 0 s.before s.rest low (stands_ring Order c.args.self.now.slots c.args.self.now.order 0 low (ring c.args.self.now c.requires) c.in-Some.key c.loop-place.all.items s)))
+    (read_more Order c.args.self.now.slots c.args.self.now.order 0 low (ring c.args.self.now c.requires) c.in-Some.key c.loop-place.all.items s c.after-place.result (held_of c.in-Some.key slot.0) held
+    (c.after-place.ensures c.args.self.now.order 0 s.before s.rest low (stands_ring Order c.args.self.now.slots c.args.self.now.order 0 low (ring c.args.self.now c.requires) c.in-Some.key c.loop-place.all.items s)))
 
 pub returns : goal.returns
 returns c =

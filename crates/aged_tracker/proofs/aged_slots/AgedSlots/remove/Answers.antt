@@ -1,5 +1,5 @@
-use Rattle.std.proofs.Common.{◌≡◌, length, rules}
-use Rattle.aged_tracker.proofs.Turns.{left_rings, ended_rings, ended_held, ended_table}
+use Rattle.std.proofs.Common.{◌≡◌, length, Some, ap, sym, ◌∙◌, rules}
+use Rattle.aged_tracker.proofs.Turns.{left_rings, ended_rings, ended_value, ended_sets, ended_held, ended_table}
 use Rattle.aged_tracker.proofs.aged_slots.AgedSlots.remove.Goals as goal
 
 pub unlink-requires-clause-rings : goal.unlink-requires-clause-rings
@@ -15,3 +15,9 @@ returns-clause-table c =
 
 pub returns-clause-held : goal.returns-clause-held
 returns-clause-held c = ended_held c.args.self.now c.unlink-left.new.slots c.unlink-left.new.heads c.args.id c.unlink-left.result c.requires.table c.unlink-left.ensures.rings c.unlink-left.ensures.lists c.unlink-left.ensures.owner c.unlink-left.ensures.aside c.unlink.new.slots c.unlink.new.heads c.unlink.result c.unlink.ensures.rings c.unlink.ensures.lists c.unlink.ensures.owner c.unlink.ensures.aside c.remove-slot.new.self c.remove-slot.result c.remove-slot.ensures.value c.remove-slot.ensures.updates
+
+pub returns-clause-value : goal.returns-clause-value
+returns-clause-value c = ended_value c.args.self.now c.unlink-left.new.slots c.unlink-left.new.heads c.args.id c.unlink-left.result c.requires.table c.unlink-left.ensures.rings c.unlink-left.ensures.lists c.unlink-left.ensures.owner c.unlink-left.ensures.aside c.unlink.new.slots c.unlink.new.heads c.unlink.result c.unlink.ensures.rings c.unlink.ensures.lists c.unlink.ensures.owner c.unlink.ensures.aside c.remove-slot.new.self c.remove-slot.result c.remove-slot.ensures.value c.remove-slot.ensures.updates ∙ ap Some (sym c.held.ensures)
+
+pub returns-clause-slots : goal.returns-clause-slots
+returns-clause-slots c = ended_sets c.args.self.now c.unlink-left.new.slots c.unlink-left.new.heads c.args.id c.unlink-left.result c.requires.table c.unlink-left.ensures.rings c.unlink-left.ensures.lists c.unlink-left.ensures.owner c.unlink-left.ensures.aside c.unlink.new.slots c.unlink.new.heads c.unlink.result c.unlink.ensures.rings c.unlink.ensures.lists c.unlink.ensures.owner c.unlink.ensures.aside c.remove-slot.new.self c.remove-slot.result c.remove-slot.ensures.value c.remove-slot.ensures.updates

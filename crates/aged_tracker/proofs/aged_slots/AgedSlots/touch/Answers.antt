@@ -1,10 +1,15 @@
 use Rattle.std.proofs.Common.{◌≡◌, length, rules}
-use Rattle.aged_tracker.proofs.Turns.{touch_rings, touched_held, touched_slots, touched_table}
+use Rattle.aged_tracker.proofs.Turns.{touch_free, touch_rings, touched_held, touched_slots, touched_table}
 use Rattle.aged_tracker.proofs.aged_slots.AgedSlots.touch.Goals as goal
 
 pub push_back-requires-clause-rings : goal.push_back-requires-clause-rings
 push_back-requires-clause-rings c =
     touch_rings c.args.self.now c.unlink-left.new.slots c.touch_slot-queue.new.slots c.touch_slot-queue.new.slots c.unlink-left.new.heads c.unlink-left.new.heads c.args.id c.args.direction c.args.flags c.args.mark c.args.now c.unlink-left.result c.touch_slot-queue.result c.requires.table c.requires.is_held
+    c.unlink-left.ensures.rings c.unlink-left.ensures.lists c.unlink-left.ensures.owner c.unlink-left.ensures.aside c.touch_slot-queue.ensures.slots c.touch_slot-queue.ensures.queue
+
+pub push_back-requires-clause-free : goal.push_back-requires-clause-free
+push_back-requires-clause-free c =
+    touch_free c.args.self.now c.unlink-left.new.slots c.touch_slot-queue.new.slots c.touch_slot-queue.new.slots c.unlink-left.new.heads c.unlink-left.new.heads c.args.id c.args.direction c.args.flags c.args.mark c.args.now c.unlink-left.result c.touch_slot-queue.result c.requires.table c.requires.is_held
     c.unlink-left.ensures.rings c.unlink-left.ensures.lists c.unlink-left.ensures.owner c.unlink-left.ensures.aside c.touch_slot-queue.ensures.slots c.touch_slot-queue.ensures.queue
 
 pub returns-clause-table : goal.returns-clause-table

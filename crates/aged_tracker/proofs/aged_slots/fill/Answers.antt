@@ -1,0 +1,11 @@
+use Rattle.aged_tracker.proofs.aged_slots.fill.Goals as goal
+
+pub returns-clause-fills : goal.returns-clause-fills
+returns-clause-fills c =
+    record {
+      slot = c.new.result;
+      updates = c.insert_reserved.ensures.updates;
+      holds = c.new.ensures.held c.insert_reserved.result;
+      no_queue = c.new.ensures.queue;
+      no_order = c.new.ensures.order;
+    }
