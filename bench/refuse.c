@@ -2,25 +2,29 @@
 
    REFUSE_CALL names the calls that are counted, `memory`, `read`, `write`, `open` or `stat`; the call number
    REFUSE_AT, from 1, is refused, and all behind it where REFUSE_ALL is set. Each refusal is told on the
-   descriptor 9, a byte each: the digit of the descriptor where it is one of the three that a process begins
-   with, 'a' where it is the first file that was opened, 'b' where it is the second .., else '-'. A refused
-   call sets errno to REFUSE_ERRNO; where that is 0 a write takes no byte. */
-#define _GNU_SOURCE
-#include <errno.h>
-#include <fcntl.h>
-#include <stdarg.h>
-#include <stdlib.h>
-#include <string.h>
-#include <sys/stat.h>
-#include <sys/syscall.h>
-#include <unistd.h>
+   descriptor 9, a byte each: of a call on a descriptor the digit where that is one of the three that a process
+   begins with, 'a' where it is the first file that was opened, 'b' where it is the second .., else '-'; of a
+   request for memory the letter of the file that was opened last, '-' where none was. A refused call sets
+   errno to REFUSE_ERRNO; where that is 0 a write takes no byte.
+
+   The toolchain's compiler has no header files, so what is used is declared here, for Linux on x86-64. */
+typedef unsigned long size_t;
+typedef long ssize_t;
+
+enum { SYS_READ = 0, SYS_WRITE = 1, SYS_OPENAT = 257, SYS_STATX = 332, AT_FDCWD = -100, NO_MEMORY = 12 };
 
 extern void *__libc_malloc(size_t);
+extern void *__libc_calloc(size_t, size_t);
 extern void *__libc_realloc(void *, size_t);
+extern void *__libc_memalign(size_t, size_t);
+extern int *__errno_location(void);
+extern char *getenv(const char *);
+extern int atoi(const char *);
+extern int strcmp(const char *, const char *);
+extern long syscall(long, ...);
 
 static const char *call = "";
-static long at, count;
-static int all, number;
+static int at, count, all, number;
 /* By descriptor, the letter of the file. */
 static char letters[64] = "012";
 static char next = 'a';
@@ -30,42 +34,66 @@ __attribute__((constructor)) static void begin(void) {
     if (!word)
         return;
     call = word;
-    all = getenv("REFUSE_ALL") != NULL;
+    all = getenv("REFUSE_ALL") != 0;
     word = getenv("REFUSE_ERRNO");
-    number = word ? atoi(word) : ENOMEM;
+    number = word ? atoi(word) : NO_MEMORY;
     word = getenv("REFUSE_AT");
-    at = word ? atol(word) : 1;
+    at = word ? atoi(word) : 1;
 }
 
-/* Whether this call is refused. */
-static int refuses(const char *name, int descriptor) {
-    char byte = descriptor >= 0 && descriptor < 64 ? letters[descriptor] : '-';
+/* Whether this call is refused, which `byte` is told of. */
+static int refuses(const char *name, char byte) {
     if (strcmp(name, call))
         return 0;
     count += 1;
     if (all ? count < at : count != at)
         return 0;
-    syscall(SYS_write, 9, &byte, 1);
-    errno = number;
+    syscall(SYS_WRITE, 9, &byte, 1);
+    *__errno_location() = number;
     return 1;
 }
 
+static int refuses_memory(void) {
+    return refuses("memory", next == 'a' ? '-' : next - 1);
+}
+
+static char letter(int descriptor) {
+    char byte = descriptor >= 0 && descriptor < 64 ? letters[descriptor] : 0;
+    return byte ? byte : '-';
+}
+
 void *malloc(size_t size) {
-    return refuses("memory", -1) ? NULL : __libc_malloc(size);
+    return refuses_memory() ? 0 : __libc_malloc(size);
+}
+
+void *calloc(size_t many, size_t size) {
+    return refuses_memory() ? 0 : __libc_calloc(many, size);
 }
 
 void *realloc(void *old, size_t size) {
-    return refuses("memory", -1) ? NULL : __libc_realloc(old, size);
+    return refuses_memory() ? 0 : __libc_realloc(old, size);
+}
+
+void *aligned_alloc(size_t align, size_t size) {
+    return refuses_memory() ? 0 : __libc_memalign(align, size);
+}
+
+int posix_memalign(void **made, size_t align, size_t size) {
+    void *found = refuses_memory() ? 0 : __libc_memalign(align, size);
+    if (!found)
+        return NO_MEMORY;
+    *made = found;
+    return 0;
 }
 
 ssize_t read(int descriptor, void *bytes, size_t length) {
-    return refuses("read", descriptor) ? -1 : syscall(SYS_read, descriptor, bytes, length);
+    return refuses("read", letter(descriptor)) ? -1 : syscall(SYS_READ, descriptor, bytes, length);
 }
 
 ssize_t write(int descriptor, const void *bytes, size_t length) {
-    if (refuses("write", descriptor))
+    if (refuses("write", letter(descriptor)))
         return number ? -1 : 0;
-    return syscall(SYS_write, descriptor, bytes, length);
+    return syscall(SYS_WRITE, descriptor, bytes, length);
 }
 
 ssize_t __write(int descriptor, const void *bytes, size_t length) {
@@ -73,18 +101,18 @@ ssize_t __write(int descriptor, const void *bytes, size_t length) {
 }
 
 int open(const char *path, int flags, ...) {
-    va_list rest;
-    va_start(rest, flags);
-    mode_t mode = va_arg(rest, mode_t);
-    va_end(rest);
-    if (refuses("open", -1))
+    __builtin_va_list rest;
+    __builtin_va_start(rest, flags);
+    unsigned mode = __builtin_va_arg(rest, unsigned);
+    __builtin_va_end(rest);
+    if (refuses("open", '-'))
         return -1;
-    int descriptor = syscall(SYS_openat, AT_FDCWD, path, flags, mode);
+    int descriptor = syscall(SYS_OPENAT, AT_FDCWD, path, flags, mode);
     if (descriptor >= 0 && descriptor < 64)
         letters[descriptor] = next++;
     return descriptor;
 }
 
-int statx(int folder, const char *path, int flags, unsigned mask, struct statx *told) {
-    return refuses("stat", -1) ? -1 : syscall(SYS_statx, folder, path, flags, mask, told);
+int statx(int folder, const char *path, int flags, unsigned mask, void *told) {
+    return refuses("stat", '-') ? -1 : syscall(SYS_STATX, folder, path, flags, mask, told);
 }

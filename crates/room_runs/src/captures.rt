@@ -84,6 +84,26 @@ fn records_are_counted_or_refused(rt: HostRuntime) -> Result<(), Fail> {
     Ok(())
 }
 
+/// Headers of records at their limits and one past, each with so many bytes behind it: captured lengths
+/// of 262,144 and 262,145, and one byte fewer than that tells; 999,999 and 1,000,000 microseconds.
+const RECORDS: [(&str, usize, Result<u64, CaptureError>); 5] = [
+    ("00000000000000000000040000000000", 262_144, Ok(1)),
+    ("00000000000000000000040000000000", 262_143, TORN_END),
+    ("00000000000000000100040000000000", 262_145, MALFORMED),
+    ("000000003f420f000000000000000000", 0, Ok(1)),
+    ("0000000040420f000000000000000000", 0, MALFORMED),
+];
+
+#[test]
+fn records_have_limits(rt: HostRuntime) -> Result<(), Fail> {
+    for (row, (header, count, wanted)) in RECORDS.iter().enumerate() {
+        let start = bytes(rt.alloc(), &[HEADER, *header])?;
+        let capture = repeated(rt.alloc(), &start, b"x", *count, b"")?;
+        assert!(&rt; count_records(&rt, &capture) == *wanted, "row {row}");
+    }
+    Ok(())
+}
+
 /// Each read of 9 bytes fails in turn: that is answered, it is answered again, and nothing is read again.
 #[test]
 fn a_read_that_fails_is_told_again(rt: HostRuntime) -> Result<(), Fail> {

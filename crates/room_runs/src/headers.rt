@@ -121,6 +121,79 @@ fn first_faults(rt: HostRuntime) -> Result<(), Fail> {
     Ok(())
 }
 
+/// Packets of GRE without a payload, each test of a header at its limit and one past: 20 bytes and 19;
+/// versions 3 and 5; IHL 4; a total length of 19, and of 23 and 24 behind options; a total length of one
+/// more than there is, and that byte; a checksum of one more and one less; DF, the reserved bit, MF, the
+/// offsets 1 and 8,191. The others are right in all else.
+const LIMITS: [(&str, Option<HeaderFault>); 18] = [
+    ("4500001400010000402f8ecdc0a8010ac6336407", None),
+    (
+        "4500001400010000402f8ecdc0a8010ac63364",
+        Some(HeaderFault::Short),
+    ),
+    (
+        "3500001400010000402f9ecdc0a8010ac6336407",
+        Some(HeaderFault::Version),
+    ),
+    (
+        "5500001400010000402f7ecdc0a8010ac6336407",
+        Some(HeaderFault::Version),
+    ),
+    (
+        "4400001400010000402f8fcdc0a8010ac6336407",
+        Some(HeaderFault::HeaderLength),
+    ),
+    (
+        "4500001300010000402f8ecec0a8010ac6336407",
+        Some(HeaderFault::Length),
+    ),
+    (
+        "4600001700010000402f8bc9c0a8010ac633640701010100",
+        Some(HeaderFault::Length),
+    ),
+    ("4600001800010000402f8bc8c0a8010ac633640701010100", None),
+    (
+        "4500001500010000402f8eccc0a8010ac6336407",
+        Some(HeaderFault::Truncated),
+    ),
+    ("4500001500010000402f8eccc0a8010ac633640700", None),
+    (
+        "4500ffff00010000402f8ee1c0a8010ac633640700",
+        Some(HeaderFault::Truncated),
+    ),
+    (
+        "4500001400010000402f8ecec0a8010ac6336407",
+        Some(HeaderFault::Checksum),
+    ),
+    (
+        "4500001400010000402f8eccc0a8010ac6336407",
+        Some(HeaderFault::Checksum),
+    ),
+    ("4500001400014000402f4ecdc0a8010ac6336407", None),
+    ("4500001400018000402f0ecdc0a8010ac6336407", None),
+    (
+        "4500001400012000402f6ecdc0a8010ac6336407",
+        Some(HeaderFault::Fragment),
+    ),
+    (
+        "4500001400010001402f8eccc0a8010ac6336407",
+        Some(HeaderFault::Fragment),
+    ),
+    (
+        "4500001400011fff402f6ecec0a8010ac6336407",
+        Some(HeaderFault::Fragment),
+    ),
+];
+
+#[test]
+fn headers_at_their_limits(rt: HostRuntime) -> Result<(), Fail> {
+    for (row, (packet, fault)) in LIMITS.iter().enumerate() {
+        let read = bytes(rt.alloc(), &[*packet])?;
+        assert!(&rt; first_fault(&read) == *fault, "row {row}");
+    }
+    Ok(())
+}
+
 /// A packet from 192.168.1.10 to 198.51.100.7, whose payload begins so and goes on with zeros; and
 /// behind its end nine bytes that don't count.
 fn packet(alloc: Global, protocol: u8, beginning: &[&str], length: u8) -> Result<Vec<u8>, Fail> {
