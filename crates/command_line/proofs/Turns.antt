@@ -1,42 +1,17 @@
 -- What clap makes of one word, at a command whose flags have no short form.
-use Rattle.std.proofs.Common.{◌==◌, ◌&&◌, ◌+◌, ◌++◌, eqb-true, take, not, ◌≡◌, ◌∙◌, ◌⊎◌, ◌||◌, ℕ, Bool, cond, codes, true, false, zero, suc, refl, sym, ap, subst, arith, List, [], ◌∷◌, length, Option, Some, None, inl, inr, is_some, true≢false}
-use Rattle.std.specs.Prelude.{slice_get, fold, option_map, option_and_then}
-use Rattle.std.specs.List.{slice_index_or}
+use Rattle.std.proofs.Common.{◌==◌, ◌+◌, eqb-true, take, not, ◌≡◌, ◌∙◌, ◌⊎◌, ◌||◌, ℕ, Bool, cond, codes, true, false, zero, suc, refl, sym, ap, subst, arith, List, [], ◌∷◌, length, Option, Some, None, inl, inr, true≢false}
+use Rattle.std.specs.Prelude.{slice_get, fold, option_and_then}
 use Rattle.std.specs.Option.{option_map_or}
 use Rattle.std.specs.Str.{bytes_eq, chars}
-use Rattle.std.proofs.lemmas.Slice.Eq.{bytes_eq-Decides}
 use Rattle.std.specs.List.{list_any, before_first, position_or_len}
 use Rattle.std.proofs.lemmas.List.{take_all}
 use Rattle.clap.specs.Lexer.{has_byte, long_of, long_of_rest, short_of, strip_byte}
-use Rattle.clap.specs.Walk.{Waiting, option, positional, long_word, plain_word, Held, Names, Outcome, Row, Rule, Step, Text, Walk, after_flag, after_step, with_values, has_row, one_of, row_text, pushed, settled, settled_rows, used, with_default, subcommand_met, idle, plain, value, trailing, arg_by_index, arg_by_long, arg_by_short, bundle_met, bundle_step, finished, first_of, long_or_other, nothing_held, short_or_plain, subcommand_or_other, to_positional, walk, walk_from, walked}
-use Rattle.clap.specs.Simple.{App, Shape, built, entered, filled, help_rule, version_rule, names_of, new_shape, subcommand_of, with_index}
-use Rattle.clap.specs.Kinds.{Kinds, check_kinds, or_else}
-use Rattle.clap.specs.Facts.{explicit_source}
-use Rattle.clap.specs.Faults.{bundle_step_fault, check_fault, defaults_fault, entered_fault, fault_of, settle_fault, flag_word_fault, flags_fault, level_fault, long_fault, other_fault, short_fault, step_fault, turn_fault, walk_fault}
+use Rattle.clap.specs.Walk.{Waiting, option, positional, long_word, plain_word, Held, Outcome, Row, Step, Text, Walk, after_flag, after_step, subcommand_met, idle, plain, value, trailing, arg_by_index, arg_by_long, arg_by_short, bundle_met, bundle_step, long_or_other, short_or_plain, subcommand_or_other, to_positional, walked}
+use Rattle.clap.specs.Simple.{Shape}
+use Rattle.clap.specs.Kinds.{Kinds, or_else}
+use Rattle.clap.specs.Faults.{bundle_step_fault, flag_word_fault, flags_fault, long_fault, other_fault, short_fault, step_fault, walk_fault}
 use Rattle.clap.specs.declared.error.kind.ErrorKind.{ErrorKind}
-use Rattle.clap.proofs.OnLiterals.{clap_on_literals}
-use Rattle.clap.proofs.WalkLemmas.{walk_stopped}
-use Rattle.clap.specs.Kinds.{HasKind}
-use Rattle.clap.specs.Faults.{is_simple_and_free}
-use Rattle.clap.specs.Simple.{HasMatchesOf, is_simple, subcommand_rows_of}
-use Rattle.clap.specs.Walk.{rows_of}
-use Rattle.clap.specs.Values.{kind_of}
-use Rattle.clap.specs.Matches.{first_value, found_of, subcommand_name_of}
-use Rattle.clap.specs.declared.error.Error.{Error}
-use Rattle.clap.specs.declared.error.kind.ErrorKind.TheVariants.{ArgumentConflict, OutOfMemory}
-use Rattle.clap.specs.declared.parser.matches.ArgMatches.{ArgMatches}
-use Rattle.clap.specs.declared.parser.matches.ArgMatches.TheViews.{out-ArgMatches}
-use Rattle.clap.specs.declared.parser.matches.Found.{Found}
-use Rattle.clap.proofs.WalkLemmas.{first_value-rows}
-use Rattle.std.specs.Borrow.{Bor}
-use Rattle.std.specs.Option.{IsSome}
 use Rattle.std.specs.Prelude.{unwrap_or}
-use Rattle.std.proofs.Common.{rules, Result, Ok, Err, IfErr, IsErrAnd}
-use Rattle.std.proofs.Math.Bool.{or-false}
-use Rattle.clap.specs.Matches.{one_text}
-use Rattle.clap.specs.Values.{bool_text}
-use Rattle.clap.proofs.WalkLemmas.{one_text-rows}
-use Rattle.clap.specs.declared.parser.matches.ValueSource.TheVariants.{CommandLine, DefaultValue}
 
 -- ---- lists of kinds
 

@@ -1,11 +1,11 @@
 -- What a command's definitions make of the words that are left, once a flag or the file for the report was met.
-use Rattle.std.proofs.Common.{◌≡◌, ◌∙◌, ◌||◌, Bool, cond, codes, true, false, refl, ap, sym, subst, List, [], ◌∷◌, Option, Some, None, is_some, drop, true≢false}
+use Rattle.std.proofs.Common.{◌≡◌, ◌∙◌, ◌||◌, Bool, cond, codes, true, false, refl, ap, sym, List, [], ◌∷◌, Option, Some, None, is_some, drop, true≢false}
 use Rattle.std.specs.Prelude.{slice_get}
 use Rattle.std.specs.Str.{bytes_eq}
 use Rattle.std.proofs.lemmas.Slice.Eq.{bytes_eq-Decides}
 use Rattle.clap.specs.Lexer.{long_of}
 use Rattle.clap.specs.Walk.{Text}
-use Rattle.command_line.specs.CommandLine.{as_report, file_by, has_flag, operands, report_among, report_of, unreported, without_flag, without_report}
+use Rattle.command_line.specs.CommandLine.{as_report, file_by, has_flag, operands, report_of, unreported, without_flag, without_report}
 
 -- ---- the words that are left, behind a `--` or before it, with the flag met or not
 
