@@ -14,8 +14,9 @@ use Rattle.clap.proofs.OnLiterals.{clap_on_literals}
 use Rattle.clap.proofs.WalkLemmas.{both}
 use Rattle.command_line.specs.CommandLine.{are_four_paths, is_check, is_explain, is_plain_word, is_run, is_well_formed}
 use Rattle.command_line.specs.steps.Program.{program_app}
-use Rattle.command_line.proofs.Reading.{at, check, held1, run, standing, telling}
+use Rattle.command_line.proofs.Reading.{check, run, telling}
 use Rattle.command_line.proofs.Rows.{row, told}
+use Rattle.command_line.proofs.Turns.{at, standing}
 
 dashes_plain : (b : Bool) → (b && false) ≡ false
 dashes_plain true = refl
@@ -98,10 +99,10 @@ traced_plain : (a b c d : Text) → is_plain_word a ≡ true → is_plain_word b
     → level_fault run [] nothing_held (codes "--trace" ∷ a ∷ b ∷ c ∷ d ∷ []) false [] ≡ []
 unfolding clap_on_literals
 traced_plain a b c d pa pb pc pd =
-    let one = plain_turn run 1 a (at (told ∷ []) None) (b ∷ c ∷ d ∷ []) pa in
-    let two = plain_turn run 2 b (rules_held (told ∷ []) a) (c ∷ d ∷ []) pb in
-    let three = plain_turn run 3 c (plant_held (told ∷ []) a b) (d ∷ []) pc in
-    let four = plain_turn run 4 d (input_held (told ∷ []) a b c) [] pd in
+    let one = plain_turn run 1 a (at (told (codes "trace") ∷ []) None) (b ∷ c ∷ d ∷ []) pa in
+    let two = plain_turn run 2 b (rules_held (told (codes "trace") ∷ []) a) (c ∷ d ∷ []) pb in
+    let three = plain_turn run 3 c (plant_held (told (codes "trace") ∷ []) a b) (d ∷ []) pc in
+    let four = plain_turn run 4 d (input_held (told (codes "trace") ∷ []) a b c) [] pd in
     let ended : Kinds → Walk → Kinds = λ k w. or_else k (or_else (settle_fault run.rules run.args_override_self w.held)
     (or_else (defaults_fault (settled run.rules w.held).rows run.rules) (check_fault run (finished run.rules w.held) false))) in
     ap₂ ended (one.0 ∙ two.0 ∙ three.0 ∙ four.0) (one.1 ∙ two.1 ∙ three.1 ∙ four.1)
@@ -110,7 +111,7 @@ two_plain : (a b : Text) → is_plain_word a ≡ true → is_plain_word b ≡ tr
 unfolding clap_on_literals
 two_plain a b pa pb =
     let one = plain_turn check 1 a nothing_held (b ∷ []) pa in
-    let two = plain_turn check 2 b (held1 a) [] pb in
+    let two = plain_turn check 2 b (rules_held [] a) [] pb in
     let ended : Kinds → Walk → Kinds = λ k w. or_else k (or_else (settle_fault check.rules check.args_override_self w.held)
     (or_else (defaults_fault (settled check.rules w.held).rows check.rules) (check_fault check (finished check.rules w.held) false))) in
     ap₂ ended (one.0 ∙ two.0) (one.1 ∙ two.1)

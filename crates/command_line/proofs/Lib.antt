@@ -2,3 +2,5 @@ pub mod Complete
 pub mod Explaining
 pub mod Reading
 pub mod Rows
+pub mod Turns
+pub mod Words

@@ -1,18 +1,16 @@
 -- What clap makes of the words, at the program's command.
-use Rattle.std.proofs.Common.{◌==◌, ◌&&◌, ◌+◌, ◌++◌, eqb-true, take, not, ◌≡◌, ◌∙◌, ◌⊎◌, ◌||◌, ℕ, Bool, cond, codes, true, false, zero, suc, refl, sym, ap, subst, arith, List, [], ◌∷◌, length, Option, Some, None, inl, inr, is_some, true≢false}
+use Rattle.std.proofs.Common.{◌==◌, ◌&&◌, ◌++◌, not, ◌≡◌, ◌∙◌, ◌⊎◌, ◌||◌, ℕ, Bool, cond, codes, true, false, suc, refl, sym, ap, subst, arith, List, [], ◌∷◌, length, Option, Some, None, inl, inr, is_some, true≢false}
 use Rattle.std.specs.Prelude.{slice_get, fold, option_map, option_and_then}
 use Rattle.std.specs.List.{slice_index_or}
 use Rattle.std.specs.Option.{option_map_or}
-use Rattle.std.specs.Str.{bytes_eq, chars}
+use Rattle.std.specs.Str.{bytes_eq}
 use Rattle.std.proofs.lemmas.Slice.Eq.{bytes_eq-Decides}
-use Rattle.std.specs.List.{list_any, before_first, position_or_len}
-use Rattle.std.proofs.lemmas.List.{take_all}
-use Rattle.clap.specs.Lexer.{has_byte, long_of, long_of_rest, short_of, strip_byte}
-use Rattle.clap.specs.Walk.{Held, Names, Outcome, Row, Rule, Step, Text, Walk, after_flag, after_step, with_values, has_row, one_of, row_text, pushed, settled, settled_rows, used, with_default, subcommand_met, idle, plain, value, trailing, arg_by_index, arg_by_long, arg_by_short, bundle_met, bundle_step, finished, first_of, long_or_other, nothing_held, short_or_plain, subcommand_or_other, to_positional, walk, walk_from, walked}
+use Rattle.clap.specs.Lexer.{long_of}
+use Rattle.clap.specs.Walk.{Waiting, option, long_word, Held, Names, Row, Rule, Step, Text, Walk, after_step, with_values, has_row, one_of, row_text, pushed, settled, settled_rows, used, with_default, subcommand_met, idle, value, arg_by_index, arg_by_long, finished, first_of, nothing_held, subcommand_or_other, to_positional, walk, walk_from, walked}
 use Rattle.clap.specs.Simple.{App, Shape, built, entered, filled, help_rule, version_rule, names_of, new_shape, subcommand_of, with_index}
 use Rattle.clap.specs.Kinds.{Kinds, check_kinds, or_else}
 use Rattle.clap.specs.Facts.{explicit_source}
-use Rattle.clap.specs.Faults.{bundle_step_fault, check_fault, defaults_fault, entered_fault, fault_of, settle_fault, flag_word_fault, flags_fault, level_fault, long_fault, other_fault, short_fault, step_fault, turn_fault, walk_fault}
+use Rattle.clap.specs.Faults.{check_fault, defaults_fault, entered_fault, fault_of, settle_fault, level_fault, long_fault, other_fault, short_fault, step_fault, turn_fault, walk_fault}
 use Rattle.clap.specs.declared.error.kind.ErrorKind.{ErrorKind}
 use Rattle.clap.proofs.OnLiterals.{clap_on_literals}
 use Rattle.clap.proofs.WalkLemmas.{walk_stopped}
@@ -32,84 +30,16 @@ use Rattle.std.specs.Borrow.{Bor}
 use Rattle.std.specs.Option.{IsSome}
 use Rattle.std.specs.Prelude.{unwrap_or}
 use Rattle.std.proofs.Common.{rules, Result, Ok, Err, IfErr, IsErrAnd}
-use Rattle.std.proofs.Math.Bool.{or-false}
 use Rattle.clap.specs.Matches.{one_text}
 use Rattle.clap.specs.Values.{bool_text}
 use Rattle.clap.proofs.WalkLemmas.{one_text-rows}
-use Rattle.command_line.specs.CommandLine.{Asks, has_trace, operands, without_trace}
-use Rattle.command_line.specs.steps.Program.{path_rule, program_app, trace_rule}
-use Rattle.command_line.proofs.Rows.{Ends, Rows, appended, appended_anew, ends_told, ends_untold, has_row-at, no_rows, row, row_at, source_of, row_of_path, told, untold, with_input, with_output, with_plant, with_rules, with_told}
-use Rattle.command_line.specs.declared.task.Task.TheVariants.{Run, Check, Explain}
 use Rattle.clap.specs.declared.parser.matches.ValueSource.TheVariants.{CommandLine, DefaultValue}
-
--- ---- lists of kinds
-
-pub not_nil : {A : Type 0} (k : ErrorKind) (ks : Kinds) → k ∷ ks ≡ [] → A
-not_nil k ks e = let bad : suc (length ks) ≡ 0 = ap length e in absurd (omega arith)
-
-first_nil : (a b : Kinds) → or_else a b ≡ [] → a ≡ []
-first_nil [] b e = refl
-first_nil (k ∷ ks) b e = e
-
-then_nil : (a b : Kinds) → or_else a b ≡ [] → b ≡ []
-then_nil [] b e = e
-then_nil (k ∷ ks) b e = not_nil k ks e
-
--- ---- a word that is no flag
-
-abbrev pub at : List Row → Option (Text × List Text) → Held
-at rows pending = record { rows = rows; pending = pending; skip = 0 }
-
-abbrev pub standing : Held → ℕ → Bool → Walk
-standing h p t =
-    record { held = h; waiting = idle; position = p; is_trailing = t; stopped = None }
-
--- a short flag of the command always has a fault: it has none but `-h`
-abbrev pub AsksHelp : Shape → Type 0
-AsksHelp s = (x : ℕ) (rest : Text) (h : Held) (next : Held → Kinds) → short_fault s.rules s.args_override_self (arg_by_short s.rules x) rest h next ≡ [] → ⊥
-
--- the word is no long flag, or has a fault
-abbrev pub NoLong : Shape → Text → Type 0
-NoLong s word = (q : Text × Option Text) (h : Held) → long_of word ≡ Some q → long_fault s.rules s.args_override_self (arg_by_long s.rules q.0) q.1 h ≡ [] → ⊥
-
-module _ (s : Shape) (asks : AsksHelp s) where
-  bundle_plain : (k : ℕ) (flags : Text) (rows : List Row) (pending : Option (Text × List Text))
-      → flags_fault s.rules s.args_override_self k flags 0 (at rows pending) ≡ [] → bundle_met s.rules k flags 0 plain (at rows pending) ≡ (at rows pending, plain)
-  unfolding flags_fault bundle_met
-  bundle_plain zero flags rows pending e = refl
-  bundle_plain (suc k) flags rows pending e = go (slice_get (chars flags) 0) e
-    where
-      go : (o : Option ℕ) → bundle_step_fault s.rules s.args_override_self o flags 0 (at rows pending) (flags_fault s.rules s.args_override_self k) ≡ []
-          → bundle_step s.rules o flags 0 plain (at rows pending) (bundle_met s.rules k) ≡ (at rows pending, plain)
-      go None e = refl
-      go (Some x) e = absurd (asks x _ _ _ e)
-
-  short_plain : (word : Text) (u : Option Text) (rows : List Row) (pending : Option (Text × List Text))
-      → option_map_or (λ flags. flags_fault s.rules s.args_override_self (length flags) flags 0 (at rows pending)) u [] ≡ []
-      → short_or_plain s.rules idle word u (at rows pending) ≡ (at rows pending, value)
-  short_plain word None rows pending e = refl
-  short_plain word (Some flags) rows pending e =
-      ap (λ (q : Held × Outcome). after_flag s.rules idle word q.0 q.1) (bundle_plain (length flags) flags rows pending e)
-
-  long_plain : (word : Text) → NoLong s word → (o : Option (Text × Option Text)) → long_of word ≡ o → (rows : List Row) (pending : Option (Text × List Text))
-      → flag_word_fault s.rules s.args_override_self o word (at rows pending) ≡ []
-      → long_or_other s.rules idle word o (at rows pending) ≡ (at rows pending, value)
-  long_plain word never None is rows pending e = short_plain word (short_of word) rows pending e
-  long_plain word never (Some q) is rows pending e = absurd (never q _ is e)
-
-  -- without a fault the word is `--` or a value
-  pub word_is : (p : ℕ) (word : Text) → NoLong s word → (rows : List Row) (pending : Option (Text × List Text))
-      → other_fault s None word (at rows pending) ≡ []
-      → ((bytes_eq word (codes "--") ≡ true) × (subcommand_or_other s.rules None idle p word (at rows pending) ≡ (at rows pending, trailing p)))
-      ⊎ ((bytes_eq word (codes "--") ≡ false) × (subcommand_or_other s.rules None idle p word (at rows pending) ≡ (at rows pending, value)))
-  word_is p word never rows pending e = go (bytes_eq word (codes "--")) refl e
-    where
-      go : (b : Bool) → bytes_eq word (codes "--") ≡ b
-          → cond b [] (flag_word_fault s.rules s.args_override_self (long_of word) word (at rows pending)) ≡ []
-          → ((bytes_eq word (codes "--") ≡ true) × (subcommand_or_other s.rules None idle p word (at rows pending) ≡ (at rows pending, trailing p)))
-          ⊎ ((bytes_eq word (codes "--") ≡ false) × (subcommand_or_other s.rules None idle p word (at rows pending) ≡ (at rows pending, value)))
-      go true is e = inl (is, rw is refl)
-      go false is e = inr (is, rw is (long_plain word never (long_of word) refl rows pending e))
+use Rattle.command_line.specs.CommandLine.{Asks, as_report, has_flag, name_of_file, operands, report_among, report_of, without_flag, without_report}
+use Rattle.command_line.specs.steps.Program.{flag_rule, path_rule, program_app, report_rule}
+use Rattle.command_line.proofs.Rows.{Holds, appended, appended_anew, check_ends, check_rows, flag_of, has_row-at, holds_more, row, row_at, row_of, run_ends, run_rows, source_of, told, untold, with_row, Known}
+use Rattle.command_line.proofs.Turns.{AsksHelp, at, end_of, first_nil, long_text, not_nil, stand, standing, then_nil, trail, turn, word_is}
+use Rattle.command_line.proofs.Words.{Seen, View, flag_dashes, flag_end, flag_met, flag_plain, flag_view, no_flag, view, view_attached, view_dashes, view_end, view_flag, view_plain, view_waits, waiting_view}
+use Rattle.command_line.specs.declared.task.Task.TheVariants.{Run, Check, Explain}
 
 -- ---- the command, as it is built
 
@@ -170,477 +100,609 @@ check_asks x rest h next e = help_short check.rules (104 == x || false) rest h n
 telling_asks : AsksHelp telling
 telling_asks x rest h next e = help_short telling.rules (104 == x || false) rest h next e
 
-top_long : (word : Text) → NoLong top word
-top_long word q h is e = shown_long top.rules (bytes_eq (codes "help") q.0 || false) (bytes_eq (codes "version") q.0 || false) q.1 h e
+-- ---- long flags
 
-telling_long : (word : Text) → NoLong telling word
-telling_long word q h is e = help_long telling.rules (bytes_eq (codes "help") q.0 || false) q.1 h e
+no_long_top : (q : Text × Option Text) (h : Held) → long_fault top.rules top.args_override_self (arg_by_long top.rules q.0) q.1 h ≡ [] → ⊥
+no_long_top q h e = shown_long top.rules (bytes_eq (codes "help") q.0 || false) (bytes_eq (codes "version") q.0 || false) q.1 h e
 
-check_long : (word : Text) → NoLong check word
-check_long word q h is e = help_long check.rules (bytes_eq (codes "help") q.0 || false) q.1 h e
+no_long_telling : (q : Text × Option Text) (h : Held) → long_fault telling.rules telling.args_override_self (arg_by_long telling.rules q.0) q.1 h ≡ [] → ⊥
+no_long_telling q h e = help_long telling.rules (bytes_eq (codes "help") q.0 || false) q.1 h e
 
--- ---- `--trace`
+-- a long flag of a run: the flag, or the file for the report
+abbrev IsRunFlag : Text × Option Text → Type 0
+IsRunFlag q = (q ≡ (codes "trace", None)) ⊎ ((v : Option Text) × (q ≡ (codes "report", v)))
 
-lacks_length : (xs : Text) → list_any (λ x. x == 61) xs ≡ false → position_or_len (λ x. x == 61) xs ≡ length xs
-lacks_length [] e = refl
-lacks_length (x ∷ xs) e = go (x == 61) e (lacks_length xs)
+run_flag : (q : Text × Option Text) (h : Held) → long_fault run.rules run.args_override_self (arg_by_long run.rules q.0) q.1 h ≡ [] → IsRunFlag q × (settle_fault run.rules run.args_override_self h ≡ [])
+run_flag (name, v) h e = go (bytes_eq (codes "trace") name) refl (bytes_eq (codes "report") name) refl v refl e
   where
-    go : (b : Bool) → (b || list_any (λ y. y == 61) xs) ≡ false → (list_any (λ y. y == 61) xs ≡ false → position_or_len (λ y. y == 61) xs ≡ length xs)
-        → cond (not b) (1 + position_or_len (λ y. y == 61) xs) 0 ≡ suc (length xs)
-    go true bad more = absurd (true≢false bad)
-    go false f more = let same = more f in omega arith
+    go : (t : Bool) → bytes_eq (codes "trace") name ≡ t → (r : Bool) → bytes_eq (codes "report") name ≡ r → (o : Option Text) → v ≡ o
+        → long_fault run.rules false (cond (t || false) (Some (filled (flag_rule (codes "trace")))) (cond (r || false) (Some (filled report_rule)) (cond (bytes_eq (codes "help") name || false) (Some help) None))) o h ≡ []
+        → IsRunFlag (name, v) × (settle_fault run.rules run.args_override_self h ≡ [])
+    go true is r other (Some x) same f = not_nil _ _ f
+    go true is r other None same f =
+        let named_so : codes "trace" ≡ name = (bytes_eq-Decides (codes "trace") name).0 is in
+        (inl (λ j. (sym named_so j, same j)), first_nil _ _ f)
+    go false never true is (Some x) same f =
+        let named_so : codes "report" ≡ name = (bytes_eq-Decides (codes "report") name).0 is in
+        (inr (Some x, λ j. (sym named_so j, same j)), first_nil _ _ f)
+    go false never true is None same f =
+        let named_so : codes "report" ≡ name = (bytes_eq-Decides (codes "report") name).0 is in
+        (inr (None, λ j. (sym named_so j, same j)), f)
+    go false never false other o same f = absurd (help_long run.rules (bytes_eq (codes "help") name || false) o h f)
 
-lacks_all : (xs : Text) → list_any (λ x. x == 61) xs ≡ false → before_first (λ x. x == 61) xs ≡ xs
-lacks_all xs e = ap (λ (n : ℕ). take n xs) (lacks_length xs e) ∙ take_all (length xs) xs (omega arith)
-
-no_value : (b : Bool) (v : Text) → cond b (Some v) None ≡ None → b ≡ false
-no_value true v e = cc
-no_value false v e = refl
-
-named : (rest name : Text) → long_of_rest rest ≡ Some (name, None) → rest ≡ name
-named [] name e = cc
-named (x ∷ xs) name e =
-    let text : Option (Text × Option Text) → Text = λ o. (unwrap_or o ([], None)).0 in
-    let worth : Option (Text × Option Text) → Option Text = λ o. (unwrap_or o ([], None)).1 in
-    sym (lacks_all (x ∷ xs) (no_value (has_byte 61 (x ∷ xs)) _ (ap worth e))) ∙ ap text e
-
-after_hyphens : (rest name : Text) → option_and_then long_of_rest (strip_byte 45 rest) ≡ Some (name, None) → rest ≡ 45 ∷ name
-after_hyphens [] name e = cc
-after_hyphens (x ∷ xs) name e = go (x == 45) refl e
+check_flag : (q : Text × Option Text) (h : Held) → long_fault check.rules check.args_override_self (arg_by_long check.rules q.0) q.1 h ≡ [] → q ≡ (codes "all", None)
+check_flag (name, v) h e = go (bytes_eq (codes "all") name) refl v refl e
   where
-    go : (b : Bool) → (x == 45) ≡ b → option_and_then long_of_rest (cond b (Some xs) None) ≡ Some (name, None) → x ∷ xs ≡ 45 ∷ name
-    go true is f = let first = eqb-true x 45 is in let last = named xs name f in cc
-    go false is f = cc
+    go : (t : Bool) → bytes_eq (codes "all") name ≡ t → (o : Option Text) → v ≡ o
+        → long_fault check.rules false (cond (t || false) (Some (filled (flag_rule (codes "all")))) (cond (bytes_eq (codes "help") name || false) (Some help) None)) o h ≡ []
+        → ◌≡◌ {A = Text × Option Text} (name, v) (codes "all", None)
+    go true is (Some x) same f = not_nil _ _ f
+    go true is None same f =
+        let named_so : codes "all" ≡ name = (bytes_eq-Decides (codes "all") name).0 is in
+        λ j. (sym named_so j, same j)
+    go false other o same f = absurd (help_long check.rules (bytes_eq (codes "help") name || false) o h f)
 
-long_text : (word name : Text) → long_of word ≡ Some (name, None) → word ≡ 45 ∷ 45 ∷ name
-long_text [] name e = cc
-long_text (x ∷ xs) name e = go (x == 45) refl e
-  where
-    go : (b : Bool) → (x == 45) ≡ b → option_and_then long_of_rest (option_and_then (strip_byte 45) (cond b (Some xs) None)) ≡ Some (name, None) → x ∷ xs ≡ 45 ∷ 45 ∷ name
-    go true is f = let first = eqb-true x 45 is in let last = after_hyphens xs name f in cc
-    go false is f = cc
+-- a word whose long flag has no value is the flag's text
+flag_text : (word name : Text) → long_of word ≡ Some (name, None) → bytes_eq word (45 ∷ 45 ∷ name) ≡ true
+flag_text word name is = (bytes_eq-Decides word (45 ∷ 45 ∷ name)).1 (long_text word name is)
 
-abbrev pub flag : Rule
-flag = filled trace_rule
+-- ---- rows
 
-is_flag : (word : Text) → word ≡ codes "--trace" → bytes_eq word (codes "--trace") ≡ true
-is_flag word is = ap (λ (t : Text). bytes_eq t (codes "--trace")) is
+abbrev pub Pending : Type 0
+Pending = Option (Text × List Text)
 
--- a word that is not `--trace` is no long flag of a run, or has a fault
-run_long : (word : Text) → bytes_eq word (codes "--trace") ≡ false → NoLong run word
-run_long word other (name, v) h is e = go (bytes_eq (codes "trace") name) refl v refl e
-  where
-    go : (b : Bool) → bytes_eq (codes "trace") name ≡ b → (o : Option Text) → v ≡ o
-        → long_fault run.rules false (cond (b || false) (Some flag) (cond (bytes_eq (codes "help") name || false) (Some help) None)) o h ≡ [] → ⊥
-    go false never o same f = help_long run.rules (bytes_eq (codes "help") name || false) o h f
-    go true never (Some x) same f = not_nil _ _ f
-    go true never None same f =
-        let named_so = (bytes_eq-Decides (codes "trace") name).0 never in
-        let met : long_of word ≡ Some (name, None) = is ∙ ap (λ (o : Option Text). Some (name, o)) same in
-        let text : word ≡ codes "--trace" = long_text word name met ∙ ap (λ (t : Text). 45 ∷ 45 ∷ t) (sym named_so) in
-        absurd (true≢false (sym (is_flag word text) ∙ other))
+abbrev pub so_far : Shape → List Row → Pending → List Row
+so_far s rows pending = settled_rows s.rules pending rows
 
--- ---- the words after the subcommand
+abbrev pub flagged : Text → List Row → List Row
+flagged name all = used (filled (flag_rule name)) [] all
 
-abbrev pub operands_from : Bool → List Text → List Text
-operands_from t rest = cond t rest (operands rest)
+abbrev pub reported : Text → List Row → List Row
+reported f all = used (filled report_rule) (f ∷ []) all
 
-none_left : (t : Bool) → operands_from t [] ≡ []
-none_left true = refl
-none_left false = refl
+abbrev pub pending_value : Text → Text → Pending
+pending_value id word = Some (id, word ∷ [])
 
--- one word more: it is `--`, or the next value
-module _ (s : Shape) (asks : AsksHelp s) where
-  turn : (rows : List Row) (pending : Option (Text × List Text)) (p : ℕ) (t : Bool) (word : Text) → NoLong s word → (rest : List Text) (next : Bool → Walk) (Out : List Text → Walk → Type 0)
-      → ((u : Bool) → to_positional s.rules (arg_by_index s.rules p) word (standing (at rows pending) p u) (at rows pending) ≡ next u)
-      → walk_fault s [] (standing (at rows pending) p t) (word ∷ rest) ≡ []
-      → (walk_fault s [] (standing (at rows pending) p true) rest ≡ [] → Out rest (fold (walked s.rules []) (standing (at rows pending) p true) rest))
-      → (walk_fault s [] (next t) rest ≡ [] → step_fault s p (at rows pending) value ≡ []
-      → Out (word ∷ operands_from t rest) (fold (walked s.rules []) (next t) rest))
-      → Out (operands_from t (word ∷ rest)) (fold (walked s.rules []) (standing (at rows pending) p t) (word ∷ rest))
-  unfolding walked walk_fault
-  turn rows pending p true word never rest next Out same e dashes one =
-      let h = at rows pending in
-      let w = standing h p true in
-      let moved = to_positional s.rules (arg_by_index s.rules p) word w h in
-      let left : walk_fault s [] moved rest ≡ [] = then_nil _ _ e in
-      let steps : step_fault s p h value ≡ [] = first_nil _ _ e in
-      subst (λ (v : Walk). Out (word ∷ rest) (fold (walked s.rules []) v rest)) (sym (same true))
-      (one (subst (λ (v : Walk). walk_fault s [] v rest ≡ []) (same true) left) steps)
-  turn rows pending p false word never rest next Out same e dashes one =
-      let h = at rows pending in
-      let w = standing h p false in
-      let met = subcommand_or_other s.rules None idle p word h in
-      let moved : Held × Step → Walk = λ m. after_step s.rules word w m.0 m.1 in
-      let here : or_else (other_fault s None word h) (step_fault s p met.0 met.1) ≡ [] = first_nil _ _ e in
-      let left : walk_fault s [] (moved met) rest ≡ [] = then_nil _ _ e in
-      let P : Bool → Held × Step → Type 0 = λ b m. Out (cond b rest (word ∷ operands rest)) (fold (walked s.rules []) (moved m) rest) in
-      elim (word_is s asks p word never rows pending (first_nil _ _ here)) [
-        | inl q ↦
-            let got : P true (h, trailing p) = dashes (subst (λ (m : Held × Step). walk_fault s [] (moved m) rest ≡ []) q.1 left) in
-            subst (λ (m : Held × Step). P (bytes_eq word (codes "--")) m) (sym q.1) (subst (λ (b : Bool). P b (h, trailing p)) (sym q.0) got)
-        | inr q ↦
-            let after = subst (λ (m : Held × Step). walk_fault s [] (moved m) rest ≡ []) q.1 left in
-            let steps : step_fault s p h value ≡ [] = subst (λ (m : Held × Step). step_fault s p m.0 m.1 ≡ []) q.1 (then_nil _ _ here) in
-            let made = one (subst (λ (v : Walk). walk_fault s [] v rest ≡ []) (same false) after) steps in
-            let got : P false (h, value) = subst (λ (v : Walk). Out (word ∷ operands rest) (fold (walked s.rules []) v rest)) (sym (same false)) made in
-            subst (λ (m : Held × Step). P (bytes_eq word (codes "--")) m) (sym q.1) (subst (λ (b : Bool). P b (h, value)) (sym q.0) got)
-      ]
+-- a path or a file for the report is used
+settled_row : (id word : Text) (all : List Row) → row_at id all ≡ None → used (filled (path_rule id)) (word ∷ []) all ≡ all ++ row id word ∷ []
+settled_row id word all none = appended_anew id (row id word).reading CommandLine (word ∷ []) all none
 
-abbrev pub held1 : Text → Held
-held1 a = at [] (Some (codes "rules", a ∷ []))
+flagged_row : (id : Text) (all : List Row) → row_at id all ≡ None → flagged id all ≡ all ++ told id ∷ []
+flagged_row id all none = appended_anew id (told id).reading CommandLine (codes "true" ∷ []) all none
 
-abbrev pub held2 : Text → Text → Held
-held2 a b = at (row (codes "rules") a ∷ []) (Some (codes "plant", b ∷ []))
-
-abbrev pub held_code : Text → Held
-held_code a = at [] (Some (codes "code", a ∷ []))
-
-abbrev pub two : Text → Text → List Row
-two a b = row (codes "rules") a ∷ row (codes "plant") b ∷ []
-
--- the operands are the values of the rows
-abbrev pub IsRun : List Text → Bool → List Row → Type 0
-IsRun ops met rows = (a : Text) × (b : Text) × (c : Text) × (d : Text) × (ops ≡ a ∷ b ∷ c ∷ d ∷ []) × Ends (Some a) (Some b) (Some c) (Some d) met rows
-
-abbrev pub IsCheck : List Text → List Row → Type 0
-IsCheck ops rows = (a : Text) × (b : Text) × (ops ≡ a ∷ b ∷ []) × (rows ≡ two a b)
-
-abbrev pub IsTelling : List Text → List Row → Type 0
-IsTelling ops rows = (a : Text) × (ops ≡ a ∷ []) × (rows ≡ row (codes "code") a ∷ [])
-
--- where the walk ends with nothing that is required missing, the operands are the values
-abbrev Gives : Shape → (List Text → List Row → Type 0) → List Text → Walk → Type 0
-Gives s Is ops w = check_fault s (finished s.rules w.held) false ≡ [] → Is ops (finished s.rules w.held)
-
-abbrev end_of : Shape → Walk → List Text → Walk
-end_of s w rest = fold (walked s.rules []) w rest
-
--- ---- a run: the words after a `--` or before it, with the flag met or not
-abbrev pub paths_from : Bool → Bool → List Text → List Text
-paths_from t met rest = cond t rest (operands (cond met rest (without_trace rest)))
-
-abbrev pub met_from : Bool → Bool → List Text → Bool
-met_from t met rest = met || cond t false (has_trace rest)
-
-end_met : (t met : Bool) → met_from t met [] ≡ met
-end_met true true = refl
-end_met true false = refl
-end_met false true = refl
-end_met false false = refl
-
-end_paths : (t met : Bool) → paths_from t met [] ≡ []
-end_paths true true = refl
-end_paths true false = refl
-end_paths false true = refl
-end_paths false false = refl
-
-dashes_paths : (met : Bool) (word : Text) (rest : List Text) → bytes_eq word (codes "--") ≡ true → paths_from false met (word ∷ rest) ≡ rest
-dashes_paths true word rest is = ap (λ (b : Bool). cond b rest (word ∷ operands rest)) is
-dashes_paths false word rest is =
-    ap (λ (b : Bool). operands (cond b (word ∷ rest) (cond (bytes_eq word (codes "--trace")) rest (word ∷ without_trace rest)))) is
-    ∙ ap (λ (b : Bool). cond b rest (word ∷ operands rest)) is
-
-dashes_met : (met : Bool) (word : Text) (rest : List Text) → bytes_eq word (codes "--") ≡ true → met_from false met (word ∷ rest) ≡ met_from true met rest
-dashes_met true word rest is = refl
-dashes_met false word rest is = ap (λ (b : Bool). cond b false (bytes_eq word (codes "--trace") || has_trace rest)) is
-
-value_paths : (met : Bool) (word : Text) (rest : List Text) → bytes_eq word (codes "--") ≡ false → bytes_eq word (codes "--trace") ≡ false
-    → paths_from false met (word ∷ rest) ≡ word ∷ paths_from false met rest
-value_paths true word rest is other = ap (λ (b : Bool). cond b rest (word ∷ operands rest)) is
-value_paths false word rest is other =
-    ap (λ (b : Bool). operands (cond b (word ∷ rest) (cond (bytes_eq word (codes "--trace")) rest (word ∷ without_trace rest)))) is
-    ∙ ap (λ (b : Bool). operands (cond b rest (word ∷ without_trace rest))) other
-    ∙ ap (λ (b : Bool). cond b (without_trace rest) (word ∷ operands (without_trace rest))) is
-
-value_met : (met : Bool) (word : Text) (rest : List Text) → bytes_eq word (codes "--") ≡ false → bytes_eq word (codes "--trace") ≡ false
-    → met_from false met (word ∷ rest) ≡ met_from false met rest
-value_met true word rest is other = refl
-value_met false word rest is other =
-    ap (λ (b : Bool). cond b false (bytes_eq word (codes "--trace") || has_trace rest)) is ∙ ap (λ (b : Bool). b || has_trace rest) other
-
--- the rows with what is pending
-abbrev pub so_far : List Row → Option (Text × List Text) → List Row
-so_far rows pending = settled_rows run.rules pending rows
-
-abbrev pub flagged : List Row → Option (Text × List Text) → List Row
-flagged rows pending = used flag [] (so_far rows pending)
-
-moves : (b u : Bool) (rows : List Row) (pending : Option (Text × List Text)) (id word : Text) (p : ℕ)
+moves : (s : Shape) (b u : Bool) (rows : List Row) (pending : Pending) (id word : Text) (p : ℕ)
     → ◌≡◌ {A = Walk} (record {
-      held = pushed id word (cond (b && false) (at rows pending) (settled run.rules (at rows pending)));
+      held = pushed id word (cond (b && false) (at rows pending) (settled s.rules (at rows pending)));
       waiting = idle;
       position = p;
       is_trailing = u || false;
       stopped = None;
-    }) (standing (at (so_far rows pending) (Some (id, word ∷ []))) p u)
-moves true true rows pending id word p = refl
-moves true false rows pending id word p = refl
-moves false true rows pending id word p = refl
-moves false false rows pending id word p = refl
+    }) (standing (at (so_far s rows pending) (Some (id, word ∷ []))) p u)
+moves s true true rows pending id word p = refl
+moves s true false rows pending id word p = refl
+moves s false true rows pending id word p = refl
+moves s false false rows pending id word p = refl
 
-abbrev pub goes_on : Text → Option (Text × List Text) → Bool
+abbrev pub goes_on : Text → Pending → Bool
 goes_on id pending = option_map_or (λ (q : Text × List Text). bytes_eq q.0 id) pending false
 
--- a second flag has a fault
-once : (met : Bool) (rows : List Row) → row_at (codes "trace") rows ≡ cond met (Some told) None
-    → or_else (cond (has_row (codes "trace") rows && true) (ArgumentConflict ∷ []) []) [] ≡ [] → met ≡ false
-once false rows of_trace e = refl
-once true rows of_trace e =
-    let has : has_row (codes "trace") rows ≡ true = has_row-at (codes "trace") rows ∙ ap (λ (o : Option Row). is_some o) of_trace in
-    not_nil _ _ (subst (λ (b : Bool). or_else (cond (b && true) (ArgumentConflict ∷ []) []) [] ≡ []) has e)
+-- an argument that was used has a row
+there : (id : Text) (r : Row) (rows : List Row) → row_at id rows ≡ Some r → has_row id rows ≡ true
+there id r rows is = has_row-at id rows ∙ ap (λ (o : Option Row). is_some o) is
 
--- one word more of a run: it is `--`, the flag, or the next value
-run_turn : (met : Bool) (rows : List Row) (pending : Option (Text × List Text)) (p : ℕ) (t : Bool) (word : Text) (rest : List Text) (next : Bool → Walk)
-    (Out : List Text → Bool → Walk → Type 0) → row_at (codes "trace") (so_far rows pending) ≡ cond met (Some told) None
-    → ((u : Bool) → to_positional run.rules (arg_by_index run.rules p) word (standing (at rows pending) p u) (at rows pending) ≡ next u)
-    → walk_fault run [] (standing (at rows pending) p t) (word ∷ rest) ≡ []
-    → (walk_fault run [] (standing (at rows pending) p true) rest ≡ [] → Out rest (met_from true met rest) (end_of run (standing (at rows pending) p true) rest))
-    → (met ≡ false → walk_fault run [] (standing (at (flagged rows pending) None) p false) rest ≡ []
-    → Out (operands rest) true (end_of run (standing (at (flagged rows pending) None) p false) rest))
-    → (walk_fault run [] (next t) rest ≡ [] → step_fault run p (at rows pending) value ≡ []
-    → Out (word ∷ paths_from t met rest) (met_from t met rest) (end_of run (next t) rest))
-    → Out (paths_from t met (word ∷ rest)) (met_from t met (word ∷ rest)) (end_of run (standing (at rows pending) p t) (word ∷ rest))
-unfolding walked walk_fault
-run_turn met rows pending p true word rest next Out of_trace same e dashes flags one =
-    let h = at rows pending in
-    let left : walk_fault run [] (to_positional run.rules (arg_by_index run.rules p) word (standing h p true) h) rest ≡ [] = then_nil _ _ e in
-    let steps : step_fault run p h value ≡ [] = first_nil _ _ e in
-    let made = one (subst (λ (v : Walk). walk_fault run [] v rest ≡ []) (same true) left) steps in
-    subst (λ (v : Walk). Out (word ∷ rest) (met_from true met rest) (fold (walked run.rules []) v rest)) (sym (same true)) made
-run_turn met rows pending p false word rest next Out of_trace same e dashes flags one = go (bytes_eq word (codes "--trace")) refl
-  where
-    h : Held
-    h = at rows pending
+abbrev repeats : Bool → Kinds
+repeats b = or_else (cond (b && true) (ArgumentConflict ∷ []) []) []
 
-    moved : Text → Held × Step → Walk
-    moved w m = after_step run.rules w (standing h p false) m.0 m.1
+-- a second use has a fault
+again : (id : Text) (r : Row) (rows : List Row) → row_at id rows ≡ Some r → repeats (has_row id rows) ≡ [] → ⊥
+again id r rows is e = not_nil _ _ (subst (λ (b : Bool). repeats b ≡ []) (there id r rows is) e)
 
-    Goal : Text → Walk → Type 0
-    Goal w v = Out (paths_from false met (w ∷ rest)) (met_from false met (w ∷ rest)) (fold (walked run.rules []) v rest)
-
-    at_flag : walk_fault run [] (standing h p false) (codes "--trace" ∷ rest) ≡ []
-        → Out (paths_from false met (codes "--trace" ∷ rest)) (met_from false met (codes "--trace" ∷ rest)) (end_of run (standing h p false) (codes "--trace" ∷ rest))
-    at_flag f =
-        let repeats : Kinds = or_else (cond (has_row (codes "trace") (so_far rows pending) && true) (ArgumentConflict ∷ []) []) [] in
-        let settles : Kinds = settle_fault run.rules false h in
-        let after : Kinds = walk_fault run [] (standing (at (flagged rows pending) None) p false) rest in
-        let left : after ≡ [] = then_nil (or_else (or_else settles repeats) []) after f in
-        let unmet : met ≡ false = once met (so_far rows pending) of_trace (then_nil settles repeats (first_nil (or_else settles repeats) [] (first_nil (or_else (or_else settles repeats) []) after f))) in
-        subst (λ (m : Bool). Out (paths_from false m (codes "--trace" ∷ rest)) (met_from false m (codes "--trace" ∷ rest)) (end_of run (standing (at (flagged rows pending) None) p false) rest))
-        (sym unmet) (flags unmet left)
-
-    at_other : bytes_eq word (codes "--trace") ≡ false → Goal word (moved word (subcommand_or_other run.rules None idle p word h))
-    at_other other =
-        let met_so = subcommand_or_other run.rules None idle p word h in
-        let faults : Kinds = other_fault run None word h in
-        let steps_so : Kinds = step_fault run p met_so.0 met_so.1 in
-        let after_so : Kinds = walk_fault run [] (moved word met_so) rest in
-        let here : or_else faults steps_so ≡ [] = first_nil (or_else faults steps_so) after_so e in
-        let left : after_so ≡ [] = then_nil (or_else faults steps_so) after_so e in
-        elim (word_is run run_asks p word (run_long word other) rows pending (first_nil faults steps_so here)) [
-          | inl q ↦
-              let got = dashes (subst (λ (m : Held × Step). walk_fault run [] (moved word m) rest ≡ []) q.1 left) in
-              let W : Walk = standing h p true in
-              let made : Goal word W = subst (λ (o : List Text). Out o (met_from false met (word ∷ rest)) (end_of run W rest)) (sym (dashes_paths met word rest q.0))
-              (subst (λ (b : Bool). Out rest b (end_of run W rest)) (sym (dashes_met met word rest q.0)) got) in
-              subst (λ (m : Held × Step). Goal word (moved word m)) (sym q.1) made
-          | inr q ↦
-              let after = subst (λ (m : Held × Step). walk_fault run [] (moved word m) rest ≡ []) q.1 left in
-              let steps : step_fault run p h value ≡ [] = subst (λ (m : Held × Step). step_fault run p m.0 m.1 ≡ []) q.1 (then_nil faults steps_so here) in
-              let got = one (subst (λ (v : Walk). walk_fault run [] v rest ≡ []) (same false) after) steps in
-              let made : Goal word (next false) = subst (λ (o : List Text). Out o (met_from false met (word ∷ rest)) (end_of run (next false) rest)) (sym (value_paths met word rest q.0 other))
-              (subst (λ (b : Bool). Out (word ∷ paths_from false met rest) b (end_of run (next false) rest)) (sym (value_met met word rest q.0 other)) got) in
-              subst (λ (m : Held × Step). Goal word (moved word m)) (sym q.1) (subst (Goal word) (sym (same false)) made)
-        ]
-
-    go : (b : Bool) → bytes_eq word (codes "--trace") ≡ b
-        → Out (paths_from false met (word ∷ rest)) (met_from false met (word ∷ rest)) (end_of run (standing h p false) (word ∷ rest))
-    go false is = at_other is
-    go true is =
-        let text : word ≡ codes "--trace" = (bytes_eq-Decides word (codes "--trace")).0 is in
-        let At : Text → Type 0 = λ w. Out (paths_from false met (w ∷ rest)) (met_from false met (w ∷ rest)) (end_of run (standing h p false) (w ∷ rest)) in
-        subst At (sym text) (at_flag (subst (λ (w : Text). walk_fault run [] (standing h p false) (w ∷ rest) ≡ []) text e))
+-- a flag that is used without a fault was not met
+once : (id : Text) (met : Bool) (rows : List Row) → row_at id rows ≡ flag_of id met → repeats (has_row id rows) ≡ [] → met ≡ false
+once id false rows is e = refl
+once id true rows is e = absurd (again id (told id) rows is e)
 
 -- ---- what a run ends with
 
-abbrev pub Held4 : Option Text → Option Text → Option Text → Option Text → Bool → List Row → Option (Text × List Text) → Type 0
-Held4 a b c d met rows pending = Rows a b c d met (so_far rows pending)
+-- the operands are the values of the rows
+abbrev pub IsRun : View → List Row → Type 0
+IsRun v rows = (a : Text) × (b : Text) × (c : Text) × (d : Text) × (v.0.0 ≡ a ∷ b ∷ c ∷ d ∷ [])
+    × Holds (run_ends (Some a) (Some b) (Some c) (Some d) v.0.1 v.1) rows
 
-pub then_flag : (a b c d : Option Text) (met : Bool) (rows : List Row) (pending : Option (Text × List Text)) → met ≡ false → Held4 a b c d met rows pending → Held4 a b c d true (flagged rows pending) None
-then_flag a b c d met rows pending unmet h =
-    let all = so_far rows pending in
-    let plain : Rows a b c d false all = subst (λ (m : Bool). Rows a b c d m all) unmet h in
-    subst (Rows a b c d true) (sym (appended_anew (codes "trace") told.reading CommandLine (codes "true" ∷ []) all plain.of_trace)) (with_told a b c d all plain)
-
-abbrev pub pending_path : Text → Text → Option (Text × List Text)
-pending_path id word = Some (id, word ∷ [])
-
--- the row of a path that is settled
-settled_row : (id word : Text) (all : List Row) → row_at id all ≡ None → used (filled (path_rule id)) (word ∷ []) all ≡ all ++ row id word ∷ []
-settled_row id word all none = appended_anew id (row id word).reading CommandLine (word ∷ []) all none
-
-pub then_rules : (met : Bool) (rows : List Row) (pending : Option (Text × List Text)) (w : Text) → Held4 None None None None met rows pending
-    → Held4 (Some w) None None None met (so_far rows pending) (pending_path (codes "rules") w)
-then_rules met rows pending w h =
-    subst (Rows (Some w) None None None met) (sym (settled_row (codes "rules") w (so_far rows pending) h.of_rules)) (with_rules w met (so_far rows pending) h)
-
-pub then_plant : (a : Text) (met : Bool) (rows : List Row) (pending : Option (Text × List Text)) (w : Text) → Held4 (Some a) None None None met rows pending
-    → Held4 (Some a) (Some w) None None met (so_far rows pending) (pending_path (codes "plant") w)
-then_plant a met rows pending w h =
-    subst (Rows (Some a) (Some w) None None met) (sym (settled_row (codes "plant") w (so_far rows pending) h.of_plant)) (with_plant a w met (so_far rows pending) h)
-
-pub then_input : (a b : Text) (met : Bool) (rows : List Row) (pending : Option (Text × List Text)) (w : Text) → Held4 (Some a) (Some b) None None met rows pending
-    → Held4 (Some a) (Some b) (Some w) None met (so_far rows pending) (pending_path (codes "input") w)
-then_input a b met rows pending w h =
-    subst (Rows (Some a) (Some b) (Some w) None met) (sym (settled_row (codes "input") w (so_far rows pending) h.of_input)) (with_input a b w met (so_far rows pending) h)
-
-pub then_output : (a b c : Text) (met : Bool) (rows : List Row) (pending : Option (Text × List Text)) (w : Text) → Held4 (Some a) (Some b) (Some c) None met rows pending
-    → Held4 (Some a) (Some b) (Some c) (Some w) met (so_far rows pending) (pending_path (codes "output") w)
-then_output a b c met rows pending w h =
-    subst (Rows (Some a) (Some b) (Some c) (Some w) met) (sym (settled_row (codes "output") w (so_far rows pending) h.of_output)) (with_output a b c w met (so_far rows pending) h)
+-- where the walk ends with no fault and with nothing that is required missing
+abbrev GivesRun : View → Walk → Type 0
+GivesRun v w = settle_fault run.rules run.args_override_self w.held ≡ [] → check_fault run (finished run.rules w.held) false ≡ []
+    → IsRun v (finished run.rules w.held)
 
 same_either : {A : Type 0} (b : Bool) (x : A) → cond b x x ≡ x
 same_either true x = refl
 same_either false x = refl
 
-abbrev with_default_row : List Row → List Row
-with_default_row all = with_values (codes "trace") untold.reading DefaultValue (codes "false" ∷ []) all
+abbrev with_default_row : Text → List Row → List Row
+with_default_row id all = with_values id (untold id).reading DefaultValue (codes "false" ∷ []) all
+
+abbrev kept_by : Text → List Row → List Row
+kept_by id all = cond (has_row id all) all all
 
 -- only the flag has a default
-defaults_of : (all : List Row) → fold with_default all run.rules ≡ with_default all flag
-defaults_of all =
-    let last : List Row → List Row = λ x. cond (has_row (codes "help") x) x x in
-    let e1 = same_either (has_row (codes "rules") all) all in
-    let e2 = same_either (has_row (codes "plant") all) all in
-    let e3 = same_either (has_row (codes "input") all) all in
-    let e4 = same_either (has_row (codes "output") all) all in
-    let after : List Row → List Row = λ x. last (with_default x flag) in
-    let i2 : List Row → List Row = λ x. cond (has_row (codes "plant") x) x x in
-    let i3 : List Row → List Row = λ x. cond (has_row (codes "input") x) x x in
-    let i4 : List Row → List Row = λ x. cond (has_row (codes "output") x) x x in
-    ap (λ (x : List Row). after (i4 (i3 (i2 x)))) e1 ∙ ap (λ (x : List Row). after (i4 (i3 x))) e2
-    ∙ ap (λ (x : List Row). after (i4 x)) e3 ∙ ap (λ (x : List Row). after x) e4 ∙ same_either (has_row (codes "help") (with_default all flag)) (with_default all flag)
+run_defaults : (all : List Row) → fold with_default all run.rules ≡ with_default all (filled (flag_rule (codes "trace")))
+run_defaults all =
+    let last : List Row → List Row = λ x. kept_by (codes "help") (kept_by (codes "report") x) in
+    let after : List Row → List Row = λ x. last (with_default x (filled (flag_rule (codes "trace")))) in
+    let flag_row = with_default all (filled (flag_rule (codes "trace"))) in
+    ap (λ (x : List Row). after (kept_by (codes "output") (kept_by (codes "input") (kept_by (codes "plant") x)))) (same_either (has_row (codes "rules") all) all)
+    ∙ ap (λ (x : List Row). after (kept_by (codes "output") (kept_by (codes "input") x))) (same_either (has_row (codes "plant") all) all)
+    ∙ ap (λ (x : List Row). after (kept_by (codes "output") x)) (same_either (has_row (codes "input") all) all)
+    ∙ ap (λ (x : List Row). after x) (same_either (has_row (codes "output") all) all)
+    ∙ ap (λ (x : List Row). kept_by (codes "help") x) (same_either (has_row (codes "report") flag_row) flag_row)
+    ∙ same_either (has_row (codes "help") flag_row) flag_row
 
-pub ends : (a b c d : Option Text) (met : Bool) (all : List Row) → Rows a b c d met all → Ends a b c d met (fold with_default all run.rules)
-ends a b c d true all h =
-    let has : has_row (codes "trace") all ≡ true = has_row-at (codes "trace") all ∙ ap (λ (o : Option Row). is_some o) h.of_trace in
-    let is : fold with_default all run.rules ≡ all =
-    defaults_of all ∙ ap (λ (b : Bool). cond b all (with_default_row all)) has in
-    subst (Ends a b c d true) (sym is) (ends_told a b c d all h)
-ends a b c d false all h =
-    let has : has_row (codes "trace") all ≡ false = has_row-at (codes "trace") all ∙ ap (λ (o : Option Row). is_some o) h.of_trace in
-    let is : fold with_default all run.rules ≡ all ++ untold ∷ [] =
-    defaults_of all ∙ ap (λ (b : Bool). cond b all (with_default_row all)) has ∙ appended (codes "trace") untold.reading DefaultValue (codes "false" ∷ []) all h.of_trace in
-    subst (Ends a b c d false) (sym is) (ends_untold a b c d all h)
+check_defaults : (all : List Row) → fold with_default all check.rules ≡ with_default all (filled (flag_rule (codes "all")))
+check_defaults all =
+    let after : List Row → List Row = λ x. kept_by (codes "help") (with_default x (filled (flag_rule (codes "all")))) in
+    let flag_row = with_default all (filled (flag_rule (codes "all"))) in
+    ap (λ (x : List Row). after (kept_by (codes "plant") x)) (same_either (has_row (codes "rules") all) all)
+    ∙ ap (λ (x : List Row). after x) (same_either (has_row (codes "plant") all) all)
+    ∙ same_either (has_row (codes "help") flag_row) flag_row
+
+-- what the flag's row is once its default is in
+with_flag : (id : Text) (met : Bool) (all : List Row) → row_at id all ≡ flag_of id met
+    → cond (has_row id all) all (with_default_row id all) ≡ cond met all (all ++ untold id ∷ [])
+with_flag id true all is = ap (λ (b : Bool). cond b all (with_default_row id all)) (there id (told id) all is)
+with_flag id false all is =
+    ap (λ (b : Bool). cond b all (with_default_row id all)) (has_row-at id all ∙ ap (λ (o : Option Row). is_some o) is)
+    ∙ appended id (untold id).reading DefaultValue (codes "false" ∷ []) all is
+
+run_ended : (a b c d : Option Text) (met : Bool) (file : Option Text) (all : List Row) → Holds (run_rows a b c d met file) all
+    → Holds (run_ends a b c d met file) (fold with_default all run.rules)
+run_ended a b c d true file all h =
+    subst (Holds (run_ends a b c d true file)) (sym (run_defaults all ∙ with_flag (codes "trace") true all h.1.1.1.1.1.0)) h
+run_ended a b c d false file all h =
+    subst (Holds (run_ends a b c d false file)) (sym (run_defaults all ∙ with_flag (codes "trace") false all h.1.1.1.1.1.0))
+    (holds_more (run_rows a b c d false file) all (untold (codes "trace")) h.1.1.1.1.1.0 h)
+
+check_ended : (a b : Option Text) (met : Bool) (all : List Row) → Holds (check_rows a b met) all
+    → Holds (check_ends a b met) (fold with_default all check.rules)
+check_ended a b true all h =
+    subst (Holds (check_ends a b true)) (sym (check_defaults all ∙ with_flag (codes "all") true all h.1.1.0)) h
+check_ended a b false all h =
+    subst (Holds (check_ends a b false)) (sym (check_defaults all ∙ with_flag (codes "all") false all h.1.1.0))
+    (holds_more (check_rows a b false) all (untold (codes "all")) h.1.1.0 h)
 
 -- ---- what is required
 
 abbrev is_there_at : Option Row → Bool
 is_there_at o = option_map_or (λ r. explicit_source r.source) o false
 
-abbrev pub missing_of : Option Row → Option Row → Option Row → Option Row → Kinds
-missing_of r p i o = check_kinds false false (not (is_there_at r) || (not (is_there_at p) || (not (is_there_at i) || (not (is_there_at o) || false))))
+abbrev missing_run : Option Row → Option Row → Option Row → Option Row → Kinds
+missing_run r p i o = check_kinds false false (not (is_there_at r) || (not (is_there_at p) || (not (is_there_at i) || (not (is_there_at o) || false))))
 
-pub required : (a b c d : Option Text) (met : Bool) (all : List Row) → Ends a b c d met all
-    → check_fault run all false ≡ missing_of (row_of_path (codes "rules") a) (row_of_path (codes "plant") b) (row_of_path (codes "input") c) (row_of_path (codes "output") d)
-required a b c d met all h = λ j. missing_of (h.of_rules j) (h.of_plant j) (h.of_input j) (h.of_output j)
+run_required : (a b c d : Option Text) (met : Bool) (file : Option Text) (all : List Row) → Holds (run_ends a b c d met file) all
+    → check_fault run all false ≡ missing_run (row_of (codes "rules") a) (row_of (codes "plant") b) (row_of (codes "input") c) (row_of (codes "output") d)
+run_required a b c d met file all h = λ j. missing_run (h.0 j) (h.1.0 j) (h.1.1.0 j) (h.1.1.1.0 j)
 
-abbrev GivesRun : List Text → Bool → Walk → Type 0
-GivesRun ops met w = check_fault run (finished run.rules w.held) false ≡ [] → IsRun ops met (finished run.rules w.held)
+abbrev missing_check : Option Row → Option Row → Kinds
+missing_check r p = check_kinds false false (not (is_there_at r) || (not (is_there_at p) || false))
+
+check_required : (a b : Option Text) (met : Bool) (all : List Row) → Holds (check_ends a b met) all
+    → check_fault check all false ≡ missing_check (row_of (codes "rules") a) (row_of (codes "plant") b)
+check_required a b met all h = λ j. missing_check (h.0 j) (h.1.0 j)
+
+-- ---- a run, word for word, with the paths that were met so far
+
+abbrev waits_for_file : List Row → ℕ → Bool → Walk
+waits_for_file rows p t = stand (option (codes "report")) (at rows (Some (codes "report", []))) p t
+
+module _ (a b c d : Option Text) (p : ℕ) (front : List Text → List Text) where
+  abbrev Out : View → Walk → Type 0
+  Out v w = GivesRun ((front v.0.0, v.0.1), v.1) w
+
+  -- a file for the report that is no more taken stands in the way of a path
+  abbrev Stops : Type 0
+  Stops = (rows : List Row) (vs : List Text) → step_fault run p (at rows (Some (codes "report", vs))) value ≡ []
+      → (settle_fault run.rules run.args_override_self (at rows (Some (codes "report", vs))) ≡ []) ⊎ ⊥
+
+  abbrev Finish : Type 0
+  Finish = (met : Bool) (file : Option Text) (all : List Row) → Holds (run_rows a b c d met file) all
+      → check_fault run (fold with_default all run.rules) false ≡ [] → IsRun ((front [], met), file) (fold with_default all run.rules)
+
+  abbrev next_walk : Bool → Text → List Row → Pending → Walk
+  next_walk t word rows pending = to_positional run.rules (arg_by_index run.rules p) word (standing (at rows pending) p t) (at rows pending)
+
+  abbrev Next : Type 0
+  Next = (t met : Bool) (file : Option Text) (word : Text) (rest : List Text) (rows : List Row) (pending : Pending)
+      → Holds (run_rows a b c d met file) (so_far run rows pending) → step_fault run p (at rows pending) value ≡ []
+      → walk_fault run [] (next_walk t word rows pending) rest ≡ []
+      → Out ((word ∷ (view t met file rest).0.0, (view t met file rest).0.1), (view t met file rest).1) (end_of run (next_walk t word rows pending) rest)
+
+  abbrev Goes : Bool → Bool → Option Text → List Text → List Row → Pending → Type 0
+  Goes t met file rest rows pending = Holds (run_rows a b c d met file) (so_far run rows pending)
+      → walk_fault run [] (standing (at rows pending) p t) rest ≡ [] → Out (view t met file rest) (end_of run (standing (at rows pending) p t) rest)
+
+  abbrev Waits : Bool → List Text → List Row → Type 0
+  Waits met rest rows = Holds (run_rows a b c d met None) rows
+      → walk_fault run [] (waits_for_file rows p false) rest ≡ [] → Out (waiting_view met rest) (end_of run (waits_for_file rows p false) rest)
+
+  module _ (stops : Stops) (finish : Finish) (next : Next) where
+    abbrev Unsettled : List Row → List Text → Type 0
+    Unsettled rows vs = settle_fault run.rules run.args_override_self (at rows (Some (codes "report", vs))) ≡ [] → ⊥
+
+    abbrev Faulty : Walk → Type 0
+    Faulty w = settle_fault run.rules run.args_override_self w.held ≡ [] → ⊥
+
+    doomed_step : (rows : List Row) (vs : List Text) → Unsettled rows vs → step_fault run p (at rows (Some (codes "report", vs))) value ≡ [] → ⊥
+    doomed_step rows vs never e = elim (stops rows vs e) [
+      | inl s ↦ never s
+      | inr bad ↦ bad
+    ]
+
+    -- behind a `--`
+    doomed_trail : (waiting : Waiting) (rows : List Row) (vs : List Text) (rest : List Text) → Unsettled rows vs
+        → walk_fault run [] (stand waiting (at rows (Some (codes "report", vs))) p true) rest ≡ []
+        → Faulty (end_of run (stand waiting (at rows (Some (codes "report", vs))) p true) rest)
+    doomed_trail waiting rows vs [] never e = never
+    doomed_trail waiting rows vs (word ∷ rest) never e =
+        trail run run_asks waiting rows (Some (codes "report", vs)) p word rest Faulty e (λ steps left. absurd (doomed_step rows vs never steps))
+
+    doomed : (rows : List Row) (vs : List Text) (rest : List Text) → Unsettled rows vs
+        → walk_fault run [] (standing (at rows (Some (codes "report", vs))) p false) rest ≡ []
+        → Faulty (end_of run (standing (at rows (Some (codes "report", vs))) p false) rest)
+    doomed rows vs [] never e = never
+    doomed rows vs (word ∷ rest) never e = turn run run_asks idle rows (Some (codes "report", vs)) p word rest Faulty e
+        (λ is left. doomed_trail idle rows vs rest never left)
+        (λ q is long fault left. absurd (never (run_flag q _ fault).1))
+        (λ is long steps left. absurd (doomed_step rows vs never steps))
+
+    empty_file : (rows : List Row) → Unsettled rows []
+    empty_file rows e = not_nil _ _ e
+
+    -- a second file for the report
+    twice : (f : Text) (rows : List Row) (rest : List Text) → row_at (codes "report") rows ≡ Some (row (codes "report") f)
+        → walk_fault run [] (waits_for_file rows p false) rest ≡ [] → Faulty (end_of run (waits_for_file rows p false) rest)
+    twice f rows [] is e = empty_file rows
+    twice f rows (word ∷ rest) is e = turn run run_asks (option (codes "report")) rows (Some (codes "report", [])) p word rest Faulty e
+        (λ dashes left. doomed_trail (option (codes "report")) rows [] rest (empty_file rows) left)
+        (λ q dashes long fault left. absurd (empty_file rows (run_flag q _ fault).1))
+        (λ dashes long steps left. doomed rows (word ∷ []) rest (λ s. again (codes "report") (row (codes "report") f) rows is s) left)
+
+    -- the flag
+    at_flag : (met : Bool) (file : Option Text) (word : Text) (rest : List Text) (rows : List Row) (pending : Pending)
+        → Holds (run_rows a b c d met file) (so_far run rows pending)
+        → bytes_eq word (codes "--") ≡ false → long_of word ≡ Some (codes "trace", None)
+        → long_fault run.rules run.args_override_self (arg_by_long run.rules (codes "trace")) None (at rows pending) ≡ []
+        → walk_fault run [] (standing (at (flagged (codes "trace") (so_far run rows pending)) None) p false) rest ≡ []
+        → (met ≡ false → Goes false true file rest (flagged (codes "trace") (so_far run rows pending)) None)
+        → Out (view false met file (word ∷ rest)) (end_of run (standing (at (flagged (codes "trace") (so_far run rows pending)) None) p false) rest)
+    at_flag met file word rest rows pending h is long fault left goes =
+        let all = so_far run rows pending in
+        let unmet : met ≡ false = once (codes "trace") met all h.1.1.1.1.1.0 (then_nil (settle_fault run.rules run.args_override_self (at rows pending)) _ fault) in
+        let none : row_at (codes "trace") all ≡ None = h.1.1.1.1.1.0 ∙ ap (flag_of (codes "trace")) unmet in
+        let more : Holds (run_rows a b c d true file) (all ++ told (codes "trace") ∷ []) = holds_more (run_rows a b c d met file) all (told (codes "trace")) none h in
+        let so = goes unmet (subst (Holds (run_rows a b c d true file)) (sym (flagged_row (codes "trace") all none)) more) left in
+        let W : Walk = end_of run (standing (at (flagged (codes "trace") all) None) p false) rest in
+        subst (λ (m : Bool). Out (view false m file (word ∷ rest)) W) (sym unmet)
+        (subst (λ (v : View). Out v W) (sym (view_flag file word rest is (ap report_among long) (flag_text word (codes "trace") long))) so)
+
+    -- the file for the report, in the same word
+    at_file : (f : Text) (met : Bool) (file : Option Text) (word : Text) (rest : List Text) (rows : List Row) (pending : Pending)
+        → Holds (run_rows a b c d met file) (so_far run rows pending)
+        → bytes_eq word (codes "--") ≡ false → long_of word ≡ Some (codes "report", Some f)
+        → long_fault run.rules run.args_override_self (arg_by_long run.rules (codes "report")) (Some f) (at rows pending) ≡ []
+        → walk_fault run [] (standing (at (reported f (so_far run rows pending)) None) p false) rest ≡ []
+        → Goes false met (Some f) rest (reported f (so_far run rows pending)) None
+        → Out (view false met file (word ∷ rest)) (end_of run (standing (at (reported f (so_far run rows pending)) None) p false) rest)
+    at_file f met (Some g) word rest rows pending h is long fault left goes =
+        absurd (again (codes "report") (row (codes "report") g) (so_far run rows pending) h.1.1.1.1.0 (then_nil (settle_fault run.rules run.args_override_self (at rows pending)) _ fault))
+    at_file f met None word rest rows pending h is long fault left goes =
+        let all = so_far run rows pending in
+        let more : Holds (run_rows a b c d met (Some f)) (all ++ row (codes "report") f ∷ []) = holds_more (run_rows a b c d met None) all (row (codes "report") f) h.1.1.1.1.0 h in
+        let so = goes (subst (Holds (run_rows a b c d met (Some f))) (sym (settled_row (codes "report") f all h.1.1.1.1.0)) more) left in
+        let W : Walk = end_of run (standing (at (reported f all) None) p false) rest in
+        subst (λ (v : View). Out v W) (sym (view_attached met f word rest is (ap report_among long))) so
+
+    -- the file for the report, in the next word
+    at_option : (met : Bool) (file : Option Text) (word : Text) (rest : List Text) (rows : List Row) (pending : Pending)
+        → Holds (run_rows a b c d met file) (so_far run rows pending)
+        → bytes_eq word (codes "--") ≡ false → long_of word ≡ Some (codes "report", None)
+        → walk_fault run [] (waits_for_file (so_far run rows pending) p false) rest ≡ []
+        → Waits met rest (so_far run rows pending)
+        → Out (view false met file (word ∷ rest)) (end_of run (waits_for_file (so_far run rows pending) p false) rest)
+    at_option met (Some g) word rest rows pending h is long left waits = λ settles checks. absurd (twice g (so_far run rows pending) rest h.1.1.1.1.0 left settles)
+    at_option met None word rest rows pending h is long left waits =
+        let W : Walk = end_of run (waits_for_file (so_far run rows pending) p false) rest in
+        subst (λ (v : View). Out v W) (sym (view_waits met word rest is (ap report_among long))) (waits h left)
+
+    -- one word more
+    one : (met : Bool) (file : Option Text) (word : Text) (rest : List Text) (rows : List Row) (pending : Pending)
+        → Goes true met file rest rows pending
+        → Goes false true file rest (flagged (codes "trace") (so_far run rows pending)) None
+        → ((f : Text) → Goes false met (Some f) rest (reported f (so_far run rows pending)) None)
+        → Waits met rest (so_far run rows pending)
+        → Goes false met file (word ∷ rest) rows pending
+    one met file word rest rows pending dashes flags files waits h e =
+        turn run run_asks idle rows pending p word rest (Out (view false met file (word ∷ rest))) e
+        (λ is left. subst (λ (v : View). Out v (end_of run (standing (at rows pending) p true) rest)) (sym (view_dashes met file word rest is)) (dashes h left))
+        flag
+        (λ is long steps left.
+        let bare : as_report word ≡ None = ap report_among long in
+        let unflagged : bytes_eq word (codes "--trace") ≡ false = no_flag word (codes "--trace") refl long in
+        subst (λ (v : View). Out v (end_of run (next_walk false word rows pending) rest)) (sym (view_plain met file word rest is bare unflagged))
+        (next false met file word rest rows pending h steps left))
+      where
+        moved : Text × Option Text → Walk
+        moved q = let m = long_word run.rules idle word q.0 q.1 (at rows pending) in after_step run.rules word (standing (at rows pending) p false) m.0 m.1
+
+        At : Text × Option Text → Type 0
+        At q = bytes_eq word (codes "--") ≡ false → long_of word ≡ Some q
+            → long_fault run.rules run.args_override_self (arg_by_long run.rules q.0) q.1 (at rows pending) ≡ []
+            → walk_fault run [] (moved q) rest ≡ [] → Out (view false met file (word ∷ rest)) (end_of run (moved q) rest)
+
+        report_at : (v : Option Text) → At (codes "report", v)
+        report_at None is long fault left = at_option met file word rest rows pending h is long left waits
+        report_at (Some f) is long fault left = at_file f met file word rest rows pending h is long fault left (files f)
+
+        flag : (q : Text × Option Text) → At q
+        flag q is long fault left = elim (run_flag q (at rows pending) fault).0 [
+          | inl same ↦ subst At (sym same) (λ i l f w. at_flag met file word rest rows pending h i l f w (λ _. flags)) is long fault left
+          | inr got ↦ subst At (sym got.1) (report_at got.0) is long fault left
+        ]
+
+    -- the word that the report goes to
+    file_word : (met : Bool) (word : Text) (rest : List Text) (rows : List Row) → Goes false met (Some word) rest rows (pending_value (codes "report") word)
+        → Waits met (word ∷ rest) rows
+    file_word met word rest rows goes h e =
+        turn run run_asks (option (codes "report")) rows (Some (codes "report", [])) p word rest (Out (waiting_view met (word ∷ rest))) e
+        (λ is left. λ settles checks. absurd (doomed_trail (option (codes "report")) rows [] rest (empty_file rows) left settles))
+        (λ q is long fault left. absurd (empty_file rows (run_flag q _ fault).1))
+        (λ is long steps left. goes (subst (Holds (run_rows a b c d met (Some word))) (sym (settled_row (codes "report") word rows h.1.1.1.1.0))
+        (holds_more (run_rows a b c d met None) rows (row (codes "report") word) h.1.1.1.1.0 h)) left)
+
+    mutual
+      walk_on : (t met : Bool) (file : Option Text) (rest : List Text) (rows : List Row) (pending : Pending) → Goes t met file rest rows pending
+      walk_on t met file [] rows pending h e = λ settles checks.
+          subst (λ (v : View). IsRun ((front v.0.0, v.0.1), v.1) (finished run.rules (at rows pending))) (sym (view_end t met file)) (finish met file (so_far run rows pending) h checks)
+      walk_on true met file (word ∷ rest) rows pending h e =
+          trail run run_asks idle rows pending p word rest (Out (view true met file (word ∷ rest))) e (λ steps left. next true met file word rest rows pending h steps left)
+      walk_on false met file (word ∷ rest) rows pending h e = one met file word rest rows pending
+          (walk_on true met file rest rows pending)
+          (walk_on false true file rest (flagged (codes "trace") (so_far run rows pending)) None)
+          (λ f. walk_on false met (Some f) rest (reported f (so_far run rows pending)) None)
+          (wait_on met rest (so_far run rows pending)) h e
+
+      wait_on : (met : Bool) (rest : List Text) (rows : List Row) → Waits met rest rows
+      wait_on met [] rows h e = λ settles checks. absurd (empty_file rows settles)
+      wait_on met (word ∷ rest) rows h e = file_word met word rest rows (walk_on false met (Some word) rest rows (pending_value (codes "report") word)) h e
+
+-- ---- a run, path by path
+
+-- a path more
+taken_row : (id word : Text) (known : Known) (all : List Row) → row_at id all ≡ None → Holds known all
+    → Holds (with_row (row id word) known) (used (filled (path_rule id)) (word ∷ []) all)
+taken_row id word known all none h =
+    subst (Holds (with_row (row id word) known)) (sym (settled_row id word all none)) (holds_more known all (row id word) none h)
 
 -- too few paths
-short : (a b c d : Option Text) (met : Bool) (rows : List Row) (pending : Option (Text × List Text)) (k : ErrorKind) (Out : Type 0) → Held4 a b c d met rows pending
-    → missing_of (row_of_path (codes "rules") a) (row_of_path (codes "plant") b) (row_of_path (codes "input") c) (row_of_path (codes "output") d) ≡ k ∷ []
-    → check_fault run (finished run.rules (at rows pending)) false ≡ [] → Out
-short a b c d met rows pending k Out h missing bad =
-    not_nil k [] (sym missing ∙ sym (required a b c d met (finished run.rules (at rows pending)) (ends a b c d met (so_far rows pending) h)) ∙ bad)
+short : {A : Type 0} (a b c d : Option Text) (met : Bool) (file : Option Text) (all : List Row) (k : ErrorKind) → Holds (run_rows a b c d met file) all
+    → missing_run (row_of (codes "rules") a) (row_of (codes "plant") b) (row_of (codes "input") c) (row_of (codes "output") d) ≡ k ∷ []
+    → check_fault run (fold with_default all run.rules) false ≡ [] → A
+short a b c d met file all k h missing bad =
+    not_nil k [] (sym missing ∙ sym (run_required a b c d met file (fold with_default all run.rules) (run_ended a b c d met file all h)) ∙ bad)
 
-after4 : (a b c d : Text) (met t : Bool) (rest : List Text) (rows : List Row) (pending : Option (Text × List Text)) → Held4 (Some a) (Some b) (Some c) (Some d) met rows pending
-    → walk_fault run [] (standing (at rows pending) 5 t) rest ≡ []
-    → GivesRun (a ∷ b ∷ c ∷ d ∷ paths_from t met rest) (met_from t met rest) (end_of run (standing (at rows pending) 5 t) rest)
-after4 a b c d met t [] rows pending h e = λ _. (
-  a,
-  b,
-  c,
-  d,
-  ap (λ (l : List Text). a ∷ b ∷ c ∷ d ∷ l) (end_paths t met),
-  subst (λ (m : Bool). Ends (Some a) (Some b) (Some c) (Some d) m (finished run.rules (at rows pending))) (sym (end_met t met)) (ends (Some a) (Some b) (Some c) (Some d) met (so_far rows pending) h),
-)
-after4 a b c d met t (word ∷ rest) rows pending h e = run_turn met rows pending 5 t word rest (standing (at rows pending) 5) (λ ops m w. GivesRun (a ∷ b ∷ c ∷ d ∷ ops) m w) h.of_trace
-    (λ u. refl) e (after4 a b c d met true rest rows pending h)
-    (λ unmet left. after4 a b c d true false rest (flagged rows pending) None (then_flag (Some a) (Some b) (Some c) (Some d) met rows pending unmet h) left)
-    (λ _ bad. not_nil _ _ bad)
+run4 : (a b c d : Text) (t met : Bool) (file : Option Text) (rest : List Text) (rows : List Row) (pending : Pending)
+    → Goes (Some a) (Some b) (Some c) (Some d) 5 (λ ops. a ∷ b ∷ c ∷ d ∷ ops) t met file rest rows pending
+run4 a b c d = walk_on (Some a) (Some b) (Some c) (Some d) 5 (λ ops. a ∷ b ∷ c ∷ d ∷ ops) (λ rows vs bad. inr (not_nil _ _ bad))
+    (λ met file all h checks. (a, b, c, d, refl, run_ended (Some a) (Some b) (Some c) (Some d) met file all h))
+    (λ t met file word rest rows pending h bad left. not_nil _ _ bad)
 
-after3 : (a b c : Text) (met t : Bool) (rest : List Text) (rows : List Row) (pending : Option (Text × List Text)) → Held4 (Some a) (Some b) (Some c) None met rows pending
-    → walk_fault run [] (standing (at rows pending) 4 t) rest ≡ []
-    → GivesRun (a ∷ b ∷ c ∷ paths_from t met rest) (met_from t met rest) (end_of run (standing (at rows pending) 4 t) rest)
-after3 a b c met t [] rows pending h e = λ bad. short (Some a) (Some b) (Some c) None met rows pending _ _ h refl bad
-after3 a b c met t (word ∷ rest) rows pending h e = run_turn met rows pending 4 t word rest (standing (at (so_far rows pending) (pending_path (codes "output") word)) 5)
-    (λ ops m w. GivesRun (a ∷ b ∷ c ∷ ops) m w) h.of_trace (λ u. moves (goes_on (codes "output") pending) u rows pending (codes "output") word 5) e
-    (after3 a b c met true rest rows pending h)
-    (λ unmet left. after3 a b c true false rest (flagged rows pending) None (then_flag (Some a) (Some b) (Some c) None met rows pending unmet h) left)
-    (λ left _. after4 a b c word met t rest (so_far rows pending) (pending_path (codes "output") word) (then_output a b c met rows pending word h) left)
+run3 : (a b c : Text) (t met : Bool) (file : Option Text) (rest : List Text) (rows : List Row) (pending : Pending)
+    → Goes (Some a) (Some b) (Some c) None 4 (λ ops. a ∷ b ∷ c ∷ ops) t met file rest rows pending
+run3 a b c = walk_on (Some a) (Some b) (Some c) None 4 (λ ops. a ∷ b ∷ c ∷ ops) (λ rows vs e. inl e)
+    (λ met file all h checks. short (Some a) (Some b) (Some c) None met file all _ h refl checks)
+    (λ t met file word rest rows pending h steps left.
+    let all = so_far run rows pending in
+    let same = moves run (goes_on (codes "output") pending) t rows pending (codes "output") word 5 in
+    let v = view t met file rest in
+    subst (λ (w : Walk). GivesRun ((a ∷ b ∷ c ∷ word ∷ v.0.0, v.0.1), v.1) (end_of run w rest)) (sym same)
+    (run4 a b c word t met file rest all (pending_value (codes "output") word)
+    (taken_row (codes "output") word (run_rows (Some a) (Some b) (Some c) None met file) all h.1.1.1.0 h)
+    (subst (λ (w : Walk). walk_fault run [] w rest ≡ []) same left)))
 
-after2 : (a b : Text) (met t : Bool) (rest : List Text) (rows : List Row) (pending : Option (Text × List Text)) → Held4 (Some a) (Some b) None None met rows pending
-    → walk_fault run [] (standing (at rows pending) 3 t) rest ≡ []
-    → GivesRun (a ∷ b ∷ paths_from t met rest) (met_from t met rest) (end_of run (standing (at rows pending) 3 t) rest)
-after2 a b met t [] rows pending h e = λ bad. short (Some a) (Some b) None None met rows pending _ _ h refl bad
-after2 a b met t (word ∷ rest) rows pending h e = run_turn met rows pending 3 t word rest (standing (at (so_far rows pending) (pending_path (codes "input") word)) 4)
-    (λ ops m w. GivesRun (a ∷ b ∷ ops) m w) h.of_trace (λ u. moves (goes_on (codes "input") pending) u rows pending (codes "input") word 4) e
-    (after2 a b met true rest rows pending h)
-    (λ unmet left. after2 a b true false rest (flagged rows pending) None (then_flag (Some a) (Some b) None None met rows pending unmet h) left)
-    (λ left _. after3 a b word met t rest (so_far rows pending) (pending_path (codes "input") word) (then_input a b met rows pending word h) left)
+run2 : (a b : Text) (t met : Bool) (file : Option Text) (rest : List Text) (rows : List Row) (pending : Pending)
+    → Goes (Some a) (Some b) None None 3 (λ ops. a ∷ b ∷ ops) t met file rest rows pending
+run2 a b = walk_on (Some a) (Some b) None None 3 (λ ops. a ∷ b ∷ ops) (λ rows vs e. inl e)
+    (λ met file all h checks. short (Some a) (Some b) None None met file all _ h refl checks)
+    (λ t met file word rest rows pending h steps left.
+    let all = so_far run rows pending in
+    let same = moves run (goes_on (codes "input") pending) t rows pending (codes "input") word 4 in
+    let v = view t met file rest in
+    subst (λ (w : Walk). GivesRun ((a ∷ b ∷ word ∷ v.0.0, v.0.1), v.1) (end_of run w rest)) (sym same)
+    (run3 a b word t met file rest all (pending_value (codes "input") word)
+    (taken_row (codes "input") word (run_rows (Some a) (Some b) None None met file) all h.1.1.0 h)
+    (subst (λ (w : Walk). walk_fault run [] w rest ≡ []) same left)))
 
-after1 : (a : Text) (met t : Bool) (rest : List Text) (rows : List Row) (pending : Option (Text × List Text)) → Held4 (Some a) None None None met rows pending
-    → walk_fault run [] (standing (at rows pending) 2 t) rest ≡ []
-    → GivesRun (a ∷ paths_from t met rest) (met_from t met rest) (end_of run (standing (at rows pending) 2 t) rest)
-after1 a met t [] rows pending h e = λ bad. short (Some a) None None None met rows pending _ _ h refl bad
-after1 a met t (word ∷ rest) rows pending h e = run_turn met rows pending 2 t word rest (standing (at (so_far rows pending) (pending_path (codes "plant") word)) 3)
-    (λ ops m w. GivesRun (a ∷ ops) m w) h.of_trace (λ u. moves (goes_on (codes "plant") pending) u rows pending (codes "plant") word 3) e
-    (after1 a met true rest rows pending h)
-    (λ unmet left. after1 a true false rest (flagged rows pending) None (then_flag (Some a) None None None met rows pending unmet h) left)
-    (λ left _. after2 a word met t rest (so_far rows pending) (pending_path (codes "plant") word) (then_plant a met rows pending word h) left)
+run1 : (a : Text) (t met : Bool) (file : Option Text) (rest : List Text) (rows : List Row) (pending : Pending)
+    → Goes (Some a) None None None 2 (λ ops. a ∷ ops) t met file rest rows pending
+run1 a = walk_on (Some a) None None None 2 (λ ops. a ∷ ops) (λ rows vs e. inl e)
+    (λ met file all h checks. short (Some a) None None None met file all _ h refl checks)
+    (λ t met file word rest rows pending h steps left.
+    let all = so_far run rows pending in
+    let same = moves run (goes_on (codes "plant") pending) t rows pending (codes "plant") word 3 in
+    let v = view t met file rest in
+    subst (λ (w : Walk). GivesRun ((a ∷ word ∷ v.0.0, v.0.1), v.1) (end_of run w rest)) (sym same)
+    (run2 a word t met file rest all (pending_value (codes "plant") word)
+    (taken_row (codes "plant") word (run_rows (Some a) None None None met file) all h.1.0 h)
+    (subst (λ (w : Walk). walk_fault run [] w rest ≡ []) same left)))
 
-after0 : (met t : Bool) (rest : List Text) (rows : List Row) (pending : Option (Text × List Text)) → Held4 None None None None met rows pending
-    → walk_fault run [] (standing (at rows pending) 1 t) rest ≡ []
-    → GivesRun (paths_from t met rest) (met_from t met rest) (end_of run (standing (at rows pending) 1 t) rest)
-after0 met t [] rows pending h e = λ bad. short None None None None met rows pending _ _ h refl bad
-after0 met t (word ∷ rest) rows pending h e = run_turn met rows pending 1 t word rest (standing (at (so_far rows pending) (pending_path (codes "rules") word)) 2)
-    GivesRun h.of_trace (λ u. moves (goes_on (codes "rules") pending) u rows pending (codes "rules") word 2) e
-    (after0 met true rest rows pending h)
-    (λ unmet left. after0 true false rest (flagged rows pending) None (then_flag None None None None met rows pending unmet h) left)
-    (λ left _. after1 word met t rest (so_far rows pending) (pending_path (codes "rules") word) (then_rules met rows pending word h) left)
+run0 : (t met : Bool) (file : Option Text) (rest : List Text) (rows : List Row) (pending : Pending)
+    → Goes None None None None 1 (λ ops. ops) t met file rest rows pending
+run0 = walk_on None None None None 1 (λ ops. ops) (λ rows vs e. inl e)
+    (λ met file all h checks. short None None None None met file all _ h refl checks)
+    (λ t met file word rest rows pending h steps left.
+    let all = so_far run rows pending in
+    let same = moves run (goes_on (codes "rules") pending) t rows pending (codes "rules") word 2 in
+    let v = view t met file rest in
+    subst (λ (w : Walk). GivesRun ((word ∷ v.0.0, v.0.1), v.1) (end_of run w rest)) (sym same)
+    (run1 word t met file rest all (pending_value (codes "rules") word)
+    (taken_row (codes "rules") word (run_rows None None None None met file) all h.0 h)
+    (subst (λ (w : Walk). walk_fault run [] w rest ≡ []) same left)))
 
-checked2 : (a b : Text) (t : Bool) (rest : List Text) → walk_fault check [] (standing (held2 a b) 3 t) rest ≡ []
-    → Gives check IsCheck (a ∷ b ∷ operands_from t rest) (end_of check (standing (held2 a b) 3 t) rest)
-checked2 a b t [] e = λ _. (a, b, ap (λ (l : List Text). a ∷ b ∷ l) (none_left t), refl)
-checked2 a b t (word ∷ rest) e = turn check check_asks (held2 a b).rows (held2 a b).pending 3 t word (check_long word) rest (standing (held2 a b) 3) (λ ops w. Gives check IsCheck (a ∷ b ∷ ops) w)
-    (λ u. refl) e (checked2 a b true rest) (λ _ bad. not_nil _ _ bad)
+-- ---- a check
 
-checked1 : (a : Text) (t : Bool) (rest : List Text) → walk_fault check [] (standing (held1 a) 2 t) rest ≡ []
-    → Gives check IsCheck (a ∷ operands_from t rest) (end_of check (standing (held1 a) 2 t) rest)
-checked1 a t [] e = λ bad. not_nil _ _ bad
-checked1 a t (word ∷ rest) e = turn check check_asks (held1 a).rows (held1 a).pending 2 t word (check_long word) rest (standing (held2 a word) 3) (λ ops w. Gives check IsCheck (a ∷ ops) w)
-    (λ u. ap (standing (held2 a word) 3) (or-false u)) e (checked1 a true rest) (λ left _. checked2 a word t rest left)
+abbrev pub IsCheck : Seen → List Row → Type 0
+IsCheck v rows = (a : Text) × (b : Text) × (v.0 ≡ a ∷ b ∷ []) × Holds (check_ends (Some a) (Some b) v.1) rows
 
-checked0 : (t : Bool) (rest : List Text) → walk_fault check [] (standing nothing_held 1 t) rest ≡ []
-    → Gives check IsCheck (operands_from t rest) (end_of check (standing nothing_held 1 t) rest)
-checked0 t [] e = λ bad. not_nil _ _ bad
-checked0 t (word ∷ rest) e = turn check check_asks [] None 1 t word (check_long word) rest (standing (held1 word) 2) (Gives check IsCheck)
-    (λ u. ap (standing (held1 word) 2) (or-false u)) e (checked0 true rest) (λ left _. checked1 word t rest left)
+abbrev GivesCheck : Seen → Walk → Type 0
+GivesCheck v w = check_fault check (finished check.rules w.held) false ≡ [] → IsCheck v (finished check.rules w.held)
 
-telling1 : (a : Text) (t : Bool) (rest : List Text) → walk_fault telling [] (standing (held_code a) 2 t) rest ≡ []
-    → Gives telling IsTelling (a ∷ operands_from t rest) (end_of telling (standing (held_code a) 2 t) rest)
+abbrev check_view : Bool → Bool → List Text → Seen
+check_view t met rest = flag_view (codes "--all") t met rest
+
+module _ (a b : Option Text) (p : ℕ) (front : List Text → List Text) where
+  abbrev Checked : Seen → Walk → Type 0
+  Checked v w = GivesCheck (front v.0, v.1) w
+
+  abbrev check_walk : Bool → Text → List Row → Pending → Walk
+  check_walk t word rows pending = to_positional check.rules (arg_by_index check.rules p) word (standing (at rows pending) p t) (at rows pending)
+
+  abbrev CheckEnd : Type 0
+  CheckEnd = (met : Bool) (all : List Row) → Holds (check_rows a b met) all
+      → check_fault check (fold with_default all check.rules) false ≡ [] → IsCheck (front [], met) (fold with_default all check.rules)
+
+  abbrev CheckNext : Type 0
+  CheckNext = (t met : Bool) (word : Text) (rest : List Text) (rows : List Row) (pending : Pending)
+      → Holds (check_rows a b met) (so_far check rows pending) → step_fault check p (at rows pending) value ≡ []
+      → walk_fault check [] (check_walk t word rows pending) rest ≡ []
+      → Checked (word ∷ (check_view t met rest).0, (check_view t met rest).1) (end_of check (check_walk t word rows pending) rest)
+
+  abbrev Checks : Bool → Bool → List Text → List Row → Pending → Type 0
+  Checks t met rest rows pending = Holds (check_rows a b met) (so_far check rows pending)
+      → walk_fault check [] (standing (at rows pending) p t) rest ≡ [] → Checked (check_view t met rest) (end_of check (standing (at rows pending) p t) rest)
+
+  -- the flag
+  at_all : (met : Bool) (word : Text) (rest : List Text) (rows : List Row) (pending : Pending)
+      → Holds (check_rows a b met) (so_far check rows pending)
+      → bytes_eq word (codes "--") ≡ false → long_of word ≡ Some (codes "all", None)
+      → long_fault check.rules check.args_override_self (arg_by_long check.rules (codes "all")) None (at rows pending) ≡ []
+      → walk_fault check [] (standing (at (flagged (codes "all") (so_far check rows pending)) None) p false) rest ≡ []
+      → Checks false true rest (flagged (codes "all") (so_far check rows pending)) None
+      → Checked (check_view false met (word ∷ rest)) (end_of check (standing (at (flagged (codes "all") (so_far check rows pending)) None) p false) rest)
+  at_all met word rest rows pending h is long fault left goes =
+      let all = so_far check rows pending in
+      let unmet : met ≡ false = once (codes "all") met all h.1.1.0 (then_nil (settle_fault check.rules check.args_override_self (at rows pending)) _ fault) in
+      let none : row_at (codes "all") all ≡ None = h.1.1.0 ∙ ap (flag_of (codes "all")) unmet in
+      let more : Holds (check_rows a b true) (all ++ told (codes "all") ∷ []) = holds_more (check_rows a b met) all (told (codes "all")) none h in
+      let so = goes (subst (Holds (check_rows a b true)) (sym (flagged_row (codes "all") all none)) more) left in
+      let W : Walk = end_of check (standing (at (flagged (codes "all") all) None) p false) rest in
+      subst (λ (m : Bool). Checked (check_view false m (word ∷ rest)) W) (sym unmet)
+      (subst (λ (v : Seen). Checked v W) (sym (flag_met (codes "--all") word rest is (flag_text word (codes "all") long))) so)
+
+  module _ (finish : CheckEnd) (next : CheckNext) where
+    check_one : (met : Bool) (word : Text) (rest : List Text) (rows : List Row) (pending : Pending)
+        → Checks true met rest rows pending
+        → Checks false true rest (flagged (codes "all") (so_far check rows pending)) None
+        → Checks false met (word ∷ rest) rows pending
+    check_one met word rest rows pending dashes flags h e =
+        turn check check_asks idle rows pending p word rest (Checked (check_view false met (word ∷ rest))) e
+        (λ is left. subst (λ (v : Seen). Checked v (end_of check (standing (at rows pending) p true) rest)) (sym (flag_dashes (codes "--all") met word rest is)) (dashes h left))
+        (λ q is long fault left. subst At (sym (check_flag q (at rows pending) fault)) (λ i l f w. at_all met word rest rows pending h i l f w flags) is long fault left)
+        (λ is long steps left.
+        let unflagged : bytes_eq word (codes "--all") ≡ false = no_flag word (codes "--all") refl long in
+        subst (λ (v : Seen). Checked v (end_of check (check_walk false word rows pending) rest)) (sym (flag_plain (codes "--all") met word rest is unflagged))
+        (next false met word rest rows pending h steps left))
+      where
+        moved : Text × Option Text → Walk
+        moved q = let m = long_word check.rules idle word q.0 q.1 (at rows pending) in after_step check.rules word (standing (at rows pending) p false) m.0 m.1
+
+        At : Text × Option Text → Type 0
+        At q = bytes_eq word (codes "--") ≡ false → long_of word ≡ Some q
+            → long_fault check.rules check.args_override_self (arg_by_long check.rules q.0) q.1 (at rows pending) ≡ []
+            → walk_fault check [] (moved q) rest ≡ [] → Checked (check_view false met (word ∷ rest)) (end_of check (moved q) rest)
+
+    check_on : (t met : Bool) (rest : List Text) (rows : List Row) (pending : Pending) → Checks t met rest rows pending
+    check_on t met [] rows pending h e = λ checks.
+        subst (λ (v : Seen). IsCheck (front v.0, v.1) (finished check.rules (at rows pending))) (sym (flag_end (codes "--all") t met)) (finish met (so_far check rows pending) h checks)
+    check_on true met (word ∷ rest) rows pending h e =
+        trail check check_asks idle rows pending p word rest (Checked (check_view true met (word ∷ rest))) e (λ steps left. next true met word rest rows pending h steps left)
+    check_on false met (word ∷ rest) rows pending h e = check_one met word rest rows pending
+        (check_on true met rest rows pending) (check_on false true rest (flagged (codes "all") (so_far check rows pending)) None) h e
+
+short_check : {A : Type 0} (a b : Option Text) (met : Bool) (all : List Row) (k : ErrorKind) → Holds (check_rows a b met) all
+    → missing_check (row_of (codes "rules") a) (row_of (codes "plant") b) ≡ k ∷ []
+    → check_fault check (fold with_default all check.rules) false ≡ [] → A
+short_check a b met all k h missing bad =
+    not_nil k [] (sym missing ∙ sym (check_required a b met (fold with_default all check.rules) (check_ended a b met all h)) ∙ bad)
+
+check2 : (a b : Text) (t met : Bool) (rest : List Text) (rows : List Row) (pending : Pending)
+    → Checks (Some a) (Some b) 3 (λ ops. a ∷ b ∷ ops) t met rest rows pending
+check2 a b = check_on (Some a) (Some b) 3 (λ ops. a ∷ b ∷ ops)
+    (λ met all h checks. (a, b, refl, check_ended (Some a) (Some b) met all h))
+    (λ t met word rest rows pending h bad left. not_nil _ _ bad)
+
+check1 : (a : Text) (t met : Bool) (rest : List Text) (rows : List Row) (pending : Pending)
+    → Checks (Some a) None 2 (λ ops. a ∷ ops) t met rest rows pending
+check1 a = check_on (Some a) None 2 (λ ops. a ∷ ops)
+    (λ met all h checks. short_check (Some a) None met all _ h refl checks)
+    (λ t met word rest rows pending h steps left.
+    let all = so_far check rows pending in
+    let same = moves check (goes_on (codes "plant") pending) t rows pending (codes "plant") word 3 in
+    let v = check_view t met rest in
+    subst (λ (w : Walk). GivesCheck (a ∷ word ∷ v.0, v.1) (end_of check w rest)) (sym same)
+    (check2 a word t met rest all (pending_value (codes "plant") word)
+    (taken_row (codes "plant") word (check_rows (Some a) None met) all h.1.0 h)
+    (subst (λ (w : Walk). walk_fault check [] w rest ≡ []) same left)))
+
+check0 : (t met : Bool) (rest : List Text) (rows : List Row) (pending : Pending)
+    → Checks None None 1 (λ ops. ops) t met rest rows pending
+check0 = check_on None None 1 (λ ops. ops)
+    (λ met all h checks. short_check None None met all _ h refl checks)
+    (λ t met word rest rows pending h steps left.
+    let all = so_far check rows pending in
+    let same = moves check (goes_on (codes "rules") pending) t rows pending (codes "rules") word 2 in
+    let v = check_view t met rest in
+    subst (λ (w : Walk). GivesCheck (word ∷ v.0, v.1) (end_of check w rest)) (sym same)
+    (check1 word t met rest all (pending_value (codes "rules") word)
+    (taken_row (codes "rules") word (check_rows None None met) all h.0 h)
+    (subst (λ (w : Walk). walk_fault check [] w rest ≡ []) same left)))
+
+-- ---- what a code means
+
+abbrev pub IsTelling : List Text → List Row → Type 0
+IsTelling ops rows = (a : Text) × (ops ≡ a ∷ []) × (rows ≡ row (codes "code") a ∷ [])
+
+abbrev Tells : List Text → Walk → Type 0
+Tells ops w = check_fault telling (finished telling.rules w.held) false ≡ [] → IsTelling ops (finished telling.rules w.held)
+
+abbrev operands_from : Bool → List Text → List Text
+operands_from t rest = cond t rest (operands rest)
+
+none_left : (t : Bool) → operands_from t [] ≡ []
+none_left true = refl
+none_left false = refl
+
+operands_by : (word : Text) (rest : List Text) (b : Bool) → bytes_eq word (codes "--") ≡ b → operands (word ∷ rest) ≡ cond b rest (word ∷ operands rest)
+operands_by word rest b is = ap (λ (d : Bool). cond d rest (word ∷ operands rest)) is
+
+telling1 : (a : Text) (t : Bool) (rest : List Text) → walk_fault telling [] (standing (at [] (pending_value (codes "code") a)) 2 t) rest ≡ []
+    → Tells (a ∷ operands_from t rest) (end_of telling (standing (at [] (pending_value (codes "code") a)) 2 t) rest)
 telling1 a t [] e = λ _. (a, ap (λ (l : List Text). a ∷ l) (none_left t), refl)
-telling1 a t (word ∷ rest) e = turn telling telling_asks (held_code a).rows (held_code a).pending 2 t word (telling_long word) rest (standing (held_code a) 2) (λ ops w. Gives telling IsTelling (a ∷ ops) w)
-    (λ u. refl) e (telling1 a true rest) (λ _ bad. not_nil _ _ bad)
+telling1 a true (word ∷ rest) e =
+    trail telling telling_asks idle [] (pending_value (codes "code") a) 2 word rest (Tells (a ∷ word ∷ rest)) e (λ bad left. not_nil _ _ bad)
+telling1 a false (word ∷ rest) e =
+    turn telling telling_asks idle [] (pending_value (codes "code") a) 2 word rest (Tells (a ∷ operands (word ∷ rest))) e
+    (λ is left. subst (λ (ops : List Text). Tells (a ∷ ops) (end_of telling (standing (at [] (pending_value (codes "code") a)) 2 true) rest)) (sym (operands_by word rest true is)) (telling1 a true rest left))
+    (λ q is long fault left. absurd (no_long_telling q _ fault))
+    (λ is long bad left. not_nil _ _ bad)
 
-telling0 : (t : Bool) (rest : List Text) → walk_fault telling [] (standing nothing_held 1 t) rest ≡ []
-    → Gives telling IsTelling (operands_from t rest) (end_of telling (standing nothing_held 1 t) rest)
+telling0 : (t : Bool) (rest : List Text) → walk_fault telling [] (standing (at [] None) 1 t) rest ≡ []
+    → Tells (operands_from t rest) (end_of telling (standing (at [] None) 1 t) rest)
 telling0 t [] e = λ bad. not_nil _ _ bad
-telling0 t (word ∷ rest) e = turn telling telling_asks [] None 1 t word (telling_long word) rest (standing (held_code word) 2) (Gives telling IsTelling)
-    (λ u. ap (standing (held_code word) 2) (or-false u)) e (telling0 true rest) (λ left _. telling1 word t rest left)
+telling0 true (word ∷ rest) e =
+    trail telling telling_asks idle [] None 1 word rest (Tells (word ∷ rest)) e (λ steps left. telling1 word true rest left)
+telling0 false (word ∷ rest) e =
+    turn telling telling_asks idle [] None 1 word rest (Tells (operands (word ∷ rest))) e
+    (λ is left. subst (λ (ops : List Text). Tells ops (end_of telling (standing (at [] None) 1 true) rest)) (sym (operands_by word rest true is)) (telling0 true rest left))
+    (λ q is long fault left. absurd (no_long_telling q _ fault))
+    (λ is long steps left. subst (λ (ops : List Text). Tells ops (end_of telling (standing (at [] (pending_value (codes "code") word)) 2 false) rest)) (sym (operands_by word rest false is)) (telling1 word false rest left))
 
 -- ---- all the words
 
@@ -685,8 +747,8 @@ first = standing nothing_held 1 false
 
 -- a subcommand's name, the words after it and the rows that it has of them
 abbrev pub IsTask : Text → List Text → List Row → Type 0
-IsTask name rest rows = ((name ≡ codes "run") × IsRun (operands (without_trace rest)) (has_trace rest) rows)
-    ⊎ (((name ≡ codes "check") × IsCheck (operands rest) rows) ⊎ ((name ≡ codes "explain") × IsTelling (operands rest) rows))
+IsTask name rest rows = ((name ≡ codes "run") × IsRun (view false false None rest) rows)
+    ⊎ (((name ≡ codes "check") × IsCheck (check_view false false rest) rows) ⊎ ((name ≡ codes "explain") × IsTelling (operands rest) rows))
 
 -- without a fault the words are a subcommand's name and its values
 abbrev pub Reads : List Text → Option (Text × List Text) → Type 0
@@ -694,29 +756,31 @@ Reads words stop = (name : Text) × (rest : List Text) × (rows : List Row) × (
 
 -- a level without a fault is walked without one, and has all that it requires
 level_nil : (s : Shape) (rest : List Text) → level_fault s [] nothing_held rest false [] ≡ []
-    → (walk_fault s [] (walk_from nothing_held) rest ≡ []) × (check_fault s (finished s.rules (walk s.rules [] nothing_held rest).held) false ≡ [])
+    → (walk_fault s [] (walk_from nothing_held) rest ≡ []) × (settle_fault s.rules s.args_override_self (walk s.rules [] nothing_held rest).held ≡ [])
+    × (check_fault s (finished s.rules (walk s.rules [] nothing_held rest).held) false ≡ [])
 level_nil s rest e =
     let end = (walk s.rules [] nothing_held rest).held in
     let walks = walk_fault s [] (walk_from nothing_held) rest in
     let settles = settle_fault s.rules s.args_override_self end in
     let defaults = defaults_fault (settled s.rules end).rows s.rules in
     let checks = check_fault s (finished s.rules end) false in
-    (first_nil walks (or_else settles (or_else defaults checks)) e, last_nil walks settles defaults checks e)
+    let settled_so : settles ≡ [] = first_nil settles (or_else defaults checks) (then_nil walks (or_else settles (or_else defaults checks)) e) in
+    (first_nil walks (or_else settles (or_else defaults checks)) e, settled_so, last_nil walks settles defaults checks e)
 
 run_reads : (rest : List Text) → entered_fault whole (Some (codes "run", rest)) ≡ [] → Reads (codes "run" ∷ rest) (Some (codes "run", rest))
 run_reads rest e =
     let level = level_nil run rest e in
-    (codes "run", rest, _, refl, refl, inl (refl, after0 false false rest [] None no_rows level.0 level.1))
+    (codes "run", rest, _, refl, refl, inl (refl, run0 false false None rest [] None (refl, (refl, (refl, (refl, (refl, (refl, tt)))))) level.0 level.1 level.2))
 
 check_reads : (rest : List Text) → entered_fault whole (Some (codes "check", rest)) ≡ [] → Reads (codes "check" ∷ rest) (Some (codes "check", rest))
 check_reads rest e =
     let level = level_nil check rest e in
-    (codes "check", rest, _, refl, refl, inr (inl (refl, checked0 false rest level.0 level.1)))
+    (codes "check", rest, _, refl, refl, inr (inl (refl, check0 false false rest [] None (refl, (refl, (refl, tt))) level.0 level.2)))
 
 telling_reads : (rest : List Text) → entered_fault whole (Some (codes "explain", rest)) ≡ [] → Reads (codes "explain" ∷ rest) (Some (codes "explain", rest))
 telling_reads rest e =
     let level = level_nil telling rest e in
-    (codes "explain", rest, _, refl, refl, inr (inr (refl, telling0 false rest level.0 level.1)))
+    (codes "explain", rest, _, refl, refl, inr (inr (refl, telling0 false rest level.0 level.2)))
 
 stray : (rest : List Text) → walk_fault top names (standing nothing_held 1 true) rest ≡ [] → ended (fold (walked top.rules names) (standing nothing_held 1 true) rest) ≡ [] → ⊥
 unfolding walked walk_fault
@@ -759,9 +823,10 @@ words_read (word ∷ rest) e end =
       | inr (inr (inr (inl q))) ↦ not_nil _ _ (no_other (Some (codes "help")) (subst Q q here))
       | inr (inr (inr (inr q))) ↦
           let fine = subst Q q here in
-          elim (word_is top top_asks 1 word (top_long word) [] None (no_other None fine)) [
+          elim (word_is top top_asks idle 1 word [] None (no_other None fine)) [
             | inl d ↦ absurd (stray rest (subst L d.1 (subst (λ (o : Option Text). L (met o)) q left)) (subst E d.1 (subst (λ (o : Option Text). E (met o)) q end)))
-            | inr d ↦ not_nil _ _ (subst (λ (m : Held × Step). step_fault top 1 m.0 m.1 ≡ []) d.1 (no_step None fine))
+            | inr (inl d) ↦ absurd (no_long_top d.0 h d.3)
+            | inr (inr d) ↦ not_nil _ _ (subst (λ (m : Held × Step). step_fault top 1 m.0 m.1 ≡ []) d.2 (no_step None fine))
           ]
     ]
 
@@ -829,7 +894,7 @@ has_read app words m name rows is fault matches found =
 -- the name tells which task it is
 pub is_run_task : (words : List Text) (name : Text) (rows : List Row) (got : HasRead words name rows) → bytes_eq name (codes "check") ≡ false
     → bytes_eq name (codes "explain") ≡ false
-    → (words ≡ got.0 ∷ codes "run" ∷ got.1) × IsRun (operands (without_trace got.1)) (has_trace got.1) rows
+    → (words ≡ got.0 ∷ codes "run" ∷ got.1) × IsRun (view false false None got.1) rows
 is_run_task words name rows got other last = elim got.3 [
   | inl q ↦ (got.2 ∙ ap (λ (n : Text). got.0 ∷ n ∷ got.1) q.0, q.1)
   | inr (inl q) ↦ absurd (true≢false (subst (λ (n : Text). bytes_eq n (codes "check") ≡ false) q.0 other))
@@ -837,7 +902,7 @@ is_run_task words name rows got other last = elim got.3 [
 ]
 
 pub is_check_task : (words : List Text) (name : Text) (rows : List Row) (got : HasRead words name rows) → bytes_eq name (codes "check") ≡ true
-    → (words ≡ got.0 ∷ codes "check" ∷ got.1) × IsCheck (operands got.1) rows
+    → (words ≡ got.0 ∷ codes "check" ∷ got.1) × IsCheck (check_view false false got.1) rows
 is_check_task words name rows got same = elim got.3 [
   | inl q ↦ absurd (true≢false (sym (subst (λ (n : Text). bytes_eq n (codes "check") ≡ true) q.0 same)))
   | inr (inl q) ↦ (got.2 ∙ ap (λ (n : Text). got.0 ∷ n ∷ got.1) q.0, q.1)
@@ -875,33 +940,45 @@ text_there o s v is e = sym e ∙ ap (option_map (λ (t : Bor Text). t.now)) is
 pub path_is : (f : Found) (id v : Text) (rows : List Row) → rows_of f ≡ rows → row_at id rows ≡ Some (row id v) → first_value f id ≡ Some v
 path_is f id v rows is at_id = value_is f id v rows is (ap (option_and_then (λ (r : Row). slice_get r.values 0)) at_id)
 
-text_of : (met : Bool) → option_and_then (λ (r : Row). row_text r) (Some (source_of met)) ≡ Some (bool_text met)
-text_of true = refl
-text_of false = refl
+text_of : (id : Text) (met : Bool) → option_and_then (λ (r : Row). row_text r) (Some (source_of id met)) ≡ Some (bool_text met)
+text_of id true = refl
+text_of id false = refl
 
--- the flag, as it is read
-pub flag_is : (f : Found) (met result : Bool) (rows : List Row) → rows_of f ≡ rows → row_at (codes "trace") rows ≡ Some (source_of met)
-    → (one_text f (codes "trace") ≡ Some (codes "true") → result ≡ true) → (one_text f (codes "trace") ≡ Some (codes "false") → result ≡ false) → result ≡ met
-flag_is f met result rows is at_id when_true when_false =
-    let read : one_text f (codes "trace") ≡ Some (bool_text met) = one_text-rows f (codes "trace") ∙ ap (one_of (codes "trace")) is ∙ ap (option_and_then (λ (r : Row). row_text r)) at_id ∙ text_of met in
+-- a flag, as it is read
+pub flag_is : (f : Found) (id : Text) (met result : Bool) (rows : List Row) → rows_of f ≡ rows → row_at id rows ≡ Some (source_of id met)
+    → (one_text f id ≡ Some (codes "true") → result ≡ true) → (one_text f id ≡ Some (codes "false") → result ≡ false) → result ≡ met
+flag_is f id met result rows is at_id when_true when_false =
+    let read : one_text f id ≡ Some (bool_text met) = one_text-rows f id ∙ ap (one_of id) is ∙ ap (option_and_then (λ (r : Row). row_text r)) at_id ∙ text_of id met in
     go met read
   where
-    go : (m : Bool) → one_text f (codes "trace") ≡ Some (bool_text m) → result ≡ m
+    go : (m : Bool) → one_text f id ≡ Some (bool_text m) → result ≡ m
     go true r = when_true r
     go false r = when_false r
 
-pub asks_run : (words rest : List Text) (program a b c d : Text) (met : Bool) (r p i o : Bor Text) → words ≡ program ∷ codes "run" ∷ rest
-    → operands (without_trace rest) ≡ a ∷ b ∷ c ∷ d ∷ [] → met ≡ has_trace rest → r.now ≡ a → p.now ≡ b → i.now ≡ c → o.now ≡ d
-    → Asks words (Run (record { trace = met; paths = record { rules = r; plant = p; input = i; output = o } }))
-asks_run words rest program a b c d met r p i o is ops flags er ep ei eo =
-    subst (λ (ws : List Text). Asks ws (Run (record { trace = met; paths = record { rules = r; plant = p; input = i; output = o } }))) (sym is)
-    (refl, flags, ops ∙ λ j. sym er j ∷ sym ep j ∷ sym ei j ∷ sym eo j ∷ [])
+first_value_of : (file : Option Text) → option_and_then (λ (r : Row). slice_get r.values 0) (row_of (codes "report") file) ≡ file
+first_value_of None = refl
+first_value_of (Some f) = refl
 
-pub asks_check : (words rest : List Text) (program a b : Text) (r p : Bor Text) → words ≡ program ∷ codes "check" ∷ rest → operands rest ≡ a ∷ b ∷ []
-    → r.now ≡ a → p.now ≡ b → Asks words (Check (record { rules = r; plant = p }))
-asks_check words rest program a b r p is ops er ep =
-    subst (λ (ws : List Text). Asks ws (Check (record { rules = r; plant = p }))) (sym is)
-    (refl, ops ∙ λ j. sym er j ∷ sym ep j ∷ [])
+-- the file for the report, as it is read
+pub file_is : (f : Found) (file result : Option Text) (rows : List Row) → rows_of f ≡ rows → row_at (codes "report") rows ≡ row_of (codes "report") file
+    → result ≡ first_value f (codes "report") → result ≡ file
+file_is f file result rows is at_id read =
+    read ∙ first_value-rows f (codes "report") ∙ ap (first_of (codes "report")) is ∙ ap (option_and_then (λ (r : Row). slice_get r.values 0)) at_id ∙ first_value_of file
+
+pub asks_run : (words rest : List Text) (program a b c d : Text) (met : Bool) (file : Option (Bor Text)) (r p i o : Bor Text) → words ≡ program ∷ codes "run" ∷ rest
+    → operands (without_flag (codes "--trace") (without_report rest)) ≡ a ∷ b ∷ c ∷ d ∷ [] → name_of_file file ≡ report_of rest → met ≡ has_flag (codes "--trace") (without_report rest)
+    → r.now ≡ a → p.now ≡ b → i.now ≡ c → o.now ≡ d
+    → Asks words (Run (record { trace = met; report = file; paths = record { rules = r; plant = p; input = i; output = o } }))
+asks_run words rest program a b c d met file r p i o is ops files flags er ep ei eo =
+    subst (λ (ws : List Text). Asks ws (Run (record { trace = met; report = file; paths = record { rules = r; plant = p; input = i; output = o } }))) (sym is)
+    (refl, files, flags, ops ∙ λ j. sym er j ∷ sym ep j ∷ sym ei j ∷ sym eo j ∷ [])
+
+pub asks_check : (words rest : List Text) (program a b : Text) (met : Bool) (r p : Bor Text) → words ≡ program ∷ codes "check" ∷ rest
+    → operands (without_flag (codes "--all") rest) ≡ a ∷ b ∷ [] → met ≡ has_flag (codes "--all") rest
+    → r.now ≡ a → p.now ≡ b → Asks words (Check (record { all = met; texts = record { rules = r; plant = p } }))
+asks_check words rest program a b met r p is ops flags er ep =
+    subst (λ (ws : List Text). Asks ws (Check (record { all = met; texts = record { rules = r; plant = p } }))) (sym is)
+    (refl, flags, ops ∙ λ j. sym er j ∷ sym ep j ∷ [])
 
 pub asks_telling : (words rest : List Text) (program a : Text) (code : Bor Text) → words ≡ program ∷ codes "explain" ∷ rest → operands rest ≡ a ∷ []
     → code.now ≡ a → Asks words (Explain code)

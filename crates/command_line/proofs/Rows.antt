@@ -1,13 +1,14 @@
--- The rows of a run: one for each argument that was used, in the order of the words.
-use Rattle.std.proofs.Common.{◌≡◌, ◌∙◌, ◌||◌, ◌++◌, Bool, cond, codes, true, false, refl, ap, List, [], ◌∷◌, Option, Some, None, is_some, append-nil}
+-- The rows of a command: one for each argument that was used, in the order of the words.
+use Rattle.std.proofs.Common.{◌≡◌, ◌∙◌, ◌||◌, ◌++◌, Bool, cond, codes, true, false, refl, subst, ap, List, [], ◌∷◌, Option, Some, None, is_some, append-nil}
 use Rattle.std.specs.Prelude.{find, option_map}
 use Rattle.std.specs.Str.{bytes_eq}
+use Rattle.std.proofs.lemmas.Slice.Eq.{bytes_eq-Decides}
 use Rattle.clap.specs.Simple.{filled}
 use Rattle.clap.specs.Walk.{Row, Text, at_row, has_row, more_values, reading_by, with_values, without}
 use Rattle.clap.specs.declared.builder.value_parser.Reading.{Reading}
 use Rattle.clap.specs.declared.parser.matches.ValueSource.{ValueSource}
 use Rattle.clap.specs.declared.parser.matches.ValueSource.TheVariants.{CommandLine, DefaultValue}
-use Rattle.command_line.specs.steps.Program.{path_rule, trace_rule}
+use Rattle.command_line.specs.steps.Program.{flag_rule, path_rule}
 
 -- the first row of an argument
 abbrev pub row_at : Text → List Row → Option Row
@@ -60,96 +61,67 @@ pub appended_anew : (id : Text) (how : Reading) (s : ValueSource) (values : List
 appended_anew id how s values all none =
     ap (with_values id how s values) (at_end id (λ _. []) [] all none ∙ append-nil all) ∙ appended id how s values all none
 
+-- a value is read as it is written, of a path as of a file for the report
 abbrev pub row : Text → Text → Row
 row id v = new_row id (reading_by (filled (path_rule id))) CommandLine (v ∷ [])
 
-abbrev pub trace_row : ValueSource → Text → Row
-trace_row s v = new_row (codes "trace") (reading_by (filled trace_rule)) s (v ∷ [])
+abbrev pub flag_row : Text → ValueSource → Text → Row
+flag_row id s v = new_row id (reading_by (filled (flag_rule id))) s (v ∷ [])
 
-abbrev pub told : Row
-told = trace_row CommandLine (codes "true")
+abbrev pub told : Text → Row
+told id = flag_row id CommandLine (codes "true")
 
-abbrev pub untold : Row
-untold = trace_row DefaultValue (codes "false")
+abbrev pub untold : Text → Row
+untold id = flag_row id DefaultValue (codes "false")
 
-abbrev pub row_of_path : Text → Option Text → Option Row
-row_of_path id o = option_map (row id) o
+-- ---- what is known of the rows
 
--- the paths that were met so far, and whether the flag was
-pub record Rows (a b c d : Option Text) (met : Bool) (all : List Row) : Type 0 where
-  pub of_rules : row_at (codes "rules") all ≡ row_of_path (codes "rules") a
-  pub of_plant : row_at (codes "plant") all ≡ row_of_path (codes "plant") b
-  pub of_input : row_at (codes "input") all ≡ row_of_path (codes "input") c
-  pub of_output : row_at (codes "output") all ≡ row_of_path (codes "output") d
-  pub of_trace : row_at (codes "trace") all ≡ cond met (Some told) None
+-- the first row of each of these arguments
+abbrev pub Known : Type 0
+Known = List (Text × Option Row)
 
-pub no_rows : Rows None None None None false []
-no_rows = record { of_rules = refl; of_plant = refl; of_input = refl; of_output = refl; of_trace = refl }
+abbrev pub Holds : Known → List Row → Type 0
+Holds [] all = Unit {0}
+Holds (k ∷ rest) all = (row_at k.0 all ≡ k.1) × Holds rest all
 
-pub with_rules : (w : Text) (met : Bool) (all : List Row) → Rows None None None None met all → Rows (Some w) None None None met (all ++ row (codes "rules") w ∷ [])
-with_rules w met all h = let r = row (codes "rules") w in record {
-  of_rules = added (codes "rules") all r refl h.of_rules;
-  of_plant = kept (codes "plant") all r refl ∙ h.of_plant;
-  of_input = kept (codes "input") all r refl ∙ h.of_input;
-  of_output = kept (codes "output") all r refl ∙ h.of_output;
-  of_trace = kept (codes "trace") all r refl ∙ h.of_trace;
-}
+abbrev pub with_row : Row → Known → Known
+with_row r [] = []
+with_row r (k ∷ rest) = (k.0, cond (bytes_eq r.id k.0) (Some r) k.1) ∷ with_row r rest
 
-pub with_plant : (a w : Text) (met : Bool) (all : List Row) → Rows (Some a) None None None met all → Rows (Some a) (Some w) None None met (all ++ row (codes "plant") w ∷ [])
-with_plant a w met all h = let r = row (codes "plant") w in record {
-  of_rules = kept (codes "rules") all r refl ∙ h.of_rules;
-  of_plant = added (codes "plant") all r refl h.of_plant;
-  of_input = kept (codes "input") all r refl ∙ h.of_input;
-  of_output = kept (codes "output") all r refl ∙ h.of_output;
-  of_trace = kept (codes "trace") all r refl ∙ h.of_trace;
-}
+-- a row more, of an argument that had none
+pub holds_more : (known : Known) (all : List Row) (r : Row) → row_at r.id all ≡ None → Holds known all → Holds (with_row r known) (all ++ r ∷ [])
+holds_more [] all r none h = tt
+holds_more (k ∷ rest) all r none h = (one (bytes_eq r.id k.0) refl, holds_more rest all r none h.1)
+  where
+    one : (b : Bool) → bytes_eq r.id k.0 ≡ b → row_at k.0 (all ++ r ∷ []) ≡ cond b (Some r) k.1
+    one true is = added k.0 all r is (subst (λ (id : Text). row_at id all ≡ None) ((bytes_eq-Decides r.id k.0).0 is) none)
+    one false is = kept k.0 all r is ∙ h.0
 
-pub with_input : (a b w : Text) (met : Bool) (all : List Row) → Rows (Some a) (Some b) None None met all → Rows (Some a) (Some b) (Some w) None met (all ++ row (codes "input") w ∷ [])
-with_input a b w met all h = let r = row (codes "input") w in record {
-  of_rules = kept (codes "rules") all r refl ∙ h.of_rules;
-  of_plant = kept (codes "plant") all r refl ∙ h.of_plant;
-  of_input = added (codes "input") all r refl h.of_input;
-  of_output = kept (codes "output") all r refl ∙ h.of_output;
-  of_trace = kept (codes "trace") all r refl ∙ h.of_trace;
-}
+abbrev pub row_of : Text → Option Text → Option Row
+row_of id o = option_map (row id) o
 
-pub with_output : (a b c w : Text) (met : Bool) (all : List Row) → Rows (Some a) (Some b) (Some c) None met all → Rows (Some a) (Some b) (Some c) (Some w) met (all ++ row (codes "output") w ∷ [])
-with_output a b c w met all h = let r = row (codes "output") w in record {
-  of_rules = kept (codes "rules") all r refl ∙ h.of_rules;
-  of_plant = kept (codes "plant") all r refl ∙ h.of_plant;
-  of_input = kept (codes "input") all r refl ∙ h.of_input;
-  of_output = added (codes "output") all r refl h.of_output;
-  of_trace = kept (codes "trace") all r refl ∙ h.of_trace;
-}
+abbrev pub flag_of : Text → Bool → Option Row
+flag_of id met = cond met (Some (told id)) None
 
-pub with_told : (a b c d : Option Text) (all : List Row) → Rows a b c d false all → Rows a b c d true (all ++ told ∷ [])
-with_told a b c d all h = record {
-  of_rules = kept (codes "rules") all told refl ∙ h.of_rules;
-  of_plant = kept (codes "plant") all told refl ∙ h.of_plant;
-  of_input = kept (codes "input") all told refl ∙ h.of_input;
-  of_output = kept (codes "output") all told refl ∙ h.of_output;
-  of_trace = added (codes "trace") all told refl h.of_trace;
-}
+-- once the defaults are in
+abbrev pub source_of : Text → Bool → Row
+source_of id met = cond met (told id) (untold id)
 
--- the rows once the defaults are in
-abbrev pub source_of : Bool → Row
-source_of met = cond met told untold
+-- the paths that were met so far, the file for the report, and whether the flag was met
+abbrev pub run_rows : Option Text → Option Text → Option Text → Option Text → Bool → Option Text → Known
+run_rows a b c d met file = (codes "rules", row_of (codes "rules") a) ∷ (codes "plant", row_of (codes "plant") b)
+    ∷ (codes "input", row_of (codes "input") c) ∷ (codes "output", row_of (codes "output") d)
+    ∷ (codes "report", row_of (codes "report") file) ∷ (codes "trace", flag_of (codes "trace") met) ∷ []
 
-pub record Ends (a b c d : Option Text) (met : Bool) (all : List Row) : Type 0 where
-  pub of_rules : row_at (codes "rules") all ≡ row_of_path (codes "rules") a
-  pub of_plant : row_at (codes "plant") all ≡ row_of_path (codes "plant") b
-  pub of_input : row_at (codes "input") all ≡ row_of_path (codes "input") c
-  pub of_output : row_at (codes "output") all ≡ row_of_path (codes "output") d
-  pub of_trace : row_at (codes "trace") all ≡ Some (source_of met)
+abbrev pub run_ends : Option Text → Option Text → Option Text → Option Text → Bool → Option Text → Known
+run_ends a b c d met file = (codes "rules", row_of (codes "rules") a) ∷ (codes "plant", row_of (codes "plant") b)
+    ∷ (codes "input", row_of (codes "input") c) ∷ (codes "output", row_of (codes "output") d)
+    ∷ (codes "report", row_of (codes "report") file) ∷ (codes "trace", Some (source_of (codes "trace") met)) ∷ []
 
-pub ends_told : (a b c d : Option Text) (all : List Row) → Rows a b c d true all → Ends a b c d true all
-ends_told a b c d all h = record { of_rules = h.of_rules; of_plant = h.of_plant; of_input = h.of_input; of_output = h.of_output; of_trace = h.of_trace }
+abbrev pub check_rows : Option Text → Option Text → Bool → Known
+check_rows a b met = (codes "rules", row_of (codes "rules") a) ∷ (codes "plant", row_of (codes "plant") b)
+    ∷ (codes "all", flag_of (codes "all") met) ∷ []
 
-pub ends_untold : (a b c d : Option Text) (all : List Row) → Rows a b c d false all → Ends a b c d false (all ++ untold ∷ [])
-ends_untold a b c d all h = record {
-  of_rules = kept (codes "rules") all untold refl ∙ h.of_rules;
-  of_plant = kept (codes "plant") all untold refl ∙ h.of_plant;
-  of_input = kept (codes "input") all untold refl ∙ h.of_input;
-  of_output = kept (codes "output") all untold refl ∙ h.of_output;
-  of_trace = added (codes "trace") all untold refl h.of_trace;
-}
+abbrev pub check_ends : Option Text → Option Text → Bool → Known
+check_ends a b met = (codes "rules", row_of (codes "rules") a) ∷ (codes "plant", row_of (codes "plant") b)
+    ∷ (codes "all", Some (source_of (codes "all") met)) ∷ []

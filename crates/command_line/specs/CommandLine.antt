@@ -1,8 +1,10 @@
 -- What the words of the command line ask for.
 use Rattle.std.specs.Prelude.{◌≡◌, ◌==◌, ◌&&◌, ◌||◌, Bool, true, not, List, [], ◌∷◌}
-use Rattle.std.specs.Prelude.{codes, if◌then◌else◌, false}
+use Rattle.std.specs.Prelude.{Option, Some, None, codes, drop, if◌then◌else◌, false, option_map, slice_get}
+use Rattle.std.specs.Borrow.{Bor}
 use Rattle.std.specs.List.{list_all}
 use Rattle.std.specs.Str.{bytes_eq}
+use Rattle.clap.specs.Lexer.{long_of}
 use Rattle.clap.specs.Words.{Text}
 use Rattle.command_line.specs.declared.task.Task.{Task}
 use Rattle.command_line.specs.declared.task.Task.TheVariants.{Run, Check, Explain}
@@ -13,28 +15,65 @@ abbrev pub operands : List Text → List Text
 operands [] = []
 operands (word ∷ rest) = if bytes_eq word (codes "--") then rest else word ∷ operands rest
 
--- the words after `run` have the flag: `--trace` stands before any `--`
-abbrev pub has_trace : List Text → Bool
-has_trace [] = false
-has_trace (word ∷ rest) =
-    if bytes_eq word (codes "--") then false else (bytes_eq word (codes "--trace") || has_trace rest)
+-- the words after `run` or `check` have this flag: it stands before any `--`
+abbrev pub has_flag : Text → List Text → Bool
+has_flag flag [] = false
+has_flag flag (word ∷ rest) =
+    if bytes_eq word (codes "--") then false else (bytes_eq word flag || has_flag flag rest)
 
--- the words after `run` without the flag: without the first `--trace` before any `--`
-abbrev pub without_trace : List Text → List Text
-without_trace [] = []
-without_trace (word ∷ rest) = if bytes_eq word (codes "--") then word ∷ rest
-    else (if bytes_eq word (codes "--trace") then rest else word ∷ without_trace rest)
+-- these words without the flag: without the first one before any `--`
+abbrev pub without_flag : Text → List Text → List Text
+without_flag flag [] = []
+without_flag flag (word ∷ rest) = if bytes_eq word (codes "--") then word ∷ rest
+    else (if bytes_eq word flag then rest else word ∷ without_flag flag rest)
+
+abbrev pub report_among : Option (Text × Option Text) → Option (Option Text)
+report_among None = None
+report_among (Some option) = if bytes_eq (codes "report") option.0 then Some option.1 else None
+
+-- the word is `--report`, or `--report=FILE` with what stands behind the `=`
+abbrev pub as_report : Text → Option (Option Text)
+as_report word = report_among (long_of word)
+
+-- the file that a word names, by what it is as an option: FILE itself, or the next word
+abbrev pub file_by : Option (Option Text) → List Text → Option Text → Option Text
+file_by None rest later = later
+file_by (Some None) rest later = slice_get rest 0
+file_by (Some (Some file)) rest later = Some file
+
+-- where the words after `run` send the report: FILE of the first `--report FILE` or `--report=FILE` before any `--`
+abbrev pub report_of : List Text → Option Text
+report_of [] = None
+report_of (word ∷ rest) =
+    if bytes_eq word (codes "--") then None else file_by (as_report word) rest (report_of rest)
+
+abbrev pub unreported : Option (Option Text) → Text → List Text → List Text → List Text
+unreported None word rest later = word ∷ later
+unreported (Some None) word rest later = drop 1 rest
+unreported (Some (Some file)) word rest later = rest
+
+-- these words without the first `--report FILE` or `--report=FILE` before any `--`
+abbrev pub without_report : List Text → List Text
+without_report [] = []
+without_report (word ∷ rest) = if bytes_eq word (codes "--") then word ∷ rest
+    else unreported (as_report word) word rest (without_report rest)
 
 abbrev pub texts_of : Paths → List Text
 texts_of p = p.rules.now ∷ p.plant.now ∷ p.input.now ∷ p.output.now ∷ []
 
--- the words ask for this task: they are the program's name, and `run`, the flag where the run is traced, and the four
--- paths, or `check` and the two, or `explain` and a code
+abbrev pub name_of_file : Option (Bor Text) → Option Text
+name_of_file file = option_map (λ f. f.now) file
+
+-- the words ask for this task: they are the program's name, and `run`, where the report goes, the flag where the run is
+-- traced, and the four paths, or `check`, the flag where all faults are told, and the two, or `explain` and a code
 abbrev pub Asks : List Text → Task → Type 0
 Asks (program ∷ name ∷ rest) (Run task) =
-    (name ≡ codes "run") × (task.trace ≡ has_trace rest) × (operands (without_trace rest) ≡ texts_of task.paths)
-Asks (program ∷ name ∷ rest) (Check texts) =
-    (name ≡ codes "check") × (operands rest ≡ texts.rules.now ∷ texts.plant.now ∷ [])
+    (name ≡ codes "run") × (name_of_file task.report ≡ report_of rest)
+    × (task.trace ≡ has_flag (codes "--trace") (without_report rest))
+    × (operands (without_flag (codes "--trace") (without_report rest)) ≡ texts_of task.paths)
+Asks (program ∷ name ∷ rest) (Check task) =
+    (name ≡ codes "check") × (task.all ≡ has_flag (codes "--all") rest)
+    × (operands (without_flag (codes "--all") rest) ≡ task.texts.rules.now ∷ task.texts.plant.now ∷ [])
 Asks (program ∷ name ∷ rest) (Explain code) = (name ≡ codes "explain") × (operands rest ≡ code.now ∷ [])
 Asks _ _ = ⊥
 

@@ -1,9 +1,9 @@
-//! The words of the command line (`nftrun run [--explain] [--trace] RULES BOX IN OUT`, `nftrun
-//! check [--explain] RULES BOX`, `nftrun explain CODE`).
+//! The words of the command line (`nftrun run [--explain] [--trace] [--report FILE] RULES BOX IN
+//! OUT`, `nftrun check [--explain] [--all] RULES BOX`, `nftrun explain CODE`).
 #![tactic(auto)]
 
 mod explained;
 mod task;
 
 pub use explained::take_explain;
-pub use task::{Paths, ReplayTask, Task, Texts, read_task};
+pub use task::{CheckTask, Paths, ReplayTask, Task, Texts, read_task};

@@ -1,30 +1,28 @@
--- The looks at OUT and at the paths that it is compared with.
-use Rattle.std.proofs.Common.{◌≡◌, ◌<◌, ◌+◌, ℕ, List, [], ◌∷◌, Result, Ok, Err, refl, sym, subst, map, drop, length}
+-- The looks at a path to write and at the paths that it is compared with.
+use Rattle.std.proofs.Common.{◌≡◌, ◌<◌, ◌+◌, ◌++◌, ℕ, List, [], ◌∷◌, Option, Some, Result, refl, sym, subst, map, drop, length}
 use Rattle.std.proofs.Math.ListN.{get_or}
 use Rattle.std.proofs.Math.Numerals.{suc-eq-add-one}
 use Rattle.std.proofs.Math.Seq.{drop-cons}
 use Rattle.std.specs.Bool.{⊤}
-use Rattle.std.specs.IoError.{error_kind}
+use Rattle.std.specs.Borrow.{Bor}
 use Rattle.std.specs.declared.io.Error.{Error}
-use Rattle.command_line.specs.declared.task.ReplayTask.{ReplayTask}
 use Rattle.program.specs.Calls.{Call, Text, identify}
-use Rattle.program.specs.Replaying.{Compares, Draws, GoesOn, compared, unless_absent}
-use Rattle.program.specs.Status.{of_error}
+use Rattle.command_line.specs.CommandLine.{name_of_file}
+use Rattle.command_line.specs.declared.task.Paths.{Paths}
+use Rattle.program.specs.Replaying.{Compares, Continues, CreatesFile, CreatesReport, Guards, compared}
 use Rattle.program.specs.declared.identity.FileIdentity.{FileIdentity}
 use Rattle.program.specs.declared.status.Status.{Status}
-use Rattle.program.specs.steps.Guarded.{Guarded}
+use Rattle.program.specs.declared.status.Status.TheVariants.{SameReport}
 
 -- the path that is looked at is the first of those that are left
-pub looks-at : {I O A : Type 0} (text : A → Text) (out : FileIdentity) (items : List A) (n : ℕ) (d : A) (answer : Result FileIdentity Error) (verdict : Result ⊤ Status) (Next : List (Call I O) → Status → Type 0) (later : List (Call I O)) (status : Status) → n < length items → verdict ≡ compared out answer → GoesOn verdict (Compares out (map text (drop (n + 1) items)) Next) later status → Compares out (map text (drop n items)) Next (identify (text (get_or items n d)) answer ∷ later) status
-looks-at {A = A} text out items n d answer verdict Next later status within same next =
-    let Left : List A → Type 0 = λ left. Compares out (map text left) Next (identify (text (get_or items n d)) answer ∷ later) status in
-    let Goes : Result ⊤ Status → Type 0 = λ r. GoesOn r (Compares out (map text (drop (n + 1) items)) Next) later status in
-    let Rest : ℕ → Type 0 = λ m. GoesOn (compared out answer) (Compares out (map text (drop m items)) Next) later status in
-    subst Left (sym (drop-cons items n d within)) (refl, subst Rest (sym (suc-eq-add-one n)) (subst Goes same next))
+pub looks-at : {I O A : Type 0} (text : A → Text) (same : Status) (file : FileIdentity) (items : List A) (n : ℕ) (d : A) (answer : Result FileIdentity Error) (found : Result ⊤ Status) (later : List (Call I O)) (verdict : Result ⊤ Status) → n < length items → found ≡ compared same file answer → Continues found (Compares same file (map text (drop (n + 1) items))) later verdict → Compares same file (map text (drop n items)) (identify (text (get_or items n d)) answer ∷ later) verdict
+looks-at {A = A} text same file items n d answer found later verdict within is next =
+    let Left : List A → Type 0 = λ left. Compares same file (map text left) (identify (text (get_or items n d)) answer ∷ later) verdict in
+    let Goes : Result ⊤ Status → Type 0 = λ r. Continues r (Compares same file (map text (drop (n + 1) items))) later verdict in
+    let Rest : ℕ → Type 0 = λ m. Continues (compared same file answer) (Compares same file (map text (drop m items))) later verdict in
+    subst Left (sym (drop-cons items n d within)) (refl, subst Rest (sym (suc-eq-add-one n)) (subst Goes is next))
 
--- a look at OUT that fails is the only one
-pub fails : (I O : Type 0) (task : ReplayTask) (error : Error) (result : Result ⊤ Status) → result ≡ unless_absent (error_kind error) (of_error error) → Guarded {I = I} {O = O} task (identify task.paths.output.now (Err error) ∷ []) result
-fails I O task error (Ok _) is = λ rules box input later status on.
-    let Goes : Result ⊤ Status → Type 0 = λ r. GoesOn r (Draws {O = O} task rules box input) later status in (refl, subst Goes is on)
-fails I O task error (Err end) is = λ rules box input.
-    let Goes : Result ⊤ Status → Type 0 = λ r. GoesOn r (Draws {O = O} task rules box input) [] end in (refl, subst Goes is (refl, refl))
+-- the file for the report is created, or not, after the looks
+pub made-by : {I O : Type 0} (report : Option (Bor Text)) (file : Bor Text) (paths : Paths) (looks : List (Call I O)) (verdict : Result ⊤ Status) (later : List (Call I O)) (answer : Result (Option O) Status) → report ≡ Some file → Guards SameReport file.now (paths.output.now ∷ []) looks verdict → CreatesFile file.now verdict later answer → CreatesReport (name_of_file report) paths (looks ++ later) answer
+made-by {O = O} report file paths looks verdict later answer is looked made =
+    subst (λ (r : Option (Bor Text)). CreatesReport {O = O} (name_of_file r) paths (looks ++ later) answer) (sym is) (looks, verdict, later, looked, refl, made)

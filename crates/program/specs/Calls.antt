@@ -1,5 +1,5 @@
 -- What the program calls, and what it is answered.
-use Rattle.std.specs.Prelude.{◌≡◌, ℕ, Bool, List, [], ◌∷◌, Result, Ok, Err, Vec, String, map, string_bytes, ⊤}
+use Rattle.std.specs.Prelude.{◌≡◌, ℕ, Bool, List, [], ◌∷◌, Option, Result, Ok, Err, Vec, String, map, string_bytes, ⊤}
 use Rattle.std.specs.declared.io.Error.{Error}
 use Rattle.std.specs.declared.random_state.RandomState.{RandomState}
 use Rattle.clap.specs.declared.error.kind.ErrorKind.{ErrorKind}
@@ -27,9 +27,11 @@ pub data Call (Input Output : Type 0) : Type 0 where
   draw_keys : Result RandomState Error → Call Input Output
   -- a file created, or emptied, and opened for writing
   create : Text → Result Output Error → Call Input Output
-  -- the keys, a ruleset's text, a box file's text, a capture and the capture that leaves, before and after, and whether
-  -- each decision is told: whether the end is torn
-  run : RandomState → Text → Text → Input → Input → Output → Output → Bool → Result Bool RunFault → Call Input Output
+  -- the keys, a ruleset's text, a box file's text, a capture and the capture that leaves, before and after, the file
+  -- that the report goes to, before and after, where that isn't standard output, and whether each decision is told:
+  -- whether the end is torn
+  run : RandomState → Text → Text → Input → Input → Output → Output → Option (Output × Output) → Bool
+      → Result Bool RunFault → Call Input Output
   -- a ruleset's text and a box file's text: how many tables, chains and rules it has
   judge : Text → Text → Result Counts RunFault → Call Input Output
   -- the line of a ruleset that is accepted

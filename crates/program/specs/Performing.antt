@@ -36,7 +36,7 @@ Shows _ _ _ = ⊥
 -- a run, a check, or what a code means
 abbrev pub Serves : {I O : Type 0} → Task → List (Call I O) → Status → Type 0
 Serves (Run task) calls status = Replays task calls status
-Serves (Check texts) calls status = Examines texts calls status
+Serves (Check task) calls status = Examines task.texts calls status
 Serves (Explain code) calls status = Shows code.now calls status
 
 -- the line of a status that has one

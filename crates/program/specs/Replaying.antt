@@ -1,10 +1,11 @@
 -- A run over files: the calls in their order, and the status that it ends with.
-use Rattle.std.specs.Prelude.{◌≡◌, Bool, List, [], ◌∷◌, Result, Ok, Err, codes, if◌then◌else◌, ⊤}
+use Rattle.std.specs.Prelude.{◌≡◌, ◌++◌, Bool, List, [], ◌∷◌, Option, Some, None, Result, Ok, Err, codes, if◌then◌else◌, option_map, ⊤}
 use Rattle.std.specs.IoError.{error_kind}
 use Rattle.std.specs.declared.io.Error.{Error}
 use Rattle.std.specs.declared.io.ErrorKind.{ErrorKind}
 use Rattle.std.specs.declared.io.ErrorKind.TheVariants.{NotFound}
 use Rattle.std.specs.declared.random_state.RandomState.{RandomState}
+use Rattle.command_line.specs.CommandLine.{name_of_file}
 use Rattle.command_line.specs.declared.task.Paths.{Paths}
 use Rattle.command_line.specs.declared.task.ReplayTask.{ReplayTask}
 use Rattle.program.specs.Calls.{Call, Text, read, open_input, identify, draw_keys, create, run}
@@ -12,76 +13,118 @@ use Rattle.program.specs.Identity.{is_same_file}
 use Rattle.program.specs.Status.{of_fault, of_end, of_error}
 use Rattle.program.specs.declared.identity.FileIdentity.{FileIdentity}
 use Rattle.program.specs.declared.status.Status.{Status}
-use Rattle.program.specs.declared.status.Status.TheVariants.{SameFile}
+use Rattle.program.specs.declared.status.Status.TheVariants.{SameFile, SameReport}
 
--- the run gets the keys that were drawn, the ruleset's text as rules, the box file's as box, the files that were opened
--- and the flag that was asked for, and nothing is called after it; of_end tells whether the capture's end is torn
-abbrev pub Runs : {I O : Type 0} → Bool → RandomState → Text → Text → I → O → List (Call I O) → Status → Type 0
-Runs traced keys rules box input output (run k r b i i' o o' t (Err fault) ∷ []) status =
-    (k ≡ keys) × (r ≡ rules) × (b ≡ box) × (i ≡ input) × (o ≡ output) × (t ≡ traced) × (status ≡ of_fault fault)
-Runs traced keys rules box input output (run k r b i i' o o' t (Ok torn) ∷ []) status =
-    (k ≡ keys) × (r ≡ rules) × (b ≡ box) × (i ≡ input) × (o ≡ output) × (t ≡ traced) × (status ≡ of_end torn)
-Runs _ _ _ _ _ _ _ _ = ⊥
-
--- OUT is created
-abbrev pub Creates : {I O : Type 0} → ReplayTask → RandomState → Text → Text → I → List (Call I O) → Status → Type 0
-Creates task keys rules box input (create path (Err error) ∷ []) status =
-    (path ≡ task.paths.output.now) × (status ≡ of_error error)
-Creates task keys rules box input (create path (Ok output) ∷ calls) status =
-    (path ≡ task.paths.output.now) × Runs task.trace keys rules box input output calls status
-Creates _ _ _ _ _ _ _ = ⊥
-
--- keys are drawn, where nothing stands against OUT; where the system gives none, OUT isn't created
-abbrev pub Draws : {I O : Type 0} → ReplayTask → Text → Text → I → List (Call I O) → Status → Type 0
-Draws task rules box input (draw_keys (Err error) ∷ []) status = status ≡ of_error error
-Draws task rules box input (draw_keys (Ok keys) ∷ calls) status = Creates task keys rules box input calls status
-Draws _ _ _ _ _ _ = ⊥
-
--- what ends the run is its status, and no call follows; else the next calls come
-abbrev pub GoesOn : {C : Type 0} → Result ⊤ Status → (List C → Status → Type 0) → List C → Status → Type 0
-GoesOn (Ok _) Next calls status = Next calls status
+-- with what these calls answered the next go on; where that is a status no call follows
+abbrev pub GoesOn : {C A : Type 0} → Result A Status → (A → List C → Status → Type 0) → List C → Status → Type 0
+GoesOn (Ok answer) Next calls status = Next answer calls status
 GoesOn (Err end) Next calls status = (calls ≡ []) × (status ≡ end)
+
+-- the first calls, and then those that go on with their answer
+abbrev pub Then : {C A : Type 0} → (List C → Result A Status → Type 0) → (A → List C → Status → Type 0)
+    → List C → Status → Type 0
+Then {C = C} {A = A} First Next calls status = (first : List C) × (answer : Result A Status) × (later : List C)
+    × First first answer × (calls ≡ first ++ later) × GoesOn answer Next later status
+
+-- the run gets the keys that were drawn, the ruleset's text as rules, the box file's as box, the files that were opened,
+-- that for the report among them where there is one, and the flag that was asked for, and nothing is called after it;
+-- of_end tells whether the capture's end is torn. Where the report goes is all that a file for it changes
+abbrev pub Runs : {I O : Type 0} → Bool → RandomState → Text → Text → I → O → Option O → List (Call I O) → Status
+    → Type 0
+Runs traced keys rules box input output report (run k r b i i' o o' file t (Err fault) ∷ []) status =
+    (k ≡ keys) × (r ≡ rules) × (b ≡ box) × (i ≡ input) × (o ≡ output) × (option_map (λ f. f.0) file ≡ report)
+    × (t ≡ traced) × (status ≡ of_fault fault)
+Runs traced keys rules box input output report (run k r b i i' o o' file t (Ok torn) ∷ []) status =
+    (k ≡ keys) × (r ≡ rules) × (b ≡ box) × (i ≡ input) × (o ≡ output) × (option_map (λ f. f.0) file ≡ report)
+    × (t ≡ traced) × (status ≡ of_end torn)
+Runs _ _ _ _ _ _ _ _ _ = ⊥
 
 -- a path that leads nowhere yet is no fault, another error of a look at it is
 abbrev pub unless_absent : ErrorKind → Status → Result ⊤ Status
 unless_absent NotFound _ = Ok tt
 unless_absent _ end = Err end
 
--- OUT's file and what a look at another path told: nothing stands against it unless both are one file
-abbrev pub compared : FileIdentity → Result FileIdentity Error → Result ⊤ Status
-compared out (Ok other) = if is_same_file out other then Err SameFile else Ok tt
-compared out (Err error) = unless_absent (error_kind error) (of_error error)
+-- a file to write and what a look at another path told: nothing stands against it unless both are one file
+abbrev pub compared : Status → FileIdentity → Result FileIdentity Error → Result ⊤ Status
+compared same file (Ok other) = if is_same_file file other then Err same else Ok tt
+compared same file (Err error) = unless_absent (error_kind error) (of_error error)
 
--- each of these paths is looked at, up to the first that ends the run; then come the next calls
-abbrev pub Compares : {I O : Type 0} → FileIdentity → List Text → (List (Call I O) → Status → Type 0)
-    → List (Call I O) → Status → Type 0
-Compares out [] Next calls status = Next calls status
-Compares out (other ∷ others) Next (identify path answer ∷ calls) status =
-    (path ≡ other) × GoesOn (compared out answer) (Compares out others Next) calls status
+-- the paths that are left are looked at, unless one stood in the way
+abbrev pub Continues : {C : Type 0} → Result ⊤ Status → (List C → Result ⊤ Status → Type 0) → List C
+    → Result ⊤ Status → Type 0
+Continues (Ok _) Next calls verdict = Next calls verdict
+Continues (Err end) Next calls verdict = (calls ≡ []) × (verdict ≡ Err end)
+
+-- each of these paths is looked at, up to the first that stands in the way
+abbrev pub Compares : {I O : Type 0} → Status → FileIdentity → List Text → List (Call I O) → Result ⊤ Status → Type 0
+Compares same file [] [] verdict = verdict ≡ Ok tt
+Compares same file (other ∷ others) (identify path answer ∷ calls) verdict =
+    (path ≡ other) × Continues (compared same file answer) (Compares same file others) calls verdict
 Compares _ _ _ _ _ = ⊥
+
+-- a path to write is looked at, and where it is there compared with the files that it may not be: there is a status for
+-- one that it is
+abbrev pub Guards : {I O : Type 0} → Status → Text → List Text → List (Call I O) → Result ⊤ Status → Type 0
+Guards same path others (identify p (Ok file) ∷ calls) verdict = (p ≡ path) × Compares same file others calls verdict
+Guards same path others (identify p (Err error) ∷ []) verdict =
+    (p ≡ path) × (verdict ≡ unless_absent (error_kind error) (of_error error))
+Guards _ _ _ _ _ = ⊥
 
 -- Linux's name of the file that standard output goes to (proc(5): a link to /proc/self/fd/1)
 abbrev pub standard_output : Text
 standard_output = codes "/dev/stdout"
 
--- the paths whose files OUT may not be
-abbrev pub others_of : Paths → List Text
-others_of paths = paths.rules.now ∷ paths.plant.now ∷ paths.input.now ∷ standard_output ∷ []
+abbrev pub inputs_of : Paths → List Text
+inputs_of paths = paths.rules.now ∷ paths.plant.now ∷ paths.input.now ∷ []
 
--- OUT is looked at, and where it is there compared with the files that it may not be; then come the next calls
-abbrev pub Guards : {I O : Type 0} → Paths → (List (Call I O) → Status → Type 0) → List (Call I O) → Status → Type 0
-Guards paths Next (identify path (Ok out) ∷ calls) status =
-    (path ≡ paths.output.now) × Compares out (others_of paths) Next calls status
-Guards paths Next (identify path (Err error) ∷ calls) status =
-    (path ≡ paths.output.now) × GoesOn (unless_absent (error_kind error) (of_error error)) Next calls status
-Guards _ _ _ _ = ⊥
+-- the paths whose files OUT may not be: standard output is one where it gets the report
+abbrev pub others_of : Option Text → Paths → List Text
+others_of None paths = inputs_of paths ++ standard_output ∷ []
+others_of (Some file) paths = inputs_of paths
 
--- IN is opened
+-- the file for the report, where there is one, may be none of those that are read, nor OUT
+abbrev pub GuardsReport : {I O : Type 0} → Option Text → Paths → List (Call I O) → Result ⊤ Status → Type 0
+GuardsReport None paths calls verdict = (calls ≡ []) × (verdict ≡ Ok tt)
+GuardsReport (Some file) paths calls verdict =
+    Guards SameReport file (inputs_of paths ++ paths.output.now ∷ []) calls verdict
+
+-- the file for the report is created, where nothing stands against it
+abbrev pub CreatesFile : {I O : Type 0} → Text → Result ⊤ Status → List (Call I O) → Result (Option O) Status → Type 0
+CreatesFile path (Err end) calls answer = (calls ≡ []) × (answer ≡ Err end)
+CreatesFile path (Ok _) (create p (Err error) ∷ []) answer = (p ≡ path) × (answer ≡ Err (of_error error))
+CreatesFile path (Ok _) (create p (Ok file) ∷ []) answer = (p ≡ path) × (answer ≡ Ok (Some file))
+CreatesFile _ _ _ _ = ⊥
+
+-- where there is a file for the report, OUT is looked at again: it may not have been there before
+abbrev pub CreatesReport : {I O : Type 0} → Option Text → Paths → List (Call I O) → Result (Option O) Status → Type 0
+CreatesReport None paths calls answer = (calls ≡ []) × (answer ≡ Ok None)
+CreatesReport {I = I} {O = O} (Some file) paths calls answer =
+    (looks : List (Call I O)) × (verdict : Result ⊤ Status) × (later : List (Call I O))
+    × Guards SameReport file (paths.output.now ∷ []) looks verdict × (calls ≡ looks ++ later)
+    × CreatesFile file verdict later answer
+
+-- OUT is created, then the file for the report, where there is one
+abbrev pub Creates : {I O : Type 0} → ReplayTask → RandomState → Text → Text → I → List (Call I O) → Status → Type 0
+Creates task keys rules box input (create path (Err error) ∷ []) status =
+    (path ≡ task.paths.output.now) × (status ≡ of_error error)
+Creates task keys rules box input (create path (Ok output) ∷ calls) status = (path ≡ task.paths.output.now)
+    × Then (CreatesReport (name_of_file task.report) task.paths) (Runs task.trace keys rules box input output) calls status
+Creates _ _ _ _ _ _ _ = ⊥
+
+-- keys are drawn, where nothing stands against OUT and the file for the report; where the system gives none, neither is
+-- created
+abbrev pub Draws : {I O : Type 0} → ReplayTask → Text → Text → I → List (Call I O) → Status → Type 0
+Draws task rules box input (draw_keys (Err error) ∷ []) status = status ≡ of_error error
+Draws task rules box input (draw_keys (Ok keys) ∷ calls) status = Creates task keys rules box input calls status
+Draws _ _ _ _ _ _ = ⊥
+
+-- IN is opened, and the files to write are looked at
 abbrev pub Opens : {I O : Type 0} → ReplayTask → Text → Text → List (Call I O) → Status → Type 0
 Opens task rules box (open_input path (Err error) ∷ []) status =
     (path ≡ task.paths.input.now) × (status ≡ of_error error)
-Opens task rules box (open_input path (Ok input) ∷ calls) status =
-    (path ≡ task.paths.input.now) × Guards task.paths (Draws task rules box input) calls status
+Opens task rules box (open_input path (Ok input) ∷ calls) status = (path ≡ task.paths.input.now)
+    × Then (Guards SameFile task.paths.output.now (others_of (name_of_file task.report) task.paths))
+    (λ _. Then (GuardsReport (name_of_file task.report) task.paths) (λ _. Draws task rules box input)) calls status
 Opens _ _ _ _ _ = ⊥
 
 -- BOX is read whole

@@ -7,7 +7,7 @@ use Rattle.std.specs.declared.io.ErrorKind.TheVariants.{OutOfMemory, InvalidData
 use Rattle.engine.specs.declared.fault.RunFault.{RunFault}
 use Rattle.engine.specs.declared.fault.RunFault.TheVariants as faults
 use Rattle.program.specs.declared.status.Status.{Status}
-use Rattle.program.specs.declared.status.Status.TheVariants.{Success, Rules, Usage, NotText, SameFile, NoCode, Box, Capture}
+use Rattle.program.specs.declared.status.Status.TheVariants.{Success, Rules, Usage, NotText, SameFile, SameReport, NoCode, Box, Capture}
 use Rattle.program.specs.declared.status.Status.TheVariants.{Device, Memory, Torn}
 
 abbrev pub of_fault : RunFault → Status
@@ -50,6 +50,7 @@ code_of (Rules fault) = 1
 code_of Usage = 2
 code_of NotText = 2
 code_of SameFile = 2
+code_of SameReport = 2
 code_of NoCode = 2
 code_of (Box fault) = 3
 code_of (Capture fault) = 4

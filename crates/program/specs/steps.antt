@@ -1,5 +1,4 @@
 -- What only the contracts of private functions cite.
 pub mod Settled
-pub mod Guarded
 pub mod Promised
 pub mod Ending

@@ -43,7 +43,7 @@ fn texts_of<'a>(task: &Task<'a>) -> Option<Texts<'a>> {
             rules: run.paths.rules,
             plant: run.paths.plant,
         }),
-        Task::Check(texts) => Some(*texts),
+        Task::Check(task) => Some(task.texts),
         Task::Explain(_) => None,
     }
 }

@@ -16,7 +16,7 @@ use std::io;
 /// proved over this relation, which tells nothing else, holds of the very calls that were made,
 /// in their order.
 pub trait Host {
-    ghost use Rattle.std.specs.Prelude.{◌≡◌};
+    ghost use Rattle.std.specs.Prelude.{◌≡◌, None, Some};
     ghost use Rattle.std.specs.Result.{result_map_both};
     ghost use Rattle.clap.specs.Values.{kind_of};
     ghost use Rattle.program.specs.Calls.{Call, words, read, open_input, identify, draw_keys, create, run, judge, announce, tell, clarify, show, explain, texts_of, bytes_of};
@@ -24,7 +24,7 @@ pub trait Host {
     /// A capture open for reading.
     type Input: Drop;
 
-    /// A capture open for writing.
+    /// A capture, or a report, open for writing.
     type Output: Drop;
 
     /// Whether this call may lead from the first moment to the second.
@@ -60,9 +60,9 @@ pub trait Host {
     fn create(&mut self, path: &str) -> io::Result<Self::Output>
         ensures { happens self.old (create path.now result) self.new };
 
-    /// Takes the capture through the ruleset on a box, writes what leaves and prints the report,
-    /// with each decision where `trace` says so. Its hash tables hash by `hasher`. Tells whether the
-    /// capture's end is torn.
+    /// Takes the capture through the ruleset on a box, writes what leaves and prints the report to
+    /// standard output, with each decision where `trace` says so. Its hash tables hash by `hasher`.
+    /// Tells whether the capture's end is torn.
     fn run(
         &mut self,
         hasher: RandomState,
@@ -72,7 +72,20 @@ pub trait Host {
         output: &mut Self::Output,
         trace: bool,
     ) -> Result<bool, RunFault>
-        ensures { happens self.old (run hasher rules.now plant.now input.old input.new output.old output.new trace result) self.new };
+        ensures { happens self.old (run hasher rules.now plant.now input.old input.new output.old output.new None trace result) self.new };
+
+    /// The same run, with its report in a file.
+    fn run_to_file(
+        &mut self,
+        hasher: RandomState,
+        rules: &[u8],
+        plant: &[u8],
+        input: &mut Self::Input,
+        output: &mut Self::Output,
+        report: &mut Self::Output,
+        trace: bool,
+    ) -> Result<bool, RunFault>
+        ensures { happens self.old (run hasher rules.now plant.now input.old input.new output.old output.new (Some (report.old, report.new)) trace result) self.new };
 
     /// Judges a ruleset on a box, and counts what it has.
     fn judge(&mut self, rules: &[u8], plant: &[u8]) -> Result<Counts, RunFault>

@@ -77,7 +77,7 @@ fn serve<H: Host>(host: &mut H, task: &Task<'_>) -> Status
 {
     match task {
         Task::Run(task) => replay(host, task),
-        Task::Check(texts) => examine(host, texts),
+        Task::Check(task) => examine(host, &task.texts),
         Task::Explain(code) => show(host, code),
     }
 }

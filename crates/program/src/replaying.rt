@@ -1,28 +1,32 @@
 //! A run over files.
-ghost use Rattle.std.specs.Prelude.{◌≡◌, List, Result};
+ghost use Rattle.std.specs.Prelude.{◌≡◌, List, Option, Result, map};
 ghost use Rattle.std.specs.IoError.{error_kind};
 ghost use Rattle.std.specs.declared.io.Error.{Error};
+ghost use Rattle.command_line.specs.CommandLine.{name_of_file};
 ghost use Rattle.program.specs.Calls.{Call, Leads, identify};
-ghost use Rattle.program.specs.Replaying.{Replays, compared, unless_absent};
+ghost use Rattle.program.specs.Replaying.{CreatesReport, Guards, GuardsReport, Replays, Runs, compared, others_of, unless_absent};
 ghost use Rattle.program.specs.Status.{of_error};
-ghost use Rattle.program.specs.steps.Guarded.{Guarded};
+ghost use Rattle.program.specs.declared.status.Status.TheVariants.{SameFile};
 ghost use Rattle.program.specs.steps.Settled.{settled};
 
 use crate::host::Host;
 use crate::identity::FileIdentity;
 use crate::status::Status;
 use command_line::ReplayTask;
+use std::hash::RandomState;
 use std::io;
 
 /// Linux's name of the file that standard output goes to.
 const STANDARD_OUTPUT: &str = "/dev/stdout";
 
-/// Takes the capture IN through the ruleset RULES on the box BOX, and writes OUT.
+/// Takes the capture IN through the ruleset RULES on the box BOX, and writes OUT, and the report to
+/// FILE where the task names one.
 ///
-/// RULES and BOX are read whole, IN is opened, OUT is compared with the three of them and with
-/// standard output, random keys are drawn for the hash tables of the run, and OUT is created last,
-/// only if all went well and it is the same regular file as none of them: a fault before leaves it as
-/// it was. The run tells each decision where the task says so.
+/// RULES and BOX are read whole, IN is opened, OUT is compared with the three of them and, where it
+/// gets the report, with standard output, FILE with the three and with OUT, and random keys are
+/// drawn for the hash tables of the run. OUT and then FILE are created last, only if all went well
+/// and each is the same regular file as none of those: a fault before leaves them as they were. The
+/// run tells each decision where the task says so.
 pub fn replay<H: Host>(host: &mut H, task: &ReplayTask<'_>) -> Status
     // These are all calls, in their order, and the status is that of the one that failed, or the run's.
     ensures { (calls : List (Call H.Input H.Output)) × Leads H.happens host.old calls host.new × Replays task.now calls result }
@@ -41,32 +45,111 @@ fn try_replay<H: Host>(host: &mut H, task: &ReplayTask<'_>) -> Result<bool, Stat
     let plant = host.read(paths.plant)?;
     let mut input = host.open(paths.input)?;
     guard_output(host, task)?;
+    guard_report(host, task)?;
     let hasher = host.draw_keys()?;
     let mut output = host.create(paths.output)?;
-    let torn = host.run(hasher, &rules, &plant, &mut input, &mut output, task.trace)?;
+    let report = create_report(host, task)?;
+    play(
+        host,
+        hasher,
+        &rules,
+        &plant,
+        &mut input,
+        &mut output,
+        report,
+        task.trace,
+    )
+}
+
+/// The run, with its report in a file or on standard output.
+fn play<H: Host>(
+    host: &mut H,
+    hasher: RandomState,
+    rules: &[u8],
+    plant: &[u8],
+    input: &mut H::Input,
+    output: &mut H::Output,
+    report: Option<H::Output>,
+    trace: bool,
+) -> Result<bool, Status>
+    ensures { (calls : List (Call H.Input H.Output)) × Leads H.happens host.old calls host.new
+        × Runs trace hasher rules.now plant.now input.old output.old report calls (settled result) }
+{
+    let torn = match report {
+        Some(mut file) => {
+            host.run_to_file(hasher, rules, plant, input, output, &mut file, trace)?
+        }
+        None => host.run(hasher, rules, plant, input, output, trace)?,
+    };
     Ok(torn)
 }
 
 /// Writing OUT must not overwrite what is read, nor the report.
 fn guard_output<H: Host>(host: &mut H, task: &ReplayTask<'_>) -> Result<(), Status>
-    ensures { (calls : List (Call H.Input H.Output)) × Leads H.happens host.old calls host.new × Guarded task.now calls result }
+    ensures { (calls : List (Call H.Input H.Output)) × Leads H.happens host.old calls host.new
+        × Guards SameFile task.now.paths.output.now (others_of (name_of_file task.now.report) task.now.paths) calls result }
 {
     let paths = &task.paths;
-    let output = match host.identify(paths.output) {
-        Ok(output) => output,
+    let inputs = [paths.rules, paths.plant, paths.input];
+    match task.report {
+        Some(_) => guard(host, Status::SameFile, paths.output, &inputs),
+        None => {
+            let others = [paths.rules, paths.plant, paths.input, STANDARD_OUTPUT];
+            guard(host, Status::SameFile, paths.output, &others)
+        }
+    }
+}
+
+/// Writing the report must not overwrite what is read, nor OUT.
+fn guard_report<H: Host>(host: &mut H, task: &ReplayTask<'_>) -> Result<(), Status>
+    ensures { (calls : List (Call H.Input H.Output)) × Leads H.happens host.old calls host.new
+        × GuardsReport (name_of_file task.now.report) task.now.paths calls result }
+{
+    let Some(file) = task.report else {
+        return Ok(());
+    };
+    let paths = &task.paths;
+    let others = [paths.rules, paths.plant, paths.input, paths.output];
+    guard(host, Status::SameReport, file, &others)
+}
+
+/// Creates the file for the report, where there is one. OUT is there by now.
+fn create_report<H: Host>(host: &mut H, task: &ReplayTask<'_>) -> Result<Option<H::Output>, Status>
+    ensures { (calls : List (Call H.Input H.Output)) × Leads H.happens host.old calls host.new
+        × CreatesReport (name_of_file task.now.report) task.now.paths calls result }
+{
+    let Some(file) = task.report else {
+        return Ok(None);
+    };
+    guard(host, Status::SameReport, file, &[task.paths.output])?;
+    Ok(Some(host.create(file)?))
+}
+
+/// A file that is written must be none of the others: there is a status for one that is.
+fn guard<H: Host>(host: &mut H, same: Status, path: &str, others: &[&str]) -> Result<(), Status>
+    ensures { (calls : List (Call H.Input H.Output)) × Leads H.happens host.old calls host.new
+        × Guards same path.now (map (λ other. other.now) others.entry.now) calls result }
+{
+    let file = match host.identify(path) {
+        Ok(file) => file,
         Err(error) => return pass_absent(&error),
     };
-    for path in [paths.rules, paths.plant, paths.input, STANDARD_OUTPUT] {
-        compare(host, output, path)?;
+    for other in others {
+        compare(host, same, file, other)?;
     }
     Ok(())
 }
 
-fn compare<H: Host>(host: &mut H, output: FileIdentity, path: &str) -> Result<(), Status>
-    ensures { (answer : Result FileIdentity Error) × H.happens host.old (identify path.now answer) host.new × (result ≡ compared output answer) }
+fn compare<H: Host>(
+    host: &mut H,
+    same: Status,
+    file: FileIdentity,
+    path: &str,
+) -> Result<(), Status>
+    ensures { (answer : Result FileIdentity Error) × H.happens host.old (identify path.now answer) host.new × (result ≡ compared same file answer) }
 {
     match host.identify(path) {
-        Ok(other) if output.is_same_file(other) => Err(Status::SameFile),
+        Ok(other) if file.is_same_file(other) => Err(same),
         Ok(_) => Ok(()),
         Err(error) => pass_absent(&error),
     }

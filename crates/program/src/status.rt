@@ -17,8 +17,10 @@ pub enum Status {
     Usage,
     /// A word isn't UTF-8.
     NotText,
-    /// OUT leads to the same regular file as RULES, BOX, IN or standard output.
+    /// OUT leads to the same regular file as RULES, BOX, IN or, without `--report`, standard output.
     SameFile,
+    /// FILE leads to the same regular file as RULES, BOX, IN or OUT.
+    SameReport,
     /// The word behind `explain` is no code.
     NoCode,
     Box(BoxFault),
@@ -79,7 +81,11 @@ impl Status {
         match self {
             Status::Success => 0,
             Status::Rules(_) => 1,
-            Status::Usage | Status::NotText | Status::SameFile | Status::NoCode => 2,
+            Status::Usage
+            | Status::NotText
+            | Status::SameFile
+            | Status::SameReport
+            | Status::NoCode => 2,
             Status::Box(_) => 3,
             Status::Capture(_) => 4,
             Status::Device => 5,
@@ -121,6 +127,9 @@ impl fmt::Display for Status {
             Status::NotText => f.write_str("nftrun: usage: a word isn't UTF-8"),
             Status::SameFile => f.write_str(
                 "nftrun: usage: OUT is the same file as RULES, BOX, IN or standard output",
+            ),
+            Status::SameReport => f.write_str(
+                "nftrun: usage: FILE is the same file as RULES, BOX, IN or OUT",
             ),
             Status::NoCode => f.write_str(
                 "nftrun: usage: CODE is one of E01 to E06, B1 to B5, N01 to N15, P1 to P5 and P7",

@@ -86,6 +86,29 @@ impl<R: Env + Files + Print + Eprint + RandomSource + AllocGlobal> Host for Syst
         Ok(summary.torn)
     }
 
+    fn run_to_file(
+        &mut self,
+        hasher: RandomState,
+        rules: &[u8],
+        plant: &[u8],
+        input: &mut Self::Input,
+        output: &mut Self::Output,
+        report: &mut Self::Output,
+        trace: bool,
+    ) -> Result<bool, RunFault> {
+        let summary = engine::run(
+            self.rt.alloc(),
+            hasher,
+            rules,
+            plant,
+            input,
+            output,
+            report,
+            trace,
+        )?;
+        Ok(summary.torn)
+    }
+
     fn judge(&mut self, rules: &[u8], plant: &[u8]) -> Result<Counts, RunFault> {
         engine::judge(self.rt.alloc(), rules, plant)
     }

@@ -22,6 +22,11 @@ const SAME_FILE: &str = "nftrun: usage: OUT is the same file as RULES, BOX, IN o
 const TOLD_SAME_FILE: &str =
     "tell nftrun: usage: OUT is the same file as RULES, BOX, IN or standard output\n";
 
+const SAME_REPORT: &str = "nftrun: usage: FILE is the same file as RULES, BOX, IN or OUT";
+
+const TOLD_SAME_REPORT: &str =
+    "tell nftrun: usage: FILE is the same file as RULES, BOX, IN or OUT\n";
+
 const NO_CODE: &str =
     "nftrun: usage: CODE is one of E01 to E06, B1 to B5, N01 to N15, P1 to P5 and P7";
 
@@ -30,10 +35,14 @@ const TOLD_NO_CODE: &str =
 
 const RUN: &[&str] = &["nftrun", "run", "rules", "box", "in", "out"];
 
+const REPORT: &[&str] = &[
+    "nftrun", "run", "--report", "file", "rules", "box", "in", "out",
+];
+
 const CHECK: &[&str] = &["nftrun", "check", "rules", "box"];
 
 /// The calls of a run that succeeds.
-const CALLS: [&str; 12] = [
+const CALLS: &[&str] = &[
     "words\n",
     "read rules\n",
     "read box\n",
@@ -48,19 +57,45 @@ const CALLS: [&str; 12] = [
     "run rules box\n",
 ];
 
+/// The calls of a run that succeeds, with its report in a file.
+const REPORT_CALLS: &[&str] = &[
+    "words\n",
+    "read rules\n",
+    "read box\n",
+    "open in\n",
+    "identify out\n",
+    "identify rules\n",
+    "identify box\n",
+    "identify in\n",
+    "identify file\n",
+    "identify rules\n",
+    "identify box\n",
+    "identify in\n",
+    "identify out\n",
+    "draw keys\n",
+    "create out\n",
+    "identify file\n",
+    "identify out\n",
+    "create file\n",
+];
+
 /// How a host answers, and what the program has to do then.
 #[derive(Clone, Copy)]
 struct Row {
     words: &'static [&'static str],
+    /// The calls of a run,
+    calls: &'static [&'static str],
     /// Which call fails, counted from 0, and of which kind its error is.
     failing: Option<(usize, io::ErrorKind)>,
-    /// The path that leads to the same file as OUT,
+    /// The path that leads to the same file
     same: &'static str,
+    /// as this one,
+    file: &'static str,
     /// and whether that is a regular file.
     is_regular: bool,
     outcome: Result<bool, RunFault>,
     judged: Result<Counts, RunFault>,
-    /// It makes the first so many calls of a run,
+    /// of which it makes the first so many,
     count: usize,
     /// and then these,
     last: &'static str,
@@ -71,8 +106,10 @@ struct Row {
 /// A run that succeeds.
 const DONE: Row = Row {
     words: RUN,
+    calls: CALLS,
     failing: None,
     same: "",
+    file: "out",
     is_regular: true,
     outcome: Ok(false),
     judged: Ok(Counts {
@@ -83,6 +120,16 @@ const DONE: Row = Row {
     count: 12,
     last: "",
     code: 0,
+};
+
+/// A run that succeeds, with its report in a file.
+const REPORTED: Row = Row {
+    words: REPORT,
+    calls: REPORT_CALLS,
+    file: "file",
+    count: 18,
+    last: "run rules box to a file\n",
+    ..DONE
 };
 
 /// A check that accepts its ruleset. Its first calls are those of a run.
@@ -115,6 +162,14 @@ impl Recorder {
             _ => Ok(()),
         }
     }
+
+    fn outcome(&mut self, parts: &[&[u8]]) -> Result<bool, RunFault> {
+        match self.note(parts) {
+            Ok(()) => self.row.outcome,
+            Err(error) if error.kind() == io::ErrorKind::OutOfMemory => Err(RunFault::Memory),
+            Err(_) => Err(RunFault::Device),
+        }
+    }
 }
 
 impl Host for Recorder {
@@ -144,11 +199,20 @@ impl Host for Recorder {
 
     fn identify(&mut self, path: &str) -> io::Result<FileIdentity> {
         self.note(&[b"identify ", path.as_bytes()])?;
-        let is_out = path == "out" || path == self.row.same;
+        let is_same = path == self.row.file || path == self.row.same;
+        let inode = if is_same {
+            2
+        } else if path == "out" {
+            3
+        } else if path == "file" {
+            4
+        } else {
+            5
+        };
         Ok(FileIdentity {
             is_regular: self.row.is_regular,
             device: 1,
-            inode: if is_out { 2 } else { 3 },
+            inode,
         })
     }
 
@@ -171,11 +235,21 @@ impl Host for Recorder {
         trace: bool,
     ) -> Result<bool, RunFault> {
         let end: &[u8] = if trace { b" traced" } else { b"" };
-        match self.note(&[b"run ", rules, b" ", plant, end]) {
-            Ok(()) => self.row.outcome,
-            Err(error) if error.kind() == io::ErrorKind::OutOfMemory => Err(RunFault::Memory),
-            Err(_) => Err(RunFault::Device),
-        }
+        self.outcome(&[b"run ", rules, b" ", plant, end])
+    }
+
+    fn run_to_file(
+        &mut self,
+        _hasher: RandomState,
+        rules: &[u8],
+        plant: &[u8],
+        _input: &mut (),
+        _output: &mut (),
+        _report: &mut (),
+        trace: bool,
+    ) -> Result<bool, RunFault> {
+        let end: &[u8] = if trace { b" traced" } else { b"" };
+        self.outcome(&[b"run ", rules, b" ", plant, b" to a file", end])
     }
 
     fn judge(&mut self, rules: &[u8], plant: &[u8]) -> Result<Counts, RunFault> {
@@ -226,7 +300,7 @@ impl Host for Recorder {
 /// The program has to do what the row tells.
 fn ends<R: Abort + AllocGlobal>(rt: &R, row: Row) -> Result<(), Fail> {
     let mut wanted = Vec::new(rt.alloc());
-    for call in CALLS.iter().take(row.count) {
+    for call in row.calls.iter().take(row.count) {
         wanted.extend_from_slice(call.as_bytes())?;
     }
     wanted.extend_from_slice(row.last.as_bytes())?;
@@ -410,37 +484,212 @@ const ROWS: [Row; 27] = [
     },
 ];
 
+/// Runs whose report goes to a file: one that succeeds, and one that tells each decision; one that
+/// would write the report over a file that it reads, or over OUT, which may be found only once OUT
+/// is there, and one whose OUT is one of the files that it reads; one whose OUT goes where standard
+/// output goes; one whose files are devices; one whose FILE isn't there yet; a torn end, and a fault
+/// of the run.
+const REPORTS: [Row; 13] = [
+    REPORTED,
+    Row {
+        words: &[
+            "nftrun",
+            "run",
+            "--report=file",
+            "--trace",
+            "rules",
+            "box",
+            "in",
+            "out",
+        ],
+        last: "run rules box to a file traced\n",
+        ..REPORTED
+    },
+    Row {
+        same: "rules",
+        count: 10,
+        last: TOLD_SAME_REPORT,
+        code: 2,
+        ..REPORTED
+    },
+    Row {
+        same: "box",
+        count: 11,
+        last: TOLD_SAME_REPORT,
+        code: 2,
+        ..REPORTED
+    },
+    Row {
+        same: "in",
+        count: 12,
+        last: TOLD_SAME_REPORT,
+        code: 2,
+        ..REPORTED
+    },
+    Row {
+        same: "out",
+        count: 13,
+        last: TOLD_SAME_REPORT,
+        code: 2,
+        ..REPORTED
+    },
+    Row {
+        failing: Some((8, io::ErrorKind::NotFound)),
+        same: "out",
+        count: 9,
+        last: "draw keys\ncreate out\nidentify file\nidentify out\ntell nftrun: usage: FILE is the same file as RULES, BOX, IN or OUT\n",
+        code: 2,
+        ..REPORTED
+    },
+    Row {
+        same: "in",
+        file: "out",
+        count: 8,
+        last: TOLD_SAME_FILE,
+        code: 2,
+        ..REPORTED
+    },
+    Row {
+        same: "/dev/stdout",
+        file: "out",
+        ..REPORTED
+    },
+    Row {
+        same: "out",
+        is_regular: false,
+        ..REPORTED
+    },
+    Row {
+        failing: Some((15, io::ErrorKind::NotFound)),
+        count: 16,
+        last: "create file\nrun rules box to a file\n",
+        ..REPORTED
+    },
+    Row {
+        outcome: Ok(true),
+        last: "run rules box to a file\ntell nftrun: capture torn\n",
+        code: 7,
+        ..REPORTED
+    },
+    Row {
+        outcome: Err(RunFault::Capture(CaptureFault::TornEnd)),
+        last: "run rules box to a file\ntell nftrun: capture P5\n",
+        code: 4,
+        ..REPORTED
+    },
+];
+
 #[test]
 fn the_program_makes_these_calls(rt: HostRuntime) -> Result<(), Fail> {
     for row in &ROWS {
         ends(&rt, *row)?;
     }
+    for row in &REPORTS {
+        ends(&rt, *row)?;
+    }
     Ok(())
 }
 
-#[test]
-fn no_call_follows_one_that_failed(rt: HostRuntime) -> Result<(), Fail> {
-    for call in 0..12 {
+/// Each call of a run in turn fails.
+fn stops<R: Abort + AllocGlobal>(rt: &R, done: Row, calls: usize) -> Result<(), Fail> {
+    for call in 0..calls {
         for (kind, last, code) in [
             (io::ErrorKind::PermissionDenied, "tell nftrun: device\n", 5),
             (io::ErrorKind::OutOfMemory, "tell nftrun: memory\n", 6),
         ] {
             let row = Row {
                 failing: Some((call, kind)),
-                count: call + 1,
+                count: call.saturating_add(1),
                 last,
                 code,
-                ..DONE
+                ..done
             };
-            ends(&rt, row)?;
+            ends(rt, row)?;
         }
     }
     Ok(())
 }
 
+#[test]
+fn no_call_follows_one_that_failed(rt: HostRuntime) -> Result<(), Fail> {
+    stops(&rt, DONE, CALLS.len())?;
+    stops(&rt, REPORTED, REPORT_CALLS.len())
+}
+
 /// Words, and the paths of the task that they ask for, or the kind and the exit status of the error.
-const WORDS: [(&[&str], Result<&str, (ErrorKind, i32)>); 20] = [
+const WORDS: [(&[&str], Result<&str, (ErrorKind, i32)>); 37] = [
     (&["nftrun", "check", "r", "b"], Ok("r b")),
+    (&["nftrun", "check", "--all", "r", "b"], Ok("r b all")),
+    (&["nftrun", "check", "r", "b", "--all"], Ok("r b all")),
+    (&["nftrun", "check", "--", "--all", "b"], Ok("--all b")),
+    (
+        &["nftrun", "check", "--all", "r", "b", "--all"],
+        Err((ErrorKind::ArgumentConflict, 2)),
+    ),
+    (
+        &["nftrun", "run", "--all", "r", "b", "i", "o"],
+        Err((ErrorKind::UnknownArgument, 2)),
+    ),
+    (
+        &["nftrun", "check", "--report", "f", "r", "b"],
+        Err((ErrorKind::UnknownArgument, 2)),
+    ),
+    (
+        &["nftrun", "run", "--report", "f", "r", "b", "i", "o"],
+        Ok("r b i o to f"),
+    ),
+    (
+        &["nftrun", "run", "r", "b", "--report=f", "i", "o"],
+        Ok("r b i o to f"),
+    ),
+    (
+        &["nftrun", "run", "r", "b", "i", "o", "--report", "-"],
+        Ok("r b i o to -"),
+    ),
+    (
+        &["nftrun", "run", "--report=--trace", "r", "b", "i", "o"],
+        Ok("r b i o to --trace"),
+    ),
+    (
+        &[
+            "nftrun", "run", "--trace", "r", "--report", "f", "b", "--", "-i", "o",
+        ],
+        Ok("r b -i o traced to f"),
+    ),
+    (
+        &["nftrun", "run", "--", "--report", "f", "i", "o"],
+        Ok("--report f i o"),
+    ),
+    (
+        &["nftrun", "run", "--report", "--", "r", "b", "i", "o"],
+        Err((ErrorKind::InvalidValue, 2)),
+    ),
+    (
+        &["nftrun", "run", "--report", "--trace", "r", "b", "i", "o"],
+        Err((ErrorKind::InvalidValue, 2)),
+    ),
+    (
+        &["nftrun", "run", "r", "b", "i", "o", "--report"],
+        Err((ErrorKind::InvalidValue, 2)),
+    ),
+    (
+        &[
+            "nftrun",
+            "run",
+            "--report",
+            "f",
+            "r",
+            "b",
+            "i",
+            "o",
+            "--report=f",
+        ],
+        Err((ErrorKind::ArgumentConflict, 2)),
+    ),
+    (
+        &["nftrun", "run", "--report", "f", "r", "b", "i"],
+        Err((ErrorKind::MissingRequiredArgument, 2)),
+    ),
     (&["nftrun", "check", "--", "-r", "b"], Ok("-r b")),
     (
         &["nftrun", "check", "r", "b", "i", "o"],
@@ -508,14 +757,18 @@ fn words_ask_for_a_task_or_are_refused(rt: HostRuntime) -> Result<(), Fail> {
             Ok(Task::Run(task)) => {
                 let paths = task.paths;
                 let end = if task.trace { " traced" } else { "" };
+                let to = if task.report.is_some() { " to " } else { "" };
+                let file = task.report.unwrap_or("");
                 let text = format!(in rt.alloc();
-                    "{} {} {} {}{end}",
+                    "{} {} {} {}{end}{to}{file}",
                     paths.rules, paths.plant, paths.input, paths.output
                 )?;
                 assert!(&rt; *wanted == Ok(text.as_str()), "{text}");
             }
-            Ok(Task::Check(texts)) => {
-                let text = format!(in rt.alloc(); "{} {}", texts.rules, texts.plant)?;
+            Ok(Task::Check(task)) => {
+                let texts = task.texts;
+                let end = if task.all { " all" } else { "" };
+                let text = format!(in rt.alloc(); "{} {}{end}", texts.rules, texts.plant)?;
                 assert!(&rt; *wanted == Ok(text.as_str()), "{text}");
             }
             Ok(Task::Explain(code)) => {
@@ -533,7 +786,7 @@ fn words_ask_for_a_task_or_are_refused(rt: HostRuntime) -> Result<(), Fail> {
 }
 
 /// Each status, the line that the program can print, and the exit status.
-const STATUSES: [(Status, &str, u8); 27] = [
+const STATUSES: [(Status, &str, u8); 28] = [
     (Status::Success, "nftrun: done", 0),
     (
         Status::Rules(RulesFault::Text(TextFault::Cutting(LexFault::Byte { line: 1 }))),
@@ -578,6 +831,7 @@ const STATUSES: [(Status, &str, u8); 27] = [
     (Status::Usage, "nftrun: usage", 2),
     (Status::NotText, "nftrun: usage: a word isn't UTF-8", 2),
     (Status::SameFile, SAME_FILE, 2),
+    (Status::SameReport, SAME_REPORT, 2),
     (Status::NoCode, NO_CODE, 2),
     (Status::Box(BoxFault::Form), "nftrun: box B1", 3),
     (Status::Box(BoxFault::Repeated), "nftrun: box B2", 3),

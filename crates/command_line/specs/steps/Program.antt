@@ -6,8 +6,12 @@ use Rattle.clap.specs.Words.{App, Rule, Shape, Text, new_app, new_rule, with_rul
 abbrev pub path_rule : Text → Rule
 path_rule id = record (new_rule id) { value_names = 1; required = true }
 
-abbrev pub trace_rule : Rule
-trace_rule = record (new_rule (codes "trace")) { long = Some (codes "trace"); action = Some SetTrue }
+-- a flag of this name
+abbrev pub flag_rule : Text → Rule
+flag_rule name = record (new_rule name) { long = Some name; action = Some SetTrue }
+
+abbrev pub report_rule : Rule
+report_rule = record (new_rule (codes "report")) { long = Some (codes "report"); value_names = 1 }
 
 abbrev pub paths_app : App
 paths_app =
@@ -18,10 +22,12 @@ abbrev pub paths_shape : Shape
 paths_shape = paths_app.top
 
 abbrev pub run_shape : Shape
-run_shape = (with_rule paths_app trace_rule).top
+run_shape = (with_rule (with_rule paths_app (flag_rule (codes "trace"))) report_rule).top
 
 abbrev pub check_app : App
-check_app = with_rule (with_rule (new_app (codes "check")) (path_rule (codes "rules"))) (path_rule (codes "plant"))
+check_app =
+    with_rule (with_rule (with_rule (new_app (codes "check")) (path_rule (codes "rules"))) (path_rule (codes "plant")))
+    (flag_rule (codes "all"))
 
 abbrev pub check_shape : Shape
 check_shape = check_app.top

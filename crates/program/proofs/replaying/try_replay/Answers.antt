@@ -1,7 +1,7 @@
 -- Each return shows the calls that led to it, and where each stands in its order.
-use Rattle.std.proofs.Common.{[], ◌∷◌, ◌++◌, refl}
+use Rattle.std.proofs.Common.{[], ◌∷◌, ◌++◌, append-nil, refl, sym}
 use Rattle.std.proofs.lemmas.Result.{err_from_is_err_and}
-use Rattle.program.specs.Calls.{read, open_input, draw_keys, create, run}
+use Rattle.program.specs.Calls.{read, open_input, draw_keys, create}
 use Rattle.program.proofs.Chains.{Leads-append}
 use Rattle.program.proofs.replaying.try_replay.Goals as goal
 
@@ -31,54 +31,32 @@ returns-in_err-guard_output g c =
     rw p.1 rw p.2 (
       read _ _ ∷ read _ _ ∷ open_input _ _ ∷ looked.0,
       (_, c.in_ok-rules.ensures, (_, c.in_ok-plant.ensures, (_, c.in_ok-input.ensures, looked.1))),
-      (refl, (refl, (refl, looked.2 _ _ _))),
+      (refl, (refl, (refl, (looked.0, _, [], looked.2, sym (append-nil looked.0), (refl, refl))))),
+    )
+
+pub returns-in_err-guard_report : goal.returns-in_err-guard_report
+returns-in_err-guard_report g c =
+    let p = err_from_is_err_and c.from_residual-in_err-guard_report.result c.from_residual-in_err-guard_report.ensures.1 in
+    let looked = c.in_ok-guard_output.ensures in
+    let again = c.in_err-guard_report.ensures in
+    rw p.1 rw p.2 (
+      read _ _ ∷ read _ _ ∷ open_input _ _ ∷ looked.0 ++ again.0,
+      (
+        _,
+        c.in_ok-rules.ensures,
+        (_, c.in_ok-plant.ensures, (_, c.in_ok-input.ensures, Leads-append g.H.Host.happens _ _ _ looked.0 _ looked.1 again.1)),
+      ),
+      (refl, (refl, (refl, (looked.0, _, again.0, looked.2, refl, (again.0, _, [], again.2, sym (append-nil again.0), (refl, refl)))))),
     )
 
 pub returns-in_err-hasher : goal.returns-in_err-hasher
 returns-in_err-hasher g c =
     let p = err_from_is_err_and c.from_residual-in_err-hasher.result c.from_residual-in_err-hasher.ensures.1 in
     let looked = c.in_ok-guard_output.ensures in
+    let again = c.in_ok-guard_report.ensures in
     let later = draw_keys _ ∷ [] in
     rw p.1 (
-      read _ _ ∷ read _ _ ∷ open_input _ _ ∷ looked.0 ++ later,
-      (
-        _,
-        c.in_ok-rules.ensures,
-        (
-          _,
-          c.in_ok-plant.ensures,
-          (_, c.in_ok-input.ensures, Leads-append g.H.Host.happens _ _ _ looked.0 _ looked.1 (_, c.in_err-hasher.ensures, refl)),
-        ),
-      ),
-      (refl, (refl, (refl, looked.2 _ _ _ later _ p.2))),
-    )
-
-pub returns-in_err-output : goal.returns-in_err-output
-returns-in_err-output g c =
-    let p = err_from_is_err_and c.from_residual-in_err-output.result c.from_residual-in_err-output.ensures.1 in
-    let looked = c.in_ok-guard_output.ensures in
-    let later = draw_keys _ ∷ create _ _ ∷ [] in
-    rw p.1 (
-      read _ _ ∷ read _ _ ∷ open_input _ _ ∷ looked.0 ++ later,
-      (
-        _,
-        c.in_ok-rules.ensures,
-        (
-          _,
-          c.in_ok-plant.ensures,
-          (_, c.in_ok-input.ensures, Leads-append g.H.Host.happens _ _ _ looked.0 _ looked.1 (_, c.in_ok-hasher.ensures, (_, c.in_err-output.ensures, refl))),
-        ),
-      ),
-      (refl, (refl, (refl, looked.2 _ _ _ later _ (refl, p.2)))),
-    )
-
-pub returns-in_err-torn : goal.returns-in_err-torn
-returns-in_err-torn g c =
-    let p = err_from_is_err_and c.from_residual-in_err-torn.result c.from_residual-in_err-torn.ensures.1 in
-    let looked = c.in_ok-guard_output.ensures in
-    let later = draw_keys _ ∷ create _ _ ∷ run _ _ _ _ _ _ _ _ _ ∷ [] in
-    rw p.1 (
-      read _ _ ∷ read _ _ ∷ open_input _ _ ∷ looked.0 ++ later,
+      read _ _ ∷ read _ _ ∷ open_input _ _ ∷ looked.0 ++ (again.0 ++ later),
       (
         _,
         c.in_ok-rules.ensures,
@@ -88,7 +66,59 @@ returns-in_err-torn g c =
           (
             _,
             c.in_ok-input.ensures,
-            Leads-append g.H.Host.happens _ _ _ looked.0 _ looked.1 (_, c.in_ok-hasher.ensures, (_, c.in_ok-output.ensures, (_, c.in_err-torn.ensures, refl))),
+            Leads-append g.H.Host.happens _ _ _ looked.0 _ looked.1
+                (Leads-append g.H.Host.happens _ _ _ again.0 _ again.1 (_, c.in_err-hasher.ensures, refl)),
+          ),
+        ),
+      ),
+      (refl, (refl, (refl, (looked.0, _, again.0 ++ later, looked.2, refl, (again.0, _, later, again.2, refl, p.2))))),
+    )
+
+pub returns-in_err-output : goal.returns-in_err-output
+returns-in_err-output g c =
+    let p = err_from_is_err_and c.from_residual-in_err-output.result c.from_residual-in_err-output.ensures.1 in
+    let looked = c.in_ok-guard_output.ensures in
+    let again = c.in_ok-guard_report.ensures in
+    let later = draw_keys _ ∷ create _ _ ∷ [] in
+    rw p.1 (
+      read _ _ ∷ read _ _ ∷ open_input _ _ ∷ looked.0 ++ (again.0 ++ later),
+      (
+        _,
+        c.in_ok-rules.ensures,
+        (
+          _,
+          c.in_ok-plant.ensures,
+          (
+            _,
+            c.in_ok-input.ensures,
+            Leads-append g.H.Host.happens _ _ _ looked.0 _ looked.1
+                (Leads-append g.H.Host.happens _ _ _ again.0 _ again.1 (_, c.in_ok-hasher.ensures, (_, c.in_err-output.ensures, refl))),
+          ),
+        ),
+      ),
+      (refl, (refl, (refl, (looked.0, _, again.0 ++ later, looked.2, refl, (again.0, _, later, again.2, refl, (refl, p.2)))))),
+    )
+
+pub returns-in_err-report : goal.returns-in_err-report
+returns-in_err-report g c =
+    let p = err_from_is_err_and c.from_residual-in_err-report.result c.from_residual-in_err-report.ensures.1 in
+    let looked = c.in_ok-guard_output.ensures in
+    let again = c.in_ok-guard_report.ensures in
+    let made = c.in_err-report.ensures in
+    let later = draw_keys _ ∷ create _ _ ∷ made.0 in
+    rw p.1 rw p.2 (
+      read _ _ ∷ read _ _ ∷ open_input _ _ ∷ looked.0 ++ (again.0 ++ later),
+      (
+        _,
+        c.in_ok-rules.ensures,
+        (
+          _,
+          c.in_ok-plant.ensures,
+          (
+            _,
+            c.in_ok-input.ensures,
+            Leads-append g.H.Host.happens _ _ _ looked.0 _ looked.1
+                (Leads-append g.H.Host.happens _ _ _ again.0 _ again.1 (_, c.in_ok-hasher.ensures, (_, c.in_ok-output.ensures, made.1))),
           ),
         ),
       ),
@@ -96,7 +126,17 @@ returns-in_err-torn g c =
         refl,
         (
           refl,
-          (refl, looked.2 _ _ _ later _ (refl, (refl, c.deref.ensures.value, c.deref-2.ensures.value, refl, refl, refl, p.2))),
+          (
+            refl,
+            (
+              looked.0,
+              _,
+              again.0 ++ later,
+              looked.2,
+              refl,
+              (again.0, _, later, again.2, refl, (refl, (made.0, _, [], made.2, sym (append-nil made.0), (refl, refl)))),
+            ),
+          ),
         ),
       ),
     )
@@ -104,8 +144,11 @@ returns-in_err-torn g c =
 pub returns : goal.returns
 returns g c =
     let looked = c.in_ok-guard_output.ensures in
-    let later = draw_keys _ ∷ create _ _ ∷ run _ _ _ _ _ _ _ _ _ ∷ [] in (
-      read _ _ ∷ read _ _ ∷ open_input _ _ ∷ looked.0 ++ later,
+    let again = c.in_ok-guard_report.ensures in
+    let made = c.in_ok-report.ensures in
+    let played = c.play.ensures in
+    let later = draw_keys _ ∷ create _ _ ∷ (made.0 ++ played.0) in (
+      read _ _ ∷ read _ _ ∷ open_input _ _ ∷ looked.0 ++ (again.0 ++ later),
       (
         _,
         c.in_ok-rules.ensures,
@@ -115,7 +158,9 @@ returns g c =
           (
             _,
             c.in_ok-input.ensures,
-            Leads-append g.H.Host.happens _ _ _ looked.0 _ looked.1 (_, c.in_ok-hasher.ensures, (_, c.in_ok-output.ensures, (_, c.in_ok-torn.ensures, refl))),
+            Leads-append g.H.Host.happens _ _ _ looked.0 _ looked.1
+                (Leads-append g.H.Host.happens _ _ _ again.0 _ again.1
+                (_, c.in_ok-hasher.ensures, (_, c.in_ok-output.ensures, Leads-append g.H.Host.happens _ _ _ made.0 _ made.1 played.1))),
           ),
         ),
       ),
@@ -123,7 +168,17 @@ returns g c =
         refl,
         (
           refl,
-          (refl, looked.2 _ _ _ later _ (refl, (refl, c.deref.ensures.value, c.deref-2.ensures.value, refl, refl, refl, refl))),
+          (
+            refl,
+            (
+              looked.0,
+              _,
+              again.0 ++ later,
+              looked.2,
+              refl,
+              (again.0, _, later, again.2, refl, (refl, (made.0, _, played.0, made.2, refl, rw (← c.deref.ensures.value, ← c.deref-2.ensures.value) played.2))),
+            ),
+          ),
         ),
       ),
     )
