@@ -12,6 +12,7 @@ fn is_sought(text: &[u8], level: Level, start: usize) -> bool {
     match level {
         Level::Rules => !declares && !has_at(text, start, b"default"),
         Level::Declarations => declares,
+        Level::Sets | Level::Tables => false,
     }
 }
 
