@@ -365,8 +365,15 @@ impl Listing<'_> {
         let before = placed[start..end]
             .iter()
             .take_while(|rule| rule.part.start <= part.start)
-            .count();
-        let offset = self.word_of(alloc, plant, rest, &placed[start..start + before], &code)?;
+            .count()
+            .min(end - start);
+        let offset = self.word_of(
+            alloc,
+            plant,
+            rest,
+            &placed[start..start + before],
+            code.as_str(),
+        )?;
         placed.retain(|rule| rule.part.start != part.start);
         self.add(offset, code)?;
         let end = end - 1;
@@ -391,7 +398,7 @@ impl Listing<'_> {
         if matches!(code.as_str(), "N02" | "N03") && self.names_gone(alloc, rule.part)? {
             return Ok(());
         }
-        let offset = self.word_of(alloc, plant, rest, &[rule], &code)?;
+        let offset = self.word_of(alloc, plant, rest, &[rule], code.as_str())?;
         self.add(offset, code)
     }
 
@@ -402,16 +409,13 @@ impl Listing<'_> {
         plant: &[u8],
         rest: &[u8],
         placed: &[Placed],
-        code: &String,
+        code: &str,
     ) -> Result<usize, AllocError> {
         let (Some(place), Some(rule)) = (last_place(placed), placed.last()) else {
             return Ok(0);
         };
         let text = with_parts(alloc, &self.left, rest, placed)?;
-        let subject = Subject::Rules {
-            code: code.as_str(),
-            plant,
-        };
+        let subject = Subject::Rules { code, plant };
         let found = subject.inside(alloc, &text, place, Depth::Rule)?;
         let within = found.offset.saturating_sub(place.start);
         Ok(rule.part.start.saturating_add(within))
