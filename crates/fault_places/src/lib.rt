@@ -4,12 +4,22 @@
 //! one it is.
 #![tactic(auto)]
 
+mod assembling;
+mod braces;
 mod lines;
+mod listing;
 mod masking;
 mod parts;
 mod position;
+mod surroundings;
+mod wording;
 
+pub use assembling::{Placed, Stripped, last_place, strip, with_parts};
+pub use braces::{OpenBrace, braces_match, unclosed_brace};
 pub use lines::box_lines;
+pub use listing::{Depth, elements};
 pub use masking::mask;
 pub use parts::{Level, Span, spans};
-pub use position::{Position, place_at};
+pub use position::{Position, line_at, place_at};
+pub use surroundings::{Surroundings, surroundings_at};
+pub use wording::words;

@@ -5,17 +5,20 @@ ghost use Rattle.fault_places.specs.Within.{AllWithin};
 use crate::parts::{Level, Span, has_at};
 use std::alloc::{AllocError, Global};
 
-/// Whether a line is sought: an `interface` line is a declaration, and what is neither that nor the
-/// `default` line stands for a rule.
+/// Whether a line is sought: an `interface` line is a declaration, the `default` line stands for a
+/// table, and any other for a rule.
 fn is_sought(text: &[u8], level: Level, start: usize) -> bool {
     let declares = has_at(text, start, b"interface");
     match level {
         Level::Rules => !declares && !has_at(text, start, b"default"),
         Level::Declarations => declares,
+        Level::Sets => false,
+        Level::Tables => has_at(text, start, b"default"),
     }
 }
 
-/// The lines of a box file that stand for rules, or its `interface` lines, in their order.
+/// The lines of a box file that stand for rules, its `interface` lines, or its `default` line, in their
+/// order.
 ///
 /// # Errors
 /// `AllocError` where there is no room to grow.

@@ -1,4 +1,4 @@
-//! The rules and the declarations of a ruleset's text, by its braces alone.
+//! The parts of a ruleset's text, by its braces alone: tables, declarations, rules.
 ghost use Rattle.std.specs.Prelude.{IfOk, length};
 ghost use Rattle.fault_places.specs.Within.{AllWithin};
 
@@ -16,28 +16,42 @@ pub struct Span {
 pub enum Level {
     /// The rules of chains: what stands two braces deep, but for `type`, `policy` and `comment`.
     Rules,
+    /// The sets and maps of tables.
+    Sets,
     /// The chains, sets and maps of tables: what stands one brace deep.
     Declarations,
+    /// The tables: what stands in no brace.
+    Tables,
 }
 
 /// What a scan knows at an offset.
 #[derive(Clone, Copy)]
 struct Scan {
     depth: usize,
-    /// Whether the offset is within a string, or within a comment.
-    quoted: bool,
-    comment: bool,
-    /// Where the declaration and the rule begin that the offset is in.
+    quotes: Quotes,
+    /// Where the table, the declaration and the rule begin that the offset is in.
+    table: Option<usize>,
     declaration: Option<usize>,
     rule: Option<usize>,
 }
 
-impl Scan {
-    /// Whether the byte is one of a string or of a comment.
-    fn skips(&mut self, byte: u8) -> bool {
+/// Whether an offset is within a string, or within a comment.
+#[derive(Clone, Copy)]
+pub struct Quotes {
+    quoted: bool,
+    comment: bool,
+}
+
+impl Quotes {
+    pub const NONE: Quotes = Quotes {
+        quoted: false,
+        comment: false,
+    };
+
+    /// Takes a byte, and tells whether it is one of a string or of a comment.
+    pub fn skips(&mut self, byte: u8) -> bool {
         if byte == b'\n' {
-            self.quoted = false;
-            self.comment = false;
+            *self = Quotes::NONE;
             return false;
         }
         if self.comment {
@@ -53,9 +67,22 @@ impl Scan {
         }
         self.quoted
     }
+}
+
+impl Scan {
+    const START: Scan = Scan {
+        depth: 0,
+        quotes: Quotes::NONE,
+        table: None,
+        declaration: None,
+        rule: None,
+    };
 
     /// A part may begin at this offset.
     fn begin(&mut self, place: usize) {
+        if self.depth == 0 && self.table.is_none() {
+            self.table = Some(place);
+        }
         if self.depth == 1 && self.declaration.is_none() {
             self.declaration = Some(place);
         }
@@ -66,48 +93,72 @@ impl Scan {
 
     /// What ends before this offset, at a line's end or a semicolon.
     fn separate(&mut self, level: Level, place: usize) -> Option<Span> {
-        if self.depth == 1 {
-            let declaration = part(self.declaration.take(), place);
-            return if level == Level::Declarations {
-                declaration
-            } else {
-                None
-            };
+        let (start, own) = match self.depth {
+            0 => (self.table.take(), Level::Tables),
+            1 => (self.declaration.take(), Level::Declarations),
+            2 => (self.rule.take(), Level::Rules),
+            _ => return None,
+        };
+        if own == level {
+            part(start, place)
+        } else {
+            None
         }
-        if self.depth == 2 && level == Level::Rules {
-            return part(self.rule.take(), place);
-        }
-        None
     }
 
-    /// What ends with the brace at this offset.
+    /// What ends with the brace at this offset. A brace that closes nothing is a part by itself.
     fn close(&mut self, level: Level, place: usize) -> Option<Span> {
         let depth = self.depth;
+        let behind = place.saturating_add(1);
         self.depth = depth.saturating_sub(1);
-        if depth != 2 {
-            return None;
+        match (depth, level) {
+            (0, Level::Tables) => Some(Span {
+                start: self.table.take().unwrap_or(place),
+                end: behind,
+            }),
+            (1, _) => self.close_table(level, behind),
+            (2, _) => self.close_declaration(level, place),
+            _ => None,
         }
+    }
+
+    fn close_table(&mut self, level: Level, behind: usize) -> Option<Span> {
+        let left = part(self.declaration.take(), behind.saturating_sub(1));
+        let table = part(self.table.take(), behind);
+        match level {
+            Level::Declarations => left,
+            Level::Tables => table,
+            _ => None,
+        }
+    }
+
+    fn close_declaration(&mut self, level: Level, place: usize) -> Option<Span> {
         let rule = part(self.rule.take(), place);
         let declaration = part(self.declaration.take(), place.saturating_add(1));
         match level {
             Level::Rules => rule,
-            Level::Declarations => declaration,
+            Level::Sets | Level::Declarations => declaration,
+            Level::Tables => None,
         }
     }
 
     /// Takes the byte at an offset, and tells which part ends there.
     fn step(&mut self, level: Level, byte: u8, place: usize) -> Option<Span> {
-        if self.skips(byte) {
+        if self.quotes.skips(byte) {
+            if byte == b'"' {
+                self.begin(place);
+            }
             return None;
         }
         match byte {
             b'{' => {
+                self.begin(place);
                 self.depth = self.depth.saturating_add(1);
                 None
             }
             b'}' => self.close(level, place),
             b'\n' | b';' | b'#' => self.separate(level, place),
-            b' ' | b'\t' => None,
+            b' ' | b'\t' | b'\r' => None,
             _ => {
                 self.begin(place);
                 None
@@ -138,7 +189,16 @@ fn is_rule(text: &[u8], declaration: Option<usize>, start: usize) -> bool {
         && !has_at(text, start, b"comment ")
 }
 
-/// The rules or the declarations of a text, in their order.
+/// Whether a part of the text is one of its level.
+fn is_sought(text: &[u8], level: Level, declaration: Option<usize>, start: usize) -> bool {
+    match level {
+        Level::Rules => is_rule(text, declaration, start),
+        Level::Sets => has_at(text, start, b"set ") || has_at(text, start, b"map "),
+        Level::Declarations | Level::Tables => true,
+    }
+}
+
+/// The parts of a level in a text, in their order.
 ///
 /// # Errors
 /// `AllocError` where there is no room to grow.
@@ -147,19 +207,13 @@ pub fn spans(alloc: Global, text: &[u8], level: Level) -> Result<Vec<Span>, Allo
     ensures { IfOk result (λ parts. AllWithin (length text.entry.now) parts.items) }
 {
     let mut parts = Vec::new(alloc);
-    let mut scan = Scan {
-        depth: 0,
-        quoted: false,
-        comment: false,
-        declaration: None,
-        rule: None,
-    };
+    let mut scan = Scan::START;
     for (place, byte) in text.iter().enumerate() {
         let declaration = scan.declaration;
         let Some(part) = scan.step(level, *byte, place) else {
             continue;
         };
-        if level == Level::Rules && !is_rule(text, declaration, part.start) {
+        if !is_sought(text, level, declaration, part.start) {
             continue;
         }
         if part.start <= part.end && part.end <= text.len() {

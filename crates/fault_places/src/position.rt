@@ -1,5 +1,8 @@
 //! The line and the column of an offset.
-ghost use Rattle.std.specs.Prelude.{◌≡◌, ◌≤◌, ◌+◌, length};
+ghost use Rattle.std.specs.Prelude.{◌≡◌, ◌≤◌, ◌+◌, IfSome, length};
+ghost use Rattle.fault_places.specs.Within.{IsWithin};
+
+use crate::parts::Span;
 
 /// Where an offset stands in a text, and the line that has it.
 #[derive(Clone, Copy)]
@@ -50,4 +53,29 @@ fn line_end(text: &[u8], offset: usize) -> usize
         }
     }
     text.len()
+}
+
+/// The line with this number, which counts from 1.
+pub fn line_at(text: &[u8], number: usize) -> Option<Span>
+    ensures { IfSome result (IsWithin (length text.now)) }
+{
+    let mut line = 1;
+    let mut start = 0;
+    for (place, byte) in text.iter().enumerate() {
+        if *byte != b'\n' {
+            continue;
+        }
+        if line == number {
+            return Some(Span { start, end: place });
+        }
+        line += 1;
+        start = place + 1;
+    }
+    if line == number {
+        return Some(Span {
+            start,
+            end: text.len(),
+        });
+    }
+    None
 }

@@ -40,6 +40,8 @@ pub data Call (Input Output : Type 0) : Type 0 where
   tell : Status → Call Input Output
   -- what a status of a task means, and where its fault is
   clarify : Status → Task → Call Input Output
+  -- all faults of a task's ruleset and box
+  list_faults : Task → Call Input Output
   -- what a code means
   show : Text → Result ⊤ Error → Call Input Output
   -- what clap says of the words

@@ -6,7 +6,7 @@ use Rattle.command_line.specs.CommandLine.{Asks, is_explained, is_well_formed, t
 use Rattle.command_line.specs.declared.task.Task.{Task}
 use Rattle.command_line.specs.declared.task.Task.TheVariants.{Run, Check, Explain}
 use Rattle.explanations.specs.Codes.{is_code}
-use Rattle.program.specs.Calls.{Call, Text, words, clarify, explain, show, tell}
+use Rattle.program.specs.Calls.{Call, Text, words, clarify, list_faults, explain, show, tell}
 use Rattle.program.specs.Examining.{Examines}
 use Rattle.program.specs.Replaying.{Replays}
 use Rattle.program.specs.Status.{code_of, has_line, of_error, of_words_error}
@@ -44,11 +44,24 @@ abbrev pub lines_of : {I O : Type 0} → Status → List (Call I O)
 lines_of status = if has_line status then tell status ∷ [] else []
 
 -- with `--explain`, what the status means, where it has a line
+abbrev pub clarified : {I O : Type 0} → Bool → Task → Status → List (Call I O)
+clarified explained task status = if explained && has_line status then clarify status task ∷ [] else []
+
+-- a check with `--all`
+abbrev pub asks_all : Task → Bool
+asks_all (Check task) = task.all
+asks_all _ = false
+
+-- with `--all`, all faults, where the status has a line
+abbrev pub listed : {I O : Type 0} → Task → Status → List (Call I O)
+listed task status = if asks_all task && has_line status then list_faults task ∷ [] else []
+
+-- what is added to the line
 abbrev pub added : {I O : Type 0} → Bool → Task → Status → List (Call I O)
-added explained task status = if explained && has_line status then clarify status task ∷ [] else []
+added explained task status = clarified explained task status ++ listed task status
 
 -- what the words ask for is done, or they are no task; words of the right form are none only where there was no room to
--- grow. `--explain` is in none of these words: all that it does is to add a call, which follows the line
+-- grow. `--explain` is in none of these words: all that it does is to add a call, which follows the line; so does `--all`
 abbrev pub Acts : {I O : Type 0} → Bool → List Text → List (Call I O) → Status → List (Call I O) → Type 0
 Acts explained given calls status last =
     ((task : Task) × Asks given task × Serves task calls status × (last ≡ added explained task status))

@@ -19,7 +19,7 @@ pub trait Host {
     ghost use Rattle.std.specs.Prelude.{◌≡◌, None, Some};
     ghost use Rattle.std.specs.Result.{result_map_both};
     ghost use Rattle.clap.specs.Values.{kind_of};
-    ghost use Rattle.program.specs.Calls.{Call, words, read, open_input, identify, draw_keys, create, run, judge, announce, tell, clarify, show, explain, texts_of, bytes_of};
+    ghost use Rattle.program.specs.Calls.{Call, words, read, open_input, identify, draw_keys, create, run, judge, announce, tell, clarify, list_faults, show, explain, texts_of, bytes_of};
 
     /// A capture open for reading.
     type Input: Drop;
@@ -103,6 +103,11 @@ pub trait Host {
     /// another look at the task's files shows. A place is a help and no promise.
     fn clarify(&mut self, status: Status, task: &Task<'_>)
         ensures { happens self.old (clarify status task.now) self.new };
+
+    /// Prints all faults of a task's ruleset and box to standard error, as far as another look at
+    /// its files shows them.
+    fn list_faults(&mut self, task: &Task<'_>)
+        ensures { happens self.old (list_faults task.now) self.new };
 
     /// Prints what a code means to standard output.
     fn show(&mut self, explanation: &Explanation) -> io::Result<()>

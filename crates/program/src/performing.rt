@@ -4,7 +4,7 @@ ghost use Rattle.program.specs.Status.{code_of};
 ghost use Rattle.program.specs.steps.Ending.{Ends};
 ghost use Rattle.clap.specs.Values.{kind_of};
 ghost use Rattle.program.specs.Calls.{Call, Leads};
-ghost use Rattle.program.specs.Performing.{Explains, Performs, Serves, Shows, added, lines_of, shown};
+ghost use Rattle.program.specs.Performing.{Explains, Performs, Serves, Shows, added, asks_all, clarified, lines_of, listed, shown};
 
 use crate::examining::examine;
 use crate::host::Host;
@@ -16,7 +16,8 @@ use command_line::{Task, read_task, take_explain};
 use std::alloc::{AllocError, Global};
 
 /// Does what the process's words ask for, prints the line of a status that has one, behind it what
-/// it means where `--explain` asks for that, and answers the exit status.
+/// it means where `--explain` asks for that and all faults where `--all` does, and answers the exit
+/// status.
 pub fn perform<H: Host>(alloc: Global, host: &mut H) -> u8
     // These are all calls, in their order, the line and what is added to it last.
     ensures { (calls : List (Call H.Input H.Output)) × Leads H.happens host.old calls host.new × Performs calls result }
@@ -82,12 +83,39 @@ fn serve<H: Host>(host: &mut H, task: &Task<'_>) -> Status
     }
 }
 
-/// Says what the status means, where that was asked for and there is a line.
+/// Says more where that was asked for and there is a line.
 fn clarify<H: Host>(host: &mut H, explained: bool, status: Status, task: &Task<'_>)
     ensures { Leads H.happens host.old (added explained task.now status) host.new }
 {
+    tell_meaning(host, explained, status, task);
+    list_faults(host, status, task);
+}
+
+/// Says what the status means.
+fn tell_meaning<H: Host>(host: &mut H, explained: bool, status: Status, task: &Task<'_>)
+    ensures { Leads H.happens host.old (clarified explained task.now status) host.new }
+{
     if explained && status.has_line() {
         host.clarify(status, task);
+    }
+}
+
+/// Lists all faults.
+fn list_faults<H: Host>(host: &mut H, status: Status, task: &Task<'_>)
+    ensures { Leads H.happens host.old (listed task.now status) host.new }
+{
+    if asks_all(task) && status.has_line() {
+        host.list_faults(task);
+    }
+}
+
+/// Whether all faults are asked for.
+fn asks_all(task: &Task<'_>) -> bool
+    ensures { result ≡ asks_all task.now }
+{
+    match task {
+        Task::Check(task) => task.all,
+        _ => false,
     }
 }
 

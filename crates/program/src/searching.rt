@@ -3,8 +3,19 @@
 //! A place is a help and no promise: no contract says which one is told.
 use box_file::{BoxError, Plant};
 use engine::RunFault;
-use fault_places::{Level, Span, box_lines, mask, spans};
+use fault_places::{
+    Depth, Level, Placed, Span, Stripped, box_lines, elements, mask, spans, strip, with_parts,
+    words,
+};
 use std::alloc::{AllocError, Global};
+
+/// The levels of parts, in the order in which they are taken out.
+const LEVELS: [Level; 4] = [
+    Level::Rules,
+    Level::Sets,
+    Level::Declarations,
+    Level::Tables,
+];
 
 /// What is searched, and for which code.
 #[derive(Clone, Copy)]
@@ -15,17 +26,42 @@ pub enum Subject<'a> {
     Box { code: &'a str },
 }
 
-impl Subject<'_> {
-    /// The part of the text with which the fault comes: the last of the fewest rules that have it,
-    /// the declarations given, or else the last of the fewest declarations.
-    pub fn place(&self, alloc: Global, text: &[u8]) -> Result<Option<Span>, AllocError> {
-        let rules = self.parts(alloc, text, Level::Rules)?;
-        if let Some(found) = self.first(alloc, text, &rules)? {
-            return Ok(Some(found));
+/// Where a fault is.
+#[derive(Clone, Copy)]
+pub struct Place {
+    /// The offset that is told.
+    pub offset: usize,
+    /// The part that has it: an element, a rule, a set, a map, a chain, a table or a line.
+    pub part: Span,
+    /// The same, but for an element that which it stands in.
+    pub outer: Span,
+}
+
+impl Place {
+    fn at_start(part: Span) -> Place {
+        Place {
+            offset: part.start,
+            part,
+            outer: part,
         }
-        let bare = masked(alloc, text, &rules)?;
-        let declarations = self.parts(alloc, &bare, Level::Declarations)?;
-        self.first(alloc, &bare, &declarations)
+    }
+}
+
+impl Subject<'_> {
+    /// The place of the part of the text with which the fault comes: the last of the fewest rules
+    /// that have it, the declarations given, or else the last of the fewest sets and maps, of the
+    /// fewest declarations, of the fewest tables.
+    pub fn place(&self, alloc: Global, text: &[u8]) -> Result<Option<Place>, AllocError> {
+        let mut left = text.to_vec(alloc)?;
+        for level in LEVELS {
+            let parts = self.parts(alloc, text, level)?;
+            let Stripped { rest, placed } = strip(alloc, &left, &parts)?;
+            if let Some(part) = self.first(alloc, &left, &rest, &placed)? {
+                return Ok(Some(self.within(alloc, &mut left, &parts, part, level)?));
+            }
+            mask(&mut left, &parts);
+        }
+        Ok(None)
     }
 
     fn parts(&self, alloc: Global, text: &[u8], level: Level) -> Result<Vec<Span>, AllocError> {
@@ -35,27 +71,155 @@ impl Subject<'_> {
         }
     }
 
-    // The last of the fewest parts that have the fault, of those that have it all together.
-    fn first(
+    /// The last of the fewest parts that have the fault, of those that have it all together; none
+    /// where the rest of the text has it without them.
+    pub fn first(
         &self,
         alloc: Global,
         text: &[u8],
-        parts: &[Span],
+        rest: &[u8],
+        placed: &[Placed],
     ) -> Result<Option<Span>, AllocError> {
-        if parts.is_empty() || self.fails(alloc, &masked(alloc, text, parts)?)? {
+        if placed.is_empty() || self.fails(alloc, rest)? {
             return Ok(None);
         }
         let mut without = 0;
-        let mut with = parts.len();
+        let mut with = placed.len();
         while with - without > 1 {
             let middle = without + (with - without) / 2;
-            if self.fails(alloc, &masked(alloc, text, &parts[middle..])?)? {
+            if self.fails_with(alloc, text, rest, &placed[..middle])? {
                 with = middle;
             } else {
                 without = middle;
             }
         }
-        Ok(Some(parts[with - 1]))
+        Ok(Some(placed[with - 1].part))
+    }
+
+    /// The place within a part that has the fault, the parts of its level behind it masked.
+    fn within(
+        &self,
+        alloc: Global,
+        left: &mut [u8],
+        parts: &[Span],
+        part: Span,
+        level: Level,
+    ) -> Result<Place, AllocError> {
+        for other in parts {
+            if part.end <= other.start {
+                mask(left, &[*other]);
+            }
+        }
+        match (self, level) {
+            (Subject::Rules { .. }, Level::Rules) => self.inside(alloc, left, part, Depth::Rule),
+            (Subject::Rules { .. }, Level::Sets) => self.inside(alloc, left, part, Depth::Set),
+            (Subject::Rules { code, .. }, Level::Declarations) if *code != "N01" => {
+                let offset = self.word_in_head(alloc, left, part)?;
+                Ok(Place {
+                    offset,
+                    part,
+                    outer: part,
+                })
+            }
+            _ => Ok(Place::at_start(part)),
+        }
+    }
+
+    /// The last word of the shortest beginning of a chain that has the fault, its last brace behind
+    /// it.
+    fn word_in_head(&self, alloc: Global, text: &[u8], chain: Span) -> Result<usize, AllocError> {
+        let found = words(alloc, text, chain)?;
+        let Some((_, head)) = found.split_last() else {
+            return Ok(chain.start);
+        };
+        let Stripped { rest, placed } = strip(alloc, text, head)?;
+        for count in 1..placed.len() {
+            if self.fails_with(alloc, text, &rest, &placed[..count])? {
+                return Ok(placed[count - 1].part.start);
+            }
+        }
+        Ok(chain.start)
+    }
+
+    /// The place within a rule, a set or a map that has the fault, where nothing behind it has it:
+    /// an element, where it comes with that, or a word of a rule.
+    pub fn inside(
+        &self,
+        alloc: Global,
+        text: &[u8],
+        part: Span,
+        depth: Depth,
+    ) -> Result<Place, AllocError> {
+        let listed = elements(alloc, text, part, depth)?;
+        let Stripped { rest, placed } = strip(alloc, text, &listed)?;
+        if let Some(found) = self.first(alloc, text, &rest, &placed)? {
+            if self.comes_with(alloc, text, &rest, &placed, found)? {
+                return Ok(Place {
+                    offset: found.start,
+                    part: found,
+                    outer: part,
+                });
+            }
+        }
+        let mut place = Place::at_start(part);
+        if depth == Depth::Rule {
+            place.offset = self.word(alloc, text, part)?;
+        }
+        Ok(place)
+    }
+
+    /// Whether the fault comes with this element, and not with the part around its list: it is gone
+    /// without the elements up to this one, or it is of elements alone.
+    fn comes_with(
+        &self,
+        alloc: Global,
+        text: &[u8],
+        rest: &[u8],
+        placed: &[Placed],
+        found: Span,
+    ) -> Result<bool, AllocError> {
+        match placed.split_first() {
+            Some((first, others)) if first.part.start == found.start => {
+                if others.is_empty() {
+                    return Ok(self.is_of_elements());
+                }
+                Ok(!self.fails_with(alloc, text, rest, others)?)
+            }
+            _ => Ok(true),
+        }
+    }
+
+    /// Whether the fault is mostly one of elements.
+    fn is_of_elements(&self) -> bool {
+        match self {
+            Subject::Rules { code, .. } => matches!(*code, "N02" | "N07" | "N09" | "N12" | "N13"),
+            Subject::Box { .. } => false,
+        }
+    }
+
+    /// The last word of the shortest beginning of a rule that has the fault.
+    fn word(&self, alloc: Global, text: &[u8], rule: Span) -> Result<usize, AllocError> {
+        let found = words(alloc, text, rule)?;
+        let Stripped { rest, placed } = strip(alloc, text, &found)?;
+        for count in 1..placed.len() {
+            if self.fails_with(alloc, text, &rest, &placed[..count])? {
+                return Ok(placed[count - 1].part.start);
+            }
+        }
+        match placed.last() {
+            Some(last) => Ok(last.part.start),
+            None => Ok(rule.start),
+        }
+    }
+
+    fn fails_with(
+        &self,
+        alloc: Global,
+        text: &[u8],
+        rest: &[u8],
+        placed: &[Placed],
+    ) -> Result<bool, AllocError> {
+        self.fails(alloc, &with_parts(alloc, text, rest, placed)?)
     }
 
     // Whether the text has the fault.
@@ -64,29 +228,17 @@ impl Subject<'_> {
             Subject::Rules { code, plant } => match engine::judge(alloc, text, plant) {
                 Err(RunFault::Rules(fault)) => {
                     let found = format!(in alloc; "{fault}")?;
-                    Ok(is_same(found.as_str(), code))
+                    Ok(found.as_str() == *code)
                 }
                 _ => Ok(false),
             },
             Subject::Box { code } => match Plant::read(alloc, text) {
                 Err(BoxError::Refused(fault)) => {
                     let found = format!(in alloc; "{fault}")?;
-                    Ok(is_same(found.as_str(), code))
+                    Ok(found.as_str() == *code)
                 }
                 _ => Ok(false),
             },
         }
     }
-}
-
-// E05 and E06 are one here: with fewer rules the word that is left out may be gone.
-fn is_same(found: &str, code: &str) -> bool {
-    found == code || (found.starts_with("E0") && code.starts_with("E0"))
-}
-
-/// The text without these parts.
-fn masked(alloc: Global, text: &[u8], parts: &[Span]) -> Result<Vec<u8>, AllocError> {
-    let mut copy = text.to_vec(alloc)?;
-    mask(&mut copy, parts);
-    Ok(copy)
 }

@@ -1,5 +1,5 @@
 //! The system's own files and outputs, and the run and the judgement over them.
-use crate::clarifying::clarify;
+use crate::clarifying::{clarify, list_faults};
 use crate::host::Host;
 use crate::identity::FileIdentity;
 use crate::performing::perform;
@@ -20,6 +20,68 @@ use std::{fs, io};
 #[derive(Drop)]
 struct System<'a, R> {
     rt: &'a R,
+    /// The last call that failed.
+    failed: Option<Failed>,
+}
+
+/// A call that failed.
+#[derive(Drop)]
+enum Failed {
+    /// What it was made on, and what the system said.
+    Call(String),
+    /// A read of IN.
+    Read,
+    /// A write to OUT.
+    Write,
+    /// A write of the report.
+    Report,
+}
+
+impl Failed {
+    /// The call of a run that failed, by how many of each did.
+    fn in_run(reads: u64, writes: u64, reports: u64) -> Option<Failed> {
+        if reads > 0 {
+            Some(Failed::Read)
+        } else if writes > 0 {
+            Some(Failed::Write)
+        } else if reports > 0 {
+            Some(Failed::Report)
+        } else {
+            None
+        }
+    }
+}
+
+impl<R: AllocGlobal> System<'_, R> {
+    /// Keeps what the system said of a call that failed.
+    fn keep<T>(&mut self, subject: &str, answer: io::Result<T>) -> io::Result<T> {
+        if let Err(error) = &answer {
+            let said = format!(in self.rt.alloc(); "{subject}: {error}");
+            self.failed = match said {
+                Ok(said) => Some(Failed::Call(said)),
+                Err(_) => None,
+            };
+        }
+        answer
+    }
+}
+
+impl<R: Eprint + AllocGlobal> System<'_, R> {
+    /// Prints which call failed.
+    fn tell_failed(&self, task: &Task<'_>) -> io::Result<()> {
+        let rt = self.rt;
+        match (&self.failed, task) {
+            (Some(Failed::Call(said)), _) => eprintln!(rt; "{}", said.as_str()),
+            (Some(Failed::Read), Task::Run(run)) => {
+                eprintln!(rt; "{}: a read failed", run.paths.input)
+            }
+            (Some(Failed::Write), Task::Run(run)) => {
+                eprintln!(rt; "{}: a write failed", run.paths.output)
+            }
+            (Some(Failed::Report), _) => eprintln!(rt; "standard output: a write failed"),
+            _ => Ok(()),
+        }
+    }
 }
 
 impl<R: Env + Files + Print + Eprint + RandomSource + AllocGlobal> Host for System<'_, R> {
@@ -38,16 +100,19 @@ impl<R: Env + Files + Print + Eprint + RandomSource + AllocGlobal> Host for Syst
     }
 
     fn read(&mut self, path: &str) -> io::Result<Vec<u8>> {
-        fs::read(self.rt, path)
+        let answer = fs::read(self.rt, path);
+        self.keep(path, answer)
     }
 
     fn open(&mut self, path: &str) -> io::Result<Self::Input> {
-        Ok(Counted::new(fs::open(self.rt, path)?))
+        let answer = fs::open(self.rt, path);
+        Ok(Counted::new(self.keep(path, answer)?))
     }
 
     // It goes through links, symbolic ones too.
     fn identify(&mut self, path: &str) -> io::Result<FileIdentity> {
-        let found = fs::metadata(self.rt, path)?;
+        let answer = fs::metadata(self.rt, path);
+        let found = self.keep(path, answer)?;
         Ok(FileIdentity {
             is_regular: found.is_file(),
             device: found.dev(),
@@ -56,11 +121,13 @@ impl<R: Env + Files + Print + Eprint + RandomSource + AllocGlobal> Host for Syst
     }
 
     fn draw_keys(&mut self) -> io::Result<RandomState> {
-        RandomState::new(self.rt)
+        let answer = RandomState::new(self.rt);
+        self.keep("random bytes", answer)
     }
 
     fn create(&mut self, path: &str) -> io::Result<Self::Output> {
-        Ok(Counted::new(fs::create(self.rt, path)?))
+        let answer = fs::create(self.rt, path);
+        Ok(Counted::new(self.keep(path, answer)?))
     }
 
     fn run(
@@ -73,7 +140,7 @@ impl<R: Env + Files + Print + Eprint + RandomSource + AllocGlobal> Host for Syst
         trace: bool,
     ) -> Result<bool, RunFault> {
         let mut report = Counted::new(io::writer(self.rt));
-        let summary = engine::run(
+        let outcome = engine::run(
             self.rt.alloc(),
             hasher,
             rules,
@@ -82,7 +149,9 @@ impl<R: Env + Files + Print + Eprint + RandomSource + AllocGlobal> Host for Syst
             output,
             &mut report,
             trace,
-        )?;
+        );
+        self.failed = Failed::in_run(input.failures(), output.failures(), report.failures());
+        let summary = outcome?;
         Ok(summary.torn)
     }
 
@@ -115,10 +184,11 @@ impl<R: Env + Files + Print + Eprint + RandomSource + AllocGlobal> Host for Syst
 
     fn announce(&mut self, counts: Counts) -> io::Result<()> {
         let rt = self.rt;
-        println!(rt;
+        let answer = println!(rt;
             "accepted tables {} chains {} rules {}",
             counts.tables, counts.chains, counts.rules
-        )
+        );
+        self.keep("standard output", answer)
     }
 
     fn tell(&mut self, status: Status) {
@@ -128,6 +198,13 @@ impl<R: Env + Files + Print + Eprint + RandomSource + AllocGlobal> Host for Syst
 
     fn clarify(&mut self, status: Status, task: &Task<'_>) {
         clarify(self.rt, status, task);
+        if matches!(status, Status::Device) {
+            let _ = self.tell_failed(task);
+        }
+    }
+
+    fn list_faults(&mut self, task: &Task<'_>) {
+        list_faults(self.rt, task);
     }
 
     fn show(&mut self, explanation: &Explanation) -> io::Result<()> {
@@ -145,5 +222,5 @@ impl<R: Env + Files + Print + Eprint + RandomSource + AllocGlobal> Host for Syst
 
 /// Does what the process's own words ask for, and answers its exit status.
 pub fn start<R: Env + Files + Print + Eprint + RandomSource + AllocGlobal>(rt: &R) -> u8 {
-    perform(rt.alloc(), &mut System { rt })
+    perform(rt.alloc(), &mut System { rt, failed: None })
 }

@@ -285,6 +285,10 @@ impl Host for Recorder {
         }
     }
 
+    fn list_faults(&mut self, _task: &Task<'_>) {
+        let _ = self.note(&[b"list_faults"]);
+    }
+
     fn show(&mut self, explanation: &Explanation) -> io::Result<()> {
         self.note(&[b"show ", explanation.code.as_bytes()])
     }
@@ -320,7 +324,7 @@ fn ends<R: Abort + AllocGlobal>(rt: &R, row: Row) -> Result<(), Fail> {
 /// standard output isn't; words that can't be read; a fault of a run; a line that can't be told, which changes nothing; words that are no
 /// task, and help. A check; one that refuses; a box that can't be read; a line that can't be printed.
 /// What a fault means, where there is one and that is asked for; a path `--explain`; what a code means.
-const ROWS: [Row; 27] = [
+const ROWS: [Row; 30] = [
     DONE,
     Row {
         words: &["nftrun", "run", "--trace", "rules", "box", "in", "out"],
@@ -442,6 +446,24 @@ const ROWS: [Row; 27] = [
         judged: Err(RunFault::Rules(RulesFault::Check(CheckFault::TooCostly))),
         last: "judge rules box\ntell nftrun: rules N06\nclarify check nftrun: rules N06\n",
         code: 1,
+        ..CHECKED
+    },
+    Row {
+        words: &["nftrun", "check", "--all", "rules", "box"],
+        judged: Err(RunFault::Rules(RulesFault::Check(CheckFault::TooCostly))),
+        last: "judge rules box\ntell nftrun: rules N06\nlist_faults\n",
+        code: 1,
+        ..CHECKED
+    },
+    Row {
+        words: &["nftrun", "check", "--all", "--explain", "rules", "box"],
+        judged: Err(RunFault::Rules(RulesFault::Check(CheckFault::TooCostly))),
+        last: "tell nftrun: rules N06\nclarify check nftrun: rules N06\nlist_faults\n",
+        code: 1,
+        ..CHECKED
+    },
+    Row {
+        words: &["nftrun", "check", "--all", "rules", "box"],
         ..CHECKED
     },
     Row {

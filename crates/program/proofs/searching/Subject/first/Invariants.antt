@@ -2,7 +2,7 @@ use Rattle.std.proofs.Common.{◌<◌, ◌≤◌, ◌-◌, length}
 use Rattle.program.proofs.searching.Subject.first.Given as goal
 
 abbrev pub invariant-loop-with : goal.invariant-loop-with
-invariant-loop-with l = (l.without < l.with) × (l.with ≤ length l.parts)
+invariant-loop-with l = (l.without < l.with) × (l.with ≤ length l.placed)
 
 abbrev pub decreases-loop-with : goal.decreases-loop-with
 decreases-loop-with l = l.with - l.without

@@ -1,0 +1,219 @@
+//! The lines that are told of a fault, as text.
+use crate::searching::Subject;
+use crate::status::Status;
+use crate::stumbling::{odd_word, stumble};
+use command_line::Texts;
+use engine::RulesFault;
+use fault_places::{Span, Surroundings, place_at, surroundings_at, words};
+use nft_lexer::LexFault;
+use nft_parser::TextFault;
+use std::alloc::{AllocError, Global};
+
+/// How many bytes of a line are shown on either side of a place.
+const SHOWN: usize = 120;
+
+/// The texts that a task has read, and the paths that places are told by.
+#[derive(Clone, Copy)]
+pub struct Sources<'a> {
+    pub paths: Texts<'a>,
+    pub rules: &'a [u8],
+    pub plant: &'a [u8],
+}
+
+/// The lines that are told behind that of a status: what it means, and where its fault is, if that
+/// is one of the ruleset or of the box file and a place is found.
+///
+/// A place is a help and no promise: no contract says which one is told.
+///
+/// # Errors
+/// `AllocError` where there is no room to grow.
+pub fn explained(
+    alloc: Global,
+    status: Status,
+    sources: Sources<'_>,
+) -> Result<String, AllocError> {
+    let mut lines = String::new(alloc);
+    if let Some(code) = code_of(alloc, status)? {
+        if let Some(found) = explanations::explain(code.as_str()) {
+            lines.push_str(found.sentence)?;
+            lines.push('\n')?;
+        }
+        if let Some(place) = sources.place(alloc, status, code.as_str())? {
+            sources.tell(alloc, &mut lines, status, place)?;
+        }
+    }
+    Ok(lines)
+}
+
+/// The code of a fault.
+fn code_of(alloc: Global, status: Status) -> Result<Option<String>, AllocError> {
+    match status {
+        Status::Rules(fault) => Ok(Some(format!(in alloc; "{fault}")?)),
+        Status::Box(fault) => Ok(Some(format!(in alloc; "{fault}")?)),
+        Status::Capture(fault) => Ok(Some(format!(in alloc; "{fault}")?)),
+        _ => Ok(None),
+    }
+}
+
+impl Sources<'_> {
+    /// The offset of a fault in its text.
+    fn place(
+        &self,
+        alloc: Global,
+        status: Status,
+        code: &str,
+    ) -> Result<Option<usize>, AllocError> {
+        match status {
+            Status::Rules(RulesFault::Text(fault)) => self.place_in_text(alloc, fault),
+            Status::Rules(_) => {
+                let plant = self.plant;
+                let place = Subject::Rules { code, plant }.place(alloc, self.rules)?;
+                Ok(place.map(|place| place.offset))
+            }
+            Status::Box(_) => {
+                let place = Subject::Box { code }.place(alloc, self.plant)?;
+                Ok(place.map(|place| place.offset))
+            }
+            _ => Ok(None),
+        }
+    }
+
+    fn place_in_text(&self, alloc: Global, fault: TextFault) -> Result<Option<usize>, AllocError> {
+        match fault {
+            TextFault::Cutting(LexFault::Byte { line }) => odd_word(alloc, self.rules, line),
+            TextFault::Cutting(LexFault::OpenString { line }) => odd_word(alloc, self.rules, line),
+            TextFault::Cutting(LexFault::Number { line }) => odd_word(alloc, self.rules, line),
+            TextFault::Cutting(LexFault::TooLong) => Ok(None),
+            _ => Ok(Some(stumble(alloc, self.rules, fault)?)),
+        }
+    }
+
+    /// Tells a place, and for a ruleset what stands around it.
+    fn tell(
+        &self,
+        alloc: Global,
+        lines: &mut String,
+        status: Status,
+        place: usize,
+    ) -> Result<(), AllocError> {
+        match status {
+            Status::Box(_) => show(alloc, lines, self.paths.plant, self.plant, place),
+            Status::Rules(RulesFault::Text(_)) => {
+                show(alloc, lines, self.paths.rules, self.rules, place)
+            }
+            _ => {
+                show(alloc, lines, self.paths.rules, self.rules, place)?;
+                let around = described(alloc, self.rules, place)?;
+                if !around.is_empty() {
+                    writeln!(lines, "{}", around.as_str())?;
+                }
+                Ok(())
+            }
+        }
+    }
+}
+
+/// Tells the line and the column of an offset, and the line with a caret under the column.
+fn show(
+    alloc: Global,
+    lines: &mut String,
+    path: &str,
+    text: &[u8],
+    offset: usize,
+) -> Result<(), AllocError> {
+    if offset > text.len() {
+        return Ok(());
+    }
+    let at = place_at(text, offset);
+    writeln!(lines, "{path}:{}:{}", at.line, at.column)?;
+    let start = at.start.max(offset.saturating_sub(SHOWN));
+    let end = at.end.min(offset.saturating_add(SHOWN));
+    if start > offset || offset > end || end > text.len() {
+        return Ok(());
+    }
+    if let Ok(shown) = str::from_utf8(&text[start..end]) {
+        let caret = caret(alloc, &text[start..offset])?;
+        writeln!(lines, "{shown}\n{}", caret.as_str())?;
+    }
+    Ok(())
+}
+
+/// A caret under what follows these bytes; tabs stay, so that it stands below.
+fn caret(alloc: Global, before: &[u8]) -> Result<String, AllocError> {
+    let mut line = String::new(alloc);
+    for byte in before {
+        line.push(if *byte == b'\t' { '\t' } else { ' ' })?;
+    }
+    line.push('^')?;
+    Ok(line)
+}
+
+/// What stands around an offset of a ruleset: `table ip filter, chain input, rule 3`.
+pub fn described(alloc: Global, text: &[u8], offset: usize) -> Result<String, AllocError> {
+    let mut line = String::new(alloc);
+    let Surroundings {
+        table,
+        declaration,
+        rule,
+    } = surroundings_at(alloc, text, offset)?;
+    let Some(table) = table else {
+        return Ok(line);
+    };
+    if !describe_table(alloc, &mut line, text, table)? {
+        return Ok(line);
+    }
+    if let Some(declaration) = declaration {
+        describe_declaration(alloc, &mut line, text, declaration)?;
+    }
+    if let Some(rule) = rule {
+        write!(line, ", rule {rule}")?;
+    }
+    Ok(line)
+}
+
+/// A table by its family and its name, and whether it is one; where none is written the family is
+/// ip.
+fn describe_table(
+    alloc: Global,
+    line: &mut String,
+    text: &[u8],
+    table: Span,
+) -> Result<bool, AllocError> {
+    let head = head_of(alloc, text, table)?;
+    match head.as_slice() {
+        [kind, family, name, mark, ..] if *kind == "table" && *mark == "{" => {
+            write!(line, "table {family} {name}")?;
+        }
+        [kind, name, mark, ..] if *kind == "table" && *mark == "{" => {
+            write!(line, "table ip {name}")?;
+        }
+        _ => return Ok(false),
+    }
+    Ok(true)
+}
+
+fn describe_declaration(
+    alloc: Global,
+    line: &mut String,
+    text: &[u8],
+    declaration: Span,
+) -> Result<(), AllocError> {
+    let head = head_of(alloc, text, declaration)?;
+    match head.as_slice() {
+        [kind, name, ..] => write!(line, ", {kind} {name}"),
+        _ => Ok(()),
+    }
+}
+
+/// The words that a part begins with, four at most.
+fn head_of<'a>(alloc: Global, text: &'a [u8], part: Span) -> Result<Vec<&'a str>, AllocError> {
+    let mut head = Vec::new(alloc);
+    for word in words(alloc, text, part)?.iter().take(4) {
+        if word.start <= word.end && word.end <= text.len() {
+            if let Ok(shown) = str::from_utf8(&text[word.start..word.end]) {
+                head.push(shown)?;
+            }
+        }
+    }
+    Ok(head)
+}
