@@ -5,9 +5,8 @@
 //! told.
 #![tactic(auto)]
 
-use command_line::Texts;
 use engine::judge;
-use program::{Sources, Status, all_faults, capture_place, explained};
+use fault_search::{Paths, Sources, all_faults, capture_place, explained};
 use std::rt::Files;
 use std::{fs, io};
 
@@ -105,7 +104,7 @@ fn tell<R: Files + Print + AllocGlobal>(
     rules: &str,
     plant: &str,
 ) -> io::Result<()> {
-    let paths = Texts { rules, plant };
+    let paths = Paths { rules, plant };
     let rules = fs::read(rt, rules)?;
     let plant = fs::read(rt, plant)?;
     println!(rt; "== {name}")?;
@@ -124,9 +123,8 @@ fn tell_faults<R: Print + AllocGlobal>(rt: &R, sources: Sources<'_>) -> io::Resu
     let Err(fault) = judge(alloc, sources.rules, sources.plant) else {
         return println!(rt; "accepted");
     };
-    let status = Status::of(Err(&fault));
-    let lines = explained(alloc, status, sources)?;
-    println!(rt; "{status}\n{}", lines.as_str())?;
+    let lines = explained(alloc, fault, sources)?;
+    println!(rt; "nftrun: {fault}\n{}", lines.as_str())?;
     let faults = all_faults(alloc, sources)?;
     println!(rt; "{}", faults.as_str())
 }
@@ -146,7 +144,7 @@ fn tell_long<R: Print + AllocGlobal>(rt: &R) -> io::Result<()> {
     tell_faults(
         rt,
         Sources {
-            paths: Texts {
+            paths: Paths {
                 rules: "long.nft",
                 plant: "box.txt",
             },

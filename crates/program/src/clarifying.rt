@@ -1,9 +1,8 @@
 //! What a status means, and where its fault is.
-use crate::capture_places::capture_place;
-use crate::listing::all_faults;
 use crate::status::Status;
-use crate::telling::{Sources, explained};
-use command_line::{Task, Texts};
+use command_line::Task;
+use engine::RunFault;
+use fault_search::{Paths, Sources, all_faults, capture_place, explained};
 use std::rt::Files;
 use std::{fs, io};
 
@@ -12,8 +11,8 @@ use std::{fs, io};
 /// A place is a help and no promise: no contract says which one is told. The files are read again
 /// for it, where they are regular files; a pipe has been read already.
 pub fn clarify<R: Files + Eprint + AllocGlobal>(rt: &R, status: Status, task: &Task<'_>) {
-    if let Some(texts) = texts_of(task) {
-        let _ = tell_texts(rt, status, texts);
+    if let (Some(fault), Some(paths)) = (fault_of(status), texts_of(task)) {
+        let _ = tell_texts(rt, fault, paths);
     }
     if let Task::Run(run) = task {
         let _ = tell_capture(rt, status, run.paths.input);
@@ -21,14 +20,27 @@ pub fn clarify<R: Files + Eprint + AllocGlobal>(rt: &R, status: Status, task: &T
 }
 
 /// The ruleset and the box of a task that has them.
-fn texts_of<'a>(task: &Task<'a>) -> Option<Texts<'a>> {
+fn texts_of<'a>(task: &Task<'a>) -> Option<Paths<'a>> {
     match task {
-        Task::Run(run) => Some(Texts {
+        Task::Run(run) => Some(Paths {
             rules: run.paths.rules,
             plant: run.paths.plant,
         }),
-        Task::Check(task) => Some(task.texts),
+        Task::Check(check) => Some(Paths {
+            rules: check.texts.rules,
+            plant: check.texts.plant,
+        }),
         Task::Explain(_) => None,
+    }
+}
+
+/// The fault of a run or a check that ended so.
+fn fault_of(status: Status) -> Option<RunFault> {
+    match status {
+        Status::Rules(fault) => Some(RunFault::Rules(fault)),
+        Status::Box(fault) => Some(RunFault::Box(fault)),
+        Status::Capture(fault) => Some(RunFault::Capture(fault)),
+        _ => None,
     }
 }
 
@@ -39,7 +51,7 @@ pub fn list_faults<R: Files + Eprint + AllocGlobal>(rt: &R, task: &Task<'_>) {
     }
 }
 
-fn tell_all<R: Files + Eprint + AllocGlobal>(rt: &R, paths: Texts<'_>) -> io::Result<()> {
+fn tell_all<R: Files + Eprint + AllocGlobal>(rt: &R, paths: Paths<'_>) -> io::Result<()> {
     let rules = read_again(rt, paths.rules);
     let plant = read_again(rt, paths.plant);
     let sources = Sources {
@@ -53,8 +65,8 @@ fn tell_all<R: Files + Eprint + AllocGlobal>(rt: &R, paths: Texts<'_>) -> io::Re
 
 fn tell_texts<R: Files + Eprint + AllocGlobal>(
     rt: &R,
-    status: Status,
-    paths: Texts<'_>,
+    fault: RunFault,
+    paths: Paths<'_>,
 ) -> io::Result<()> {
     let rules = read_again(rt, paths.rules);
     let plant = read_again(rt, paths.plant);
@@ -63,7 +75,7 @@ fn tell_texts<R: Files + Eprint + AllocGlobal>(
         rules: &rules,
         plant: &plant,
     };
-    let lines = explained(rt.alloc(), status, sources)?;
+    let lines = explained(rt.alloc(), fault, sources)?;
     eprint!(rt; "{}", lines.as_str())
 }
 

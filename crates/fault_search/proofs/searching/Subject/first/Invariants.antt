@@ -1,5 +1,5 @@
 use Rattle.std.proofs.Common.{◌<◌, ◌≤◌, ◌-◌, length}
-use Rattle.program.proofs.searching.Subject.first.Given as goal
+use Rattle.fault_search.proofs.searching.Subject.first.Given as goal
 
 abbrev pub invariant-loop-with : goal.invariant-loop-with
 invariant-loop-with l = (l.without < l.with) × (l.with ≤ length l.placed)

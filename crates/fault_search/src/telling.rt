@@ -1,9 +1,7 @@
 //! The lines that are told of a fault, as text.
 use crate::searching::Subject;
-use crate::status::Status;
 use crate::stumbling::{odd_word, stumble};
-use command_line::Texts;
-use engine::RulesFault;
+use engine::{RulesFault, RunFault};
 use fault_places::{Span, Surroundings, place_at, surroundings_at, words};
 use nft_lexer::LexFault;
 use nft_parser::TextFault;
@@ -12,16 +10,23 @@ use std::alloc::{AllocError, Global};
 /// How many bytes of a line are shown on either side of a place.
 const SHOWN: usize = 120;
 
-/// The texts that a task has read, and the paths that places are told by.
+/// The paths of a ruleset and of a box file, by which places are told.
+#[derive(Clone, Copy)]
+pub struct Paths<'a> {
+    pub rules: &'a str,
+    pub plant: &'a str,
+}
+
+/// A ruleset and a box file, as they were read.
 #[derive(Clone, Copy)]
 pub struct Sources<'a> {
-    pub paths: Texts<'a>,
+    pub paths: Paths<'a>,
     pub rules: &'a [u8],
     pub plant: &'a [u8],
 }
 
-/// The lines that are told behind that of a status: what it means, and where its fault is, if that
-/// is one of the ruleset or of the box file and a place is found.
+/// The lines that are told behind that of a fault: what its code means, and where it is, if it is one
+/// of the ruleset or of the box file and a place is found.
 ///
 /// A place is a help and no promise: no contract says which one is told.
 ///
@@ -29,29 +34,29 @@ pub struct Sources<'a> {
 /// `AllocError` where there is no room to grow.
 pub fn explained(
     alloc: Global,
-    status: Status,
+    fault: RunFault,
     sources: Sources<'_>,
 ) -> Result<String, AllocError> {
     let mut lines = String::new(alloc);
-    if let Some(code) = code_of(alloc, status)? {
+    if let Some(code) = code_of(alloc, fault)? {
         if let Some(found) = explanations::explain(code.as_str()) {
             lines.push_str(found.sentence)?;
             lines.push('\n')?;
         }
-        if let Some(place) = sources.place(alloc, status, code.as_str())? {
-            sources.tell(alloc, &mut lines, status, place)?;
+        if let Some(place) = sources.place(alloc, fault, code.as_str())? {
+            sources.tell(alloc, &mut lines, fault, place)?;
         }
     }
     Ok(lines)
 }
 
 /// The code of a fault.
-fn code_of(alloc: Global, status: Status) -> Result<Option<String>, AllocError> {
-    match status {
-        Status::Rules(fault) => Ok(Some(format!(in alloc; "{fault}")?)),
-        Status::Box(fault) => Ok(Some(format!(in alloc; "{fault}")?)),
-        Status::Capture(fault) => Ok(Some(format!(in alloc; "{fault}")?)),
-        _ => Ok(None),
+fn code_of(alloc: Global, fault: RunFault) -> Result<Option<String>, AllocError> {
+    match fault {
+        RunFault::Rules(fault) => Ok(Some(format!(in alloc; "{fault}")?)),
+        RunFault::Box(fault) => Ok(Some(format!(in alloc; "{fault}")?)),
+        RunFault::Capture(fault) => Ok(Some(format!(in alloc; "{fault}")?)),
+        RunFault::Device | RunFault::Memory => Ok(None),
     }
 }
 
@@ -60,17 +65,17 @@ impl Sources<'_> {
     fn place(
         &self,
         alloc: Global,
-        status: Status,
+        fault: RunFault,
         code: &str,
     ) -> Result<Option<usize>, AllocError> {
-        match status {
-            Status::Rules(RulesFault::Text(fault)) => self.place_in_text(alloc, fault),
-            Status::Rules(_) => {
+        match fault {
+            RunFault::Rules(RulesFault::Text(fault)) => self.place_in_text(alloc, fault),
+            RunFault::Rules(_) => {
                 let plant = self.plant;
                 let place = Subject::Rules { code, plant }.place(alloc, self.rules)?;
                 Ok(place.map(|place| place.offset))
             }
-            Status::Box(_) => {
+            RunFault::Box(_) => {
                 let place = Subject::Box { code }.place(alloc, self.plant)?;
                 Ok(place.map(|place| place.offset))
             }
@@ -93,12 +98,12 @@ impl Sources<'_> {
         &self,
         alloc: Global,
         lines: &mut String,
-        status: Status,
+        fault: RunFault,
         place: usize,
     ) -> Result<(), AllocError> {
-        match status {
-            Status::Box(_) => show(alloc, lines, self.paths.plant, self.plant, place),
-            Status::Rules(RulesFault::Text(_)) => {
+        match fault {
+            RunFault::Box(_) => show(alloc, lines, self.paths.plant, self.plant, place),
+            RunFault::Rules(RulesFault::Text(_)) => {
                 show(alloc, lines, self.paths.rules, self.rules, place)
             }
             _ => {

@@ -1,5 +1,5 @@
 use Rattle.std.proofs.Common.{◌<◌, ◌≤◌, ◌-◌, ◌+◌, length}
-use Rattle.program.proofs.stumbling.Frame.halve.Given as goal
+use Rattle.fault_search.proofs.stumbling.Frame.halve.Given as goal
 
 abbrev pub invariant-loop-bad : goal.invariant-loop-bad
 invariant-loop-bad l = (l.good < l.bad) × (l.bad ≤ length l.found + 1)
