@@ -138,8 +138,9 @@ fn tell_capture<R: Files + Print + AllocGlobal>(rt: &R, name: &str) -> io::Resul
 }
 
 /// Tells what is told of a ruleset that is too long.
-fn tell_long<R: Print + AllocGlobal>(rt: &R) -> io::Result<()> {
+fn tell_long<R: Files + Print + AllocGlobal>(rt: &R) -> io::Result<()> {
     let rules = vec![in rt.alloc(); b' '; 1_048_577]?;
+    let plant = fs::read(rt, "box.txt")?;
     println!(rt; "== a ruleset of 1,048,577 blanks")?;
     tell_faults(
         rt,
@@ -149,7 +150,7 @@ fn tell_long<R: Print + AllocGlobal>(rt: &R) -> io::Result<()> {
                 plant: "box.txt",
             },
             rules: &rules,
-            plant: b"",
+            plant: &plant,
         },
     )
 }
