@@ -1,4 +1,8 @@
 //! The system's own files and outputs, and the run and the judgement over them.
+ghost use Rattle.std.specs.Prelude.{None, Some};
+ghost use Rattle.program.specs.Calls.{run};
+ghost use Rattle.program.specs.steps.Promised.{Promised};
+
 use crate::clarifying::{clarify, list_faults};
 use crate::host::Host;
 use crate::identity::FileIdentity;
@@ -38,16 +42,14 @@ enum Failed {
 }
 
 impl Failed {
-    /// The call of a run that failed, by how many of each did.
-    fn in_run(reads: u64, writes: u64, reports: u64) -> Option<Failed> {
-        if reads > 0 {
-            Some(Failed::Read)
-        } else if writes > 0 {
-            Some(Failed::Write)
-        } else if reports > 0 {
-            Some(Failed::Report)
-        } else {
-            None
+    /// The call of a run that failed, if one did: where none on IN and none on OUT did, it was one on the
+    /// report.
+    fn in_run(reads: u64, writes: u64, outcome: &Result<bool, RunFault>) -> Option<Failed> {
+        match outcome {
+            Err(RunFault::Device) if reads > 0 => Some(Failed::Read),
+            Err(RunFault::Device) if writes > 0 => Some(Failed::Write),
+            Err(RunFault::Device) => Some(Failed::Report),
+            _ => None,
         }
     }
 }
@@ -78,15 +80,68 @@ impl<R: Eprint + AllocGlobal> System<'_, R> {
             (Some(Failed::Write), Task::Run(run)) => {
                 eprintln!(rt; "{}: a write failed", run.paths.output)
             }
-            (Some(Failed::Report), _) => eprintln!(rt; "standard output: a write failed"),
+            (Some(Failed::Report), Task::Run(run)) => {
+                let path = run.report.unwrap_or("standard output");
+                eprintln!(rt; "{path}: a write failed")
+            }
             _ => Ok(()),
         }
     }
 }
 
-impl<R: Env + Files + Print + Eprint + RandomSource + AllocGlobal> Host for System<'_, R> {
-    ghost use Rattle.program.specs.steps.Promised.{Promised};
+/// A run whose report goes to standard output.
+fn run_to_output<R: Files + Print + AllocGlobal>(
+    rt: &R,
+    hasher: RandomState,
+    rules: &[u8],
+    plant: &[u8],
+    input: &mut Counted<R::File>,
+    output: &mut Counted<R::File>,
+    trace: bool,
+) -> Result<bool, RunFault>
+    ensures { Promised (λ c. R.File.remaining c.inner) (λ c. R.File.contents c.inner) (run hasher rules.now plant.now input.old input.new output.old output.new None trace result) }
+{
+    let mut report = Counted::new(io::writer(rt));
+    let summary = engine::run(
+        rt.alloc(),
+        hasher,
+        rules,
+        plant,
+        input,
+        output,
+        &mut report,
+        trace,
+    )?;
+    Ok(summary.torn)
+}
 
+/// A run whose report goes to a file.
+fn run_to_file<R: Files + AllocGlobal>(
+    rt: &R,
+    hasher: RandomState,
+    rules: &[u8],
+    plant: &[u8],
+    input: &mut Counted<R::File>,
+    output: &mut Counted<R::File>,
+    report: &mut Counted<R::File>,
+    trace: bool,
+) -> Result<bool, RunFault>
+    ensures { Promised (λ c. R.File.remaining c.inner) (λ c. R.File.contents c.inner) (run hasher rules.now plant.now input.old input.new output.old output.new (Some (report.old, report.new)) trace result) }
+{
+    let summary = engine::run(
+        rt.alloc(),
+        hasher,
+        rules,
+        plant,
+        input,
+        output,
+        report,
+        trace,
+    )?;
+    Ok(summary.torn)
+}
+
+impl<R: Env + Files + Print + Eprint + RandomSource + AllocGlobal> Host for System<'_, R> {
     type Input = Counted<R::File>;
 
     type Output = Counted<R::File>;
@@ -139,20 +194,9 @@ impl<R: Env + Files + Print + Eprint + RandomSource + AllocGlobal> Host for Syst
         output: &mut Self::Output,
         trace: bool,
     ) -> Result<bool, RunFault> {
-        let mut report = Counted::new(io::writer(self.rt));
-        let outcome = engine::run(
-            self.rt.alloc(),
-            hasher,
-            rules,
-            plant,
-            input,
-            output,
-            &mut report,
-            trace,
-        );
-        self.failed = Failed::in_run(input.failures(), output.failures(), report.failures());
-        let summary = outcome?;
-        Ok(summary.torn)
+        let outcome = run_to_output(self.rt, hasher, rules, plant, input, output, trace);
+        self.failed = Failed::in_run(input.failures(), output.failures(), &outcome);
+        outcome
     }
 
     fn run_to_file(
@@ -165,17 +209,9 @@ impl<R: Env + Files + Print + Eprint + RandomSource + AllocGlobal> Host for Syst
         report: &mut Self::Output,
         trace: bool,
     ) -> Result<bool, RunFault> {
-        let summary = engine::run(
-            self.rt.alloc(),
-            hasher,
-            rules,
-            plant,
-            input,
-            output,
-            report,
-            trace,
-        )?;
-        Ok(summary.torn)
+        let outcome = run_to_file(self.rt, hasher, rules, plant, input, output, report, trace);
+        self.failed = Failed::in_run(input.failures(), output.failures(), &outcome);
+        outcome
     }
 
     fn judge(&mut self, rules: &[u8], plant: &[u8]) -> Result<Counts, RunFault> {
