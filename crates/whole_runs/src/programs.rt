@@ -458,7 +458,7 @@ const ROWS: [Row; 30] = [
     Row {
         words: &["nftrun", "check", "--all", "--explain", "rules", "box"],
         judged: Err(RunFault::Rules(RulesFault::Check(CheckFault::TooCostly))),
-        last: "tell nftrun: rules N06\nclarify check nftrun: rules N06\nlist_faults\n",
+        last: "judge rules box\ntell nftrun: rules N06\nclarify check nftrun: rules N06\nlist_faults\n",
         code: 1,
         ..CHECKED
     },
