@@ -81,18 +81,12 @@ pub struct Row<'t> {
     totals: Vec<&'t str>,
 }
 
-/// What a run writes.
-#[derive(Drop, PartialEq)]
-pub struct Written {
-    pub sent: Vec<u8>,
-    pub report: Vec<u8>,
-}
-
 /// What a run gives.
 #[derive(Drop)]
 pub struct Given {
     pub status: Status,
-    pub written: Written,
+    pub sent: Vec<u8>,
+    pub report: Vec<u8>,
 }
 
 impl<'t> Row<'t> {
@@ -242,11 +236,6 @@ impl<'t> Row<'t> {
         }
     }
 
-    /// Whether it is refused before its first record.
-    pub fn is_refused(&self) -> bool {
-        matches!(self.ending, Ending::Refused)
-    }
-
     /// The lines and the totals behind them.
     fn with_totals(&self, alloc: Global) -> Result<String, AllocError> {
         let mut text = self.lines.clone()?;
@@ -319,9 +308,7 @@ pub fn run_over(
     };
     Given {
         status,
-        written: Written {
-            sent: sent.into_inner().into_inner(),
-            report: report.into_inner().into_inner(),
-        },
+        sent: sent.into_inner().into_inner(),
+        report: report.into_inner().into_inner(),
     }
 }
