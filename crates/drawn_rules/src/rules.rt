@@ -147,7 +147,7 @@ fn add_rule(
     Ok(())
 }
 
-/// Rules in line, most of which ask of one selector, and some of another.
+/// Rules in line, most of which ask of one selector, or of few in any order, and some of another.
 fn add_rules(
     alloc: Global,
     dice: &mut Dice,
@@ -157,12 +157,24 @@ fn add_rules(
 ) -> Result<(), AllocError>
     requires { first < 1000 }
 {
-    let asked = draw_selector(dice);
+    let asked = [
+        draw_selector(dice),
+        draw_selector(dice),
+        draw_selector(dice),
+        draw_selector(dice),
+        draw_selector(dice),
+    ];
+    // As many as a run can have, and one more.
+    let many = if dice.happens(40) {
+        1
+    } else {
+        2 + dice.below(4)
+    };
     for number in 0..dice.below(60) {
         let selector = if dice.happens(1) {
             draw_selector(dice)
         } else {
-            asked
+            asked[dice.below(many) as usize]
         };
         let rule = RuleNo {
             table: 0,

@@ -3,15 +3,18 @@
 #![tactic(auto)]
 
 mod actions;
+mod asked;
 mod code;
 mod events;
 mod finding;
 mod guards;
 mod indexed;
 mod joined;
+mod lane;
 mod machine;
 mod reading;
 mod runs;
+mod selectors;
 mod stack;
 
 pub use code::{Action, Code, Instruction, Lookups, Operand, Start, Step, TableCode};
