@@ -130,7 +130,7 @@ pub struct Texts<'a> {
 ///
 /// The words of a run may have `--trace` once, and `--report FILE` or `--report=FILE` once; those
 /// of a check `--all` once. They stand at any place before the first `--`; behind it each word is a
-/// path.
+/// path. A FILE that begins with a hyphen is given as `--report=FILE`.
 ///
 /// # Errors
 /// `clap`'s, whose `exit_code` is 0 where the words ask for help, and 2 where they are no task.
