@@ -38,7 +38,8 @@ Examples:
 /// What stands at the end of `run --help`.
 const RUN_NOTES: &str = "\
 --explain tells what a fault means, and where it is. A path that begins with a
-hyphen goes after --.
+hyphen goes after --. A run of more than a second tells each second how much of
+IN is read, if standard error is a terminal.
 
 Exit statuses:
   0  done
