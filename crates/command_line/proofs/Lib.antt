@@ -1,5 +1,6 @@
 pub mod Complete
 pub mod Explaining
+pub mod Formed
 pub mod Reading
 pub mod Rows
 pub mod Turns

@@ -164,13 +164,13 @@ abbrev pub pending_value : Text → Text → Pending
 pending_value id word = Some (id, word ∷ [])
 
 -- a path or a file for the report is used
-settled_row : (id word : Text) (all : List Row) → row_at id all ≡ None → used (filled (path_rule id)) (word ∷ []) all ≡ all ++ row id word ∷ []
+pub settled_row : (id word : Text) (all : List Row) → row_at id all ≡ None → used (filled (path_rule id)) (word ∷ []) all ≡ all ++ row id word ∷ []
 settled_row id word all none = appended_anew id (row id word).reading CommandLine (word ∷ []) all none
 
-flagged_row : (id : Text) (all : List Row) → row_at id all ≡ None → flagged id all ≡ all ++ told id ∷ []
+pub flagged_row : (id : Text) (all : List Row) → row_at id all ≡ None → flagged id all ≡ all ++ told id ∷ []
 flagged_row id all none = appended_anew id (told id).reading CommandLine (codes "true" ∷ []) all none
 
-moves : (s : Shape) (b u : Bool) (rows : List Row) (pending : Pending) (id word : Text) (p : ℕ)
+pub moves : (s : Shape) (b u : Bool) (rows : List Row) (pending : Pending) (id word : Text) (p : ℕ)
     → ◌≡◌ {A = Walk} (record {
       held = pushed id word (cond (b && false) (at rows pending) (settled s.rules (at rows pending)));
       waiting = idle;
@@ -190,11 +190,11 @@ goes_on id pending = option_map_or (λ (q : Text × List Text). bytes_eq q.0 id)
 there : (id : Text) (r : Row) (rows : List Row) → row_at id rows ≡ Some r → has_row id rows ≡ true
 there id r rows is = has_row-at id rows ∙ ap (λ (o : Option Row). is_some o) is
 
-abbrev repeats : Bool → Kinds
+abbrev pub repeats : Bool → Kinds
 repeats b = or_else (cond (b && true) (ArgumentConflict ∷ []) []) []
 
 -- a second use has a fault
-again : (id : Text) (r : Row) (rows : List Row) → row_at id rows ≡ Some r → repeats (has_row id rows) ≡ [] → ⊥
+pub again : (id : Text) (r : Row) (rows : List Row) → row_at id rows ≡ Some r → repeats (has_row id rows) ≡ [] → ⊥
 again id r rows is e = not_nil _ _ (subst (λ (b : Bool). repeats b ≡ []) (there id r rows is) e)
 
 -- a flag that is used without a fault was not met
@@ -253,7 +253,7 @@ with_flag id false all is =
     ap (λ (b : Bool). cond b all (with_default_row id all)) (has_row-at id all ∙ ap (λ (o : Option Row). is_some o) is)
     ∙ appended id (untold id).reading DefaultValue (codes "false" ∷ []) all is
 
-run_ended : (a b c d : Option Text) (met : Bool) (file : Option Text) (all : List Row) → Holds (run_rows a b c d met file) all
+pub run_ended : (a b c d : Option Text) (met : Bool) (file : Option Text) (all : List Row) → Holds (run_rows a b c d met file) all
     → Holds (run_ends a b c d met file) (fold with_default all run.rules)
 run_ended a b c d true file all h =
     subst (Holds (run_ends a b c d true file)) (sym (run_defaults all ∙ with_flag (codes "trace") true all h.1.1.1.1.1.0)) h
@@ -261,7 +261,7 @@ run_ended a b c d false file all h =
     subst (Holds (run_ends a b c d false file)) (sym (run_defaults all ∙ with_flag (codes "trace") false all h.1.1.1.1.1.0))
     (holds_more (run_rows a b c d false file) all (untold (codes "trace")) h.1.1.1.1.1.0 h)
 
-check_ended : (a b : Option Text) (met : Bool) (all : List Row) → Holds (check_rows a b met) all
+pub check_ended : (a b : Option Text) (met : Bool) (all : List Row) → Holds (check_rows a b met) all
     → Holds (check_ends a b met) (fold with_default all check.rules)
 check_ended a b true all h =
     subst (Holds (check_ends a b true)) (sym (check_defaults all ∙ with_flag (codes "all") true all h.1.1.0)) h
@@ -274,23 +274,23 @@ check_ended a b false all h =
 abbrev is_there_at : Option Row → Bool
 is_there_at o = option_map_or (λ r. explicit_source r.source) o false
 
-abbrev missing_run : Option Row → Option Row → Option Row → Option Row → Kinds
+abbrev pub missing_run : Option Row → Option Row → Option Row → Option Row → Kinds
 missing_run r p i o = check_kinds false false (not (is_there_at r) || (not (is_there_at p) || (not (is_there_at i) || (not (is_there_at o) || false))))
 
-run_required : (a b c d : Option Text) (met : Bool) (file : Option Text) (all : List Row) → Holds (run_ends a b c d met file) all
+pub run_required : (a b c d : Option Text) (met : Bool) (file : Option Text) (all : List Row) → Holds (run_ends a b c d met file) all
     → check_fault run all false ≡ missing_run (row_of (codes "rules") a) (row_of (codes "plant") b) (row_of (codes "input") c) (row_of (codes "output") d)
 run_required a b c d met file all h = λ j. missing_run (h.0 j) (h.1.0 j) (h.1.1.0 j) (h.1.1.1.0 j)
 
-abbrev missing_check : Option Row → Option Row → Kinds
+abbrev pub missing_check : Option Row → Option Row → Kinds
 missing_check r p = check_kinds false false (not (is_there_at r) || (not (is_there_at p) || false))
 
-check_required : (a b : Option Text) (met : Bool) (all : List Row) → Holds (check_ends a b met) all
+pub check_required : (a b : Option Text) (met : Bool) (all : List Row) → Holds (check_ends a b met) all
     → check_fault check all false ≡ missing_check (row_of (codes "rules") a) (row_of (codes "plant") b)
 check_required a b met all h = λ j. missing_check (h.0 j) (h.1.0 j)
 
 -- ---- a run, word for word, with the paths that were met so far
 
-abbrev waits_for_file : List Row → ℕ → Bool → Walk
+abbrev pub waits_for_file : List Row → ℕ → Bool → Walk
 waits_for_file rows p t = stand (option (codes "report")) (at rows (Some (codes "report", []))) p t
 
 module _ (a b c d : Option Text) (p : ℕ) (front : List Text → List Text) where
@@ -476,7 +476,7 @@ module _ (a b c d : Option Text) (p : ℕ) (front : List Text → List Text) whe
 -- ---- a run, path by path
 
 -- a path more
-taken_row : (id word : Text) (known : Known) (all : List Row) → row_at id all ≡ None → Holds known all
+pub taken_row : (id word : Text) (known : Known) (all : List Row) → row_at id all ≡ None → Holds known all
     → Holds (with_row (row id word) known) (used (filled (path_rule id)) (word ∷ []) all)
 taken_row id word known all none h =
     subst (Holds (with_row (row id word) known)) (sym (settled_row id word all none)) (holds_more known all (row id word) none h)
@@ -728,11 +728,11 @@ met_name word = go (bytes_eq (codes "run") word) refl (bytes_eq (codes "check") 
     go false e false f false g false = inr (inr (inr (inr refl)))
 
 -- what may be at fault once the words are walked
-abbrev later : Walk → Kinds
+abbrev pub later : Walk → Kinds
 later w = or_else (settle_fault top.rules top.args_override_self w.held)
     (or_else (defaults_fault (settled top.rules w.held).rows top.rules) (check_fault top (finished top.rules w.held) (is_some (entered whole w.stopped))))
 
-abbrev ended : Walk → Kinds
+abbrev pub ended : Walk → Kinds
 ended w = or_else (entered_fault whole w.stopped) (later w)
 
 last_nil : (a b c d : Kinds) → or_else a (or_else b (or_else c d)) ≡ [] → d ≡ []
@@ -742,7 +742,7 @@ is_checked : (w : Walk) → ended w ≡ [] → check_fault top (finished top.rul
 is_checked w e = last_nil (entered_fault whole w.stopped) (settle_fault top.rules top.args_override_self w.held) (defaults_fault (settled top.rules w.held).rows top.rules)
     (check_fault top (finished top.rules w.held) (is_some (entered whole w.stopped))) e
 
-abbrev first : Walk
+abbrev pub first : Walk
 first = standing nothing_held 1 false
 
 -- a subcommand's name, the words after it and the rows that it has of them

@@ -98,7 +98,7 @@ view_end true met file = ap (λ (v : Seen). (v, file)) (flag_end (codes "--trace
 view_end false met None = ap (λ (v : Seen). (v, None)) (flag_end (codes "--trace") false met)
 view_end false met (Some f) = ap (λ (v : Seen). (v, Some f)) (flag_end (codes "--trace") false met)
 
-abbrev left_by : Bool → Text → List Text → List Text
+abbrev pub left_by : Bool → Text → List Text → List Text
 left_by d word rest = cond d (word ∷ rest) (unreported (as_report word) word rest (without_report rest))
 
 abbrev file_by_word : Bool → Text → List Text → Option Text
@@ -112,10 +112,10 @@ view_dashes met None word rest is =
 view_dashes met (Some f) word rest is = ap (λ (v : Seen). (v, Some f)) (flag_dashes (codes "--trace") met word rest is)
 
 -- a word that is neither `--` nor names the file
-abbrev Kept : Option Text → Text → List Text → Type 0
+abbrev pub Kept : Option Text → Text → List Text → Type 0
 Kept file word rest = (words_in false file (word ∷ rest) ≡ word ∷ words_in false file rest) × (file_in false file (word ∷ rest) ≡ file_in false file rest)
 
-kept : (file : Option Text) (word : Text) (rest : List Text) → bytes_eq word (codes "--") ≡ false → as_report word ≡ None → Kept file word rest
+pub kept : (file : Option Text) (word : Text) (rest : List Text) → bytes_eq word (codes "--") ≡ false → as_report word ≡ None → Kept file word rest
 kept None word rest is apart = (
   ap (λ b. left_by b word rest) is ∙ ap (λ o. unreported o word rest (without_report rest)) apart,
   ap (λ b. file_by_word b word rest) is ∙ ap (λ o. file_by o rest (report_of rest)) apart,

@@ -1,8 +1,8 @@
 -- What the words of the command line ask for.
-use Rattle.std.specs.Prelude.{◌≡◌, ◌==◌, ◌&&◌, ◌||◌, Bool, true, not, List, [], ◌∷◌}
+use Rattle.std.specs.Prelude.{◌≡◌, ◌==◌, ◌&&◌, ◌||◌, ℕ, Bool, true, not, List, [], ◌∷◌, length}
 use Rattle.std.specs.Prelude.{Option, Some, None, codes, drop, if◌then◌else◌, false, option_map, slice_get}
 use Rattle.std.specs.Borrow.{Bor}
-use Rattle.std.specs.List.{list_all}
+use Rattle.std.specs.Option.{option_map_or}
 use Rattle.std.specs.Str.{bytes_eq}
 use Rattle.clap.specs.Lexer.{long_of}
 use Rattle.clap.specs.Words.{Text}
@@ -82,28 +82,37 @@ abbrev pub is_plain_word : Text → Bool
 is_plain_word (c ∷ x ∷ rest) = not (c == 45)
 is_plain_word _ = true
 
--- four paths, where each is plain or they all stand after `--`
-abbrev pub are_four_paths : List Text → Bool
-are_four_paths (a ∷ b ∷ c ∷ d ∷ []) = list_all is_plain_word (a ∷ b ∷ c ∷ d ∷ [])
-are_four_paths (dashes ∷ a ∷ b ∷ c ∷ d ∷ []) = bytes_eq dashes (codes "--")
-are_four_paths _ = false
+-- each word before the first `--` is plain
+abbrev pub are_plain : List Text → Bool
+are_plain [] = true
+are_plain (word ∷ rest) = if bytes_eq word (codes "--") then true else (is_plain_word word && are_plain rest)
 
--- `run` and four paths, with `--trace` before them or without it
+-- the words are so many operands: each is plain, or they stand behind the first `--`
+abbrev pub are_operands : ℕ → List Text → Bool
+are_operands n words = are_plain words && length (operands words) == n
+
+abbrev pub names_file_by : Option (Option Text) → List Text → Bool → Bool
+names_file_by None rest later = later
+names_file_by (Some None) rest later = option_map_or is_plain_word (slice_get rest 0) false
+names_file_by (Some (Some file)) rest later = true
+
+-- FILE of the first `--report FILE` before any `--` is there, and is plain; that of `--report=FILE` may be any text
+abbrev pub names_file : List Text → Bool
+names_file [] = true
+names_file (word ∷ rest) =
+    if bytes_eq word (codes "--") then true else names_file_by (as_report word) rest (names_file rest)
+
+-- four paths, with `--trace` and `--report FILE` or `--report=FILE`, each once at most, at any place before the first `--`
 abbrev pub is_run : List Text → Bool
-is_run (word ∷ rest) = bytes_eq word (codes "--trace") && are_four_paths rest || are_four_paths (word ∷ rest)
-is_run [] = false
+is_run rest = names_file rest && are_operands 4 (without_flag (codes "--trace") (without_report rest))
 
--- `check` and two paths, where each path is plain or both stand after `--`
+-- two paths, with `--all`, once at most, at any place before the first `--`
 abbrev pub is_check : List Text → Bool
-is_check (a ∷ b ∷ []) = is_plain_word a && is_plain_word b
-is_check (dashes ∷ a ∷ b ∷ []) = bytes_eq dashes (codes "--")
-is_check _ = false
+is_check rest = are_operands 2 (without_flag (codes "--all") rest)
 
--- `explain` and a word, which is plain or stands after `--`
+-- a code
 abbrev pub is_explain : List Text → Bool
-is_explain (a ∷ []) = is_plain_word a
-is_explain (dashes ∷ a ∷ []) = bytes_eq dashes (codes "--")
-is_explain _ = false
+is_explain rest = are_operands 1 rest
 
 -- the words are a task
 abbrev pub is_well_formed : List Text → Bool

@@ -38,7 +38,8 @@ Examples:
 /// What stands at the end of `run --help`.
 const RUN_NOTES: &str = "\
 --explain tells what a fault means, and where it is. A path that begins with a
-hyphen goes after --.
+hyphen goes after --. A run of more than a second tells each second how much of
+IN is read, if standard error is a terminal.
 
 Exit statuses:
   0  done
@@ -130,7 +131,7 @@ pub struct Texts<'a> {
 ///
 /// The words of a run may have `--trace` once, and `--report FILE` or `--report=FILE` once; those
 /// of a check `--all` once. They stand at any place before the first `--`; behind it each word is a
-/// path.
+/// path. A FILE that begins with a hyphen is given as `--report=FILE`.
 ///
 /// # Errors
 /// `clap`'s, whose `exit_code` is 0 where the words ask for help, and 2 where they are no task.

@@ -9,6 +9,7 @@ mod performing;
 mod replaying;
 mod status;
 mod system;
+mod watched;
 
 pub use examining::examine;
 pub use host::Host;

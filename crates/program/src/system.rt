@@ -8,24 +8,37 @@ use crate::host::Host;
 use crate::identity::FileIdentity;
 use crate::performing::perform;
 use crate::status::Status;
+use crate::watched::{Place, Progress, Watched};
 use clap::Error;
 use command_line::Task;
 use engine::{Counts, RunFault};
 use explanations::Explanation;
 use pcap_io::Counted;
 use std::env::{self, Env};
+use std::fs::OpenFile;
 use std::hash::RandomState;
+use std::io::IsTerminal;
 use std::os::unix::fs::MetadataExt;
 use std::random::RandomSource;
-use std::rt::Files;
+use std::rt::{Clock, Files};
 use std::{fs, io};
 
 /// The system's own files and outputs.
 #[derive(Drop)]
 struct System<'a, R> {
     rt: &'a R,
+    terminals: Terminals,
+    /// How many bytes IN has, where that is known and progress is told.
+    size: Option<u64>,
     /// The last call that failed.
     failed: Option<Failed>,
+}
+
+/// Which of the outputs are terminals.
+#[derive(Clone, Copy)]
+struct Terminals {
+    output: bool,
+    errors: bool,
 }
 
 /// A call that failed.
@@ -68,6 +81,26 @@ impl<R: AllocGlobal> System<'_, R> {
     }
 }
 
+impl<'a, R: Clock + Eprint> System<'a, R> {
+    /// What tells how far a run is: nothing does where standard error is no terminal.
+    fn progress(&self, place: Place) -> Option<Progress<'a, R>> {
+        if !self.terminals.errors {
+            return None;
+        }
+        Progress::new(self.rt, place, self.size)
+    }
+}
+
+/// How many bytes a regular file has.
+fn size_of(file: &impl OpenFile) -> Option<u64> {
+    let found = file.metadata().ok()?;
+    if found.is_file() {
+        Some(found.len())
+    } else {
+        None
+    }
+}
+
 impl<R: Eprint + AllocGlobal> System<'_, R> {
     /// Prints which call failed.
     fn tell_failed(&self, task: &Task<'_>) -> io::Result<()> {
@@ -90,7 +123,7 @@ impl<R: Eprint + AllocGlobal> System<'_, R> {
 }
 
 /// A run whose report goes to standard output.
-fn run_to_output<R: Files + Print + AllocGlobal>(
+fn run_to_output<R: Clock + Files + Print + Eprint + AllocGlobal>(
     rt: &R,
     hasher: RandomState,
     rules: &[u8],
@@ -98,25 +131,28 @@ fn run_to_output<R: Files + Print + AllocGlobal>(
     input: &mut Counted<R::File>,
     output: &mut Counted<R::File>,
     trace: bool,
+    progress: Option<Progress<'_, R>>,
 ) -> Result<bool, RunFault>
     ensures { Promised (λ c. R.File.remaining c.inner) (λ c. R.File.contents c.inner) (run hasher rules.now plant.now input.old input.new output.old output.new None trace result) }
 {
+    let mut watched = Counted::new(Watched::new(input, progress));
     let mut report = Counted::new(io::writer(rt));
-    let summary = engine::run(
+    let outcome = engine::run(
         rt.alloc(),
         hasher,
         rules,
         plant,
-        input,
+        &mut watched,
         output,
         &mut report,
         trace,
-    )?;
-    Ok(summary.torn)
+    );
+    watched.into_inner().end();
+    Ok(outcome?.torn)
 }
 
 /// A run whose report goes to a file.
-fn run_to_file<R: Files + AllocGlobal>(
+fn run_to_file<R: Clock + Files + Eprint + AllocGlobal>(
     rt: &R,
     hasher: RandomState,
     rules: &[u8],
@@ -125,23 +161,26 @@ fn run_to_file<R: Files + AllocGlobal>(
     output: &mut Counted<R::File>,
     report: &mut Counted<R::File>,
     trace: bool,
+    progress: Option<Progress<'_, R>>,
 ) -> Result<bool, RunFault>
     ensures { Promised (λ c. R.File.remaining c.inner) (λ c. R.File.contents c.inner) (run hasher rules.now plant.now input.old input.new output.old output.new (Some (report.old, report.new)) trace result) }
 {
-    let summary = engine::run(
+    let mut watched = Counted::new(Watched::new(input, progress));
+    let outcome = engine::run(
         rt.alloc(),
         hasher,
         rules,
         plant,
-        input,
+        &mut watched,
         output,
         report,
         trace,
-    )?;
-    Ok(summary.torn)
+    );
+    watched.into_inner().end();
+    Ok(outcome?.torn)
 }
 
-impl<R: Env + Files + Print + Eprint + RandomSource + AllocGlobal> Host for System<'_, R> {
+impl<R: Clock + Env + Files + Print + Eprint + RandomSource + AllocGlobal> Host for System<'_, R> {
     type Input = Counted<R::File>;
 
     type Output = Counted<R::File>;
@@ -161,7 +200,11 @@ impl<R: Env + Files + Print + Eprint + RandomSource + AllocGlobal> Host for Syst
 
     fn open(&mut self, path: &str) -> io::Result<Self::Input> {
         let answer = fs::open(self.rt, path);
-        Ok(Counted::new(self.keep(path, answer)?))
+        let file = self.keep(path, answer)?;
+        if self.terminals.errors {
+            self.size = size_of(&file);
+        }
+        Ok(Counted::new(file))
     }
 
     // It goes through links, symbolic ones too.
@@ -194,7 +237,15 @@ impl<R: Env + Files + Print + Eprint + RandomSource + AllocGlobal> Host for Syst
         output: &mut Self::Output,
         trace: bool,
     ) -> Result<bool, RunFault> {
-        let outcome = run_to_output(self.rt, hasher, rules, plant, input, output, trace);
+        let place = if self.terminals.output {
+            Place::Shared
+        } else {
+            Place::Alone
+        };
+        let progress = self.progress(place);
+        let outcome = run_to_output(
+            self.rt, hasher, rules, plant, input, output, trace, progress,
+        );
         self.failed = Failed::in_run(input.failures(), output.failures(), &outcome);
         outcome
     }
@@ -209,7 +260,10 @@ impl<R: Env + Files + Print + Eprint + RandomSource + AllocGlobal> Host for Syst
         report: &mut Self::Output,
         trace: bool,
     ) -> Result<bool, RunFault> {
-        let outcome = run_to_file(self.rt, hasher, rules, plant, input, output, report, trace);
+        let progress = self.progress(Place::Alone);
+        let outcome = run_to_file(
+            self.rt, hasher, rules, plant, input, output, report, trace, progress,
+        );
         self.failed = Failed::in_run(input.failures(), output.failures(), &outcome);
         outcome
     }
@@ -257,6 +311,26 @@ impl<R: Env + Files + Print + Eprint + RandomSource + AllocGlobal> Host for Syst
 }
 
 /// Does what the process's own words ask for, and answers its exit status.
-pub fn start<R: Env + Files + Print + Eprint + RandomSource + AllocGlobal>(rt: &R) -> u8 {
-    perform(rt.alloc(), &mut System { rt, failed: None })
+///
+/// Where `errors`, the standard error, is a terminal, a run of more than a second tells there how far
+/// it is: on one line that is written anew, or, where the report goes to a terminal too, as `output`
+/// tells, on lines of their own.
+pub fn start<R: Clock + Env + Files + Print + Eprint + RandomSource + AllocGlobal>(
+    rt: &R,
+    output: &impl IsTerminal,
+    errors: &impl IsTerminal,
+) -> u8 {
+    let terminals = Terminals {
+        output: output.is_terminal(),
+        errors: errors.is_terminal(),
+    };
+    perform(
+        rt.alloc(),
+        &mut System {
+            rt,
+            terminals,
+            size: None,
+            failed: None,
+        },
+    )
 }

@@ -48,7 +48,7 @@ const FILES: [&str; 10] = [
 ];
 
 fn main(rt: HostRuntime) -> Result<ExitCode> {
-    let status = program::start(&rt);
+    let status = program::start(&rt, &rt.stdout(), &rt.stderr());
     let sent = fs::read(&rt, OUTPUT)?;
     let digits = hex::encode(rt.alloc(), sent)?;
     println!(rt; "{digits}")?;
