@@ -1,42 +1,23 @@
 -- Whether a name stands twice is decided.
-use Rattle.std.proofs.Common.{◌≡◌, ◌⊎◌, ℕ, zero, suc, ◌<◌, List, [], ◌∷◌, length, get_or, refl, sym, subst, ◌∙◌, inl, inr, arith, Contains}
-use Rattle.std.proofs.lemmas.List.{get_or_default}
+use Rattle.std.proofs.Common.{◌≡◌, ◌⊎◌, List, [], ◌∷◌, Bool, true, false, refl, inl, inr, ⊎_elim, Contains}
+use Rattle.std.specs.List.{list_any}
+use Rattle.std.specs.Str.{bytes_eq}
 use Rattle.nft_tree.specs.declared.ruleset.Family.{Family}
 use Rattle.nft_tree.specs.declared.ruleset.Family.TheVariants as families
 use Rattle.nft_tree.specs.Tree.{Text, TableTree}
 use Rattle.rule_names.specs.Names.{Repeats, NameTwice, two_tables, two_chains, two_sets_or_maps, table_names, chain_names, set_and_map_names}
-use Rattle.list_laws.specs.Decisions.{Decided, some_decided, decided_as, either_decided, texts_decided}
+use Rattle.rule_names.proofs.Twice.{Among, any-named, named-any, repeats-here, repeats-more, repeats-none, repeats-split}
+use Rattle.list_laws.specs.Decisions.{Decided, some_decided, decided_as, either_decided}
 
-member_decided : (name : Text) (names : List Text) → Decided (Contains names name)
-member_decided name names =
-    decided_as (λ h. let P : Text → Type 0 = λ n. Contains names n in subst P h.2 h.1) (λ at. (name, at, refl)) (some_decided (λ n. n ≡ name) names (λ n at. texts_decided n name))
-
--- ---- the places of a name that stands twice
-
-repeats_here : (name : Text) (names : List Text) → Contains names name → Repeats (name ∷ names)
-repeats_here name names at = record { first = 0; second = suc at.0; apart = omega arith; within = omega (arith, at.1); same = sym (get_or_default names at.0 [] name at.1 ∙ at.2) }
-
-repeats_later : (name : Text) (names : List Text) → Repeats names → Repeats (name ∷ names)
-repeats_later name names r = record { first = suc r.first; second = suc r.second; apart = omega (arith, r.apart); within = omega (arith, r.within); same = r.same }
-
-repeats_only : (name : Text) (names : List Text) → (Contains names name → ⊥) → (Repeats names → ⊥) → (i j : ℕ) → i < j → j < suc (length names) → get_or (name ∷ names) i [] ≡ get_or (name ∷ names) j [] → ⊥
-repeats_only name names absent once i zero apart within same = absurd (omega arith)
-repeats_only name names absent once zero (suc j) apart within same =
-    let inside : j < length names = omega arith in
-    absent (j, inside, get_or_default names j name [] inside ∙ sym same)
-repeats_only name names absent once (suc i) (suc j) apart within same = once (record { first = i; second = j; apart = omega arith; within = omega arith; same = same })
-
-repeats_step : (name : Text) (names : List Text) → Decided (Contains names name) → Decided (Repeats names) → Decided (Repeats (name ∷ names))
-repeats_step name names (inl at) later = inl (repeats_here name names at)
-repeats_step name names (inr absent) (inl r) = inl (repeats_later name names r)
-repeats_step name names (inr absent) (inr once) = inr (λ r. repeats_only name names absent once r.first r.second r.apart r.within r.same)
-
-repeats_none : Repeats [] → ⊥
-repeats_none r = absurd (omega (arith, r.within))
+by_test : (names : List Text) (name : Text) (stands : Bool) → list_any (bytes_eq name) names ≡ stands → Decided (Among names name)
+by_test names name true t = inl (any-named names name t)
+by_test names name false f = inr (λ a. let t = named-any names name a in absurd cc)
 
 repeats_decided : (names : List Text) → Decided (Repeats names)
-repeats_decided [] = inr repeats_none
-repeats_decided (name ∷ names) = repeats_step name names (member_decided name names) (repeats_decided names)
+repeats_decided [] = inr repeats-none
+repeats_decided (name ∷ names) =
+    decided_as (⊎_elim (repeats-here name names) (repeats-more name names)) (repeats-split name names)
+    (either_decided (by_test names name (list_any (bytes_eq name) names) refl) (repeats_decided names))
 
 -- ---- tables
 

@@ -7,7 +7,7 @@ ghost use Rattle.nft_tree.specs.Tree.{chain_tree, item_tree, map_tree, set_tree,
 ghost use Rattle.nft_tree.specs.Parts.{chains_of, maps_of, sets_of};
 ghost use Rattle.rule_names.specs.Names.{NameTwice, Repeats, chain_named, chain_names, is_base_chain, is_set_or_map, map_named, map_names, place_in, set_and_map_names, set_named, set_names, set_or_map_name, table_names};
 ghost use Rattle.rule_names.specs.steps.Index.{texts};
-ghost use Rattle.rule_names.specs.steps.Table.{IsApart, RepeatsIn, SomeRepeats, chain_trees, map_trees, set_trees};
+ghost use Rattle.rule_names.specs.steps.Table.{AreChains, AreMaps, AreSets, IsApart, RepeatsIn, SomeRepeats, chain_trees, map_trees, set_trees};
 
 use crate::index::NameIndex;
 use nft_tree::{Chain, Family, Item, MapDecl, Ruleset, SetDecl, Table};
@@ -135,35 +135,86 @@ fn index_sets_and_maps<'t>(
     NameIndex::new(alloc, &names)
 }
 
+/// The chains of a table, and their names.
+#[derive(Drop)]
+struct NamedChains<'t> {
+    chains: Vec<&'t Chain>,
+    names: NameIndex<'t>,
+}
+
+/// The chains of the table with their names; `None` where a name stands twice.
+fn named_chains<'t>(alloc: Global, table: &'t Table) -> Result<Option<NamedChains<'t>>, AllocError>
+    ensures { IfOk result (λ o. MatchOption o (Repeats (chain_names (table_tree table.now))) (λ n. AreChains (table_tree table.now) n.chains.items n.names)) }
+{
+    let chains = chains_of(alloc, table)?;
+    let Some(names) = index_chains(alloc, &chains)? else {
+        return Ok(None);
+    };
+    Ok(Some(NamedChains { chains, names }))
+}
+
+/// The sets of a table, and their names.
+#[derive(Drop)]
+struct NamedSets<'t> {
+    sets: Vec<&'t SetDecl>,
+    names: NameIndex<'t>,
+}
+
+/// The sets of the table with their names; `None` where a name stands twice.
+fn named_sets<'t>(alloc: Global, table: &'t Table) -> Result<Option<NamedSets<'t>>, AllocError>
+    ensures { IfOk result (λ o. MatchOption o (Repeats (set_names (table_tree table.now))) (λ n. AreSets (table_tree table.now) n.sets.items n.names)) }
+{
+    let sets = sets_of(alloc, table)?;
+    let Some(names) = index_sets(alloc, &sets)? else {
+        return Ok(None);
+    };
+    Ok(Some(NamedSets { sets, names }))
+}
+
+/// The maps of a table, and their names.
+#[derive(Drop)]
+struct NamedMaps<'t> {
+    maps: Vec<&'t MapDecl>,
+    names: NameIndex<'t>,
+}
+
+/// The maps of the table with their names; `None` where a name stands twice.
+fn named_maps<'t>(alloc: Global, table: &'t Table) -> Result<Option<NamedMaps<'t>>, AllocError>
+    ensures { IfOk result (λ o. MatchOption o (Repeats (map_names (table_tree table.now))) (λ n. AreMaps (table_tree table.now) n.maps.items n.names)) }
+{
+    let maps = maps_of(alloc, table)?;
+    let Some(names) = index_maps(alloc, &maps)? else {
+        return Ok(None);
+    };
+    Ok(Some(NamedMaps { maps, names }))
+}
+
 impl<'t> TableNames<'t> {
     /// The names of the table; `None` where one stands twice in it.
     fn new(alloc: Global, table: &'t Table) -> Result<Option<TableNames<'t>>, AllocError>
         ensures is { IfOk result (λ o. MatchOption o (RepeatsIn (table_tree table.now)) (λ names. names ≡ table_tree table.now)) }
         ensures apart { IfOk result (λ o. IfSome o IsApart) }
     {
-        let chains = chains_of(alloc, table)?;
-        let sets = sets_of(alloc, table)?;
-        let maps = maps_of(alloc, table)?;
-        let Some(chain_names) = index_chains(alloc, &chains)? else {
+        let Some(of_chains) = named_chains(alloc, table)? else {
             return Ok(None);
         };
         let Some(set_and_map_names) = index_sets_and_maps(alloc, table)? else {
             return Ok(None);
         };
-        let Some(set_names) = index_sets(alloc, &sets)? else {
+        let Some(of_sets) = named_sets(alloc, table)? else {
             return Ok(None);
         };
-        let Some(map_names) = index_maps(alloc, &maps)? else {
+        let Some(of_maps) = named_maps(alloc, table)? else {
             return Ok(None);
         };
         Ok(Some(TableNames {
             table,
-            chains,
-            sets,
-            maps,
-            chain_names,
-            set_names,
-            map_names,
+            chains: of_chains.chains,
+            sets: of_sets.sets,
+            maps: of_maps.maps,
+            chain_names: of_chains.names,
+            set_names: of_sets.names,
+            map_names: of_maps.names,
             set_and_map_names,
         }))
     }

@@ -23,6 +23,23 @@ pub record IsApart (t : TableTree) : Type 0 where
   pub maps_apart : Repeats (map_names t) → ⊥
   pub sets_and_maps_apart : Repeats (set_and_map_names t) → ⊥
 
+-- these are the chains of the table, and their names, no two the same
+pub record AreChains (t : TableTree) (chains : List (Bor Chain)) (names : List Text) : Type 0 where
+  pub are : chain_trees chains ≡ chains_of t
+  pub named : names ≡ chain_names t
+  pub apart : Repeats (chain_names t) → ⊥
+
+-- these are the sets of the table, and their names
+pub record AreSets (t : TableTree) (sets : List (Bor SetDecl)) (names : List Text) : Type 0 where
+  pub are : set_trees sets ≡ sets_of t
+  pub named : names ≡ set_names t
+
+-- these are the maps of the table, and their names, no two the same
+pub record AreMaps (t : TableTree) (maps : List (Bor MapDecl)) (names : List Text) : Type 0 where
+  pub are : map_trees maps ≡ maps_of t
+  pub named : names ≡ map_names t
+  pub apart : Repeats (map_names t) → ⊥
+
 -- these are the chains, the sets and the maps of the table, and the names of each
 pub record IsIndexed (t : TableTree) (chains : List (Bor Chain)) (sets : List (Bor SetDecl)) (maps : List (Bor MapDecl)) (of_chains of_sets of_maps of_both : List Text) : Type 0 where
   pub chains_are : chain_trees chains ≡ chains_of t
