@@ -1,17 +1,19 @@
 -- The lists of numbers that are tested say what the lines say.
-use Rattle.std.proofs.Common.{◌≡◌, ℕ, ◌<◌, Bool, true, false, ◌==◌, ◌&&◌, ◌||◌, not, nat_eq, List, [], ◌∷◌, ◌++◌, None, refl, sym, ap, subst, ◌∙◌, arith}
-use Rattle.std.specs.Prelude.{map}
+use Rattle.std.proofs.Common.{◌≡◌, ℕ, ◌<◌, Bool, true, false, ◌==◌, ◌&&◌, ◌||◌, not, nat_eq, List, [], ◌∷◌, ◌++◌, Option, None, Result, refl, sym, ap, subst, ◌∙◌, arith}
+use Rattle.std.specs.Prelude.{map, IfOk}
 use Rattle.std.specs.List.{list_any}
 use Rattle.std.specs.Borrow.{Bor}
+use Rattle.std.proofs.lemmas.Result.{IfOk-weaker}
 use Rattle.list_laws.specs.Tests.{and-flip}
+use Rattle.box_file.specs.declared.fault.BoxFault.{BoxFault}
 use Rattle.box_file.specs.declared.line.InterfaceLine.{InterfaceLine}
 use Rattle.box_file.specs.declared.line.RouteLine.{RouteLine}
 use Rattle.box_file.specs.declared.idle_line.IdleLine.{IdleLine}
 use Rattle.box_file.specs.declared.line.Line as kept
 use Rattle.box_file.specs.declared.line.Line.TheVariants as lines
 use Rattle.box_file.specs.steps.Reading.{line_tree}
-use Rattle.box_file.specs.Box.{Interface, NamedRoute, Idle, Line, interface_line, route_line, default_line, idle_line, IsName, each_is_line, interface_in, route_in, default_in, idle_in, interfaces_in, routes_in, defaults_in, same_text, some_two, two_names, two_indexes, same_address, same_prefix, same_kind, is_named, is_unknown, is_repeated, has_unknown}
-use Rattle.box_file.specs.steps.Tests.{two_values, is_missing, key_of, index_and_name, name_and_index, prefix_key, kind_key, EachNamed, EachShort, EachName}
+use Rattle.box_file.specs.Box.{Interface, NamedRoute, Idle, Line, interface_line, route_line, default_line, idle_line, IsName, each_is_line, interface_in, route_in, default_in, idle_in, interfaces_in, routes_in, defaults_in, idles_in, same_text, some_two, two_names, two_indexes, same_address, same_prefix, same_kind, is_named, is_unknown, is_repeated, has_unknown, least}
+use Rattle.box_file.specs.steps.Tests.{two_values, is_missing, key_of, index_and_name, name_and_index, prefix_key, kind_key, EachNamed, EachShort, EachName, least_of}
 use Rattle.box_file.proofs.RepeatLaws.{any-append, eqb_flip}
 use Rattle.box_file.proofs.KeyLaws.{same_key, digits_agree}
 
@@ -191,3 +193,13 @@ module _ (is : List Interface) (rs : List NamedRoute) (js : List Idle) where
 pub unknown_told : (is : List Interface) (rs : List NamedRoute) (ns : List (List ℕ)) (known used : List ℕ) (r : Bool) → EachNamed is → EachShort rs → EachName ns → known ≡ map (λ i. key_of i.name) is → used ≡ map (λ r. key_of r.name) rs ++ map key_of ns → r ≡ list_any (is_missing known) used → r ≡ has_unknown is rs ns
 unknown_told is rs ns known used r k h g ek eu told =
     told ∙ ap (λ (ms : List ℕ). list_any (is_missing ms) used) ek ∙ ap (list_any (is_missing (map (λ i. key_of i.name) is))) eu ∙ unknown_names is rs ns k h g
+
+-- the lines by their kinds have the least fault of the lines
+pub least_as : {E : Type 0} (text : List ℕ) (ls : List Line) (found : Result (Option BoxFault) E) {is : List Interface} {rs : List NamedRoute} {ns : List (List ℕ)} {js : List Idle} → is ≡ interfaces_in ls → rs ≡ routes_in ls → ns ≡ defaults_in ls → js ≡ idles_in ls → IfOk found (λ o. o ≡ least_of text is rs ns js) → IfOk found (λ o. o ≡ least text ls)
+least_as text ls found {is} {rs} {ns} {js} ei er en ej told =
+    let same : least_of text is rs ns js ≡ least text ls =
+    ap (λ x. least_of text x rs ns js) ei
+    ∙ ap (λ x. least_of text (interfaces_in ls) x ns js) er
+    ∙ ap (λ x. least_of text (interfaces_in ls) (routes_in ls) x js) en
+    ∙ ap (least_of text (interfaces_in ls) (routes_in ls) (defaults_in ls)) ej in
+    IfOk-weaker found _ _ (λ o is. is ∙ same) told

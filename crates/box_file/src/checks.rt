@@ -3,7 +3,7 @@ ghost use Rattle.std.specs.Prelude.{◌≡◌, ◌++◌, map, length, IfOk};
 ghost use Rattle.std.specs.List.{list_any};
 ghost use Rattle.box_file.specs.Box.{interfaces_in, routes_in, defaults_in, idles_in, each_is_line, is_out_of_range, is_repeated, has_unknown, is_too_large, least};
 ghost use Rattle.box_file.specs.steps.Reading.{interface_tree, route_tree, idle_tree, line_tree};
-ghost use Rattle.box_file.specs.steps.Tests.{key_of, index_and_name, name_and_index, prefix_key, kind_key, EachNamed, EachShort, EachName};
+ghost use Rattle.box_file.specs.steps.Tests.{key_of, index_and_name, name_and_index, prefix_key, kind_key, EachNamed, EachShort, EachName, IsSorted, least_of};
 
 use crate::fault::BoxFault;
 use crate::idle::is_out_of_range;
@@ -245,29 +245,72 @@ fn has_out_of_range(idles: &[IdleLine]) -> bool
     idles.iter().any(|idle| is_out_of_range(idle))
 }
 
+/// The lines of a text by their kinds.
+#[derive(Drop)]
+struct Sorted<'t> {
+    interfaces: Vec<InterfaceLine<'t>>,
+    routes: Vec<RouteLine<'t>>,
+    defaults: Vec<&'t [u8]>,
+    idles: Vec<IdleLine<'t>>,
+}
+
+/// Sorts the lines.
+fn by_kind<'t>(alloc: Global, lines: &[Line<'t>]) -> Result<Sorted<'t>, AllocError>
+    ensures { IfOk result (λ s. IsSorted (map line_tree lines.now) (map interface_tree s.interfaces.items) (map route_tree s.routes.items) (map (λ n. n.now) s.defaults.items) (map idle_tree s.idles.items)) }
+{
+    Ok(Sorted {
+        interfaces: interfaces(alloc, lines)?,
+        routes: routes(alloc, lines)?,
+        defaults: defaults(alloc, lines)?,
+        idles: idles(alloc, lines)?,
+    })
+}
+
+/// The least fault that applies, of a text with these lines of each kind.
+fn least_of(
+    alloc: Global,
+    text: &[u8],
+    interfaces: &[InterfaceLine],
+    routes: &[RouteLine],
+    defaults: &[&[u8]],
+    idles: &[IdleLine],
+) -> Result<Option<BoxFault>, AllocError>
+    requires named { EachNamed (map interface_tree interfaces.now) }
+    requires short { EachShort (map route_tree routes.now) }
+    requires names { EachName (map (λ n. n.now) defaults.now) }
+    ensures { IfOk result (λ o. o
+        ≡ least_of text.now (map interface_tree interfaces.now) (map route_tree routes.now) (map (λ n. n.now) defaults.now) (map idle_tree idles.now)) }
+{
+    if defaults.len() != 1 {
+        return Ok(Some(BoxFault::Form));
+    }
+    if is_repeated(alloc, interfaces, routes, idles)? {
+        return Ok(Some(BoxFault::Repeated));
+    }
+    if names_none(alloc, interfaces, routes, defaults)? {
+        return Ok(Some(BoxFault::UnknownName));
+    }
+    if is_too_large(text, interfaces, routes) {
+        return Ok(Some(BoxFault::TooLarge));
+    }
+    if has_out_of_range(idles) {
+        return Ok(Some(BoxFault::OutOfRange));
+    }
+    Ok(None)
+}
+
 /// The least fault that applies, of a text that is these lines.
 pub fn fault_of(alloc: Global, text: &[u8], lines: &[Line]) -> Result<Option<BoxFault>, AllocError>
     requires { each_is_line (map line_tree lines.now) }
     ensures { IfOk result (λ o. o ≡ least text.now (map line_tree lines.now)) }
 {
-    let interfaces = interfaces(alloc, lines)?;
-    let routes = routes(alloc, lines)?;
-    let defaults = defaults(alloc, lines)?;
-    let idles = idles(alloc, lines)?;
-    if defaults.len() != 1 {
-        return Ok(Some(BoxFault::Form));
-    }
-    if is_repeated(alloc, &interfaces, &routes, &idles)? {
-        return Ok(Some(BoxFault::Repeated));
-    }
-    if names_none(alloc, &interfaces, &routes, &defaults)? {
-        return Ok(Some(BoxFault::UnknownName));
-    }
-    if is_too_large(text, &interfaces, &routes) {
-        return Ok(Some(BoxFault::TooLarge));
-    }
-    if has_out_of_range(&idles) {
-        return Ok(Some(BoxFault::OutOfRange));
-    }
-    Ok(None)
+    let sorted = by_kind(alloc, lines)?;
+    least_of(
+        alloc,
+        text,
+        &sorted.interfaces,
+        &sorted.routes,
+        &sorted.defaults,
+        &sorted.idles,
+    )
 }
