@@ -15,16 +15,21 @@
 //! `pace NUMBER`: each call gives or takes so many bytes at most, and `slowly`: 1, 2, 3, 5 or 7 at most have
 //! to give the same. `reads NUMBER`: so many calls of the reader work, and the next one fails.
 //!
+//! Each row that isn't refused before its first record is run once more with its connections in a plain list
+//! (`listed`), in place of the slots in which runs keep them, and has to write the same bytes.
+//!
 //! `again NAME` begins a row with the records of the one before, of which the same leave, and `anew NAME` one
 //! with those records, of which none leaves. `#` begins a comment.
 #![tactic(auto)]
 
+mod listed;
 mod notation;
 mod packets;
 mod records;
 mod rows;
 
 use anyhow::Result;
+use listed::run_listed;
 use rows::{Given, Row, run_over};
 use std::hash::RandomState;
 use std::process::ExitCode;
@@ -54,15 +59,34 @@ fn main(rt: HostRuntime) -> Result<ExitCode> {
     println!(rt; "{digits}")?;
     for file in FILES {
         let text = fs::read_to_string(&rt, file)?;
-        let number = run_all(&rt, text.as_str())?;
-        println!(rt; "{file}: {number} runs")?;
+        let Counts { runs, listed } = run_all(&rt, text.as_str())?;
+        println!(rt; "{file}: {runs} runs, {listed} over a list too")?;
     }
     Ok(ExitCode::from(status))
 }
 
-/// Runs all rows of a text, and answers how many there are.
-fn run_all(rt: &HostRuntime, text: &str) -> Result<u64> {
-    let mut number: u64 = 0;
+/// How many rows a text has, and how many of them were run over a list of connections too.
+#[derive(Drop)]
+struct Counts {
+    runs: u64,
+    listed: u64,
+}
+
+impl Counts {
+    /// Runs one row more.
+    fn run(&mut self, rt: &HostRuntime, row: &Row<'_>) -> Result<()> {
+        try_row(rt, row)?;
+        self.runs = self.runs.saturating_add(1);
+        if !row.is_refused() {
+            self.listed = self.listed.saturating_add(1);
+        }
+        Ok(())
+    }
+}
+
+/// Runs all rows of a text.
+fn run_all(rt: &HostRuntime, text: &str) -> Result<Counts> {
+    let mut counts = Counts { runs: 0, listed: 0 };
     let mut row = None;
     for line in text.lines() {
         if line.starts_with('#') {
@@ -70,27 +94,24 @@ fn run_all(rt: &HostRuntime, text: &str) -> Result<u64> {
         }
         if let Some(name) = line.strip_prefix("row ") {
             if let Some(whole) = row.replace(Row::new(rt.alloc(), name)) {
-                try_row(rt, &whole)?;
+                counts.run(rt, &whole)?;
             }
-            number = number.saturating_add(1);
         } else if let Some(open) = &mut row {
             if let Some(name) = line.strip_prefix("again ") {
-                try_row(rt, open)?;
+                counts.run(rt, open)?;
                 open.again(rt.alloc(), name);
-                number = number.saturating_add(1);
             } else if let Some(name) = line.strip_prefix("anew ") {
-                try_row(rt, open)?;
+                counts.run(rt, open)?;
                 open.anew(rt.alloc(), name);
-                number = number.saturating_add(1);
             } else if !open.take(rt.alloc(), line)? {
                 println!(rt; "can't be read: {line}")?;
             }
         }
     }
     if let Some(last) = row {
-        try_row(rt, &last)?;
+        counts.run(rt, &last)?;
     }
-    Ok(number)
+    Ok(counts)
 }
 
 /// Runs a row, with each of its rulesets.
@@ -117,6 +138,12 @@ fn try_rules(rt: &HostRuntime, row: &Row<'_>, rules: &[u8], plant: &[u8]) -> Res
     let hasher = RandomState::new(rt)?;
     let given = run_over(rt.alloc(), hasher, row, rules, plant, &capture, row.pace);
     compare(rt, row, &given)?;
+    if !row.is_refused() {
+        let written = run_listed(rt.alloc(), hasher, row, rules, plant, &capture)?;
+        if written != given.written {
+            println!(rt; "{}: something else is written over a list", row.name)?;
+        }
+    }
     if row.slowly {
         for most in &PACES {
             let given = run_over(rt.alloc(), hasher, row, rules, plant, &capture, *most);
@@ -134,11 +161,11 @@ fn compare(rt: &HostRuntime, row: &Row<'_>, given: &Given) -> Result<()> {
         println!(rt; "{name}: {status}")?;
     }
     let wanted = row.report(rt.alloc())?;
-    if given.report.as_slice() != wanted.as_bytes() {
-        let told = str::from_utf8(&given.report).unwrap_or("no text");
+    if given.written.report.as_slice() != wanted.as_bytes() {
+        let told = str::from_utf8(&given.written.report).unwrap_or("no text");
         println!(rt; "{name}: the report is\n{told}instead of\n{wanted}")?;
     }
-    if given.sent != row.sent(rt.alloc())? {
+    if given.written.sent != row.sent(rt.alloc())? {
         println!(rt; "{name}: other packets leave")?;
     }
     Ok(())

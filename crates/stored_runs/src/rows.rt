@@ -81,12 +81,18 @@ pub struct Row<'t> {
     totals: Vec<&'t str>,
 }
 
+/// What a run writes.
+#[derive(Drop, PartialEq)]
+pub struct Written {
+    pub sent: Vec<u8>,
+    pub report: Vec<u8>,
+}
+
 /// What a run gives.
 #[derive(Drop)]
 pub struct Given {
     pub status: Status,
-    pub sent: Vec<u8>,
-    pub report: Vec<u8>,
+    pub written: Written,
 }
 
 impl<'t> Row<'t> {
@@ -236,6 +242,11 @@ impl<'t> Row<'t> {
         }
     }
 
+    /// Whether it is refused before its first record.
+    pub fn is_refused(&self) -> bool {
+        matches!(self.ending, Ending::Refused)
+    }
+
     /// The lines and the totals behind them.
     fn with_totals(&self, alloc: Global) -> Result<String, AllocError> {
         let mut text = self.lines.clone()?;
@@ -308,7 +319,9 @@ pub fn run_over(
     };
     Given {
         status,
-        sent: sent.into_inner().into_inner(),
-        report: report.into_inner().into_inner(),
+        written: Written {
+            sent: sent.into_inner().into_inner(),
+            report: report.into_inner().into_inner(),
+        },
     }
 }

@@ -1,0 +1,110 @@
+//! Runs that keep their connections in a plain list. They take each record as `engine::run` does, whose
+//! connections stand in slots that are found by hashed tuples.
+use crate::rows::{Row, Written};
+use anyhow::Result;
+use box_file::Plant;
+use conntrack::ListTracker;
+use nft_parser::parse;
+use pcap_io::{Capture, CaptureError, CaptureFault, Counted, Failing, Record, Sink};
+use report::Report;
+use rule_check::check;
+use std::alloc::Global;
+use std::hash::RandomState;
+use std::io::Read;
+use stepping::Engine;
+
+/// The greatest number of records in a capture.
+const MOST_RECORDS: u64 = 4_294_967_296;
+
+/// A run among the records of its capture, and what it has written.
+#[derive(Drop)]
+struct Listed {
+    engine: Engine<ListTracker>,
+    numbers: Report,
+    sink: Sink,
+    sent: Counted<Vec<u8>>,
+    report: Counted<Vec<u8>>,
+}
+
+impl Listed {
+    /// Before the first record.
+    fn new(alloc: Global, engine: Engine<ListTracker>, trace: bool) -> Result<Self> {
+        let mut sent = Counted::new(Vec::new(alloc));
+        Ok(Listed {
+            numbers: Report::new(alloc, engine.rules(), trace)?,
+            engine,
+            sink: Sink::open(alloc, &mut sent)?,
+            sent,
+            report: Counted::new(Vec::new(alloc)),
+        })
+    }
+
+    /// Takes a record; no capture has more than so many.
+    fn take(&mut self, record: &Record) -> Result<()> {
+        if self.engine.records() < MOST_RECORDS && self.numbers.records() < MOST_RECORDS {
+            self.engine.step(record)?;
+            if let Some(entry) = self.engine.entry() {
+                self.numbers.note(&entry)?;
+            }
+            if let Some(leaving) = self.engine.leaving() {
+                self.sink.put(&mut self.sent, &leaving)?;
+            }
+        }
+        Ok(())
+    }
+
+    /// Takes the records, and answers what they stop at; none at their end.
+    fn play<R: Read>(
+        &mut self,
+        records: &mut Capture,
+        reader: &mut Counted<R>,
+    ) -> Result<Option<CaptureError>> {
+        for _ in 0..u64::MAX {
+            match records.next(reader) {
+                Ok(true) => {}
+                Ok(false) => break,
+                Err(stop) => return Ok(Some(stop)),
+            }
+            if let Some(record) = records.record() {
+                self.take(&record)?;
+            }
+        }
+        Ok(None)
+    }
+
+    /// Writes what is left, and the lines that come after the last record unless the records stop at a
+    /// fault; a torn end is none.
+    fn finish(&mut self, stop: Option<CaptureError>) -> Result<()> {
+        self.sink.finish(&mut self.sent)?;
+        let rules = self.engine.rules();
+        let torn = match stop {
+            None => false,
+            Some(CaptureError::Refused(CaptureFault::TornEnd)) => true,
+            Some(_) => return Ok(self.numbers.drain(rules, &mut self.report)?),
+        };
+        let live = self.engine.live() as u64;
+        Ok(self.numbers.lines(rules, live, torn, &mut self.report)?)
+    }
+}
+
+/// What a run of the row writes with these rules on this box over the capture, neither of which is refused.
+pub fn run_listed(
+    alloc: Global,
+    hasher: RandomState,
+    row: &Row<'_>,
+    rules: &[u8],
+    plant: &[u8],
+    capture: &[u8],
+) -> Result<Written> {
+    let checked = check(alloc, parse(alloc, rules)?, Plant::read(alloc, plant)?)?;
+    let mut reader = Counted::new(Failing::new(capture, row.reads));
+    let mut records = Capture::open(alloc, &mut reader)?;
+    let engine = Engine::new(alloc, hasher, checked)?;
+    let mut listed = Listed::new(alloc, engine, row.trace)?;
+    let stop = listed.play(&mut records, &mut reader)?;
+    listed.finish(stop)?;
+    Ok(Written {
+        sent: listed.sent.into_inner(),
+        report: listed.report.into_inner(),
+    })
+}
