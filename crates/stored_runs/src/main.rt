@@ -2,7 +2,8 @@
 //! is longer than what is written. Then OUT's bytes are printed, and in the end its status is handed on.
 //!
 //! Between the two come runs that are written down in `data/`, each with the packets that leave and the report
-//! that it has to give: it tells of each that gives something else, and how many there were.
+//! that it has to give, and texts with what is told of their faults (`faults`): it tells of each that gives
+//! something else, and how many there were.
 //!
 //! A file of rows has a line `row NAME` for each, and below it `rules FILE`, or `nft RULESET` once or more,
 //! where each of these has to give the same; `box FILE` where that isn't `box.txt`; `trace` where one is
@@ -22,6 +23,7 @@
 //! with those records, of which none leaves. `#` begins a comment.
 #![tactic(auto)]
 
+mod faults;
 mod listed;
 mod notation;
 mod packets;
@@ -29,6 +31,7 @@ mod records;
 mod rows;
 
 use anyhow::Result;
+use faults::compare_all;
 use listed::run_listed;
 use rows::{Given, Row, run_over};
 use std::hash::RandomState;
@@ -52,6 +55,9 @@ const FILES: [&str; 10] = [
     "stories.rows",
 ];
 
+/// What is told of faults.
+const FAULT_LINES: &str = "faults/lines.txt";
+
 fn main(rt: HostRuntime) -> Result<ExitCode> {
     let status = program::start(&rt, &rt.stdout(), &rt.stderr());
     let sent = fs::read(&rt, OUTPUT)?;
@@ -62,6 +68,9 @@ fn main(rt: HostRuntime) -> Result<ExitCode> {
         let Counts { runs, listed } = run_all(&rt, text.as_str())?;
         println!(rt; "{file}: {runs} runs, {listed} over a list too")?;
     }
+    let stored = fs::read_to_string(&rt, FAULT_LINES)?;
+    let texts = compare_all(&rt, stored.as_str())?;
+    println!(rt; "{FAULT_LINES}: {texts} texts")?;
     Ok(ExitCode::from(status))
 }
 
