@@ -5,7 +5,7 @@ use anyhow::Result;
 use box_file::Plant;
 use conntrack::ListTracker;
 use nft_parser::parse;
-use pcap_io::{Capture, CaptureError, CaptureFault, Counted, Failing, Record, Sink};
+use pcap_io::{Capture, CaptureError, CaptureFault, Counted, Failing, Record, Sink, Slow};
 use report::Report;
 use rule_check::check;
 use std::alloc::Global;
@@ -97,7 +97,7 @@ pub fn run_listed(
     capture: &[u8],
 ) -> Result<Written> {
     let checked = check(alloc, parse(alloc, rules)?, Plant::read(alloc, plant)?)?;
-    let mut reader = Counted::new(Failing::new(capture, row.reads));
+    let mut reader = Counted::new(Failing::new(Slow::new(capture, row.pace), row.reads));
     let mut records = Capture::open(alloc, &mut reader)?;
     let engine = Engine::new(alloc, hasher, checked)?;
     let mut listed = Listed::new(alloc, engine, row.trace)?;
