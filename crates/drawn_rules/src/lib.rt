@@ -10,3 +10,5 @@ mod packets;
 mod rules;
 #[cfg(test)]
 mod runs;
+#[cfg(test)]
+mod sizes;

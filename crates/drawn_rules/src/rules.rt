@@ -89,6 +89,16 @@ fn draw_decision(dice: &mut Dice, chain: u32) -> Decision {
     }
 }
 
+/// What a merged rule may decide.
+fn draw_verdict(dice: &mut Dice, chain: u32) -> Decision {
+    match dice.below(4) {
+        0 => Decision::Accept,
+        1 => Decision::Drop,
+        2 if chain + 1 < CHAINS => Decision::Goto(chain + 1),
+        _ => Decision::Return,
+    }
+}
+
 fn draw_mark(dice: &mut Dice) -> Action {
     let field = if dice.happens(50) {
         MarkField::Meta
@@ -103,8 +113,17 @@ fn draw_mark(dice: &mut Dice) -> Action {
 }
 
 /// What stands behind a rule's first match: counters, logs, marks, and at last a decision or none.
-fn draw_rest(alloc: Global, dice: &mut Dice, rule: RuleNo) -> Result<Vec<Action>, AllocError> {
+fn draw_rest(
+    alloc: Global,
+    dice: &mut Dice,
+    rule: RuleNo,
+    is_plain: bool,
+) -> Result<Vec<Action>, AllocError> {
     let mut actions = Vec::new(alloc);
+    if is_plain {
+        actions.push(Action::Decide(draw_verdict(dice, rule.chain)))?;
+        return Ok(actions);
+    }
     for statement in 2..5 {
         let place = Place { rule, statement };
         match dice.below(9) {
@@ -130,10 +149,11 @@ fn add_rule(
     dice: &mut Dice,
     rule: RuleNo,
     selector: Selector,
+    is_plain: bool,
     steps: &mut Steps,
 ) -> Result<(), AllocError> {
     let first = draw_match(alloc, dice, selector)?;
-    let rest = draw_rest(alloc, dice, rule)?;
+    let rest = draw_rest(alloc, dice, rule, is_plain)?;
     let mut skip = u32::try_from(rest.len()).unwrap_or(u32::MAX);
     steps.push(Step::Run(Instruction {
         rule,
@@ -170,7 +190,14 @@ fn add_rules(
     } else {
         2 + dice.below(4)
     };
+    // So many of a hundred rules are a match and a verdict, which are merged where none stands between.
+    let plain = match dice.below(3) {
+        0 => 0,
+        1 => 60,
+        _ => 99,
+    };
     for number in 0..dice.below(60) {
+        let is_plain = dice.happens(plain);
         let selector = if dice.happens(1) {
             draw_selector(dice)
         } else {
@@ -181,7 +208,7 @@ fn add_rules(
             chain,
             rule: first + number,
         };
-        add_rule(alloc, dice, rule, selector, steps)?;
+        add_rule(alloc, dice, rule, selector, is_plain, steps)?;
     }
     Ok(())
 }

@@ -12,9 +12,11 @@ mod indexed;
 mod joined;
 mod lane;
 mod machine;
+mod merging;
 mod reading;
 mod runs;
 mod selectors;
+mod size;
 mod stack;
 
 pub use code::{Action, Code, Instruction, Lookups, Operand, Start, Step, TableCode};
@@ -22,3 +24,4 @@ pub use events::Events;
 pub use guards::Steps;
 pub use indexed::IndexedTable;
 pub use machine::{run, run_in_place};
+pub use size::CodeSize;
