@@ -1,5 +1,5 @@
 //! How many rules are merged and how many are dropped, in code as it is compiled.
-ghost use Rattle.std.specs.Prelude.{◌<◌, ◌≤◌};
+ghost use Rattle.std.specs.Prelude.{◌<◌, ◌≤◌, ◌+◌};
 
 use filter_vm::{
     Action, Code, CodeSize, Events, IndexedTable, Instruction, Lookups, Operand, Start, Step,
@@ -24,7 +24,9 @@ fn rule(number: u32) -> RuleNo {
     }
 }
 
-fn source(operator: Operator, low: u32, high: u32) -> Action {
+fn source(operator: Operator, low: u32, high: u32) -> Action
+    requires { low ≤ high }
+{
     match Range::new(u128::from(low), u128::from(high)) {
         Some(range) => Action::Compare(Selector::IpSource, operator, range),
         None => unreachable!(),
@@ -33,8 +35,8 @@ fn source(operator: Operator, low: u32, high: u32) -> Action {
 
 /// `ip saddr` of a prefix of ten, so many numbers of whose second octet.
 fn ten(octet: u32, octets: u32) -> Action
-    requires { octet + octets ≤ 256 }
-    requires { 0 < octets }
+    requires within { octet + octets ≤ 256 }
+    requires some { 0 < octets }
 {
     let low = 0x0a00_0000 + octet * 65536;
     source(Operator::Equal, low, low + (octets * 65536 - 1))
