@@ -94,7 +94,7 @@ fn draw_verdict(dice: &mut Dice, chain: u32) -> Decision {
     match dice.below(4) {
         0 => Decision::Accept,
         1 => Decision::Drop,
-        2 if chain + 1 < CHAINS => Decision::Goto(chain + 1),
+        2 if chain < CHAINS - 1 => Decision::Goto(chain + 1),
         _ => Decision::Return,
     }
 }
