@@ -1,11 +1,11 @@
 /* Refuses calls of a program: bench/refuse loads it before the C library (ld.so(8), LD_PRELOAD).
 
-   REFUSE_CALL names the calls that are counted, `memory`, `read`, `write`, `open` or `stat`; the call number
-   REFUSE_AT, from 1, is refused, and all behind it where REFUSE_ALL is set. Each refusal is told on the
-   descriptor 9, a byte each: of a call on a descriptor the digit where that is one of the three that a process
-   begins with, 'a' where it is the first file that was opened, 'b' where it is the second .., else '-'; of a
-   request for memory the letter of the file that was opened last, '-' where none was. A refused call sets
-   errno to REFUSE_ERRNO; where that is 0 a write takes no byte.
+   REFUSE_CALL names the calls that are counted, `memory`, `read`, `write`, `open` or `stat`, or `step`, which is
+   memory while an odd number of files were opened; the call number REFUSE_AT, from 1, is refused, and all behind
+   it where REFUSE_ALL is set. Each refusal is told on the descriptor 9, a byte each: of a call on a descriptor the
+   digit where that is one of the three that a process begins with, 'a' where it is the first file that was
+   opened, 'b' where it is the second .., else '-'; of a request for memory the letter of the file that was opened
+   last, '-' where none was. A refused call sets errno to REFUSE_ERRNO; where that is 0 a write takes no byte.
 
    The toolchain's compiler has no header files, so what is used is declared here, for Linux on x86-64. */
 typedef unsigned long size_t;
@@ -54,7 +54,8 @@ static int refuses(const char *name, char byte) {
 }
 
 static int refuses_memory(void) {
-    return refuses("memory", next == 'a' ? '-' : next - 1);
+    char byte = next == 'a' ? '-' : next - 1;
+    return refuses("memory", byte) || ((next - 'a') % 2 && refuses("step", byte));
 }
 
 static char letter(int descriptor) {

@@ -30,6 +30,14 @@ fn prints<R: Abort + AllocGlobal>(rt: &R, rows: &[Row<'_>]) -> Result<(), Fail> 
     Ok(())
 }
 
+/// The check of each ruleset that was put together prints its line.
+fn texts_print<R: Abort + AllocGlobal>(rt: &R, rows: &[(Vec<u8>, &str)]) -> Result<(), Fail> {
+    for (rules, line) in rows {
+        prints(rt, &[(rules.as_slice(), *line)])?;
+    }
+    Ok(())
+}
+
 const NAMES: [Row<'static>; 12] = [
     (b"table t { } table ip t { }", "nftrun: rules N01"),
     (b"table t { } table inet t { }", "2 0 0"),
@@ -314,16 +322,25 @@ fn jumping(alloc: Global, jumps: usize, others: &[u8]) -> Result<Vec<u8>, Fail> 
     Ok(text)
 }
 
-/// Paths, costs, rules, elements and a log's prefix at their limits, and one past.
+/// So many chains of one rule each.
+fn chains_of(alloc: Global, count: usize) -> Result<Vec<u8>, Fail> {
+    let mut text = String::new(alloc);
+    text.push_str("table t { ")?;
+    for chain in 0..count {
+        writeln!(text, "chain c{chain} {{ accept; }}")?;
+    }
+    text.push_str("}")?;
+    Ok(text.as_bytes().to_vec(alloc)?)
+}
+
+/// Paths and costs at their limits, and one past.
 #[test]
-fn rulesets_have_limits(rt: HostRuntime) -> Result<(), Fail> {
+fn paths_and_costs_have_limits(rt: HostRuntime) -> Result<(), Fail> {
     let alloc = rt.alloc();
     let map = b"map m { type mark : verdict; elements = { 1 : jump c0 } }";
     let used =
         b"map m { type mark : verdict; elements = { 1 : jump c0 } } chain c { meta mark vmap @m }";
     let base = b"table t { chain c { type filter hook forward priority 0; ";
-    let elements = b"table t { set s { type mark; elements = { 0";
-    let prefix = b"table t { chain c { log prefix \"";
     let rows = [
         (jumping(alloc, 16, b"")?, "1 18 17"),
         (jumping(alloc, 17, b"")?, "nftrun: rules N05"),
@@ -335,6 +352,19 @@ fn rulesets_have_limits(rt: HostRuntime) -> Result<(), Fail> {
             repeated(alloc, base, b"counter ", 65_536, b"} }")?,
             "nftrun: rules N06",
         ),
+    ];
+    texts_print(&rt, &rows)
+}
+
+/// Rules, in one chain and each in its own, elements, a log's prefix and a text at their limits, and
+/// one past.
+#[test]
+fn sizes_have_limits(rt: HostRuntime) -> Result<(), Fail> {
+    let alloc = rt.alloc();
+    let base = b"table t { chain c { type filter hook forward priority 0; ";
+    let elements = b"table t { set s { type mark; elements = { 0";
+    let prefix = b"table t { chain c { log prefix \"";
+    let rows = [
         (
             repeated(alloc, base, b"log\n", 16_384, b"} }")?,
             "1 1 16384",
@@ -343,6 +373,8 @@ fn rulesets_have_limits(rt: HostRuntime) -> Result<(), Fail> {
             repeated(alloc, base, b"log\n", 16_385, b"} }")?,
             "nftrun: rules N15",
         ),
+        (chains_of(alloc, 16_384)?, "1 16384 16384"),
+        (chains_of(alloc, 16_385)?, "nftrun: rules N15"),
         (repeated(alloc, elements, b",0", 65_535, b"} } }")?, "1 0 0"),
         (
             repeated(alloc, elements, b",0", 65_536, b"} } }")?,
@@ -353,9 +385,11 @@ fn rulesets_have_limits(rt: HostRuntime) -> Result<(), Fail> {
             repeated(alloc, prefix, b"x", 128, b"\" } }")?,
             "nftrun: rules N09",
         ),
+        (repeated(alloc, b"#", b"x", 1_048_575, b"")?, "0 0 0"),
+        (
+            repeated(alloc, b"#", b"x", 1_048_576, b"")?,
+            "nftrun: rules E04",
+        ),
     ];
-    for (rules, line) in &rows {
-        prints(&rt, &[(rules.as_slice(), *line)])?;
-    }
-    Ok(())
+    texts_print(&rt, &rows)
 }

@@ -1,11 +1,12 @@
 //! What tests share: a packet and its records, texts of pieces, runs with slow and failing calls, and the
 //! line of a status.
 use engine::{RunFault, run};
-use pcap_io::{Calls, Counted, Failing, Slow};
+use pcap_io::{Calls, Counted, Slow};
 use program::Status;
 use std::alloc::Global;
 use std::hash::RandomState;
 use std::io;
+use std::io::{ErrorKind, Read, Write};
 use std::process::Abort;
 use std::random::RandomSource;
 use std::test::Fail;
@@ -82,13 +83,80 @@ pub fn hasher() -> io::Result<RandomState> {
     RandomState::new(&Fixed)
 }
 
+/// How a call fails.
+#[derive(Clone, Copy)]
+pub enum Fault {
+    /// With an error of this kind.
+    Error(ErrorKind),
+    /// A write takes no byte.
+    NoByte,
+}
+
+/// Works for so many calls (reads, writes and flushes), and then fails once. What it holds isn't told
+/// to the prover.
+#[derive(Drop)]
+struct Faulty<T> {
+    inner: T,
+    /// The greatest once it has failed.
+    calls: usize,
+    fault: Fault,
+}
+
+impl<T> Faulty<T> {
+    /// Why this call fails, where it is the one that does.
+    fn fails(&mut self) -> Option<Fault> {
+        if self.calls == 0 {
+            self.calls = usize::MAX;
+            return Some(self.fault);
+        }
+        self.calls -= 1;
+        None
+    }
+}
+
+/// The error of a call that fails.
+fn error_of(fault: Fault) -> io::Error {
+    match fault {
+        Fault::Error(kind) => io::Error::from(kind),
+        Fault::NoByte => io::Error::from(ErrorKind::WriteZero),
+    }
+}
+
+impl<R: Read> Read for Faulty<R> {
+    fn read(&mut self, buf: &mut [u8]) -> io::Result<usize> {
+        match self.fails() {
+            Some(fault) => Err(error_of(fault)),
+            None => self.inner.read(buf),
+        }
+    }
+}
+
+impl<W: Write> Write for Faulty<W> {
+    fn write(&mut self, buf: &[u8]) -> io::Result<usize> {
+        match self.fails() {
+            Some(Fault::NoByte) => Ok(0),
+            Some(fault) => Err(error_of(fault)),
+            None => self.inner.write(buf),
+        }
+    }
+
+    fn flush(&mut self) -> io::Result<()> {
+        match self.fails() {
+            Some(fault) => Err(error_of(fault)),
+            None => self.inner.flush(),
+        }
+    }
+}
+
 /// How the reader and the two writers work.
 #[derive(Clone, Copy)]
 pub struct Working {
     /// At most so many bytes a call.
     pub most: usize,
-    /// After so many calls one fails: of the reader, the writer of packets, the writer of the report.
+    /// After so many calls one fails: of the reader, the writer of packets, the writer of the report,
     pub calls: [usize; 3],
+    /// and so.
+    pub fault: Fault,
 }
 
 /// All calls work.
@@ -96,6 +164,7 @@ pub fn fine(most: usize) -> Working {
     Working {
         most,
         calls: [usize::MAX; 3],
+        fault: Fault::NoByte,
     }
 }
 
@@ -114,9 +183,18 @@ pub struct Given {
     pub calls: [u64; 3],
 }
 
-fn writer(alloc: Global, working: Working, calls: usize) -> Counted<Calls<Failing<Slow<Vec<u8>>>>> {
-    let slow = Slow::new(Vec::new(alloc), working.most);
-    Counted::new(Calls::new(Failing::new(slow, calls)))
+/// This reader or writer, of which one call fails.
+fn device<T>(inner: T, working: Working, calls: usize) -> Counted<Calls<Faulty<Slow<T>>>> {
+    Counted::new(Calls::new(Faulty {
+        inner: Slow::new(inner, working.most),
+        calls,
+        fault: working.fault,
+    }))
+}
+
+/// What a writer holds.
+fn held(writer: Calls<Faulty<Slow<Vec<u8>>>>) -> Vec<u8> {
+    writer.into_inner().inner.into_inner()
 }
 
 /// A run of these rules on this box over this capture.
@@ -129,10 +207,9 @@ pub fn run_over(
     working: Working,
 ) -> Given {
     let [reads, sends, reports] = working.calls;
-    let slow = Slow::new(capture, working.most);
-    let mut reader = Counted::new(Calls::new(Failing::new(slow, reads)));
-    let mut sent = writer(alloc, working, sends);
-    let mut report = writer(alloc, working, reports);
+    let mut reader = device(capture, working, reads);
+    let mut sent = device(Vec::new(alloc), working, sends);
+    let mut report = device(Vec::new(alloc), working, reports);
     let answer = match hasher() {
         Ok(hasher) => run(
             alloc,
@@ -157,8 +234,8 @@ pub fn run_over(
     let calls = [reader.calls(), sent.calls(), report.calls()];
     Given {
         status,
-        sent: sent.into_inner().into_inner().into_inner(),
-        report: report.into_inner().into_inner().into_inner(),
+        sent: held(sent),
+        report: held(report),
         failures,
         calls,
     }

@@ -1,0 +1,158 @@
+//! A record that a step was refused memory for is stepped again. Nothing is refused here: `bench/refuse` runs
+//! this test over and over, and refuses each request of its steps in turn.
+ghost use Rattle.std.specs.Prelude.{◌<◌};
+
+use crate::given::{BOX, bytes, fine, hasher, run_over};
+use crate::stops::{ROWS, Row};
+use aged_tracker::AgedTracker;
+use box_file::Plant;
+use conntrack::Connection;
+use nft_parser::parse;
+use pcap_io::{Capture, Counted, Record, Sink};
+use program::Status;
+use report::Report;
+use rule_check::check;
+use std::alloc::{AllocError, Global};
+use std::fs;
+use std::process::Abort;
+use std::rt::Files;
+use std::test::Fail;
+use stepping::Engine;
+
+/// What an engine tells between two records.
+#[derive(Drop)]
+struct Shown {
+    records: u64,
+    /// The number and the length of the last record, how many events it made, and whether it began a connection.
+    entry: Option<(u64, u16, usize, bool)>,
+    packet: Vec<u8>,
+    connections: Vec<Connection>,
+}
+
+fn look_at(alloc: Global, engine: &Engine<AgedTracker>) -> Result<Shown, AllocError> {
+    let entry = match engine.entry() {
+        Some(entry) => Some((entry.number, entry.length, entry.events.len(), entry.begun)),
+        None => None,
+    };
+    Ok(Shown {
+        records: engine.records(),
+        entry,
+        packet: engine.packet().to_vec(alloc)?,
+        connections: engine.connections(alloc)?,
+    })
+}
+
+fn is_same(one: &Shown, other: &Shown) -> bool {
+    one.records == other.records
+        && one.entry == other.entry
+        && one.packet == other.packet
+        && one.connections == other.connections
+}
+
+/// Steps the record, and once more where there was no memory to take it: the engine tells then what it told
+/// before. A file is opened before the first step and one behind it, by which `bench/refuse` knows the
+/// requests of this step from all others.
+fn step_again<R: Abort + AllocGlobal + Files>(
+    rt: &R,
+    engine: &mut Engine<AgedTracker>,
+    record: &Record,
+) -> Result<(), Fail>
+    requires few { engine.old.records < 4294967296 }
+{
+    let before = look_at(rt.alloc(), engine)?;
+    fs::open(rt, "/dev/null")?;
+    let is_taken = engine.step(record).is_ok();
+    fs::open(rt, "/dev/null")?;
+    if is_taken {
+        return Ok(());
+    }
+    let after = look_at(rt.alloc(), engine)?;
+    assert!(rt; is_same(&before, &after));
+    if engine.records() < 4_294_967_296 {
+        engine.step(record)?;
+    }
+    Ok(())
+}
+
+/// Steps the record, notes what is told of it, and puts the packet that it sends on.
+fn take<R: Abort + AllocGlobal + Files>(
+    rt: &R,
+    engine: &mut Engine<AgedTracker>,
+    record: &Record,
+    report: &mut Report,
+    sink: &mut Sink,
+    sent: &mut Counted<Vec<u8>>,
+) -> Result<(), Fail> {
+    if engine.records().max(report.records()) >= 4_294_967_296 {
+        return Err(Fail::new("too many records"));
+    }
+    step_again(rt, engine, record)?;
+    if let Some(entry) = engine.entry() {
+        report.note(&entry)?;
+    }
+    if let Some(leaving) = engine.leaving() {
+        sink.put(sent, &leaving)?;
+    }
+    Ok(())
+}
+
+/// Takes each record of the capture, of which no row has so many as 9, and tells whether its end is torn.
+fn take_all<R: Abort + AllocGlobal + Files>(
+    rt: &R,
+    engine: &mut Engine<AgedTracker>,
+    capture: &[u8],
+    report: &mut Report,
+    sink: &mut Sink,
+    sent: &mut Counted<Vec<u8>>,
+) -> Result<bool, Fail> {
+    let mut reader = Counted::new(capture);
+    let mut records = Capture::open(rt.alloc(), &mut reader)?;
+    for _ in 0..9u8 {
+        if records.next(&mut reader) != Ok(true) {
+            break;
+        }
+        if let Some(record) = records.record() {
+            take(rt, engine, &record, report, sink, sent)?;
+        }
+    }
+    Ok(records.next(&mut reader).is_err())
+}
+
+/// What the records of the row give, a step each: the capture that leaves, and the report.
+fn replayed<R: Abort + AllocGlobal + Files>(
+    rt: &R,
+    row: &Row,
+    mut engine: Engine<AgedTracker>,
+) -> Result<(Vec<u8>, Vec<u8>), Fail> {
+    let capture = bytes(rt.alloc(), row.capture)?;
+    let mut sent = Counted::new(Vec::new(rt.alloc()));
+    let mut told = Counted::new(Vec::new(rt.alloc()));
+    let mut sink = Sink::open(rt.alloc(), &mut sent)?;
+    let mut report = Report::new(rt.alloc(), engine.rules(), row.trace)?;
+    let torn = take_all(rt, &mut engine, &capture, &mut report, &mut sink, &mut sent)?;
+    sink.finish(&mut sent)?;
+    report.lines(engine.rules(), engine.live() as u64, torn, &mut told)?;
+    Ok((sent.into_inner(), told.into_inner()))
+}
+
+/// The box with the row's rules, before its first record.
+fn started(alloc: Global, row: &Row) -> Result<Engine<AgedTracker>, Fail> {
+    let tree = parse(alloc, row.rules)?;
+    let plant = Plant::read(alloc, BOX)?;
+    let checked = check(alloc, tree, plant)?;
+    Ok(Engine::new(alloc, hasher()?, checked)?)
+}
+
+/// The report is that of a run, and the packets are the row's.
+#[test]
+fn a_refused_record_is_stepped_again(rt: HostRuntime) -> Result<(), Fail> {
+    for row in &ROWS {
+        let capture = bytes(rt.alloc(), row.capture)?;
+        let wanted = bytes(rt.alloc(), row.sent)?;
+        let whole = run_over(rt.alloc(), row.rules, BOX, &capture, row.trace, fine(99));
+        assert!(&rt; !matches!(whole.status, Status::Memory));
+        let (sent, told) = replayed(&rt, row, started(rt.alloc(), row)?)?;
+        assert!(&rt; sent == wanted && told == whole.report);
+    }
+    Ok(())
+}
