@@ -30,14 +30,7 @@ const ASKED: [(u32, u32, Option<u32>); 9] = [
 ];
 
 /// Rules with numbers between them that none has.
-const APART: [(u32, u32); 6] = [
-    (9, 8),
-    (20, 20),
-    (30, 39),
-    (30, 34),
-    (20, 20),
-    (MOST, MOST),
-];
+const APART: [(u32, u32); 6] = [(9, 8), (20, 20), (30, 39), (30, 34), (20, 20), (MOST, MOST)];
 
 /// A number, and the first of these rules that has it.
 const FIRST: [(u32, Option<u32>); 7] = [
@@ -56,8 +49,10 @@ const NESTED: u32 = 16_384;
 
 fn pairs_of(alloc: Global, rules: &[(u32, u32)]) -> Result<Vec<(Range, u32)>, AllocError> {
     let mut pairs = Vec::new(alloc);
-    for (number, &(low, high)) in rules.iter().enumerate() {
-        pairs.push((Range { low, high }, number as u32))?;
+    let mut number: u32 = 0;
+    for &(low, high) in rules {
+        pairs.push((Range { low, high }, number))?;
+        number = number.saturating_add(1);
     }
     Ok(pairs)
 }
