@@ -19,6 +19,9 @@ use std::rt::Files;
 use std::test::Fail;
 use stepping::Engine;
 
+/// The greatest number of records in a capture.
+const MOST_RECORDS: u64 = 4_294_967_296;
+
 /// What an engine tells between two records.
 #[derive(Drop)]
 struct Shown {
@@ -68,71 +71,79 @@ fn step_again<R: Abort + AllocGlobal + Files>(
     }
     let after = look_at(rt.alloc(), engine)?;
     assert!(rt; is_same(&before, &after));
-    if engine.records() < 4_294_967_296 {
+    if engine.records() < MOST_RECORDS {
         engine.step(record)?;
     }
     Ok(())
 }
 
-/// Steps the record, notes what is told of it, and puts the packet that it sends on.
-fn take<R: Abort + AllocGlobal + Files>(
-    rt: &R,
-    engine: &mut Engine<AgedTracker>,
-    record: &Record,
-    report: &mut Report,
-    sink: &mut Sink,
-    sent: &mut Counted<Vec<u8>>,
-) -> Result<(), Fail> {
-    if engine.records().max(report.records()) >= 4_294_967_296 {
-        return Err(Fail::new("too many records"));
-    }
-    step_again(rt, engine, record)?;
-    if let Some(entry) = engine.entry() {
-        report.note(&entry)?;
-    }
-    if let Some(leaving) = engine.leaving() {
-        sink.put(sent, &leaving)?;
-    }
-    Ok(())
+/// A run among its records.
+#[derive(Drop)]
+struct Replayed {
+    engine: Engine<AgedTracker>,
+    report: Report,
+    sink: Sink,
+    sent: Counted<Vec<u8>>,
 }
 
-/// Takes each record of the capture, of which no row has so many as 9, and tells whether its end is torn.
-fn take_all<R: Abort + AllocGlobal + Files>(
-    rt: &R,
-    engine: &mut Engine<AgedTracker>,
-    capture: &[u8],
-    report: &mut Report,
-    sink: &mut Sink,
-    sent: &mut Counted<Vec<u8>>,
-) -> Result<bool, Fail> {
-    let mut reader = Counted::new(capture);
-    let mut records = Capture::open(rt.alloc(), &mut reader)?;
-    for _ in 0..9u8 {
-        if records.next(&mut reader) != Ok(true) {
-            break;
-        }
-        if let Some(record) = records.record() {
-            take(rt, engine, &record, report, sink, sent)?;
-        }
+impl Replayed {
+    /// Before the first record.
+    fn new(alloc: Global, engine: Engine<AgedTracker>, trace: bool) -> Result<Self, Fail> {
+        let mut sent = Counted::new(Vec::new(alloc));
+        Ok(Replayed {
+            report: Report::new(alloc, engine.rules(), trace)?,
+            engine,
+            sink: Sink::open(alloc, &mut sent)?,
+            sent,
+        })
     }
-    Ok(records.next(&mut reader).is_err())
-}
 
-/// What the records of the row give, a step each: the capture that leaves, and the report.
-fn replayed<R: Abort + AllocGlobal + Files>(
-    rt: &R,
-    row: &Row,
-    mut engine: Engine<AgedTracker>,
-) -> Result<(Vec<u8>, Vec<u8>), Fail> {
-    let capture = bytes(rt.alloc(), row.capture)?;
-    let mut sent = Counted::new(Vec::new(rt.alloc()));
-    let mut told = Counted::new(Vec::new(rt.alloc()));
-    let mut sink = Sink::open(rt.alloc(), &mut sent)?;
-    let mut report = Report::new(rt.alloc(), engine.rules(), row.trace)?;
-    let torn = take_all(rt, &mut engine, &capture, &mut report, &mut sink, &mut sent)?;
-    sink.finish(&mut sent)?;
-    report.lines(engine.rules(), engine.live() as u64, torn, &mut told)?;
-    Ok((sent.into_inner(), told.into_inner()))
+    /// Steps the record, notes what is told of it, and puts the packet that it sends on.
+    fn take<R: Abort + AllocGlobal + Files>(
+        &mut self,
+        rt: &R,
+        record: &Record,
+    ) -> Result<(), Fail> {
+        if self.engine.records() < MOST_RECORDS && self.report.records() < MOST_RECORDS {
+            step_again(rt, &mut self.engine, record)?;
+            if let Some(entry) = self.engine.entry() {
+                self.report.note(&entry)?;
+            }
+            if let Some(leaving) = self.engine.leaving() {
+                self.sink.put(&mut self.sent, &leaving)?;
+            }
+        }
+        Ok(())
+    }
+
+    /// Takes each record of the capture, of which no row has so many as 9, and tells whether its end is torn.
+    fn take_all<R: Abort + AllocGlobal + Files>(
+        &mut self,
+        rt: &R,
+        capture: &[u8],
+    ) -> Result<bool, Fail> {
+        let mut reader = Counted::new(capture);
+        let mut records = Capture::open(rt.alloc(), &mut reader)?;
+        for _ in 0..9u8 {
+            if records.next(&mut reader) != Ok(true) {
+                break;
+            }
+            if let Some(record) = records.record() {
+                self.take(rt, &record)?;
+            }
+        }
+        Ok(records.next(&mut reader).is_err())
+    }
+
+    /// The report of the whole run.
+    fn told(&mut self, alloc: Global, torn: bool) -> Result<Vec<u8>, Fail> {
+        self.sink.finish(&mut self.sent)?;
+        let mut told = Counted::new(Vec::new(alloc));
+        let live = self.engine.live() as u64;
+        self.report
+            .lines(self.engine.rules(), live, torn, &mut told)?;
+        Ok(told.into_inner())
+    }
 }
 
 /// The box with the row's rules, before its first record.
@@ -144,15 +155,23 @@ fn started(alloc: Global, row: &Row) -> Result<Engine<AgedTracker>, Fail> {
 }
 
 /// The report is that of a run, and the packets are the row's.
+fn replays<R: Abort + AllocGlobal + Files>(rt: &R, row: &Row) -> Result<(), Fail> {
+    let capture = bytes(rt.alloc(), row.capture)?;
+    let mut replayed = Replayed::new(rt.alloc(), started(rt.alloc(), row)?, row.trace)?;
+    let torn = replayed.take_all(rt, &capture)?;
+    let told = replayed.told(rt.alloc(), torn)?;
+    let sent = replayed.sent.into_inner();
+    assert!(rt; sent == bytes(rt.alloc(), row.sent)?);
+    let whole = run_over(rt.alloc(), row.rules, BOX, &capture, row.trace, fine(99));
+    assert!(rt; !matches!(whole.status, Status::Memory));
+    assert!(rt; told == whole.report);
+    Ok(())
+}
+
 #[test]
 fn a_refused_record_is_stepped_again(rt: HostRuntime) -> Result<(), Fail> {
     for row in &ROWS {
-        let capture = bytes(rt.alloc(), row.capture)?;
-        let wanted = bytes(rt.alloc(), row.sent)?;
-        let whole = run_over(rt.alloc(), row.rules, BOX, &capture, row.trace, fine(99));
-        assert!(&rt; !matches!(whole.status, Status::Memory));
-        let (sent, told) = replayed(&rt, row, started(rt.alloc(), row)?)?;
-        assert!(&rt; sent == wanted && told == whole.report);
+        replays(&rt, row)?;
     }
     Ok(())
 }
