@@ -154,13 +154,22 @@ fn started(alloc: Global, row: &Row) -> Result<Engine<AgedTracker>, Fail> {
     Ok(Engine::new(alloc, hasher()?, checked)?)
 }
 
+/// The packets that leave, and the report, where the row's records are stepped so.
+fn packets_and_report<R: Abort + AllocGlobal + Files>(
+    rt: &R,
+    row: &Row,
+    capture: &[u8],
+) -> Result<(Vec<u8>, Vec<u8>), Fail> {
+    let mut replayed = Replayed::new(rt.alloc(), started(rt.alloc(), row)?, row.trace)?;
+    let torn = replayed.take_all(rt, capture)?;
+    let told = replayed.told(rt.alloc(), torn)?;
+    Ok((replayed.sent.into_inner(), told))
+}
+
 /// The report is that of a run, and the packets are the row's.
 fn replays<R: Abort + AllocGlobal + Files>(rt: &R, row: &Row) -> Result<(), Fail> {
     let capture = bytes(rt.alloc(), row.capture)?;
-    let mut replayed = Replayed::new(rt.alloc(), started(rt.alloc(), row)?, row.trace)?;
-    let torn = replayed.take_all(rt, &capture)?;
-    let told = replayed.told(rt.alloc(), torn)?;
-    let sent = replayed.sent.into_inner();
+    let (sent, told) = packets_and_report(rt, row, &capture)?;
     assert!(rt; sent == bytes(rt.alloc(), row.sent)?);
     let whole = run_over(rt.alloc(), row.rules, BOX, &capture, row.trace, fine(99));
     assert!(rt; !matches!(whole.status, Status::Memory));
