@@ -72,6 +72,14 @@ impl Listed {
         Ok(None)
     }
 
+    /// Takes the capture's records, which are read as the row says.
+    fn run(&mut self, alloc: Global, row: &Row<'_>, capture: &[u8]) -> Result<()> {
+        let mut reader = Counted::new(Failing::new(Slow::new(capture, row.pace), row.reads));
+        let mut records = Capture::open(alloc, &mut reader)?;
+        let stop = self.play(&mut records, &mut reader)?;
+        self.finish(stop)
+    }
+
     /// Writes what is left, and the lines that come after the last record unless the records stop at a
     /// fault; a torn end is none.
     fn finish(&mut self, stop: Option<CaptureError>) -> Result<()> {
@@ -87,7 +95,19 @@ impl Listed {
     }
 }
 
-/// What a run of the row writes with these rules on this box over the capture, neither of which is refused.
+/// The box with these rules, before its first record; neither text is refused.
+fn engine_of(
+    alloc: Global,
+    hasher: RandomState,
+    rules: &[u8],
+    plant: &[u8],
+) -> Result<Engine<ListTracker>> {
+    let checked = check(alloc, parse(alloc, rules)?, Plant::read(alloc, plant)?)?;
+    Ok(Engine::new(alloc, hasher, checked)?)
+}
+
+/// What a run of the row writes with these rules on this box over the capture, none of which is refused before
+/// the first record.
 pub fn run_listed(
     alloc: Global,
     hasher: RandomState,
@@ -96,13 +116,9 @@ pub fn run_listed(
     plant: &[u8],
     capture: &[u8],
 ) -> Result<Written> {
-    let checked = check(alloc, parse(alloc, rules)?, Plant::read(alloc, plant)?)?;
-    let mut reader = Counted::new(Failing::new(Slow::new(capture, row.pace), row.reads));
-    let mut records = Capture::open(alloc, &mut reader)?;
-    let engine = Engine::new(alloc, hasher, checked)?;
+    let engine = engine_of(alloc, hasher, rules, plant)?;
     let mut listed = Listed::new(alloc, engine, row.trace)?;
-    let stop = listed.play(&mut records, &mut reader)?;
-    listed.finish(stop)?;
+    listed.run(alloc, row, capture)?;
     Ok(Written {
         sent: listed.sent.into_inner(),
         report: listed.report.into_inner(),
