@@ -7,9 +7,7 @@ use filter_vm::{
 };
 use ip_headers::Transport;
 use nft_tree::{MarkField, Operator, Policy, RuleNo, Selector};
-use rule_meaning::{
-    ChainNo, Decision, Ending, Event, Facts, Interface, Packet, Place, Tracking,
-};
+use rule_meaning::{ChainNo, Decision, Ending, Event, Facts, Interface, Packet, Place, Tracking};
 use set_intervals::{Intervals, Range};
 use std::alloc::{AllocError, Global};
 use std::process::Abort;
@@ -139,7 +137,10 @@ fn merges_matches_with_verdicts(rt: HostRuntime) -> Result<(), Fail> {
     let rules = vec![in alloc;
         vec![in alloc; ten(0, 256), decide(Decision::Accept)]?,
         vec![in alloc; ten(1, 1), decide(Decision::Drop)]?,
-        vec![in alloc; source(Operator::Equal, 0x0b00_0000, 0x0bff_ffff), decide(Decision::Drop)]?
+        vec![in alloc;
+            source(Operator::Equal, 0x0b00_0000, 0x0bff_ffff),
+            decide(Decision::Drop)
+        ]?,
     ]?;
     let code = chain(alloc, rules)?;
     assert!(rt; is_size(code.size(), 7, 1, 2, 1));
@@ -157,8 +158,11 @@ fn merges_no_rule_that_writes(rt: HostRuntime) -> Result<(), Fail> {
         None => unreachable!(),
     };
     let rules = vec![in alloc;
-        vec![in alloc; ten(0, 1), Action::SetMark(MarkField::Meta, Operand::Number(1))]?,
-        vec![in alloc; marks, decide(Decision::Drop)]?
+        vec![in alloc;
+            ten(0, 1),
+            Action::SetMark(MarkField::Meta, Operand::Number(1))
+        ]?,
+        vec![in alloc; marks, decide(Decision::Drop)]?,
     ]?;
     let code = chain(alloc, rules)?;
     assert!(rt; is_size(code.size(), 5, 0, 0, 0));
@@ -171,7 +175,7 @@ fn drops_what_no_packet_comes_to(rt: HostRuntime) -> Result<(), Fail> {
     let alloc = rt.alloc();
     let rules = vec![in alloc;
         vec![in alloc; decide(Decision::Accept)]?,
-        vec![in alloc; counter(1), decide(Decision::Drop)]?
+        vec![in alloc; counter(1), decide(Decision::Drop)]?,
     ]?;
     assert!(rt; is_size(chain(alloc, rules)?.size(), 4, 0, 0, 1));
     // A counter alone ends no chain, nor does a jump.
@@ -180,7 +184,7 @@ fn drops_what_no_packet_comes_to(rt: HostRuntime) -> Result<(), Fail> {
         vec![in alloc; decide(Decision::Jump(1))]?,
         vec![in alloc; counter(2), decide(Decision::Return)]?,
         vec![in alloc; ten(0, 1), decide(Decision::Drop)]?,
-        vec![in alloc; ten(1, 1), decide(Decision::Drop)]?
+        vec![in alloc; ten(1, 1), decide(Decision::Drop)]?,
     ]?;
     assert!(rt; is_size(chain(alloc, rules)?.size(), 9, 0, 0, 2));
     Ok(())
@@ -196,7 +200,7 @@ fn merges_only_equal_matches_and_verdicts(rt: HostRuntime) -> Result<(), Fail> {
         vec![in alloc; source(Operator::Unequal, 7, 7), decide(Decision::Drop)]?,
         vec![in alloc; ten(3, 1), decide(Decision::Drop)]?,
         vec![in alloc; ten(4, 1), decide(Decision::Jump(1))]?,
-        vec![in alloc; ten(5, 1), decide(Decision::Drop)]?
+        vec![in alloc; ten(5, 1), decide(Decision::Drop)]?,
     ]?;
     let code = chain(alloc, rules)?;
     assert!(rt; is_size(code.size(), 16, 0, 0, 0));
@@ -204,8 +208,11 @@ fn merges_only_equal_matches_and_verdicts(rt: HostRuntime) -> Result<(), Fail> {
     // A set that has nothing: its rule is no packet's.
     let rules = vec![in alloc;
         vec![in alloc; ten(0, 1), decide(Decision::Drop)]?,
-        vec![in alloc; Action::Within(vec![in alloc; Selector::IpSource]?, 0), decide(Decision::Accept)]?,
-        vec![in alloc; ten(1, 1), decide(Decision::Drop)]?
+        vec![in alloc;
+            Action::Within(vec![in alloc; Selector::IpSource]?, 0),
+            decide(Decision::Accept)
+        ]?,
+        vec![in alloc; ten(1, 1), decide(Decision::Drop)]?,
     ]?;
     let code = chain(alloc, rules)?;
     assert!(rt; is_size(code.size(), 7, 1, 2, 1));
