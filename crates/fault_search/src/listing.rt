@@ -119,8 +119,9 @@ impl<'a> Listing<'a> {
             self.is_left = true;
             return Ok(());
         };
-        self.add(offset, format!(in alloc; "{fault}")?)?;
-        for rule in spans(alloc, &self.left, Level::Rules)? {
+        self.add(offset, fault.to_string(alloc)?)?;
+        let rules = spans(alloc, &self.left, Level::Rules)?;
+        for &rule in &rules {
             if rule.start <= offset && offset < rule.end {
                 mask(&mut self.left, &[rule]);
                 return Ok(());
@@ -145,14 +146,14 @@ impl<'a> Listing<'a> {
             return Ok(());
         }
         let offset = stumble(alloc, &self.left, fault)?;
-        self.add(offset, format!(in alloc; "{fault}")?)?;
+        self.add(offset, fault.to_string(alloc)?)?;
         self.is_left = true;
         Ok(())
     }
 
     /// Takes out the parts of one level that can't be read alone, and tells whether there were any.
     fn take_parts(&mut self, alloc: Global) -> Result<bool, AllocError> {
-        for search in SEARCHES {
+        for search in &SEARCHES {
             let room = MOST.saturating_sub(self.found.len());
             let unread = search.unread(alloc, &self.left, room)?;
             for found in &unread {
@@ -173,7 +174,7 @@ impl<'a> Listing<'a> {
         if !is_told {
             let fault = unread.fault(alloc, &self.left)?;
             let offset = unread.stumble(alloc, &self.left, fault)?;
-            self.add(offset, format!(in alloc; "{fault}")?)?;
+            self.add(offset, fault.to_string(alloc)?)?;
         }
         if unread.level == Level::Declarations {
             self.gone.push(part)?;
@@ -190,7 +191,7 @@ impl<'a> Listing<'a> {
                 Err(BoxError::Refused(fault)) => fault,
                 Err(BoxError::Memory) => return Err(AllocError),
             };
-            let code = format!(in alloc; "{fault}")?;
+            let code = fault.to_string(alloc)?;
             let subject = Subject::Box {
                 code: code.as_str(),
             };
@@ -325,20 +326,31 @@ impl Listing<'_> {
             return self.take_rule(alloc, plant, rest, rule, code);
         }
         let middle = start + (end - start) / 2;
-        let first = code_with(alloc, &self.left, rest, &placed[start..middle], plant)?;
-        let second = code_with(alloc, &self.left, rest, &placed[middle..end], plant)?;
-        if first.is_none() && second.is_none() {
+        let first = self.open(alloc, plant, rest, &placed[start..middle], start, open)?;
+        let second = self.open(alloc, plant, rest, &placed[middle..end], middle, open)?;
+        if !first && !second {
             return self.take_across(alloc, plant, rest, placed, Range { start, end, code }, open);
         }
-        if let Some(code) = first {
-            let end = middle;
-            open.push(Range { start, end, code })?;
-        }
-        if let Some(code) = second {
-            let start = middle;
-            open.push(Range { start, end, code })?;
-        }
         Ok(())
+    }
+
+    /// Opens the range of these rules, which begins with the rule of a number, if they are refused
+    /// together, and tells whether they are.
+    fn open(
+        &self,
+        alloc: Global,
+        plant: &[u8],
+        rest: &[u8],
+        placed: &[Placed],
+        start: usize,
+        open: &mut Vec<Range>,
+    ) -> Result<bool, AllocError> {
+        let Some(code) = code_with(alloc, &self.left, rest, placed, plant)? else {
+            return Ok(false);
+        };
+        let end = start.saturating_add(placed.len());
+        open.push(Range { start, end, code })?;
+        Ok(true)
     }
 
     /// Takes the rule out with which a fault comes that neither half of its range has.
@@ -378,10 +390,7 @@ impl Listing<'_> {
         self.add(offset, code)?;
         let end = end - 1;
         if start < end && end <= placed.len() {
-            let left = code_with(alloc, &self.left, rest, &placed[start..end], plant)?;
-            if let Some(code) = left {
-                open.push(Range { start, end, code })?;
-            }
+            self.open(alloc, plant, rest, &placed[start..end], start, open)?;
         }
         Ok(())
     }
@@ -521,7 +530,7 @@ fn code_with(
 fn code_of(alloc: Global, text: &[u8], plant: &[u8]) -> Result<Option<String>, AllocError> {
     match engine::judge(alloc, text, plant) {
         Ok(_) => Ok(None),
-        Err(RunFault::Rules(fault)) => Ok(Some(format!(in alloc; "{fault}")?)),
+        Err(RunFault::Rules(fault)) => Ok(Some(fault.to_string(alloc)?)),
         Err(_) => Err(AllocError),
     }
 }

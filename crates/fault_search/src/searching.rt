@@ -10,7 +10,7 @@ use fault_places::{
 use std::alloc::{AllocError, Global};
 
 /// The levels of parts, in the order in which they are taken out.
-const LEVELS: [Level; 4] = [
+static LEVELS: [Level; 4] = [
     Level::Rules,
     Level::Sets,
     Level::Declarations,
@@ -53,7 +53,7 @@ impl Subject<'_> {
     /// fewest declarations, of the fewest tables.
     pub fn place(&self, alloc: Global, text: &[u8]) -> Result<Option<Place>, AllocError> {
         let mut left = text.to_vec(alloc)?;
-        for level in LEVELS {
+        for &level in &LEVELS {
             let parts = self.parts(alloc, text, level)?;
             let Stripped { rest, placed } = strip(alloc, &left, &parts)?;
             if let Some(part) = self.first(alloc, &left, &rest, &placed)? {
@@ -227,14 +227,14 @@ impl Subject<'_> {
         match self {
             Subject::Rules { code, plant } => match engine::judge(alloc, text, plant) {
                 Err(RunFault::Rules(fault)) => {
-                    let found = format!(in alloc; "{fault}")?;
+                    let found = fault.to_string(alloc)?;
                     Ok(found.as_str() == *code)
                 }
                 _ => Ok(false),
             },
             Subject::Box { code } => match Plant::read(alloc, text) {
                 Err(BoxError::Refused(fault)) => {
-                    let found = format!(in alloc; "{fault}")?;
+                    let found = fault.to_string(alloc)?;
                     Ok(found.as_str() == *code)
                 }
                 _ => Ok(false),

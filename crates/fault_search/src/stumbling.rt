@@ -48,7 +48,7 @@ const PAIR: Frame = Frame {
 };
 
 /// Endings of which one goes with most beginnings of what the grammar allows.
-const ENDINGS: [&str; 56] = [
+static ENDINGS: [&str; 56] = [
     "",
     " 1",
     " 1.2.3.4",
@@ -119,7 +119,8 @@ pub fn odd_word(alloc: Global, text: &[u8], line: u32) -> Result<Option<usize>, 
     let Some(line) = line_at(text, line as usize) else {
         return Ok(None);
     };
-    for word in words(alloc, text, line)? {
+    let found = words(alloc, text, line)?;
+    for &word in &found {
         if lex(alloc, of(text, word)).is_err() {
             return Ok(Some(word.start));
         }
@@ -192,7 +193,7 @@ fn first_unread(alloc: Global, text: &[u8]) -> Result<Unread, AllocError> {
         (Some(found), _) | (None, Some(found)) => return Ok(found),
         (None, None) => {}
     }
-    for search in SEARCHES {
+    for search in &SEARCHES {
         if let Some(found) = search.first(alloc, text)? {
             return Ok(found);
         }
@@ -235,7 +236,7 @@ const BARE_DECLARATIONS: Search = Search {
 };
 
 /// The other searches, in the order in which they are made.
-pub const SEARCHES: [Search; 4] = [
+pub static SEARCHES: [Search; 4] = [
     Search {
         frame: RULE,
         level: Level::Rules,
@@ -276,7 +277,8 @@ impl Search {
         most: usize,
     ) -> Result<Vec<Unread>, AllocError> {
         let mut found = Vec::new(alloc);
-        for part in spans(alloc, text, self.level)? {
+        let parts = spans(alloc, text, self.level)?;
+        for &part in &parts {
             if self.listed {
                 unread_elements(alloc, text, part, most, &mut found)?;
             } else if !self.passes(text, part)
@@ -315,7 +317,8 @@ fn unread_elements(
     } else {
         ELEMENT
     };
-    for element in elements(alloc, text, part, Depth::Set)? {
+    let listed = elements(alloc, text, part, Depth::Set)?;
+    for &element in &listed {
         if found.len() < most && !frame.reads(alloc, of(text, element), "", "")? {
             found.push(Unread {
                 frame,
@@ -458,7 +461,7 @@ impl Frame {
 
     /// Whether one of the endings goes with a beginning.
     fn ends(self, alloc: Global, beginning: &[u8], closing: &str) -> Result<bool, AllocError> {
-        for ending in ENDINGS {
+        for &ending in &ENDINGS {
             if self.reads(alloc, beginning, ending, closing)? {
                 return Ok(true);
             }

@@ -53,9 +53,9 @@ pub fn explained(
 /// The code of a fault.
 fn code_of(alloc: Global, fault: RunFault) -> Result<Option<String>, AllocError> {
     match fault {
-        RunFault::Rules(fault) => Ok(Some(format!(in alloc; "{fault}")?)),
-        RunFault::Box(fault) => Ok(Some(format!(in alloc; "{fault}")?)),
-        RunFault::Capture(fault) => Ok(Some(format!(in alloc; "{fault}")?)),
+        RunFault::Rules(fault) => Ok(Some(fault.to_string(alloc)?)),
+        RunFault::Box(fault) => Ok(Some(fault.to_string(alloc)?)),
+        RunFault::Capture(fault) => Ok(Some(fault.to_string(alloc)?)),
         RunFault::Device | RunFault::Memory => Ok(None),
     }
 }
