@@ -15,7 +15,7 @@ const CHAINS: u32 = 4;
 const SETS: u32 = 8;
 
 /// All that can head a run, and two that can't.
-const SELECTORS: [Selector; 25] = [
+static SELECTORS: [Selector; 25] = [
     Selector::IpSource,
     Selector::IpDestination,
     Selector::IpProtocol,

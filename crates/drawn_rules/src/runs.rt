@@ -125,6 +125,41 @@ fn run_all(
     Ok(outcomes)
 }
 
+fn draw_packets(alloc: Global, dice: &mut Dice) -> Result<Vec<Facts>, AllocError> {
+    let mut packets = Vec::new(alloc);
+    for _ in 0..PACKETS {
+        packets.push(draw_facts(dice))?;
+    }
+    Ok(packets)
+}
+
+/// Whether as much comes of as many packets, each time.
+fn are_same(sought: &[Outcome], walked: &[Outcome]) -> bool {
+    sought.len() == walked.len()
+        && sought
+            .iter()
+            .zip(walked.iter())
+            .all(|(one, other)| is_same_outcome(one, other))
+}
+
+/// Whether the same comes of packets where rules are sought and where they are walked.
+fn agrees(
+    alloc: Global,
+    code: &mut Code,
+    start: Start,
+    packets: &[Facts],
+    events: &mut Events,
+) -> Result<bool, AllocError>
+    requires { start.cost ≤ 65536 }
+{
+    let sought = run_all(alloc, code, start, packets, events)?;
+    for table in &mut code.tables {
+        table.walk();
+    }
+    let walked = run_all(alloc, code, start, packets, events)?;
+    Ok(are_same(&sought, &walked))
+}
+
 #[test]
 fn sought_rules_are_those_that_are_walked_to(rt: HostRuntime) -> Result<(), Fail> {
     let mut events = Events::new(rt.alloc())?;
@@ -132,22 +167,9 @@ fn sought_rules_are_those_that_are_walked_to(rt: HostRuntime) -> Result<(), Fail
         let mut dice = Dice::new(seed);
         let mut code = draw_code(rt.alloc(), &mut dice)?;
         let start = draw_start(&mut dice);
-        let mut packets = Vec::new(rt.alloc());
-        for _ in 0..PACKETS {
-            packets.push(draw_facts(&mut dice))?;
-        }
-        let sought = run_all(rt.alloc(), &code, start, &packets, &mut events)?;
-        for table in &mut code.tables {
-            table.walk();
-        }
-        let walked = run_all(rt.alloc(), &code, start, &packets, &mut events)?;
-        assert_eq!(rt; sought.len(), walked.len());
-        for (number, (one, other)) in sought.iter().zip(walked.iter()).enumerate() {
-            assert!(rt;
-                is_same_outcome(one, other),
-                "packet {number} of ruleset {seed}"
-            );
-        }
+        let packets = draw_packets(rt.alloc(), &mut dice)?;
+        let is_same = agrees(rt.alloc(), &mut code, start, &packets, &mut events)?;
+        assert!(&rt; is_same, "ruleset {seed}");
     }
     Ok(())
 }

@@ -1,9 +1,7 @@
 //! How many rules are merged and how many are dropped, in code as it is compiled.
-ghost use Rattle.std.specs.Prelude.{◌<◌, ◌≤◌, ◌+◌};
-
 use filter_vm::{
-    Action, Code, CodeSize, Events, IndexedTable, Instruction, Lookups, Operand, Start, Step,
-    Steps, TableCode, run,
+    Action, Code, Events, IndexedTable, Instruction, Lookups, Operand, Start, Step, Steps,
+    TableCode, run,
 };
 use ip_headers::Transport;
 use nft_tree::{MarkField, Operator, Policy, RuleNo, Selector};
@@ -12,6 +10,106 @@ use set_intervals::{Intervals, Range};
 use std::alloc::{AllocError, Global};
 use std::process::Abort;
 use std::test::Fail;
+
+/// A statement of a rule.
+#[derive(Clone, Copy)]
+enum Statement {
+    /// `ip saddr`, from an address on, and so many behind it.
+    Source(Operator, u32, u32),
+    /// `ip saddr 10.N.0.0/16`.
+    Ten(u8),
+    /// `ip saddr` of a set that has nothing.
+    NoSource,
+    /// `meta mark 1`.
+    Marked,
+    /// `meta mark set 1`.
+    Mark,
+    Counter,
+    Decide(Decision),
+}
+
+const ALL_OF_TEN: Statement = Statement::Source(Operator::Equal, 0x0a00_0000, 0x00ff_ffff);
+
+const ELEVEN: Statement = Statement::Source(Operator::Equal, 0x0b00_0000, 0x00ff_ffff);
+
+const NOT_SEVEN: Statement = Statement::Source(Operator::Unequal, 7, 0);
+
+const ACCEPT: Statement = Statement::Decide(Decision::Accept);
+
+const DROP: Statement = Statement::Decide(Decision::Drop);
+
+const JUMP: Statement = Statement::Decide(Decision::Jump(1));
+
+/// An address, the rule whose verdict a packet from there meets, and whether it is dropped.
+type Met = (u32, Option<u32>, bool);
+
+/// The rules of a chain, their steps, tables, merged and dropped rules, and what packets meet.
+type Row = (&'static [&'static [Statement]], [usize; 4], &'static [Met]);
+
+/// Matches with verdicts, one within another; a rule that writes what the next one asks for; a rule behind
+/// one that always decides; no counter alone ends a chain, nor does a jump; another match, a counter and a
+/// jump between; a set that has nothing.
+static ROWS: [Row; 6] = [
+    (
+        &[
+            &[ALL_OF_TEN, ACCEPT],
+            &[Statement::Ten(1), DROP],
+            &[ELEVEN, DROP],
+        ],
+        [7, 1, 2, 1],
+        &[
+            (0x0a01_0203, Some(0), false),
+            (0x0b00_0001, Some(2), true),
+            (0x0c00_0001, None, false),
+        ],
+    ),
+    (
+        &[
+            &[Statement::Ten(0), Statement::Mark],
+            &[Statement::Marked, DROP],
+        ],
+        [5, 0, 0, 0],
+        &[(0x0a00_0001, None, true), (0x0a01_0001, None, false)],
+    ),
+    (
+        &[&[ACCEPT], &[Statement::Counter, DROP]],
+        [4, 0, 0, 1],
+        &[(7, Some(0), false)],
+    ),
+    (
+        &[
+            &[Statement::Counter],
+            &[JUMP],
+            &[Statement::Counter, Statement::Decide(Decision::Return)],
+            &[Statement::Ten(0), DROP],
+            &[Statement::Ten(1), DROP],
+        ],
+        [9, 0, 0, 2],
+        &[],
+    ),
+    (
+        &[
+            &[Statement::Ten(0), DROP],
+            &[Statement::Ten(1), Statement::Counter, DROP],
+            &[Statement::Ten(2), DROP],
+            &[NOT_SEVEN, DROP],
+            &[Statement::Ten(3), DROP],
+            &[Statement::Ten(4), JUMP],
+            &[Statement::Ten(5), DROP],
+        ],
+        [16, 0, 0, 0],
+        &[(0x0a02_0000, Some(2), true)],
+    ),
+    (
+        &[
+            &[Statement::Ten(0), DROP],
+            &[Statement::NoSource, ACCEPT],
+            &[Statement::Ten(1), DROP],
+        ],
+        [7, 1, 2, 1],
+        &[(0x0a01_0000, Some(2), true)],
+    ),
+];
 
 /// The rule that a statement of a row stands in.
 fn rule(number: u32) -> RuleNo {
@@ -22,64 +120,84 @@ fn rule(number: u32) -> RuleNo {
     }
 }
 
-fn source(operator: Operator, low: u32, high: u32) -> Action
-    requires { low ≤ high }
-{
+fn compare(selector: Selector, operator: Operator, low: u32, span: u32) -> Action {
+    let high = low.saturating_add(span);
     match Range::new(u128::from(low), u128::from(high)) {
-        Some(range) => Action::Compare(Selector::IpSource, operator, range),
+        Some(range) => Action::Compare(selector, operator, range),
         None => unreachable!(),
     }
 }
 
-/// `ip saddr` of a prefix of ten, so many numbers of whose second octet.
-fn ten(octet: u32, octets: u32) -> Action
-    requires within { octet + octets ≤ 256 }
-    requires some { 0 < octets }
-{
-    let low = 0x0a00_0000 + octet * 65536;
-    source(Operator::Equal, low, low + (octets * 65536 - 1))
-}
-
-fn decide(decision: Decision) -> Action {
-    Action::Decide(decision)
-}
-
-fn counter(number: u32) -> Action {
-    Action::Count(Place {
-        rule: rule(number),
-        statement: 1,
+fn action(alloc: Global, statement: Statement, number: u32) -> Result<Action, AllocError> {
+    Ok(match statement {
+        Statement::Source(operator, low, span) => {
+            compare(Selector::IpSource, operator, low, span)
+        }
+        Statement::Ten(octet) => {
+            let low = u32::from_be_bytes([10, octet, 0, 0]);
+            compare(Selector::IpSource, Operator::Equal, low, 0xffff)
+        }
+        Statement::NoSource => Action::Within(vec![in alloc; Selector::IpSource]?, 0),
+        Statement::Marked => compare(Selector::MetaMark, Operator::Equal, 1, 0),
+        Statement::Mark => Action::SetMark(MarkField::Meta, Operand::Number(1)),
+        Statement::Counter => Action::Count(Place {
+            rule: rule(number),
+            statement: 1,
+        }),
+        Statement::Decide(decision) => Action::Decide(decision),
     })
 }
 
-/// A chain of these rules.
-fn chain(alloc: Global, rules: Vec<Vec<Action>>) -> Result<Code, AllocError> {
+/// The steps of a rule.
+fn add_rule(
+    alloc: Global,
+    statements: &[Statement],
+    number: u32,
+    steps: &mut Steps,
+) -> Result<(), AllocError> {
+    let mut skip = u32::try_from(statements.len()).unwrap_or(u32::MAX);
+    for &statement in statements {
+        skip = skip.saturating_sub(1);
+        let action = action(alloc, statement, number)?;
+        steps.push(Step::Run(Instruction {
+            rule: rule(number),
+            skip,
+            action,
+        }))?;
+    }
+    Ok(())
+}
+
+/// The steps of a chain of these rules.
+fn steps(alloc: Global, rules: &[&[Statement]]) -> Result<Steps, AllocError> {
     let mut steps = Steps::new(alloc);
     let mut number: u32 = 0;
-    for actions in rules {
-        let mut skip = u32::try_from(actions.len()).unwrap_or(u32::MAX);
-        for action in actions {
-            skip = skip.saturating_sub(1);
-            steps.push(Step::Run(Instruction {
-                rule: rule(number),
-                skip,
-                action,
-            }))?;
-        }
+    for statements in rules {
+        add_rule(alloc, statements, number, &mut steps)?;
         number = number.saturating_add(1);
     }
     steps.push(Step::End)?;
+    Ok(steps)
+}
+
+/// The chain, alone in its table.
+fn table(alloc: Global, rules: &[&[Statement]]) -> Result<IndexedTable, AllocError> {
     let lookups = Lookups {
         sets: vec![in alloc; Intervals::first_wins(alloc, &[])?]?,
         verdicts: Vec::new(alloc),
         numbers: Vec::new(alloc),
     };
-    let table = TableCode {
-        steps,
+    let code = TableCode {
+        steps: steps(alloc, rules)?,
         places: vec![in alloc; 0]?,
         lookups,
     };
+    IndexedTable::new(alloc, code)
+}
+
+fn chain(alloc: Global, rules: &[&[Statement]]) -> Result<Code, AllocError> {
     Ok(Code {
-        tables: vec![in alloc; IndexedTable::new(alloc, table)?]?,
+        tables: vec![in alloc; table(alloc, rules)?]?,
         prerouting: Vec::new(alloc),
         input: Vec::new(alloc),
         forward: Vec::new(alloc),
@@ -127,95 +245,28 @@ fn verdict(alloc: Global, code: &Code, source: u32) -> Result<(Option<u32>, bool
     Ok((took, matches!(end.ending, Ending::Dropped)))
 }
 
-fn is_size(size: CodeSize, steps: usize, tables: usize, merged: usize, dropped: usize) -> bool {
-    size.steps == steps && size.tables == tables && size.merged == merged && size.dropped == dropped
+/// Whether the packets meet what the row tells.
+fn meets(alloc: Global, code: &Code, packets: &[Met]) -> Result<bool, AllocError> {
+    for &(source, rule, is_dropped) in packets {
+        let (took, dropped) = verdict(alloc, code, source)?;
+        if took != rule || dropped != is_dropped {
+            return Ok(false);
+        }
+    }
+    Ok(true)
 }
 
 #[test]
-fn merges_matches_with_verdicts(rt: HostRuntime) -> Result<(), Fail> {
-    let alloc = rt.alloc();
-    let rules = vec![in alloc;
-        vec![in alloc; ten(0, 256), decide(Decision::Accept)]?,
-        vec![in alloc; ten(1, 1), decide(Decision::Drop)]?,
-        vec![in alloc;
-            source(Operator::Equal, 0x0b00_0000, 0x0bff_ffff),
-            decide(Decision::Drop)
-        ]?,
-    ]?;
-    let code = chain(alloc, rules)?;
-    assert!(rt; is_size(code.size(), 7, 1, 2, 1));
-    assert_eq!(rt; verdict(alloc, &code, 0x0a01_0203)?, (Some(0), false));
-    assert_eq!(rt; verdict(alloc, &code, 0x0b00_0001)?, (Some(2), true));
-    assert_eq!(rt; verdict(alloc, &code, 0x0c00_0001)?, (None, false));
-    Ok(())
-}
-
-#[test]
-fn merges_no_rule_that_writes(rt: HostRuntime) -> Result<(), Fail> {
-    let alloc = rt.alloc();
-    let marks = match Range::new(1, 1) {
-        Some(range) => Action::Compare(Selector::MetaMark, Operator::Equal, range),
-        None => unreachable!(),
-    };
-    let rules = vec![in alloc;
-        vec![in alloc;
-            ten(0, 1),
-            Action::SetMark(MarkField::Meta, Operand::Number(1))
-        ]?,
-        vec![in alloc; marks, decide(Decision::Drop)]?,
-    ]?;
-    let code = chain(alloc, rules)?;
-    assert!(rt; is_size(code.size(), 5, 0, 0, 0));
-    assert!(rt; verdict(alloc, &code, 0x0a00_0001)?.1);
-    Ok(())
-}
-
-#[test]
-fn drops_what_no_packet_comes_to(rt: HostRuntime) -> Result<(), Fail> {
-    let alloc = rt.alloc();
-    let rules = vec![in alloc;
-        vec![in alloc; decide(Decision::Accept)]?,
-        vec![in alloc; counter(1), decide(Decision::Drop)]?,
-    ]?;
-    assert!(rt; is_size(chain(alloc, rules)?.size(), 4, 0, 0, 1));
-    // A counter alone ends no chain, nor does a jump.
-    let rules = vec![in alloc;
-        vec![in alloc; counter(0)]?,
-        vec![in alloc; decide(Decision::Jump(1))]?,
-        vec![in alloc; counter(2), decide(Decision::Return)]?,
-        vec![in alloc; ten(0, 1), decide(Decision::Drop)]?,
-        vec![in alloc; ten(1, 1), decide(Decision::Drop)]?,
-    ]?;
-    assert!(rt; is_size(chain(alloc, rules)?.size(), 9, 0, 0, 2));
-    Ok(())
-}
-
-#[test]
-fn merges_only_equal_matches_and_verdicts(rt: HostRuntime) -> Result<(), Fail> {
-    let alloc = rt.alloc();
-    let rules = vec![in alloc;
-        vec![in alloc; ten(0, 1), decide(Decision::Drop)]?,
-        vec![in alloc; ten(1, 1), counter(1), decide(Decision::Drop)]?,
-        vec![in alloc; ten(2, 1), decide(Decision::Drop)]?,
-        vec![in alloc; source(Operator::Unequal, 7, 7), decide(Decision::Drop)]?,
-        vec![in alloc; ten(3, 1), decide(Decision::Drop)]?,
-        vec![in alloc; ten(4, 1), decide(Decision::Jump(1))]?,
-        vec![in alloc; ten(5, 1), decide(Decision::Drop)]?,
-    ]?;
-    let code = chain(alloc, rules)?;
-    assert!(rt; is_size(code.size(), 16, 0, 0, 0));
-    assert_eq!(rt; verdict(alloc, &code, 0x0a02_0000)?, (Some(2), true));
-    // A set that has nothing: its rule is no packet's.
-    let rules = vec![in alloc;
-        vec![in alloc; ten(0, 1), decide(Decision::Drop)]?,
-        vec![in alloc;
-            Action::Within(vec![in alloc; Selector::IpSource]?, 0),
-            decide(Decision::Accept)
-        ]?,
-        vec![in alloc; ten(1, 1), decide(Decision::Drop)]?,
-    ]?;
-    let code = chain(alloc, rules)?;
-    assert!(rt; is_size(code.size(), 7, 1, 2, 1));
-    assert_eq!(rt; verdict(alloc, &code, 0x0a01_0000)?, (Some(2), true));
+fn rules_are_merged_and_dropped(rt: HostRuntime) -> Result<(), Fail> {
+    for (number, (rules, wanted, packets)) in ROWS.iter().enumerate() {
+        let code = chain(rt.alloc(), rules)?;
+        let size = code.size();
+        let told = [size.steps, size.tables, size.merged, size.dropped];
+        assert!(&rt; told == *wanted, "row {number}");
+        assert!(&rt;
+            meets(rt.alloc(), &code, packets)?,
+            "packets of row {number}"
+        );
+    }
     Ok(())
 }

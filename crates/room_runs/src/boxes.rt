@@ -36,7 +36,7 @@ const TOO_LARGE: Option<BoxFault> = Some(BoxFault::TooLarge);
 
 const OUT_OF_RANGE: Option<BoxFault> = Some(BoxFault::OutOfRange);
 
-const ROWS: [Row<'static>; 38] = [
+static ROWS: [Row<'static>; 38] = [
     (TWO, b"", None),
     (TWO, b"\n \t \n", None),
     (TWO, b"# a comment\n#\n", None),
@@ -91,7 +91,7 @@ const ROWS: [Row<'static>; 38] = [
 
 /// Lines about idle limits. A number has any size, no leading zero and no sign; of a kind there is one
 /// line, whatever it says.
-const IDLE_ROWS: [Row<'static>; 43] = [
+static IDLE_ROWS: [Row<'static>; 43] = [
     (TWO, b"idle udp 120\n", None),
     (TWO, b"idle udp 604800\n", None),
     (TWO, b"idle established 7440\n", None),
@@ -158,7 +158,7 @@ fn fault(alloc: Global, text: &[u8]) -> Result<Option<BoxFault>, BoxError> {
 fn answers<R: Abort + AllocGlobal>(rt: &R, rows: &[Row<'_>]) -> Result<(), Fail> {
     for (number, (beginning, lines, wanted)) in rows.iter().enumerate() {
         let text = repeated(rt.alloc(), beginning, lines, 1, b"")?;
-        assert_eq!(rt; fault(rt.alloc(), &text)?, *wanted, "row {number}");
+        assert!(rt; fault(rt.alloc(), &text)? == *wanted, "row {number}");
     }
     Ok(())
 }
@@ -171,7 +171,7 @@ fn texts_are_read_or_refused(rt: HostRuntime) -> Result<(), Fail> {
 
 /// Lines, and the limits that they say: of UDP, of TCP that is established and that isn't, of echoes and of
 /// other protocols.
-const IDLE_LIMITS: [(&[u8], [u32; 5]); 4] = [
+static IDLE_LIMITS: [(&[u8], [u32; 5]); 4] = [
     (b"", [300, 7440, 240, 60, 600]),
     (b"idle udp 120\n", [120, 7440, 240, 60, 600]),
     (
@@ -187,7 +187,7 @@ const IDLE_LIMITS: [(&[u8], [u32; 5]); 4] = [
 /// Each kind has the limit of its line, and without one its usual limit.
 #[test]
 fn idle_limits_are_told(rt: HostRuntime) -> Result<(), Fail> {
-    for (lines, wanted) in IDLE_LIMITS {
+    for &(lines, wanted) in &IDLE_LIMITS {
         let text = repeated(rt.alloc(), TWO, lines, 1, b"")?;
         let idle = Plant::read(rt.alloc(), &text)?.idle();
         let told = [
@@ -256,7 +256,7 @@ fn texts_have_limits(rt: HostRuntime) -> Result<(), Fail> {
 /// An address, the interface by which it is reached, and the one that has it.
 type Way = ([u8; 4], Option<u32>, Option<u32>);
 
-const WAYS_OF_TWO: [Way; 12] = [
+static WAYS_OF_TWO: [Way; 12] = [
     ([192, 168, 1, 1], Some(2), Some(2)),
     ([192, 168, 1, 2], Some(2), None),
     ([192, 168, 1, 10], Some(2), None),
@@ -271,7 +271,7 @@ const WAYS_OF_TWO: [Way; 12] = [
     ([255, 255, 255, 255], None, None),
 ];
 
-const WAYS_OF_SEVERAL: [Way; 9] = [
+static WAYS_OF_SEVERAL: [Way; 9] = [
     ([9, 255, 255, 255], None, None),
     ([10, 0, 0, 0], Some(2), None),
     ([10, 0, 1, 0], Some(3), None),
@@ -283,7 +283,7 @@ const WAYS_OF_SEVERAL: [Way; 9] = [
     ([239, 0, 0, 1], None, Some(7)),
 ];
 
-const WAYS_OF_MANY: [Way; 2] = [
+static WAYS_OF_MANY: [Way; 2] = [
     ([10, 0, 3, 255], Some(1), None),
     ([10, 0, 4, 0], None, None),
 ];
@@ -322,7 +322,7 @@ fn routes_and_owners_are_found(rt: HostRuntime) -> Result<(), Fail> {
 /// name, and the interface's first address; None where there is no such interface.
 type Named<'a> = (&'a [u8], u32, &'a [u8], u32, Option<u32>);
 
-const NAMES: [Named<'static>; 5] = [
+static NAMES: [Named<'static>; 5] = [
     (TWO, 2, b"wa", 1, None),
     (TWO, 2, b"lan", 2, Some(0xc0a8_0101)),
     (TWO, 2, b"wan", 3, Some(0xcb00_7101)),
@@ -330,18 +330,24 @@ const NAMES: [Named<'static>; 5] = [
     (SEVERAL, 3, b"lan", 2, Some(0x0a00_0001)),
 ];
 
+/// Whether the box has this interface, or none.
+fn is_named(plant: &Plant, row: &Named<'_>) -> bool {
+    let (_, entering, word, number, first) = *row;
+    let (name, named) = match first {
+        Some(_) => (Some(word), Some(number)),
+        None => (None, None),
+    };
+    plant.first_address(number) == first
+        && plant.name(number) == name
+        && plant.named(word) == named
+        && plant.entering() == entering
+}
+
 #[test]
 fn interfaces_are_found_by_their_names(rt: HostRuntime) -> Result<(), Fail> {
-    for (text, entering, word, number, first) in NAMES {
-        let plant = Plant::read(rt.alloc(), text)?;
-        let (name, named) = match first {
-            Some(_) => (Some(word), Some(number)),
-            None => (None, None),
-        };
-        assert!(&rt; plant.first_address(number) == first, "{number}");
-        assert!(&rt; plant.name(number) == name, "{number}");
-        assert!(&rt; plant.named(word) == named, "{number}");
-        assert!(&rt; plant.entering() == entering, "{number}");
+    for (number, row) in NAMES.iter().enumerate() {
+        let plant = Plant::read(rt.alloc(), row.0)?;
+        assert!(&rt; is_named(&plant, row), "row {number}");
     }
     Ok(())
 }

@@ -1,6 +1,9 @@
 //! Captures as pcap-savefile(5) lays them out, read and written.
-use crate::given::{AT_1_5, HEADER, OUT_AT_1_5, OUT_HEADER, PLAIN, bytes, repeated};
+ghost use Rattle.std.specs.Prelude.{◌≤◌, length};
+
+use crate::given::{AT_1_5, HEADER, OUT_AT_1_5, OUT_HEADER, PLAIN, append, bytes, repeated};
 use pcap_io::{Calls, Capture, CaptureError, CaptureFault, Counted, Failing, Leaving, Sink, Slow};
+use std::alloc::Global;
 use std::io::{Read, Write};
 use std::process::Abort;
 use std::test::Fail;
@@ -45,7 +48,7 @@ const TORN_END: Result<u64, CaptureError> = Err(CaptureError::Refused(CaptureFau
 
 /// A place of a capture of two records, the byte that is put there, how long the capture is then,
 /// and how many records it has or why it is refused.
-const ROWS: [(usize, u8, usize, Result<u64, CaptureError>); 18] = [
+static ROWS: [(usize, u8, usize, Result<u64, CaptureError>); 18] = [
     (0, 0x4d, 85, MAGIC),
     (4, 3, 85, VERSION),
     (6, 3, 85, VERSION),
@@ -73,20 +76,21 @@ const ROWS: [(usize, u8, usize, Result<u64, CaptureError>); 18] = [
 
 #[test]
 fn records_are_counted_or_refused(rt: HostRuntime) -> Result<(), Fail> {
-    for (place, byte, length, wanted) in ROWS {
-        let mut capture = bytes(rt.alloc(), &[HEADER, AT_1_5, PLAIN, EARLIER])?;
-        assert!(&rt; place < capture.len());
-        capture[place] = byte;
-        capture.truncate(length);
-        let found = count_records(&rt, &capture);
-        assert!(&rt; found == wanted, "byte {place} of {length}");
+    let whole = bytes(rt.alloc(), &[HEADER, AT_1_5, PLAIN, EARLIER])?;
+    for (row, (place, byte, length, wanted)) in ROWS.iter().enumerate() {
+        let mut capture = whole.to_vec(rt.alloc())?;
+        if let Some(changed) = capture.get_mut(*place) {
+            *changed = *byte;
+        }
+        capture.truncate(*length);
+        assert!(&rt; count_records(&rt, &capture) == *wanted, "row {row}");
     }
     Ok(())
 }
 
 /// Headers of records at their limits and one past, each with so many bytes behind it: captured lengths
 /// of 262,144 and 262,145, and one byte fewer than that tells; 999,999 and 1,000,000 microseconds.
-const RECORDS: [(&str, usize, Result<u64, CaptureError>); 5] = [
+static RECORDS: [(&str, usize, Result<u64, CaptureError>); 5] = [
     ("00000000000000000000040000000000", 262_144, Ok(1)),
     ("00000000000000000000040000000000", 262_143, TORN_END),
     ("00000000000000000100040000000000", 262_145, MALFORMED),
@@ -127,80 +131,111 @@ fn a_read_that_fails_is_told_again(rt: HostRuntime) -> Result<(), Fail> {
     Ok(())
 }
 
-/// The greatest packets, of which the buffer holds one beside the end of another.
-#[test]
-fn writes_the_greatest_packets(rt: HostRuntime) -> Result<(), Fail> {
-    let mut packet = Vec::new(rt.alloc());
-    packet.resize(65_535, 7u8)?;
-    let mut wanted = bytes(rt.alloc(), &[OUT_HEADER])?;
-    let mut writer = Counted::new(Vec::new(rt.alloc()));
-    let mut sink = Sink::open(rt.alloc(), &mut writer)?;
-    for (moment, start) in [
-        (0, "00000000000000001300010013000100"),
-        (1, "00000000010000001300010013000100"),
-        (2, "00000000020000001300010013000100"),
-    ] {
+/// The beginnings of records of the greatest packets, a second apart.
+static GREATEST: [&str; 3] = [
+    "00000000000000001300010013000100",
+    "00000000010000001300010013000100",
+    "00000000020000001300010013000100",
+];
+
+/// What is written of them.
+fn greatest_written(alloc: Global, packet: &[u8]) -> Result<Vec<u8>, Fail>
+    requires { length packet.now ≤ 65535 }
+{
+    let mut writer = Counted::new(Vec::new(alloc));
+    let mut sink = Sink::open(alloc, &mut writer)?;
+    for moment in 0..3 {
         let leaving = Leaving {
             moment,
             interface: 1,
-            packet: &packet,
+            packet,
         };
         sink.put(&mut writer, &leaving)?;
-        let headers = bytes(
-            rt.alloc(),
-            &[start, "0800000000000001000104000000000000000000"],
-        )?;
-        wanted.extend_from_slice(&headers)?;
-        wanted.extend_from_slice(&packet)?;
     }
     sink.finish(&mut writer)?;
-    assert!(&rt; writer.into_inner().as_slice() == wanted.as_slice());
+    Ok(writer.into_inner())
+}
+
+/// The greatest packets, of which the buffer holds one beside the end of another.
+#[test]
+fn writes_the_greatest_packets(rt: HostRuntime) -> Result<(), Fail> {
+    let packet = vec![in rt.alloc(); 7u8; 65_535]?;
+    let mut wanted = bytes(rt.alloc(), &[OUT_HEADER])?;
+    for start in &GREATEST {
+        let headers = [*start, "0800000000000001000104000000000000000000"];
+        append(rt.alloc(), &headers, &mut wanted)?;
+        wanted.extend_from_slice(&packet)?;
+    }
+    let written = greatest_written(rt.alloc(), &packet)?;
+    assert!(&rt; written.as_slice() == wanted.as_slice());
     Ok(())
+}
+
+/// How many packets wait in the buffer before one has no room.
+const WAITING: usize = 2_048;
+
+/// What is written of the packets that wait, where the first write behind the header fails.
+fn written_in_the_end<R: Abort + AllocGlobal>(rt: &R, packet: &[u8]) -> Result<Vec<u8>, Fail>
+    requires { length packet.now ≤ 65535 }
+{
+    let leaving = Leaving {
+        moment: 1_500_000_000,
+        interface: 3,
+        packet,
+    };
+    let mut writer = Counted::new(Failing::new(Vec::new(rt.alloc()), 1));
+    let mut sink = Sink::open(rt.alloc(), &mut writer)?;
+    for _ in 0..WAITING {
+        sink.put(&mut writer, &leaving)?;
+    }
+    assert!(rt; sink.put(&mut writer, &leaving).is_err() && writer.failures() == 1);
+    // The call fails once; what waited is all there.
+    sink.finish(&mut writer)?;
+    Ok(writer.into_inner().into_inner())
 }
 
 /// A buffer that can't be drained keeps what waits.
 #[test]
 fn keeps_what_waits_after_a_put_that_failed(rt: HostRuntime) -> Result<(), Fail> {
     let header = bytes(rt.alloc(), &[OUT_HEADER])?;
-    let packet = bytes(rt.alloc(), &[PLAIN])?;
-    assert!(&rt; packet.len() == 28);
-    let leaving = Leaving {
-        moment: 1_500_000_000,
-        interface: 3,
-        packet: &packet,
-    };
-    let mut writer = Counted::new(Failing::new(Vec::new(rt.alloc()), 1));
-    let mut sink = Sink::open(rt.alloc(), &mut writer)?;
-    for _ in 0..2_048 {
-        sink.put(&mut writer, &leaving)?;
-    }
-    assert!(&rt; sink.put(&mut writer, &leaving).is_err());
-    assert!(&rt; writer.failures() == 1);
-    // The call fails once; what waited is all there.
-    sink.finish(&mut writer)?;
     let record = bytes(rt.alloc(), &[OUT_AT_1_5, PLAIN])?;
-    let wanted = repeated(rt.alloc(), &header, &record, 2_048, b"")?;
-    assert!(&rt; writer.into_inner().into_inner().as_slice() == wanted.as_slice());
+    let wanted = repeated(rt.alloc(), &header, &record, WAITING, b"")?;
+    assert!(&rt; record.len() == 64);
+    let written = written_in_the_end(&rt, &record[36..])?;
+    assert!(&rt; written.as_slice() == wanted.as_slice());
     Ok(())
+}
+
+/// Of six calls of a writer the one of this number fails, and is counted alone.
+fn counts_writes(alloc: Global, fails: usize) -> bool {
+    let mut writer = Counted::new(Calls::new(Failing::new(Vec::new(alloc), fails)));
+    let mut is_right = true;
+    for call in 0..6usize {
+        let has_failed = if call % 2 == 0 {
+            writer.write(b"byte").is_err()
+        } else {
+            writer.flush().is_err()
+        };
+        is_right &= has_failed == (call == fails);
+    }
+    is_right && writer.failures() == 1 && writer.into_inner().calls() == 6
+}
+
+/// So it is with a reader.
+fn counts_reads(fails: usize) -> bool {
+    let mut reader = Counted::new(Calls::new(Failing::new(&b"some bytes"[..], fails)));
+    let mut is_right = true;
+    for call in 0..6usize {
+        is_right &= reader.read(&mut [0u8; 3]).is_err() == (call == fails);
+    }
+    is_right && reader.failures() == 1 && reader.into_inner().calls() == 6
 }
 
 /// Each call is handed on once, whether it fails or not, and only the one that fails is counted.
 #[test]
-fn a_counted_call_is_made_once(rt: HostRuntime) -> Result<(), Fail> {
+fn a_counted_call_is_made_once(rt: HostRuntime) {
     for fails in 0..6usize {
-        let mut writer = Counted::new(Calls::new(Failing::new(Vec::new(rt.alloc()), fails)));
-        let mut reader = Counted::new(Calls::new(Failing::new(&b"some bytes"[..], fails)));
-        for call in 0..6usize {
-            let has_failed = if call % 2 == 0 {
-                writer.write(b"byte").is_err()
-            } else {
-                writer.flush().is_err()
-            };
-            assert!(&rt; has_failed == (call == fails));
-            assert!(&rt; reader.read(&mut [0u8; 3]).is_err() == (call == fails));
-        }
-        assert!(&rt; writer.failures() == 1 && reader.failures() == 1);
-        assert!(&rt; writer.into_inner().calls() == 6 && reader.into_inner().calls() == 6);
+        assert!(&rt; counts_writes(rt.alloc(), fails), "write {fails}");
+        assert!(&rt; counts_reads(fails), "read {fails}");
     }
-    Ok(())
 }

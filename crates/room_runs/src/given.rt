@@ -21,10 +21,16 @@ pub const OUT_AT_1_5: &str =
 /// The bytes of these hexadecimal texts, one after another.
 pub fn bytes(alloc: Global, parts: &[&str]) -> Result<Vec<u8>, Fail> {
     let mut all = Vec::new(alloc);
+    append(alloc, parts, &mut all)?;
+    Ok(all)
+}
+
+/// Adds them to what is there.
+pub fn append(alloc: Global, parts: &[&str], all: &mut Vec<u8>) -> Result<(), Fail> {
     for part in parts {
         all.extend_from_slice(&hex::decode(alloc, *part)?)?;
     }
-    Ok(all)
+    Ok(())
 }
 
 /// A beginning, so many times the same piece, and an end.

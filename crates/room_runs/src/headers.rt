@@ -1,11 +1,11 @@
 //! Packets read in place.
-use crate::given::{PLAIN, bytes};
+use crate::given::{PLAIN, append, bytes};
 use ip_headers::{Endpoint, HeaderFault, Kind, Transport, Tuple, View, ones_sum};
 use std::alloc::Global;
 use std::test::Fail;
 
 /// The first is that of RFC 1071, section 3.
-const SUMS: [(&[u8], u16); 5] = [
+static SUMS: [(&[u8], u16); 5] = [
     (&[0x00, 0x01, 0xf2, 0x03, 0xf4, 0xf5, 0xf6, 0xf7], 0xddf2),
     (&[], 0),
     (&[0x01], 0x0100),
@@ -15,7 +15,7 @@ const SUMS: [(&[u8], u16); 5] = [
 
 #[test]
 fn sums(rt: HostRuntime) {
-    for (words, sum) in SUMS {
+    for &(words, sum) in &SUMS {
         assert_eq!(rt; ones_sum(words), sum);
     }
 }
@@ -58,7 +58,7 @@ fn reads_in_place(rt: HostRuntime) -> Result<(), Fail> {
 }
 
 /// Beginnings of packets, and the first fault of each with its word.
-const FAULTS: [(&str, HeaderFault, &str); 9] = [
+static FAULTS: [(&str, HeaderFault, &str); 9] = [
     (
         "4500001c0001000040118ee3c0a8010ac63364",
         HeaderFault::Short,
@@ -125,7 +125,7 @@ fn first_faults(rt: HostRuntime) -> Result<(), Fail> {
 /// versions 3 and 5; IHL 4; a total length of 19, and of 23 and 24 behind options; a total length of one
 /// more than there is, and that byte; a checksum of one more and one less; DF, the reserved bit, MF, the
 /// offsets 1 and 8,191. The others are right in all else.
-const LIMITS: [(&str, Option<HeaderFault>); 18] = [
+static LIMITS: [(&str, Option<HeaderFault>); 18] = [
     ("4500001400010000402f8ecdc0a8010ac6336407", None),
     (
         "4500001400010000402f8ecdc0a8010ac63364",
@@ -194,19 +194,25 @@ fn headers_at_their_limits(rt: HostRuntime) -> Result<(), Fail> {
     Ok(())
 }
 
-/// A packet from 192.168.1.10 to 198.51.100.7, whose payload begins so and goes on with zeros; and
-/// behind its end nine bytes that don't count.
+/// The header of a packet from 192.168.1.10 to 198.51.100.7 with a payload of so many bytes.
+fn header(protocol: u8, length: u8) -> [u8; 20] {
+    let [long, short] = (20 + u16::from(length)).to_be_bytes();
+    let mut header = [
+        0x45, 0, long, short, 0, 1, 0, 0, 0x40, protocol, 0, 0, 0xc0, 0xa8, 0x01, 0x0a, 0xc6, 0x33,
+        0x64, 0x07,
+    ];
+    let [high, low] = (0xffff - ones_sum(&header)).to_be_bytes();
+    header[10] = high;
+    header[11] = low;
+    header
+}
+
+/// A packet whose payload begins so and goes on with zeros; and behind its end nine bytes that don't
+/// count.
 fn packet(alloc: Global, protocol: u8, beginning: &[&str], length: u8) -> Result<Vec<u8>, Fail> {
-    let mut packet = bytes(alloc, &["450000000001000040000000c0a8010ac6336407"])?;
-    packet.extend_from_slice(&bytes(alloc, beginning)?)?;
+    let mut packet = header(protocol, length).to_vec(alloc)?;
+    append(alloc, beginning, &mut packet)?;
     packet.resize(20 + usize::from(length), 0)?;
-    let [high, low] = (20 + u16::from(length)).to_be_bytes();
-    packet[2] = high;
-    packet[3] = low;
-    packet[9] = protocol;
-    let [high, low] = (0xffff - ones_sum(&packet[..20])).to_be_bytes();
-    packet[10] = high;
-    packet[11] = low;
     packet.resize(29 + usize::from(length), 0xff)?;
     Ok(packet)
 }
@@ -261,7 +267,7 @@ const ECHO: Payload = Payload {
 };
 
 /// Offsets of 5, 6, 15 and 4 words; lengths of 8, 9 and 7; an echo, its reply and a timestamp; GRE.
-const PAYLOADS: [Payload; 11] = [
+static PAYLOADS: [Payload; 11] = [
     SEGMENT,
     Payload {
         beginning: "1388005000000000000000006012",
@@ -345,7 +351,7 @@ type Message = (
 /// A header without options and one of 24 bytes; MF, DF and the reserved bit; an echo, its reply, GRE.
 /// None: messages that are no errors, an inner timestamp and an inner error, offsets of 1 and of 1fff,
 /// version 6, a header of 16 bytes.
-const MESSAGES: [Message; 15] = [
+static MESSAGES: [Message; 15] = [
     (
         "03",
         ["45", "0000", "11", "00351388"],
@@ -391,32 +397,45 @@ const MESSAGES: [Message; 15] = [
     ("03", ["44", "0000", "11", "00351388"], None),
 ];
 
-/// The inner total length, TTL and checksum are wrong in each.
+/// Whether a packet's message tells of a datagram of this kind with these ports, or of none, and is an
+/// error where it has to be one.
+fn tells(
+    packet: &[u8],
+    is_error: bool,
+    wanted: Option<(Kind, u16, u16)>,
+) -> Result<bool, HeaderFault> {
+    let view = View::read(packet)?;
+    Ok(ends(view.inner_tuple()) == wanted && (view.is_error() || !is_error))
+}
+
+/// So it is with so many bytes of the datagram. Its total length, TTL and checksum are wrong.
+fn tells_at(alloc: Global, row: &Message, length: u8) -> Result<bool, Fail> {
+    let (message, [first, flags, protocol, rest], wanted) = row;
+    let payload = [
+        *message,
+        "00000000000000",
+        *first,
+        "00ffff0001",
+        *flags,
+        "00",
+        *protocol,
+        "0000c6336407c0a8010a",
+        *rest,
+    ];
+    let told = match wanted {
+        Some((least, kind, from, to)) if *least <= length => Some((*kind, *from, *to)),
+        _ => None,
+    };
+    let read = packet(alloc, 1, &payload, 8u8.saturating_add(length))?;
+    Ok(tells(&read, wanted.is_some(), told)?)
+}
+
 #[test]
 fn errors_tell_of_datagrams(rt: HostRuntime) -> Result<(), Fail> {
-    for (row, (message, inner, wanted)) in MESSAGES.iter().enumerate() {
-        let [first, flags, protocol, rest] = *inner;
-        let payload = [
-            *message,
-            "00000000000000",
-            first,
-            "00ffff0001",
-            flags,
-            "00",
-            protocol,
-            "0000c6336407c0a8010a",
-            rest,
-        ];
+    for (number, row) in MESSAGES.iter().enumerate() {
         for length in 0..40u8 {
-            let read = packet(rt.alloc(), 1, &payload, 8 + length)?;
-            let view = View::read(&read)?;
-            let found = ends(view.inner_tuple());
-            let told = match wanted {
-                Some((least, kind, from, to)) if *least <= length => Some((*kind, *from, *to)),
-                _ => None,
-            };
-            assert!(&rt; found == told, "row {row} of {length} bytes");
-            assert!(&rt; view.is_error() || wanted.is_none());
+            let is_right = tells_at(rt.alloc(), row, length)?;
+            assert!(&rt; is_right, "row {number} of {length} bytes");
         }
     }
     Ok(())

@@ -5,30 +5,34 @@ use std::alloc::Global;
 use std::process::Abort;
 use std::test::Fail;
 
+/// What a token is, behind its text.
+fn value(alloc: Global, kind: Kind) -> Result<String, Fail> {
+    Ok(match kind {
+        Kind::NewLine => String::from_str(alloc, " newline\n")?,
+        Kind::Mark(_) => String::from_str(alloc, " mark\n")?,
+        Kind::Word => String::from_str(alloc, " word\n")?,
+        Kind::Number(number) => format!(in alloc; " number {number}\n")?,
+        Kind::Address(address) => format!(in alloc; " address {address:08x}\n")?,
+        Kind::String => String::from_str(alloc, " string\n")?,
+    })
+}
+
 /// The tokens of a text, each with what it is and a newline.
 fn shown(alloc: Global, text: &[u8]) -> Result<Vec<u8>, Fail> {
     let mut all = Vec::new(alloc);
-    for token in &lex(alloc, text)? {
+    let tokens = lex(alloc, text)?;
+    for token in &tokens {
         all.extend_from_slice(token.text)?;
-        let value = match token.kind {
-            Kind::NewLine => format!(in alloc; " newline")?,
-            Kind::Mark(_) => format!(in alloc; " mark")?,
-            Kind::Word => format!(in alloc; " word")?,
-            Kind::Number(number) => format!(in alloc; " number {number}")?,
-            Kind::Address(address) => format!(in alloc; " address {address:08x}")?,
-            Kind::String => {
-                all.extend_from_slice(token.between_quotes())?;
-                format!(in alloc; " string")?
-            }
-        };
-        all.extend_from_slice(value.as_bytes())?;
-        all.push(b'\n')?;
+        if matches!(token.kind, Kind::String) {
+            all.extend_from_slice(token.between_quotes())?;
+        }
+        all.extend_from_slice(value(alloc, token.kind)?.as_bytes())?;
     }
     Ok(all)
 }
 
 /// Many kinds of tokens; what is nearly one token; the largest numbers; no token.
-const CUT: [(&[u8], &[u8]); 4] = [
+static CUT: [(&[u8], &[u8]); 4] = [
     (
         b"tcp dport != 22 # x\n0x1fF \"a b\" 1.2.3.4.80 80accept \\\n\t<=\r=<=0x",
         b"tcp word
@@ -76,13 +80,13 @@ a-b./c word
 
 #[test]
 fn texts_are_cut(rt: HostRuntime) -> Result<(), Fail> {
-    for (text, tokens) in CUT {
-        assert_eq!(rt; shown(rt.alloc(), text)?.as_slice(), tokens);
+    for &(text, tokens) in &CUT {
+        assert!(&rt; shown(rt.alloc(), text)?.as_slice() == tokens);
     }
     Ok(())
 }
 
-const MARKS: [(&[u8], Mark); 21] = [
+static MARKS: [(&[u8], Mark); 21] = [
     (b"{", Mark::OpenBrace),
     (b"}", Mark::CloseBrace),
     (b"(", Mark::OpenParenthesis),
@@ -108,10 +112,10 @@ const MARKS: [(&[u8], Mark); 21] = [
 
 #[test]
 fn marks_are_told_apart(rt: HostRuntime) -> Result<(), Fail> {
-    for (text, mark) in MARKS {
+    for &(text, mark) in &MARKS {
         let tokens = lex(rt.alloc(), text)?;
-        assert_eq!(rt; tokens.len(), 1);
-        assert!(rt; matches!(tokens[0].kind, Kind::Mark(found) if found == mark));
+        assert!(&rt; tokens.len() == 1);
+        assert!(&rt; matches!(tokens[0].kind, Kind::Mark(found) if found == mark));
     }
     Ok(())
 }
@@ -136,7 +140,7 @@ fn answers<R: Abort + AllocGlobal>(
     Ok(())
 }
 
-const FAULTS: [(&[u8], Result<usize, LexFault>); 13] = [
+static FAULTS: [(&[u8], Result<usize, LexFault>); 13] = [
     (b"accept\n$ 007", Err(LexFault::Byte { line: 2 })),
     (b"!", Err(LexFault::Byte { line: 1 })),
     (b"a \\\nb \\", Err(LexFault::Byte { line: 2 })),

@@ -19,6 +19,9 @@ const A: u32 = 0xc0a8_010a;
 
 const A2: u32 = 0xc0a8_010b;
 
+/// A protocol without ports.
+const GRE: Kind = Kind::Other(47);
+
 fn end(address: u32, port: u16) -> Endpoint {
     Endpoint { address, port }
 }
@@ -79,87 +82,95 @@ fn released(table: &mut Mappings, kind: Kind, external: Endpoint, number: usize)
 #[test]
 fn one_port_each(rt: HostRuntime) -> Result<(), Fail> {
     let mut table = empty(rt.alloc(), RandomState::new(&rt)?);
-    assert_eq!(rt; table.inbound(Kind::Udp, end(E, 5000)), None);
-    assert_eq!(rt;
-        held(&mut table, Kind::Udp, end(A, 5000), E, 0)?,
-        Some(5000)
-    );
-    assert_eq!(rt;
-        held(&mut table, Kind::Udp, end(A, 5000), E, 1)?,
-        Some(5000)
-    );
-    assert_eq!(rt;
-        held(&mut table, Kind::Udp, end(A2, 5000), E, 2)?,
-        Some(5002)
-    );
-    assert_eq!(rt; table.inbound(Kind::Udp, end(E, 5000)), Some(end(A, 5000)));
-    assert_eq!(rt; table.inbound(Kind::Udp, end(E, 5002)), Some(end(A2, 5000)));
-    assert!(rt; released(&mut table, Kind::Udp, end(E, 5000), 3));
-    assert_eq!(rt; table.inbound(Kind::Udp, end(E, 5000)), Some(end(A, 5000)));
-    assert!(rt; released(&mut table, Kind::Udp, end(E, 5000), 3));
-    assert_eq!(rt; table.inbound(Kind::Udp, end(E, 5000)), None);
-    assert_eq!(rt; table.source(Kind::Udp, end(A2, 6000), E, None), Ok(6000));
-    assert_eq!(rt; table.source(Kind::Udp, end(A2, 5000), E, None), Ok(5002));
-    assert_eq!(rt; table.pools(), 2);
-    assert!(rt; released(&mut table, Kind::Udp, end(E, 5002), 3));
-    assert_eq!(rt; table.pools(), 2);
+    give_ports(&rt, &mut table)?;
+    free_ports(&rt, &mut table);
     Ok(())
+}
+
+/// Two holders of one endpoint's port, and one of another's.
+fn give_ports<R: Abort>(rt: &R, table: &mut Mappings) -> Result<(), Memory>
+    requires few { (m : Mapped) → holders_of m table.old.held ≤ 0 }
+    ensures few { (m : Mapped) → holders_of m table.new.held ≤ 3 }
+{
+    assert!(rt; table.inbound(Kind::Udp, end(E, 5000)).is_none());
+    assert!(rt; held(table, Kind::Udp, end(A, 5000), E, 0)? == Some(5000));
+    assert!(rt; held(table, Kind::Udp, end(A, 5000), E, 1)? == Some(5000));
+    assert!(rt; held(table, Kind::Udp, end(A2, 5000), E, 2)? == Some(5002));
+    assert!(rt; table.inbound(Kind::Udp, end(E, 5000)) == Some(end(A, 5000)));
+    assert!(rt; table.inbound(Kind::Udp, end(E, 5002)) == Some(end(A2, 5000)));
+    Ok(())
+}
+
+fn free_ports<R: Abort>(rt: &R, table: &mut Mappings)
+    requires few { (m : Mapped) → holders_of m table.old.held ≤ 3 }
+{
+    assert!(rt; released(table, Kind::Udp, end(E, 5000), 3));
+    assert!(rt; table.inbound(Kind::Udp, end(E, 5000)) == Some(end(A, 5000)));
+    assert!(rt; released(table, Kind::Udp, end(E, 5000), 3));
+    assert!(rt; table.inbound(Kind::Udp, end(E, 5000)).is_none());
+    assert!(rt; table.source(Kind::Udp, end(A2, 6000), E, None) == Ok(6000));
+    assert!(rt; table.source(Kind::Udp, end(A2, 5000), E, None) == Ok(5002));
+    assert!(rt; table.pools() == 2);
+    assert!(rt; released(table, Kind::Udp, end(E, 5002), 3));
+    assert!(rt; table.pools() == 2);
 }
 
 /// Ports of one kind say nothing of those of another; a protocol without ports has one mapping.
 #[test]
 fn kinds_stand_apart(rt: HostRuntime) -> Result<(), Fail> {
     let mut table = empty(rt.alloc(), RandomState::new(&rt)?);
-    let gre = Kind::Other(47);
-    assert_eq!(rt;
-        held(&mut table, Kind::Udp, end(A, 5000), E, 0)?,
-        Some(5000)
-    );
-    assert_eq!(rt;
-        held(&mut table, Kind::Tcp, end(A2, 5000), E, 1)?,
-        Some(5000)
-    );
-    assert_eq!(rt;
-        held(&mut table, Kind::Ask, end(A2, 5000), E, 2)?,
-        Some(5000)
-    );
-    assert_eq!(rt; held(&mut table, gre, end(A, 0), E, 3)?, Some(0));
-    assert_eq!(rt;
-        table.source(gre, end(A2, 0), E, None),
-        Err(MapError::NoPort)
-    );
-    assert_eq!(rt; table.source(gre, end(A2, 0), E + 1, None), Ok(0));
-    assert_eq!(rt; table.source(Kind::Ask, end(A, 5000), E, None), Ok(5001));
-    assert_eq!(rt; table.inbound(Kind::Ask, end(E, 5000)), Some(end(A2, 5000)));
-    assert_eq!(rt; table.pools(), 4);
-    assert!(rt; released(&mut table, gre, end(E, 0), 4));
-    assert_eq!(rt; table.source(gre, end(A2, 0), E, None), Ok(0));
+    give_kinds(&rt, &mut table)?;
+    ask_kinds(&rt, &mut table);
     Ok(())
 }
+
+/// A mapping of each of four kinds.
+fn give_kinds<R: Abort>(rt: &R, table: &mut Mappings) -> Result<(), Memory>
+    requires few { (m : Mapped) → holders_of m table.old.held ≤ 0 }
+    ensures few { (m : Mapped) → holders_of m table.new.held ≤ 4 }
+{
+    assert!(rt; held(table, Kind::Udp, end(A, 5000), E, 0)? == Some(5000));
+    assert!(rt; held(table, Kind::Tcp, end(A2, 5000), E, 1)? == Some(5000));
+    assert!(rt; held(table, Kind::Ask, end(A2, 5000), E, 2)? == Some(5000));
+    assert!(rt; held(table, GRE, end(A, 0), E, 3)? == Some(0));
+    Ok(())
+}
+
+fn ask_kinds<R: Abort>(rt: &R, table: &mut Mappings)
+    requires few { (m : Mapped) → holders_of m table.old.held ≤ 4 }
+{
+    assert!(rt; table.source(GRE, end(A2, 0), E, None) == Err(MapError::NoPort));
+    assert!(rt; table.source(GRE, end(A2, 0), E + 1, None) == Ok(0));
+    assert!(rt; table.source(Kind::Ask, end(A, 5000), E, None) == Ok(5001));
+    assert!(rt; table.inbound(Kind::Ask, end(E, 5000)) == Some(end(A2, 5000)));
+    assert!(rt; table.pools() == 4);
+    assert!(rt; released(table, GRE, end(E, 0), 4));
+    assert!(rt; table.source(GRE, end(A2, 0), E, None) == Ok(0));
+}
+
+/// The port 5000 alone.
+const ONE: Option<Range> = Some(Range {
+    low: 5000,
+    high: 5000,
+});
 
 /// Where all ports of a range are held there is none, but for one who has one already.
 #[test]
 fn a_range_runs_out(rt: HostRuntime) -> Result<(), Fail> {
     let mut table = empty(rt.alloc(), RandomState::new(&rt)?);
-    let one = Some(Range {
-        low: 5000,
-        high: 5000,
-    });
-    assert_eq!(rt; table.source(Kind::Tcp, end(A2, 5000), E, one), Ok(5000));
-    assert_eq!(rt;
-        held(&mut table, Kind::Tcp, end(A, 5000), E, 0)?,
-        Some(5000)
-    );
-    assert_eq!(rt;
-        held(&mut table, Kind::Tcp, end(A, 7000), E, 1)?,
-        Some(7000)
-    );
-    assert_eq!(rt;
-        table.source(Kind::Tcp, end(A2, 5000), E, one),
-        Err(MapError::NoPort)
-    );
-    assert_eq!(rt; table.source(Kind::Tcp, end(A, 7000), E, one), Ok(7000));
-    assert_eq!(rt; table.source(Kind::Udp, end(A2, 5000), E, one), Ok(5000));
+    use_up_the_range(&rt, &mut table)?;
+    Ok(())
+}
+
+fn use_up_the_range<R: Abort>(rt: &R, table: &mut Mappings) -> Result<(), Memory>
+    requires few { (m : Mapped) → holders_of m table.old.held ≤ 0 }
+{
+    assert!(rt; table.source(Kind::Tcp, end(A2, 5000), E, ONE) == Ok(5000));
+    assert!(rt; held(table, Kind::Tcp, end(A, 5000), E, 0)? == Some(5000));
+    assert!(rt; held(table, Kind::Tcp, end(A, 7000), E, 1)? == Some(7000));
+    assert!(rt; table.source(Kind::Tcp, end(A2, 5000), E, ONE) == Err(MapError::NoPort));
+    assert!(rt; table.source(Kind::Tcp, end(A, 7000), E, ONE) == Ok(7000));
+    assert!(rt; table.source(Kind::Udp, end(A2, 5000), E, ONE) == Ok(5000));
     Ok(())
 }
 
@@ -172,7 +183,7 @@ fn connection<R: Abort + AllocGlobal>(rt: &R, table: &mut Mappings, address: u32
     ensures few { (m : Mapped) → holders_of m table.new.held ≤ number + 2 }
 {
     if table.reserve_one().is_err() {
-        assert_eq!(rt; table.inbound(Kind::Udp, end(E, 5000)), Some(end(A, 5000)));
+        assert!(rt; table.inbound(Kind::Udp, end(E, 5000)) == Some(end(A, 5000)));
         // One call in all is refused.
         assert!(rt; table.reserve_one().is_ok());
     }
@@ -193,7 +204,7 @@ fn connection<R: Abort + AllocGlobal>(rt: &R, table: &mut Mappings, address: u32
 fn only_reserving_wants_memory(rt: HostRuntime) -> Result<(), Fail> {
     let mut table = empty(rt.alloc(), RandomState::new(&rt)?);
     if held(&mut table, Kind::Udp, end(A, 5000), E, 0).is_err() {
-        assert_eq!(rt; table.inbound(Kind::Udp, end(E, 5000)), None);
+        assert!(rt; table.inbound(Kind::Udp, end(E, 5000)) == None);
         return Ok(());
     }
     connection(&rt, &mut table, 1, 1);

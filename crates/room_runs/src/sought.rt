@@ -7,7 +7,7 @@ use std::test::Fail;
 const MOST: u32 = u32::MAX;
 
 /// The rules by their numbers: nested ranges, a number twice, the least and the greatest one.
-const RULES: [(u32, u32); 6] = [
+static RULES: [(u32, u32); 6] = [
     (10, 29),
     (20, 20),
     (0, MOST),
@@ -17,7 +17,7 @@ const RULES: [(u32, u32); 6] = [
 ];
 
 /// A number, the rule from which on is sought, and what is found.
-const ASKED: [(u32, u32, Option<u32>); 9] = [
+static ASKED: [(u32, u32, Option<u32>); 9] = [
     (9, 0, Some(2)),
     (10, 0, Some(0)),
     (20, 0, Some(0)),
@@ -30,10 +30,10 @@ const ASKED: [(u32, u32, Option<u32>); 9] = [
 ];
 
 /// Rules with numbers between them that none has.
-const APART: [(u32, u32); 6] = [(9, 8), (20, 20), (30, 39), (30, 34), (20, 20), (MOST, MOST)];
+static APART: [(u32, u32); 6] = [(9, 8), (20, 20), (30, 39), (30, 34), (20, 20), (MOST, MOST)];
 
 /// A number, and the first of these rules that has it.
-const FIRST: [(u32, Option<u32>); 7] = [
+static FIRST: [(u32, Option<u32>); 7] = [
     (0, None),
     (19, None),
     (20, Some(1)),

@@ -45,7 +45,7 @@ fn shows<R: Abort + AllocGlobal>(
 /// No range; all numbers; the least and the greatest; the addresses of three ranges that overlap or
 /// touch; a map of neighbours of which two agree; elements that agree where they overlap; every
 /// address.
-const ROWS: [Row; 7] = [
+static ROWS: [Row; 7] = [
     Row {
         ranges: &[],
         count: 0,

@@ -29,7 +29,7 @@ fn answers<R: Abort + AllocGlobal>(
     Ok(())
 }
 
-const READ: [&[u8]; 28] = [
+static READ: [&[u8]; 28] = [
     b"",
     b"\n;\n",
     b"table t { }",
@@ -67,7 +67,7 @@ const READ: [&[u8]; 28] = [
     b"table t { chain a { counter notrack accept comment \"x\"; ct state untracked,new notrack notrack } }",
 ];
 
-const SYNTAX: [&[u8]; 23] = [
+static SYNTAX: [&[u8]; 23] = [
     b"table ip t { chain a { tcp dport } }",
     b"table ip t { chain a { accept }",
     b"table ip t { chain a { } } }",
@@ -93,13 +93,13 @@ const SYNTAX: [&[u8]; 23] = [
     b"table t { chain a { notrack untracked } }",
 ];
 
-const LEFT_OUT: [&[u8]; 3] = [
+static LEFT_OUT: [&[u8]; 3] = [
     b"table ip6 t { }",
     b"table ip t { chain a { tcp dport 22 reject } }",
     b"table ip t { chain fwd { tcp dport } }",
 ];
 
-const NUMBERS: [&[u8]; 2] = [
+static NUMBERS: [&[u8]; 2] = [
     b"table ip t { chain a {\nip saddr 1.2.3.256 drop } }",
     b"table ip t { chain a {\nmeta mark 007 drop } }",
 ];

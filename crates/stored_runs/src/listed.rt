@@ -29,11 +29,13 @@ struct Listed {
 impl Listed {
     /// Before the first record.
     fn new(alloc: Global, engine: Engine<ListTracker>, trace: bool) -> Result<Self> {
+        let numbers = Report::new(alloc, engine.rules(), trace)?;
         let mut sent = Counted::new(Vec::new(alloc));
+        let sink = Sink::open(alloc, &mut sent)?;
         Ok(Listed {
-            numbers: Report::new(alloc, engine.rules(), trace)?,
             engine,
-            sink: Sink::open(alloc, &mut sent)?,
+            numbers,
+            sink,
             sent,
             report: Counted::new(Vec::new(alloc)),
         })
@@ -102,7 +104,9 @@ fn engine_of(
     rules: &[u8],
     plant: &[u8],
 ) -> Result<Engine<ListTracker>> {
-    let checked = check(alloc, parse(alloc, rules)?, Plant::read(alloc, plant)?)?;
+    let tree = parse(alloc, rules)?;
+    let plant = Plant::read(alloc, plant)?;
+    let checked = check(alloc, tree, plant)?;
     Ok(Engine::new(alloc, hasher, checked)?)
 }
 

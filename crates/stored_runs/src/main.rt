@@ -42,7 +42,7 @@ use std::{fs, str};
 const OUTPUT: &str = "longer.pcap";
 
 /// The files of rows.
-const FILES: [&str; 10] = [
+static FILES: [&str; 10] = [
     "connections.rows",
     "limits.rows",
     "translation.rows",
@@ -60,18 +60,36 @@ const FAULT_LINES: &str = "faults/lines.txt";
 
 fn main(rt: HostRuntime) -> Result<ExitCode> {
     let status = program::start(&rt, &rt.stdout(), &rt.stderr());
-    let sent = fs::read(&rt, OUTPUT)?;
+    print_sent(&rt)?;
+    for &file in &FILES {
+        run_file(&rt, file)?;
+    }
+    compare_texts(&rt)?;
+    Ok(ExitCode::from(status))
+}
+
+/// Prints what the program wrote.
+fn print_sent(rt: &HostRuntime) -> Result<()> {
+    let sent = fs::read(rt, OUTPUT)?;
     let digits = hex::encode(rt.alloc(), sent)?;
     println!(rt; "{digits}")?;
-    for file in FILES {
-        let text = fs::read_to_string(&rt, file)?;
-        let Counts { runs, listed } = run_all(&rt, text.as_str())?;
-        println!(rt; "{file}: {runs} runs, {listed} over a list too")?;
-    }
-    let stored = fs::read_to_string(&rt, FAULT_LINES)?;
-    let texts = compare_all(&rt, stored.as_str())?;
+    Ok(())
+}
+
+/// Runs the rows of a file.
+fn run_file(rt: &HostRuntime, file: &str) -> Result<()> {
+    let text = fs::read_to_string(rt, file)?;
+    let Counts { runs, listed } = run_all(rt, text.as_str())?;
+    println!(rt; "{file}: {runs} runs, {listed} over a list too")?;
+    Ok(())
+}
+
+/// Compares what is told of faults.
+fn compare_texts(rt: &HostRuntime) -> Result<()> {
+    let stored = fs::read_to_string(rt, FAULT_LINES)?;
+    let texts = compare_all(rt, stored.as_str())?;
     println!(rt; "{FAULT_LINES}: {texts} texts")?;
-    Ok(ExitCode::from(status))
+    Ok(())
 }
 
 /// How many rows a text has, and how many of them were run over a list of connections too.
@@ -98,29 +116,40 @@ fn run_all(rt: &HostRuntime, text: &str) -> Result<Counts> {
     let mut counts = Counts { runs: 0, listed: 0 };
     let mut row = None;
     for line in text.lines() {
-        if line.starts_with('#') {
-            continue;
-        }
-        if let Some(name) = line.strip_prefix("row ") {
-            if let Some(whole) = row.replace(Row::new(rt.alloc(), name)) {
-                counts.run(rt, &whole)?;
-            }
-        } else if let Some(open) = &mut row {
-            if let Some(name) = line.strip_prefix("again ") {
-                counts.run(rt, open)?;
-                open.again(rt.alloc(), name);
-            } else if let Some(name) = line.strip_prefix("anew ") {
-                counts.run(rt, open)?;
-                open.anew(rt.alloc(), name);
-            } else if !open.take(rt.alloc(), line)? {
-                println!(rt; "can't be read: {line}")?;
-            }
-        }
+        take_line(rt, line, &mut counts, &mut row)?;
     }
     if let Some(last) = row {
         counts.run(rt, &last)?;
     }
     Ok(counts)
+}
+
+/// Takes one line of the row that is open, or opens the next one.
+fn take_line<'t>(
+    rt: &HostRuntime,
+    line: &'t str,
+    counts: &mut Counts,
+    row: &mut Option<Row<'t>>,
+) -> Result<()> {
+    if line.starts_with('#') {
+        return Ok(());
+    }
+    if let Some(name) = line.strip_prefix("row ") {
+        if let Some(whole) = row.replace(Row::new(rt.alloc(), name)) {
+            counts.run(rt, &whole)?;
+        }
+    } else if let Some(open) = row {
+        if let Some(name) = line.strip_prefix("again ") {
+            counts.run(rt, open)?;
+            open.again(rt.alloc(), name);
+        } else if let Some(name) = line.strip_prefix("anew ") {
+            counts.run(rt, open)?;
+            open.anew(rt.alloc(), name);
+        } else if !open.take(rt.alloc(), line)? {
+            println!(rt; "can't be read: {line}")?;
+        }
+    }
+    Ok(())
 }
 
 /// Runs a row, with each of its rulesets.
@@ -138,7 +167,7 @@ fn try_row(rt: &HostRuntime, row: &Row<'_>) -> Result<()> {
 }
 
 /// How many bytes each call of a slow run takes or gives at most.
-const PACES: [usize; 5] = [1, 2, 3, 5, 7];
+static PACES: [usize; 5] = [1, 2, 3, 5, 7];
 
 /// Runs a row with these rules, at each pace that it asks for.
 fn try_rules(rt: &HostRuntime, row: &Row<'_>, rules: &[u8], plant: &[u8]) -> Result<()> {
@@ -154,10 +183,23 @@ fn try_rules(rt: &HostRuntime, row: &Row<'_>, rules: &[u8], plant: &[u8]) -> Res
         }
     }
     if row.slowly {
-        for most in &PACES {
-            let given = run_over(rt.alloc(), hasher, row, rules, plant, &capture, *most);
-            compare(rt, row, &given)?;
-        }
+        try_slowly(rt, row, rules, plant, &capture)?;
+    }
+    Ok(())
+}
+
+/// Runs a row with these rules at each pace.
+fn try_slowly(
+    rt: &HostRuntime,
+    row: &Row<'_>,
+    rules: &[u8],
+    plant: &[u8],
+    capture: &[u8],
+) -> Result<()> {
+    for &most in &PACES {
+        let hasher = RandomState::new(rt)?;
+        let given = run_over(rt.alloc(), hasher, row, rules, plant, capture, most);
+        compare(rt, row, &given)?;
     }
     Ok(())
 }

@@ -106,11 +106,11 @@ fn between(flow: Flow, ends: Option<(End, End)>) -> Flow {
 
 /// The lowest byte first, nanoseconds, version 2.4, LINKTYPE_LINUX_SLL2; snaplen 65,535, and as it is
 /// written 262,144.
-pub const IN_HEADER: [u8; 24] = [
+pub static IN_HEADER: [u8; 24] = [
     0x4d, 0x3c, 0xb2, 0xa1, 2, 0, 4, 0, 0, 0, 0, 0, 0, 0, 0, 0, 0xff, 0xff, 0, 0, 20, 1, 0, 0,
 ];
 
-const OUT_HEADER: [u8; 24] = [
+static OUT_HEADER: [u8; 24] = [
     0x4d, 0x3c, 0xb2, 0xa1, 2, 0, 4, 0, 0, 0, 0, 0, 0, 0, 0, 0, 0, 0, 4, 0, 20, 1, 0, 0,
 ];
 

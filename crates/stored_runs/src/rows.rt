@@ -9,7 +9,7 @@ use std::hash::RandomState;
 use std::str::SplitWhitespace;
 
 /// The totals of a report, in their order.
-const TOTALS: [&str; 23] = [
+static TOTALS: [&str; 23] = [
     "records",
     "passed",
     "local",
@@ -250,7 +250,7 @@ impl<'t> Row<'t> {
     /// The lines and the totals behind them.
     fn with_totals(&self, alloc: Global) -> Result<String, AllocError> {
         let mut text = self.lines.clone()?;
-        for name in TOTALS {
+        for &name in &TOTALS {
             let number = match (name, self.total(name)) {
                 (_, Some(number)) => String::from_str(alloc, number)?,
                 ("records", None) => format!(in alloc; "{}", self.came.len())?,

@@ -144,14 +144,25 @@ impl Replayed {
             .lines(self.engine.rules(), live, torn, &mut told)?;
         Ok(told.into_inner())
     }
+
+    /// The report of a capture.
+    fn tell_all<R: Abort + AllocGlobal + Files>(
+        &mut self,
+        rt: &R,
+        capture: &[u8],
+    ) -> Result<Vec<u8>, Fail> {
+        let torn = self.take_all(rt, capture)?;
+        self.told(rt.alloc(), torn)
+    }
 }
 
 /// The box with the row's rules, before its first record.
 fn started(alloc: Global, row: &Row) -> Result<Engine<AgedTracker>, Fail> {
+    let hasher = hasher()?;
     let tree = parse(alloc, row.rules)?;
     let plant = Plant::read(alloc, BOX)?;
     let checked = check(alloc, tree, plant)?;
-    Ok(Engine::new(alloc, hasher()?, checked)?)
+    Ok(Engine::new(alloc, hasher, checked)?)
 }
 
 /// The packets that leave, and the report, where the row's records are stepped so.
@@ -160,9 +171,9 @@ fn packets_and_report<R: Abort + AllocGlobal + Files>(
     row: &Row,
     capture: &[u8],
 ) -> Result<(Vec<u8>, Vec<u8>), Fail> {
-    let mut replayed = Replayed::new(rt.alloc(), started(rt.alloc(), row)?, row.trace)?;
-    let torn = replayed.take_all(rt, capture)?;
-    let told = replayed.told(rt.alloc(), torn)?;
+    let engine = started(rt.alloc(), row)?;
+    let mut replayed = Replayed::new(rt.alloc(), engine, row.trace)?;
+    let told = replayed.tell_all(rt, capture)?;
     Ok((replayed.sent.into_inner(), told))
 }
 

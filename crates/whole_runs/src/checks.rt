@@ -38,7 +38,7 @@ fn texts_print<R: Abort + AllocGlobal>(rt: &R, rows: &[(Vec<u8>, &str)]) -> Resu
     Ok(())
 }
 
-const NAMES: [Row<'static>; 12] = [
+static NAMES: [Row<'static>; 12] = [
     (b"table t { } table ip t { }", "nftrun: rules N01"),
     (b"table t { } table inet t { }", "2 0 0"),
     (b"table t { chain a { } chain a { } }", "nftrun: rules N01"),
@@ -74,7 +74,7 @@ const NAMES: [Row<'static>; 12] = [
     ),
 ];
 
-const PATHS: [Row<'static>; 8] = [
+static PATHS: [Row<'static>; 8] = [
     (
         b"table ip t { chain a { jump b } chain b { goto a } }",
         "nftrun: rules N04",
@@ -106,7 +106,7 @@ const PATHS: [Row<'static>; 8] = [
     ),
 ];
 
-const TYPES: [Row<'static>; 15] = [
+static TYPES: [Row<'static>; 15] = [
     (
         b"table t { set s { type mark } chain a { ip saddr @s drop } }",
         "nftrun: rules N08",
@@ -166,7 +166,7 @@ const TYPES: [Row<'static>; 15] = [
     ),
 ];
 
-const VALUES: [Row<'static>; 20] = [
+static VALUES: [Row<'static>; 20] = [
     (
         b"table t { chain a { ip saddr 10.0.0.1/32 drop } }",
         "1 1 1",
@@ -240,7 +240,7 @@ const VALUES: [Row<'static>; 20] = [
     ),
 ];
 
-const OTHERS: [Row<'static>; 15] = [
+static OTHERS: [Row<'static>; 15] = [
     (b"table t { chain a { iif 4 accept } }", "nftrun: rules N13"),
     (
         b"table t { chain a { type nat hook postrouting priority -199; } }",
@@ -356,40 +356,48 @@ fn paths_and_costs_have_limits(rt: HostRuntime) -> Result<(), Fail> {
     texts_print(&rt, &rows)
 }
 
-/// Rules, in one chain and each in its own, elements, a log's prefix and a text at their limits, and
-/// one past.
+/// A text's beginning, what comes next so many times, its end, and the line of its check.
+type Repeated = (
+    &'static [u8],
+    &'static [u8],
+    usize,
+    &'static [u8],
+    &'static str,
+);
+
+const CHAIN: &[u8] = b"table t { chain c { type filter hook forward priority 0; ";
+
+const ELEMENTS: &[u8] = b"table t { set s { type mark; elements = { 0";
+
+const PREFIX: &[u8] = b"table t { chain c { log prefix \"";
+
+/// Rules of a chain, elements, a log's prefix and a text at their limits, and one past.
+static SIZES: [Repeated; 8] = [
+    (CHAIN, b"log\n", 16_384, b"} }", "1 1 16384"),
+    (CHAIN, b"log\n", 16_385, b"} }", "nftrun: rules N15"),
+    (ELEMENTS, b",0", 65_535, b"} } }", "1 0 0"),
+    (ELEMENTS, b",0", 65_536, b"} } }", "nftrun: rules N15"),
+    (PREFIX, b"x", 127, b"\" } }", "1 1 1"),
+    (PREFIX, b"x", 128, b"\" } }", "nftrun: rules N09"),
+    (b"#", b"x", 1_048_575, b"", "0 0 0"),
+    (b"#", b"x", 1_048_576, b"", "nftrun: rules E04"),
+];
+
 #[test]
 fn sizes_have_limits(rt: HostRuntime) -> Result<(), Fail> {
-    let alloc = rt.alloc();
-    let base = b"table t { chain c { type filter hook forward priority 0; ";
-    let elements = b"table t { set s { type mark; elements = { 0";
-    let prefix = b"table t { chain c { log prefix \"";
-    let rows = [
-        (
-            repeated(alloc, base, b"log\n", 16_384, b"} }")?,
-            "1 1 16384",
-        ),
-        (
-            repeated(alloc, base, b"log\n", 16_385, b"} }")?,
-            "nftrun: rules N15",
-        ),
-        (chains_of(alloc, 16_384)?, "1 16384 16384"),
-        (chains_of(alloc, 16_385)?, "nftrun: rules N15"),
-        (repeated(alloc, elements, b",0", 65_535, b"} } }")?, "1 0 0"),
-        (
-            repeated(alloc, elements, b",0", 65_536, b"} } }")?,
-            "nftrun: rules N15",
-        ),
-        (repeated(alloc, prefix, b"x", 127, b"\" } }")?, "1 1 1"),
-        (
-            repeated(alloc, prefix, b"x", 128, b"\" } }")?,
-            "nftrun: rules N09",
-        ),
-        (repeated(alloc, b"#", b"x", 1_048_575, b"")?, "0 0 0"),
-        (
-            repeated(alloc, b"#", b"x", 1_048_576, b"")?,
-            "nftrun: rules E04",
-        ),
-    ];
-    texts_print(&rt, &rows)
+    for &(beginning, piece, count, end, line) in &SIZES {
+        let text = repeated(rt.alloc(), beginning, piece, count, end)?;
+        prints(&rt, &[(text.as_slice(), line)])?;
+    }
+    Ok(())
+}
+
+/// Rules that each stand in a chain of their own.
+#[test]
+fn chains_have_limits(rt: HostRuntime) -> Result<(), Fail> {
+    for (count, line) in [(16_384, "1 16384 16384"), (16_385, "nftrun: rules N15")] {
+        let text = chains_of(rt.alloc(), count)?;
+        prints(&rt, &[(text.as_slice(), line)])?;
+    }
+    Ok(())
 }

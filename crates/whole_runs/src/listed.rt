@@ -25,7 +25,7 @@ type Sent = (u64, &'static str, &'static str);
 
 /// From 192.168.1.11:6000 to 198.51.100.7:53; to the end 203.0.113.1:6000 that it then has outside from
 /// 192.168.1.10:5000, and from itself.
-const TO_ONESELF: [Sent; 3] = [
+static TO_ONESELF: [Sent; 3] = [
     (
         0,
         BY_LAN,
@@ -105,7 +105,7 @@ type Masqueraded = (Kind, Endpoint, Endpoint, u16, u64);
 /// The connections that are listed behind these records, in order of beginning: whatever it sends to, an
 /// internal end has one port outside; another host gets the next port of that parity, unless the first
 /// one's connection is over; a SYN opens a connection anew that was reset.
-const LISTED: [(&[Sent], &[Masqueraded]); 4] = [
+static LISTED: [(&[Sent], &[Masqueraded]); 4] = [
     (
         &[
             (0, BY_LAN, FIRST),
@@ -135,23 +135,45 @@ const LISTED: [(&[Sent], &[Masqueraded]); 4] = [
     ),
 ];
 
-/// What a router lists behind these records.
-fn listed_after<T: Tracker>(alloc: Global, records: &[Sent]) -> Result<Vec<Connection>, Fail> {
+/// A router before its first record.
+fn router<T: Tracker>(alloc: Global) -> Result<Engine<T>, Fail> {
+    let hasher = hasher()?;
     let tree = parse(alloc, ROUTER)?;
     let plant = Plant::read(alloc, BOX)?;
     let checked = check(alloc, tree, plant)?;
-    let mut engine: Engine<T> = Engine::new(alloc, hasher()?, checked)?;
-    for &(moment, link, packet) in records {
-        let bytes = bytes(alloc, &[link, packet])?;
-        if engine.records() < 4_294_967_296 && moment < 4_294_967_296_000_000_000 {
-            engine.step(&Record {
-                moment,
-                link_type: LinkType::Sll2,
-                bytes: &bytes,
-            })?;
-        }
+    Ok(Engine::new(alloc, hasher, checked)?)
+}
+
+/// Takes a record, as long as there may be more.
+fn take<T: Tracker>(alloc: Global, engine: &mut Engine<T>, sent: &Sent) -> Result<(), Fail> {
+    let (moment, link, packet) = *sent;
+    let bytes = bytes(alloc, &[link, packet])?;
+    if engine.records() < 4_294_967_296 && moment < 4_294_967_296_000_000_000 {
+        engine.step(&Record {
+            moment,
+            link_type: LinkType::Sll2,
+            bytes: &bytes,
+        })?;
+    }
+    Ok(())
+}
+
+/// What it lists behind these records.
+fn listed_by<T: Tracker>(
+    alloc: Global,
+    engine: &mut Engine<T>,
+    records: &[Sent],
+) -> Result<Vec<Connection>, Fail> {
+    for sent in records {
+        take(alloc, engine, sent)?;
     }
     Ok(engine.connections(alloc)?)
+}
+
+/// What a router lists behind these records.
+fn listed_after<T: Tracker>(alloc: Global, records: &[Sent]) -> Result<Vec<Connection>, Fail> {
+    let mut engine: Engine<T> = router(alloc)?;
+    listed_by(alloc, &mut engine, records)
 }
 
 fn between(kind: Kind, source: Endpoint, destination: Endpoint) -> Tuple {

@@ -324,7 +324,7 @@ fn ends<R: Abort + AllocGlobal>(rt: &R, row: Row) -> Result<(), Fail> {
 /// standard output isn't; words that can't be read; a fault of a run; a line that can't be told, which changes nothing; words that are no
 /// task, and help. A check; one that refuses; a box that can't be read; a line that can't be printed.
 /// What a fault means, where there is one and that is asked for; a path `--explain`; what a code means.
-const ROWS: [Row; 30] = [
+static ROWS: [Row; 30] = [
     DONE,
     Row {
         words: &["nftrun", "run", "--trace", "rules", "box", "in", "out"],
@@ -511,7 +511,7 @@ const ROWS: [Row; 30] = [
 /// is there, and one whose OUT is one of the files that it reads; one whose OUT goes where standard
 /// output goes; one whose files are devices; one whose FILE isn't there yet; a torn end, and a fault
 /// of the run.
-const REPORTS: [Row; 13] = [
+static REPORTS: [Row; 13] = [
     REPORTED,
     Row {
         words: &[
@@ -639,7 +639,7 @@ fn no_call_follows_one_that_failed(rt: HostRuntime) -> Result<(), Fail> {
 }
 
 /// Words, and the paths of the task that they ask for, or the kind and the exit status of the error.
-const WORDS: [(&[&str], Result<&str, (ErrorKind, i32)>); 37] = [
+static WORDS: [(&[&str], Result<&str, (ErrorKind, i32)>); 37] = [
     (&["nftrun", "check", "r", "b"], Ok("r b")),
     (&["nftrun", "check", "--all", "r", "b"], Ok("r b all")),
     (&["nftrun", "check", "r", "b", "--all"], Ok("r b all")),
@@ -772,35 +772,46 @@ const WORDS: [(&[&str], Result<&str, (ErrorKind, i32)>); 37] = [
     ),
 ];
 
+/// A task and its words, in one line.
+fn shown(alloc: Global, task: &Task<'_>) -> Result<String, Fail> {
+    let line = match task {
+        Task::Run(task) => {
+            let paths = task.paths;
+            let end = if task.trace { " traced" } else { "" };
+            let to = if task.report.is_some() { " to " } else { "" };
+            let file = task.report.unwrap_or("");
+            format!(in alloc;
+                "{} {} {} {}{end}{to}{file}",
+                paths.rules, paths.plant, paths.input, paths.output
+            )?
+        }
+        Task::Check(task) => {
+            let end = if task.all { " all" } else { "" };
+            format!(in alloc; "{} {}{end}", task.texts.rules, task.texts.plant)?
+        }
+        Task::Explain(code) => String::from_str(alloc, *code)?,
+    };
+    Ok(line)
+}
+
+/// Whether the help of `run` names its paths, if that is what is told.
+fn names_paths(alloc: Global, words: &[&str], error: &Error) -> Result<bool, Fail> {
+    let text = format!(in alloc; "{error}")?;
+    let is_help_of_run = words.len() == 3 && error.exit_code() == 0;
+    Ok(!is_help_of_run || text.contains("<RULES> <BOX> <IN> <OUT>"))
+}
+
 #[test]
 fn words_ask_for_a_task_or_are_refused(rt: HostRuntime) -> Result<(), Fail> {
     for (words, wanted) in &WORDS {
         match read_task(rt.alloc(), words) {
-            Ok(Task::Run(task)) => {
-                let paths = task.paths;
-                let end = if task.trace { " traced" } else { "" };
-                let to = if task.report.is_some() { " to " } else { "" };
-                let file = task.report.unwrap_or("");
-                let text = format!(in rt.alloc();
-                    "{} {} {} {}{end}{to}{file}",
-                    paths.rules, paths.plant, paths.input, paths.output
-                )?;
+            Ok(task) => {
+                let text = shown(rt.alloc(), &task)?;
                 assert!(&rt; *wanted == Ok(text.as_str()), "{text}");
-            }
-            Ok(Task::Check(task)) => {
-                let texts = task.texts;
-                let end = if task.all { " all" } else { "" };
-                let text = format!(in rt.alloc(); "{} {}{end}", texts.rules, texts.plant)?;
-                assert!(&rt; *wanted == Ok(text.as_str()), "{text}");
-            }
-            Ok(Task::Explain(code)) => {
-                assert!(&rt; *wanted == Ok(code), "{code}");
             }
             Err(error) => {
                 assert!(&rt; *wanted == Err((error.kind(), error.exit_code())));
-                let text = format!(in rt.alloc(); "{error}")?;
-                let is_help_of_run = words.len() == 3 && error.exit_code() == 0;
-                assert!(&rt; !is_help_of_run || text.contains("<RULES> <BOX> <IN> <OUT>"));
+                assert!(&rt; names_paths(rt.alloc(), words, &error)?);
             }
         }
     }
@@ -808,7 +819,7 @@ fn words_ask_for_a_task_or_are_refused(rt: HostRuntime) -> Result<(), Fail> {
 }
 
 /// Each status, the line that the program can print, and the exit status.
-const STATUSES: [(Status, &str, u8); 28] = [
+static STATUSES: [(Status, &str, u8); 28] = [
     (Status::Success, "nftrun: done", 0),
     (
         Status::Rules(RulesFault::Text(TextFault::Cutting(LexFault::Byte { line: 1 }))),

@@ -61,7 +61,7 @@ const ANSWER_OUT: &str = "4500001c000000003f118fe4c6336407c0a8010a00351388000800
 /// A plain packet, and through the router; an answer just before its connection is over, and just then;
 /// one host's port to two hosts, and another host's; an ICMP error about a packet that left; a torn end;
 /// lines that are written while records are read.
-pub const ROWS: [Row; 8] = [
+pub static ROWS: [Row; 8] = [
     Row {
         rules: b"",
         trace: false,
@@ -177,13 +177,13 @@ pub const ROWS: [Row; 8] = [
 ];
 
 /// A read fails so.
-const READ_FAULTS: [Fault; 2] = [
+static READ_FAULTS: [Fault; 2] = [
     Fault::Error(ErrorKind::Other),
     Fault::Error(ErrorKind::Interrupted),
 ];
 
 /// A write, or a flush, fails so.
-const WRITE_FAULTS: [Fault; 3] = [
+static WRITE_FAULTS: [Fault; 3] = [
     Fault::Error(ErrorKind::Other),
     Fault::Error(ErrorKind::Interrupted),
     Fault::NoByte,
