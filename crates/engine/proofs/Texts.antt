@@ -129,10 +129,6 @@ halted_open start s (Some left) w r few same part =
       };
     }
 
--- what is said of the bytes to come is said of the capture that was opened
-pub as_opened : (now opened : Seen) (unread : Option (List ℕ)) (P : Format → List ℕ → Type 0) → now ≡ opened → IfSome (coming now unread) (P now.format) → IfSome (coming opened unread) (P opened.format)
-as_opened now opened unread P e h = subst (λ (s : Seen). IfSome (coming s unread) (P s.format)) e h
-
 -- ---- by the fault
 
 -- one fault, whatever is told where there is none

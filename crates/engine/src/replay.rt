@@ -4,15 +4,21 @@ ghost use Rattle.std.specs.Io.KnownBytes.{IsAtEnd};
 ghost use Rattle.pcap_io.specs.Counting.{AppendsPart, one_more};
 ghost use Rattle.pcap_io.specs.Seen.{READ_AHEAD, is_ready};
 ghost use Rattle.pcap_io.specs.Sll2.{sll2_header};
+ghost use Rattle.pcap_io.specs.Waiting.{Gets};
+ghost use Rattle.nft_tree.specs.Tree.{tables_of};
+ghost use Rattle.report.specs.Standing.{Reports};
 ghost use Rattle.stepping.specs.Stands.{Stands};
 ghost use Rattle.story.specs.Story.{Entry};
 ghost use Rattle.engine.specs.declared.fault.RunFault.{RunFault};
 ghost use Rattle.engine.specs.Left.{OneFailed};
+ghost use Rattle.engine.specs.Refusals.{IsOfRecord};
 ghost use Rattle.engine.specs.steps.Replayed.{AllTold, Broke, Interrupts, IsStop, OneOfTwo, PartTold, Plays, Replayed, Start, Took, coming, ending_at};
-ghost use Rattle.engine.specs.steps.Written.{Ended, Finished, Unfinished, torn_at};
+ghost use Rattle.engine.specs.steps.Written.{Ended, Finished, IsWithin, SaysWithin, Told, Unfinished, torn_at};
 
 use crate::fault::RunFault;
+use crate::runs::Summary;
 use aged_tracker::AgedTracker;
+use nft_tree::Ruleset;
 use pcap_io::{Capture, CaptureError, CaptureFault, Counted, DeviceFailed, Sink, SinkError};
 use report::Report;
 use std::alloc::Global;
@@ -29,6 +35,39 @@ pub(crate) struct Replay {
     numbers: Report,
     records: Capture,
     sink: Sink,
+}
+
+/// What a run writes.
+#[derive(Drop)]
+struct Outputs {
+    numbers: Report,
+    sink: Sink,
+}
+
+impl Outputs {
+    /// Before the first record: the header of the capture to write waits or is written.
+    fn open<W: Write>(
+        alloc: Global,
+        rules: &Ruleset,
+        trace: bool,
+        sent: &mut Counted<W>,
+    ) -> Result<Outputs, RunFault>
+        ensures fresh { IfOk result (λ outputs. Reports outputs.numbers (tables_of rules.now) trace [] []) }
+        ensures gets { IfOk result (λ outputs. Gets [] (W.contents sent.old.inner) (W.contents sent.new.inner) outputs.sink.waiting sll2_header) }
+        ensures part { OnErr result (AppendsPart (W.contents sent.old.inner) (W.contents sent.new.inner) sll2_header) }
+        ensures kinds { OnErr result (IsErrOf result RunFault.Device ⊎ IsErrOf result RunFault.Memory) }
+        ensures calm { result ≢ Err RunFault.Device → sent.new.failures ≡ sent.old.failures }
+        ensures device { IsErrOf result RunFault.Device → sent.new.failures ≡ one_more sent.old.failures }
+        ensures memory { IsErrOf result RunFault.Memory → sent.new ≡ sent.old }
+    {
+        let numbers = Report::new(alloc, rules, trace)?;
+        let sink = match Sink::open(alloc, sent) {
+            Ok(sink) => sink,
+            Err(SinkError::Device) => return Err(RunFault::Device),
+            Err(SinkError::Memory) => return Err(RunFault::Memory),
+        };
+        Ok(Outputs { numbers, sink })
+    }
 }
 
 impl Replay {
@@ -49,12 +88,7 @@ impl Replay {
         ensures device { IsErrOf result RunFault.Device → sent.new.failures ≡ one_more sent.old.failures }
         ensures memory { IsErrOf result RunFault.Memory → sent.new ≡ sent.old }
     {
-        let numbers = Report::new(alloc, engine.rules(), trace)?;
-        let sink = match Sink::open(alloc, sent) {
-            Ok(sink) => sink,
-            Err(SinkError::Device) => return Err(RunFault::Device),
-            Err(SinkError::Memory) => return Err(RunFault::Memory),
-        };
+        let Outputs { numbers, sink } = Outputs::open(alloc, engine.rules(), trace, sent)?;
         Ok(Replay {
             engine,
             numbers,
@@ -276,11 +310,40 @@ impl Replay {
         }
     }
 
-    /// How many records were taken.
-    pub(crate) fn records(&self) -> u64
-        ensures { result ≡ self.now.numbers.records }
+    /// Takes all records, writes both texts to their ends, and flushes both writers.
+    pub(crate) fn write<R: Read, W: Write, W2: Write>(
+        &mut self,
+        capture: &mut Counted<R>,
+        sent: &mut Counted<W>,
+        report: &mut Counted<W2>,
+    ) -> Result<Summary, RunFault>
+        requires fresh { (self.old.records.fault ≡ None) × (self.old.records.count ≡ 0) × (self.old.records.latest ≡ 0) }
+        requires none { self.old.numbers.records ≡ 0 }
+        requires stands { Stands self.old.engine [] }
+        requires few { length self.old.records.held ≤ READ_AHEAD }
+        requires drained { self.old.records.ended ≡ true → IsAtEnd (R.remaining capture.old.inner) }
+        ensures ok { (start : Start) → Plays self.old start [] (W.contents sent.old.inner) (W2.contents report.old.inner)
+            → IfOk result (λ summary. IfSome (coming self.old.records (R.remaining capture.old.inner)) (λ bytes.
+            Told start self.old.records.format bytes summary.records summary.torn (R.remaining capture.new.inner) (W.contents sent.new.inner) (W2.contents report.new.inner))) }
+        ensures drained { OnOk result (IsAtEnd (R.remaining capture.new.inner)) }
+        ensures flushed { OnOk result ((sent.new.is_flushed ≡ true) × (report.new.is_flushed ≡ true)) }
+        ensures refused { IfErr result (λ fault. IsOfRecord fault → (sent.new.is_flushed ≡ true) × (report.new.is_flushed ≡ true)) }
+        ensures memory { IsErrOf result RunFault.Memory → (sent.new.is_flushed ≡ true) × (report.new.is_flushed ≡ true) }
+        ensures within { IfErr result IsWithin }
+        ensures left { (start : Start) (sends : ℕ) → Plays self.old start [] (W.contents sent.old.inner) (W2.contents report.old.inner)
+            → IfErr result (λ fault. IfSome (coming self.old.records (R.remaining capture.old.inner)) (λ bytes.
+            SaysWithin start.setup start.trace self.old.records.format bytes
+            (record { unread = R.remaining capture.old.inner; sent = start.sent; report = start.report; reads_failed = capture.old.failures; sends_failed = sends; reports_failed = report.old.failures })
+            (record { unread = R.remaining capture.new.inner; sent = W.contents sent.new.inner; report = W2.contents report.new.inner; reads_failed = capture.new.failures; sends_failed = sent.new.failures; reports_failed = report.new.failures }) fault)) }
+        ensures device { IsErrOf result RunFault.Device → OneFailed capture.old.failures capture.new.failures sent.old.failures sent.new.failures report.old.failures report.new.failures }
+        ensures calm { result ≢ Err RunFault.Device → (capture.new.failures ≡ capture.old.failures) × (sent.new.failures ≡ sent.old.failures) × (report.new.failures ≡ report.old.failures) }
     {
-        self.numbers.records()
+        let stop = self.play(capture, sent, report)?;
+        let torn = self.finish(stop, sent, report)?;
+        Ok(Summary {
+            records: self.numbers.records(),
+            torn,
+        })
     }
 }
 

@@ -130,10 +130,5 @@ fn write_texts<R: Read, W: Write, W2: Write>(
     ensures calm { result ≢ Err RunFault.Device → (capture.new.failures ≡ capture.old.failures) × (sent.new.failures ≡ sent.old.failures) × (report.new.failures ≡ report.old.failures) }
 {
     let mut replay = Replay::new(alloc, engine, records, trace, sent)?;
-    let stop = replay.play(capture, sent, report)?;
-    let torn = replay.finish(stop, sent, report)?;
-    Ok(Summary {
-        records: replay.records(),
-        torn,
-    })
+    replay.write(capture, sent, report)
 }

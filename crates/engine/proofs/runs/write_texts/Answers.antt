@@ -1,9 +1,11 @@
-use Rattle.std.proofs.Common.{◌∙◌, Err, ap, inr, refl, sym}
+use Rattle.std.proofs.Common.{◌∙◌, Err, ap, inr, refl, subst}
+use Rattle.std.specs.Prelude.{IfErr, IfOk, IfSome}
 use Rattle.std.proofs.lemmas.Result.{err_from_is_err_and}
 use Rattle.engine.specs.Left.{Devices}
-use Rattle.engine.specs.steps.Replayed.{Interrupts, Replayed, Start, ending_at}
-use Rattle.engine.specs.steps.Written.{start_of}
-use Rattle.engine.proofs.Texts.{as_opened, failed_after, failed_ending, fault_as, interrupted_by_none, interrupted_within, no_device, not_err, refused_by_none, says_begun, says_ended, says_interrupted, told_all, untouched, within_end}
+use Rattle.engine.specs.steps.Replayed.{Start, coming}
+use Rattle.pcap_io.specs.Seen.{Seen}
+use Rattle.engine.specs.steps.Written.{SaysWithin, Told, start_of}
+use Rattle.engine.proofs.Texts.{failed_after, not_err, says_begun, untouched}
 use Rattle.engine.proofs.runs.write_texts.Goals as goal
 
 pub returns-in_err-replay-clause-left : goal.returns-in_err-replay-clause-left
@@ -14,96 +16,27 @@ returns-in_err-replay-clause-left g c =
     rw q.1 (rw q.2 (says_begun c.args.engine.setup c.args.trace c.args.records old new c.in_err-replay.field-0.0 c.in_err-replay.ensures.kinds c.requires.few refl refl refl c.in_err-replay.ensures.part
     (λ e. untouched (g.W.Write.contents) c.args.sent.now c.new.new.sent _ (c.in_err-replay.ensures.memory (ap Err e)))))
 
-pub returns-in_err-stop-clause-left : goal.returns-in_err-stop-clause-left
-returns-in_err-stop-clause-left g c =
-    let old : Devices = record { unread = g.R.Read.remaining c.args.capture.now.inner; sent = g.W.Write.contents c.args.sent.now.inner; report = g.W2.Write.contents c.args.report.now.inner; reads_failed = c.args.capture.now.failures; sends_failed = c.args.sent.now.failures; reports_failed = c.args.report.now.failures } in
-    let new : Devices = record { unread = g.R.Read.remaining c.play.new.capture.inner; sent = g.W.Write.contents c.play.new.sent.inner; report = g.W2.Write.contents c.play.new.report.inner; reads_failed = c.play.new.capture.failures; sends_failed = c.play.new.sent.failures; reports_failed = c.play.new.report.failures } in
-    let start : Start = start_of c.args.engine.setup c.args.trace old in
-    let q = err_from_is_err_and c.from_residual-in_err-stop.result c.from_residual-in_err-stop.ensures.1 in
-    rw q.1 (rw q.2 (says_interrupted _ _ _ _ old new c.in_err-stop.field-0.0
-    (as_opened c.in_ok-replay.replay.records c.args.records _
-    (λ format bytes. Interrupts start format bytes (g.R.Read.remaining c.play.new.capture.inner) (g.W.Write.contents c.play.new.sent.inner) (g.W2.Write.contents c.play.new.report.inner) c.args.capture.now.failures c.play.new.capture.failures c.in_err-stop.field-0.0)
-    c.in_ok-replay.ensures.same.1 (c.in_err-stop.ensures.interrupted start (c.in_ok-replay.ensures.plays start.report)))))
-
-pub returns-in_err-torn-clause-left : goal.returns-in_err-torn-clause-left
-returns-in_err-torn-clause-left g c =
-    let old : Devices = record { unread = g.R.Read.remaining c.args.capture.now.inner; sent = g.W.Write.contents c.args.sent.now.inner; report = g.W2.Write.contents c.args.report.now.inner; reads_failed = c.args.capture.now.failures; sends_failed = c.args.sent.now.failures; reports_failed = c.args.report.now.failures } in
-    let new : Devices = record { unread = g.R.Read.remaining c.play.new.capture.inner; sent = g.W.Write.contents c.finish.new.sent.inner; report = g.W2.Write.contents c.finish.new.report.inner; reads_failed = c.play.new.capture.failures; sends_failed = c.finish.new.sent.failures; reports_failed = c.finish.new.report.failures } in
-    let start : Start = start_of c.args.engine.setup c.args.trace old in
-    let q = err_from_is_err_and c.from_residual-in_err-torn.result c.from_residual-in_err-torn.ensures.1 in
-    let calm = c.in_ok-stop.ensures.calm not_err in
-    rw q.1 (rw q.2 (says_ended c.play.new.self _ _ _ _ (g.W.Write.contents c.play.new.sent.inner) (g.W2.Write.contents c.play.new.report.inner) c.in_ok-stop.stop old new c.play.new.report.failures c.in_err-torn.field-0.0
-    c.in_ok-stop.ensures.stop c.in_err-torn.ensures.kinds calm.0 calm.2 (λ story s. c.in_err-torn.ensures.ended start story s)
-    (as_opened c.in_ok-replay.replay.records c.args.records _
-    (λ format bytes. Replayed c.play.new.self start format bytes (ending_at c.in_ok-stop.stop) (g.R.Read.remaining c.play.new.capture.inner) (g.W.Write.contents c.play.new.sent.inner) (g.W2.Write.contents c.play.new.report.inner))
-    c.in_ok-replay.ensures.same.1 (c.in_ok-stop.ensures.ok start (c.in_ok-replay.ensures.plays start.report)))))
-
-pub returns-in_err-torn-clause-calm : goal.returns-in_err-torn-clause-calm
-returns-in_err-torn-clause-calm g c = λ other.
-    let q = err_from_is_err_and c.from_residual-in_err-torn.result c.from_residual-in_err-torn.ensures.1 in
-    let calm = c.in_ok-stop.ensures.calm not_err in
-    let calm_after = c.in_err-torn.ensures.calm (λ e. other (q.1 ∙ ap Err q.2 ∙ fault_as c.in_err-torn.field-0.0 _ e)) in
-    let calm_before = c.in_ok-replay.ensures.calm not_err in
-    (calm.0, calm_after.0 ∙ calm.1 ∙ calm_before, calm_after.1 ∙ calm.2)
-
 pub returns-clause-ok : goal.returns-clause-ok
 returns-clause-ok g c =
     let start : Start = record { setup = c.args.engine.setup; trace = c.args.trace; sent = g.W.Write.contents c.args.sent.now.inner; report = g.W2.Write.contents c.args.report.now.inner } in
-    told_all c.play.new.self start _ _ _ (g.W.Write.contents c.play.new.sent.inner) _ (g.W2.Write.contents c.play.new.report.inner) _ c.in_ok-stop.stop c.in_ok-torn.torn _ c.in_ok-torn.ensures.torn (c.records.ensures ∙ c.finish.ensures.records)
-    (λ story s. c.in_ok-torn.ensures.ok start story s)
-    (as_opened c.in_ok-replay.replay.records c.args.records _
-    (λ format bytes. Replayed c.play.new.self start format bytes (ending_at c.in_ok-stop.stop) (g.R.Read.remaining c.play.new.capture.inner) (g.W.Write.contents c.play.new.sent.inner) (g.W2.Write.contents c.play.new.report.inner))
-    c.in_ok-replay.ensures.same.1 (c.in_ok-stop.ensures.ok start (c.in_ok-replay.ensures.plays start.report)))
+    subst (λ (s : Seen). IfOk c.write.result (λ summary. IfSome (coming s (g.R.Read.remaining c.args.capture.now.inner)) (λ bytes. Told start s.format bytes summary.records summary.torn (g.R.Read.remaining c.write.new.capture.inner) (g.W.Write.contents c.write.new.sent.inner) (g.W2.Write.contents c.write.new.report.inner))))
+    c.in_ok-replay.ensures.same.1 (c.write.ensures.ok start (c.in_ok-replay.ensures.plays start.report))
 
-pub returns-clause-drained : goal.returns-clause-drained
-returns-clause-drained g c = c.in_ok-stop.ensures.drained c.in_ok-torn.torn c.in_ok-torn.ensures.torn
+pub returns-clause-left : goal.returns-clause-left
+returns-clause-left g c =
+    let old : Devices = record { unread = g.R.Read.remaining c.args.capture.now.inner; sent = g.W.Write.contents c.args.sent.now.inner; report = g.W2.Write.contents c.args.report.now.inner; reads_failed = c.args.capture.now.failures; sends_failed = c.args.sent.now.failures; reports_failed = c.args.report.now.failures } in
+    let new : Devices = record { unread = g.R.Read.remaining c.write.new.capture.inner; sent = g.W.Write.contents c.write.new.sent.inner; report = g.W2.Write.contents c.write.new.report.inner; reads_failed = c.write.new.capture.failures; sends_failed = c.write.new.sent.failures; reports_failed = c.write.new.report.failures } in
+    let start : Start = start_of c.args.engine.setup c.args.trace old in
+    subst (λ (s : Seen). IfErr c.write.result (λ fault. IfSome (coming s (g.R.Read.remaining c.args.capture.now.inner)) (λ bytes. SaysWithin c.args.engine.setup c.args.trace s.format bytes old new fault)))
+    c.in_ok-replay.ensures.same.1 (c.write.ensures.left start old.sends_failed (c.in_ok-replay.ensures.plays start.report))
 
-pub returns-in_err-stop-clause-calm : goal.returns-in_err-stop-clause-calm
-returns-in_err-stop-clause-calm g c = λ other.
-    let q = err_from_is_err_and c.from_residual-in_err-stop.result c.from_residual-in_err-stop.ensures.1 in
-    let calm = c.in_err-stop.ensures.calm (λ e. other (q.1 ∙ ap Err q.2 ∙ fault_as c.in_err-stop.field-0.0 _ e)) in
-    let calm_before = c.in_ok-replay.ensures.calm not_err in
-    (calm.0, calm.1 ∙ calm_before, calm.2)
+pub returns-clause-memory : goal.returns-clause-memory
+returns-clause-memory g c = λ is. inr (c.write.ensures.memory is)
 
-pub returns-in_err-torn-clause-within : goal.returns-in_err-torn-clause-within
-returns-in_err-torn-clause-within g c =
-    let q = err_from_is_err_and c.from_residual-in_err-torn.result c.from_residual-in_err-torn.ensures.1 in
-    rw q.1 (rw q.2 (within_end c.in_ok-stop.stop c.in_err-torn.field-0.0 c.in_ok-stop.ensures.stop c.in_err-torn.ensures.kinds))
+pub returns-clause-device : goal.returns-clause-device
+returns-clause-device g c = λ is. failed_after _ _ _ _ _ _ _ (c.in_ok-replay.ensures.calm not_err) (c.write.ensures.device is)
 
-pub returns-in_err-stop-clause-within : goal.returns-in_err-stop-clause-within
-returns-in_err-stop-clause-within g c =
-    let q = err_from_is_err_and c.from_residual-in_err-stop.result c.from_residual-in_err-stop.ensures.1 in
-    rw q.1 (rw q.2 (interrupted_within c.in_err-stop.field-0.0 c.in_err-stop.ensures.kinds))
-
-pub returns-in_err-stop-clause-refused : goal.returns-in_err-stop-clause-refused
-returns-in_err-stop-clause-refused g c =
-    let q = err_from_is_err_and c.from_residual-in_err-stop.result c.from_residual-in_err-stop.ensures.1 in
-    rw q.1 (rw q.2 (λ refused. absurd (interrupted_by_none c.in_err-stop.field-0.0 c.in_err-stop.ensures.kinds refused)))
-
-pub returns-in_err-torn-clause-refused : goal.returns-in_err-torn-clause-refused
-returns-in_err-torn-clause-refused g c =
-    let q = err_from_is_err_and c.from_residual-in_err-torn.result c.from_residual-in_err-torn.ensures.1 in
-    rw q.1 (rw q.2 (λ refused. c.in_err-torn.ensures.flushed (refused_by_none c.in_err-torn.field-0.0 refused)))
-
-pub returns-in_err-stop-clause-device : goal.returns-in_err-stop-clause-device
-returns-in_err-stop-clause-device g c = λ is.
-    let q = err_from_is_err_and c.from_residual-in_err-stop.result c.from_residual-in_err-stop.ensures.1 in
-    let calm_before = c.in_ok-replay.ensures.calm not_err in
-    failed_after _ _ _ _ _ _ _ calm_before (c.in_err-stop.ensures.device (fault_as c.in_err-stop.field-0.0 _ (sym (q.1 ∙ ap Err q.2) ∙ is)))
-
-pub returns-in_err-stop-clause-memory : goal.returns-in_err-stop-clause-memory
-returns-in_err-stop-clause-memory g c = λ is.
-    let q = err_from_is_err_and c.from_residual-in_err-stop.result c.from_residual-in_err-stop.ensures.1 in
-    inr (c.in_err-stop.ensures.flushed (fault_as c.in_err-stop.field-0.0 _ (sym (q.1 ∙ ap Err q.2) ∙ is)))
-
-pub returns-in_err-torn-clause-memory : goal.returns-in_err-torn-clause-memory
-returns-in_err-torn-clause-memory g c = λ is.
-    let q = err_from_is_err_and c.from_residual-in_err-torn.result c.from_residual-in_err-torn.ensures.1 in
-    inr (c.in_err-torn.ensures.flushed (λ device. no_device c.in_err-torn.field-0.0 (sym (q.1 ∙ ap Err q.2) ∙ is) device))
-
-pub returns-in_err-torn-clause-device : goal.returns-in_err-torn-clause-device
-returns-in_err-torn-clause-device g c = λ is.
-    let q = err_from_is_err_and c.from_residual-in_err-torn.result c.from_residual-in_err-torn.ensures.1 in
-    let calm = c.in_ok-stop.ensures.calm not_err in
-    let calm_before = c.in_ok-replay.ensures.calm not_err in
-    failed_ending _ _ _ _ _ _ _ _ calm.0 (calm.1 ∙ calm_before) calm.2 (c.in_err-torn.ensures.device (fault_as c.in_err-torn.field-0.0 _ (sym (q.1 ∙ ap Err q.2) ∙ is)))
+pub returns-clause-calm : goal.returns-clause-calm
+returns-clause-calm g c = λ other.
+    let calm = c.write.ensures.calm other in
+    (calm.0, calm.1 ∙ c.in_ok-replay.ensures.calm not_err, calm.2)
