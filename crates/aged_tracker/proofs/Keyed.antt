@@ -1,44 +1,17 @@
 -- The map from tuples to slots, and what a packet belongs to.
-use Rattle.std.proofs.Common.{◌≡◌, ◌≢◌, ℕ, List, [], ◌∷◌, Option, Some, None, Bool, true, false, cond, refl, sym, ap, ◌∙◌, subst, inl, inr, eq-eqb}
-use Rattle.std.proofs.lemmas.Bool.{or_from, or_left, or_right, or_parts, and_from, and_parts, not_from_false, cases_eq}
+use Rattle.std.proofs.Common.{◌≡◌, ◌≢◌, ℕ, List, [], ◌∷◌, Option, Some, None, Bool, true, false, cond, refl, sym, ap, ◌∙◌, subst, inl, inr}
+use Rattle.std.proofs.lemmas.Bool.{or_from, or_left, or_right, or_parts, and_from, not_from_false, cases_eq}
 use Rattle.std.proofs.lemmas.Option.{same_Some, none-some}
 use Rattle.futures.specs.LinkedLists.{IsIn, IsApart}
 use Rattle.conntrack.specs.declared.connection.Held.{Held}
 use Rattle.ip_headers.specs.declared.tuple.Tuple.{Tuple}
-use Rattle.ip_headers.specs.declared.tuple.Endpoint.{Endpoint}
-use Rattle.ip_headers.specs.declared.tuple.Kind.{Kind}
-use Rattle.ip_headers.specs.declared.tuple.Kind.TheVariants.{Udp, Tcp, Ask, Answer, Other}
 use Rattle.conntrack.specs.Held.{is_incoming, is_taken, are_apart}
-use Rattle.ip_headers.specs.Same.{same_tuple, same_kind, same_endpoint}
-use Rattle.ip_headers.specs.steps.Equal.{same_kind-true, same_endpoint-true}
+use Rattle.ip_headers.specs.Same.{same_tuple}
+use Rattle.ip_headers.specs.steps.Equal.{same_tuple-refl, same_tuple-true}
 use Rattle.aged_tracker.specs.steps.Rings.{held_in, cons_held}
 use Rattle.aged_tracker.specs.steps.Table.{Sets}
 use Rattle.aged_tracker.specs.steps.Keyed.{IsKeyed}
 use Rattle.aged_tracker.proofs.Members.{either_bool, either_or, not_both, any_none, any_some}
-
-same_kind-refl : (k : Kind) → same_kind k k ≡ true
-same_kind-refl Udp = refl
-same_kind-refl Tcp = refl
-same_kind-refl Ask = refl
-same_kind-refl Answer = refl
-same_kind-refl (Other n) = eq-eqb n n refl
-
-same_endpoint-refl : (e : Endpoint) → same_endpoint e e ≡ true
-same_endpoint-refl e = and_from _ _ (eq-eqb e.address e.address refl) (eq-eqb e.port e.port refl)
-
-pub same_tuple-refl : (t : Tuple) → same_tuple t t ≡ true
-same_tuple-refl t = and_from _ _ (same_kind-refl t.kind) (and_from _ _ (same_endpoint-refl t.source) (same_endpoint-refl t.destination))
-
-pub same_tuple-true : (a b : Tuple) → same_tuple a b ≡ true → a ≡ b
-same_tuple-true a b h =
-    let kinds = and_parts _ _ h in
-    let ends = and_parts _ _ kinds.1 in
-    let kind : a.kind ≡ b.kind = same_kind-true _ _ kinds.0 in
-    let from : a.source ≡ b.source = same_endpoint-true _ _ ends.0 in
-    let to : a.destination ≡ b.destination = same_endpoint-true _ _ ends.1 in
-    ap (λ x. record { kind = x; source = a.source; destination = a.destination }) kind
-    ∙ ap (λ x. record { kind = b.kind; source = x; destination = a.destination }) from
-    ∙ ap (λ x. record { kind = b.kind; source = b.source; destination = x }) to
 
 pub incoming-original : (h : Held) → is_incoming h.original h ≡ true
 incoming-original h = or_left _ _ (same_tuple-refl h.original)

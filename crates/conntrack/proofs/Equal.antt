@@ -1,8 +1,6 @@
--- Equal tuples.
-use Rattle.std.proofs.Common.{◌≡◌, true, refl, ◌∙◌, ap, arith}
-use Rattle.std.proofs.lemmas.Bool.{and_parts}
+-- Equal tuples, in either order.
+use Rattle.std.proofs.Common.{◌≡◌, refl, arith}
 use Rattle.std.proofs.lemmas.Bool.Decides.{nat_tests}
-use Rattle.ip_headers.specs.steps.Equal.{same_kind-true, same_endpoint-true}
 use Rattle.ip_headers.specs.declared.tuple.Kind.{Kind}
 use Rattle.ip_headers.specs.declared.tuple.Kind.TheVariants.{Tcp, Udp, Ask, Answer, Other}
 use Rattle.ip_headers.specs.declared.tuple.Endpoint.{Endpoint}
@@ -22,14 +20,3 @@ same_endpoint-sym a b = grind (arith, nat_tests)
 
 pub same_tuple-sym : (a b : Tuple) → same_tuple a b ≡ same_tuple b a
 same_tuple-sym a b = rw (same_kind-sym a.kind b.kind, same_endpoint-sym a.source b.source, same_endpoint-sym a.destination b.destination) refl
-
-pub same_tuple-true : (a b : Tuple) → same_tuple a b ≡ true → a ≡ b
-same_tuple-true a b h =
-    let kinds = and_parts _ _ h in
-    let ends = and_parts _ _ kinds.1 in
-    let kind : a.kind ≡ b.kind = same_kind-true _ _ kinds.0 in
-    let from : a.source ≡ b.source = same_endpoint-true _ _ ends.0 in
-    let to : a.destination ≡ b.destination = same_endpoint-true _ _ ends.1 in
-    ap (λ x. record { kind = x; source = a.source; destination = a.destination }) kind
-    ∙ ap (λ x. record { kind = b.kind; source = x; destination = a.destination }) from
-    ∙ ap (λ x. record { kind = b.kind; source = b.source; destination = x }) to

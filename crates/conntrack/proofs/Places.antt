@@ -18,7 +18,7 @@ use Rattle.std.specs.Option.{option_map}
 use Rattle.conntrack.proofs.Lists.{list_any_either, list_any_found}
 use Rattle.conntrack.proofs.Same.{option_map-find}
 use Rattle.conntrack.proofs.Names.{has_id-found, other_name, without_new}
-use Rattle.conntrack.proofs.Equal.{same_tuple-true}
+use Rattle.ip_headers.specs.steps.Equal.{same_tuple-true}
 
 -- where a name stands
 abbrev pub marks : ConnId → List Held → List Bool

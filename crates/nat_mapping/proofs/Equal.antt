@@ -2,9 +2,7 @@
 use Rattle.std.proofs.Common.{◌≡◌, Bool, true, false, refl, sym, ◌∙◌, ap, subst, ◌⊎◌, inl, inr}
 use Rattle.std.specs.Cmp.{IsEquivalence}
 use Rattle.std.proofs.lemmas.Bool.{eqb-true, eq-eqb, and_parts, and_from, cases_Bool, both_ways, false_from_ne_true}
-use Rattle.ip_headers.specs.steps.Equal.{same_kind-true, same_endpoint-true}
-use Rattle.ip_headers.specs.declared.tuple.Kind.{Kind}
-use Rattle.ip_headers.specs.declared.tuple.Kind.TheVariants.{Tcp, Udp, Ask, Answer, Other}
+use Rattle.ip_headers.specs.steps.Equal.{same_kind-refl, same_kind-true, same_endpoint-refl, same_endpoint-true}
 use Rattle.ip_headers.specs.declared.tuple.Mapping.{Mapping}
 use Rattle.nat_mapping.specs.declared.keys.SourceKey.{SourceKey}
 use Rattle.nat_mapping.specs.declared.keys.InboundKey.{InboundKey}
@@ -39,18 +37,11 @@ decide {K} e test x y =
 pub apart_false : {K : Type 0} (e : K → K → Bool) → IsTest e → (x y : K) → ¬ (x ≡ y) → e x y ≡ false
 apart_false e test x y apart = false_from_ne_true (e x y) (λ t. apart (test.exact x y t))
 
-kind_same : (a : Kind) → same_kind a a ≡ true
-kind_same Tcp = refl
-kind_same Udp = refl
-kind_same Ask = refl
-kind_same Answer = refl
-kind_same (Other a) = eq-eqb a a refl
-
 pub kind_test : IsTest same_kind
-kind_test = record { same = kind_same; exact = same_kind-true }
+kind_test = record { same = same_kind-refl; exact = same_kind-true }
 
 pub endpoint_test : IsTest same_endpoint
-endpoint_test = record { same = λ a. and_from _ _ (eq-eqb a.address a.address refl) (eq-eqb a.port a.port refl); exact = same_endpoint-true }
+endpoint_test = record { same = same_endpoint-refl; exact = same_endpoint-true }
 
 source_exact : (a b : SourceKey) → same_source a b ≡ true → a ≡ b
 source_exact a b h =
@@ -65,7 +56,7 @@ source_exact a b h =
 
 pub source_test : IsTest same_source
 source_test = record {
-  same = λ a. and_from _ _ (kind_same a.kind) (and_from _ _ (endpoint_test.same a.internal) (eq-eqb a.address a.address refl));
+  same = λ a. and_from _ _ (same_kind-refl a.kind) (and_from _ _ (endpoint_test.same a.internal) (eq-eqb a.address a.address refl));
   exact = source_exact;
 }
 
@@ -77,7 +68,7 @@ inbound_exact a b h =
     ap (λ x. record { kind = x; external = a.external }) kind ∙ ap (λ x. record { kind = b.kind; external = x }) external
 
 pub inbound_test : IsTest same_inbound
-inbound_test = record { same = λ a. and_from _ _ (kind_same a.kind) (endpoint_test.same a.external); exact = inbound_exact }
+inbound_test = record { same = λ a. and_from _ _ (same_kind-refl a.kind) (endpoint_test.same a.external); exact = inbound_exact }
 
 pool_exact : (a b : PoolKey) → same_pool a b ≡ true → a ≡ b
 pool_exact a b h =
@@ -87,10 +78,10 @@ pool_exact a b h =
     ap (λ x. record { kind = x; address = a.address }) kind ∙ ap (λ x. record { kind = b.kind; address = x }) address
 
 pub pool_test : IsTest same_pool
-pool_test = record { same = λ a. and_from _ _ (kind_same a.kind) (eq-eqb a.address a.address refl); exact = pool_exact }
+pool_test = record { same = λ a. and_from _ _ (same_kind-refl a.kind) (eq-eqb a.address a.address refl); exact = pool_exact }
 
 pub mapping_same : (m : Mapping) → same_mapping m m ≡ true
-mapping_same m = and_from _ _ (kind_same m.kind) (and_from _ _ (endpoint_test.same m.internal) (endpoint_test.same m.external))
+mapping_same m = and_from _ _ (same_kind-refl m.kind) (and_from _ _ (endpoint_test.same m.internal) (endpoint_test.same m.external))
 
 pub mapping_exact : (a b : Mapping) → same_mapping a b ≡ true → a ≡ b
 mapping_exact a b h =

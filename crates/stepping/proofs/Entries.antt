@@ -1,15 +1,10 @@
 -- After the entries of any story each record has one entry at most, and one where the chains that it meets end.
-use Rattle.std.proofs.Common.{◌≡◌, ℕ, ◌≤◌, ◌<◌, Bool, true, false, cond, nat_lt, List, [], drop, Option, Some, None}
+use Rattle.std.proofs.Common.{◌≡◌, ℕ, ◌≤◌, ◌<◌, Bool, true, false, cond, nat_lt, List, [], Option, Some, None}
 use Rattle.std.proofs.Common.{Result, Ok, Err, refl, sym, ap, subst, ◌∙◌, arith}
 use Rattle.list_laws.specs.Options.{none_or_some, one_some}
 use borrow.Author.Tests.{ltb-false, ltb-true}
 use Rattle.box_file.specs.Box.{is_own, route}
-use Rattle.ip_headers.specs.declared.view.HeaderFault.{HeaderFault}
 use Rattle.ip_headers.specs.declared.tuple.Mapping.{Mapping}
-use Rattle.ip_headers.specs.Header.{fault_of, packet_of}
-use Rattle.pcap_io.specs.declared.link.Link.{Link}
-use Rattle.pcap_io.specs.declared.link.LinkCause.{LinkCause}
-use Rattle.pcap_io.specs.Links.{link_of}
 use Rattle.pcap_io.specs.Pcap.{Recorded}
 use Rattle.story.specs.declared.outcome.Cause.{Cause}
 use Rattle.story.specs.declared.outcome.Cause.TheVariants as causes
@@ -23,79 +18,18 @@ use Rattle.rule_meaning.specs.Hooks.{End, GoesOn, Stops}
 use Rattle.conntrack.specs.declared.connection.Held.{Held}
 use Rattle.translation.specs.declared.way.Way.{Way}
 use Rattle.translation.specs.Ways.{tracking_of}
-use Rattle.stepping.specs.Carried as carried
-use Rattle.stepping.specs.Carried.{Arrived, Carries, arriving, departing, entered, link_cause, cause_of, with_tracking}
+use Rattle.stepping.specs.Carried.{Arrived, arriving, departing, with_tracking}
 use Rattle.stepping.specs.Lookups.{Lookup, mappings_beside, unless_skipped, way_of, way_unless_skipped}
 use Rattle.stepping.specs.Courses as courses
 use Rattle.stepping.specs.Courses.{Course, Delivers, DepartsBy, LeadsOn, LeadsBy, Leads, dropped, through, stopped_at}
 use Rattle.stepping.specs.LastStep.{Fate, settled, unseen}
 use Rattle.stepping.specs.Next.{FaresIn, Fares, FaresAs, Next, answered, live_at_record, moment_after, entry_of}
+use Rattle.stepping.proofs.Carrying.{one_carried, some_carried}
 use Rattle.stepping.proofs.Passages.{goes_on, on_of, off_of}
 use Rattle.stepping.proofs.Around.{OneChains, SomeChains, one_arrives, one_departs, some_arrives, some_departs}
 
--- ---- what is carried
-
 both : (b : Bool) → b ≡ true → b ≡ false → ⊥
 both b e f = cc
-
-abbrev by_fault : ℕ → List ℕ → Option HeaderFault → Result Arrived Cause
-by_fault index bytes None = Ok (record { interface = index; packet = packet_of bytes })
-by_fault index bytes (Some fault) = Err (cause_of fault)
-
-module _ (setup : Setup) (r : Recorded) where
-  abbrev link : Result Link LinkCause
-  link = link_of r.link r.bytes
-
-  -- what the bytes behind a link header carry
-  abbrev behind : Link → ℕ → Result Arrived Cause
-  behind l index = by_fault index (drop l.packet r.bytes) (fault_of (drop l.packet r.bytes))
-
-  abbrev by_interface : Link → Option ℕ → Result Arrived Cause
-  by_interface l None = Err causes.Interface
-  by_interface l (Some index) = behind l index
-
-  -- what a record carries, by the link header
-  abbrev by_link : Result Link LinkCause → Result Arrived Cause
-  by_link (Err cause) = Err (link_cause cause)
-  by_link (Ok l) = by_interface l (entered setup l.interface)
-
-  found_by : (l : Link) (index : ℕ) (found : Option HeaderFault) → link ≡ Ok l
-      → entered setup l.interface ≡ Some index → fault_of (drop l.packet r.bytes) ≡ found
-      → by_link link ≡ by_fault index (drop l.packet r.bytes) found
-  found_by l index found e f g =
-      ap by_link e ∙ ap (by_interface l) f ∙ ap (by_fault index (drop l.packet r.bytes)) g
-
-  is_carried : (arrived : Result Arrived Cause) → Carries setup r arrived → by_link link ≡ arrived
-  is_carried arrived (carried.no_link cause e) = ap by_link e
-  is_carried arrived (carried.no_interface l e f) = ap by_link e ∙ ap (by_interface l) f
-  is_carried arrived (carried.no_header l index fault e f g) = found_by l index (Some fault) e f g
-  is_carried arrived (carried.carries l index e f g) = found_by l index None e f g
-
-  one_carried : (arrived other : Result Arrived Cause) → Carries setup r arrived → Carries setup r other
-      → arrived ≡ other
-  one_carried arrived other c d = sym (is_carried arrived c) ∙ is_carried other d
-
-  abbrev Something : Type 0
-  Something = (arrived : Result Arrived Cause) × Carries setup r arrived
-
-  some_header : (l : Link) (index : ℕ) → link ≡ Ok l → entered setup l.interface ≡ Some index
-      → (found : Option HeaderFault) → fault_of (drop l.packet r.bytes) ≡ found → Something
-  some_header l index e f None g =
-      let a : Arrived = record { interface = index; packet = packet_of (drop l.packet r.bytes) } in
-      (Ok a, carried.carries l index e f g)
-  some_header l index e f (Some fault) g = (Err (cause_of fault), carried.no_header l index fault e f g)
-
-  some_interface : (l : Link) → link ≡ Ok l → (found : Option ℕ) → entered setup l.interface ≡ found
-      → Something
-  some_interface l e None f = (Err causes.Interface, carried.no_interface l e f)
-  some_interface l e (Some index) f = some_header l index e f (fault_of (drop l.packet r.bytes)) refl
-
-  some_link : (found : Result Link LinkCause) → link ≡ found → Something
-  some_link (Err cause) e = (Err (link_cause cause), carried.no_link cause e)
-  some_link (Ok l) e = some_interface l e (entered setup l.interface) refl
-
-  some_carried : Something
-  some_carried = some_link link refl
 
 -- ---- how a packet is led
 

@@ -6,4 +6,5 @@ mod LastStep
 mod Fates
 mod Standing
 mod Around
+pub mod Carrying
 mod Entries

@@ -15,11 +15,11 @@ use Rattle.story.specs.Setup.{Setup}
 use Rattle.story.specs.Story.{Entry, moment_of}
 use Rattle.translation.specs.Mapped.{mappings_in}
 use Rattle.translation.specs.Translating.{has_ports, is_index}
+use Rattle.stepping.proofs.Carrying.{one_carried}
 use Rattle.stepping.specs.Carried.{Arrived}
 use Rattle.stepping.specs.Next.{Next, live_at_record, moment_after}
 use Rattle.translation_laws.specs.Stories.{IsStory, alive_at, latest_choice, listed_at}
 use Rattle.translation_laws.specs.Laws.{AreApart, GivenToOne, Hairpins, KeepsClass, LeavesTranslated, LiveLaws, OneInternal, OnePort, StoryLaws, TurnsBack, WasChosen, mappings_before}
-use Rattle.translation_laws.proofs.Carried.{one_carried}
 use Rattle.translation_laws.proofs.Chosen.{AllChosen, CandidatesAlike, HasClass, chosen_kept, class_kept}
 use Rattle.translation_laws.proofs.Each.{each_mapping}
 use Rattle.translation_laws.proofs.Given.{given_one}

@@ -2,17 +2,15 @@
 use Rattle.std.proofs.Common.{◌≡◌, ℕ, Bool, true, false, List, [], ◌∷◌, Option, Some, ◌⊎◌, inl, inr, refl, sym, ap, subst, ◌∙◌, arith}
 use Rattle.std.specs.List.{Contains, find}
 use Rattle.std.specs.Option.{option_map}
-use Rattle.std.proofs.lemmas.Bool.{and_parts, and_from, cases_Bool, cond-true, cond-false, both_ways, eqb-true, eq-eqb}
+use Rattle.std.proofs.lemmas.Bool.{and_parts, and_from, cases_Bool, cond-true, cond-false, both_ways, eqb-true}
 use Rattle.std.proofs.lemmas.Option.{none-some, same_Some}
 use Rattle.list_laws.specs.Lists.{Contains-head}
 use Rattle.list_laws.specs.Elements.{Contains-cases, Contains-tail}
 use Rattle.list_laws.specs.Options.{mapped_some}
 use Rattle.ip_headers.specs.declared.tuple.Endpoint.{Endpoint}
 use Rattle.ip_headers.specs.declared.tuple.Kind.{Kind}
-use Rattle.ip_headers.specs.declared.tuple.Kind.TheVariants.{Tcp, Udp, Ask, Answer, Other}
 use Rattle.ip_headers.specs.declared.tuple.Mapping.{Mapping}
-use Rattle.ip_headers.specs.Same.{same_kind, same_endpoint}
-use Rattle.ip_headers.specs.steps.Equal.{same_kind-true, same_endpoint-true}
+use Rattle.ip_headers.specs.steps.Equal.{same_kind-refl, same_kind-true, same_endpoint-refl, same_endpoint-true}
 use Rattle.nat_mapping.specs.Mappings.{inbound_of, is_from, is_outside, port_of, same_mapping}
 use Rattle.translation_laws.proofs.Drafts.{end_at, mapping_at}
 
@@ -50,18 +48,8 @@ module _ {X : Type 0} (p : X → Bool) where
 
 -- ---- equal mappings
 
-kind_same : (a : Kind) → same_kind a a ≡ true
-kind_same Tcp = refl
-kind_same Udp = refl
-kind_same Ask = refl
-kind_same Answer = refl
-kind_same (Other a) = eq-eqb a a refl
-
-endpoint_same : (a : Endpoint) → same_endpoint a a ≡ true
-endpoint_same a = and_from _ _ (eq-eqb a.address a.address refl) (eq-eqb a.port a.port refl)
-
 pub mapping_same : (m : Mapping) → same_mapping m m ≡ true
-mapping_same m = and_from _ _ (kind_same m.kind) (and_from _ _ (endpoint_same m.internal) (endpoint_same m.external))
+mapping_same m = and_from _ _ (same_kind-refl m.kind) (and_from _ _ (same_endpoint-refl m.internal) (same_endpoint-refl m.external))
 
 pub parts_same : (m : Mapping) (kind : Kind) (internal external : Endpoint) → m.kind ≡ kind → m.internal ≡ internal → m.external ≡ external
     → m ≡ mapping_at kind internal external
@@ -98,5 +86,5 @@ pub inbound_found : (m : Mapping) (mappings : List Mapping) → Contains mapping
     → (internal : Endpoint) × (inbound_of m.kind m.external mappings ≡ Some internal)
 unfolding inbound_of
 inbound_found m mappings among =
-    let r = one_found (is_outside m.kind m.external) mappings m among (and_from _ _ (kind_same m.kind) (endpoint_same m.external)) in
+    let r = one_found (is_outside m.kind m.external) mappings m among (and_from _ _ (same_kind-refl m.kind) (same_endpoint-refl m.external)) in
     (r.0.internal, ap (λ (o : Option Mapping). option_map (λ (n : Mapping). n.internal) o) r.1)

@@ -5,7 +5,7 @@ use Rattle.std.proofs.lemmas.Bool.{and_parts, cases_Bool, both_ways, or_left, or
 use Rattle.list_laws.specs.Elements.{Contains-cases}
 use Rattle.ip_headers.specs.declared.tuple.Tuple.{Tuple}
 use Rattle.ip_headers.specs.Same.{same_tuple}
-use Rattle.ip_headers.specs.steps.Equal.{same_kind-true, same_endpoint-true}
+use Rattle.ip_headers.specs.steps.Equal.{same_tuple-true}
 use Rattle.conntrack.specs.declared.belonging.Belonging.TheVariants.{Ends, Found}
 use Rattle.conntrack.specs.declared.connection.Direction.TheVariants.{Original, Reply}
 use Rattle.conntrack.specs.declared.connection.Flags.{Flags}
@@ -13,17 +13,6 @@ use Rattle.conntrack.specs.declared.connection.Held.{Held}
 use Rattle.conntrack.specs.Phases.{is_closing, is_lone_syn}
 use Rattle.conntrack.specs.Held.{are_apart, belonging_by, belongs_in, is_incoming, is_taken, of_original, of_reply, place_of}
 use Rattle.translation_laws.specs.Laws.{given_to}
-
-pub same_tuple-true : (a b : Tuple) → same_tuple a b ≡ true → a ≡ b
-same_tuple-true a b h =
-    let kinds = and_parts _ _ h in
-    let ends = and_parts _ _ kinds.1 in
-    let kind : a.kind ≡ b.kind = same_kind-true _ _ kinds.0 in
-    let from : a.source ≡ b.source = same_endpoint-true _ _ ends.0 in
-    let to : a.destination ≡ b.destination = same_endpoint-true _ _ ends.1 in
-    ap (λ x. record { kind = x; source = a.source; destination = a.destination }) kind
-    ∙ ap (λ x. record { kind = b.kind; source = x; destination = a.destination }) from
-    ∙ ap (λ x. record { kind = b.kind; source = b.source; destination = x }) to
 
 pub taken_by : (t : Tuple) (held : List Held) (h : Held) → Contains held h → is_incoming t h ≡ true → is_taken t held ≡ true
 taken_by t [] h among incoming = absurd (omega (arith, among.1))

@@ -10,6 +10,7 @@ use Rattle.ip_headers.specs.declared.tuple.Mapping.{Mapping}
 use Rattle.ip_headers.specs.declared.tuple.Tuple.{Tuple}
 use Rattle.ip_headers.specs.Header.{fault_of, payload_of, protocol, ttl}
 use Rattle.ip_headers.specs.Same.{same_tuple}
+use Rattle.ip_headers.specs.steps.Equal.{same_tuple-true}
 use Rattle.ip_headers.specs.Tuple.{inverse, inverse_kind, kind_of, tuple_of, tuple_with}
 use Rattle.rewrite.specs.Ends.{PortsSuit, between}
 use Rattle.rewrite.specs.Rewritten.{rewritten}
@@ -42,7 +43,7 @@ use Rattle.stepping.specs.LastStep.{counted, counted_by}
 use Rattle.stepping.specs.Next.{at_moment, entry_of, sent_on}
 use Rattle.translation_laws.specs.Laws.{GoesWith, does_end, touch_of}
 use Rattle.translation_laws.proofs.Carried.{FaultLaws, IsFaultless, carried_faultless}
-use Rattle.translation_laws.proofs.Given.{given_one, same_tuple-true}
+use Rattle.translation_laws.proofs.Given.{given_one}
 use Rattle.translation_laws.proofs.Goes.{Goes, LeftBy}
 use Rattle.translation_laws.proofs.Made.{IsMade, IsShaped, inverse_shaped}
 use Rattle.translation_laws.proofs.Passing.{PassesWith, not_local, not_passed}

@@ -1,15 +1,13 @@
 -- What is true of connections is true of them as they are listed.
-use Rattle.std.proofs.Common.{◌≡◌, true, false, List, [], ◌∷◌, inl, inr, refl, sym, subst, eq-eqb}
+use Rattle.std.proofs.Common.{◌≡◌, true, false, List, [], ◌∷◌, inl, inr, refl, sym, subst}
 use Rattle.std.specs.Prelude.{map}
 use Rattle.std.specs.List.{Contains}
-use Rattle.std.proofs.lemmas.Bool.{and_from, both_ways, or_left, or_right}
+use Rattle.std.proofs.lemmas.Bool.{both_ways, or_left, or_right}
 use Rattle.list_laws.specs.Elements.{Contains-unmap}
-use Rattle.ip_headers.specs.declared.tuple.Endpoint.{Endpoint}
-use Rattle.ip_headers.specs.declared.tuple.Kind.{Kind}
-use Rattle.ip_headers.specs.declared.tuple.Kind.TheVariants.{Tcp, Udp, Ask, Answer, Other}
 use Rattle.ip_headers.specs.declared.tuple.Mapping.{Mapping}
 use Rattle.ip_headers.specs.declared.tuple.Tuple.{Tuple}
-use Rattle.ip_headers.specs.Same.{same_endpoint, same_kind, same_tuple}
+use Rattle.ip_headers.specs.Same.{same_tuple}
+use Rattle.ip_headers.specs.steps.Equal.{same_tuple-refl}
 use Rattle.conntrack.specs.declared.connection.Connection.{Connection}
 use Rattle.conntrack.specs.declared.connection.Held.{Held}
 use Rattle.conntrack.specs.Held.{are_apart, connection_of, is_incoming, is_taken}
@@ -17,19 +15,6 @@ use Rattle.translation.specs.Mapped.{mappings_in}
 use Rattle.translation_laws.specs.Laws.{AreApart, HasIncoming, HoldsMapping}
 use Rattle.translation_laws.proofs.Each.{mapping_of_holder}
 use Rattle.translation_laws.proofs.Given.{parts, taken_by}
-
-same_kind-refl : (k : Kind) → same_kind k k ≡ true
-same_kind-refl Tcp = refl
-same_kind-refl Udp = refl
-same_kind-refl Ask = refl
-same_kind-refl Answer = refl
-same_kind-refl (Other n) = eq-eqb n n refl
-
-same_endpoint-refl : (e : Endpoint) → same_endpoint e e ≡ true
-same_endpoint-refl e = and_from _ _ (eq-eqb e.address e.address refl) (eq-eqb e.port e.port refl)
-
-same_tuple-refl : (t : Tuple) → same_tuple t t ≡ true
-same_tuple-refl t = and_from _ _ (same_kind-refl t.kind) (and_from _ _ (same_endpoint-refl t.source) (same_endpoint-refl t.destination))
 
 same_tuple-is : (s t : Tuple) → s ≡ t → same_tuple s t ≡ true
 same_tuple-is s t e = subst (λ (u : Tuple). same_tuple s u ≡ true) e (same_tuple-refl s)

@@ -45,23 +45,6 @@ pub fn bytes(alloc: Global, parts: &[&str]) -> Result<Vec<u8>, Fail> {
     Ok(all)
 }
 
-/// A beginning, so many times the same piece, and an end.
-pub fn repeated<T: Copy>(
-    alloc: Global,
-    beginning: &[T],
-    piece: &[T],
-    count: usize,
-    end: &[T],
-) -> Result<Vec<T>, Fail> {
-    let mut all = Vec::new(alloc);
-    all.extend_from_slice(beginning)?;
-    for _ in 0..count {
-        all.extend_from_slice(piece)?;
-    }
-    all.extend_from_slice(end)?;
-    Ok(all)
-}
-
 /// A status has this line.
 pub fn shows<R: Abort + AllocGlobal>(rt: &R, status: Status, line: &str) -> Result<(), Fail> {
     let text = format!(in rt.alloc(); "{status}")?;

@@ -1,17 +1,15 @@
-//! Whole runs with calls that fail, and of the sizes that users have; rulesets judged; the program.
+//! Whole runs with calls that fail or are counted; the connections that an engine lists; the program.
 #![tactic(auto)]
 
 #[cfg(test)]
 mod again;
 #[cfg(test)]
-mod checks;
+mod calls;
 #[cfg(test)]
 mod given;
 #[cfg(test)]
 mod listed;
 #[cfg(test)]
 mod programs;
-#[cfg(test)]
-mod sizes;
 #[cfg(test)]
 mod stops;
