@@ -3,6 +3,7 @@ pub mod Twice
 pub mod Lists
 pub mod Places
 pub mod Items
+pub mod Additions
 pub mod Bases
 pub mod Tests
 pub mod Tables

@@ -1,14 +1,51 @@
 -- Names that stand twice in a ruleset.
-use Rattle.std.proofs.Common.{◌≡◌, Bool, true, false, List, Option, Some, None, Result, Ok, Err, sym, ◌∙◌, ⊎_elim}
+use Rattle.std.proofs.Common.{◌≡◌, ℕ, ◌+◌, ◌<◌, Bool, true, false, List, [], ◌∷◌, ◌++◌, cond, length, get_or, map, take, drop, Option, Some, None, Result, Ok, Err, refl, sym, ap, ◌∙◌, subst, ⊎_elim}
+use denote.Enum.Bare.{sameb}
 use Rattle.std.specs.Prelude.{All, IsTrue, IfOk, IfSome, MatchOption}
-use Rattle.std.proofs.lemmas.List.Elements.{All-contains}
+use Rattle.std.proofs.lemmas.List.Elements.{All-contains, filter-append}
+use Rattle.std.proofs.lemmas.List.{append-nil, map-append}
+use Rattle.list_laws.specs.Lists.{map-more}
+use Rattle.nft_tree.specs.contracts.ruleset.Family.{the_type}
+use Rattle.nft_tree.specs.declared.ruleset.Family.{Family}
 use Rattle.nft_tree.specs.declared.ruleset.Family.TheVariants as families
-use Rattle.nft_tree.specs.Tree.{TableTree}
-use Rattle.rule_names.specs.Names.{NameTwice, two_tables, two_chains, two_sets_or_maps, Repeats, table_names}
+use Rattle.nft_tree.specs.declared.ruleset.Table.{Table}
+use Rattle.nft_tree.specs.Tree.{TableTree, table_tree}
+use Rattle.rule_names.specs.Names.{NameTwice, two_tables, two_chains, two_sets_or_maps, Repeats, same_family, table_names}
 use Rattle.rule_names.specs.steps.Table.{IsApart, SomeRepeats}
+use Rattle.rule_names.proofs.Lists.{map-around}
+use Rattle.rule_names.proofs.Twice.{repeats-on}
 
 pub is-not-true : (b : Bool) → b ≡ false → IsTrue b → ⊥
 is-not-true b e h = let q : true ≡ false = sym h ∙ e in cc
+
+-- ---- a table more
+
+-- what `==` gives
+pub same-family : (f g : Family) → sameb the_type f g ≡ same_family f g
+same-family families.Ip families.Ip = refl
+same-family families.Inet families.Inet = refl
+same-family families.Ip families.Inet = refl
+same-family families.Inet families.Ip = refl
+
+pub names-append : (family : Family) (ts us : List TableTree) → table_names family (ts ++ us) ≡ table_names family ts ++ table_names family us
+names-append family ts us = simp (filter-append, map-append)
+
+module _ (family : Family) (tables : List Table) (i : ℕ) (x : Table) (inside : i < length tables) (is : x ≡ get_or tables i x) where
+  more : table_names family (map table_tree (take (i + 1) tables)) ≡ table_names family (map table_tree (take i tables)) ++ table_names family (table_tree x ∷ [])
+  more = ap (table_names family) (map-more table_tree tables i x inside is) ∙ names-append family (map table_tree (take i tables)) (table_tree x ∷ [])
+
+  pub names-more : same_family x.family family ≡ true → table_names family (map table_tree (take (i + 1) tables)) ≡ table_names family (map table_tree (take i tables)) ++ x.name.items ∷ []
+  names-more e = more ∙ ap (λ b. table_names family (map table_tree (take i tables)) ++ map (λ t. t.name) (cond b (table_tree x ∷ []) [])) e
+
+  pub names-same : same_family x.family family ≡ false → table_names family (map table_tree (take (i + 1) tables)) ≡ table_names family (map table_tree (take i tables))
+  names-same e = more ∙ ap (λ b. table_names family (map table_tree (take i tables)) ++ map (λ t. t.name) (cond b (table_tree x ∷ []) [])) e ∙ append-nil (table_names family (map table_tree (take i tables)))
+
+  pub names-twice : Repeats (table_names family (map table_tree (take (i + 1) tables))) → Repeats (table_names family (map table_tree tables))
+  names-twice r =
+      subst Repeats (sym (names-append family (map table_tree (take (i + 1) tables)) (map table_tree (drop (i + 1) tables))) ∙ ap (table_names family) (ap (λ ts. ts ++ map table_tree (drop (i + 1) tables)) (map-more table_tree tables i x inside is) ∙ map-around table_tree tables i x inside is))
+      (repeats-on (table_names family (map table_tree (take (i + 1) tables))) (table_names family (map table_tree (drop (i + 1) tables))) r)
+
+-- ---- all tables
 
 pub some-twice : (tables : List TableTree) → SomeRepeats tables → NameTwice tables
 some-twice tables s = ⊎_elim (λ r. two_chains s.table s.stands r) (λ r. two_sets_or_maps s.table s.stands r) s.twice

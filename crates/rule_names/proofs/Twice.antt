@@ -1,16 +1,16 @@
 -- Names that stand twice.
-use Rattle.std.proofs.Common.{◌≡◌, ◌⊎◌, ℕ, zero, suc, ◌+◌, ◌<◌, List, [], ◌∷◌, ◌++◌, Bool, true, false, ◌||◌, not, length, get_or, take, sym, refl, ap, ◌∙◌, inl, inr, ⊎_elim, arith}
+use Rattle.std.proofs.Common.{◌≡◌, ◌⊎◌, ℕ, zero, suc, ◌<◌, List, [], ◌∷◌, ◌++◌, Bool, true, false, ◌||◌, not, length, get_or, sym, refl, ap, ◌∙◌, inl, inr, ⊎_elim, subst, arith}
 use Rattle.std.specs.Prelude.{if◌then◌else◌}
 use Rattle.std.specs.Borrow.{Bor}
 use Rattle.std.specs.List.{list_any}
 use Rattle.std.specs.Cmp.Lexicographic.{same_text}
 use Rattle.std.specs.Str.{bytes_eq}
 use Rattle.std.proofs.lemmas.Bool.{cases_lt, or_right, or_cases}
-use Rattle.std.proofs.lemmas.List.{get_or_append_left, get_or_push, length_push, map-append, take_more}
+use Rattle.std.proofs.lemmas.List.{get_or_append_left, get_or_push, length-append, length_push, map-append}
 use Rattle.list_laws.specs.Lists.{any_over, text-refl}
 use Rattle.nft_tree.specs.Tree.{Text}
 use Rattle.rule_names.specs.Names.{Repeats}
-use Rattle.rule_names.specs.steps.Index.{texts}
+use Rattle.rule_names.specs.steps.Index.{IsAdded, texts}
 use Rattle.rule_names.proofs.Texts.{named}
 
 -- the name stands in the list
@@ -101,36 +101,26 @@ apart-more names name apart absent r =
     cc)
     (cases_lt r.second (length names))
 
--- ---- the keys of an index
-
--- these keys are these names, no two the same
-pub record Indexes (keys : List (Bor Text)) (names : List Text) : Type 0 where
-  pub keys_are : texts keys ≡ names
-  pub apart : Repeats names → ⊥
-
-pub not-false : (b : Bool) → not b ≡ false → b ≡ true
-not-false true h = refl
-not-false false h = cc
-
--- a key that stands already
-pub found-again : (keys : List (Bor Text)) (names : List Text) (name : Text) (rest : List Text) → Indexes keys names → list_any (named name) keys ≡ true → Repeats (names ++ name ∷ rest)
-found-again keys names name rest known t =
-    among-front names name rest (any-named names name (sym (any_over (bytes_eq name) (λ k. k.now) keys ∙ ap (list_any (bytes_eq name)) known.keys_are) ∙ t))
-
--- a key more
-pub indexes-more : (keys new : List (Bor Text)) (names : List Text) (key : Bor Text) → new ≡ (if list_any (named key.now) keys then keys else keys ++ key ∷ []) → Indexes keys names → list_any (named key.now) keys ≡ false → Indexes new (names ++ key.now ∷ [])
-indexes-more keys new names key is known absent =
-    let now : new ≡ keys ++ key ∷ [] = is ∙ ap (λ b. if b then keys else keys ++ key ∷ []) absent in
+pub repeats-on : (names more : List Text) → Repeats names → Repeats (names ++ more)
+repeats-on names more r =
+    let n = length-append names more in
+    let a = r.apart in
+    let w = r.within in
     record {
-      keys_are = ap texts now ∙ map-append (λ k. k.now) keys (key ∷ []) ∙ ap (λ ns. ns ++ key.now ∷ []) known.keys_are;
-      apart = apart-more names key.now known.apart (sym (any_over (bytes_eq key.now) (λ k. k.now) keys ∙ ap (list_any (bytes_eq key.now)) known.keys_are) ∙ absent);
+      first = r.first;
+      second = r.second;
+      apart = a;
+      within = omega arith;
+      same = get_or_append_left names more [] r.first (omega arith) ∙ r.same ∙ sym (get_or_append_left names more [] r.second w);
     }
 
-pub texts-more : (names : List (Bor Text)) (i : ℕ) (d : Bor Text) → i < length names → texts (take (i + 1) names) ≡ texts (take i names) ++ (get_or names i d).now ∷ []
-texts-more names i d h = ap texts (take_more names i d h) ∙ map-append (λ n. n.now) (take i names) (get_or names i d ∷ [])
-
--- a list is its front, what stands there, and what follows
-pub texts-around : (names : List (Bor Text)) (i : ℕ) (d : Bor Text) → i < length names → (rest : List Text) × (texts names ≡ texts (take i names) ++ (get_or names i d).now ∷ rest)
-texts-around [] i d h = absurd (omega (arith, h))
-texts-around (n ∷ ns) zero d h = (texts ns, refl)
-texts-around (n ∷ ns) (suc i) d h = let more = texts-around ns i d (omega (arith, h)) in (more.0, ap (λ xs. n.now ∷ xs) more.1)
+-- a key more
+pub key-added : (keys new : List (Bor Text)) (key : Bor Text) (stands fresh : Bool) → list_any (named key.now) keys ≡ stands → fresh ≡ not stands → new ≡ (if stands then keys else keys ++ key ∷ []) → (Repeats (texts keys) → ⊥) → IsAdded (texts keys) key.now (texts new) fresh × (Repeats (texts new) → ⊥)
+key-added keys new key true fresh t f is apart = (
+  subst (IsAdded (texts keys) key.now (texts new)) (sym f) (among-front (texts keys) key.now [] (any-named (texts keys) key.now (sym (any_over (bytes_eq key.now) (λ k. k.now) keys) ∙ t))),
+  subst (λ ks. Repeats (texts ks) → ⊥) (sym is) apart,
+)
+key-added keys new key false fresh t f is apart =
+    let more : texts new ≡ texts keys ++ key.now ∷ [] = ap texts is ∙ map-append (λ k. k.now) keys (key ∷ []) in
+    let still : Repeats (texts new) → ⊥ = subst (λ ns. Repeats ns → ⊥) (sym more) (apart-more (texts keys) key.now apart (sym (any_over (bytes_eq key.now) (λ k. k.now) keys) ∙ t)) in
+    (subst (IsAdded (texts keys) key.now (texts new)) (sym f) (more, still), still)

@@ -1,18 +1,24 @@
 //! Names by their hashes.
-ghost use Rattle.std.specs.Prelude.{◌≡◌, IfOk, IfSome, MatchOption};
+ghost use Rattle.std.specs.Prelude.{◌≡◌, [], IfOk};
 ghost use Rattle.std.specs.List.{list_any};
 ghost use Rattle.std.specs.Str.{bytes_eq};
-ghost use Rattle.rule_names.specs.Names.{Repeats, place_in};
-ghost use Rattle.rule_names.specs.steps.Index.{texts};
+ghost use Rattle.rule_names.specs.Names.{place_in};
+ghost use Rattle.rule_names.specs.steps.Index.{IsAdded};
 
 use indexmap::IndexSet;
 use std::alloc::{AllocError, Global};
 use std::marker::Model;
 
 /// Names, no two the same, each with its place.
-#[derive(Drop)]
 pub(crate) struct NameIndex<'t> {
     names: IndexSet<&'t [u8]>,
+}
+
+// Written out, so that dropping one is a call.
+impl Drop for NameIndex<'_> {
+    fn drop(self) {
+        let NameIndex { names: _ } = self;
+    }
 }
 
 impl<'t> Model for NameIndex<'t> {
@@ -28,33 +34,21 @@ impl<'t> Model for NameIndex<'t> {
     ghost invariant = { λ i. Repeats (texts i.names.keys) → ⊥ };
 }
 
-/// The names as a set in their order; `None` where one stands twice.
-fn set_of<'t>(alloc: Global, names: &[&'t [u8]]) -> Result<Option<IndexSet<&'t [u8]>>, AllocError>
-    ensures is { IfOk result (λ o. MatchOption o (Repeats (texts names.now)) (λ s. texts s.keys ≡ texts names.now)) }
-    ensures apart { IfOk result (λ o. IfSome o (λ _. Repeats (texts names.now) → ⊥)) }
-{
-    let mut set = IndexSet::with_capacity(alloc, names.len())?;
-    for name in names {
-        if !set.insert(*name)? {
-            return Ok(None);
+impl<'t> NameIndex<'t> {
+    /// The index of no names.
+    pub(crate) fn new(alloc: Global) -> NameIndex<'t>
+        ensures { result ≡ [] }
+    {
+        NameIndex {
+            names: IndexSet::new(alloc),
         }
     }
-    Ok(Some(set))
-}
 
-impl<'t> NameIndex<'t> {
-    /// The index of the names; `None` where one stands twice.
-    pub(crate) fn new(
-        alloc: Global,
-        names: &[&'t [u8]],
-    ) -> Result<Option<NameIndex<'t>>, AllocError>
-        ensures is { IfOk result (λ o. MatchOption o (Repeats (texts names.now)) (λ index. index ≡ texts names.now)) }
-        ensures apart { IfOk result (λ o. IfSome o (λ _. Repeats (texts names.now) → ⊥)) }
+    /// Adds the name after the others; false where it stands already.
+    pub(crate) fn add(&mut self, name: &'t [u8]) -> Result<bool, AllocError>
+        ensures { IfOk result (IsAdded self.old name.now self.new) }
     {
-        match set_of(alloc, names)? {
-            None => Ok(None),
-            Some(names) => Ok(Some(NameIndex { names })),
-        }
+        Ok(self.names.insert(name)?)
     }
 
     /// The place of the name.

@@ -1,22 +1,12 @@
-use Rattle.std.proofs.Common.{◌∙◌, ap, sym}
-use Rattle.std.specs.Prelude.{slice_get}
+use Rattle.std.proofs.Common.{◌∙◌, ap}
 use Rattle.std.specs.Option.{option_map}
-use Rattle.nft_tree.specs.Tree.{map_tree, table_tree}
-use Rattle.nft_tree.specs.Parts.{maps_of}
-use Rattle.rule_names.specs.Names.{place_in, map_named}
-use Rattle.rule_names.proofs.Places.{looked-none, looked-some, read-copied}
+use Rattle.nft_tree.specs.Tree.{map_tree}
+use Rattle.rule_names.specs.Names.{map_named}
+use Rattle.rule_names.proofs.Places.{looked}
 use Rattle.rule_names.proofs.table.TableNames.map.Goals as goal
-
-pub returns-in_err-place : goal.returns-in_err-place
-returns-in_err-place c =
-    ap (option_map (λ x. map_tree x.now)) c.from_residual.ensures
-    ∙ looked-none (λ x. x.name) c.args.name.now (maps_of (table_tree c.self.inside.table.now)) (sym c.in_err-place.was ∙ c.place.ensures ∙ ap (place_in c.args.name.now) c.self.invariant.map_names_are)
-    ∙ ap (λ t. map_named t c.args.name.now) c.self.view_is
 
 pub returns : goal.returns
 returns c =
-    looked-some (λ x. x.name) c.args.name.now (λ x. map_tree x.now) c.self.inside.maps.items (maps_of (table_tree c.self.inside.table.now)) c.in_ok-place.place c.copied.result
-    c.self.invariant.maps_are
-    (sym c.in_ok-place.was ∙ c.place.ensures ∙ ap (place_in c.args.name.now) c.self.invariant.map_names_are)
-    (c.copied.ensures ∙ read-copied _ c.deref.result.now c.in_ok-place.place c.get.result c.get.ensures.lookup.1 c.get.ensures.lookup.3 ∙ ap (λ xs. slice_get xs c.in_ok-place.place) c.deref.ensures.value)
+    ap (option_map (λ x. map_tree x.now)) c.get.ensures
+    ∙ looked (λ x. x.name) c.args.name.now (λ x. map_tree x.now) _ _ _ c.self.invariant.maps.are c.self.invariant.maps.named
     ∙ ap (λ t. map_named t c.args.name.now) c.self.view_is

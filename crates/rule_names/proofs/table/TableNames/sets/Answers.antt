@@ -1,10 +1,7 @@
-use Rattle.std.proofs.Common.{subst}
-use Rattle.nft_tree.specs.Tree.{table_tree}
-use Rattle.rule_names.specs.Names.{Repeats, set_names}
-use Rattle.rule_names.proofs.Items.{sets-repeat}
+use Rattle.std.proofs.Common.{◌∙◌, ap, map}
+use Rattle.nft_tree.specs.Tree.{set_tree}
+use Rattle.nft_tree.specs.Parts.{sets_of}
 use Rattle.rule_names.proofs.table.TableNames.sets.Goals as goal
 
-pub returns-clause-apart : goal.returns-clause-apart
-returns-clause-apart c =
-    subst (λ t. Repeats (set_names t) → ⊥) c.self.view_is
-    (λ r. c.self.invariant.apart.sets_and_maps_apart (sets-repeat (table_tree c.self.inside.table.now).items r))
+pub returns-clause-all : goal.returns-clause-all
+returns-clause-all c = ap (map (λ x. set_tree x.now)) c.deref.ensures.value ∙ c.self.invariant.sets.are ∙ ap sets_of c.self.view_is

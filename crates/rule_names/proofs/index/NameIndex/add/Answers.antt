@@ -1,0 +1,12 @@
+use Rattle.std.proofs.Common.{subst, refl}
+use Rattle.rule_names.specs.steps.Index.{IsAdded, texts}
+use Rattle.rule_names.proofs.Twice.{key-added}
+use Rattle.rule_names.proofs.index.NameIndex.add.Goals as goal
+
+pub invariant_of-self-2 : goal.invariant_of-self-2
+invariant_of-self-2 c = (key-added c.self.inside.names.keys c.insert.new.self.keys c.args.name _ _ refl c.in_ok-insert.ensures.added c.in_ok-insert.ensures.keys c.self.invariant).1
+
+pub returns : goal.returns
+returns c =
+    subst (λ old. IsAdded old c.args.name.now (texts c.insert.new.self.keys) c.in_ok-insert.field-0) c.self.view_is
+    (key-added c.self.inside.names.keys c.insert.new.self.keys c.args.name _ _ refl c.in_ok-insert.ensures.added c.in_ok-insert.ensures.keys c.self.invariant).0

@@ -1,0 +1,7 @@
+use Rattle.std.proofs.Common.{◌∙◌, ap, map}
+use Rattle.nft_tree.specs.Tree.{chain_tree}
+use Rattle.nft_tree.specs.Parts.{chains_of}
+use Rattle.rule_names.proofs.table.TableNames.chains.Goals as goal
+
+pub returns-clause-all : goal.returns-clause-all
+returns-clause-all c = ap (map (λ x. chain_tree x.now)) c.deref.ensures.value ∙ c.self.invariant.chains.are ∙ ap chains_of c.self.view_is

@@ -1,0 +1,7 @@
+use Rattle.std.proofs.Common.{◌∙◌, ap, map}
+use Rattle.nft_tree.specs.Tree.{map_tree}
+use Rattle.nft_tree.specs.Parts.{maps_of}
+use Rattle.rule_names.proofs.table.TableNames.maps.Goals as goal
+
+pub returns-clause-all : goal.returns-clause-all
+returns-clause-all c = ap (map (λ x. map_tree x.now)) c.deref.ensures.value ∙ c.self.invariant.maps.are ∙ ap maps_of c.self.view_is
