@@ -1,4 +1,5 @@
 pub mod Complete
+pub mod Described
 pub mod Explaining
 pub mod Formed
 pub mod Reading

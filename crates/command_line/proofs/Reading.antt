@@ -35,6 +35,8 @@ use Rattle.clap.specs.Values.{bool_text}
 use Rattle.clap.proofs.WalkLemmas.{one_text-rows}
 use Rattle.clap.specs.declared.parser.matches.ValueSource.TheVariants.{CommandLine, DefaultValue}
 use Rattle.command_line.specs.CommandLine.{Asks, as_report, has_flag, name_of_file, operands, report_among, report_of, without_flag, without_report}
+use Rattle.command_line.specs.steps.Given.{HasTask, TellsTask}
+use Rattle.command_line.specs.declared.task.Task.{Task}
 use Rattle.command_line.specs.steps.Program.{flag_rule, path_rule, program_app, report_rule}
 use Rattle.command_line.proofs.Rows.{Holds, appended, appended_anew, check_ends, check_rows, flag_of, has_row-at, holds_more, row, row_at, row_of, run_ends, run_rows, source_of, told, untold, with_row, Known}
 use Rattle.command_line.proofs.Turns.{AsksHelp, at, end_of, first_nil, long_text, not_nil, stand, standing, then_nil, trail, turn, word_is}
@@ -998,3 +1000,50 @@ refused app words e is kinds none =
 pub handed_on : {T : Type 0} (r : Result T Error) (e : Error) (P : Error → Type 0) → IsErrAnd r (λ y. y ≡ e) → P e → IfErr r P
 handed_on (Ok x) e P h p = tt
 handed_on (Err y) e P h p = subst P (sym h) p
+
+-- ---- the subcommand, and its task
+
+-- what is wanted of a subcommand is there
+pub has_task : (words : List Text) (name : Text) (f : Found) → HasRead words name (rows_of f) → HasTask name f
+has_task words name f got = record {
+  check = λ same.
+      let rows = (is_check_task words name (rows_of f) got same).1 in (
+        has_value _ rows.0 (path_is f (codes "rules") rows.0 (rows_of f) refl rows.3.0),
+        has_value _ rows.1 (path_is f (codes "plant") rows.1 (rows_of f) refl rows.3.1.0),
+      );
+  telling = λ same.
+      let rows = (is_telling_task words name (rows_of f) got same).1 in
+      has_value _ rows.0 (value_is f (codes "code") rows.0 _ rows.2 refl);
+  run = λ other last.
+      let rows = (is_run_task words name (rows_of f) got other last).1 in (
+        has_value _ rows.0 (path_is f (codes "rules") rows.0 (rows_of f) refl rows.5.0),
+        has_value _ rows.1 (path_is f (codes "plant") rows.1 (rows_of f) refl rows.5.1.0),
+        has_value _ rows.2 (path_is f (codes "input") rows.2 (rows_of f) refl rows.5.1.1.0),
+        has_value _ rows.3 (path_is f (codes "output") rows.3 (rows_of f) refl rows.5.1.1.1.0),
+      );
+}
+
+-- the task is the one that the words ask for
+pub asks_told : (words : List Text) (name : Text) (f : Found) (task : Task) → HasRead words name (rows_of f) → TellsTask name f task → Asks words task
+asks_told words name f (Run task) got told =
+    let is = is_run_task words name (rows_of f) got told.0 told.1 in
+    let rows = is.1 in
+    asks_run words got.1 got.0 rows.0 rows.1 rows.2 rows.3 task.trace task.report task.paths.rules task.paths.plant task.paths.input task.paths.output is.0 rows.4
+    (file_is f _ _ (rows_of f) refl rows.5.1.1.1.1.0 told.3)
+    (flag_is f (codes "trace") _ _ (rows_of f) refl rows.5.1.1.1.1.1.0 told.2.0 told.2.1)
+    (same_value _ task.paths.rules.now rows.0 told.4 (path_is f (codes "rules") rows.0 (rows_of f) refl rows.5.0))
+    (same_value _ task.paths.plant.now rows.1 told.5 (path_is f (codes "plant") rows.1 (rows_of f) refl rows.5.1.0))
+    (same_value _ task.paths.input.now rows.2 told.6 (path_is f (codes "input") rows.2 (rows_of f) refl rows.5.1.1.0))
+    (same_value _ task.paths.output.now rows.3 told.7 (path_is f (codes "output") rows.3 (rows_of f) refl rows.5.1.1.1.0))
+asks_told words name f (Check task) got told =
+    let is = is_check_task words name (rows_of f) got told.0 in
+    let rows = is.1 in
+    asks_check words got.1 got.0 rows.0 rows.1 task.all task.texts.rules task.texts.plant is.0 rows.2
+    (flag_is f (codes "all") _ _ (rows_of f) refl rows.3.1.1.0 told.1.0 told.1.1)
+    (same_value _ task.texts.rules.now rows.0 told.2 (path_is f (codes "rules") rows.0 (rows_of f) refl rows.3.0))
+    (same_value _ task.texts.plant.now rows.1 told.3 (path_is f (codes "plant") rows.1 (rows_of f) refl rows.3.1.0))
+asks_told words name f (Explain code) got told =
+    let is = is_telling_task words name (rows_of f) got told.0 in
+    let rows = is.1 in
+    asks_telling words got.1 got.0 rows.0 code is.0 rows.1
+    (same_value _ code.now rows.0 told.1 (value_is f (codes "code") rows.0 _ rows.2 refl))

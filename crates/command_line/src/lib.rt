@@ -3,6 +3,7 @@
 #![tactic(auto)]
 
 mod explained;
+mod program;
 mod task;
 
 pub use explained::take_explain;

@@ -1,7 +1,10 @@
 -- The command of clap that reads the words.
-use Rattle.std.specs.Prelude.{Some, codes, true}
+use Rattle.std.specs.Prelude.{Some, codes, fold, true}
 use Rattle.clap.specs.declared.builder.action.ArgAction.TheVariants.{SetTrue}
 use Rattle.clap.specs.Words.{App, Rule, Shape, Text, new_app, new_rule, with_rule, with_subcommand}
+use Rattle.command_line.specs.declared.program.Argument.{Argument}
+use Rattle.command_line.specs.declared.program.Argument.TheVariants.{Path, Flag, Report}
+use Rattle.command_line.specs.declared.program.Subcommand.{Subcommand}
 
 abbrev pub path_rule : Text → Rule
 path_rule id = record (new_rule id) { value_names = 1; required = true }
@@ -17,9 +20,6 @@ abbrev pub paths_app : App
 paths_app =
     with_rule (with_rule (with_rule (with_rule (new_app (codes "run")) (path_rule (codes "rules")))
     (path_rule (codes "plant"))) (path_rule (codes "input"))) (path_rule (codes "output"))
-
-abbrev pub paths_shape : Shape
-paths_shape = paths_app.top
 
 abbrev pub run_shape : Shape
 run_shape = (with_rule (with_rule paths_app (flag_rule (codes "trace"))) report_rule).top
@@ -48,3 +48,19 @@ program_app = with_subcommand
     run_shape)
     check_shape)
     explain_shape
+
+-- ---- the same, as the table of subcommands describes it
+
+abbrev pub rule_for : Argument → Rule
+rule_for (Path name value_name help) = path_rule name.now
+rule_for (Flag name help) = flag_rule name.now
+rule_for Report = report_rule
+
+abbrev pub with_argument : App → Argument → App
+with_argument app argument = with_rule app (rule_for argument)
+
+abbrev pub app_for : Subcommand → App
+app_for s = fold with_argument (new_app s.name.now) s.arguments.now
+
+abbrev pub with_described : App → Subcommand → App
+with_described app s = with_subcommand app (app_for s).top

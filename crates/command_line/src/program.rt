@@ -1,0 +1,222 @@
+//! The command of clap that reads the words.
+ghost use Rattle.std.specs.Prelude.{◌≡◌, IfOk, Some, false, fold};
+ghost use Rattle.clap.specs.Words.{app_of, new_app, rule_of, shape_of};
+ghost use Rattle.clap.specs.declared.builder.command.Command.TheViews.{out-Command};
+ghost use Rattle.command_line.specs.steps.Program.{app_for, flag_rule, path_rule, program_app, report_rule, rule_for, top_app, with_described};
+
+use clap::{Arg, ArgAction, Command};
+use std::alloc::{AllocError, Global};
+
+/// What `--version` tells.
+const VERSION: &str = "1.0.0";
+
+const TRACE_HELP: &str = "Tells each decision of a rule, each policy and how each record ends";
+
+const ALL_HELP: &str = "Tells all faults of RULES that can be found, and not the first alone";
+
+/// What stands at the end of `--help`.
+const NOTES: &str = "\
+With --explain, run and check tell what a fault means, and where it is.
+
+Exit statuses:
+  0  done; for check: accepted
+  1  the ruleset is rejected
+  2  the command line isn't understood, or a file to write is one to read
+  3  the box file is rejected
+  4  the capture is rejected
+  5  a file can't be opened, or a read or write failed
+  6  out of memory
+  7  the capture ends in the middle of a record
+
+Examples:
+  nftrun check --explain rules.nft box.txt
+  nftrun run --trace --report report.txt rules.nft box.txt in.pcap out.pcap";
+
+/// What stands at the end of `run --help`.
+const RUN_NOTES: &str = "\
+--explain tells what a fault means, and where it is. A path that begins with a
+hyphen goes after --. A run of more than a second tells each second how much of
+IN is read, if standard error is a terminal.
+
+Exit statuses:
+  0  done
+  1  the ruleset is rejected
+  2  the command line isn't understood, or OUT or FILE is one of the other files
+  3  the box file is rejected
+  4  the capture is rejected
+  5  a file can't be opened, or a read or write failed
+  6  out of memory
+  7  the capture ends in the middle of a record
+
+Examples:
+  nftrun run rules.nft box.txt in.pcap out.pcap
+  nftrun run --report report.txt rules.nft box.txt in.pcap /dev/stdout | tcpdump -nr -";
+
+/// What stands at the end of `check --help`.
+const CHECK_NOTES: &str = "\
+--explain tells what a fault means, and where it is. A path that begins with a
+hyphen goes after --.
+
+Exit statuses:
+  0  the ruleset is accepted
+  1  the ruleset is rejected
+  2  the command line isn't understood
+  3  the box file is rejected
+  5  a file can't be opened, or a read or write failed
+  6  out of memory
+
+Examples:
+  nftrun check rules.nft box.txt
+  nftrun check --explain rules.nft box.txt";
+
+/// A subcommand, as its help tells of it.
+pub(crate) struct Subcommand {
+    name: &'static str,
+    about: &'static str,
+    /// What stands at the end of its `--help`.
+    notes: Option<&'static str>,
+    arguments: &'static [Argument],
+}
+
+/// An argument of a subcommand.
+pub(crate) enum Argument {
+    /// A path or another word that has to be there: its name, what usage calls it, and its help.
+    Path(&'static str, &'static str, &'static str),
+    /// A flag: its name, and its help.
+    Flag(&'static str, &'static str),
+    /// `--report FILE`.
+    Report,
+}
+
+static SUBCOMMANDS: [Subcommand; 3] = [
+    Subcommand {
+        name: "run",
+        about: "Replays a capture through a ruleset",
+        notes: Some(RUN_NOTES),
+        arguments: &[
+            Argument::Path("rules", "RULES", "The file of the ruleset"),
+            Argument::Path("plant", "BOX", "The file of the box"),
+            Argument::Path("input", "IN", "The capture to read"),
+            Argument::Path("output", "OUT", "The capture to write"),
+            Argument::Flag("trace", TRACE_HELP),
+            Argument::Report,
+        ],
+    },
+    Subcommand {
+        name: "check",
+        about: "Judges a ruleset before it is loaded",
+        notes: Some(CHECK_NOTES),
+        arguments: &[
+            Argument::Path("rules", "RULES", "The file of the ruleset"),
+            Argument::Path("plant", "BOX", "The file of the box"),
+            Argument::Flag("all", ALL_HELP),
+        ],
+    },
+    Subcommand {
+        name: "explain",
+        about: "Tells what a code means",
+        notes: None,
+        arguments: &[Argument::Path("code", "CODE", "A code, such as E05, N12, B2 or P4")],
+    },
+];
+
+/// The command that reads the program's words.
+pub(crate) fn program<'a>(alloc: Global) -> Result<Command<'a>, AllocError>
+    ensures { IfOk result (λ c. app_of c ≡ program_app) }
+{
+    with_subcommands(alloc, top(alloc), &SUBCOMMANDS)
+}
+
+// `--explain` is taken out of the words before they are read, so that help tells of it here.
+fn top<'a>(alloc: Global) -> Command<'a>
+    ensures { app_of result ≡ top_app }
+{
+    Command::new(alloc, "nftrun")
+        .about("Shows what each packet of a capture would meet in a ruleset of nft(8)")
+        .after_help(NOTES)
+        .version(VERSION)
+        .subcommand_required(true)
+}
+
+fn with_subcommands<'a>(
+    alloc: Global,
+    mut command: Command<'a>,
+    subcommands: &[Subcommand],
+) -> Result<Command<'a>, AllocError>
+    ensures { IfOk result (λ c. app_of c ≡ fold with_described (app_of command.entry) subcommands.now) }
+{
+    for subcommand in subcommands {
+        command = command.subcommand(subcommand.command(alloc)?)?;
+    }
+    Ok(command)
+}
+
+impl Subcommand {
+    fn command<'a>(&self, alloc: Global) -> Result<Command<'a>, AllocError>
+        ensures app { IfOk result (λ c. app_of c ≡ app_for self.now) }
+        ensures local { IfOk result (λ c. (out-Command c).has_globals ≡ false) }
+    {
+        let mut command = self.bare_command(alloc);
+        for argument in self.arguments {
+            command = command.arg(argument.arg(alloc))?;
+        }
+        Ok(command)
+    }
+
+    // The command with no arguments so far.
+    fn bare_command<'a>(&self, alloc: Global) -> Command<'a>
+        ensures app { app_of result ≡ new_app self.now.name.now }
+        ensures local { (out-Command result).has_globals ≡ false }
+    {
+        let command = Command::new(alloc, self.name).about(self.about);
+        match self.notes {
+            Some(notes) => command.after_help(notes),
+            None => command,
+        }
+    }
+}
+
+impl Argument {
+    fn arg<'a>(&self, alloc: Global) -> Arg<'a>
+        ensures rule { rule_of result ≡ rule_for self.now }
+        ensures local { result.global ≡ false }
+    {
+        match self {
+            Argument::Path(name, value_name, help) => path(alloc, name, value_name, help),
+            Argument::Flag(name, help) => flag(alloc, name, help),
+            Argument::Report => report(alloc),
+        }
+    }
+}
+
+// A flag of this name.
+fn flag<'a>(alloc: Global, name: &'a str, help: &'a str) -> Arg<'a>
+    ensures rule { rule_of result ≡ flag_rule name.entry.now }
+    ensures local { result.global ≡ false }
+{
+    Arg::new(alloc, name)
+        .long(name)
+        .help(help)
+        .action(ArgAction::SetTrue)
+}
+
+fn report<'a>(alloc: Global) -> Arg<'a>
+    ensures rule { rule_of result ≡ report_rule }
+    ensures local { result.global ≡ false }
+{
+    Arg::new(alloc, "report")
+        .long("report")
+        .value_name("FILE")
+        .help("Writes the report to FILE instead of standard output")
+}
+
+// A required argument that stands for one path.
+fn path<'a>(alloc: Global, id: &'a str, value_name: &'a str, help: &'a str) -> Arg<'a>
+    ensures rule { rule_of result ≡ path_rule id.entry.now }
+    ensures local { result.global ≡ false }
+{
+    Arg::new(alloc, id)
+        .value_name(value_name)
+        .help(help)
+        .required(true)
+}
