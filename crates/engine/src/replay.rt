@@ -29,12 +29,23 @@ use stepping::{Engine, one_entry};
 const MOST_WAITING: usize = 4096;
 
 /// A run among the records of its capture.
-#[derive(Drop)]
 pub(crate) struct Replay {
     engine: Engine<AgedTracker>,
     numbers: Report,
     records: Capture,
     sink: Sink,
+}
+
+// Written out, so that dropping one is a call.
+impl Drop for Replay {
+    fn drop(self) {
+        let Replay {
+            engine: _,
+            numbers: _,
+            records: _,
+            sink: _,
+        } = self;
+    }
 }
 
 /// What a run writes.

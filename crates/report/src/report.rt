@@ -31,7 +31,6 @@ pub const FIRST_ROOM: usize = 70_000;
 
 /// What became of the records so far: numbers, and what isn't written yet of what was noted. It
 /// doesn't grow with the records that were written.
-#[derive(Drop)]
 pub struct Report {
     records: u64,
     passed: u64,
@@ -42,6 +41,22 @@ pub struct Report {
     tallies: RulesetTallies,
     traces: bool,
     notes: Vec<Note>,
+}
+
+// Written out, so that dropping one is a call.
+impl Drop for Report {
+    fn drop(self) {
+        let Report {
+            records: _,
+            passed: _,
+            local: _,
+            dropped: _,
+            begun: _,
+            tallies: _,
+            traces: _,
+            notes: _,
+        } = self;
+    }
 }
 
 impl Model for Report {

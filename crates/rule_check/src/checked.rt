@@ -16,7 +16,6 @@ use std::marker::Model;
 
 /// A ruleset with the box that it was judged on, in which nothing is wrong: there is no other way
 /// to make one than to have it checked. It keeps what its chains cost and how deep they jump.
-#[derive(Drop)]
 pub struct Checked {
     tree: Ruleset,
     plant: Plant,
@@ -24,6 +23,18 @@ pub struct Checked {
     costs: Vec<Vec<u64>>,
     /// By table and chain.
     depths: Vec<Vec<u64>>,
+}
+
+// Written out, so that dropping one is a call.
+impl Drop for Checked {
+    fn drop(self) {
+        let Checked {
+            tree: _,
+            plant: _,
+            costs: _,
+            depths: _,
+        } = self;
+    }
 }
 
 impl Model for Checked {

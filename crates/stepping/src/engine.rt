@@ -28,7 +28,6 @@ use translation::laws::names_aside as mappings_aside;
 const MOST_PACKET_BYTES: usize = 65_535;
 
 /// A box with its rules, and what it has to know of the records so far. Connections are kept by `T`.
-#[derive(Drop)]
 pub struct Engine<T: Tracker> {
     setup: Setup,
     connections: ConnectionTable<T>,
@@ -43,6 +42,22 @@ pub struct Engine<T: Tracker> {
     packet: Vec<u8>,
     /// There is room for what the next record may need.
     ready: bool,
+}
+
+// Written out, so that dropping one is a call.
+impl<T: Tracker> Drop for Engine<T> {
+    fn drop(self) {
+        let Engine {
+            setup: _,
+            connections: _,
+            records: _,
+            latest: _,
+            events: _,
+            ended: _,
+            packet: _,
+            ready: _,
+        } = self;
+    }
 }
 
 impl<T: Tracker> Model for Engine<T> {

@@ -8,6 +8,7 @@ use aged_tracker::AgedTracker;
 use box_file::Plant;
 use conntrack::Connection;
 use nft_parser::parse;
+use nft_tree::Ruleset;
 use pcap_io::{Capture, Counted, Record, Sink};
 use program::Status;
 use report::Report;
@@ -52,9 +53,34 @@ fn is_same(one: &Shown, other: &Shown) -> bool {
         && one.connections == other.connections
 }
 
+/// Steps the record, and tells whether there was memory to take it. A file is opened before and behind the
+/// step, by which `bench/refuse` knows its requests from all others.
+fn try_step<R: Abort + AllocGlobal + Files>(
+    rt: &R,
+    engine: &mut Engine<AgedTracker>,
+    record: &Record,
+) -> Result<bool, Fail>
+    requires few { engine.old.records < 4294967296 }
+{
+    fs::open(rt, "/dev/null")?;
+    let is_taken = engine.step(record).is_ok();
+    fs::open(rt, "/dev/null")?;
+    Ok(is_taken)
+}
+
+/// The engine tells what it told before.
+fn tells_the_same<R: Abort + AllocGlobal>(
+    rt: &R,
+    engine: &Engine<AgedTracker>,
+    before: &Shown,
+) -> Result<(), Fail> {
+    let after = look_at(rt.alloc(), engine)?;
+    assert!(rt; is_same(before, &after));
+    Ok(())
+}
+
 /// Steps the record, and once more where there was no memory to take it: the engine tells then what it told
-/// before. A file is opened before the first step and one behind it, by which `bench/refuse` knows the
-/// requests of this step from all others.
+/// before.
 fn step_again<R: Abort + AllocGlobal + Files>(
     rt: &R,
     engine: &mut Engine<AgedTracker>,
@@ -63,39 +89,54 @@ fn step_again<R: Abort + AllocGlobal + Files>(
     requires few { engine.old.records < 4294967296 }
 {
     let before = look_at(rt.alloc(), engine)?;
-    fs::open(rt, "/dev/null")?;
-    let is_taken = engine.step(record).is_ok();
-    fs::open(rt, "/dev/null")?;
-    if is_taken {
+    if try_step(rt, engine, record)? {
         return Ok(());
     }
-    let after = look_at(rt.alloc(), engine)?;
-    assert!(rt; is_same(&before, &after));
+    tells_the_same(rt, engine, &before)?;
     if engine.records() < MOST_RECORDS {
         engine.step(record)?;
     }
     Ok(())
 }
 
-/// A run among its records.
+/// What a run writes.
 #[derive(Drop)]
-struct Replayed {
-    engine: Engine<AgedTracker>,
+struct Outputs {
     report: Report,
     sink: Sink,
     sent: Counted<Vec<u8>>,
 }
 
+impl Outputs {
+    /// Before the first record.
+    fn open(alloc: Global, rules: &Ruleset, trace: bool) -> Result<Self, Fail> {
+        let mut sent = Counted::new(Vec::new(alloc));
+        let sink = Sink::open(alloc, &mut sent)?;
+        Ok(Outputs {
+            report: Report::new(alloc, rules, trace)?,
+            sink,
+            sent,
+        })
+    }
+
+    /// The packets that were written.
+    fn packets(self) -> Vec<u8> {
+        self.sent.into_inner()
+    }
+}
+
+/// A run among its records.
+#[derive(Drop)]
+struct Replayed {
+    engine: Engine<AgedTracker>,
+    outputs: Outputs,
+}
+
 impl Replayed {
     /// Before the first record.
     fn new(alloc: Global, engine: Engine<AgedTracker>, trace: bool) -> Result<Self, Fail> {
-        let mut sent = Counted::new(Vec::new(alloc));
-        Ok(Replayed {
-            report: Report::new(alloc, engine.rules(), trace)?,
-            engine,
-            sink: Sink::open(alloc, &mut sent)?,
-            sent,
-        })
+        let outputs = Outputs::open(alloc, engine.rules(), trace)?;
+        Ok(Replayed { engine, outputs })
     }
 
     /// Steps the record, notes what is told of it, and puts the packet that it sends on.
@@ -104,13 +145,13 @@ impl Replayed {
         rt: &R,
         record: &Record,
     ) -> Result<(), Fail> {
-        if self.engine.records() < MOST_RECORDS && self.report.records() < MOST_RECORDS {
+        if self.engine.records() < MOST_RECORDS && self.outputs.report.records() < MOST_RECORDS {
             step_again(rt, &mut self.engine, record)?;
             if let Some(entry) = self.engine.entry() {
-                self.report.note(&entry)?;
+                self.outputs.report.note(&entry)?;
             }
             if let Some(leaving) = self.engine.leaving() {
-                self.sink.put(&mut self.sent, &leaving)?;
+                self.outputs.sink.put(&mut self.outputs.sent, &leaving)?;
             }
         }
         Ok(())
@@ -137,12 +178,18 @@ impl Replayed {
 
     /// The report of the whole run.
     fn told(&mut self, alloc: Global, torn: bool) -> Result<Vec<u8>, Fail> {
-        self.sink.finish(&mut self.sent)?;
+        self.outputs.sink.finish(&mut self.outputs.sent)?;
         let mut told = Counted::new(Vec::new(alloc));
         let live = self.engine.live() as u64;
-        self.report
+        self.outputs
+            .report
             .lines(self.engine.rules(), live, torn, &mut told)?;
         Ok(told.into_inner())
+    }
+
+    /// The packets that it has sent.
+    fn packets(self) -> Vec<u8> {
+        self.outputs.packets()
     }
 
     /// The report of a capture.
@@ -174,17 +221,16 @@ fn packets_and_report<R: Abort + AllocGlobal + Files>(
     let engine = started(rt.alloc(), row)?;
     let mut replayed = Replayed::new(rt.alloc(), engine, row.trace)?;
     let told = replayed.tell_all(rt, capture)?;
-    Ok((replayed.sent.into_inner(), told))
+    Ok((replayed.packets(), told))
 }
 
-/// The report is that of a run, and the packets are the row's.
+/// The packets and the report are those of a run.
 fn replays<R: Abort + AllocGlobal + Files>(rt: &R, row: &Row) -> Result<(), Fail> {
     let capture = bytes(rt.alloc(), row.capture)?;
-    let (sent, told) = packets_and_report(rt, row, &capture)?;
-    assert!(rt; sent == bytes(rt.alloc(), row.sent)?);
     let whole = run_over(rt.alloc(), row.rules, BOX, &capture, row.trace, fine(99));
     assert!(rt; !matches!(whole.status, Status::Memory));
-    assert!(rt; told == whole.report);
+    let (sent, told) = packets_and_report(rt, row, &capture)?;
+    assert!(rt; sent == whole.sent && told == whole.report);
     Ok(())
 }
 

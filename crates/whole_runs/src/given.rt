@@ -152,7 +152,6 @@ pub fn fine(most: usize) -> Working {
 }
 
 /// What a run gives.
-#[derive(Drop)]
 pub struct Given {
     /// What the program would end with.
     pub status: Status,
@@ -164,6 +163,19 @@ pub struct Given {
     pub failures: [u64; 3],
     /// How many calls of each there were, flushes too.
     pub calls: [u64; 3],
+}
+
+// Written out, so that dropping one is a call.
+impl Drop for Given {
+    fn drop(self) {
+        let Given {
+            status: _,
+            sent: _,
+            report: _,
+            failures: _,
+            calls: _,
+        } = self;
+    }
 }
 
 /// This reader or writer, of which one call fails.
