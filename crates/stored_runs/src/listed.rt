@@ -5,6 +5,7 @@ use anyhow::Result;
 use box_file::Plant;
 use conntrack::ListTracker;
 use nft_parser::parse;
+use nft_tree::Ruleset;
 use pcap_io::{Capture, CaptureError, CaptureFault, Counted, Failing, Record, Sink, Slow};
 use report::Report;
 use rule_check::check;
@@ -16,40 +17,59 @@ use stepping::Engine;
 /// The greatest number of records in a capture.
 const MOST_RECORDS: u64 = 4_294_967_296;
 
-/// A run among the records of its capture, and what it has written.
+/// What a run writes.
 #[derive(Drop)]
-struct Listed {
-    engine: Engine<ListTracker>,
+struct Outputs {
     numbers: Report,
     sink: Sink,
     sent: Counted<Vec<u8>>,
     report: Counted<Vec<u8>>,
 }
 
-impl Listed {
+impl Outputs {
     /// Before the first record.
-    fn new(alloc: Global, engine: Engine<ListTracker>, trace: bool) -> Result<Self> {
-        let numbers = Report::new(alloc, engine.rules(), trace)?;
+    fn open(alloc: Global, rules: &Ruleset, trace: bool) -> Result<Self> {
         let mut sent = Counted::new(Vec::new(alloc));
         let sink = Sink::open(alloc, &mut sent)?;
-        Ok(Listed {
-            engine,
-            numbers,
+        Ok(Outputs {
+            numbers: Report::new(alloc, rules, trace)?,
             sink,
             sent,
             report: Counted::new(Vec::new(alloc)),
         })
     }
 
+    fn written(self) -> Written {
+        Written {
+            sent: self.sent.into_inner(),
+            report: self.report.into_inner(),
+        }
+    }
+}
+
+/// A run among the records of its capture, and what it has written.
+#[derive(Drop)]
+struct Listed {
+    engine: Engine<ListTracker>,
+    outputs: Outputs,
+}
+
+impl Listed {
+    /// Before the first record.
+    fn new(alloc: Global, engine: Engine<ListTracker>, trace: bool) -> Result<Self> {
+        let outputs = Outputs::open(alloc, engine.rules(), trace)?;
+        Ok(Listed { engine, outputs })
+    }
+
     /// Takes a record; no capture has more than so many.
     fn take(&mut self, record: &Record) -> Result<()> {
-        if self.engine.records() < MOST_RECORDS && self.numbers.records() < MOST_RECORDS {
+        if self.engine.records() < MOST_RECORDS && self.outputs.numbers.records() < MOST_RECORDS {
             self.engine.step(record)?;
             if let Some(entry) = self.engine.entry() {
-                self.numbers.note(&entry)?;
+                self.outputs.numbers.note(&entry)?;
             }
             if let Some(leaving) = self.engine.leaving() {
-                self.sink.put(&mut self.sent, &leaving)?;
+                self.outputs.sink.put(&mut self.outputs.sent, &leaving)?;
             }
         }
         Ok(())
@@ -82,18 +102,28 @@ impl Listed {
         self.finish(stop)
     }
 
+    /// What it has written once they are taken.
+    fn written(mut self, alloc: Global, row: &Row<'_>, capture: &[u8]) -> Result<Written> {
+        self.run(alloc, row, capture)?;
+        Ok(self.outputs.written())
+    }
+
     /// Writes what is left, and the lines that come after the last record unless the records stop at a
     /// fault; a torn end is none.
     fn finish(&mut self, stop: Option<CaptureError>) -> Result<()> {
-        self.sink.finish(&mut self.sent)?;
+        self.outputs.sink.finish(&mut self.outputs.sent)?;
         let rules = self.engine.rules();
         let torn = match stop {
             None => false,
             Some(CaptureError::Refused(CaptureFault::TornEnd)) => true,
-            Some(_) => return Ok(self.numbers.drain(rules, &mut self.report)?),
+            Some(_) => return Ok(self.outputs.numbers.drain(rules, &mut self.outputs.report)?),
         };
         let live = self.engine.live() as u64;
-        Ok(self.numbers.lines(rules, live, torn, &mut self.report)?)
+        Ok(
+            self.outputs
+                .numbers
+                .lines(rules, live, torn, &mut self.outputs.report)?,
+        )
     }
 }
 
@@ -121,10 +151,6 @@ pub fn run_listed(
     capture: &[u8],
 ) -> Result<Written> {
     let engine = engine_of(alloc, hasher, rules, plant)?;
-    let mut listed = Listed::new(alloc, engine, row.trace)?;
-    listed.run(alloc, row, capture)?;
-    Ok(Written {
-        sent: listed.sent.into_inner(),
-        report: listed.report.into_inner(),
-    })
+    let listed = Listed::new(alloc, engine, row.trace)?;
+    listed.written(alloc, row, capture)
 }

@@ -93,19 +93,54 @@ fn compare_texts(rt: &HostRuntime) -> Result<()> {
 }
 
 /// How many rows a text has, and how many of them were run over a list of connections too.
-#[derive(Drop)]
+#[derive(Clone, Copy)]
 struct Counts {
     runs: u64,
     listed: u64,
 }
 
-impl Counts {
-    /// Runs one row more.
-    fn run(&mut self, rt: &HostRuntime, row: &Row<'_>) -> Result<()> {
-        try_row(rt, row)?;
-        self.runs = self.runs.saturating_add(1);
-        if !row.is_refused() {
-            self.listed = self.listed.saturating_add(1);
+/// Reads the rows of a text, and runs each.
+#[derive(Drop)]
+struct RowReader<'t> {
+    counts: Counts,
+    /// The row whose lines are being read.
+    open: Option<Row<'t>>,
+}
+
+impl<'t> RowReader<'t> {
+    /// Runs the row that is open.
+    fn run(&mut self, rt: &HostRuntime) -> Result<()> {
+        if let Some(row) = &self.open {
+            try_row(rt, row)?;
+            self.counts.runs = self.counts.runs.saturating_add(1);
+            if !row.is_refused() {
+                self.counts.listed = self.counts.listed.saturating_add(1);
+            }
+        }
+        Ok(())
+    }
+
+    /// Takes one line of the row that is open, or runs that and opens the next one.
+    fn take(&mut self, rt: &HostRuntime, line: &'t str) -> Result<()> {
+        let (word, name) = line.split_once(' ').unwrap_or((line, ""));
+        if !matches!(word, "row" | "again" | "anew") {
+            return self.take_line(rt, line);
+        }
+        self.run(rt)?;
+        match (&mut self.open, word) {
+            (Some(open), "again") => open.again(rt.alloc(), name),
+            (Some(open), "anew") => open.anew(rt.alloc(), name),
+            _ => self.open = Some(Row::new(rt.alloc(), name)),
+        }
+        Ok(())
+    }
+
+    /// Takes one line of the row that is open.
+    fn take_line(&mut self, rt: &HostRuntime, line: &'t str) -> Result<()> {
+        if let Some(open) = &mut self.open {
+            if !line.starts_with('#') && !open.take(rt.alloc(), line)? {
+                println!(rt; "can't be read: {line}")?;
+            }
         }
         Ok(())
     }
@@ -113,43 +148,13 @@ impl Counts {
 
 /// Runs all rows of a text.
 fn run_all(rt: &HostRuntime, text: &str) -> Result<Counts> {
-    let mut counts = Counts { runs: 0, listed: 0 };
-    let mut row = None;
+    let counts = Counts { runs: 0, listed: 0 };
+    let mut reader = RowReader { counts, open: None };
     for line in text.lines() {
-        take_line(rt, line, &mut counts, &mut row)?;
+        reader.take(rt, line)?;
     }
-    if let Some(last) = row {
-        counts.run(rt, &last)?;
-    }
-    Ok(counts)
-}
-
-/// Takes one line of the row that is open, or opens the next one.
-fn take_line<'t>(
-    rt: &HostRuntime,
-    line: &'t str,
-    counts: &mut Counts,
-    row: &mut Option<Row<'t>>,
-) -> Result<()> {
-    if line.starts_with('#') {
-        return Ok(());
-    }
-    if let Some(name) = line.strip_prefix("row ") {
-        if let Some(whole) = row.replace(Row::new(rt.alloc(), name)) {
-            counts.run(rt, &whole)?;
-        }
-    } else if let Some(open) = row {
-        if let Some(name) = line.strip_prefix("again ") {
-            counts.run(rt, open)?;
-            open.again(rt.alloc(), name);
-        } else if let Some(name) = line.strip_prefix("anew ") {
-            counts.run(rt, open)?;
-            open.anew(rt.alloc(), name);
-        } else if !open.take(rt.alloc(), line)? {
-            println!(rt; "can't be read: {line}")?;
-        }
-    }
-    Ok(())
+    reader.run(rt)?;
+    Ok(reader.counts)
 }
 
 /// Runs a row, with each of its rulesets.
@@ -172,18 +177,30 @@ static PACES: [usize; 5] = [1, 2, 3, 5, 7];
 /// Runs a row with these rules, at each pace that it asks for.
 fn try_rules(rt: &HostRuntime, row: &Row<'_>, rules: &[u8], plant: &[u8]) -> Result<()> {
     let capture = row.capture(rt.alloc())?;
+    try_both(rt, row, rules, plant, &capture)?;
+    if row.slowly {
+        try_slowly(rt, row, rules, plant, &capture)?;
+    }
+    Ok(())
+}
+
+/// Runs a row with these rules, and unless it is refused over a list of connections too.
+fn try_both(
+    rt: &HostRuntime,
+    row: &Row<'_>,
+    rules: &[u8],
+    plant: &[u8],
+    capture: &[u8],
+) -> Result<()> {
     // Drawn anew for each row: no answer depends on them.
     let hasher = RandomState::new(rt)?;
-    let given = run_over(rt.alloc(), hasher, row, rules, plant, &capture, row.pace);
+    let given = run_over(rt.alloc(), hasher, row, rules, plant, capture, row.pace);
     compare(rt, row, &given)?;
     if !row.is_refused() {
-        let written = run_listed(rt.alloc(), hasher, row, rules, plant, &capture)?;
+        let written = run_listed(rt.alloc(), hasher, row, rules, plant, capture)?;
         if written != given.written {
             println!(rt; "{}: something else is written over a list", row.name)?;
         }
-    }
-    if row.slowly {
-        try_slowly(rt, row, rules, plant, &capture)?;
     }
     Ok(())
 }
@@ -206,18 +223,29 @@ fn try_slowly(
 
 /// Tells where a run gave something else.
 fn compare(rt: &HostRuntime, row: &Row<'_>, given: &Given) -> Result<()> {
-    let name = row.name;
-    let status = format!(in rt.alloc(); "{}", given.status)?;
-    if status.as_str().strip_prefix("nftrun: ").unwrap_or("") != row.status {
-        println!(rt; "{name}: {status}")?;
-    }
-    let wanted = row.report(rt.alloc())?;
-    if given.written.report.as_slice() != wanted.as_bytes() {
-        let told = str::from_utf8(&given.written.report).unwrap_or("no text");
-        println!(rt; "{name}: the report is\n{told}instead of\n{wanted}")?;
-    }
+    compare_status(rt, row, given)?;
+    compare_report(rt, row, &given.written.report)?;
     if given.written.sent != row.sent(rt.alloc())? {
-        println!(rt; "{name}: other packets leave")?;
+        println!(rt; "{}: other packets leave", row.name)?;
+    }
+    Ok(())
+}
+
+/// Tells another status than the row's.
+fn compare_status(rt: &HostRuntime, row: &Row<'_>, given: &Given) -> Result<()> {
+    let status = given.status.to_string(rt.alloc())?;
+    if status.as_str().strip_prefix("nftrun: ") != Some(row.status) {
+        println!(rt; "{}: {status}", row.name)?;
+    }
+    Ok(())
+}
+
+/// Tells another report than the row's.
+fn compare_report(rt: &HostRuntime, row: &Row<'_>, report: &[u8]) -> Result<()> {
+    let wanted = row.report(rt.alloc())?;
+    if report != wanted.as_bytes() {
+        let told = str::from_utf8(report).unwrap_or("no text");
+        println!(rt; "{}: the report is\n{told}instead of\n{wanted}", row.name)?;
     }
     Ok(())
 }

@@ -50,16 +50,26 @@ impl Came {
 
     /// Appends the record as it comes.
     pub fn put(&self, alloc: Global, all: &mut Vec<u8>) -> Result<(), AllocError> {
-        let (protocol, bytes) = match &self.packet {
-            Some(packet) => ([8, 0], packet.bytes(alloc)?),
-            None => ([0x86, 0xdd], Vec::new(alloc)),
-        };
-        self.put_header(all, &bytes)?;
-        all.extend_from_slice(&protocol)?;
-        all.extend_from_slice(&[0, 0])?;
-        all.extend_from_slice(&self.interface.to_be_bytes())?;
-        all.extend_from_slice(&[0, 1, 0, 6, 2, 0, 0, 0, 0, 1, 0, 0])?;
-        all.extend_from_slice(&bytes)
+        match &self.packet {
+            Some(packet) => self.put_cooked(all, [8, 0], &packet.bytes(alloc)?),
+            None => self.put_cooked(all, [0x86, 0xdd], &[]),
+        }
+    }
+
+    /// Appends the record of a packet of this protocol, as it comes.
+    fn put_cooked(
+        &self,
+        all: &mut Vec<u8>,
+        protocol: [u8; 2],
+        packet: &[u8],
+    ) -> Result<(), AllocError> {
+        let [p0, p1] = protocol;
+        let [i0, i1, i2, i3] = self.interface.to_be_bytes();
+        self.put_header(all, packet)?;
+        all.extend_from_slice(&[
+            p0, p1, 0, 0, i0, i1, i2, i3, 0, 1, 0, 6, 2, 0, 0, 0, 0, 1, 0, 0,
+        ])?;
+        all.extend_from_slice(packet)
     }
 
     /// Appends the record of its packet as it leaves: with its TTL lowered.

@@ -251,18 +251,25 @@ impl<'t> Row<'t> {
     fn with_totals(&self, alloc: Global) -> Result<String, AllocError> {
         let mut text = self.lines.clone()?;
         for &name in &TOTALS {
-            let number = match (name, self.total(name)) {
-                (_, Some(number)) => String::from_str(alloc, number)?,
-                ("records", None) => format!(in alloc; "{}", self.came.len())?,
-                ("passed", None) => format!(in alloc; "{}", self.left.len())?,
-                (_, None) => String::from_str(alloc, "0")?,
-            };
             text.push_str(name)?;
             text.push(' ')?;
-            text.push_str(number.as_str())?;
+            match self.total(name) {
+                Some(number) => text.push_str(number)?,
+                None => self.push_count(alloc, &mut text, name)?,
+            }
             text.push('\n')?;
         }
         Ok(text)
+    }
+
+    /// Appends a total that isn't told: the number of the records that come or of the packets that leave, or 0.
+    fn push_count(&self, alloc: Global, text: &mut String, name: &str) -> Result<(), AllocError> {
+        let count = match name {
+            "records" => self.came.len(),
+            "passed" => self.left.len(),
+            _ => 0,
+        };
+        text.push_str(count.to_string(alloc)?.as_str())
     }
 
     /// The total of this name, as it is written, if it is.
