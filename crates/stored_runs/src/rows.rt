@@ -145,34 +145,60 @@ impl<'t> Row<'t> {
     pub fn take(&mut self, alloc: Global, line: &'t str) -> Result<bool, AllocError> {
         let mut words = line.split_whitespace();
         match words.next() {
-            Some("rules") => self.rules = words.next(),
-            Some("nft") => self.rulesets.push(rest(line, "nft "))?,
-            Some("box") => self.plant = words.next().unwrap_or(""),
-            Some("trace") => self.trace = true,
-            Some("slowly") => self.slowly = true,
-            Some("pace") => self.pace = number(&mut words),
-            Some("reads") => self.reads = number(&mut words),
-            Some("status") => self.end(rest(line, "status "), Ending::Totals),
-            Some("broken") => self.end(rest(line, "broken "), Ending::Nothing),
-            Some("refused") => self.end(rest(line, "refused "), Ending::Refused),
-            Some("header" | "captured" | "written" | "leaves") => {
-                return self.take_bytes(alloc, line);
-            }
-            Some("passes") => return self.pass(words),
-            Some("in") => match came(&mut words) {
-                Some(one) => self.came.push(one)?,
-                None => return Ok(false),
-            },
-            Some("out") => match left(&mut words) {
-                Some(one) => self.left.push(one)?,
-                None => return Ok(false),
-            },
-            Some("line") => {
-                self.lines.push_str(rest(line, "line "))?;
-                self.lines.push('\n')?;
-            }
-            Some(_) => self.totals.push(line)?,
-            None => {}
+            Some("in") => self.take_came(words),
+            Some("out") => self.take_left(words),
+            Some("header" | "captured" | "written" | "leaves") => self.take_bytes(alloc, line),
+            Some("passes") => self.pass(words),
+            Some("line") => self.take_reported(rest(line, "line ")),
+            Some(word) => self.take_setting(word, line, words),
+            None => Ok(true),
+        }
+    }
+
+    /// Takes a record that comes.
+    fn take_came(&mut self, mut words: SplitWhitespace<'_>) -> Result<bool, AllocError> {
+        match came(&mut words) {
+            Some(one) => self.came.push(one)?,
+            None => return Ok(false),
+        }
+        Ok(true)
+    }
+
+    /// Takes a packet that leaves.
+    fn take_left(&mut self, mut words: SplitWhitespace<'_>) -> Result<bool, AllocError> {
+        match left(&mut words) {
+            Some(one) => self.left.push(one)?,
+            None => return Ok(false),
+        }
+        Ok(true)
+    }
+
+    /// Takes a line of the report.
+    fn take_reported(&mut self, line: &str) -> Result<bool, AllocError> {
+        self.lines.push_str(line)?;
+        self.lines.push('\n')?;
+        Ok(true)
+    }
+
+    /// Takes what is told of the run as a whole: how it is made, how it ends, or a total.
+    fn take_setting(
+        &mut self,
+        word: &str,
+        line: &'t str,
+        mut words: SplitWhitespace<'t>,
+    ) -> Result<bool, AllocError> {
+        match word {
+            "rules" => self.rules = words.next(),
+            "nft" => self.rulesets.push(rest(line, "nft "))?,
+            "box" => self.plant = words.next().unwrap_or(""),
+            "trace" => self.trace = true,
+            "slowly" => self.slowly = true,
+            "pace" => self.pace = number(&mut words),
+            "reads" => self.reads = number(&mut words),
+            "status" => self.end(rest(line, "status "), Ending::Totals),
+            "broken" => self.end(rest(line, "broken "), Ending::Nothing),
+            "refused" => self.end(rest(line, "refused "), Ending::Refused),
+            _ => self.totals.push(line)?,
         }
         Ok(true)
     }
