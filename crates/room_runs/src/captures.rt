@@ -1,39 +1,53 @@
 //! Captures as pcap-savefile(5) lays them out, read and written.
 ghost use Rattle.std.specs.Prelude.{◌≤◌, length};
 
-use crate::given::{AT_1_5, HEADER, OUT_AT_1_5, OUT_HEADER, PLAIN, append, bytes, repeated};
+use crate::given::{bytes, check_row, repeated};
 use pcap_io::{Calls, Capture, CaptureError, CaptureFault, Counted, Failing, Leaving, Sink, Slow};
-use std::alloc::Global;
+use std::alloc::{AllocError, Global};
 use std::io::{Read, Write};
 use std::process::Abort;
-use std::test::Fail;
+
+/// Magic a1b2c3d4, which tells microseconds, version 2.4, LINKTYPE_RAW.
+const HEADER: &str = "d4c3b2a1020004000000000000000000ffff000065000000";
+
+/// At 1 s 500000 microseconds, 28 bytes.
+const AT_1_5: &str = "0100000020a107001c0000001c000000";
+
+/// UDP from 192.168.1.10:5000 to 198.51.100.7:53, TTL 64.
+const PLAIN: &str = "4500001c0001000040118ee3c0a8010ac63364071388003500080000";
 
 /// A packet of one byte at 0 seconds, which is earlier; 4 bytes were on the wire.
 const EARLIER: &str = "0000000000000000010000000400000045";
 
-/// How many records the capture has, or its first fault, which comes again.
-fn count_records<R: Abort + AllocGlobal>(rt: &R, bytes: &[u8]) -> Result<u64, CaptureError> {
-    count_read(rt, &mut Counted::new(bytes))
-}
-
-/// The same of what a reader gives.
-fn count_read<R: Abort + AllocGlobal, I: Read>(
-    rt: &R,
+/// How many records there are, or the first fault.
+fn count_taken<I: Read>(
+    capture: &mut Capture,
     reader: &mut Counted<I>,
 ) -> Result<u64, CaptureError> {
-    let mut capture = Capture::open(rt.alloc(), reader)?;
     for count in 0..9 {
-        match capture.next(reader) {
-            Ok(true) => {}
-            Ok(false) => return Ok(count),
-            Err(error) => {
-                assert!(rt; capture.next(reader) == Err(error));
-                assert!(rt; capture.record().is_none());
-                return Err(error);
-            }
+        if !capture.next(reader)? {
+            return Ok(count);
         }
     }
     Ok(9)
+}
+
+/// The same of a capture that is opened; None where a fault doesn't come again, or leaves a record.
+fn count_records<I: Read>(
+    alloc: Global,
+    reader: &mut Counted<I>,
+) -> Option<Result<u64, CaptureError>> {
+    let mut capture = match Capture::open(alloc, reader) {
+        Ok(capture) => capture,
+        Err(error) => return Some(Err(error)),
+    };
+    let told = count_taken(&mut capture, reader);
+    if let Err(error) = told {
+        if capture.next(reader) != Err(error) || capture.record().is_some() {
+            return None;
+        }
+    }
+    Some(told)
 }
 
 const MAGIC: Result<u64, CaptureError> = Err(CaptureError::Refused(CaptureFault::Magic));
@@ -46,136 +60,124 @@ const MALFORMED: Result<u64, CaptureError> = Err(CaptureError::Refused(CaptureFa
 
 const TORN_END: Result<u64, CaptureError> = Err(CaptureError::Refused(CaptureFault::TornEnd));
 
-/// A place of a capture of two records, the byte that is put there, how long the capture is then,
+/// The header of a record of 262,144 bytes, the most that one may have.
+const LONGEST: &[u8] = &[0, 0, 0, 0, 0, 0, 0, 0, 0, 0, 4, 0, 0, 0, 0, 0];
+
+/// Of one byte more.
+const LONGER: &[u8] = &[0, 0, 0, 0, 0, 0, 0, 0, 1, 0, 4, 0, 0, 0, 0, 0];
+
+/// The header of a record without a byte, at 999,999 microseconds.
+const LATEST: &[u8] = &[0, 0, 0, 0, 0x3f, 0x42, 0x0f, 0, 0, 0, 0, 0, 0, 0, 0, 0];
+
+/// At a microsecond more.
+const LATER: &[u8] = &[0, 0, 0, 0, 0x40, 0x42, 0x0f, 0, 0, 0, 0, 0, 0, 0, 0, 0];
+
+/// A place of a capture of two records, the bytes that are put there, how long the capture is then,
 /// and how many records it has or why it is refused.
-static ROWS: [(usize, u8, usize, Result<u64, CaptureError>); 18] = [
-    (0, 0x4d, 85, MAGIC),
-    (4, 3, 85, VERSION),
-    (6, 3, 85, VERSION),
-    (20, 0x71, 85, LINK_TYPE),
+type Row = (usize, &'static [u8], usize, Result<u64, CaptureError>);
+
+static ROWS: [Row; 23] = [
+    (0, &[0x4d], 85, MAGIC),
+    (4, &[3], 85, VERSION),
+    (6, &[3], 85, VERSION),
+    (20, &[0x71], 85, LINK_TYPE),
     // LINKTYPE_ETHERNET.
-    (20, 1, 85, Ok(2)),
+    (20, &[1], 85, Ok(2)),
     // The high bits of the link type's field don't count.
-    (23, 0x14, 85, Ok(2)),
+    (23, &[0x14], 85, Ok(2)),
     // A fraction of 1,024,288.
-    (30, 0x0f, 85, MALFORMED),
+    (30, &[0x0f], 85, MALFORMED),
     // Captured lengths of 65,564 and of 262,172.
-    (34, 1, 85, TORN_END),
-    (34, 4, 85, MALFORMED),
+    (34, &[1], 85, TORN_END),
+    (34, &[4], 85, MALFORMED),
     // The original length isn't used.
-    (39, 0xff, 85, Ok(2)),
-    (0, 0xd4, 0, TORN_END),
-    (0, 0xd4, 23, TORN_END),
-    (0, 0xd4, 24, Ok(0)),
-    (0, 0xd4, 25, TORN_END),
-    (0, 0xd4, 67, TORN_END),
-    (0, 0xd4, 68, Ok(1)),
-    (0, 0xd4, 84, TORN_END),
-    (0, 0xd4, 85, Ok(2)),
+    (39, &[0xff], 85, Ok(2)),
+    (0, &[], 0, TORN_END),
+    (0, &[], 23, TORN_END),
+    (0, &[], 24, Ok(0)),
+    (0, &[], 25, TORN_END),
+    (0, &[], 67, TORN_END),
+    (0, &[], 68, Ok(1)),
+    (0, &[], 84, TORN_END),
+    (0, &[], 85, Ok(2)),
+    // As many bytes as the header tells, and one fewer.
+    (24, LONGEST, 262_184, Ok(1)),
+    (24, LONGEST, 262_183, TORN_END),
+    (24, LONGER, 262_185, MALFORMED),
+    (24, LATEST, 40, Ok(1)),
+    (24, LATER, 40, MALFORMED),
 ];
 
-#[test]
-fn records_are_counted_or_refused(rt: HostRuntime) -> Result<(), Fail> {
-    let whole = bytes(rt.alloc(), &[HEADER, AT_1_5, PLAIN, EARLIER])?;
-    for (row, (place, byte, length, wanted)) in ROWS.iter().enumerate() {
-        let mut capture = whole.to_vec(rt.alloc())?;
-        if let Some(changed) = capture.get_mut(*place) {
-            *changed = *byte;
-        }
-        capture.truncate(*length);
-        assert!(&rt; count_records(&rt, &capture) == *wanted, "row {row}");
+/// The capture that the row makes of the whole one.
+fn changed(alloc: Global, whole: &[u8], row: &Row) -> Result<Vec<u8>, AllocError> {
+    let (place, put, length, _) = row;
+    let mut capture = whole.to_vec(alloc)?;
+    for (old, new) in capture.iter_mut().skip(*place).zip(*put) {
+        *old = *new;
     }
-    Ok(())
+    capture.resize(*length, b'x')?;
+    Ok(capture)
 }
 
-/// Headers of records at their limits and one past, each with so many bytes behind it: captured lengths
-/// of 262,144 and 262,145, and one byte fewer than that tells; 999,999 and 1,000,000 microseconds.
-static RECORDS: [(&str, usize, Result<u64, CaptureError>); 5] = [
-    ("00000000000000000000040000000000", 262_144, Ok(1)),
-    ("00000000000000000000040000000000", 262_143, TORN_END),
-    ("00000000000000000100040000000000", 262_145, MALFORMED),
-    ("000000003f420f000000000000000000", 0, Ok(1)),
-    ("0000000040420f000000000000000000", 0, MALFORMED),
-];
-
 #[test]
-fn records_have_limits(rt: HostRuntime) -> Result<(), Fail> {
-    for (row, (header, count, wanted)) in RECORDS.iter().enumerate() {
-        let start = bytes(rt.alloc(), &[HEADER, *header])?;
-        let capture = repeated(rt.alloc(), &start, b"x", *count, b"")?;
-        assert!(&rt; count_records(&rt, &capture) == *wanted, "row {row}");
+fn records_are_counted_or_refused(rt: HostRuntime) {
+    let parts = [HEADER, AT_1_5, PLAIN, EARLIER];
+    let whole = bytes(rt.alloc(), &parts).expect(&rt, "a capture");
+    for (number, row) in ROWS.iter().enumerate() {
+        let capture = changed(rt.alloc(), &whole, row).expect(&rt, "memory");
+        let told = count_records(rt.alloc(), &mut Counted::new(capture.as_slice()));
+        check_row(&rt, number, told == Some(row.3));
     }
-    Ok(())
+}
+
+/// What is told where this read of 9 bytes fails, and how many calls there were.
+fn read_slowly(
+    alloc: Global,
+    capture: &[u8],
+    fails: usize,
+) -> (Option<Result<u64, CaptureError>>, u64) {
+    let slow = Slow::new(capture, 9);
+    let mut reader = Counted::new(Calls::new(Failing::new(slow, fails)));
+    let told = count_records(alloc, &mut reader);
+    (told, reader.into_inner().calls())
 }
 
 /// Each read of 9 bytes fails in turn: that is answered, it is answered again, and nothing is read again.
 #[test]
-fn a_read_that_fails_is_told_again(rt: HostRuntime) -> Result<(), Fail> {
-    let capture = bytes(rt.alloc(), &[HEADER, AT_1_5, PLAIN, AT_1_5, PLAIN])?;
+fn a_read_that_fails_is_told_again(rt: HostRuntime) {
+    let parts = [HEADER, AT_1_5, PLAIN, AT_1_5, PLAIN];
+    let capture = bytes(rt.alloc(), &parts).expect(&rt, "a capture");
     // 112 bytes take 13 reads, and the end is seen by one more.
-    for fails in 0..15usize {
-        let slow = Slow::new(capture.as_slice(), 9);
-        let mut reader = Counted::new(Calls::new(Failing::new(slow, fails)));
-        let told = count_read(&rt, &mut reader);
-        let wanted = match fails {
-            14 => Ok(2),
-            _ => Err(CaptureError::Device),
-        };
-        assert!(&rt; told == wanted, "read {fails}");
-        let calls = reader.into_inner().calls();
-        assert!(&rt;
-            usize::try_from(calls) == Ok(fails.min(13) + 1),
-            "read {fails}"
-        );
+    for fails in 0..14u8 {
+        let row = usize::from(fails);
+        let wanted = (Some(Err(CaptureError::Device)), u64::from(fails) + 1);
+        check_row(&rt, row, read_slowly(rt.alloc(), &capture, row) == wanted);
     }
-    Ok(())
-}
-
-/// The beginnings of records of the greatest packets, a second apart.
-static GREATEST: [&str; 3] = [
-    "00000000000000001300010013000100",
-    "00000000010000001300010013000100",
-    "00000000020000001300010013000100",
-];
-
-/// What is written of them.
-fn greatest_written(alloc: Global, packet: &[u8]) -> Result<Vec<u8>, Fail>
-    requires { length packet.now ≤ 65535 }
-{
-    let mut writer = Counted::new(Vec::new(alloc));
-    let mut sink = Sink::open(alloc, &mut writer)?;
-    for moment in 0..3 {
-        let leaving = Leaving {
-            moment,
-            interface: 1,
-            packet,
-        };
-        sink.put(&mut writer, &leaving)?;
-    }
-    sink.finish(&mut writer)?;
-    Ok(writer.into_inner())
-}
-
-/// The greatest packets, of which the buffer holds one beside the end of another.
-#[test]
-fn writes_the_greatest_packets(rt: HostRuntime) -> Result<(), Fail> {
-    let packet = vec![in rt.alloc(); 7u8; 65_535]?;
-    let mut wanted = bytes(rt.alloc(), &[OUT_HEADER])?;
-    for start in &GREATEST {
-        let headers = [*start, "0800000000000001000104000000000000000000"];
-        append(rt.alloc(), &headers, &mut wanted)?;
-        wanted.extend_from_slice(&packet)?;
-    }
-    let written = greatest_written(rt.alloc(), &packet)?;
-    assert!(&rt; written.as_slice() == wanted.as_slice());
-    Ok(())
+    check_row(
+        &rt,
+        14,
+        read_slowly(rt.alloc(), &capture, 14) == (Some(Ok(2)), 14),
+    );
 }
 
 /// How many packets wait in the buffer before one has no room.
 const WAITING: usize = 2_048;
 
+/// Magic a1b23c4d, which tells nanoseconds, version 2.4, snaplen 262,144, LINKTYPE_LINUX_SLL2.
+static OUT_HEADER: [u8; 24] = [
+    0x4d, 0x3c, 0xb2, 0xa1, 2, 0, 4, 0, 0, 0, 0, 0, 0, 0, 0, 0, 0, 0, 4, 0, 0x14, 1, 0, 0,
+];
+
+/// At 1 s 500000000 nanoseconds, 48 bytes, by interface 3; the packet begins at 36.
+static RECORD: [u8; 64] = [
+    1, 0, 0, 0, 0, 0x65, 0xcd, 0x1d, 0x30, 0, 0, 0, 0x30, 0, 0, 0, 8, 0, 0, 0, 0, 0, 0, 3, 0, 1, 4,
+    0, 0, 0, 0, 0, 0, 0, 0, 0, 0x45, 0x00, 0x00, 0x1c, 0x00, 0x01, 0x00, 0x00, 0x40, 0x11, 0x8e,
+    0xe3, 0xc0, 0xa8, 0x01, 0x0a, 0xc6, 0x33, 0x64, 0x07, 0x13, 0x88, 0x00, 0x35, 0x00, 0x08, 0x00,
+    0x00,
+];
+
 /// What is written of the packets that wait, where the first write behind the header fails.
-fn written_in_the_end<R: Abort + AllocGlobal>(rt: &R, packet: &[u8]) -> Result<Vec<u8>, Fail>
+fn written_in_the_end<R: Abort + AllocGlobal>(rt: &R, packet: &[u8]) -> Vec<u8>
     requires { length packet.now ≤ 65535 }
 {
     let leaving = Leaving {
@@ -184,26 +186,22 @@ fn written_in_the_end<R: Abort + AllocGlobal>(rt: &R, packet: &[u8]) -> Result<V
         packet,
     };
     let mut writer = Counted::new(Failing::new(Vec::new(rt.alloc()), 1));
-    let mut sink = Sink::open(rt.alloc(), &mut writer)?;
+    let mut sink = Sink::open(rt.alloc(), &mut writer).expect(rt, "a sink");
     for _ in 0..WAITING {
-        sink.put(&mut writer, &leaving)?;
+        sink.put(&mut writer, &leaving).expect(rt, "room");
     }
     assert!(rt; sink.put(&mut writer, &leaving).is_err() && writer.failures() == 1);
     // The call fails once; what waited is all there.
-    sink.finish(&mut writer)?;
-    Ok(writer.into_inner().into_inner())
+    sink.finish(&mut writer).expect(rt, "a write");
+    writer.into_inner().into_inner()
 }
 
 /// A buffer that can't be drained keeps what waits.
 #[test]
-fn keeps_what_waits_after_a_put_that_failed(rt: HostRuntime) -> Result<(), Fail> {
-    let header = bytes(rt.alloc(), &[OUT_HEADER])?;
-    let record = bytes(rt.alloc(), &[OUT_AT_1_5, PLAIN])?;
-    let wanted = repeated(rt.alloc(), &header, &record, WAITING, b"")?;
-    assert!(&rt; record.len() == 64);
-    let written = written_in_the_end(&rt, &record[36..])?;
-    assert!(&rt; written.as_slice() == wanted.as_slice());
-    Ok(())
+fn keeps_what_waits_after_a_put_that_failed(rt: HostRuntime) {
+    let wanted = repeated(rt.alloc(), &OUT_HEADER, &RECORD, WAITING, b"").expect(&rt, "memory");
+    let written = written_in_the_end(&rt, &RECORD[36..]);
+    assert!(rt; written.as_slice() == wanted.as_slice());
 }
 
 /// Of six calls of a writer the one of this number fails, and is counted alone.
@@ -235,7 +233,7 @@ fn counts_reads(fails: usize) -> bool {
 #[test]
 fn a_counted_call_is_made_once(rt: HostRuntime) {
     for fails in 0..6usize {
-        assert!(&rt; counts_writes(rt.alloc(), fails), "write {fails}");
-        assert!(&rt; counts_reads(fails), "read {fails}");
+        check_row(&rt, fails, counts_writes(rt.alloc(), fails));
+        check_row(&rt, fails, counts_reads(fails));
     }
 }

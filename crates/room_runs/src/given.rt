@@ -1,51 +1,32 @@
-//! What tests share: a packet and its records, and texts of pieces.
-use std::alloc::Global;
-use std::test::Fail;
-
-/// Magic a1b2c3d4, which tells microseconds, version 2.4, LINKTYPE_RAW.
-pub const HEADER: &str = "d4c3b2a1020004000000000000000000ffff000065000000";
-
-/// Magic a1b23c4d, which tells nanoseconds, version 2.4, snaplen 262,144, LINKTYPE_LINUX_SLL2.
-pub const OUT_HEADER: &str = "4d3cb2a10200040000000000000000000000040014010000";
-
-/// At 1 s 500000 microseconds, 28 bytes.
-pub const AT_1_5: &str = "0100000020a107001c0000001c000000";
+//! What tests share: a packet, bytes and texts of pieces, and rows that have to hold.
+use hex::FromHexError;
+use std::alloc::{AllocError, Global};
+use std::process::Abort;
 
 /// UDP from 192.168.1.10:5000 to 198.51.100.7:53, TTL 64.
-pub const PLAIN: &str = "4500001c0001000040118ee3c0a8010ac63364071388003500080000";
-
-/// At 1 s 500000000 nanoseconds, 48 bytes, by interface 3.
-pub const OUT_AT_1_5: &str =
-    "010000000065cd1d30000000300000000800000000000003000104000000000000000000";
+pub static PACKET: [u8; 28] = [
+    0x45, 0x00, 0x00, 0x1c, 0x00, 0x01, 0x00, 0x00, 0x40, 0x11, 0x8e, 0xe3, 0xc0, 0xa8, 0x01, 0x0a,
+    0xc6, 0x33, 0x64, 0x07, 0x13, 0x88, 0x00, 0x35, 0x00, 0x08, 0x00, 0x00,
+];
 
 /// The bytes of these hexadecimal texts, one after another.
-pub fn bytes(alloc: Global, parts: &[&str]) -> Result<Vec<u8>, Fail> {
-    let mut all = Vec::new(alloc);
-    append(alloc, parts, &mut all)?;
-    Ok(all)
-}
-
-/// Adds them to what is there.
-pub fn append(alloc: Global, parts: &[&str], all: &mut Vec<u8>) -> Result<(), Fail> {
-    for part in parts {
-        all.extend_from_slice(&hex::decode(alloc, *part)?)?;
-    }
-    Ok(())
+pub fn bytes(alloc: Global, parts: &[&str]) -> Result<Vec<u8>, FromHexError> {
+    hex::decode(alloc, parts.concat(alloc)?)
 }
 
 /// A beginning, so many times the same piece, and an end.
-pub fn repeated<T: Copy>(
+pub fn repeated(
     alloc: Global,
-    beginning: &[T],
-    piece: &[T],
+    beginning: &[u8],
+    piece: &[u8],
     count: usize,
-    end: &[T],
-) -> Result<Vec<T>, Fail> {
-    let mut all = Vec::new(alloc);
-    all.extend_from_slice(beginning)?;
-    for _ in 0..count {
-        all.extend_from_slice(piece)?;
-    }
-    all.extend_from_slice(end)?;
-    Ok(all)
+    end: &[u8],
+) -> Result<Vec<u8>, AllocError> {
+    let pieces = piece.repeat(alloc, count)?;
+    [beginning, &pieces, end].concat(alloc)
+}
+
+/// What a row says has to hold.
+pub fn check_row<R: Abort>(rt: &R, row: usize, is_right: bool) {
+    assert!(rt; is_right, "row {row}");
 }

@@ -1,8 +1,8 @@
 //! Packets read in place.
-use crate::given::{PLAIN, append, bytes};
+use crate::given::{PACKET, bytes, check_row};
+use hex::FromHexError;
 use ip_headers::{Endpoint, HeaderFault, Kind, Transport, Tuple, View, ones_sum};
-use std::alloc::Global;
-use std::test::Fail;
+use std::alloc::{AllocError, Global};
 
 /// The first is that of RFC 1071, section 3.
 static SUMS: [(&[u8], u16); 5] = [
@@ -15,21 +15,17 @@ static SUMS: [(&[u8], u16); 5] = [
 
 #[test]
 fn sums(rt: HostRuntime) {
-    for &(words, sum) in &SUMS {
-        assert_eq!(rt; ones_sum(words), sum);
+    for (row, &(words, sum)) in SUMS.iter().enumerate() {
+        check_row(&rt, row, ones_sum(words) == sum);
     }
 }
 
 /// The sum as the C code of RFC 1071, section 4.1, makes it.
 fn plain_sum(bytes: &[u8]) -> u16 {
     let mut sum = 0u32;
-    for pair in bytes.chunks(2) {
-        let word = match pair {
-            [high, low] => u16::from_be_bytes([*high, *low]),
-            [high] => u16::from_be_bytes([*high, 0]),
-            _ => 0,
-        };
-        sum = sum.wrapping_add(word as u32);
+    for (place, byte) in bytes.iter().enumerate() {
+        let weight = if place % 2 == 0 { 256 } else { 1 };
+        sum = sum.wrapping_add(u32::from(*byte) * weight);
     }
     let folded = (sum & 0xffff).wrapping_add(sum >> 16);
     (folded & 0xffff).wrapping_add(folded >> 16) as u16
@@ -37,95 +33,85 @@ fn plain_sum(bytes: &[u8]) -> u16 {
 
 /// Of each length, by blocks and what is left of one.
 #[test]
-fn sums_of_each_length(rt: HostRuntime) -> Result<(), Fail> {
+fn sums_of_each_length(rt: HostRuntime) {
     let mut bytes = Vec::new(rt.alloc());
     for number in 0..201u8 {
-        assert_eq!(rt; ones_sum(&bytes), plain_sum(&bytes), "{number}");
-        bytes.push(number.wrapping_mul(151) ^ 0xa5)?;
+        check_row(&rt, bytes.len(), ones_sum(&bytes) == plain_sum(&bytes));
+        let byte = number.wrapping_mul(151) ^ 0xa5;
+        bytes.push(byte).expect(&rt, "memory");
     }
-    Ok(())
 }
+
+/// From where the answer to a packet comes, and where it goes.
+static BACK: Tuple = Tuple {
+    kind: Kind::Udp,
+    source: Endpoint {
+        address: 0xc633_6407,
+        port: 53,
+    },
+    destination: Endpoint {
+        address: 0xc0a8_010a,
+        port: 5000,
+    },
+};
 
 #[test]
-fn reads_in_place(rt: HostRuntime) -> Result<(), Fail> {
-    let packet = bytes(rt.alloc(), &[PLAIN])?;
-    let view = View::read(&packet)?;
-    let found = (view.source(), view.destination(), view.ttl());
-    assert_eq!(rt; found, (0xc0a8_010a, 0xc633_6407, 64));
-    let wanted = bytes(rt.alloc(), &["1388003500080000"])?;
-    assert_eq!(rt; view.payload, wanted.as_slice());
-    Ok(())
+fn reads_in_place(rt: HostRuntime) {
+    let view = View::read(&PACKET).expect(&rt, "a packet");
+    let addresses = (view.source(), view.destination());
+    assert!(rt; addresses == (0xc0a8_010a, 0xc633_6407));
+    assert!(rt; (view.ttl(), view.total_length()) == (64, 28));
+    assert!(rt; view.payload == &PACKET[20..]);
+    assert!(rt; view.tuple().map(Tuple::inverse) == Some(BACK));
 }
 
-/// Beginnings of packets, and the first fault of each with its word.
-static FAULTS: [(&str, HeaderFault, &str); 9] = [
+/// The first fault of a packet that is written in hexadecimal digits.
+fn first_fault(alloc: Global, packet: &str) -> Result<Option<HeaderFault>, FromHexError> {
+    let packet = hex::decode(alloc, packet)?;
+    Ok(View::read(&packet).err())
+}
+
+/// Beginnings of packets, each with its first fault. Then packets of GRE without a payload, each test of a header
+/// at its limit and one past: 20 bytes and 19; versions 3 and 5; IHL 4; a total length of 19, and of 23 and 24
+/// behind options; a total length of one more than there is, and that byte; a checksum of one more and one less;
+/// DF, the reserved bit, MF, the offsets 1 and 8,191. The others are right in all else.
+static FAULTS: [(&str, Option<HeaderFault>); 27] = [
     (
         "4500001c0001000040118ee3c0a8010ac63364",
-        HeaderFault::Short,
-        "short",
+        Some(HeaderFault::Short),
     ),
     (
         "4500001c0001000040118ee3c0a8010ac633640713880035000800",
-        HeaderFault::Truncated,
-        "truncated",
+        Some(HeaderFault::Truncated),
     ),
     (
         "4500001c0001200040116ee3c0a8010ac63364071388003500080000",
-        HeaderFault::Fragment,
-        "fragment",
+        Some(HeaderFault::Fragment),
     ),
     (
         "4500001c0001000140118ee2c0a8010ac63364071388003500080000",
-        HeaderFault::Fragment,
-        "fragment",
+        Some(HeaderFault::Fragment),
     ),
     (
         "4500001c0001000140118ee3c0a8010ac63364071388003500080000",
-        HeaderFault::Checksum,
-        "checksum",
+        Some(HeaderFault::Checksum),
     ),
     (
         "6500001c0001000040118ee3c0a8010ac63364071388003500080000",
-        HeaderFault::Version,
-        "version",
+        Some(HeaderFault::Version),
     ),
     (
         "4400001c0001000040118ee3c0a8010ac63364071388003500080000",
-        HeaderFault::HeaderLength,
-        "hlen",
+        Some(HeaderFault::HeaderLength),
     ),
     (
         "4f0000140001000040110000c0a8010ac6336407",
-        HeaderFault::Length,
-        "length",
+        Some(HeaderFault::Length),
     ),
     (
         "4500001c0001000040118ee3c0a8010ac63364071388003500070000",
-        HeaderFault::Transport,
-        "transport",
+        Some(HeaderFault::Transport),
     ),
-];
-
-fn first_fault(bytes: &[u8]) -> Option<HeaderFault> {
-    View::read(bytes).err()
-}
-
-#[test]
-fn first_faults(rt: HostRuntime) -> Result<(), Fail> {
-    for (packet, fault, word) in &FAULTS {
-        let read = bytes(rt.alloc(), &[*packet])?;
-        assert!(&rt; first_fault(&read) == Some(*fault), "{word}");
-        let text = format!(in rt.alloc(); "{fault}")?;
-        assert!(&rt; text.as_str() == *word, "{text}");
-    }
-    Ok(())
-}
-
-/// Packets of GRE without a payload, each test of a header at its limit and one past: 20 bytes and 19;
-/// versions 3 and 5; IHL 4; a total length of 19, and of 23 and 24 behind options; a total length of one
-/// more than there is, and that byte; a checksum of one more and one less; DF, the reserved bit, MF, the
-/// offsets 1 and 8,191. The others are right in all else.
-static LIMITS: [(&str, Option<HeaderFault>); 18] = [
     ("4500001400010000402f8ecdc0a8010ac6336407", None),
     (
         "4500001400010000402f8ecdc0a8010ac63364",
@@ -186,12 +172,34 @@ static LIMITS: [(&str, Option<HeaderFault>); 18] = [
 ];
 
 #[test]
-fn headers_at_their_limits(rt: HostRuntime) -> Result<(), Fail> {
-    for (row, (packet, fault)) in LIMITS.iter().enumerate() {
-        let read = bytes(rt.alloc(), &[*packet])?;
-        assert!(&rt; first_fault(&read) == *fault, "row {row}");
+fn first_faults(rt: HostRuntime) {
+    for (row, (packet, fault)) in FAULTS.iter().enumerate() {
+        check_row(&rt, row, first_fault(rt.alloc(), *packet) == Ok(*fault));
     }
-    Ok(())
+}
+
+static WORDS: [(HeaderFault, &str); 8] = [
+    (HeaderFault::Short, "short"),
+    (HeaderFault::Truncated, "truncated"),
+    (HeaderFault::Fragment, "fragment"),
+    (HeaderFault::Checksum, "checksum"),
+    (HeaderFault::Version, "version"),
+    (HeaderFault::HeaderLength, "hlen"),
+    (HeaderFault::Length, "length"),
+    (HeaderFault::Transport, "transport"),
+];
+
+/// Whether the fault is told by this word.
+fn is_told(alloc: Global, fault: HeaderFault, word: &str) -> Result<bool, AllocError> {
+    let text = format!(in alloc; "{fault}")?;
+    Ok(text.as_str() == word)
+}
+
+#[test]
+fn faults_are_told(rt: HostRuntime) {
+    for (row, (fault, word)) in WORDS.iter().enumerate() {
+        check_row(&rt, row, is_told(rt.alloc(), *fault, word) == Ok(true));
+    }
 }
 
 /// The header of a packet from 192.168.1.10 to 198.51.100.7 with a payload of so many bytes.
@@ -209,12 +217,16 @@ fn header(protocol: u8, length: u8) -> [u8; 20] {
 
 /// A packet whose payload begins so and goes on with zeros; and behind its end nine bytes that don't
 /// count.
-fn packet(alloc: Global, protocol: u8, beginning: &[&str], length: u8) -> Result<Vec<u8>, Fail> {
-    let mut packet = header(protocol, length).to_vec(alloc)?;
-    append(alloc, beginning, &mut packet)?;
-    packet.resize(20 + usize::from(length), 0)?;
-    packet.resize(29 + usize::from(length), 0xff)?;
-    Ok(packet)
+fn packet(
+    alloc: Global,
+    protocol: u8,
+    beginning: &[&str],
+    length: u8,
+) -> Result<Vec<u8>, FromHexError> {
+    let mut payload = bytes(alloc, beginning)?;
+    payload.resize(usize::from(length), 0)?;
+    payload.resize(usize::from(length) + 9, 0xff)?;
+    Ok([&header(protocol, length), payload.as_slice()].concat(alloc)?)
 }
 
 /// A tuple's kind and its two ports.
@@ -317,26 +329,39 @@ static PAYLOADS: [Payload; 11] = [
     },
 ];
 
+/// A packet's protocol, its transport and its ends.
+type Found = (u8, Transport, Option<(Kind, u16, u16)>);
+
+/// What is read of a packet of so many bytes behind its header, or its fault.
+fn read(
+    alloc: Global,
+    payload: &Payload,
+    length: u8,
+) -> Result<Result<Found, HeaderFault>, FromHexError> {
+    let packet = packet(alloc, payload.protocol, &[payload.beginning], length)?;
+    Ok(match View::read(&packet) {
+        Ok(view) => Ok((view.protocol(), view.transport(), ends(view.tuple()))),
+        Err(fault) => Err(fault),
+    })
+}
+
+/// What has to be read of it.
+fn wanted(payload: &Payload, length: u8) -> Result<Found, HeaderFault> {
+    match payload.least {
+        Some(least) if least <= length => Ok((payload.protocol, payload.transport, payload.ends)),
+        _ => Err(HeaderFault::Transport),
+    }
+}
+
 /// A packet that fits, or the fault of one that doesn't, at each length.
 #[test]
-fn payloads_fit_their_protocol(rt: HostRuntime) -> Result<(), Fail> {
+fn payloads_fit_their_protocol(rt: HostRuntime) {
     for (row, payload) in PAYLOADS.iter().enumerate() {
         for length in 0..64u8 {
-            let read = packet(rt.alloc(), payload.protocol, &[payload.beginning], length)?;
-            let found = match View::read(&read) {
-                Ok(view) => Ok((view.protocol(), view.transport(), ends(view.tuple()))),
-                Err(fault) => Err(fault),
-            };
-            let wanted = match payload.least {
-                Some(least) if least <= length => {
-                    Ok((payload.protocol, payload.transport, payload.ends))
-                }
-                _ => Err(HeaderFault::Transport),
-            };
-            assert!(&rt; found == wanted, "row {row} of {length} bytes");
+            let is_right = read(rt.alloc(), payload, length) == Ok(wanted(payload, length));
+            assert!(rt; is_right, "row {row} of {length} bytes");
         }
     }
-    Ok(())
 }
 
 /// A message's type; of the datagram that follows its 8 bytes version and IHL, the flags and the
@@ -408,8 +433,8 @@ fn tells(
     Ok(ends(view.inner_tuple()) == wanted && (view.is_error() || !is_error))
 }
 
-/// So it is with so many bytes of the datagram. Its total length, TTL and checksum are wrong.
-fn tells_at(alloc: Global, row: &Message, length: u8) -> Result<bool, Fail> {
+/// Whether so many bytes of the datagram are read so. Its total length, TTL and checksum are wrong.
+fn tells_at(alloc: Global, row: &Message, length: u8) -> Result<bool, FromHexError> {
     let (message, [first, flags, protocol, rest], wanted) = row;
     let payload = [
         *message,
@@ -426,37 +451,16 @@ fn tells_at(alloc: Global, row: &Message, length: u8) -> Result<bool, Fail> {
         Some((least, kind, from, to)) if *least <= length => Some((*kind, *from, *to)),
         _ => None,
     };
-    let read = packet(alloc, 1, &payload, 8u8.saturating_add(length))?;
-    Ok(tells(&read, wanted.is_some(), told)?)
+    let packet = packet(alloc, 1, &payload, 8u8.saturating_add(length))?;
+    Ok(tells(&packet, wanted.is_some(), told) == Ok(true))
 }
 
 #[test]
-fn errors_tell_of_datagrams(rt: HostRuntime) -> Result<(), Fail> {
+fn errors_tell_of_datagrams(rt: HostRuntime) {
     for (number, row) in MESSAGES.iter().enumerate() {
         for length in 0..40u8 {
-            let is_right = tells_at(rt.alloc(), row, length)?;
-            assert!(&rt; is_right, "row {number} of {length} bytes");
+            let is_right = tells_at(rt.alloc(), row, length) == Ok(true);
+            assert!(rt; is_right, "row {number} of {length} bytes");
         }
     }
-    Ok(())
-}
-
-#[test]
-fn a_tuple_has_its_addresses(rt: HostRuntime) -> Result<(), Fail> {
-    let read = bytes(rt.alloc(), &[PLAIN])?;
-    let view = View::read(&read)?;
-    assert!(&rt; view.total_length() == 28);
-    let wanted = Tuple {
-        kind: Kind::Udp,
-        source: Endpoint {
-            address: 0xc633_6407,
-            port: 53,
-        },
-        destination: Endpoint {
-            address: 0xc0a8_010a,
-            port: 5000,
-        },
-    };
-    assert!(&rt; view.tuple().map(Tuple::inverse) == Some(wanted));
-    Ok(())
 }

@@ -1,89 +1,116 @@
 //! Texts cut into tokens, and the faults of texts that aren't.
-use crate::given::repeated;
-use nft_lexer::{Kind, LexError, LexFault, Mark, lex};
+use crate::given::{check_row, repeated};
+use nft_lexer::{Kind, LexError, LexFault, Mark, Token, lex};
 use std::alloc::Global;
-use std::process::Abort;
-use std::test::Fail;
 
-/// What a token is, behind its text.
-fn value(alloc: Global, kind: Kind) -> Result<String, Fail> {
-    Ok(match kind {
-        Kind::NewLine => String::from_str(alloc, " newline\n")?,
-        Kind::Mark(_) => String::from_str(alloc, " mark\n")?,
-        Kind::Word => String::from_str(alloc, " word\n")?,
-        Kind::Number(number) => format!(in alloc; " number {number}\n")?,
-        Kind::Address(address) => format!(in alloc; " address {address:08x}\n")?,
-        Kind::String => String::from_str(alloc, " string\n")?,
-    })
+/// What a token is; a string with what stands between its quotes.
+#[derive(Clone, Copy)]
+enum Piece {
+    NewLine,
+    Mark,
+    Word,
+    Number(u64),
+    Address(u32),
+    String(&'static [u8]),
 }
 
-/// The tokens of a text, each with what it is and a newline.
-fn shown(alloc: Global, text: &[u8]) -> Result<Vec<u8>, Fail> {
-    let mut all = Vec::new(alloc);
-    let tokens = lex(alloc, text)?;
-    for token in &tokens {
-        all.extend_from_slice(token.text)?;
-        if matches!(token.kind, Kind::String) {
-            all.extend_from_slice(token.between_quotes())?;
-        }
-        all.extend_from_slice(value(alloc, token.kind)?.as_bytes())?;
-    }
-    Ok(all)
-}
+/// A token's text, and what it is.
+type Cut = (&'static [u8], Piece);
 
-/// Many kinds of tokens; what is nearly one token; the largest numbers; no token.
-static CUT: [(&[u8], &[u8]); 4] = [
-    (
-        b"tcp dport != 22 # x\n0x1fF \"a b\" 1.2.3.4.80 80accept \\\n\t<=\r=<=0x",
-        b"tcp word
-dport word
-!= mark
-22 number 22
-
- newline
-0x1fF number 511
-\"a b\"a b string
-1.2.3.4 address 01020304
-. mark
-80 number 80
-80 number 80
-accept word
-<= mark
-= mark
-<= mark
-0 number 0
-x word
-",
-    ),
-    (
-        b"0X1 1.2.3 a-b./c \"#;{\xff\"",
-        b"0 number 0
-X1 word
-1 number 1
-. mark
-2 number 2
-. mark
-3 number 3
-a-b./c word
-\"#;{\xff\"#;{\xff string
-",
-    ),
-    (
-        b"18446744073709551615 0x00ffffffffffffffff 255.255.255.255",
-        b"18446744073709551615 number 18446744073709551615
-0x00ffffffffffffffff number 18446744073709551615
-255.255.255.255 address ffffffff
-",
-    ),
-    (b"# x", b""),
+/// Many kinds of tokens.
+const MANY: &[Cut] = &[
+    (b"tcp", Piece::Word),
+    (b"dport", Piece::Word),
+    (b"!=", Piece::Mark),
+    (b"22", Piece::Number(22)),
+    (b"\n", Piece::NewLine),
+    (b"0x1fF", Piece::Number(511)),
+    (b"\"a b\"", Piece::String(b"a b")),
+    (b"1.2.3.4", Piece::Address(0x0102_0304)),
+    (b".", Piece::Mark),
+    (b"80", Piece::Number(80)),
+    (b"80", Piece::Number(80)),
+    (b"accept", Piece::Word),
+    (b"<=", Piece::Mark),
+    (b"=", Piece::Mark),
+    (b"<=", Piece::Mark),
+    (b"0", Piece::Number(0)),
+    (b"x", Piece::Word),
 ];
 
-#[test]
-fn texts_are_cut(rt: HostRuntime) -> Result<(), Fail> {
-    for &(text, tokens) in &CUT {
-        assert!(&rt; shown(rt.alloc(), text)?.as_slice() == tokens);
+/// What is nearly one token.
+const NEARLY: &[Cut] = &[
+    (b"0", Piece::Number(0)),
+    (b"X1", Piece::Word),
+    (b"1", Piece::Number(1)),
+    (b".", Piece::Mark),
+    (b"2", Piece::Number(2)),
+    (b".", Piece::Mark),
+    (b"3", Piece::Number(3)),
+    (b"a-b./c", Piece::Word),
+    (b"\"#;{\xff\"", Piece::String(b"#;{\xff")),
+];
+
+/// The largest numbers.
+const LARGEST: &[Cut] = &[
+    (
+        b"18446744073709551615",
+        Piece::Number(18_446_744_073_709_551_615),
+    ),
+    (
+        b"0x00ffffffffffffffff",
+        Piece::Number(18_446_744_073_709_551_615),
+    ),
+    (b"255.255.255.255", Piece::Address(0xffff_ffff)),
+];
+
+static CUT: [(&[u8], &[Cut]); 4] = [
+    (
+        b"tcp dport != 22 # x\n0x1fF \"a b\" 1.2.3.4.80 80accept \\\n\t<=\r=<=0x",
+        MANY,
+    ),
+    (b"0X1 1.2.3 a-b./c \"#;{\xff\"", NEARLY),
+    (
+        b"18446744073709551615 0x00ffffffffffffffff 255.255.255.255",
+        LARGEST,
+    ),
+    (b"# x", &[]),
+];
+
+/// Whether the token has this text and is this.
+fn is_piece(token: &Token, wanted: &Cut) -> bool {
+    token.text == wanted.0
+        && match (token.kind, wanted.1) {
+            (Kind::NewLine, Piece::NewLine)
+            | (Kind::Mark(_), Piece::Mark)
+            | (Kind::Word, Piece::Word) => true,
+            (Kind::Number(number), Piece::Number(wanted)) => number == wanted,
+            (Kind::Address(address), Piece::Address(wanted)) => address == wanted,
+            (Kind::String, Piece::String(wanted)) => token.between_quotes() == wanted,
+            _ => false,
+        }
+}
+
+/// Whether the text is cut into these tokens.
+fn is_cut(alloc: Global, text: &[u8], wanted: &[Cut]) -> Result<bool, LexError> {
+    let tokens = lex(alloc, text)?;
+    for (token, piece) in tokens.iter().zip(wanted) {
+        if !is_piece(token, piece) {
+            return Ok(false);
+        }
     }
-    Ok(())
+    Ok(tokens.len() == wanted.len())
+}
+
+#[test]
+fn texts_are_cut(rt: HostRuntime) {
+    for (row, (text, wanted)) in CUT.iter().enumerate() {
+        check_row(
+            &rt,
+            row,
+            is_cut(rt.alloc(), text, wanted).ok() == Some(true),
+        );
+    }
 }
 
 static MARKS: [(&[u8], Mark); 21] = [
@@ -110,14 +137,20 @@ static MARKS: [(&[u8], Mark); 21] = [
     (b">", Mark::Above),
 ];
 
+/// Whether the text is this mark alone.
+fn is_mark(alloc: Global, text: &[u8], mark: Mark) -> Result<bool, LexError> {
+    let tokens = lex(alloc, text)?;
+    Ok(match tokens.as_slice() {
+        [token] => matches!(token.kind, Kind::Mark(found) if found == mark),
+        _ => false,
+    })
+}
+
 #[test]
-fn marks_are_told_apart(rt: HostRuntime) -> Result<(), Fail> {
-    for &(text, mark) in &MARKS {
-        let tokens = lex(rt.alloc(), text)?;
-        assert!(&rt; tokens.len() == 1);
-        assert!(&rt; matches!(tokens[0].kind, Kind::Mark(found) if found == mark));
+fn marks_are_told_apart(rt: HostRuntime) {
+    for (row, &(text, mark)) in MARKS.iter().enumerate() {
+        check_row(&rt, row, is_mark(rt.alloc(), text, mark).ok() == Some(true));
     }
-    Ok(())
 }
 
 /// The number of the text's tokens, or its fault.
@@ -127,17 +160,6 @@ fn count(alloc: Global, text: &[u8]) -> Result<Result<usize, LexFault>, LexError
         Err(LexError::Refused(fault)) => Ok(Err(fault)),
         Err(error) => Err(error),
     }
-}
-
-/// Each text has so many tokens, or this fault.
-fn answers<R: Abort + AllocGlobal>(
-    rt: &R,
-    rows: &[(&[u8], Result<usize, LexFault>)],
-) -> Result<(), Fail> {
-    for (number, (text, wanted)) in rows.iter().enumerate() {
-        assert_eq!(rt; count(rt.alloc(), text)?, *wanted, "row {number}");
-    }
-    Ok(())
 }
 
 static FAULTS: [(&[u8], Result<usize, LexFault>); 13] = [
@@ -169,22 +191,39 @@ static FAULTS: [(&[u8], Result<usize, LexFault>); 13] = [
 ];
 
 #[test]
-fn first_faults_are_told(rt: HostRuntime) -> Result<(), Fail> {
-    answers(&rt, &FAULTS)
+fn first_faults_are_told(rt: HostRuntime) {
+    for (row, (text, wanted)) in FAULTS.iter().enumerate() {
+        check_row(&rt, row, count(rt.alloc(), text).ok() == Some(*wanted));
+    }
 }
 
+/// A text that is a beginning, so many times the same piece and an end; how many tokens it has, or its fault.
+type Long = (
+    &'static [u8],
+    &'static [u8],
+    usize,
+    &'static [u8],
+    Result<usize, LexFault>,
+);
+
 /// A comment of 1,048,576 bytes, a longer one, and thousands of tokens with and without a fault.
+static LONG: [Long; 4] = [
+    (b"#", b"a", 1_048_575, b"", Ok(0)),
+    (b"#", b"a", 1_048_576, b"", Err(LexFault::TooLong)),
+    (b"", b"accept;\n", 100_000, b"", Ok(300_000)),
+    (
+        b"",
+        b"accept;\n",
+        100_000,
+        b"$",
+        Err(LexFault::Byte { line: 100_001 }),
+    ),
+];
+
 #[test]
-fn long_texts_are_cut(rt: HostRuntime) -> Result<(), Fail> {
-    let most = repeated(rt.alloc(), b"#", b"a", 1_048_575, b"")?;
-    let more = repeated(rt.alloc(), b"#", b"a", 1_048_576, b"")?;
-    let tokens = repeated(rt.alloc(), b"", b"accept;\n", 100_000, b"")?;
-    let fault = repeated(rt.alloc(), b"", b"accept;\n", 100_000, b"$")?;
-    let rows: [(&[u8], Result<usize, LexFault>); 4] = [
-        (&most, Ok(0)),
-        (&more, Err(LexFault::TooLong)),
-        (&tokens, Ok(300_000)),
-        (&fault, Err(LexFault::Byte { line: 100_001 })),
-    ];
-    answers(&rt, &rows)
+fn long_texts_are_cut(rt: HostRuntime) {
+    for (row, (beginning, piece, times, end, wanted)) in LONG.iter().enumerate() {
+        let text = repeated(rt.alloc(), beginning, piece, *times, end).expect(&rt, "a text");
+        check_row(&rt, row, count(rt.alloc(), &text).ok() == Some(*wanted));
+    }
 }

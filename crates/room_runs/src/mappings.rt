@@ -1,8 +1,9 @@
 //! Mappings held, found and released, and refused memory.
-ghost use Rattle.std.specs.Prelude.{◌+◌, ◌<◌, ◌≤◌};
+ghost use Rattle.std.specs.Prelude.{◌+◌, ◌<◌, ◌≤◌, length};
 ghost use Rattle.ip_headers.specs.declared.tuple.Mapping.{Mapping as Mapped};
 ghost use Rattle.nat_mapping.specs.Mappings.{holders_of};
 
+use crate::given::check_row;
 use ip_headers::{Endpoint, Kind, Mapping};
 use nat_mapping::laws::{inbound_is_held, stays_one_to_one};
 use nat_mapping::{MapError, Mappings, Memory};
@@ -10,7 +11,6 @@ use port_pool::Range;
 use std::alloc::Global;
 use std::hash::RandomState;
 use std::process::Abort;
-use std::test::Fail;
 
 /// The translator's own address, 203.0.113.1.
 const E: u32 = 0xcb00_7101;
@@ -77,76 +77,58 @@ fn released(table: &mut Mappings, kind: Kind, external: Endpoint, number: usize)
     }
 }
 
+/// An endpoint: an address and a port.
+type At = (u32, u16);
+
+/// A call of a table, with what it has to answer.
+#[derive(Clone, Copy)]
+enum Call {
+    /// The mapping of an endpoint at the external address is held, and has this port.
+    Hold(Kind, At, u16),
+    /// The mapping behind a port of the external address is released.
+    Release(Kind, u16),
+    /// Which endpoint a port of the external address stands for.
+    Inbound(Kind, u16, Option<At>),
+    /// Which port an endpoint gets at an address, within a range.
+    Source(Kind, At, u32, Option<Range>, Result<u16, MapError>),
+    /// How many pools there are.
+    Pools(usize),
+}
+
 /// One internal endpoint has one port, whatever it sends to; a port isn't shared; the last holder
 /// frees it.
-#[test]
-fn one_port_each(rt: HostRuntime) -> Result<(), Fail> {
-    let mut table = empty(rt.alloc(), RandomState::new(&rt)?);
-    give_ports(&rt, &mut table)?;
-    free_ports(&rt, &mut table);
-    Ok(())
-}
-
-/// Two holders of one endpoint's port, and one of another's.
-fn give_ports<R: Abort>(rt: &R, table: &mut Mappings) -> Result<(), Memory>
-    requires few { (m : Mapped) → holders_of m table.old.held ≤ 0 }
-    ensures few { (m : Mapped) → holders_of m table.new.held ≤ 3 }
-{
-    assert!(rt; table.inbound(Kind::Udp, end(E, 5000)).is_none());
-    assert!(rt; held(table, Kind::Udp, end(A, 5000), E, 0)? == Some(5000));
-    assert!(rt; held(table, Kind::Udp, end(A, 5000), E, 1)? == Some(5000));
-    assert!(rt; held(table, Kind::Udp, end(A2, 5000), E, 2)? == Some(5002));
-    assert!(rt; table.inbound(Kind::Udp, end(E, 5000)) == Some(end(A, 5000)));
-    assert!(rt; table.inbound(Kind::Udp, end(E, 5002)) == Some(end(A2, 5000)));
-    Ok(())
-}
-
-fn free_ports<R: Abort>(rt: &R, table: &mut Mappings)
-    requires few { (m : Mapped) → holders_of m table.old.held ≤ 3 }
-{
-    assert!(rt; released(table, Kind::Udp, end(E, 5000), 3));
-    assert!(rt; table.inbound(Kind::Udp, end(E, 5000)) == Some(end(A, 5000)));
-    assert!(rt; released(table, Kind::Udp, end(E, 5000), 3));
-    assert!(rt; table.inbound(Kind::Udp, end(E, 5000)).is_none());
-    assert!(rt; table.source(Kind::Udp, end(A2, 6000), E, None) == Ok(6000));
-    assert!(rt; table.source(Kind::Udp, end(A2, 5000), E, None) == Ok(5002));
-    assert!(rt; table.pools() == 2);
-    assert!(rt; released(table, Kind::Udp, end(E, 5002), 3));
-    assert!(rt; table.pools() == 2);
-}
+static PORTS: [Call; 15] = [
+    Call::Inbound(Kind::Udp, 5000, None),
+    Call::Hold(Kind::Udp, (A, 5000), 5000),
+    Call::Hold(Kind::Udp, (A, 5000), 5000),
+    Call::Hold(Kind::Udp, (A2, 5000), 5002),
+    Call::Inbound(Kind::Udp, 5000, Some((A, 5000))),
+    Call::Inbound(Kind::Udp, 5002, Some((A2, 5000))),
+    Call::Release(Kind::Udp, 5000),
+    Call::Inbound(Kind::Udp, 5000, Some((A, 5000))),
+    Call::Release(Kind::Udp, 5000),
+    Call::Inbound(Kind::Udp, 5000, None),
+    Call::Source(Kind::Udp, (A2, 6000), E, None, Ok(6000)),
+    Call::Source(Kind::Udp, (A2, 5000), E, None, Ok(5002)),
+    Call::Pools(2),
+    Call::Release(Kind::Udp, 5002),
+    Call::Pools(2),
+];
 
 /// Ports of one kind say nothing of those of another; a protocol without ports has one mapping.
-#[test]
-fn kinds_stand_apart(rt: HostRuntime) -> Result<(), Fail> {
-    let mut table = empty(rt.alloc(), RandomState::new(&rt)?);
-    give_kinds(&rt, &mut table)?;
-    ask_kinds(&rt, &mut table);
-    Ok(())
-}
-
-/// A mapping of each of four kinds.
-fn give_kinds<R: Abort>(rt: &R, table: &mut Mappings) -> Result<(), Memory>
-    requires few { (m : Mapped) → holders_of m table.old.held ≤ 0 }
-    ensures few { (m : Mapped) → holders_of m table.new.held ≤ 4 }
-{
-    assert!(rt; held(table, Kind::Udp, end(A, 5000), E, 0)? == Some(5000));
-    assert!(rt; held(table, Kind::Tcp, end(A2, 5000), E, 1)? == Some(5000));
-    assert!(rt; held(table, Kind::Ask, end(A2, 5000), E, 2)? == Some(5000));
-    assert!(rt; held(table, GRE, end(A, 0), E, 3)? == Some(0));
-    Ok(())
-}
-
-fn ask_kinds<R: Abort>(rt: &R, table: &mut Mappings)
-    requires few { (m : Mapped) → holders_of m table.old.held ≤ 4 }
-{
-    assert!(rt; table.source(GRE, end(A2, 0), E, None) == Err(MapError::NoPort));
-    assert!(rt; table.source(GRE, end(A2, 0), E + 1, None) == Ok(0));
-    assert!(rt; table.source(Kind::Ask, end(A, 5000), E, None) == Ok(5001));
-    assert!(rt; table.inbound(Kind::Ask, end(E, 5000)) == Some(end(A2, 5000)));
-    assert!(rt; table.pools() == 4);
-    assert!(rt; released(table, GRE, end(E, 0), 4));
-    assert!(rt; table.source(GRE, end(A2, 0), E, None) == Ok(0));
-}
+static KINDS: [Call; 11] = [
+    Call::Hold(Kind::Udp, (A, 5000), 5000),
+    Call::Hold(Kind::Tcp, (A2, 5000), 5000),
+    Call::Hold(Kind::Ask, (A2, 5000), 5000),
+    Call::Hold(GRE, (A, 0), 0),
+    Call::Source(GRE, (A2, 0), E, None, Err(MapError::NoPort)),
+    Call::Source(GRE, (A2, 0), E + 1, None, Ok(0)),
+    Call::Source(Kind::Ask, (A, 5000), E, None, Ok(5001)),
+    Call::Inbound(Kind::Ask, 5000, Some((A2, 5000))),
+    Call::Pools(4),
+    Call::Release(GRE, 0),
+    Call::Source(GRE, (A2, 0), E, None, Ok(0)),
+];
 
 /// The port 5000 alone.
 const ONE: Option<Range> = Some(Range {
@@ -155,57 +137,92 @@ const ONE: Option<Range> = Some(Range {
 });
 
 /// Where all ports of a range are held there is none, but for one who has one already.
-#[test]
-fn a_range_runs_out(rt: HostRuntime) -> Result<(), Fail> {
-    let mut table = empty(rt.alloc(), RandomState::new(&rt)?);
-    use_up_the_range(&rt, &mut table)?;
-    Ok(())
-}
+static RANGE: [Call; 6] = [
+    Call::Source(Kind::Tcp, (A2, 5000), E, ONE, Ok(5000)),
+    Call::Hold(Kind::Tcp, (A, 5000), 5000),
+    Call::Hold(Kind::Tcp, (A, 7000), 7000),
+    Call::Source(Kind::Tcp, (A2, 5000), E, ONE, Err(MapError::NoPort)),
+    Call::Source(Kind::Tcp, (A, 7000), E, ONE, Ok(7000)),
+    Call::Source(Kind::Udp, (A2, 5000), E, ONE, Ok(5000)),
+];
 
-fn use_up_the_range<R: Abort>(rt: &R, table: &mut Mappings) -> Result<(), Memory>
-    requires few { (m : Mapped) → holders_of m table.old.held ≤ 0 }
+/// Whether the table answers so.
+fn answers(table: &mut Mappings, call: &Call, number: usize) -> bool
+    requires number { number < 1000 }
+    requires few { (m : Mapped) → holders_of m table.old.held ≤ number }
+    ensures few { (m : Mapped) → holders_of m table.new.held ≤ number + 1 }
 {
-    assert!(rt; table.source(Kind::Tcp, end(A2, 5000), E, ONE) == Ok(5000));
-    assert!(rt; held(table, Kind::Tcp, end(A, 5000), E, 0)? == Some(5000));
-    assert!(rt; held(table, Kind::Tcp, end(A, 7000), E, 1)? == Some(7000));
-    assert!(rt; table.source(Kind::Tcp, end(A2, 5000), E, ONE) == Err(MapError::NoPort));
-    assert!(rt; table.source(Kind::Tcp, end(A, 7000), E, ONE) == Ok(7000));
-    assert!(rt; table.source(Kind::Udp, end(A2, 5000), E, ONE) == Ok(5000));
-    Ok(())
+    match *call {
+        Call::Hold(kind, (host, port), wanted) => {
+            held(table, kind, end(host, port), E, number) == Ok(Some(wanted))
+        }
+        Call::Release(kind, port) => released(table, kind, end(E, port), number),
+        Call::Inbound(kind, port, wanted) => match table.inbound(kind, end(E, port)) {
+            Some(found) => wanted == Some((found.address, found.port)),
+            None => wanted.is_none(),
+        },
+        Call::Source(kind, (host, port), address, range, wanted) => {
+            table.source(kind, end(host, port), address, range) == wanted
+        }
+        Call::Pools(wanted) => table.pools() == wanted,
+    }
 }
 
-/// A connection's two mappings at new addresses, with room reserved: nothing but the reserving may
-/// want memory, and where it does nothing has changed.
-fn connection<R: Abort + AllocGlobal>(rt: &R, table: &mut Mappings, address: u32, number: usize)
+/// A table that held nothing has to answer each call so, one after another.
+fn answers_all<R: Abort>(rt: &R, mut table: Mappings, calls: &[Call])
+    requires short { length calls.now < 1000 }
+    requires few { (m : Mapped) → holders_of m table.held ≤ 0 }
+{
+    for (number, call) in calls.iter().enumerate() {
+        check_row(rt, number, answers(&mut table, call, number));
+    }
+}
+
+#[test]
+fn mappings_are_held_found_and_released(rt: HostRuntime) {
+    let hasher = RandomState::new(&rt).expect(&rt, "a hasher");
+    answers_all(&rt, empty(rt.alloc(), hasher), &PORTS);
+    answers_all(&rt, empty(rt.alloc(), hasher), &KINDS);
+    answers_all(&rt, empty(rt.alloc(), hasher), &RANGE);
+}
+
+/// Whether a connection's two mappings are held at new addresses, with room reserved: nothing but the
+/// reserving may want memory, and where it does nothing has changed.
+fn begins(table: &mut Mappings, address: u32, number: usize) -> bool
     requires address { address < 1000 }
     requires number { number < 900 }
     requires few { (m : Mapped) → holders_of m table.old.held ≤ number }
     ensures few { (m : Mapped) → holders_of m table.new.held ≤ number + 2 }
 {
     if table.reserve_one().is_err() {
-        assert!(rt; table.inbound(Kind::Udp, end(E, 5000)) == Some(end(A, 5000)));
         // One call in all is refused.
-        assert!(rt; table.reserve_one().is_ok());
+        let kept = table.inbound(Kind::Udp, end(E, 5000));
+        if kept != Some(end(A, 5000)) || table.reserve_one().is_err() {
+            return false;
+        }
     }
     let first = held(table, Kind::Ask, end(A, 80), address, number);
-    assert!(rt;
-        first.is_ok_and(|port| port == Some(80)),
-        "the first at {address}"
-    );
     let second = held(table, Kind::Tcp, end(A2, 80), address + 1, number + 1);
-    assert!(rt;
-        second.is_ok_and(|port| port == Some(80)),
-        "the second at {address}"
-    );
+    first == Ok(Some(80)) && second == Ok(Some(80))
+}
+
+fn connection<R: Abort>(rt: &R, table: &mut Mappings, address: u32, number: usize)
+    requires address { address < 1000 }
+    requires number { number < 900 }
+    requires few { (m : Mapped) → holders_of m table.old.held ≤ number }
+    ensures few { (m : Mapped) → holders_of m table.new.held ≤ number + 2 }
+{
+    check_row(rt, number, begins(table, address, number));
 }
 
 /// With each call for memory refused in turn.
 #[test]
-fn only_reserving_wants_memory(rt: HostRuntime) -> Result<(), Fail> {
-    let mut table = empty(rt.alloc(), RandomState::new(&rt)?);
+fn only_reserving_wants_memory(rt: HostRuntime) {
+    let hasher = RandomState::new(&rt).expect(&rt, "a hasher");
+    let mut table = empty(rt.alloc(), hasher);
     if held(&mut table, Kind::Udp, end(A, 5000), E, 0).is_err() {
         assert!(rt; table.inbound(Kind::Udp, end(E, 5000)) == None);
-        return Ok(());
+        return;
     }
     connection(&rt, &mut table, 1, 1);
     connection(&rt, &mut table, 3, 3);
@@ -216,5 +233,4 @@ fn only_reserving_wants_memory(rt: HostRuntime) -> Result<(), Fail> {
     assert!(rt; released(&mut table, Kind::Ask, end(9, 80), 11));
     connection(&rt, &mut table, 9, 11);
     assert!(rt; table.pools() <= 13);
-    Ok(())
 }

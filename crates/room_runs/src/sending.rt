@@ -1,36 +1,34 @@
 //! A packet as it is sent on, behind what the buffer held.
+use crate::given::PACKET;
 use ip_headers::View;
 use rewrite::{Change, Numbers, emit};
-use std::test::Fail;
+use std::alloc::{AllocError, Global};
 
-/// UDP from 192.168.1.10 to 198.51.100.7, port 5000 to 53, without data and without a checksum.
-static RECEIVED: [u8; 28] = [
-    0x45, 0x00, 0x00, 0x1c, 0x00, 0x01, 0x00, 0x00, 0x40, 0x11, 0x8e, 0xe3, 0xc0, 0xa8, 0x01, 0x0a,
-    0xc6, 0x33, 0x64, 0x07, 0x13, 0x88, 0x00, 0x35, 0x00, 0x08, 0x00, 0x00,
+/// From 203.0.113.1, port 5002, one hop further.
+static CHANGE: Change = Change {
+    source: Some(0xcb00_7101),
+    destination: None,
+    numbers: Some(Numbers::Ports(5002, 53)),
+    ttl: Some(63),
+    inner: None,
+};
+
+/// The byte that the buffer held, and the packet so changed.
+static SENT: [u8; 29] = [
+    0xaa, 0x45, 0x00, 0x00, 0x1c, 0x00, 0x01, 0x00, 0x00, 0x3f, 0x11, 0x15, 0x94, 0xcb, 0x00, 0x71,
+    0x01, 0xc6, 0x33, 0x64, 0x07, 0x13, 0x8a, 0x00, 0x35, 0x00, 0x08, 0x00, 0x00,
 ];
 
-/// The same from 203.0.113.1, port 5002, one hop further.
-static SENT: [u8; 28] = [
-    0x45, 0x00, 0x00, 0x1c, 0x00, 0x01, 0x00, 0x00, 0x3f, 0x11, 0x15, 0x94, 0xcb, 0x00, 0x71, 0x01,
-    0xc6, 0x33, 0x64, 0x07, 0x13, 0x8a, 0x00, 0x35, 0x00, 0x08, 0x00, 0x00,
-];
+fn sent(alloc: Global, view: &View) -> Result<Vec<u8>, AllocError> {
+    let mut out = Vec::new(alloc);
+    out.push(0xaa)?;
+    emit(view, &CHANGE, &mut out)?;
+    Ok(out)
+}
 
 #[test]
-fn appends_what_is_sent_on(rt: HostRuntime) -> Result<(), Fail> {
-    let view = View::read(&RECEIVED)?;
-    let mut out = Vec::new(rt.alloc());
-    out.push(0xaa)?;
-    let change = Change {
-        source: Some(0xcb00_7101),
-        destination: None,
-        numbers: Some(Numbers::Ports(5002, 53)),
-        ttl: Some(63),
-        inner: None,
-    };
-    emit(&view, &change, &mut out)?;
-    let mut wanted = Vec::new(rt.alloc());
-    wanted.push(0xaa)?;
-    wanted.extend_from_slice(&SENT)?;
-    assert_eq!(rt; out.as_slice(), wanted.as_slice());
-    Ok(())
+fn appends_what_is_sent_on(rt: HostRuntime) {
+    let view = View::read(&PACKET).expect(&rt, "a packet");
+    let out = sent(rt.alloc(), &view).expect(&rt, "a buffer");
+    assert_eq!(rt; out.as_slice(), SENT.as_slice());
 }

@@ -1,8 +1,8 @@
 //! Tables of rules are asked for the next one and for the first one.
+use crate::given::check_row;
 use seek_table::{FirstTable, Range, SeekTable};
 use std::alloc::{AllocError, Global};
 use std::process::Abort;
-use std::test::Fail;
 
 const MOST: u32 = u32::MAX;
 
@@ -17,7 +17,7 @@ static RULES: [(u32, u32); 6] = [
 ];
 
 /// A number, the rule from which on is sought, and what is found.
-static ASKED: [(u32, u32, Option<u32>); 9] = [
+static NEXT: [(u32, u32, Option<u32>); 9] = [
     (9, 0, Some(2)),
     (10, 0, Some(0)),
     (20, 0, Some(0)),
@@ -32,8 +32,10 @@ static ASKED: [(u32, u32, Option<u32>); 9] = [
 /// Rules with numbers between them that none has.
 static APART: [(u32, u32); 6] = [(9, 8), (20, 20), (30, 39), (30, 34), (20, 20), (MOST, MOST)];
 
-/// A number, and the first of these rules that has it.
-static FIRST: [(u32, Option<u32>); 7] = [
+/// A number, and the first rule that has it.
+type First = (u32, Option<u32>);
+
+static FIRST_APART: [First; 7] = [
     (0, None),
     (19, None),
     (20, Some(1)),
@@ -43,9 +45,18 @@ static FIRST: [(u32, Option<u32>); 7] = [
     (MOST, Some(5)),
 ];
 
+static FIRST_OF_NONE: [First; 1] = [(0, None)];
+
 /// As many rules as a chain may have; each has the numbers of all before it, and one more at both
 /// ends.
 const NESTED: u32 = 16_384;
+
+static FIRST_NESTED: [First; 4] = [
+    (16_384, Some(0)),
+    (1, Some(16_383)),
+    (32_766, Some(16_382)),
+    (32_768, None),
+];
 
 fn pairs_of(alloc: Global, rules: &[(u32, u32)]) -> Result<Vec<(Range, u32)>, AllocError> {
     let mut pairs = Vec::new(alloc);
@@ -57,48 +68,57 @@ fn pairs_of(alloc: Global, rules: &[(u32, u32)]) -> Result<Vec<(Range, u32)>, Al
     Ok(pairs)
 }
 
+/// The table of the rules, if it has so few hits.
+fn table_of(alloc: Global, most: usize) -> Result<Option<SeekTable>, AllocError> {
+    SeekTable::build(alloc, &pairs_of(alloc, &RULES)?, most)
+}
+
 #[test]
-fn the_next_rule_is_found(rt: HostRuntime) -> Result<(), Fail> {
-    let pairs = pairs_of(rt.alloc(), &RULES)?;
-    let built = SeekTable::build(rt.alloc(), &pairs, 64)?;
-    assert!(rt; built.is_some());
-    if let Some(table) = &built {
-        for &(key, from, wanted) in &ASKED {
-            assert!(rt; table.next(key, from) == wanted, "{key} from {from}");
-        }
+fn the_next_rule_is_found(rt: HostRuntime) {
+    let built = table_of(rt.alloc(), 64).expect(&rt, "memory");
+    let table = built.expect(&rt, "a table");
+    for (row, &(key, from, wanted)) in NEXT.iter().enumerate() {
+        check_row(&rt, row, table.next(key, from) == wanted);
     }
-    let none = SeekTable::build(rt.alloc(), &pairs, 2)?;
+    let none = table_of(rt.alloc(), 2).expect(&rt, "memory");
     assert!(rt; none.is_none());
-    Ok(())
 }
 
-#[test]
-fn the_first_rule_is_found(rt: HostRuntime) -> Result<(), Fail> {
-    let mut pairs = pairs_of(rt.alloc(), &APART)?;
-    pairs.reverse();
-    let table = FirstTable::build(rt.alloc(), &pairs)?;
-    for &(key, wanted) in &FIRST {
-        assert!(rt; table.first(key) == wanted, "{key}");
+/// The table of the pairs has to find these.
+fn finds<R: Abort + AllocGlobal>(rt: &R, pairs: &[(Range, u32)], rows: &[First]) {
+    let table = FirstTable::build(rt.alloc(), pairs).expect(rt, "a table");
+    for (row, &(key, wanted)) in rows.iter().enumerate() {
+        check_row(rt, row, table.first(key) == wanted);
     }
-    let rules = table.rules(rt.alloc())?;
-    assert!(rt; rules.as_slice() == [1, 2, 5].as_slice());
-    let none = FirstTable::build(rt.alloc(), &[])?;
-    assert!(rt; none.first(0).is_none());
-    Ok(())
+}
+
+/// Which rules of a table are the first ones.
+fn first_rules(alloc: Global, pairs: &[(Range, u32)]) -> Result<Vec<u32>, AllocError> {
+    FirstTable::build(alloc, pairs)?.rules(alloc)
 }
 
 #[test]
-fn nested_rules_are_found_by_the_least(rt: HostRuntime) -> Result<(), Fail> {
-    let mut pairs = Vec::new(rt.alloc());
+fn the_first_rule_is_found(rt: HostRuntime) {
+    let mut pairs = pairs_of(rt.alloc(), &APART).expect(&rt, "memory");
+    pairs.reverse();
+    finds(&rt, &pairs, &FIRST_APART);
+    finds(&rt, &[], &FIRST_OF_NONE);
+    let rules = first_rules(rt.alloc(), &pairs).expect(&rt, "memory");
+    assert!(rt; rules.as_slice() == [1, 2, 5].as_slice());
+}
+
+fn nested_pairs(alloc: Global) -> Result<Vec<(Range, u32)>, AllocError> {
+    let mut pairs = Vec::new(alloc);
     for number in 0..NESTED {
         let low = NESTED - number;
         let high = NESTED + number;
         pairs.push((Range { low, high }, number))?;
     }
-    let table = FirstTable::build(rt.alloc(), &pairs)?;
-    assert!(rt; table.first(NESTED) == Some(0));
-    assert!(rt; table.first(1) == Some(NESTED - 1));
-    assert!(rt; table.first(2 * NESTED - 2) == Some(NESTED - 2));
-    assert!(rt; table.first(2 * NESTED).is_none());
-    Ok(())
+    Ok(pairs)
+}
+
+#[test]
+fn nested_rules_are_found_by_the_least(rt: HostRuntime) {
+    let pairs = nested_pairs(rt.alloc()).expect(&rt, "memory");
+    finds(&rt, &pairs, &FIRST_NESTED);
 }

@@ -1,8 +1,8 @@
 //! Each table is built of its ranges, counted and asked.
+use crate::given::check_row;
 use set_intervals::{Intervals, Range, SetError};
-use std::alloc::Global;
+use std::alloc::{AllocError, Global};
 use std::process::Abort;
-use std::test::Fail;
 
 const MOST: u128 = u128::MAX;
 
@@ -15,7 +15,7 @@ struct Row {
 }
 
 /// The ranges with their values.
-fn pairs(alloc: Global, ranges: &[(u128, u128, u32)]) -> Result<Vec<(Range, u32)>, Fail> {
+fn pairs(alloc: Global, ranges: &[(u128, u128, u32)]) -> Result<Vec<(Range, u32)>, AllocError> {
     let mut pairs = Vec::new(alloc);
     for &(low, high, value) in ranges {
         if let Some(range) = Range::new(low, high) {
@@ -25,21 +25,14 @@ fn pairs(alloc: Global, ranges: &[(u128, u128, u32)]) -> Result<Vec<(Range, u32)
     Ok(pairs)
 }
 
-/// The table has so many runs, and these values.
-fn shows<R: Abort + AllocGlobal>(
-    rt: &R,
-    table: &Intervals<u32>,
-    row: &Row,
-    number: usize,
-) -> Result<(), Fail> {
-    assert!(rt; table.count() == row.count, "the runs of row {number}");
+/// Whether the table has so many runs, and these values.
+fn shows(table: &Intervals<u32>, row: &Row) -> bool {
     for (key, value) in row.values {
-        assert!(rt;
-            table.find(*key).copied() == *value,
-            "row {number} at {key}"
-        );
+        if table.find(*key).copied() != *value {
+            return false;
+        }
     }
-    Ok(())
+    table.count() == row.count
 }
 
 /// No range; all numbers; the least and the greatest; the addresses of three ranges that overlap or
@@ -101,19 +94,18 @@ static ROWS: [Row; 7] = [
 ];
 
 #[test]
-fn tables_have_what_their_ranges_say(rt: HostRuntime) -> Result<(), Fail> {
+fn tables_have_what_their_ranges_say(rt: HostRuntime) {
     for (number, row) in ROWS.iter().enumerate() {
-        let pairs = pairs(rt.alloc(), row.ranges)?;
-        let built = Intervals::build(rt.alloc(), &pairs)?;
-        shows(&rt, &built, row, number)?;
-        let first = Intervals::first_wins(rt.alloc(), &pairs)?;
-        shows(&rt, &first, row, number)?;
+        let pairs = pairs(rt.alloc(), row.ranges).expect(&rt, "ranges");
+        let built = Intervals::build(rt.alloc(), &pairs).expect(&rt, "a table");
+        check_row(&rt, number, shows(&built, row));
+        let first = Intervals::first_wins(rt.alloc(), &pairs).expect(&rt, "a table");
+        check_row(&rt, number, shows(&first, row));
     }
-    Ok(())
 }
 
 /// A range under two earlier ones, and one that begins under another's end.
-const LAYERS: Row = Row {
+static LAYERS: Row = Row {
     ranges: &[(5, 10, 1), (0, 20, 2), (8, 30, 3), (30, 30, 4), (31, 31, 3)],
     count: 4,
     values: &[
@@ -131,30 +123,31 @@ const LAYERS: Row = Row {
 };
 
 #[test]
-fn the_first_range_with_a_number_wins(rt: HostRuntime) -> Result<(), Fail> {
-    let pairs = pairs(rt.alloc(), LAYERS.ranges)?;
-    let table = Intervals::first_wins(rt.alloc(), &pairs)?;
-    shows(&rt, &table, &LAYERS, 0)?;
+fn the_first_range_with_a_number_wins(rt: HostRuntime) {
+    let pairs = pairs(rt.alloc(), LAYERS.ranges).expect(&rt, "ranges");
+    let table = Intervals::first_wins(rt.alloc(), &pairs).expect(&rt, "a table");
+    assert!(rt; shows(&table, &LAYERS));
     let clash = Intervals::build(rt.alloc(), &pairs);
     assert!(rt; matches!(clash, Err(SetError::Clash)));
-    Ok(())
 }
 
 /// 60,000 ranges sixteen apart, in no order.
-#[test]
-fn many_ranges_make_a_table(rt: HostRuntime) -> Result<(), Fail> {
-    let mut pairs = Vec::new(rt.alloc());
+fn many_pairs(alloc: Global) -> Result<Vec<(Range, u32)>, AllocError> {
+    let mut pairs = Vec::new(alloc);
     for number in 0..60_000u32 {
         let low = u128::from(number.wrapping_mul(7919) % 60_000) * 16;
         if let Some(range) = Range::new(low, low + 3) {
             pairs.push((range, number % 7))?;
         }
     }
-    let built = Intervals::build(rt.alloc(), &pairs)?;
-    let first = Intervals::first_wins(rt.alloc(), &pairs)?;
-    assert!(rt; built.count() == 60_000);
+    Ok(pairs)
+}
+
+#[test]
+fn many_ranges_make_a_table(rt: HostRuntime) {
+    let pairs = many_pairs(rt.alloc()).expect(&rt, "ranges");
+    let built = Intervals::build(rt.alloc(), &pairs).expect(&rt, "a table");
+    assert!(rt; built.count() == 60_000 && built.find(16).is_some() && built.find(20).is_none());
+    let first = Intervals::first_wins(rt.alloc(), &pairs).expect(&rt, "a table");
     assert!(rt; first.count() == 60_000);
-    assert!(rt; built.find(16).is_some());
-    assert!(rt; built.find(20).is_none());
-    Ok(())
 }
