@@ -17,7 +17,6 @@ use std::alloc::{AllocError, Global};
 use std::fs;
 use std::process::Abort;
 use std::rt::Files;
-use std::test::Fail;
 use stepping::Engine;
 
 /// The greatest number of records in a capture.
@@ -59,24 +58,19 @@ fn try_step<R: Abort + AllocGlobal + Files>(
     rt: &R,
     engine: &mut Engine<AgedTracker>,
     record: &Record,
-) -> Result<bool, Fail>
+) -> bool
     requires few { engine.old.records < 4294967296 }
 {
-    fs::open(rt, "/dev/null")?;
+    fs::open(rt, "/dev/null").expect(rt, "a file");
     let is_taken = engine.step(record).is_ok();
-    fs::open(rt, "/dev/null")?;
-    Ok(is_taken)
+    fs::open(rt, "/dev/null").expect(rt, "a file");
+    is_taken
 }
 
 /// The engine tells what it told before.
-fn tells_the_same<R: Abort + AllocGlobal>(
-    rt: &R,
-    engine: &Engine<AgedTracker>,
-    before: &Shown,
-) -> Result<(), Fail> {
-    let after = look_at(rt.alloc(), engine)?;
+fn tells_the_same<R: Abort + AllocGlobal>(rt: &R, engine: &Engine<AgedTracker>, before: &Shown) {
+    let after = look_at(rt.alloc(), engine).expect(rt, "memory");
     assert!(rt; is_same(before, &after));
-    Ok(())
 }
 
 /// Steps the record, and once more where there was no memory to take it: the engine tells then what it told
@@ -85,18 +79,17 @@ fn step_again<R: Abort + AllocGlobal + Files>(
     rt: &R,
     engine: &mut Engine<AgedTracker>,
     record: &Record,
-) -> Result<(), Fail>
+)
     requires few { engine.old.records < 4294967296 }
 {
-    let before = look_at(rt.alloc(), engine)?;
-    if try_step(rt, engine, record)? {
-        return Ok(());
+    let before = look_at(rt.alloc(), engine).expect(rt, "memory");
+    if try_step(rt, engine, record) {
+        return;
     }
-    tells_the_same(rt, engine, &before)?;
+    tells_the_same(rt, engine, &before);
     if engine.records() < MOST_RECORDS {
-        engine.step(record)?;
+        engine.step(record).expect(rt, "memory");
     }
-    Ok(())
 }
 
 /// What a run writes.
@@ -109,14 +102,13 @@ struct Outputs {
 
 impl Outputs {
     /// Before the first record.
-    fn open(alloc: Global, rules: &Ruleset, trace: bool) -> Result<Self, Fail> {
-        let mut sent = Counted::new(Vec::new(alloc));
-        let sink = Sink::open(alloc, &mut sent)?;
-        Ok(Outputs {
-            report: Report::new(alloc, rules, trace)?,
-            sink,
+    fn open<R: Abort + AllocGlobal>(rt: &R, rules: &Ruleset, trace: bool) -> Self {
+        let mut sent = Counted::new(Vec::new(rt.alloc()));
+        Outputs {
+            report: Report::new(rt.alloc(), rules, trace).expect(rt, "memory"),
+            sink: Sink::open(rt.alloc(), &mut sent).expect(rt, "a write"),
             sent,
-        })
+        }
     }
 
     /// The packets that were written.
@@ -134,57 +126,50 @@ struct Replayed {
 
 impl Replayed {
     /// Before the first record.
-    fn new(alloc: Global, engine: Engine<AgedTracker>, trace: bool) -> Result<Self, Fail> {
-        let outputs = Outputs::open(alloc, engine.rules(), trace)?;
-        Ok(Replayed { engine, outputs })
+    fn new<R: Abort + AllocGlobal>(rt: &R, engine: Engine<AgedTracker>, trace: bool) -> Self {
+        let outputs = Outputs::open(rt, engine.rules(), trace);
+        Replayed { engine, outputs }
     }
 
     /// Steps the record, notes what is told of it, and puts the packet that it sends on.
-    fn take<R: Abort + AllocGlobal + Files>(
-        &mut self,
-        rt: &R,
-        record: &Record,
-    ) -> Result<(), Fail> {
+    fn take<R: Abort + AllocGlobal + Files>(&mut self, rt: &R, record: &Record) {
         if self.engine.records() < MOST_RECORDS && self.outputs.report.records() < MOST_RECORDS {
-            step_again(rt, &mut self.engine, record)?;
+            step_again(rt, &mut self.engine, record);
             if let Some(entry) = self.engine.entry() {
-                self.outputs.report.note(&entry)?;
+                self.outputs.report.note(&entry).expect(rt, "room");
             }
             if let Some(leaving) = self.engine.leaving() {
-                self.outputs.sink.put(&mut self.outputs.sent, &leaving)?;
+                let put = self.outputs.sink.put(&mut self.outputs.sent, &leaving);
+                put.expect(rt, "a write");
             }
         }
-        Ok(())
     }
 
     /// Takes each record of the capture, of which no row has so many as 9, and tells whether its end is torn.
-    fn take_all<R: Abort + AllocGlobal + Files>(
-        &mut self,
-        rt: &R,
-        capture: &[u8],
-    ) -> Result<bool, Fail> {
+    fn take_all<R: Abort + AllocGlobal + Files>(&mut self, rt: &R, capture: &[u8]) -> bool {
         let mut reader = Counted::new(capture);
-        let mut records = Capture::open(rt.alloc(), &mut reader)?;
+        let mut records = Capture::open(rt.alloc(), &mut reader).expect(rt, "a capture");
         for _ in 0..9u8 {
             if records.next(&mut reader) != Ok(true) {
                 break;
             }
             if let Some(record) = records.record() {
-                self.take(rt, &record)?;
+                self.take(rt, &record);
             }
         }
-        Ok(records.next(&mut reader).is_err())
+        records.next(&mut reader).is_err()
     }
 
     /// The report of the whole run.
-    fn told(&mut self, alloc: Global, torn: bool) -> Result<Vec<u8>, Fail> {
-        self.outputs.sink.finish(&mut self.outputs.sent)?;
-        let mut told = Counted::new(Vec::new(alloc));
+    fn told<R: Abort + AllocGlobal>(&mut self, rt: &R, torn: bool) -> Vec<u8> {
+        let finished = self.outputs.sink.finish(&mut self.outputs.sent);
+        finished.expect(rt, "a write");
+        let mut told = Counted::new(Vec::new(rt.alloc()));
         let live = self.engine.live() as u64;
-        self.outputs
-            .report
-            .lines(self.engine.rules(), live, torn, &mut told)?;
-        Ok(told.into_inner())
+        let rules = self.engine.rules();
+        let written = self.outputs.report.lines(rules, live, torn, &mut told);
+        written.expect(rt, "a write");
+        told.into_inner()
     }
 
     /// The packets that it has sent.
@@ -193,23 +178,19 @@ impl Replayed {
     }
 
     /// The report of a capture.
-    fn tell_all<R: Abort + AllocGlobal + Files>(
-        &mut self,
-        rt: &R,
-        capture: &[u8],
-    ) -> Result<Vec<u8>, Fail> {
-        let torn = self.take_all(rt, capture)?;
-        self.told(rt.alloc(), torn)
+    fn tell_all<R: Abort + AllocGlobal + Files>(&mut self, rt: &R, capture: &[u8]) -> Vec<u8> {
+        let torn = self.take_all(rt, capture);
+        self.told(rt, torn)
     }
 }
 
 /// The box with the row's rules, before its first record.
-fn started(alloc: Global, row: &Row) -> Result<Engine<AgedTracker>, Fail> {
-    let hasher = hasher()?;
-    let tree = parse(alloc, row.rules)?;
-    let plant = Plant::read(alloc, BOX)?;
-    let checked = check(alloc, tree, plant)?;
-    Ok(Engine::new(alloc, hasher, checked)?)
+fn started<R: Abort + AllocGlobal>(rt: &R, row: &Row) -> Engine<AgedTracker> {
+    let hasher = hasher().expect(rt, "keys");
+    let tree = parse(rt.alloc(), row.rules).expect(rt, "rules");
+    let plant = Plant::read(rt.alloc(), BOX).expect(rt, "a box");
+    let checked = check(rt.alloc(), tree, plant).expect(rt, "an accepted ruleset");
+    Engine::new(rt.alloc(), hasher, checked).expect(rt, "memory")
 }
 
 /// The packets that leave, and the report, where the row's records are stepped so.
@@ -217,27 +198,24 @@ fn packets_and_report<R: Abort + AllocGlobal + Files>(
     rt: &R,
     row: &Row,
     capture: &[u8],
-) -> Result<(Vec<u8>, Vec<u8>), Fail> {
-    let engine = started(rt.alloc(), row)?;
-    let mut replayed = Replayed::new(rt.alloc(), engine, row.trace)?;
-    let told = replayed.tell_all(rt, capture)?;
-    Ok((replayed.packets(), told))
+) -> (Vec<u8>, Vec<u8>) {
+    let mut replayed = Replayed::new(rt, started(rt, row), row.trace);
+    let told = replayed.tell_all(rt, capture);
+    (replayed.packets(), told)
 }
 
 /// The packets and the report are those of a run.
-fn replays<R: Abort + AllocGlobal + Files>(rt: &R, row: &Row) -> Result<(), Fail> {
-    let capture = bytes(rt.alloc(), row.capture)?;
+fn replays<R: Abort + AllocGlobal + Files>(rt: &R, row: &Row) {
+    let capture = bytes(rt.alloc(), row.capture).expect(rt, "a capture");
     let whole = run_over(rt.alloc(), row.rules, BOX, &capture, row.trace, fine(99));
     assert!(rt; !matches!(whole.status, Status::Memory));
-    let (sent, told) = packets_and_report(rt, row, &capture)?;
+    let (sent, told) = packets_and_report(rt, row, &capture);
     assert!(rt; sent == whole.sent && told == whole.report);
-    Ok(())
 }
 
 #[test]
-fn a_refused_record_is_stepped_again(rt: HostRuntime) -> Result<(), Fail> {
+fn a_refused_record_is_stepped_again(rt: HostRuntime) {
     for row in &ROWS {
-        replays(&rt, row)?;
+        replays(&rt, row);
     }
-    Ok(())
 }

@@ -1,8 +1,8 @@
 //! How few calls a run over thousands of records makes.
 use crate::given::{AT_1_5, BOX, HEADER, PLAIN, bytes, fine, run_over, shows};
-use std::alloc::Global;
+use hex::FromHexError;
+use std::alloc::{AllocError, Global};
 use std::process::Abort;
-use std::test::Fail;
 
 /// `PLAIN` from 192.168.1.11.
 const OTHER: &str = "4500001c0001000040118ee2c0a8010bc63364071388003500080000";
@@ -14,25 +14,20 @@ fn repeated(
     piece: &[u8],
     count: usize,
     end: &[u8],
-) -> Result<Vec<u8>, Fail> {
-    let mut all = Vec::new(alloc);
-    all.extend_from_slice(beginning)?;
-    for _ in 0..count {
-        all.extend_from_slice(piece)?;
-    }
-    all.extend_from_slice(end)?;
-    Ok(all)
+) -> Result<Vec<u8>, AllocError> {
+    let pieces = piece.repeat(alloc, count)?;
+    [beginning, &pieces, end].concat(alloc)
 }
 
 /// 5,000 packets, by turns from one host and from another.
-fn packets(alloc: Global) -> Result<Vec<u8>, Fail> {
+fn packets(alloc: Global) -> Result<Vec<u8>, FromHexError> {
     let header = bytes(alloc, &[HEADER])?;
     let pair = bytes(alloc, &[AT_1_5, PLAIN, AT_1_5, OTHER])?;
-    repeated(alloc, &header, &pair, 2_500, b"")
+    Ok(repeated(alloc, &header, &pair, 2_500, b"")?)
 }
 
 /// 2,000 rules, of which only the last one matches, and drops what the first host sends.
-fn rules(alloc: Global) -> Result<Vec<u8>, Fail> {
+fn rules(alloc: Global) -> Result<Vec<u8>, AllocError> {
     repeated(
         alloc,
         b"table ip t { chain c { type filter hook forward priority 0; ",
@@ -43,22 +38,21 @@ fn rules(alloc: Global) -> Result<Vec<u8>, Fail> {
 }
 
 /// The calls of both writers in a run that goes through with all calls at once.
-fn calls<R: Abort + AllocGlobal>(rt: &R, rules: &[u8]) -> Result<[u64; 2], Fail> {
-    let capture = packets(rt.alloc())?;
+fn calls<R: Abort + AllocGlobal>(rt: &R, rules: &[u8]) -> [u64; 2] {
+    let capture = packets(rt.alloc()).expect(rt, "a capture");
     let working = fine(usize::MAX);
     let given = run_over(rt.alloc(), rules, BOX, &capture, false, working);
-    shows(rt, given.status, "nftrun: done")?;
+    shows(rt, given.status, "nftrun: done");
     assert!(rt; given.failures == [0, 0, 0]);
     let [_, sends, reports] = given.calls;
-    Ok([sends, reports])
+    [sends, reports]
 }
 
 /// A packet that leaves takes 64 bytes, so 2,048 of them fill the sink's buffer of 131,072: there is a call for
 /// the header, one each time that the buffer is full, one for the rest, and a flush.
 #[test]
-fn thousands_of_records_take_few_calls(rt: HostRuntime) -> Result<(), Fail> {
-    assert!(&rt; calls(&rt, b"")? == [5, 2]);
-    let rules = rules(rt.alloc())?;
-    assert!(&rt; calls(&rt, &rules)? == [4, 2]);
-    Ok(())
+fn thousands_of_records_take_few_calls(rt: HostRuntime) {
+    assert!(&rt; calls(&rt, b"") == [5, 2]);
+    let rules = rules(rt.alloc()).expect(&rt, "a ruleset");
+    assert!(&rt; calls(&rt, &rules) == [4, 2]);
 }

@@ -1,6 +1,7 @@
 //! What tests share: a packet and its records, texts of pieces, runs with slow and failing calls, and the
 //! line of a status.
 use engine::{RunFault, run};
+use hex::FromHexError;
 use pcap_io::{Calls, Counted, Slow};
 use program::Status;
 use std::alloc::Global;
@@ -9,7 +10,6 @@ use std::io;
 use std::io::{ErrorKind, Read, Write};
 use std::process::Abort;
 use std::random::RandomSource;
-use std::test::Fail;
 
 pub const BOX: &[u8] = b"interface 2 lan 192.168.1.1/24
 interface 3 wan 203.0.113.1/24
@@ -37,19 +37,14 @@ pub const OUT_AT_1_5: &str =
 pub const PLAIN_OUT: &str = "4500001c000100003f118fe3c0a8010ac63364071388003500080000";
 
 /// The bytes of these hexadecimal texts, one after another.
-pub fn bytes(alloc: Global, parts: &[&str]) -> Result<Vec<u8>, Fail> {
-    let mut all = Vec::new(alloc);
-    for part in parts {
-        all.extend_from_slice(&hex::decode(alloc, *part)?)?;
-    }
-    Ok(all)
+pub fn bytes(alloc: Global, parts: &[&str]) -> Result<Vec<u8>, FromHexError> {
+    hex::decode(alloc, parts.concat(alloc)?)
 }
 
 /// A status has this line.
-pub fn shows<R: Abort + AllocGlobal>(rt: &R, status: Status, line: &str) -> Result<(), Fail> {
-    let text = format!(in rt.alloc(); "{status}")?;
+pub fn shows<R: Abort + AllocGlobal>(rt: &R, status: Status, line: &str) {
+    let text = format!(in rt.alloc(); "{status}").expect(rt, "memory");
     assert!(rt; text.as_str() == line, "{text}");
-    Ok(())
 }
 
 /// Leaves bytes as they are, so that the keys are the same in each run.

@@ -7,8 +7,7 @@ use ip_headers::{Endpoint, Kind, Mapping, Tuple};
 use nft_parser::parse;
 use pcap_io::{LinkType, Record};
 use rule_check::check;
-use std::alloc::Global;
-use std::test::Fail;
+use std::process::Abort;
 use stepping::Engine;
 
 /// What leaves by `wan` gets a mark for its connection.
@@ -136,44 +135,44 @@ static LISTED: [(&[Sent], &[Masqueraded]); 4] = [
 ];
 
 /// A router before its first record.
-fn router<T: Tracker>(alloc: Global) -> Result<Engine<T>, Fail> {
-    let hasher = hasher()?;
-    let tree = parse(alloc, ROUTER)?;
-    let plant = Plant::read(alloc, BOX)?;
-    let checked = check(alloc, tree, plant)?;
-    Ok(Engine::new(alloc, hasher, checked)?)
+fn router<R: Abort + AllocGlobal, T: Tracker>(rt: &R) -> Engine<T> {
+    let hasher = hasher().expect(rt, "keys");
+    let tree = parse(rt.alloc(), ROUTER).expect(rt, "rules");
+    let plant = Plant::read(rt.alloc(), BOX).expect(rt, "a box");
+    let checked = check(rt.alloc(), tree, plant).expect(rt, "an accepted ruleset");
+    Engine::new(rt.alloc(), hasher, checked).expect(rt, "memory")
 }
 
 /// Takes a record, as long as there may be more.
-fn take<T: Tracker>(alloc: Global, engine: &mut Engine<T>, sent: &Sent) -> Result<(), Fail> {
+fn take<R: Abort + AllocGlobal, T: Tracker>(rt: &R, engine: &mut Engine<T>, sent: &Sent) {
     let (moment, link, packet) = *sent;
-    let bytes = bytes(alloc, &[link, packet])?;
+    let bytes = bytes(rt.alloc(), &[link, packet]).expect(rt, "a packet");
     if engine.records() < 4_294_967_296 && moment < 4_294_967_296_000_000_000 {
-        engine.step(&Record {
+        let record = Record {
             moment,
             link_type: LinkType::Sll2,
             bytes: &bytes,
-        })?;
+        };
+        engine.step(&record).expect(rt, "memory");
     }
-    Ok(())
 }
 
 /// What it lists behind these records.
-fn listed_by<T: Tracker>(
-    alloc: Global,
+fn listed_by<R: Abort + AllocGlobal, T: Tracker>(
+    rt: &R,
     engine: &mut Engine<T>,
     records: &[Sent],
-) -> Result<Vec<Connection>, Fail> {
+) -> Vec<Connection> {
     for sent in records {
-        take(alloc, engine, sent)?;
+        take(rt, engine, sent);
     }
-    Ok(engine.connections(alloc)?)
+    engine.connections(rt.alloc()).expect(rt, "memory")
 }
 
 /// What a router lists behind these records.
-fn listed_after<T: Tracker>(alloc: Global, records: &[Sent]) -> Result<Vec<Connection>, Fail> {
-    let mut engine: Engine<T> = router(alloc)?;
-    listed_by(alloc, &mut engine, records)
+fn listed_after<R: Abort + AllocGlobal, T: Tracker>(rt: &R, records: &[Sent]) -> Vec<Connection> {
+    let mut engine: Engine<T> = router(rt);
+    listed_by(rt, &mut engine, records)
 }
 
 fn between(kind: Kind, source: Endpoint, destination: Endpoint) -> Tuple {
@@ -212,42 +211,43 @@ fn are_listed(all: &[Connection], expected: &[Masqueraded]) -> bool {
 }
 
 #[test]
-fn live_connections_are_listed(rt: HostRuntime) -> Result<(), Fail> {
+fn live_connections_are_listed(rt: HostRuntime) {
     for (records, expected) in &LISTED {
-        let in_a_list = listed_after::<ListTracker>(rt.alloc(), records)?;
-        assert!(rt; are_listed(&in_a_list, expected));
-        let in_slots = listed_after::<AgedTracker>(rt.alloc(), records)?;
-        assert!(rt; are_listed(&in_slots, expected));
+        let in_a_list = listed_after::<_, ListTracker>(&rt, records);
+        assert!(&rt; are_listed(&in_a_list, expected));
+        let in_slots = listed_after::<_, AgedTracker>(&rt, records);
+        assert!(&rt; are_listed(&in_slots, expected));
     }
-    Ok(())
 }
 
-/// A host reaches its own end outside: packets back come as the first one does, and the connection
-/// is none that clashes with itself.
-#[test]
-fn a_connection_to_oneself_is_listed(rt: HostRuntime) -> Result<(), Fail> {
-    let all = listed_after::<ListTracker>(rt.alloc(), &TO_ONESELF)?;
-    assert_eq!(rt; all.len(), 3);
+/// Whether a host, its neighbour and itself are listed, by the mapping of the host's end outside.
+fn are_to_oneself(all: &[Connection]) -> bool {
+    if all.len() != 3 {
+        return false;
+    }
     let mapping = Some(Mapping {
         kind: Kind::Udp,
         internal: HOST,
         external: OUTSIDE,
     });
-    assert!(rt; all[0].source == mapping && all[0].dest == None);
-    assert!(rt; all[1].dest == mapping);
-    assert!(rt;
-        all[1].original == between(Kind::Udp, OTHER, OUTSIDE)
-            && all[1].reply
-                == between(
-                    Kind::Udp,
-                    HOST,
-                    Endpoint {
-                        port: 5000,
-                        ..OUTSIDE
-                    }
-                )
-    );
-    assert!(rt; all[2].original == all[2].reply);
-    assert!(rt; all[2].source == mapping && all[2].dest == mapping);
-    Ok(())
+    let neighbour = Endpoint {
+        port: 5000,
+        ..OUTSIDE
+    };
+    all[0].source == mapping
+        && all[0].dest == None
+        && all[1].dest == mapping
+        && all[1].original == between(Kind::Udp, OTHER, OUTSIDE)
+        && all[1].reply == between(Kind::Udp, HOST, neighbour)
+        && all[2].original == all[2].reply
+        && all[2].source == mapping
+        && all[2].dest == mapping
+}
+
+/// A host reaches its own end outside: packets back come as the first one does, and the connection
+/// is none that clashes with itself.
+#[test]
+fn a_connection_to_oneself_is_listed(rt: HostRuntime) {
+    let all = listed_after::<_, ListTracker>(&rt, &TO_ONESELF);
+    assert!(&rt; are_to_oneself(&all));
 }

@@ -11,11 +11,10 @@ use nft_parser::TextFault;
 use pcap_io::CaptureFault;
 use program::{FileIdentity, Host, Status, perform};
 use rule_check::CheckFault;
-use std::alloc::Global;
+use std::alloc::{AllocError, Global};
 use std::hash::RandomState;
 use std::io;
 use std::process::Abort;
-use std::test::Fail;
 
 const SAME_FILE: &str = "nftrun: usage: OUT is the same file as RULES, BOX, IN or standard output";
 
@@ -301,13 +300,18 @@ impl Host for Recorder {
     }
 }
 
-/// The program has to do what the row tells.
-fn ends<R: Abort + AllocGlobal>(rt: &R, row: Row) -> Result<(), Fail> {
-    let mut wanted = Vec::new(rt.alloc());
+/// The calls that the program has to make.
+fn wanted(alloc: Global, row: &Row) -> Result<Vec<u8>, AllocError> {
+    let mut wanted = Vec::new(alloc);
     for call in row.calls.iter().take(row.count) {
         wanted.extend_from_slice(call.as_bytes())?;
     }
     wanted.extend_from_slice(row.last.as_bytes())?;
+    Ok(wanted)
+}
+
+/// The program has to do what the row tells.
+fn ends<R: Abort + AllocGlobal>(rt: &R, row: Row) {
     let mut host = Recorder {
         alloc: rt.alloc(),
         row,
@@ -315,8 +319,8 @@ fn ends<R: Abort + AllocGlobal>(rt: &R, row: Row) -> Result<(), Fail> {
         count: 0,
     };
     assert_eq!(rt; perform(rt.alloc(), &mut host), row.code);
-    assert!(rt; host.calls.as_slice() == wanted.as_slice());
-    Ok(())
+    let wanted = wanted(rt.alloc(), &row).expect(rt, "memory");
+    assert!(rt; host.calls == wanted);
 }
 
 /// A run; one that tells each decision; one with a torn end; one that would write over a file that
@@ -602,18 +606,17 @@ static REPORTS: [Row; 13] = [
 ];
 
 #[test]
-fn the_program_makes_these_calls(rt: HostRuntime) -> Result<(), Fail> {
+fn the_program_makes_these_calls(rt: HostRuntime) {
     for row in &ROWS {
-        ends(&rt, *row)?;
+        ends(&rt, *row);
     }
     for row in &REPORTS {
-        ends(&rt, *row)?;
+        ends(&rt, *row);
     }
-    Ok(())
 }
 
 /// Each call of a run in turn fails.
-fn stops<R: Abort + AllocGlobal>(rt: &R, done: Row, calls: usize) -> Result<(), Fail> {
+fn stops<R: Abort + AllocGlobal>(rt: &R, done: Row, calls: usize) {
     for call in 0..calls {
         for (kind, last, code) in [
             (io::ErrorKind::PermissionDenied, "tell nftrun: device\n", 5),
@@ -626,16 +629,15 @@ fn stops<R: Abort + AllocGlobal>(rt: &R, done: Row, calls: usize) -> Result<(), 
                 code,
                 ..done
             };
-            ends(rt, row)?;
+            ends(rt, row);
         }
     }
-    Ok(())
 }
 
 #[test]
-fn no_call_follows_one_that_failed(rt: HostRuntime) -> Result<(), Fail> {
-    stops(&rt, DONE, CALLS.len())?;
-    stops(&rt, REPORTED, REPORT_CALLS.len())
+fn no_call_follows_one_that_failed(rt: HostRuntime) {
+    stops(&rt, DONE, CALLS.len());
+    stops(&rt, REPORTED, REPORT_CALLS.len());
 }
 
 /// Words, and the paths of the task that they ask for, or the kind and the exit status of the error.
@@ -773,8 +775,8 @@ static WORDS: [(&[&str], Result<&str, (ErrorKind, i32)>); 37] = [
 ];
 
 /// A task and its words, in one line.
-fn shown(alloc: Global, task: &Task<'_>) -> Result<String, Fail> {
-    let line = match task {
+fn shown(alloc: Global, task: &Task<'_>) -> Result<String, AllocError> {
+    match task {
         Task::Run(task) => {
             let paths = task.paths;
             let end = if task.trace { " traced" } else { "" };
@@ -783,39 +785,38 @@ fn shown(alloc: Global, task: &Task<'_>) -> Result<String, Fail> {
             format!(in alloc;
                 "{} {} {} {}{end}{to}{file}",
                 paths.rules, paths.plant, paths.input, paths.output
-            )?
+            )
         }
         Task::Check(task) => {
             let end = if task.all { " all" } else { "" };
-            format!(in alloc; "{} {}{end}", task.texts.rules, task.texts.plant)?
+            format!(in alloc; "{} {}{end}", task.texts.rules, task.texts.plant)
         }
-        Task::Explain(code) => String::from_str(alloc, *code)?,
-    };
-    Ok(line)
+        Task::Explain(code) => String::from_str(alloc, *code),
+    }
 }
 
 /// Whether the help of `run` names its paths, if that is what is told.
-fn names_paths(alloc: Global, words: &[&str], error: &Error) -> Result<bool, Fail> {
+fn names_paths(alloc: Global, words: &[&str], error: &Error) -> Result<bool, AllocError> {
     let text = format!(in alloc; "{error}")?;
     let is_help_of_run = words.len() == 3 && error.exit_code() == 0;
     Ok(!is_help_of_run || text.contains("<RULES> <BOX> <IN> <OUT>"))
 }
 
 #[test]
-fn words_ask_for_a_task_or_are_refused(rt: HostRuntime) -> Result<(), Fail> {
+fn words_ask_for_a_task_or_are_refused(rt: HostRuntime) {
     for (words, wanted) in &WORDS {
         match read_task(rt.alloc(), words) {
             Ok(task) => {
-                let text = shown(rt.alloc(), &task)?;
+                let text = shown(rt.alloc(), &task).expect(&rt, "memory");
                 assert!(&rt; *wanted == Ok(text.as_str()), "{text}");
             }
             Err(error) => {
                 assert!(&rt; *wanted == Err((error.kind(), error.exit_code())));
-                assert!(&rt; names_paths(rt.alloc(), words, &error)?);
+                let is_named = names_paths(rt.alloc(), words, &error);
+                assert!(&rt; is_named.expect(&rt, "memory"));
             }
         }
     }
-    Ok(())
 }
 
 /// Each status, the line that the program can print, and the exit status.
@@ -907,10 +908,9 @@ static STATUSES: [(Status, &str, u8); 28] = [
 ];
 
 #[test]
-fn each_status_has_its_line_and_its_code(rt: HostRuntime) -> Result<(), Fail> {
+fn each_status_has_its_line_and_its_code(rt: HostRuntime) {
     for (status, line, code) in &STATUSES {
-        shows(&rt, *status, line)?;
+        shows(&rt, *status, line);
         assert!(&rt; status.code() == *code, "{line}");
     }
-    Ok(())
 }

@@ -9,7 +9,6 @@ use std::alloc::Global;
 use std::io::ErrorKind;
 use std::process::Abort;
 use std::str;
-use std::test::Fail;
 
 /// A run: its rules, whether it is traced, its capture, its line, and the capture that leaves.
 #[derive(Clone, Copy)]
@@ -241,11 +240,11 @@ fn is_stopped<R: Abort + AllocGlobal>(
     whole: &Given,
     device: usize,
     count: usize,
-) -> Result<(), Fail> {
+) {
     assert!(rt; device < 3);
     let mut failures = [0; 3];
     failures[device] = 1;
-    shows(rt, given.status, "nftrun: device")?;
+    shows(rt, given.status, "nftrun: device");
     assert!(rt; given.failures == failures, "call {count} of {device}");
     let calls = usize::try_from(given.calls[device]);
     assert!(rt;
@@ -256,7 +255,6 @@ fn is_stopped<R: Abort + AllocGlobal>(
         is_beginning(given, whole, device),
         "call {count} of {device}"
     );
-    Ok(())
 }
 
 /// This read fails, in each way: what is written is all that the whole records give that were read before.
@@ -267,7 +265,7 @@ fn read_stops<R: Abort + AllocGlobal>(
     capture: &[u8],
     whole: &Given,
     count: usize,
-) -> Result<bool, Fail> {
+) -> bool {
     let length = count.saturating_mul(most(0)).min(capture.len());
     let cut = run_of(rt.alloc(), row, &capture[..length], fine(most(0)));
     let mut is_made = true;
@@ -277,7 +275,7 @@ fn read_stops<R: Abort + AllocGlobal>(
             is_made = false;
             assert!(rt; given.sent == whole.sent && given.report == whole.report);
         } else {
-            is_stopped(rt, &given, whole, 0, count)?;
+            is_stopped(rt, &given, whole, 0, count);
             assert!(rt; given.sent == cut.sent, "packets after {count} reads");
             let lines = lines_of(&cut.report);
             assert!(rt;
@@ -286,7 +284,7 @@ fn read_stops<R: Abort + AllocGlobal>(
             );
         }
     }
-    Ok(is_made)
+    is_made
 }
 
 /// This call of a writer fails, in each way. Whether there is such a call.
@@ -297,7 +295,7 @@ fn write_stops<R: Abort + AllocGlobal>(
     whole: &Given,
     device: usize,
     count: usize,
-) -> Result<bool, Fail> {
+) -> bool {
     let mut is_made = true;
     for fault in &WRITE_FAULTS {
         let given = run_of(rt.alloc(), row, capture, working(device, *fault, count));
@@ -305,67 +303,59 @@ fn write_stops<R: Abort + AllocGlobal>(
             is_made = false;
             assert!(rt; given.sent == whole.sent && given.report == whole.report);
         } else {
-            is_stopped(rt, &given, whole, device, count)?;
+            is_stopped(rt, &given, whole, device, count);
         }
     }
-    Ok(is_made)
+    is_made
 }
 
 /// What the row gives where all calls work.
-fn whole_run<R: Abort + AllocGlobal>(
-    rt: &R,
-    row: &Row,
-    capture: &[u8],
-    device: usize,
-) -> Result<Given, Fail> {
+fn whole_run<R: Abort + AllocGlobal>(rt: &R, row: &Row, capture: &[u8], device: usize) -> Given {
     let whole = run_of(rt.alloc(), row, capture, fine(most(device)));
-    shows(rt, whole.status, row.line)?;
-    assert!(rt; whole.sent == bytes(rt.alloc(), row.sent)?);
+    shows(rt, whole.status, row.line);
+    assert!(rt; whole.sent == bytes(rt.alloc(), row.sent).expect(rt, "packets"));
     // The end is seen by one read more.
     let reads = capture.len().div_ceil(most(device)).saturating_add(1);
     assert!(rt; usize::try_from(whole.calls[0]) == Ok(reads));
-    Ok(whole)
+    whole
 }
 
 /// Each call of the device fails in turn, up to runs that make no more.
-fn stops<R: Abort + AllocGlobal>(rt: &R, row: &Row, device: usize) -> Result<(), Fail> {
+fn stops<R: Abort + AllocGlobal>(rt: &R, row: &Row, device: usize) {
     assert!(rt; device < 3);
-    let capture = bytes(rt.alloc(), row.capture)?;
-    let whole = whole_run(rt, row, &capture, device)?;
+    let capture = bytes(rt.alloc(), row.capture).expect(rt, "a capture");
+    let whole = whole_run(rt, row, &capture, device);
     for count in 0..200usize {
         let is_made = match device {
-            0 => read_stops(rt, row, &capture, &whole, count)?,
-            _ => write_stops(rt, row, &capture, &whole, device, count)?,
+            0 => read_stops(rt, row, &capture, &whole, count),
+            _ => write_stops(rt, row, &capture, &whole, device, count),
         };
         if !is_made {
             let calls = usize::try_from(whole.calls[device]);
             assert!(rt; calls == Ok(count), "calls of {device}");
-            return Ok(());
+            return;
         }
     }
     panic!(rt; "no run makes so few calls of {device}");
 }
 
 #[test]
-fn each_read_that_fails_stops_the_run(rt: HostRuntime) -> Result<(), Fail> {
+fn each_read_that_fails_stops_the_run(rt: HostRuntime) {
     for row in &ROWS {
-        stops(&rt, row, 0)?;
+        stops(&rt, row, 0);
     }
-    Ok(())
 }
 
 #[test]
-fn each_failing_write_of_packets_stops_the_run(rt: HostRuntime) -> Result<(), Fail> {
+fn each_failing_write_of_packets_stops_the_run(rt: HostRuntime) {
     for row in &ROWS {
-        stops(&rt, row, 1)?;
+        stops(&rt, row, 1);
     }
-    Ok(())
 }
 
 #[test]
-fn each_failing_write_of_a_report_stops_the_run(rt: HostRuntime) -> Result<(), Fail> {
+fn each_failing_write_of_a_report_stops_the_run(rt: HostRuntime) {
     for row in &ROWS {
-        stops(&rt, row, 2)?;
+        stops(&rt, row, 2);
     }
-    Ok(())
 }
