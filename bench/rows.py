@@ -1,4 +1,4 @@
-"""Reads the rows of crates/stored_runs/data, and builds the captures that they speak of."""
+"""Reads the rows of crates/golden_runs/data, and builds the captures that they speak of."""
 import struct
 
 IN_HEADER = bytes.fromhex("4d3cb2a1020004000000000000000000ffff000014010000")

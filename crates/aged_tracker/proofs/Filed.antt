@@ -3,20 +3,20 @@ use Rattle.std.proofs.Common.{◌≡◌, ◌≢◌, ◌⊎◌, ℕ, [], ◌∷�
 use Rattle.std.proofs.lemmas.Bool.{cases_eq}
 use Rattle.std.proofs.lemmas.Option.{same_Some, none-some}
 use Rattle.futures.specs.LinkedLists.{without, IsIn, IsApart}
-use Rattle.aged_tracker.specs.steps.Rings.{Lists, Unlinks, Pushes}
+use Rattle.aged_tracker.specs.steps.SlotLists.{Lists, Unlinks, Pushes}
 use Rattle.futures.proofs.LinkLemmas.{IsIn-without}
 use Rattle.aged_tracker.specs.steps.Table.{IsFiled, keys_in, owner_in}
 use Rattle.aged_tracker.proofs.Keys.{IsIn-without_kept, IsApart-without, IsIn-push, IsIn-push_kept, IsIn-push_last, IsApart-push}
 
 -- the places of all keys but one are as they were
 abbrev pub SameBut : (ℕ → Option ℕ) → (ℕ → Option ℕ) → ℕ → Type 0
-SameBut place place' key = (other : ℕ) → other ≢ key → place' other ≡ place other
+SameBut list_for list_for' key = (other : ℕ) → other ≢ key → list_for' other ≡ list_for other
 
-module _ (old new : Lists) (place place' : ℕ → Option ℕ) (key list : ℕ) (filed : IsFiled old place) (same : SameBut place place' key) where
-  pub IsFiled-unlink : place key ≡ Some list → Unlinks old new key list → place' key ≡ None → IsFiled new place'
+module _ (old new : Lists) (list_for list_for' : ℕ → Option ℕ) (key list : ℕ) (filed : IsFiled old list_for) (same : SameBut list_for list_for' key) where
+  pub IsFiled-unlink : list_for key ≡ Some list → Unlinks old new key list → list_for' key ≡ None → IsFiled new list_for'
   IsFiled-unlink was un gone =
-      let differs : (k l : ℕ) → place' k ≡ Some l → k ≢ key = λ k l is e. none-some l (sym gone ∙ ap place' (sym e) ∙ is) in
-      let back : (k l : ℕ) → place' k ≡ Some l → place k ≡ Some l = λ k l is. sym (same k (differs k l is)) ∙ is in
+      let differs : (k l : ℕ) → list_for' k ≡ Some l → k ≢ key = λ k l is e. none-some l (sym gone ∙ ap list_for' (sym e) ∙ is) in
+      let back : (k l : ℕ) → list_for' k ≡ Some l → list_for k ≡ Some l = λ k l is. sym (same k (differs k l is)) ∙ is in
       let either : (l : ℕ) → (keys_in new l ≡ without key (keys_in old l)) ⊎ ((l ≢ list) × (keys_in new l ≡ keys_in old l)) =
       λ l. elim (cases_eq l list) [
         | inl e ↦ inl (subst (λ l. keys_in new l ≡ without key (keys_in old l)) (sym e) un.left)
@@ -24,7 +24,7 @@ module _ (old new : Lists) (place place' : ℕ → Option ℕ) (key list : ℕ) 
       ] in
       record {
         owner = λ k. elim (cases_eq k key) [
-          | inl e ↦ ap (owner_in new) e ∙ un.moved ∙ sym (ap place' e ∙ gone)
+          | inl e ↦ ap (owner_in new) e ∙ un.moved ∙ sym (ap list_for' e ∙ gone)
           | inr d ↦ un.rest k d ∙ filed.owner k ∙ sym (same k d)
         ];
         listed = λ k l is. elim (either l) [
@@ -35,7 +35,7 @@ module _ (old new : Lists) (place place' : ℕ → Option ℕ) (key list : ℕ) 
           | inl e ↦ let was = IsIn-without key k (keys_in old l) (subst (IsIn k) e found) in same k was.1 ∙ filed.placed k l was.0
           | inr d ↦
               let at = filed.placed k l (subst (IsIn k) d.1 found) in
-              same k (λ e. d.0 (same_Some l list (sym at ∙ ap place e ∙ was))) ∙ at
+              same k (λ e. d.0 (same_Some l list (sym at ∙ ap list_for e ∙ was))) ∙ at
         ];
         apart = λ l. elim (either l) [
           | inl e ↦ subst IsApart (sym e) (IsApart-without key (keys_in old l) (filed.apart l))
@@ -43,7 +43,7 @@ module _ (old new : Lists) (place place' : ℕ → Option ℕ) (key list : ℕ) 
         ];
       }
 
-  pub IsFiled-push : place key ≡ None → Pushes old new key list → place' key ≡ Some list → IsFiled new place'
+  pub IsFiled-push : list_for key ≡ None → Pushes old new key list → list_for' key ≡ Some list → IsFiled new list_for'
   IsFiled-push free push now =
       let absent : (l : ℕ) → ¬ IsIn key (keys_in old l) = λ l found. none-some l (sym free ∙ filed.placed key l found) in
       let either : (l : ℕ) → ((l ≡ list) × (keys_in new l ≡ keys_in old l ++ key ∷ [])) ⊎ ((l ≢ list) × (keys_in new l ≡ keys_in old l)) =
@@ -51,16 +51,16 @@ module _ (old new : Lists) (place place' : ℕ → Option ℕ) (key list : ℕ) 
         | inl e ↦ inl (e, subst (λ l. keys_in new l ≡ keys_in old l ++ key ∷ []) (sym e) push.last)
         | inr d ↦ inr (d, push.others l d)
       ] in
-      let old_in : (k l : ℕ) → IsIn k (keys_in old l) → place' k ≡ Some l =
+      let old_in : (k l : ℕ) → IsIn k (keys_in old l) → list_for' k ≡ Some l =
       λ k l found. same k (λ e. absent l (subst (λ j. IsIn j (keys_in old l)) e found)) ∙ filed.placed k l found in
       record {
         owner = λ k. elim (cases_eq k key) [
-          | inl e ↦ ap (owner_in new) e ∙ push.moved ∙ sym (ap place' e ∙ now)
+          | inl e ↦ ap (owner_in new) e ∙ push.moved ∙ sym (ap list_for' e ∙ now)
           | inr d ↦ push.rest k d ∙ filed.owner k ∙ sym (same k d)
         ];
         listed = λ k l is. elim (cases_eq k key) [
           | inl e ↦
-              let at : l ≡ list = same_Some l list (sym is ∙ ap place' e ∙ now) in
+              let at : l ≡ list = same_Some l list (sym is ∙ ap list_for' e ∙ now) in
               subst (λ j. IsIn j (keys_in new l)) (sym e) (subst (λ m. IsIn key (keys_in new m)) (sym at) (subst (IsIn key) (sym push.last) (IsIn-push_last key (keys_in old list))))
           | inr d ↦
               let was = filed.listed k l (sym (same k d) ∙ is) in
@@ -72,7 +72,7 @@ module _ (old new : Lists) (place place' : ℕ → Option ℕ) (key list : ℕ) 
         placed = λ k l found. elim (either l) [
           | inl e ↦ elim (IsIn-push key k (keys_in old l) (subst (IsIn k) e.1 found)) [
             | inl was ↦ old_in k l was
-            | inr here ↦ ap place' (sym here) ∙ now ∙ ap Some (sym e.0)
+            | inr here ↦ ap list_for' (sym here) ∙ now ∙ ap Some (sym e.0)
           ]
           | inr e ↦ old_in k l (subst (IsIn k) e.1 found)
         ];

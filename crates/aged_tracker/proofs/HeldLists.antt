@@ -1,27 +1,27 @@
 -- What is held at some keys.
 use Rattle.std.proofs.Common.{◌≡◌, ℕ, ◌+◌, ◌≤◌, List, [], ◌∷◌, ◌++◌, length, Option, Some, None, refl, ap, ◌∙◌, inl, inr, arith}
 use Rattle.futures.specs.LinkedLists.{IsIn}
-use Rattle.conntrack.specs.declared.connection.Held.{Held}
-use Rattle.aged_tracker.specs.steps.Rings.{cons_held, held_in}
+use Rattle.conntrack.specs.declared.connection.ConntrackEntry.{ConntrackEntry}
+use Rattle.aged_tracker.specs.steps.SlotLists.{cons_held, held_in}
 
-pub held_same : (old new : ℕ → Option Held) (keys : List ℕ) → ((k : ℕ) → IsIn k keys → new k ≡ old k) → held_in new keys ≡ held_in old keys
+pub held_same : (old new : ℕ → Option ConntrackEntry) (keys : List ℕ) → ((k : ℕ) → IsIn k keys → new k ≡ old k) → held_in new keys ≡ held_in old keys
 held_same old new [] same = refl
 held_same old new (k ∷ keys) same =
     ap (λ o. cons_held o (held_in new keys)) (same k (inl refl))
     ∙ ap (λ hs. cons_held (old k) hs) (held_same old new keys (λ j found. same j (inr found)))
 
-cons_append : (o : Option Held) (xs ys : List Held) → cons_held o (xs ++ ys) ≡ cons_held o xs ++ ys
+cons_append : (o : Option ConntrackEntry) (xs ys : List ConntrackEntry) → cons_held o (xs ++ ys) ≡ cons_held o xs ++ ys
 cons_append None xs ys = refl
 cons_append (Some h) xs ys = refl
 
-pub held_push : (s : ℕ → Option Held) (keys : List ℕ) (key : ℕ) (h : Held) → s key ≡ Some h → held_in s (keys ++ key ∷ []) ≡ held_in s keys ++ h ∷ []
+pub held_push : (s : ℕ → Option ConntrackEntry) (keys : List ℕ) (key : ℕ) (h : ConntrackEntry) → s key ≡ Some h → held_in s (keys ++ key ∷ []) ≡ held_in s keys ++ h ∷ []
 held_push s [] key h is = ap (λ o. cons_held o []) is
 held_push s (k ∷ keys) key h is = ap (cons_held (s k)) (held_push s keys key h is) ∙ cons_append (s k) (held_in s keys) (h ∷ [])
 
-cons_long : (o : Option Held) (held : List Held) (n : ℕ) → length held ≤ n → length (cons_held o held) ≤ n + 1
+cons_long : (o : Option ConntrackEntry) (held : List ConntrackEntry) (n : ℕ) → length held ≤ n → length (cons_held o held) ≤ n + 1
 cons_long None held n few = omega (arith, few)
 cons_long (Some h) held n few = omega (arith, few)
 
-pub length-held : (s : ℕ → Option Held) (keys : List ℕ) → length (held_in s keys) ≤ length keys
+pub length-held : (s : ℕ → Option ConntrackEntry) (keys : List ℕ) → length (held_in s keys) ≤ length keys
 length-held s [] = omega arith
 length-held s (k ∷ keys) = let few = cons_long (s k) (held_in s keys) (length keys) (length-held s keys) in omega (arith, few)

@@ -3,35 +3,35 @@ use Rattle.std.proofs.Common.{◌≡◌, ◌≢◌, ℕ, List, [], ◌∷◌, Op
 use Rattle.std.proofs.lemmas.Bool.{or_from, or_left, or_right, or_parts, and_from, not_from_false, cases_eq}
 use Rattle.std.proofs.lemmas.Option.{same_Some, none-some}
 use Rattle.futures.specs.LinkedLists.{IsIn, IsApart}
-use Rattle.conntrack.specs.declared.connection.Held.{Held}
+use Rattle.conntrack.specs.declared.connection.ConntrackEntry.{ConntrackEntry}
 use Rattle.ip_headers.specs.declared.tuple.Tuple.{Tuple}
-use Rattle.conntrack.specs.Held.{is_incoming, is_taken, are_apart}
+use Rattle.conntrack.specs.ConntrackEntry.{is_incoming, is_taken, have_disjoint_tuples}
 use Rattle.ip_headers.specs.Same.{same_tuple}
 use Rattle.ip_headers.specs.steps.Equal.{same_tuple-refl, same_tuple-true}
-use Rattle.aged_tracker.specs.steps.Rings.{held_in, cons_held}
+use Rattle.aged_tracker.specs.steps.SlotLists.{held_in, cons_held}
 use Rattle.aged_tracker.specs.steps.Table.{Sets}
 use Rattle.aged_tracker.specs.steps.Keyed.{IsKeyed}
 use Rattle.aged_tracker.proofs.Members.{either_bool, either_or, not_both, any_none, any_some}
 
-pub incoming-original : (h : Held) → is_incoming h.original h ≡ true
+pub incoming-original : (h : ConntrackEntry) → is_incoming h.original h ≡ true
 incoming-original h = or_left _ _ (same_tuple-refl h.original)
 
-pub incoming-reply : (h : Held) → is_incoming h.reply h ≡ true
+pub incoming-reply : (h : ConntrackEntry) → is_incoming h.reply h ≡ true
 incoming-reply h = or_right _ _ (same_tuple-refl h.reply)
 
-module _ (s : ℕ → Option Held) (at : Tuple → Option ℕ) (keyed : IsKeyed s at) where
-  pub owner_at : (key : ℕ) (h : Held) (tuple : Tuple) → s key ≡ Some h → is_incoming tuple h ≡ true → at tuple ≡ Some key
+module _ (s : ℕ → Option ConntrackEntry) (at : Tuple → Option ℕ) (keyed : IsKeyed s at) where
+  pub owner_at : (key : ℕ) (h : ConntrackEntry) (tuple : Tuple) → s key ≡ Some h → is_incoming tuple h ≡ true → at tuple ≡ Some key
   owner_at key h tuple is owned =
       elim (either_or (same_tuple h.original tuple) (same_tuple h.reply tuple) owned) [
         | inl e ↦ ap at (sym (same_tuple-true h.original tuple e)) ∙ keyed.original key h is
         | inr e ↦ ap at (sym (same_tuple-true h.reply tuple e)) ∙ keyed.reply key h is
       ]
 
-  pub one_owner : (key other : ℕ) (h x : Held) (tuple : Tuple) → s key ≡ Some h → s other ≡ Some x → is_incoming tuple h ≡ true → is_incoming tuple x ≡ true → key ≡ other
+  pub one_owner : (key other : ℕ) (h x : ConntrackEntry) (tuple : Tuple) → s key ≡ Some h → s other ≡ Some x → is_incoming tuple h ≡ true → is_incoming tuple x ≡ true → key ≡ other
   one_owner key other h x tuple is is' owned owned' =
       same_Some key other (sym (owner_at key h tuple is owned) ∙ owner_at other x tuple is' owned')
 
-  pub no_owner : (tuple : Tuple) → at tuple ≡ None → (key : ℕ) (h : Held) → s key ≡ Some h → is_incoming tuple h ≡ false
+  pub no_owner : (tuple : Tuple) → at tuple ≡ None → (key : ℕ) (h : ConntrackEntry) → s key ≡ Some h → is_incoming tuple h ≡ false
   no_owner tuple none key h is =
       elim (either_bool (is_incoming tuple h)) [
         | inl t ↦ absurd (none-some key (sym none ∙ owner_at key h tuple is t))
@@ -41,26 +41,26 @@ module _ (s : ℕ → Option Held) (at : Tuple → Option ℕ) (keyed : IsKeyed 
   pub taken_none : (keys : List ℕ) (tuple : Tuple) → at tuple ≡ None → is_taken tuple (held_in s keys) ≡ false
   taken_none keys tuple none = any_none (is_incoming tuple) s keys (λ k x found is. no_owner tuple none k x is)
 
-  pub taken_some : (keys : List ℕ) (tuple : Tuple) (key : ℕ) → at tuple ≡ Some key → ((k : ℕ) (h : Held) → s k ≡ Some h → IsIn k keys) → is_taken tuple (held_in s keys) ≡ true
+  pub taken_some : (keys : List ℕ) (tuple : Tuple) (key : ℕ) → at tuple ≡ Some key → ((k : ℕ) (h : ConntrackEntry) → s k ≡ Some h → IsIn k keys) → is_taken tuple (held_in s keys) ≡ true
   taken_some keys tuple key is listed =
       let owner = keyed.found tuple key is in
       any_some (is_incoming tuple) s keys key owner.0 (listed key owner.0 owner.1.0) owner.1.0 owner.1.1
 
-  pub free_at : (keys : List ℕ) (tuple : Tuple) → is_taken tuple (held_in s keys) ≡ false → ((k : ℕ) (h : Held) → s k ≡ Some h → IsIn k keys) → at tuple ≡ None
+  pub free_at : (keys : List ℕ) (tuple : Tuple) → is_taken tuple (held_in s keys) ≡ false → ((k : ℕ) (h : ConntrackEntry) → s k ≡ Some h → IsIn k keys) → at tuple ≡ None
   free_at keys tuple free listed = by_slot (at tuple) refl
     where
       by_slot : (o : Option ℕ) → at tuple ≡ o → at tuple ≡ None
       by_slot None is = is
       by_slot (Some key) is = absurd (not_both _ (taken_some keys tuple key is listed) free)
 
-  apart_step : (o : Option Held) (rest : List Held) → ((x : Held) → o ≡ Some x → (is_taken x.original rest ≡ false) × (is_taken x.reply rest ≡ false)) → are_apart rest ≡ true → are_apart (cons_held o rest) ≡ true
+  apart_step : (o : Option ConntrackEntry) (rest : List ConntrackEntry) → ((x : ConntrackEntry) → o ≡ Some x → (is_taken x.original rest ≡ false) × (is_taken x.reply rest ≡ false)) → have_disjoint_tuples rest ≡ true → have_disjoint_tuples (cons_held o rest) ≡ true
   apart_step None rest free apart = apart
   apart_step (Some x) rest free apart = and_from _ _ (not_from_false _ (or_from _ _ (free x refl).0 (free x refl).1)) apart
 
-  pub apart_held : (keys : List ℕ) → IsApart keys → are_apart (held_in s keys) ≡ true
+  pub apart_held : (keys : List ℕ) → IsApart keys → have_disjoint_tuples (held_in s keys) ≡ true
   apart_held [] apart = refl
   apart_held (k ∷ keys) apart =
-      let free : (x : Held) (tuple : Tuple) → s k ≡ Some x → is_incoming tuple x ≡ true → is_taken tuple (held_in s keys) ≡ false =
+      let free : (x : ConntrackEntry) (tuple : Tuple) → s k ≡ Some x → is_incoming tuple x ≡ true → is_taken tuple (held_in s keys) ≡ false =
       λ x tuple is owned. any_none (is_incoming tuple) s keys (λ j y found at'.
       elim (either_bool (is_incoming tuple y)) [
         | inl t ↦ absurd (apart.0 (subst (λ i. IsIn i keys) (one_owner j k y x tuple at' is t owned) found))
@@ -77,9 +77,9 @@ cond_false : {X : Type 0} (b : Bool) (x y : X) → b ≡ false → cond b x y �
 cond_false b x y e = rw e refl
 
 -- a connection in a slot that was free
-module _ (old new : ℕ → Option Held) (at at' : Tuple → Option ℕ) (key : ℕ) (h : Held) (keyed : IsKeyed old at) (updates : Sets old new key (Some h)) (free : old key ≡ None) (o : at h.original ≡ None) (r : at h.reply ≡ None)
+module _ (old new : ℕ → Option ConntrackEntry) (at at' : Tuple → Option ℕ) (key : ℕ) (h : ConntrackEntry) (keyed : IsKeyed old at) (updates : Sets old new key (Some h)) (free : old key ≡ None) (o : at h.original ≡ None) (r : at h.reply ≡ None)
     (now : (q : Tuple) → at' q ≡ cond (same_tuple h.reply q) (Some key) (cond (same_tuple h.original q) (Some key) (at q))) where
-  not_it : (k : ℕ) (x : Held) (tuple : Tuple) → old k ≡ Some x → is_incoming tuple x ≡ true → at' tuple ≡ Some k
+  not_it : (k : ℕ) (x : ConntrackEntry) (tuple : Tuple) → old k ≡ Some x → is_incoming tuple x ≡ true → at' tuple ≡ Some k
   not_it k x tuple is owned =
       let was = owner_at old at keyed k x tuple is owned in
       let differs : (q : Tuple) → at q ≡ None → same_tuple q tuple ≡ false =
@@ -99,7 +99,7 @@ module _ (old new : ℕ → Option Held) (at at' : Tuple → Option ℕ) (key : 
         ]
       ]
 
-  either_slot : (P : ℕ → Held → Type 0) → P key h → ((k : ℕ) (x : Held) → old k ≡ Some x → P k x) → (k : ℕ) (x : Held) → new k ≡ Some x → P k x
+  either_slot : (P : ℕ → ConntrackEntry → Type 0) → P key h → ((k : ℕ) (x : ConntrackEntry) → old k ≡ Some x → P k x) → (k : ℕ) (x : ConntrackEntry) → new k ≡ Some x → P k x
   either_slot P this that k x is =
       elim (cases_eq k key) [
         | inl e ↦
@@ -125,14 +125,14 @@ module _ (old new : ℕ → Option Held) (at at' : Tuple → Option ℕ) (key : 
       }
 
 -- a connection that leaves its slot
-module _ (old new : ℕ → Option Held) (at at' : Tuple → Option ℕ) (key : ℕ) (h : Held) (keyed : IsKeyed old at) (updates : Sets old new key None) (is : old key ≡ Some h)
+module _ (old new : ℕ → Option ConntrackEntry) (at at' : Tuple → Option ℕ) (key : ℕ) (h : ConntrackEntry) (keyed : IsKeyed old at) (updates : Sets old new key None) (is : old key ≡ Some h)
     (now : (q : Tuple) → at' q ≡ cond (same_tuple h.reply q) None (cond (same_tuple h.original q) None (at q))) where
-  still : (k : ℕ) (x : Held) → new k ≡ Some x → (k ≢ key) × (old k ≡ Some x)
+  still : (k : ℕ) (x : ConntrackEntry) → new k ≡ Some x → (k ≢ key) × (old k ≡ Some x)
   still k x is' =
       let differs : k ≢ key = λ e. none-some x (sym updates.changed ∙ ap new (sym e) ∙ is') in
       (differs, sym (updates.others k differs) ∙ is')
 
-  still_at : (k : ℕ) (x : Held) (tuple : Tuple) → new k ≡ Some x → is_incoming tuple x ≡ true → at' tuple ≡ Some k
+  still_at : (k : ℕ) (x : ConntrackEntry) (tuple : Tuple) → new k ≡ Some x → is_incoming tuple x ≡ true → at' tuple ≡ Some k
   still_at k x tuple is' owned =
       let was = still k x is' in
       let other : is_incoming tuple h ≡ false = elim (either_bool (is_incoming tuple h)) [
@@ -163,13 +163,13 @@ module _ (old new : ℕ → Option Held) (at at' : Tuple → Option ℕ) (key : 
       }
 
 -- a connection that keeps its tuples
-module _ (old new : ℕ → Option Held) (at : Tuple → Option ℕ) (key : ℕ) (h h' : Held) (keyed : IsKeyed old at) (updates : Sets old new key (Some h')) (is : old key ≡ Some h) (o : h'.original ≡ h.original) (r : h'.reply ≡ h.reply) where
-  before : (k : ℕ) (x : Held) → new k ≡ Some x → (y : Held) × ((old k ≡ Some y) × ((x.original ≡ y.original) × (x.reply ≡ y.reply)))
+module _ (old new : ℕ → Option ConntrackEntry) (at : Tuple → Option ℕ) (key : ℕ) (h h' : ConntrackEntry) (keyed : IsKeyed old at) (updates : Sets old new key (Some h')) (is : old key ≡ Some h) (o : h'.original ≡ h.original) (r : h'.reply ≡ h.reply) where
+  before : (k : ℕ) (x : ConntrackEntry) → new k ≡ Some x → (y : ConntrackEntry) × ((old k ≡ Some y) × ((x.original ≡ y.original) × (x.reply ≡ y.reply)))
   before k x is' =
       elim (cases_eq k key) [
         | inl e ↦
             let same : h' ≡ x = same_Some h' x (sym updates.changed ∙ ap new (sym e) ∙ is') in
-            (h, (ap old e ∙ is, (ap (λ (z : Held). z.original) (sym same) ∙ o, ap (λ (z : Held). z.reply) (sym same) ∙ r)))
+            (h, (ap old e ∙ is, (ap (λ (z : ConntrackEntry). z.original) (sym same) ∙ o, ap (λ (z : ConntrackEntry). z.reply) (sym same) ∙ r)))
         | inr d ↦ (x, (sym (updates.others k d) ∙ is', (refl, refl)))
       ]
 

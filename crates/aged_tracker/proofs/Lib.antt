@@ -8,7 +8,7 @@ pub mod Filed
 pub mod Tables
 pub mod Linked
 pub mod Turns
-pub mod Dead
+pub mod Expired
 pub mod Members
 pub mod Keyed
 pub mod Found

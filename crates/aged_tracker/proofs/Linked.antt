@@ -6,17 +6,17 @@ use Rattle.std.proofs.lemmas.Option.{same_Some, none-some}
 use Rattle.std.proofs.lemmas.List.{get_or-set_same, get_or-set_other}
 use Rattle.conntrack.specs.declared.connection.ConnId.{ConnId}
 use Rattle.futures.specs.LinkedLists.{IsIn}
-use Rattle.aged_tracker.specs.steps.Rings.{Lists, Unlinks, Pushes, held_in}
+use Rattle.aged_tracker.specs.steps.SlotLists.{Lists, Unlinks, Pushes, held_in}
 use Rattle.aged_tracker.proofs.HeldLists.{held_same, held_push}
-use Rattle.conntrack.specs.declared.connection.Held.{Held}
-use Rattle.conntrack.specs.Held.{IsNoneLater, without}
-use Rattle.aged_tracker.specs.steps.Table.{queue_of, keys_in, owner_in, IsFiled, IsLinked, IsOldest, IsRising, Sets, last_at, last_by, order_place, queue_place}
+use Rattle.conntrack.specs.declared.connection.ConntrackEntry.{ConntrackEntry}
+use Rattle.conntrack.specs.ConntrackEntry.{IsNoneLater, without}
+use Rattle.aged_tracker.specs.steps.Table.{queue_of, keys_in, owner_in, IsFiled, IsLinked, IsOldest, IsRising, Sets, last_at, last_by, order_list, queue_list}
 use Rattle.aged_tracker.proofs.Keys.{IsRising-without, IsRising-push, IsRising-same, front_in}
 use Rattle.aged_tracker.proofs.Filed.{IsFiled-unlink, IsFiled-push}
 use Rattle.aged_tracker.proofs.Tables.{none_later-at, held_without}
 
-pub IsFiled-same : (l : Lists) (place place' : ℕ → Option ℕ) → ((k : ℕ) → place' k ≡ place k) → IsFiled l place → IsFiled l place'
-IsFiled-same l place place' same filed =
+pub IsFiled-same : (l : Lists) (list_for list_for' : ℕ → Option ℕ) → ((k : ℕ) → list_for' k ≡ list_for k) → IsFiled l list_for → IsFiled l list_for'
+IsFiled-same l list_for list_for' same filed =
     record {
       owner = λ k. filed.owner k ∙ sym (same k);
       listed = λ k list is. filed.listed k list (sym (same k) ∙ is);
@@ -25,15 +25,15 @@ IsFiled-same l place place' same filed =
     }
 
 -- none of the slots has a moment after this one
-pub last_least : (s : ℕ → Option Held) (begun kinds : Lists) (now : ℕ) → IsLinked s begun kinds → IsNoneLater now (held_in s (keys_in begun 0)) → (key : ℕ) → last_at s key ≤ now
+pub last_least : (s : ℕ → Option ConntrackEntry) (begun kinds : Lists) (now : ℕ) → IsLinked s begun kinds → IsNoneLater now (held_in s (keys_in begun 0)) → (key : ℕ) → last_at s key ≤ now
 last_least s begun kinds now linked none key =
     by_slot (s key) refl
   where
-    by_slot : (o : Option Held) → s key ≡ o → last_at s key ≤ now
+    by_slot : (o : Option ConntrackEntry) → s key ≡ o → last_at s key ≤ now
     by_slot None is = let e : last_at s key ≡ 0 = ap last_by is in omega (arith, e)
     by_slot (Some h) is = none_later-at s now (keys_in begun 0) none key (linked.order.listed key 0 (ap (λ o. option_map (λ h. 0) o) is))
 
-module _ (old new : ℕ → Option Held) (key : ℕ) (slot : Option Held) (updates : Sets old new key slot) where
+module _ (old new : ℕ → Option ConntrackEntry) (key : ℕ) (slot : Option ConntrackEntry) (updates : Sets old new key slot) where
   pub last_others : (k : ℕ) → k ≢ key → last_at new k ≡ last_at old k
   last_others k d = ap last_by (updates.others k d)
 
@@ -43,25 +43,25 @@ module _ (old new : ℕ → Option Held) (key : ℕ) (slot : Option Held) (updat
       IsRising-same (last_at old) (last_at new) keys (λ k found. last_others k (λ e. absent (subst (λ j. IsIn j keys) e found))) rising
 
   -- a slot that stays in use stays in the order
-  pub order_kept : (h h' : Held) → old key ≡ Some h → slot ≡ Some h' → (k : ℕ) → order_place new k ≡ order_place old k
+  pub order_kept : (h h' : ConntrackEntry) → old key ≡ Some h → slot ≡ Some h' → (k : ℕ) → order_list new k ≡ order_list old k
   order_kept h h' is now k =
       elim (cases_eq k key) [
         | inl e ↦
-            ap (λ o. option_map (λ (x : Held). 0) o) (ap new e ∙ updates.changed ∙ now)
-            ∙ sym (ap (λ o. option_map (λ (x : Held). 0) o) (ap old e ∙ is))
-        | inr d ↦ ap (λ o. option_map (λ (x : Held). 0) o) (updates.others k d)
+            ap (λ o. option_map (λ (x : ConntrackEntry). 0) o) (ap new e ∙ updates.changed ∙ now)
+            ∙ sym (ap (λ o. option_map (λ (x : ConntrackEntry). 0) o) (ap old e ∙ is))
+        | inr d ↦ ap (λ o. option_map (λ (x : ConntrackEntry). 0) o) (updates.others k d)
       ]
 
-  pub named_kept : (h' : Held) → slot ≡ Some h' → h'.id.0 ≡ key → ((k : ℕ) (h : Held) → old k ≡ Some h → h.id.0 ≡ k) → (k : ℕ) (h : Held) → new k ≡ Some h → h.id.0 ≡ k
+  pub named_kept : (h' : ConntrackEntry) → slot ≡ Some h' → h'.id.0 ≡ key → ((k : ℕ) (h : ConntrackEntry) → old k ≡ Some h → h.id.0 ≡ k) → (k : ℕ) (h : ConntrackEntry) → new k ≡ Some h → h.id.0 ≡ k
   named_kept h' now id named k h is =
       elim (cases_eq k key) [
         | inl e ↦
             let same : h' ≡ h = same_Some h' h (sym now ∙ sym updates.changed ∙ ap new (sym e) ∙ is) in
-            ap (λ (x : Held). x.id.0) (sym same) ∙ id ∙ sym e
+            ap (λ (x : ConntrackEntry). x.id.0) (sym same) ∙ id ∙ sym e
         | inr d ↦ named k h (sym (updates.others k d) ∙ is)
       ]
 
-  pub named_gone : slot ≡ None → ((k : ℕ) (h : Held) → old k ≡ Some h → h.id.0 ≡ k) → (k : ℕ) (h : Held) → new k ≡ Some h → h.id.0 ≡ k
+  pub named_gone : slot ≡ None → ((k : ℕ) (h : ConntrackEntry) → old k ≡ Some h → h.id.0 ≡ k) → (k : ℕ) (h : ConntrackEntry) → new k ≡ Some h → h.id.0 ≡ k
   named_gone now named k h is =
       elim (cases_eq k key) [
         | inl e ↦ absurd (none-some h (sym now ∙ sym updates.changed ∙ ap new (sym e) ∙ is))
@@ -69,18 +69,18 @@ module _ (old new : ℕ → Option Held) (key : ℕ) (slot : Option Held) (updat
       ]
 
 -- a list after its key left: it lacks the key, and the rest keeps its order
-pub unlinked_off : (old new : Lists) (place : ℕ → Option ℕ) (key list : ℕ) → IsFiled new (owner_in new) → Unlinks old new key list → (q : ℕ) → ¬ IsIn key (keys_in new q)
-unlinked_off old new place key list filed un q found = none-some q (sym un.moved ∙ filed.placed key q found)
+pub unlinked_off : (old new : Lists) (list_for : ℕ → Option ℕ) (key list : ℕ) → IsFiled new (owner_in new) → Unlinks old new key list → (q : ℕ) → ¬ IsIn key (keys_in new q)
+unlinked_off old new list_for key list filed un q found = none-some q (sym un.moved ∙ filed.placed key q found)
 
 -- the queues after the slot's key left its own
-module _ (s : ℕ → Option Held) (kinds left : Lists) (key : ℕ) (h : Held) (is : s key ≡ Some h) (filed : IsFiled kinds (queue_place s)) (un : Unlinks kinds left key (queue_of h)) where
+module _ (s : ℕ → Option ConntrackEntry) (kinds left : Lists) (key : ℕ) (h : ConntrackEntry) (is : s key ≡ Some h) (filed : IsFiled kinds (queue_list s)) (un : Unlinks kinds left key (queue_of h)) where
   pub filed_left : IsFiled left (owner_in left)
   filed_left =
-      IsFiled-unlink kinds left (queue_place s) (owner_in left) key (queue_of h) filed (λ k d. un.rest k d ∙ filed.owner k)
+      IsFiled-unlink kinds left (queue_list s) (owner_in left) key (queue_of h) filed (λ k d. un.rest k d ∙ filed.owner k)
       (ap (λ o. option_map queue_of o) is) un un.moved
 
   pub off_left : (q : ℕ) → ¬ IsIn key (keys_in left q)
-  off_left = unlinked_off kinds left (queue_place s) key (queue_of h) filed_left un
+  off_left = unlinked_off kinds left (queue_list s) key (queue_of h) filed_left un
 
   pub rising_left : (f : ℕ → ℕ) → ((q : ℕ) → IsRising f (keys_in kinds q)) → (q : ℕ) → IsRising f (keys_in left q)
   rising_left f rising q =
@@ -90,7 +90,7 @@ module _ (s : ℕ → Option Held) (kinds left : Lists) (key : ℕ) (h : Held) (
       ]
 
 -- one more packet: its key leaves its queue and goes to the end of another
-module _ (old new : ℕ → Option Held) (begun kinds left kinds' : Lists) (key : ℕ) (h h' : Held) (linked : IsLinked old begun kinds) (is : old key ≡ Some h) (updates : Sets old new key (Some h')) (un : Unlinks kinds left key (queue_of h)) (push : Pushes left kinds' key (queue_of h')) where
+module _ (old new : ℕ → Option ConntrackEntry) (begun kinds left kinds' : Lists) (key : ℕ) (h h' : ConntrackEntry) (linked : IsLinked old begun kinds) (is : old key ≡ Some h) (updates : Sets old new key (Some h')) (un : Unlinks kinds left key (queue_of h)) (push : Pushes left kinds' key (queue_of h')) where
   pub linked_touched : h'.id.0 ≡ key → ((k : ℕ) → last_at old k ≤ h'.last) → IsLinked new begun kinds'
   linked_touched id least =
       let middle = filed_left old kinds left key h is linked.queues un in
@@ -100,8 +100,8 @@ module _ (old new : ℕ → Option Held) (begun kinds left kinds' : Lists) (key 
       λ q. rising_off old new key (Some h') updates (keys_in left q) (off q) (rising_left old kinds left key h is linked.queues un (last_at old) linked.rising q) in
       record {
         named = named_kept old new key (Some h') updates h' refl id linked.named;
-        order = IsFiled-same begun (order_place old) (order_place new) (order_kept old new key (Some h') updates h h' is refl) linked.order;
-        queues = IsFiled-push left kinds' (owner_in left) (queue_place new) key (queue_of h') middle
+        order = IsFiled-same begun (order_list old) (order_list new) (order_kept old new key (Some h') updates h h' is refl) linked.order;
+        queues = IsFiled-push left kinds' (owner_in left) (queue_list new) key (queue_of h') middle
             (λ k d. ap (λ o. option_map queue_of o) (updates.others k d) ∙ sym (linked.queues.owner k) ∙ sym (un.rest k d))
             un.moved push (ap (λ o. option_map queue_of o) updates.changed);
         rising = λ q. elim (cases_eq q (queue_of h')) [
@@ -115,12 +115,12 @@ module _ (old new : ℕ → Option Held) (begun kinds left kinds' : Lists) (key 
       }
 
 -- the fronts of the queues that nothing touched
-pub oldest_kept : (old new : ℕ → Option Held) (kinds kinds' : Lists) (q moment : ℕ) → keys_in kinds' q ≡ keys_in kinds q → ((k : ℕ) → IsIn k (keys_in kinds q) → last_at new k ≡ last_at old k) → IsOldest old kinds q moment → IsOldest new kinds' q moment
+pub oldest_kept : (old new : ℕ → Option ConntrackEntry) (kinds kinds' : Lists) (q moment : ℕ) → keys_in kinds' q ≡ keys_in kinds q → ((k : ℕ) → IsIn k (keys_in kinds q) → last_at new k ≡ last_at old k) → IsOldest old kinds q moment → IsOldest new kinds' q moment
 oldest_kept old new kinds kinds' q moment same lasts oldest k is =
     let was : slice_get (keys_in kinds q) 0 ≡ Some k = ap (λ ks. slice_get ks 0) (sym same) ∙ is in
     oldest k was ∙ sym (lasts k (front_in (keys_in kinds q) k was))
 
-pub oldest_set : (s : ℕ → Option Held) (kinds : Lists) (all : List ℕ) (at moment : ℕ) → at < length all → ((q : ℕ) → q < 5 → q ≢ at → IsOldest s kinds q (get_or all q 0)) → IsOldest s kinds at moment → (q : ℕ) → q < 5 → IsOldest s kinds q (get_or (set all at moment) q 0)
+pub oldest_set : (s : ℕ → Option ConntrackEntry) (kinds : Lists) (all : List ℕ) (at moment : ℕ) → at < length all → ((q : ℕ) → q < 5 → q ≢ at → IsOldest s kinds q (get_or all q 0)) → IsOldest s kinds at moment → (q : ℕ) → q < 5 → IsOldest s kinds q (get_or (set all at moment) q 0)
 oldest_set s kinds all at moment within others here q range =
     elim (cases_eq q at) [
       | inl e ↦ subst (λ q. IsOldest s kinds q (get_or (set all at moment) q 0)) (sym e) (subst (IsOldest s kinds at) (sym (get_or-set_same all at moment 0 within)) here)
@@ -132,9 +132,9 @@ some_of None is = absurd cc
 some_of (Some x) is = (x, refl)
 
 -- a connection that begins: its key goes to the end of the order and of its queue
-module _ (old new : ℕ → Option Held) (begun kinds begun' kinds' : Lists) (key : ℕ) (h : Held) (linked : IsLinked old begun kinds) (free : old key ≡ None) (updates : Sets old new key (Some h)) (push : Pushes begun begun' key 0) (push' : Pushes kinds kinds' key (queue_of h)) where
+module _ (old new : ℕ → Option ConntrackEntry) (begun kinds begun' kinds' : Lists) (key : ℕ) (h : ConntrackEntry) (linked : IsLinked old begun kinds) (free : old key ≡ None) (updates : Sets old new key (Some h)) (push : Pushes begun begun' key 0) (push' : Pushes kinds kinds' key (queue_of h)) where
   off_order : (q : ℕ) → ¬ IsIn key (keys_in begun q)
-  off_order q found = none-some q (sym (ap (λ o. option_map (λ (x : Held). 0) o) free) ∙ linked.order.placed key q found)
+  off_order q found = none-some q (sym (ap (λ o. option_map (λ (x : ConntrackEntry). 0) o) free) ∙ linked.order.placed key q found)
 
   off_queue : (q : ℕ) → ¬ IsIn key (keys_in kinds q)
   off_queue q found = none-some q (sym (ap (λ o. option_map queue_of o) free) ∙ linked.queues.placed key q found)
@@ -146,10 +146,10 @@ module _ (old new : ℕ → Option Held) (begun kinds begun' kinds' : Lists) (ke
       λ q. rising_off old new key (Some h) updates (keys_in kinds q) (off_queue q) (linked.rising q) in
       record {
         named = named_kept old new key (Some h) updates h refl id linked.named;
-        order = IsFiled-push begun begun' (order_place old) (order_place new) key 0 linked.order
-            (λ k d. ap (λ o. option_map (λ (x : Held). 0) o) (updates.others k d))
-            (ap (λ o. option_map (λ (x : Held). 0) o) free) push (ap (λ o. option_map (λ (x : Held). 0) o) updates.changed);
-        queues = IsFiled-push kinds kinds' (queue_place old) (queue_place new) key (queue_of h) linked.queues
+        order = IsFiled-push begun begun' (order_list old) (order_list new) key 0 linked.order
+            (λ k d. ap (λ o. option_map (λ (x : ConntrackEntry). 0) o) (updates.others k d))
+            (ap (λ o. option_map (λ (x : ConntrackEntry). 0) o) free) push (ap (λ o. option_map (λ (x : ConntrackEntry). 0) o) updates.changed);
+        queues = IsFiled-push kinds kinds' (queue_list old) (queue_list new) key (queue_of h) linked.queues
             (λ k d. ap (λ o. option_map queue_of o) (updates.others k d))
             (ap (λ o. option_map queue_of o) free) push' (ap (λ o. option_map queue_of o) updates.changed);
         rising = λ q. elim (cases_eq q (queue_of h)) [
@@ -177,15 +177,15 @@ module _ (old new : ℕ → Option Held) (begun kinds begun' kinds' : Lists) (ke
       front
 
 -- a connection that ends: its key leaves the order and its queue
-module _ (old new : ℕ → Option Held) (begun kinds begun' kinds' : Lists) (id : ConnId) (h : Held) (linked : IsLinked old begun kinds) (is : old id.0 ≡ Some h) (updates : Sets old new id.0 None) (un : Unlinks begun begun' id.0 0) (un' : Unlinks kinds kinds' id.0 (queue_of h)) where
+module _ (old new : ℕ → Option ConntrackEntry) (begun kinds begun' kinds' : Lists) (id : ConnId) (h : ConntrackEntry) (linked : IsLinked old begun kinds) (is : old id.0 ≡ Some h) (updates : Sets old new id.0 None) (un : Unlinks begun begun' id.0 0) (un' : Unlinks kinds kinds' id.0 (queue_of h)) where
   pub linked_ended : IsLinked new begun' kinds'
   linked_ended =
       record {
         named = named_gone old new id.0 None updates refl linked.named;
-        order = IsFiled-unlink begun begun' (order_place old) (order_place new) id.0 0 linked.order
-            (λ k d. ap (λ o. option_map (λ (x : Held). 0) o) (updates.others k d))
-            (ap (λ o. option_map (λ (x : Held). 0) o) is) un (ap (λ o. option_map (λ (x : Held). 0) o) updates.changed);
-        queues = IsFiled-unlink kinds kinds' (queue_place old) (queue_place new) id.0 (queue_of h) linked.queues
+        order = IsFiled-unlink begun begun' (order_list old) (order_list new) id.0 0 linked.order
+            (λ k d. ap (λ o. option_map (λ (x : ConntrackEntry). 0) o) (updates.others k d))
+            (ap (λ o. option_map (λ (x : ConntrackEntry). 0) o) is) un (ap (λ o. option_map (λ (x : ConntrackEntry). 0) o) updates.changed);
+        queues = IsFiled-unlink kinds kinds' (queue_list old) (queue_list new) id.0 (queue_of h) linked.queues
             (λ k d. ap (λ o. option_map queue_of o) (updates.others k d))
             (ap (λ o. option_map queue_of o) is) un' (ap (λ o. option_map queue_of o) updates.changed);
         rising = λ q. rising_off old new id.0 None updates (keys_in kinds' q) (off_left old kinds kinds' id.0 h is linked.queues un' q)

@@ -3,9 +3,9 @@ use Rattle.std.proofs.Common.{◌≡◌, ◌⊎◌, ℕ, List, [], ◌∷◌, Op
 use Rattle.std.specs.List.{find, list_any}
 use Rattle.std.proofs.lemmas.Bool.{or_from, or_left, or_right, and_from, not_from_false, cases_eq, ne_eqb}
 use Rattle.futures.specs.LinkedLists.{IsIn, IsApart}
-use Rattle.conntrack.specs.declared.connection.Held.{Held}
-use Rattle.conntrack.specs.Held.{same_id, has_id, has_distinct_ids}
-use Rattle.aged_tracker.specs.steps.Rings.{held_in, cons_held}
+use Rattle.conntrack.specs.declared.connection.ConntrackEntry.{ConntrackEntry}
+use Rattle.conntrack.specs.ConntrackEntry.{same_id, has_id, has_distinct_ids}
+use Rattle.aged_tracker.specs.steps.SlotLists.{held_in, cons_held}
 use Rattle.aged_tracker.proofs.Tables.{IsNamed}
 
 pub either_bool : (b : Bool) → (b ≡ true) ⊎ (b ≡ false)
@@ -19,21 +19,21 @@ either_or false b h = inr h
 pub not_both : {P : Type 0} (b : Bool) → b ≡ true → b ≡ false → P
 not_both b t f = absurd cc
 
-module _ (f : Held → Bool) (s : ℕ → Option Held) where
-  none_step : (o : Option Held) (rest : List Held) → ((x : Held) → o ≡ Some x → f x ≡ false) → list_any f rest ≡ false → list_any f (cons_held o rest) ≡ false
+module _ (f : ConntrackEntry → Bool) (s : ℕ → Option ConntrackEntry) where
+  none_step : (o : Option ConntrackEntry) (rest : List ConntrackEntry) → ((x : ConntrackEntry) → o ≡ Some x → f x ≡ false) → list_any f rest ≡ false → list_any f (cons_held o rest) ≡ false
   none_step None rest fails none = none
   none_step (Some x) rest fails none = or_from _ _ (fails x refl) none
 
-  pub any_none : (keys : List ℕ) → ((k : ℕ) (x : Held) → IsIn k keys → s k ≡ Some x → f x ≡ false) → list_any f (held_in s keys) ≡ false
+  pub any_none : (keys : List ℕ) → ((k : ℕ) (x : ConntrackEntry) → IsIn k keys → s k ≡ Some x → f x ≡ false) → list_any f (held_in s keys) ≡ false
   any_none [] fails = refl
   any_none (k ∷ keys) fails =
       none_step (s k) (held_in s keys) (λ x is. fails k x (inl refl) is) (any_none keys (λ j x found is. fails j x (inr found) is))
 
-  some_step : (o : Option Held) (rest : List Held) → list_any f rest ≡ true → list_any f (cons_held o rest) ≡ true
+  some_step : (o : Option ConntrackEntry) (rest : List ConntrackEntry) → list_any f rest ≡ true → list_any f (cons_held o rest) ≡ true
   some_step None rest some = some
   some_step (Some x) rest some = or_right _ _ some
 
-  pub any_some : (keys : List ℕ) (k : ℕ) (x : Held) → IsIn k keys → s k ≡ Some x → f x ≡ true → list_any f (held_in s keys) ≡ true
+  pub any_some : (keys : List ℕ) (k : ℕ) (x : ConntrackEntry) → IsIn k keys → s k ≡ Some x → f x ≡ true → list_any f (held_in s keys) ≡ true
   any_some [] k x found is passes = absurd found
   any_some (j ∷ keys) k x found is passes =
       elim found [
@@ -43,18 +43,18 @@ module _ (f : Held → Bool) (s : ℕ → Option Held) where
         | inr there ↦ some_step (s j) (held_in s keys) (any_some keys k x there is passes)
       ]
 
-  find_fails : (o : Option Held) (rest : List Held) → ((x : Held) → o ≡ Some x → f x ≡ false) → find f (cons_held o rest) ≡ find f rest
+  find_fails : (o : Option ConntrackEntry) (rest : List ConntrackEntry) → ((x : ConntrackEntry) → o ≡ Some x → f x ≡ false) → find f (cons_held o rest) ≡ find f rest
   find_fails None rest fails = refl
   find_fails (Some x) rest fails = rw (fails x refl) refl
 
-  pub find_none : (keys : List ℕ) → ((k : ℕ) (x : Held) → s k ≡ Some x → f x ≡ false) → find f (held_in s keys) ≡ None
+  pub find_none : (keys : List ℕ) → ((k : ℕ) (x : ConntrackEntry) → s k ≡ Some x → f x ≡ false) → find f (held_in s keys) ≡ None
   find_none [] fails = refl
   find_none (k ∷ keys) fails = find_fails (s k) (held_in s keys) (λ x is. fails k x is) ∙ find_none keys fails
 
-  find_here : (x : Held) (rest : List Held) → f x ≡ true → find f (x ∷ rest) ≡ Some x
+  find_here : (x : ConntrackEntry) (rest : List ConntrackEntry) → f x ≡ true → find f (x ∷ rest) ≡ Some x
   find_here x rest passes = rw passes refl
 
-  pub find_only : (keys : List ℕ) (key : ℕ) (h : Held) → IsIn key keys → s key ≡ Some h → f h ≡ true → ((k : ℕ) (x : Held) → s k ≡ Some x → f x ≡ true → k ≡ key) → find f (held_in s keys) ≡ Some h
+  pub find_only : (keys : List ℕ) (key : ℕ) (h : ConntrackEntry) → IsIn key keys → s key ≡ Some h → f h ≡ true → ((k : ℕ) (x : ConntrackEntry) → s k ≡ Some x → f x ≡ true → k ≡ key) → find f (held_in s keys) ≡ Some h
   find_only [] key h found is passes only = absurd found
   find_only (k ∷ keys) key h found is passes only =
       elim (cases_eq k key) [
@@ -65,11 +65,11 @@ module _ (f : Held → Bool) (s : ℕ → Option Held) where
       ]
 
 -- slots have distinct names
-distinct_step : (o : Option Held) (rest : List Held) → ((x : Held) → o ≡ Some x → has_id x.id rest ≡ false) → has_distinct_ids rest ≡ true → has_distinct_ids (cons_held o rest) ≡ true
+distinct_step : (o : Option ConntrackEntry) (rest : List ConntrackEntry) → ((x : ConntrackEntry) → o ≡ Some x → has_id x.id rest ≡ false) → has_distinct_ids rest ≡ true → has_distinct_ids (cons_held o rest) ≡ true
 distinct_step None rest apart distinct = distinct
 distinct_step (Some x) rest apart distinct = and_from _ _ (not_from_false _ (apart x refl)) distinct
 
-pub distinct_held : (s : ℕ → Option Held) (keys : List ℕ) → IsNamed s → IsApart keys → has_distinct_ids (held_in s keys) ≡ true
+pub distinct_held : (s : ℕ → Option ConntrackEntry) (keys : List ℕ) → IsNamed s → IsApart keys → has_distinct_ids (held_in s keys) ≡ true
 distinct_held s [] named apart = refl
 distinct_held s (k ∷ keys) named apart =
     distinct_step (s k) (held_in s keys)

@@ -9,15 +9,15 @@ use Rattle.futures.specs.LinkedLists.{IsIn}
 use Rattle.conntrack.specs.declared.connection.ConnId.{ConnId}
 use Rattle.conntrack.specs.declared.connection.Direction.{Direction}
 use Rattle.conntrack.specs.declared.connection.Flags.{Flags}
-use Rattle.conntrack.specs.declared.connection.Held.{Held}
-use Rattle.conntrack.specs.Held.{IsNoneLater, touched, touched_at, without}
+use Rattle.conntrack.specs.declared.connection.ConntrackEntry.{ConntrackEntry}
+use Rattle.conntrack.specs.ConntrackEntry.{IsNoneLater, touched, touched_at, without}
 use Rattle.aged_tracker.specs.declared.aged_slots.AgedSlots.{AgedSlots}
-use Rattle.aged_tracker.specs.declared.slot.Knot.{Knot}
+use Rattle.aged_tracker.specs.declared.slot.ListLinks.{ListLinks}
 use Rattle.aged_tracker.specs.declared.slot.Link.{Link}
 use Rattle.aged_tracker.specs.declared.slot.Slot.{Slot}
-use Rattle.aged_tracker.specs.declared.slot.Thread.{Thread}
-use Rattle.aged_tracker.specs.declared.slot.Thread.TheVariants.{Queues, Order}
-use Rattle.aged_tracker.specs.steps.Rings.{MOST_KEYS, IsAsLinked, noted, knot_of, held_of, held_at, held_in, link_by, owner_by, owner_of, lists_of, IsRings, Lists, Unlinks, Pushes, SameAside, SameLists}
+use Rattle.aged_tracker.specs.declared.slot.SlotList.{SlotList}
+use Rattle.aged_tracker.specs.declared.slot.SlotList.TheVariants.{Queues, Order}
+use Rattle.aged_tracker.specs.steps.SlotLists.{MAX_KEYS, IsAsLinked, updated, links_of, held_of, held_at, held_in, link_by, owner_by, owner_of, lists_of, IsRings, Lists, Unlinks, Pushes, SameExceptLinks, SameLists}
 use Rattle.aged_tracker.specs.steps.Table.{queue_of, keys_in, owner_in, slots_of, order_of, queues_of, held_by, IsTable, IsLinked, IsOldest, Sets}
 use Rattle.aged_tracker.proofs.Kept.{same_rings, same_lists, held_aside, rings_aside, lists_aside, rings_off, lists_off}
 use Rattle.aged_tracker.proofs.Tables.{held_touched}
@@ -35,7 +35,7 @@ sets_of old new key slot updates =
       others = λ k d. ap (option_map (held_of k)) (updates.others k d);
     }
 
-pub sets_through : (a b c d : ℕ → Option Held) (key : ℕ) (slot : Option Held) → ((k : ℕ) → b k ≡ a k) → Sets b c key slot → ((k : ℕ) → d k ≡ c k) → Sets a d key slot
+pub sets_through : (a b c d : ℕ → Option ConntrackEntry) (key : ℕ) (slot : Option ConntrackEntry) → ((k : ℕ) → b k ≡ a k) → Sets b c key slot → ((k : ℕ) → d k ≡ c k) → Sets a d key slot
 sets_through a b c d key slot before sets after =
     record {
       changed = after key ∙ sets.changed;
@@ -43,7 +43,7 @@ sets_through a b c d key slot before sets after =
     }
 
 -- a slot's key is below a bound that all keys in use were below
-pub few_kept : (most : ℕ) (old new : ℕ → Option Held) (key : ℕ) (slot : Option Held) → Sets old new key slot → key < most → ((k : ℕ) → IsSome (old k) → k < most) → (k : ℕ) → IsSome (new k) → k < most
+pub few_kept : (most : ℕ) (old new : ℕ → Option ConntrackEntry) (key : ℕ) (slot : Option ConntrackEntry) → Sets old new key slot → key < most → ((k : ℕ) → IsSome (old k) → k < most) → (k : ℕ) → IsSome (new k) → k < most
 few_kept most old new key slot sets below few k is =
     elim (cases_eq k key) [
       | inl e ↦ omega (arith, e, below)
@@ -66,51 +66,51 @@ grown_table t slots capacity table same =
 
 -- ---- a write of what is held
 
-noted_linked : (h : Held) (slot : Slot) → IsAsLinked slot (noted h slot)
-noted_linked h slot Queues = refl
-noted_linked h slot Order = refl
+updated_linked : (h : ConntrackEntry) (slot : Slot) → IsAsLinked slot (updated h slot)
+updated_linked h slot Queues = refl
+updated_linked h slot Order = refl
 
-module _ (thread : Thread) (old new : Slab Slot) (key : ℕ) (slot after : Slot) (linked : IsAsLinked slot after) (is : get old key ≡ Some slot) (updates : Updates old new key (Some after)) where
-  links_held : (k : ℕ) → link_by thread (get new k) ≡ link_by thread (get old k)
+module _ (slot_list : SlotList) (old new : Slab Slot) (key : ℕ) (slot after : Slot) (linked : IsAsLinked slot after) (is : get old key ≡ Some slot) (updates : Updates old new key (Some after)) where
+  links_held : (k : ℕ) → link_by slot_list (get new k) ≡ link_by slot_list (get old k)
   links_held k =
       elim (cases_eq k key) [
         | inl e ↦
-            ap (λ j. link_by thread (get new j)) e ∙ ap (link_by thread) updates.changed ∙ ap (λ (x : Knot). x.link) (linked thread)
-            ∙ sym (ap (λ j. link_by thread (get old j)) e ∙ ap (link_by thread) is)
-        | inr d ↦ ap (link_by thread) (updates.others k d)
+            ap (λ j. link_by slot_list (get new j)) e ∙ ap (link_by slot_list) updates.changed ∙ ap (λ (x : ListLinks). x.link) (linked slot_list)
+            ∙ sym (ap (λ j. link_by slot_list (get old j)) e ∙ ap (link_by slot_list) is)
+        | inr d ↦ ap (link_by slot_list) (updates.others k d)
       ]
 
-  owners_held : (k : ℕ) → owner_of thread new k ≡ owner_of thread old k
+  owners_held : (k : ℕ) → owner_of slot_list new k ≡ owner_of slot_list old k
   owners_held k =
       elim (cases_eq k key) [
         | inl e ↦
-            ap (owner_of thread new) e ∙ ap (owner_by thread) updates.changed ∙ ap (λ (x : Knot). x.list) (linked thread)
-            ∙ sym (ap (owner_of thread old) e ∙ ap (owner_by thread) is)
-        | inr d ↦ ap (owner_by thread) (updates.others k d)
+            ap (owner_of slot_list new) e ∙ ap (owner_by slot_list) updates.changed ∙ ap (λ (x : ListLinks). x.list) (linked slot_list)
+            ∙ sym (ap (owner_of slot_list old) e ∙ ap (owner_by slot_list) is)
+        | inr d ↦ ap (owner_by slot_list) (updates.others k d)
       ]
 
-  pub rings_held : (heads : List Link) → IsRings thread old heads → IsRings thread new heads
-  rings_held heads = same_rings thread old new heads links_held owners_held
+  pub rings_held : (heads : List Link) → IsRings slot_list old heads → IsRings slot_list new heads
+  rings_held heads = same_rings slot_list old new heads links_held owners_held
 
-  pub lists_held : (heads : List Link) → IsRings thread old heads → SameLists (lists_of thread old heads) (lists_of thread new heads)
-  lists_held heads = same_lists thread old new heads links_held owners_held
+  pub lists_held : (heads : List Link) → IsRings slot_list old heads → SameLists (lists_of slot_list old heads) (lists_of slot_list new heads)
+  lists_held heads = same_lists slot_list old new heads links_held owners_held
 
 -- ---- one more packet
 
 module _ (t : AgedSlots) (s1 s2 s3 : Slab Slot) (q1 q3 : List Link) (id : ConnId) (direction : Direction) (flags : Flags) (mark now list list' : ℕ) (table : IsTable t) (some : IsSome (slots_of t id.0))
-    (rings1 : IsRings Queues s1 q1) (un : Unlinks (queues_of t) (lists_of Queues s1 q1) id.0 list) (owner : owner_of Queues t.slots id.0 ≡ Some list) (aside1 : SameAside Queues t.slots s1)
-    (wrote : IfSome (get s1 id.0) (λ s. Updates s1 s2 id.0 (Some (noted (touched direction flags mark now (held_of id.0 s)) s)))) (queue : IfSome (get s1 id.0) (λ s. list' ≡ queue_of (touched direction flags mark now (held_of id.0 s)))) where
+    (rings1 : IsRings Queues s1 q1) (un : Unlinks (queues_of t) (lists_of Queues s1 q1) id.0 list) (owner : owner_of Queues t.slots id.0 ≡ Some list) (aside1 : SameExceptLinks Queues t.slots s1)
+    (wrote : IfSome (get s1 id.0) (λ s. Updates s1 s2 id.0 (Some (updated (touched direction flags mark now (held_of id.0 s)) s)))) (queue : IfSome (get s1 id.0) (λ s. list' ≡ queue_of (touched direction flags mark now (held_of id.0 s)))) where
   abbrev pub slot1 : (s : Slot) × (get s1 id.0 ≡ Some s)
   slot1 = some_of (get s1 id.0) (slot_by s1 id.0 (subst IsSome (sym (held_aside Queues t.slots s1 aside1 id.0)) some))
 
-  abbrev pub h : Held
+  abbrev pub h : ConntrackEntry
   h = held_of id.0 slot1.0
 
-  abbrev pub h' : Held
+  abbrev pub h' : ConntrackEntry
   h' = touched direction flags mark now h
 
   abbrev pub slot2 : Slot
-  slot2 = noted h' slot1.0
+  slot2 = updated h' slot1.0
 
   updates : Updates s1 s2 id.0 (Some slot2)
   updates = rw slot1.1 at wrote
@@ -119,12 +119,12 @@ module _ (t : AgedSlots) (s1 s2 s3 : Slab Slot) (q1 q3 : List Link) (id : ConnId
   is_h = sym (held_aside Queues t.slots s1 aside1 id.0) ∙ ap (option_map (held_of id.0)) slot1.1
 
   pub touch_free : owner_of Queues s2 id.0 ≡ None
-  touch_free = owners_held Queues s1 s2 id.0 slot1.0 slot2 (noted_linked h' slot1.0) slot1.1 updates id.0 ∙ un.moved
+  touch_free = owners_held Queues s1 s2 id.0 slot1.0 slot2 (updated_linked h' slot1.0) slot1.1 updates id.0 ∙ un.moved
 
   pub touch_rings : IsRings Queues s2 q1
-  touch_rings = rings_held Queues s1 s2 id.0 slot1.0 slot2 (noted_linked h' slot1.0) slot1.1 updates q1 rings1
+  touch_rings = rings_held Queues s1 s2 id.0 slot1.0 slot2 (updated_linked h' slot1.0) slot1.1 updates q1 rings1
 
-  module _ (push : Pushes (lists_of Queues s2 q1) (lists_of Queues s3 q3) id.0 list') (aside3 : SameAside Queues s2 s3) where
+  module _ (push : Pushes (lists_of Queues s2 q1) (lists_of Queues s3 q3) id.0 list') (aside3 : SameExceptLinks Queues s2 s3) where
     sets : Sets (slots_of t) (held_at s3) id.0 (Some h')
     sets =
         sets_through (slots_of t) (held_at s1) (held_at s2) (held_at s3) id.0 (Some h') (held_aside Queues t.slots s1 aside1)
@@ -134,7 +134,7 @@ module _ (t : AgedSlots) (s1 s2 s3 : Slab Slot) (q1 q3 : List Link) (id : ConnId
     order1 = rings_aside Queues t.slots s1 aside1 t.order table.order_rings
 
     order2 : IsRings Order s2 t.order
-    order2 = rings_held Order s1 s2 id.0 slot1.0 slot2 (noted_linked h' slot1.0) slot1.1 updates t.order order1
+    order2 = rings_held Order s1 s2 id.0 slot1.0 slot2 (updated_linked h' slot1.0) slot1.1 updates t.order order1
 
     order3 : IsRings Order s3 t.order
     order3 = rings_aside Queues s2 s3 aside3 t.order order2
@@ -142,7 +142,7 @@ module _ (t : AgedSlots) (s1 s2 s3 : Slab Slot) (q1 q3 : List Link) (id : ConnId
     one_order : lists_of Order s3 t.order ≡ order_of t
     one_order =
         one_lists (lists_of Order s2 t.order) (lists_of Order s3 t.order) (lists_aside Queues s2 s3 aside3 t.order order2)
-        ∙ one_lists (lists_of Order s1 t.order) (lists_of Order s2 t.order) (lists_held Order s1 s2 id.0 slot1.0 slot2 (noted_linked h' slot1.0) slot1.1 updates t.order order1)
+        ∙ one_lists (lists_of Order s1 t.order) (lists_of Order s2 t.order) (lists_held Order s1 s2 id.0 slot1.0 slot2 (updated_linked h' slot1.0) slot1.1 updates t.order order1)
         ∙ one_lists (order_of t) (lists_of Order s1 t.order) (lists_aside Queues t.slots s1 aside1 t.order table.order_rings)
 
     to : list' ≡ queue_of h'
@@ -160,7 +160,7 @@ module _ (t : AgedSlots) (s1 s2 s3 : Slab Slot) (q1 q3 : List Link) (id : ConnId
     push' : Pushes left kinds' id.0 (queue_of h')
     push' =
         subst (Pushes left kinds' id.0) to
-        (subst (λ l. Pushes l kinds' id.0 list') (one_lists left (lists_of Queues s2 q1) (lists_held Queues s1 s2 id.0 slot1.0 slot2 (noted_linked h' slot1.0) slot1.1 updates q1 rings1)) push)
+        (subst (λ l. Pushes l kinds' id.0 list') (one_lists left (lists_of Queues s2 q1) (lists_held Queues s1 s2 id.0 slot1.0 slot2 (updated_linked h' slot1.0) slot1.1 updates q1 rings1)) push)
 
     un' : Unlinks (queues_of t) left id.0 (queue_of h)
     un' = subst (Unlinks (queues_of t) left id.0) from un
@@ -204,14 +204,14 @@ module _ (t : AgedSlots) (s1 s2 s3 : Slab Slot) (q1 q3 : List Link) (id : ConnId
             queue_rings = rings3;
             linked = subst (λ o. IsLinked (held_at s3) o kinds') (sym one_order) linked;
             oldest = oldest;
-            few = few_kept MOST_KEYS (slots_of t) (held_at s3) id.0 (Some h') sets (table.few id.0 some) table.few;
+            few = few_kept MAX_KEYS (slots_of t) (held_at s3) id.0 (Some h') sets (table.few id.0 some) table.few;
           }
 
 -- ---- a connection that begins
 
-module _ (t : AgedSlots) (s1 : Slab Slot) (key : ℕ) (slot : Slot) (table : IsTable t) (free : get t.slots key ≡ None) (updates : Updates t.slots s1 key (Some slot)) (no_queue : (knot_of Queues slot).list ≡ None) (no_order : (knot_of Order slot).list ≡ None) where
-  free_in : (thread : Thread) → owner_of thread t.slots key ≡ None
-  free_in thread = ap (owner_by thread) free
+module _ (t : AgedSlots) (s1 : Slab Slot) (key : ℕ) (slot : Slot) (table : IsTable t) (free : get t.slots key ≡ None) (updates : Updates t.slots s1 key (Some slot)) (no_queue : (links_of Queues slot).list ≡ None) (no_order : (links_of Order slot).list ≡ None) where
+  free_in : (slot_list : SlotList) → owner_of slot_list t.slots key ≡ None
+  free_in slot_list = ap (owner_by slot_list) free
 
   free_order : owner_of Order s1 key ≡ None
   free_order = ap (owner_by Order) updates.changed ∙ no_order
@@ -225,11 +225,11 @@ module _ (t : AgedSlots) (s1 : Slab Slot) (key : ℕ) (slot : Slot) (table : IsT
   fill_queues : IsRings Queues s1 t.queues
   fill_queues = rings_off Queues t.slots s1 key (Some slot) updates (free_in Queues) free_queue t.queues table.queue_rings
 
-  module _ (s2 : Slab Slot) (o2 : List Link) (aside2 : SameAside Order s1 s2) where
+  module _ (s2 : Slab Slot) (o2 : List Link) (aside2 : SameExceptLinks Order s1 s2) where
     pub begun_rings : IsRings Queues s2 t.queues
     begun_rings = rings_aside Order s1 s2 aside2 t.queues fill_queues
 
-    module _ (s3 : Slab Slot) (q3 : List Link) (list moment now : ℕ) (rings2 : IsRings Order s2 o2) (push : Pushes (lists_of Order s1 t.order) (lists_of Order s2 o2) key 0) (aside3 : SameAside Queues s2 s3) (rings3 : IsRings Queues s3 q3)
+    module _ (s3 : Slab Slot) (q3 : List Link) (list moment now : ℕ) (rings2 : IsRings Order s2 o2) (push : Pushes (lists_of Order s1 t.order) (lists_of Order s2 o2) key 0) (aside3 : SameExceptLinks Queues s2 s3) (rings3 : IsRings Queues s3 q3)
         (push' : Pushes (lists_of Queues s2 t.queues) (lists_of Queues s3 q3) key list) (to : list ≡ queue_of (held_of key slot)) where
       pub begun_sets : Sets (slots_of t) (held_at s3) key (Some (held_of key slot))
       begun_sets =
@@ -261,7 +261,7 @@ module _ (t : AgedSlots) (s1 : Slab Slot) (key : ℕ) (slot : Slot) (table : IsT
       pub begun_held : held_in (held_at s3) (keys_in order' 0) ≡ held_by t ++ held_of key slot ∷ []
       begun_held = held_begun (slots_of t) (held_at s3) (order_of t) (queues_of t) order' kinds3 key (held_of key slot) table.linked vacant begun_sets pushed_order pushed_queue
 
-      pub begun_table : IsNoneLater now (held_by t) → slot.last ≡ now → IsOldest (held_at s3) kinds3 list moment → length t.oldest ≡ 5 → list < 5 → key < MOST_KEYS → IsTable (record { slots = s3; order = o2; queues = q3; oldest = set t.oldest list moment })
+      pub begun_table : IsNoneLater now (held_by t) → slot.last ≡ now → IsOldest (held_at s3) kinds3 list moment → length t.oldest ≡ 5 → list < 5 → key < MAX_KEYS → IsTable (record { slots = s3; order = o2; queues = q3; oldest = set t.oldest list moment })
       begun_table none last front long range below =
           record {
             order_rings = rings_aside Queues s2 s3 aside3 o2 rings2;
@@ -270,16 +270,16 @@ module _ (t : AgedSlots) (s1 : Slab Slot) (key : ℕ) (slot : Slot) (table : IsT
                 (λ k. omega (arith, last, last_least (slots_of t) (order_of t) (queues_of t) now table.linked none k));
             oldest = subst (λ l. (q : ℕ) → q < 5 → IsOldest (held_at s3) kinds3 q (get_or (set t.oldest l moment) q 0)) (sym to)
                 (oldest_begun (slots_of t) (held_at s3) (order_of t) (queues_of t) order' kinds3 key (held_of key slot) table.linked vacant begun_sets pushed_order pushed_queue t.oldest moment long (omega (arith, to, range)) table.oldest (subst (λ l. IsOldest (held_at s3) kinds3 l moment) to front));
-            few = few_kept MOST_KEYS (slots_of t) (held_at s3) key (Some (held_of key slot)) begun_sets below table.few;
+            few = few_kept MAX_KEYS (slots_of t) (held_at s3) key (Some (held_of key slot)) begun_sets below table.few;
           }
 
 -- ---- a connection that ends
 
-module _ (t : AgedSlots) (s1 : Slab Slot) (q1 : List Link) (id : ConnId) (list : ℕ) (table : IsTable t) (rings1 : IsRings Queues s1 q1) (un : Unlinks (queues_of t) (lists_of Queues s1 q1) id.0 list) (owner : owner_of Queues t.slots id.0 ≡ Some list) (aside1 : SameAside Queues t.slots s1) where
+module _ (t : AgedSlots) (s1 : Slab Slot) (q1 : List Link) (id : ConnId) (list : ℕ) (table : IsTable t) (rings1 : IsRings Queues s1 q1) (un : Unlinks (queues_of t) (lists_of Queues s1 q1) id.0 list) (owner : owner_of Queues t.slots id.0 ≡ Some list) (aside1 : SameExceptLinks Queues t.slots s1) where
   pub left_rings : IsRings Order s1 t.order
   left_rings = rings_aside Queues t.slots s1 aside1 t.order table.order_rings
 
-  module _ (s2 : Slab Slot) (o2 : List Link) (first : ℕ) (rings2 : IsRings Order s2 o2) (un2 : Unlinks (lists_of Order s1 t.order) (lists_of Order s2 o2) id.0 first) (owner2 : owner_of Order s1 id.0 ≡ Some first) (aside2 : SameAside Order s1 s2) where
+  module _ (s2 : Slab Slot) (o2 : List Link) (first : ℕ) (rings2 : IsRings Order s2 o2) (un2 : Unlinks (lists_of Order s1 t.order) (lists_of Order s2 o2) id.0 first) (owner2 : owner_of Order s1 id.0 ≡ Some first) (aside2 : SameExceptLinks Order s1 s2) where
     free2 : owner_of Queues s2 id.0 ≡ None
     free2 = (lists_aside Order s1 s2 aside2 q1 rings1).list_of id.0 ∙ un.moved
 
@@ -314,7 +314,7 @@ module _ (t : AgedSlots) (s1 : Slab Slot) (q1 : List Link) (id : ConnId) (list :
       from0 : first ≡ 0
       from0 =
           same_Some first 0
-          (sym owner2 ∙ sym (ap (λ (l : Lists). owner_in l id.0) same_order) ∙ table.linked.order.owner id.0 ∙ ap (λ o. option_map (λ (x : Held). 0) o) ended_value)
+          (sym owner2 ∙ sym (ap (λ (l : Lists). owner_in l id.0) same_order) ∙ table.linked.order.owner id.0 ∙ ap (λ o. option_map (λ (x : ConntrackEntry). 0) o) ended_value)
 
       left_order : Unlinks (order_of t) order4 id.0 0
       left_order =
@@ -343,5 +343,5 @@ module _ (t : AgedSlots) (s1 : Slab Slot) (q1 : List Link) (id : ConnId) (list :
             linked = linked_ended (slots_of t) (held_at s3) (order_of t) (queues_of t) order4 kinds4 id (held_of id.0 slot) table.linked ended_value ended_sets left_order left_queue;
             oldest = subst (λ l. (q : ℕ) → q < 5 → IsOldest (held_at s3) kinds4 q (get_or (set t.oldest l moment) q 0)) (sym from4)
                 (oldest_ended (slots_of t) (held_at s3) (order_of t) (queues_of t) order4 kinds4 id (held_of id.0 slot) table.linked ended_value ended_sets left_order left_queue t.oldest moment long (omega (arith, from4, range)) table.oldest (subst (λ l. IsOldest (held_at s3) kinds4 l moment) from4 front));
-            few = few_kept MOST_KEYS (slots_of t) (held_at s3) id.0 None ended_sets (table.few id.0 (subst IsSome (sym ended_value) refl)) table.few;
+            few = few_kept MAX_KEYS (slots_of t) (held_at s3) id.0 None ended_sets (table.few id.0 (subst IsSome (sym ended_value) refl)) table.few;
           }

@@ -10,16 +10,16 @@ use Rattle.futures.specs.Links as ring
 use Rattle.futures.proofs.LinkLemmas.{length-without, IsIn-without}
 use Rattle.aged_tracker.specs.declared.slot.Link.{Link}
 use Rattle.aged_tracker.specs.declared.slot.Slot.{Slot}
-use Rattle.aged_tracker.specs.steps.Rings.{next_of, prev_of, IsRing, key_at, walk, keys_of, held_at, held_in}
-use Rattle.conntrack.specs.declared.connection.Held.{Held}
+use Rattle.aged_tracker.specs.steps.SlotLists.{next_of, prev_of, IsRing, key_at, walk, keys_of, held_at, held_in}
+use Rattle.conntrack.specs.declared.connection.ConntrackEntry.{ConntrackEntry}
 use Rattle.conntrack.specs.declared.connection.Connection.{Connection}
-use Rattle.conntrack.specs.Held.{connection_of}
+use Rattle.conntrack.specs.ConntrackEntry.{connection_of}
 use Rattle.aged_tracker.proofs.Keys.{IsApart-without}
 use Rattle.aged_tracker.proofs.HeldLists.{held_push, length-held}
 use Rattle.aged_tracker.proofs.Links.{owned_some}
-use Rattle.aged_tracker.specs.declared.slot.Thread.{Thread}
+use Rattle.aged_tracker.specs.declared.slot.SlotList.{SlotList}
 
-module _ (thread : Thread) where
+module _ (slot_list : SlotList) where
   key_at-head : (p : ℕ) → p < 5 → key_at p ≡ None
   key_at-head p below = ap (λ b. cond b None (Some (p - 5))) (lt-ltb p 5 below)
 
@@ -76,43 +76,43 @@ module _ (thread : Thread) where
       ]
 
   -- the keys of a ring are what the walk finds
-  pub ring_keys : (slots : Slab Slot) (heads : List Link) (list : ℕ) (keys : List ℕ) → list < 5 → (IsRing thread) slots heads list keys → (keys_of thread) slots heads list ≡ keys
+  pub ring_keys : (slots : Slab Slot) (heads : List Link) (list : ℕ) (keys : List ℕ) → list < 5 → (IsRing slot_list) slots heads list keys → (keys_of slot_list) slots heads list ≡ keys
   ring_keys slots heads list keys range is =
-      chain_walk ((next_of thread) slots heads) ((prev_of thread) slots heads) (length slots.slots) list list keys range is.chained
-      (keys_within (length slots.slots) keys is.apart (λ k found. ContainsKey-within slots k ((owned_some thread) (get slots k) list (is.owned k found))))
+      chain_walk ((next_of slot_list) slots heads) ((prev_of slot_list) slots heads) (length slots.slots) list list keys range is.chained
+      (keys_within (length slots.slots) keys is.apart (λ k found. ContainsKey-within slots k ((owned_some slot_list) (get slots k) list (is.owned k found))))
 
   -- some keys are those of the ring
   abbrev pub SomeRing : Slab Slot → List Link → ℕ → Type 0
-  SomeRing slots heads list = (keys : List ℕ) × (IsRing thread) slots heads list keys
+  SomeRing slots heads list = (keys : List ℕ) × (IsRing slot_list) slots heads list keys
 
   -- a list has been read as far as a place
   pub record ReadTo (slots : Slab Slot) (heads : List Link) (list : ℕ) (to : Option ℕ) (all : List Connection) : Type 0 where
     pub before : List ℕ
     pub rest : List ℕ
-    pub split : (keys_of thread) slots heads list ≡ before ++ rest
+    pub split : (keys_of slot_list) slots heads list ≡ before ++ rest
     pub next : to ≡ slice_get rest 0
     pub read : all ≡ map connection_of (held_in (held_at slots) before)
 
   module _ (slots : Slab Slot) (heads : List Link) (list : ℕ) (range : list < 5) (some : SomeRing slots heads list) where
-    pub whole_ring : (IsRing thread) slots heads list ((keys_of thread) slots heads list)
-    whole_ring = subst ((IsRing thread) slots heads list) (sym (ring_keys slots heads list some.0 range some.1)) some.1
+    pub whole_ring : (IsRing slot_list) slots heads list ((keys_of slot_list) slots heads list)
+    whole_ring = subst ((IsRing slot_list) slots heads list) (sym (ring_keys slots heads list some.0 range some.1)) some.1
 
-    pub few_keys : length ((keys_of thread) slots heads list) ≤ length slots.slots
-    few_keys = keys_within (length slots.slots) _ whole_ring.apart (λ k found. ContainsKey-within slots k ((owned_some thread) (get slots k) list (whole_ring.owned k found)))
+    pub few_keys : length ((keys_of slot_list) slots heads list) ≤ length slots.slots
+    few_keys = keys_within (length slots.slots) _ whole_ring.apart (λ k found. ContainsKey-within slots k ((owned_some slot_list) (get slots k) list (whole_ring.owned k found)))
 
-    pub read_none : (to : Option ℕ) → to ≡ slice_get ((keys_of thread) slots heads list) 0 → ReadTo slots heads list to []
-    read_none to is = record { before = []; rest = (keys_of thread) slots heads list; split = refl; next = is; read = refl }
+    pub read_none : (to : Option ℕ) → to ≡ slice_get ((keys_of slot_list) slots heads list) 0 → ReadTo slots heads list to []
+    read_none to is = record { before = []; rest = (keys_of slot_list) slots heads list; split = refl; next = is; read = refl }
 
-    pub record Stands (key : ℕ) (all : List Connection) : Type 0 where
+    pub record OccursIn (key : ℕ) (all : List Connection) : Type 0 where
       pub before : List ℕ
       pub rest : List ℕ
-      pub split : (keys_of thread) slots heads list ≡ before ++ key ∷ rest
+      pub split : (keys_of slot_list) slots heads list ≡ before ++ key ∷ rest
       pub read : all ≡ map connection_of (held_in (held_at slots) before)
 
-    pub stands : (key : ℕ) (all : List Connection) → ReadTo slots heads list (Some key) all → Stands key all
-    stands key all r = by_rest r.rest r.split r.next
+    pub occurs_in : (key : ℕ) (all : List Connection) → ReadTo slots heads list (Some key) all → OccursIn key all
+    occurs_in key all r = by_rest r.rest r.split r.next
       where
-        by_rest : (rest : List ℕ) → (keys_of thread) slots heads list ≡ r.before ++ rest → Some key ≡ slice_get rest 0 → Stands key all
+        by_rest : (rest : List ℕ) → (keys_of slot_list) slots heads list ≡ r.before ++ rest → Some key ≡ slice_get rest 0 → OccursIn key all
         by_rest [] split next = absurd (none-some key (sym next))
         by_rest (first ∷ rest) split next =
             let e : first ≡ key = sym (same_Some key first next) in
@@ -122,17 +122,17 @@ module _ (thread : Thread) where
     in_middle [] key rest = inl refl
     in_middle (first ∷ before) key rest = inr (in_middle before key rest)
 
-    module _ (key : ℕ) (all : List Connection) (s : Stands key all) where
-      pub stands_slot : IsSome (get slots key)
-      stands_slot = (owned_some thread) (get slots key) list (whole_ring.owned key (subst (IsIn key) (sym s.split) (in_middle s.before key s.rest)))
+    module _ (key : ℕ) (all : List Connection) (s : OccursIn key all) where
+      pub occurs_slot : IsSome (get slots key)
+      occurs_slot = (owned_some slot_list) (get slots key) list (whole_ring.owned key (subst (IsIn key) (sym s.split) (in_middle s.before key s.rest)))
 
-      pub stands_ring : (IsRing thread) slots heads list (s.before ++ key ∷ s.rest)
-      stands_ring = subst ((IsRing thread) slots heads list) s.split whole_ring
+      pub occurs_ring : (IsRing slot_list) slots heads list (s.before ++ key ∷ s.rest)
+      occurs_ring = subst ((IsRing slot_list) slots heads list) s.split whole_ring
 
-      pub stands_less : length all < length slots.slots
-      stands_less = omega (arith, few_keys, ap length s.split, length-append s.before (key ∷ s.rest), ap length s.read, length-map (held_in (held_at slots) s.before) connection_of, length-held (held_at slots) s.before)
+      pub occurs_less : length all < length slots.slots
+      occurs_less = omega (arith, few_keys, ap length s.split, length-append s.before (key ∷ s.rest), ap length s.read, length-map (held_in (held_at slots) s.before) connection_of, length-held (held_at slots) s.before)
 
-      pub read_more : (to : Option ℕ) (h : Held) → held_at slots key ≡ Some h → to ≡ slice_get s.rest 0 → ReadTo slots heads list to (all ++ connection_of h ∷ [])
+      pub read_more : (to : Option ℕ) (h : ConntrackEntry) → held_at slots key ≡ Some h → to ≡ slice_get s.rest 0 → ReadTo slots heads list to (all ++ connection_of h ∷ [])
       read_more to h is next =
           record {
             before = s.before ++ key ∷ [];
@@ -142,9 +142,9 @@ module _ (thread : Thread) where
             read = ap (λ ys. ys ++ connection_of h ∷ []) s.read ∙ sym (ap (map connection_of) (held_push (held_at slots) s.before key h is) ∙ map-append connection_of (held_in (held_at slots) s.before) (h ∷ []));
           }
 
-    pub read_all : (all : List Connection) → ReadTo slots heads list None all → all ≡ map connection_of (held_in (held_at slots) ((keys_of thread) slots heads list))
+    pub read_all : (all : List Connection) → ReadTo slots heads list None all → all ≡ map connection_of (held_in (held_at slots) ((keys_of slot_list) slots heads list))
     read_all all r = by_rest r.rest r.split r.next
       where
-        by_rest : (rest : List ℕ) → (keys_of thread) slots heads list ≡ r.before ++ rest → None ≡ slice_get rest 0 → all ≡ map connection_of (held_in (held_at slots) ((keys_of thread) slots heads list))
+        by_rest : (rest : List ℕ) → (keys_of slot_list) slots heads list ≡ r.before ++ rest → None ≡ slice_get rest 0 → all ≡ map connection_of (held_in (held_at slots) ((keys_of slot_list) slots heads list))
         by_rest [] split next = r.read ∙ ap (λ ks. map connection_of (held_in (held_at slots) ks)) (sym (split ∙ append-nil r.before))
         by_rest (first ∷ rest) split next = absurd (none-some first next)

@@ -5,16 +5,16 @@ use Rattle.std.specs.Prelude.{IfSome, option_map}
 use Rattle.std.proofs.lemmas.Bool.{eqb-true, false_from_ne_true}
 use Rattle.std.proofs.lemmas.Option.{none-some}
 use Rattle.futures.specs.LinkedLists.{IsIn}
-use Rattle.conntrack.specs.declared.connection.Held.{Held}
+use Rattle.conntrack.specs.declared.connection.ConntrackEntry.{ConntrackEntry}
 use Rattle.ip_headers.specs.declared.tuple.Tuple.{Tuple}
 use Rattle.conntrack.specs.declared.connection.ConnId.{ConnId}
 use Rattle.conntrack.specs.declared.connection.Direction.{Direction}
 use Rattle.conntrack.specs.declared.connection.Flags.{Flags}
 use Rattle.ip_headers.specs.Same.{same_tuple}
-use Rattle.conntrack.specs.Held.{aged_of, same_id, taken_out, has_id, touched, touched_at, without, is_taken, has_distinct_ids, are_apart}
+use Rattle.conntrack.specs.ConntrackEntry.{aged_of, same_id, removed_entry, has_id, touched, touched_at, without, is_taken, has_distinct_ids, have_disjoint_tuples}
 use Rattle.aged_tracker.specs.declared.aged_slots.AgedSlots.{AgedSlots}
 use Rattle.aged_tracker.specs.steps.Table.{IsTable, Sets, held_by, keys_in, order_of, slots_of}
-use Rattle.aged_tracker.specs.steps.Keyed.{IsKeyed, IsAged}
+use Rattle.aged_tracker.specs.steps.Keyed.{IsKeyed, IsConsistent}
 use Rattle.aged_tracker.proofs.Tables.{has_id-slot, same_id-named}
 use Rattle.aged_tracker.proofs.Linked.{some_of}
 use Rattle.aged_tracker.proofs.Members.{distinct_held, find_only}
@@ -22,8 +22,8 @@ use Rattle.aged_tracker.proofs.Keyed.{keyed_begun, keyed_ended, keyed_touched, a
 use Rattle.aged_tracker.proofs.Found.{length-without_one, has_id-held}
 
 module _ (t : AgedSlots) (table : IsTable t) where
-  pub slot_listed : (k : ℕ) (h : Held) → (slots_of t) k ≡ Some h → IsIn k (keys_in (order_of t) 0)
-  slot_listed k h is = table.linked.order.listed k 0 (ap (λ o. option_map (λ (x : Held). 0) o) is)
+  pub slot_listed : (k : ℕ) (h : ConntrackEntry) → (slots_of t) k ≡ Some h → IsIn k (keys_in (order_of t) 0)
+  slot_listed k h is = table.linked.order.listed k 0 (ap (λ o. option_map (λ (x : ConntrackEntry). 0) o) is)
 
   pub slot_of : (id : ConnId) → has_id id (held_by t) ≡ true → IsSome ((slots_of t) id.0)
   slot_of id has = (has_id-slot (slots_of t) id (keys_in (order_of t) 0) table.linked.named has).1
@@ -34,22 +34,22 @@ module _ (t : AgedSlots) (table : IsTable t) where
   pub fresh_id : (id : ConnId) → (slots_of t) id.0 ≡ None → has_id id (held_by t) ≡ false
   fresh_id id free = false_from_ne_true _ (λ has. let slot = some_of _ (slot_of id has) in none-some slot.0 (sym free ∙ slot.1))
 
-  pub has_by : (id : ConnId) (h : Held) → (slots_of t) id.0 ≡ Some h → has_id id (held_by t) ≡ true
+  pub has_by : (id : ConnId) (h : ConntrackEntry) → (slots_of t) id.0 ≡ Some h → has_id id (held_by t) ≡ true
   has_by id h is = has_id-held (slots_of t) id h (keys_in (order_of t) 0) table.linked.named is (slot_listed id.0 h is)
 
-  named_key : (id : ConnId) (k : ℕ) (x : Held) → slots_of t k ≡ Some x → same_id id x ≡ true → k ≡ id.0
+  named_key : (id : ConnId) (k : ℕ) (x : ConntrackEntry) → slots_of t k ≡ Some x → same_id id x ≡ true → k ≡ id.0
   named_key id k x is same = sym (table.linked.named k x is) ∙ eqb-true x.id.0 id.0 same
 
-  pub handed_over : (id : ConnId) (h : Held) → slots_of t id.0 ≡ Some h → taken_out id (held_by t) ≡ Some (aged_of h)
+  pub handed_over : (id : ConnId) (h : ConntrackEntry) → slots_of t id.0 ≡ Some h → removed_entry id (held_by t) ≡ Some (aged_of h)
   handed_over id h is =
       ap (option_map aged_of)
       (find_only (same_id id) (slots_of t) (keys_in (order_of t) 0) id.0 h (slot_listed id.0 h is) is (same_id-named (slots_of t) id h table.linked.named is) (named_key id))
 
-  pub one_fewer : (id : ConnId) (h : Held) → slots_of t id.0 ≡ Some h → length (without id (held_by t)) + 1 ≡ length (held_by t)
+  pub one_fewer : (id : ConnId) (h : ConntrackEntry) → slots_of t id.0 ≡ Some h → length (without id (held_by t)) + 1 ≡ length (held_by t)
   one_fewer id h is = length-without_one id (held_by t) distinct_by (has_by id h is)
 
   module _ (at : Tuple → Option ℕ) (keyed : IsKeyed (slots_of t) at) where
-    pub apart_by : are_apart (held_by t) ≡ true
+    pub apart_by : have_disjoint_tuples (held_by t) ≡ true
     apart_by = apart_held (slots_of t) at keyed (keys_in (order_of t) 0) (table.linked.order.apart 0)
 
     pub taken_by : (tuple : Tuple) → IsSome (at tuple) → is_taken tuple (held_by t) ≡ true
@@ -61,8 +61,8 @@ module _ (t : AgedSlots) (table : IsTable t) where
     pub no_key : (tuple : Tuple) → is_taken tuple (held_by t) ≡ false → at tuple ≡ None
     no_key tuple free = free_at (slots_of t) at keyed (keys_in (order_of t) 0) tuple free slot_listed
 
-module _ (t new : AgedSlots) (at at' : Tuple → Option ℕ) (live : ℕ) (aged : IsAged t at live) (id : ConnId) where
-  pub aged_touched : (direction : Direction) (flags : Flags) (mark now : ℕ) → IsSome ((slots_of t) id.0) → IsTable new → held_by new ≡ touched_at id direction flags mark now (held_by t) → IfSome ((slots_of t) id.0) (λ h. Sets (slots_of t) (slots_of new) id.0 (Some (touched direction flags mark now h))) → IsAged new at live
+module _ (t new : AgedSlots) (at at' : Tuple → Option ℕ) (live : ℕ) (aged : IsConsistent t at live) (id : ConnId) where
+  pub aged_touched : (direction : Direction) (flags : Flags) (mark now : ℕ) → IsSome ((slots_of t) id.0) → IsTable new → held_by new ≡ touched_at id direction flags mark now (held_by t) → IfSome ((slots_of t) id.0) (λ h. Sets (slots_of t) (slots_of new) id.0 (Some (touched direction flags mark now h))) → IsConsistent new at live
   aged_touched direction flags mark now some table held slots =
       let slot = some_of ((slots_of t) id.0) some in
       let updates : Sets (slots_of t) (slots_of new) id.0 (Some (touched direction flags mark now slot.0)) = rw slot.1 at slots in
@@ -72,7 +72,7 @@ module _ (t new : AgedSlots) (at at' : Tuple → Option ℕ) (live : ℕ) (aged 
         count = aged.count ∙ sym (ap length held ∙ length-map (held_by t) _);
       }
 
-  pub aged_begun : (h : Held) → IsTable new → held_by new ≡ held_by t ++ h ∷ [] → (slots_of t) id.0 ≡ None → Sets (slots_of t) (slots_of new) id.0 (Some h) → at h.original ≡ None → at h.reply ≡ None → ((q : Tuple) → at' q ≡ cond (same_tuple h.reply q) (Some id.0) (cond (same_tuple h.original q) (Some id.0) (at q))) → IsAged new at' (live + 1)
+  pub aged_begun : (h : ConntrackEntry) → IsTable new → held_by new ≡ held_by t ++ h ∷ [] → (slots_of t) id.0 ≡ None → Sets (slots_of t) (slots_of new) id.0 (Some h) → at h.original ≡ None → at h.reply ≡ None → ((q : Tuple) → at' q ≡ cond (same_tuple h.reply q) (Some id.0) (cond (same_tuple h.original q) (Some id.0) (at q))) → IsConsistent new at' (live + 1)
   aged_begun h table held free updates o r now =
       record {
         table = table;
@@ -80,7 +80,7 @@ module _ (t new : AgedSlots) (at at' : Tuple → Option ℕ) (live : ℕ) (aged 
         count = omega (arith, aged.count, ap length held, length-append (held_by t) (h ∷ []));
       }
 
-  pub aged_ended : (h : Held) → IsTable new → held_by new ≡ without id (held_by t) → (slots_of t) id.0 ≡ Some h → Sets (slots_of t) (slots_of new) id.0 None → ((q : Tuple) → at' q ≡ cond (same_tuple h.reply q) None (cond (same_tuple h.original q) None (at q))) → IsAged new at' (live - 1)
+  pub aged_ended : (h : ConntrackEntry) → IsTable new → held_by new ≡ without id (held_by t) → (slots_of t) id.0 ≡ Some h → Sets (slots_of t) (slots_of new) id.0 None → ((q : Tuple) → at' q ≡ cond (same_tuple h.reply q) None (cond (same_tuple h.original q) None (at q))) → IsConsistent new at' (live - 1)
   aged_ended h table held is updates now =
       record {
         table = table;
@@ -92,7 +92,7 @@ pub none_of : {X : Type 0} (o : Option X) → is_some o ≡ false → o ≡ None
 none_of None is = refl
 none_of (Some x) is = absurd cc
 
-pub aged_grown : (t new : AgedSlots) (at at' : Tuple → Option ℕ) (live : ℕ) → IsAged t at live → IsTable new → held_by new ≡ held_by t → ((k : ℕ) → slots_of new k ≡ slots_of t k) → ((q : Tuple) → at' q ≡ at q) → IsAged new at' live
+pub aged_grown : (t new : AgedSlots) (at at' : Tuple → Option ℕ) (live : ℕ) → IsConsistent t at live → IsTable new → held_by new ≡ held_by t → ((k : ℕ) → slots_of new k ≡ slots_of t k) → ((q : Tuple) → at' q ≡ at q) → IsConsistent new at' live
 aged_grown t new at at' live aged table held same now =
     record {
       table = table;

@@ -1,5 +1,5 @@
 -- What is said on the way to a proof: nothing that a public contract cites.
-pub mod Ends
+pub mod Packed
 pub mod Keyed
-pub mod Rings
+pub mod SlotLists
 pub mod Table

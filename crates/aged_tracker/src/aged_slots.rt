@@ -1,16 +1,16 @@
 //! The slots, and the lists that go through them.
 ghost use Rattle.std.specs.Prelude.{◌≡◌, ◌+◌, ◌<◌, ◌≤◌, ◌++◌, ◌∷◌, [], ℕ, nat_lt, IsTrue, IsSome, IfOk, IsOk, OnOk, Some, None, IfSome, IfNone, false, map};
 ghost use Rattle.slab.specs.Slab.{get, slab_len, ContainsKey, Updates};
-ghost use Rattle.conntrack.specs.Held.{begun_with, connection_of, is_live, touched, touched_at, without, IsNoneLater};
-ghost use Rattle.aged_tracker.specs.steps.Rings.{MOST_KEYS, lists_of, held_at, held_of, noted, Fills, IsRings, SameSize};
+ghost use Rattle.conntrack.specs.ConntrackEntry.{begun_with, connection_of, is_live, touched, touched_at, without, IsNoneLater};
+ghost use Rattle.aged_tracker.specs.steps.SlotLists.{MAX_KEYS, lists_of, held_at, held_of, updated, Fills, IsRings, SameSize};
 ghost use Rattle.aged_tracker.specs.steps.Table.{has_room, held_by, limit_at, queue_of, slots_of, IsAllLive, IsLiveQueue, IsOldest, IsTable, Sets};
-ghost use Rattle.aged_tracker.specs.declared.slot.Thread.TheVariants.{Queues, Order};
+ghost use Rattle.aged_tracker.specs.declared.slot.SlotList.TheVariants.{Queues, Order};
 
-use crate::rings::{after, empty_heads, front, push_back, unlink};
-use crate::slot::{LISTS, Link, MOST_KEYS, Slot, Thread};
+use crate::linked_lists::{after, empty_heads, front, push_back, unlink};
+use crate::slot::{LISTS, Link, MAX_KEYS, Slot, SlotList};
 use box_file::Limits;
 use conntrack::{
-    ConnId, Connection, Direction, Flags, Held, Memory, Moment, Phase, Steps, limit_by,
+    ConnId, Connection, ConntrackEntry, Direction, Flags, Memory, Moment, Phase, Steps, limit_by,
 };
 use ip_headers::Kind;
 use slab::Slab;
@@ -23,7 +23,7 @@ const ESTABLISHED: usize = 1;
 
 const TRANSITORY: usize = 2;
 
-const ASK: usize = 3;
+const ECHO: usize = 3;
 
 const OTHER: usize = 4;
 
@@ -40,7 +40,7 @@ pub struct AgedSlots {
 }
 
 /// The queue that a connection belongs to.
-fn queue_of(held: &Held) -> usize
+fn queue_of(held: &ConntrackEntry) -> usize
     ensures queue { result ≡ queue_of held.now }
     ensures range { result < 5 }
 {
@@ -48,7 +48,7 @@ fn queue_of(held: &Held) -> usize
         (Kind::Udp, _) => UDP,
         (Kind::Tcp, Phase::Established) => ESTABLISHED,
         (Kind::Tcp, Phase::Opening | Phase::Closing) => TRANSITORY,
-        (Kind::Ask | Kind::Answer, _) => ASK,
+        (Kind::EchoRequest | Kind::EchoReply, _) => ECHO,
         (Kind::Other(_), _) => OTHER,
     }
 }
@@ -61,7 +61,7 @@ fn limit_at(limits: Limits, queue: usize) -> u64
         UDP => limit_by(limits, Kind::Udp, Phase::Opening),
         ESTABLISHED => limit_by(limits, Kind::Tcp, Phase::Established),
         TRANSITORY => limit_by(limits, Kind::Tcp, Phase::Opening),
-        ASK => limit_by(limits, Kind::Ask, Phase::Opening),
+        ECHO => limit_by(limits, Kind::EchoRequest, Phase::Opening),
         _ => limit_by(limits, Kind::Other(0), Phase::Opening),
     }
 }
@@ -74,7 +74,7 @@ fn oldest_of(slots: &Slab<Slot>, queues: &[Link; LISTS], queue: usize, steps: &m
     ensures rises { steps.old ≤ steps.new }
     ensures steps { steps.new ≤ steps.old + 1 }
 {
-    match front(slots, queues, Thread::Queues, queue) {
+    match front(slots, queues, SlotList::Queues, queue) {
         None => 0,
         Some(key) => {
             steps.tick();
@@ -97,7 +97,7 @@ fn touch_slot(
     steps: &mut Steps,
 ) -> usize
     requires { ContainsKey slots.old key }
-    ensures slots { IfSome (get slots.old key) (λ s. Updates slots.old slots.new key (Some (noted (touched direction flags mark now (held_of key s)) s))) }
+    ensures slots { IfSome (get slots.old key) (λ s. Updates slots.old slots.new key (Some (updated (touched direction flags mark now (held_of key s)) s))) }
     ensures queue { IfSome (get slots.old key) (λ s. result ≡ queue_of (touched direction flags mark now (held_of key s))) }
     ensures range { result < 5 }
     ensures size { SameSize slots.old slots.new }
@@ -115,7 +115,7 @@ fn touch_slot(
 }
 
 /// Fills a free slot, which is in no list.
-fn fill(slots: &mut Slab<Slot>, held: &Held, steps: &mut Steps) -> usize
+fn fill(slots: &mut Slab<Slot>, held: &ConntrackEntry, steps: &mut Steps) -> usize
     requires { IsTrue (nat_lt (slab_len slots.old) slots.old.capacity) }
     ensures key { result ≡ slots.old.vacant_key }
     ensures free { get slots.old result ≡ None }
@@ -143,7 +143,7 @@ impl AgedSlots {
     }
 
     /// What a slot holds.
-    pub fn read(&self, key: usize, steps: &mut Steps) -> Held
+    pub fn read(&self, key: usize, steps: &mut Steps) -> ConntrackEntry
         requires { IsSome (slots_of self.now key) }
         ensures held { slots_of self.now key ≡ Some result }
         ensures rises { steps.old ≤ steps.new }
@@ -180,7 +180,7 @@ impl AgedSlots {
         let left = unlink(
             &mut self.slots,
             &mut self.queues,
-            Thread::Queues,
+            SlotList::Queues,
             key,
             steps,
         );
@@ -188,7 +188,7 @@ impl AgedSlots {
         push_back(
             &mut self.slots,
             &mut self.queues,
-            Thread::Queues,
+            SlotList::Queues,
             queue,
             key,
             steps,
@@ -205,12 +205,12 @@ impl AgedSlots {
         ensures table { IsTable self.new }
         ensures held { held_by self.new ≡ held_by self.old ++ begun_with result connection flags ∷ [] }
         ensures free { slots_of self.old result.0 ≡ None }
-        ensures few { result.0 < MOST_KEYS }
+        ensures few { result.0 < MAX_KEYS }
         ensures slots { Sets (slots_of self.old) (slots_of self.new) result.0 (Some (begun_with result connection flags)) }
         ensures rises { steps.old ≤ steps.new }
         ensures steps { steps.new ≤ steps.old + 6 }
     {
-        let held = Held {
+        let held = ConntrackEntry {
             id: ConnId(self.slots.vacant_key()),
             original: connection.original,
             reply: connection.reply,
@@ -227,7 +227,7 @@ impl AgedSlots {
         push_back(
             &mut self.slots,
             &mut self.order,
-            Thread::Order,
+            SlotList::Order,
             0,
             key,
             steps,
@@ -235,7 +235,7 @@ impl AgedSlots {
         push_back(
             &mut self.slots,
             &mut self.queues,
-            Thread::Queues,
+            SlotList::Queues,
             queue,
             key,
             steps,
@@ -245,7 +245,7 @@ impl AgedSlots {
     }
 
     /// Takes a connection out of its slot and its lists.
-    pub fn remove(&mut self, id: ConnId, steps: &mut Steps) -> Held
+    pub fn remove(&mut self, id: ConnId, steps: &mut Steps) -> ConntrackEntry
         requires table { IsTable self.old }
         requires is_held { IsSome (slots_of self.old id.0) }
         ensures table { IsTable self.new }
@@ -260,11 +260,17 @@ impl AgedSlots {
         let left = unlink(
             &mut self.slots,
             &mut self.queues,
-            Thread::Queues,
+            SlotList::Queues,
             key,
             steps,
         );
-        unlink(&mut self.slots, &mut self.order, Thread::Order, key, steps);
+        unlink(
+            &mut self.slots,
+            &mut self.order,
+            SlotList::Order,
+            key,
+            steps,
+        );
         steps.tick();
         let slot = self.slots.remove(key);
         self.oldest[left] = oldest_of(&self.slots, &self.queues, left, steps);
@@ -272,13 +278,13 @@ impl AgedSlots {
     }
 
     /// The front of a queue, where it is dead. No slot is visited.
-    fn dead_front(&self, limits: Limits, queue: usize, now: Moment) -> Option<ConnId>
+    fn expired_front(&self, limits: Limits, queue: usize, now: Moment) -> Option<ConnId>
         requires table { IsTable self.now }
         requires range { queue < 5 }
         ensures some { IfSome result (λ id. IfSome (slots_of self.now id.0) (λ h. is_live limits now h ≡ false) × IsSome (slots_of self.now id.0)) }
         ensures none { IfNone result (IsLiveQueue limits (slots_of self.now) now queue) }
     {
-        match front(&self.slots, &self.queues, Thread::Queues, queue) {
+        match front(&self.slots, &self.queues, SlotList::Queues, queue) {
             None => None,
             Some(key) => {
                 if now.saturating_sub(self.oldest[queue]) < limit_at(limits, queue) {
@@ -291,13 +297,13 @@ impl AgedSlots {
     }
 
     /// One that is dead. No slot is visited.
-    pub fn dead(&self, limits: Limits, now: Moment) -> Option<ConnId>
+    pub fn expired(&self, limits: Limits, now: Moment) -> Option<ConnId>
         requires { IsTable self.now }
         ensures some { IfSome result (λ id. IfSome (slots_of self.now id.0) (λ h. is_live limits now h ≡ false) × IsSome (slots_of self.now id.0)) }
         ensures none { IfNone result (IsAllLive limits (slots_of self.now) now) }
     {
         for queue in 0..LISTS {
-            let front = self.dead_front(limits, queue, now);
+            let front = self.expired_front(limits, queue, now);
             if front.is_some() {
                 return front;
             }
@@ -316,7 +322,7 @@ impl AgedSlots {
         ensures kept { IsTrue (has_room self.old) → IsTrue (has_room self.new) }
         ensures spared { IsTrue (has_room self.old) → (self.new ≡ self.old) × IsOk result }
     {
-        if self.slots.vacant_key() >= MOST_KEYS {
+        if self.slots.vacant_key() >= MAX_KEYS {
             return Err(Memory);
         }
         if self.slots.len() < self.slots.capacity() {
@@ -334,13 +340,13 @@ impl AgedSlots {
         ensures { IfOk result (λ all. all.items ≡ map connection_of (held_by self.now)) }
     {
         let mut all = Vec::new(alloc);
-        let mut place = front(&self.slots, &self.order, Thread::Order, 0);
-        while let Some(key) = place {
+        let mut cursor = front(&self.slots, &self.order, SlotList::Order, 0);
+        while let Some(key) = cursor {
             let connection = connection_at(&self.slots, key);
             if all.push(connection).is_err() {
                 return Err(Memory);
             }
-            place = after(&self.slots, Thread::Order, key);
+            cursor = after(&self.slots, SlotList::Order, key);
         }
         Ok(all)
     }

@@ -1,6 +1,6 @@
 //! A table of connections whose calls visit few slots.
 ghost use Rattle.std.specs.Prelude.{◌≡◌, ◌+◌, ◌<◌, ◌≤◌, IsTrue, Some, None, cond, is_some};
-ghost use Rattle.conntrack.specs.Held.{are_apart, belongs_in, has_distinct_ids, live_at};
+ghost use Rattle.conntrack.specs.ConntrackEntry.{have_disjoint_tuples, belongs_in, has_distinct_ids, live_at};
 ghost use Rattle.std.specs.HashMap.{get, spare};
 ghost use Rattle.ip_headers.specs.Same.{same_tuple};
 ghost use Rattle.ip_headers.specs.declared.tuple.Tuple.{Tuple as Tupled};
@@ -8,10 +8,10 @@ ghost use Rattle.aged_tracker.specs.steps.Keyed.{belonging_of};
 
 use crate::aged_slots::AgedSlots;
 use box_file::Limits;
-use conntrack::laws::names_aside;
+use conntrack::laws::independent_of_ids;
 use conntrack::{
-    Aged, BeginError, Belonging, ConnId, Connection, Direction, Flags, Held, LIMIT, Memory, Moment,
-    Place, Steps, Tracker,
+    Aged, BeginError, Belonging, ConnId, Connection, ConnectionRef, ConntrackEntry, Direction,
+    Flags, MAX_CONNECTIONS, Memory, Moment, Steps, Tracker,
 };
 use ip_headers::Tuple;
 use std::alloc::Global;
@@ -36,13 +36,13 @@ impl Model for AgedTracker {
     ghost use Rattle.ip_headers.specs.Same.{same_tuple};
     ghost use Rattle.aged_tracker.specs.View.{Aged as Seen};
     ghost use Rattle.aged_tracker.specs.steps.Table.{held_by, has_room};
-    ghost use Rattle.aged_tracker.specs.steps.Keyed.{IsAged};
+    ghost use Rattle.aged_tracker.specs.steps.Keyed.{IsConsistent};
 
     ghost Value = { Seen };
 
     ghost view = { λ t. record { limits = t.limits; held = held_by t.slots; room = has_room t.slots && nat_lt 1 (spare t.keys) } };
 
-    ghost invariant = { λ t. IsAged t.slots (get same_tuple t.keys) t.live };
+    ghost invariant = { λ t. IsConsistent t.slots (get same_tuple t.keys) t.live };
 }
 
 impl AgedTracker {
@@ -50,12 +50,12 @@ impl AgedTracker {
     fn find(&self, tuple: Tuple, flags: Flags, now: Moment, steps: &mut Steps) -> Belonging
         ensures belonging { result ≡ belongs_in (live_at self.now.limits now self.now.held) tuple flags }
         ensures distinct { IsTrue (has_distinct_ids self.now.held) }
-        ensures apart { IsTrue (are_apart self.now.held) }
+        ensures apart { IsTrue (have_disjoint_tuples self.now.held) }
         ensures rises { steps.old ≤ steps.new }
         ensures steps { steps.new ≤ steps.old + 1 }
     {
         match key_of(&self.keys, tuple) {
-            None => Belonging::Nowhere,
+            None => Belonging::NotFound,
             Some(key) => belonging(&self.slots.read(key, steps), self.limits, tuple, flags, now),
         }
     }
@@ -70,7 +70,7 @@ impl Tracker for AgedTracker {
 
     ghost has_room = { λ t. t.room };
 
-    ghost most_slots = { Some 8 };
+    ghost max_slots = { Some 8 };
 
     fn new(alloc: Global, hasher: RandomState, idle: Limits) -> Self {
         AgedTracker {
@@ -82,7 +82,7 @@ impl Tracker for AgedTracker {
     }
 
     fn look(&self, tuple: Tuple, flags: Flags, now: Moment, steps: &mut Steps) -> Belonging {
-        names_aside();
+        independent_of_ids();
         self.find(tuple, flags, now, steps)
     }
 
@@ -115,30 +115,30 @@ impl Tracker for AgedTracker {
         flags: Flags,
         steps: &mut Steps,
     ) -> Result<ConnId, BeginError> {
-        if self.live >= LIMIT {
+        if self.live >= MAX_CONNECTIONS {
             return Err(BeginError::Full);
         }
-        if leads(&self.keys, connection.reply) {
+        if contains_tuple(&self.keys, connection.reply) {
             return Err(BeginError::Clash);
         }
         let id = self.slots.insert(connection, flags, steps);
         let key = id.0 as u32;
-        put(&mut self.keys, connection.original, key);
-        put(&mut self.keys, connection.reply, key);
+        insert_tuple(&mut self.keys, connection.original, key);
+        insert_tuple(&mut self.keys, connection.reply, key);
         self.live += 1;
         Ok(id)
     }
 
     fn end(&mut self, id: ConnId, steps: &mut Steps) -> Aged {
         let held = self.slots.remove(id, steps);
-        forget(&mut self.keys, held.original);
-        forget(&mut self.keys, held.reply);
+        remove_tuple(&mut self.keys, held.original);
+        remove_tuple(&mut self.keys, held.reply);
         self.live -= 1;
         held.aged()
     }
 
     fn age(&mut self, now: Moment, steps: &mut Steps) -> Option<Aged> {
-        match self.slots.dead(self.limits, now) {
+        match self.slots.expired(self.limits, now) {
             None => None,
             Some(id) => Some(self.end(id, steps)),
         }
@@ -154,7 +154,7 @@ impl Tracker for AgedTracker {
 }
 
 /// Lets a tuple lead to a slot.
-fn put(keys: &mut HashMap<Tuple, u32, RandomState>, tuple: Tuple, key: u32)
+fn insert_tuple(keys: &mut HashMap<Tuple, u32, RandomState>, tuple: Tuple, key: u32)
     requires { 0 < spare keys.old }
     ensures keys { (q : Tupled) → get same_tuple keys.new q ≡ cond (same_tuple tuple q) (Some key) (get same_tuple keys.old q) }
     ensures spare { spare keys.old ≤ spare keys.new + 1 }
@@ -173,7 +173,7 @@ fn spare_of(keys: &HashMap<Tuple, u32, RandomState>) -> usize
 }
 
 /// Lets a tuple lead nowhere.
-fn forget(keys: &mut HashMap<Tuple, u32, RandomState>, tuple: Tuple)
+fn remove_tuple(keys: &mut HashMap<Tuple, u32, RandomState>, tuple: Tuple)
     ensures keys { (q : Tupled) → get same_tuple keys.new q ≡ cond (same_tuple tuple q) None (get same_tuple keys.old q) }
     ensures spare { spare keys.old ≤ spare keys.new }
 {
@@ -188,26 +188,32 @@ fn key_of(keys: &HashMap<Tuple, u32, RandomState>, tuple: Tuple) -> Option<usize
 }
 
 /// Whether a tuple leads to a slot.
-fn leads(keys: &HashMap<Tuple, u32, RandomState>, tuple: Tuple) -> bool
+fn contains_tuple(keys: &HashMap<Tuple, u32, RandomState>, tuple: Tuple) -> bool
     ensures { result ≡ is_some (get same_tuple keys.now tuple) }
 {
     keys.contains_key(&tuple)
 }
 
 /// What a packet with a tuple belongs to, where it is an incoming tuple of this connection.
-fn belonging(held: &Held, limits: Limits, tuple: Tuple, flags: Flags, now: Moment) -> Belonging
+fn belonging(
+    held: &ConntrackEntry,
+    limits: Limits,
+    tuple: Tuple,
+    flags: Flags,
+    now: Moment,
+) -> Belonging
     ensures { result ≡ belonging_of limits now tuple flags held.now }
 {
     if !held.is_live(limits, now) {
-        Belonging::Nowhere
+        Belonging::NotFound
     } else if is_same(held.original, tuple) {
         if flags.is_lone_syn() && held.is_closing() {
             Belonging::Ends(held.id)
         } else {
-            Belonging::Found(Place::of(held, Direction::Original))
+            Belonging::Found(ConnectionRef::of(held, Direction::Original))
         }
     } else {
-        Belonging::Found(Place::of(held, Direction::Reply))
+        Belonging::Found(ConnectionRef::of(held, Direction::Reply))
     }
 }
 

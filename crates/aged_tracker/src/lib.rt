@@ -4,8 +4,8 @@
 
 mod aged_slots;
 mod aged_tracker;
-mod ends;
-mod rings;
+mod linked_lists;
+mod packed;
 mod slot;
 
 pub use aged_tracker::AgedTracker;

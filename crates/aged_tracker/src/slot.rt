@@ -1,39 +1,39 @@
 //! A slot of the table, and how it is linked with others.
 ghost use Rattle.std.specs.Prelude.{◌≡◌, ◌+◌, ◌<◌, ℕ, None};
-ghost use Rattle.conntrack.specs.Held.{touched};
-ghost use Rattle.aged_tracker.specs.steps.Rings.{MOST_KEYS, held_of, key_at, knot_of, noted, number, with_knot};
-ghost use Rattle.aged_tracker.specs.declared.slot.Thread.TheVariants.{Queues, Order};
+ghost use Rattle.conntrack.specs.ConntrackEntry.{touched};
+ghost use Rattle.aged_tracker.specs.steps.SlotLists.{MAX_KEYS, held_of, key_at, links_of, updated, number, with_links};
+ghost use Rattle.aged_tracker.specs.declared.slot.SlotList.TheVariants.{Queues, Order};
 
-use crate::ends::Ends;
-use conntrack::{ConnId, Direction, Flags, Held, Moment};
+use crate::packed::PackedTuple;
+use conntrack::{ConnId, ConntrackEntry, Direction, Flags, Moment};
 use std::mem::size_of;
 
 /// How many lists a thread has: one for each idle limit. The order of beginning is the first one.
 pub const LISTS: usize = 5;
 
 /// How many keys slots may have, so that each place has a number of 32 bits.
-pub const MOST_KEYS: usize = 4_294_967_291;
+pub const MAX_KEYS: usize = 4_294_967_291;
 
 /// Where a link leads: heads and slots are numbered one after another, first the heads of the lists,
 /// then the slots by their keys. Each slot has four of these numbers, so they have 32 bits.
 #[derive(Clone, Copy)]
-pub struct At(u32);
+pub struct NodeIndex(u32);
 
-impl At {
+impl NodeIndex {
     /// The head of a list.
     pub fn head(list: usize) -> Self
         requires { list < 5 }
         ensures { number result ≡ list }
     {
-        At(list as u32)
+        NodeIndex(list as u32)
     }
 
     /// The slot with a key.
     pub fn slot(key: usize) -> Self
-        requires { key < MOST_KEYS }
+        requires { key < MAX_KEYS }
         ensures { number result ≡ 5 + key }
     {
-        At((LISTS + key) as u32)
+        NodeIndex((LISTS + key) as u32)
     }
 
     /// Its number among heads and slots.
@@ -55,9 +55,9 @@ impl At {
 #[derive(Clone, Copy)]
 pub struct Link {
     /// What stands before.
-    pub prev: At,
+    pub prev: NodeIndex,
     /// What stands after.
-    pub next: At,
+    pub next: NodeIndex,
 }
 
 impl Link {
@@ -67,7 +67,7 @@ impl Link {
         ensures prev { number result.prev ≡ list }
         ensures next { number result.next ≡ list }
     {
-        let head = At::head(list);
+        let head = NodeIndex::head(list);
         Link {
             prev: head,
             next: head,
@@ -77,7 +77,7 @@ impl Link {
 
 /// A slot's place in a list of a thread.
 #[derive(Clone, Copy)]
-pub struct Knot {
+pub struct ListLinks {
     /// The number of the list that it is in, if it is in one.
     pub list: Option<u8>,
     /// Its neighbours there.
@@ -86,7 +86,7 @@ pub struct Knot {
 
 /// The sets of lists that a slot is in.
 #[derive(Clone, Copy)]
-pub enum Thread {
+pub enum SlotList {
     /// The queues, one for each idle limit.
     Queues,
     /// The one list in order of beginning.
@@ -103,10 +103,10 @@ pub struct Slot {
     mark: u32,
     queue: Link,
     order: Link,
-    original: Ends,
-    reply: Ends,
-    source: Option<Ends>,
-    dest: Option<Ends>,
+    original: PackedTuple,
+    reply: PackedTuple,
+    source: Option<PackedTuple>,
+    dest: Option<PackedTuple>,
     from_original: Flags,
     from_reply: Flags,
     replied: bool,
@@ -118,20 +118,20 @@ const _: () = prove!(size_of::<Slot>() == 104);
 
 impl Slot {
     /// A slot of a connection, in no list.
-    pub fn new(held: &Held) -> Self
+    pub fn new(held: &ConntrackEntry) -> Self
         ensures held { (key : ℕ) → held_of key result ≡ record held.now { id = record { 0 = key } } }
-        ensures queue { (knot_of Queues result).list ≡ None }
-        ensures order { (knot_of Order result).list ≡ None }
+        ensures queue { (links_of Queues result).list ≡ None }
+        ensures order { (links_of Order result).list ≡ None }
     {
         Slot {
             last: held.last,
             mark: held.mark,
             queue: Link::alone(0),
             order: Link::alone(0),
-            original: Ends::of_tuple(held.original),
-            reply: Ends::of_tuple(held.reply),
-            source: Ends::of_mapping(held.source),
-            dest: Ends::of_mapping(held.dest),
+            original: PackedTuple::of_tuple(held.original),
+            reply: PackedTuple::of_tuple(held.reply),
+            source: PackedTuple::of_mapping(held.source),
+            dest: PackedTuple::of_mapping(held.dest),
             from_original: held.from_original,
             from_reply: held.from_reply,
             replied: held.replied,
@@ -141,10 +141,10 @@ impl Slot {
     }
 
     /// The connection in the slot of this key.
-    pub fn held(&self, key: usize) -> Held
+    pub fn held(&self, key: usize) -> ConntrackEntry
         ensures { result ≡ held_of key self.now }
     {
-        Held {
+        ConntrackEntry {
             id: ConnId(key),
             original: self.original.tuple(),
             reply: self.reply.tuple(),
@@ -153,8 +153,8 @@ impl Slot {
             from_original: self.from_original,
             from_reply: self.from_reply,
             replied: self.replied,
-            source: Ends::mapping(self.source),
-            dest: Ends::mapping(self.dest),
+            source: PackedTuple::mapping(self.source),
+            dest: PackedTuple::mapping(self.dest),
         }
     }
 
@@ -166,9 +166,9 @@ impl Slot {
         flags: Flags,
         mark: u32,
         now: Moment,
-    ) -> Held
+    ) -> ConntrackEntry
         ensures result { result ≡ touched direction flags mark now (held_of key self.old) }
-        ensures slot { self.new ≡ noted (touched direction flags mark now (held_of key self.old)) self.old }
+        ensures slot { self.new ≡ updated (touched direction flags mark now (held_of key self.old)) self.old }
     {
         let mut held = self.held(key);
         held.touch(direction, flags, mark, now);
@@ -181,15 +181,15 @@ impl Slot {
     }
 
     /// Its place in a list of a thread.
-    pub fn knot(&self, thread: Thread) -> Knot
-        ensures { result ≡ knot_of thread self.now }
+    pub fn links(&self, slot_list: SlotList) -> ListLinks
+        ensures { result ≡ links_of slot_list self.now }
     {
-        match thread {
-            Thread::Queues => Knot {
+        match slot_list {
+            SlotList::Queues => ListLinks {
                 list: self.in_queue,
                 link: self.queue,
             },
-            Thread::Order => Knot {
+            SlotList::Order => ListLinks {
                 list: self.in_order,
                 link: self.order,
             },
@@ -197,17 +197,17 @@ impl Slot {
     }
 
     /// Writes its place in a list of a thread.
-    pub fn set_knot(&mut self, thread: Thread, knot: Knot)
-        ensures { self.new ≡ with_knot thread knot self.old }
+    pub fn set_links(&mut self, slot_list: SlotList, links: ListLinks)
+        ensures { self.new ≡ with_links slot_list links self.old }
     {
-        match thread {
-            Thread::Queues => {
-                self.in_queue = knot.list;
-                self.queue = knot.link;
+        match slot_list {
+            SlotList::Queues => {
+                self.in_queue = links.list;
+                self.queue = links.link;
             }
-            Thread::Order => {
-                self.in_order = knot.list;
-                self.order = knot.link;
+            SlotList::Order => {
+                self.in_order = links.list;
+                self.order = links.link;
             }
         }
     }

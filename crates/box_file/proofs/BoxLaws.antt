@@ -4,7 +4,7 @@ use Rattle.std.proofs.lemmas.Option.{same_Some}
 use Rattle.box_file.specs.declared.fault.BoxFault.{BoxFault}
 use Rattle.box_file.specs.declared.fault.BoxFault.TheVariants.{Form, Repeated, UnknownName, TooLarge, OutOfRange}
 use Rattle.box_file.specs.steps.Reading.{lines_in}
-use Rattle.box_file.specs.Box.{Line, each_is_line, Reads, HasBoxFault, IsBox, PlantTree, least, plant_of, idles_in, idle_for, is_out_of_range}
+use Rattle.box_file.specs.Box.{Line, each_is_line, Reads, HasBoxFault, IsBox, PlantTree, least_fault, plant_of, idles_in, idle_for, is_out_of_range}
 use Rattle.std.specs.List.{list_any}
 use Rattle.box_file.proofs.IdleLaws.{same_limits, limits_of, are_limits}
 use Rattle.box_file.proofs.LineLaws.{lines_found, lines_only}
@@ -23,7 +23,7 @@ pub box_or_fault : (text : List ℕ) (p : PlantTree) (fault : BoxFault) → IsBo
 box_or_fault text p fault b (inl f) = f.0 b.lines b.read
 box_or_fault text p fault b (inr f) =
     let same = one_reading_of_box text b.lines f.0 b.read f.1 in
-    let none : ◌≡◌ {A = Option BoxFault} None (Some fault) = sym b.faultless ∙ ap (least text) same ∙ f.2 in
+    let none : ◌≡◌ {A = Option BoxFault} None (Some fault) = sym b.faultless ∙ ap (least_fault text) same ∙ f.2 in
     absurd cc
 
 pub one_fault : (text : List ℕ) (fault other : BoxFault) → HasBoxFault text fault → HasBoxFault text other → fault ≡ other
@@ -32,7 +32,7 @@ one_fault text fault other (inl f) (inr g) = absurd (f.0 g.0 g.1)
 one_fault text fault other (inr f) (inl g) = absurd (g.0 f.0 f.1)
 one_fault text fault other (inr f) (inr g) =
     let same = one_reading_of_box text f.0 g.0 f.1 g.1 in
-    same_Some fault other (sym f.2 ∙ ap (least text) same ∙ g.2)
+    same_Some fault other (sym f.2 ∙ ap (least_fault text) same ∙ g.2)
 
 all_right : (a b c d e : Bool) → cond a (Some Form) (cond b (Some Repeated) (cond c (Some UnknownName) (cond d (Some TooLarge) (cond e (Some OutOfRange) None)))) ≡ None → e ≡ false
 all_right true b c d e h = absurd cc
@@ -43,10 +43,10 @@ all_right false false false false true h = absurd cc
 all_right false false false false false h = refl
 
 -- the idle limits of a text without fault are in range
-pub idle_right : (text : List ℕ) (ls : List Line) → least text ls ≡ None → list_any is_out_of_range (idles_in ls) ≡ false
+pub idle_right : (text : List ℕ) (ls : List Line) → least_fault text ls ≡ None → list_any is_out_of_range (idles_in ls) ≡ false
 idle_right text ls e = all_right _ _ _ _ (list_any is_out_of_range (idles_in ls)) e
 
-judged : (text : List ℕ) (ls : List Line) → Reads text ls → (o : Option BoxFault) → least text ls ≡ o → ((plant : PlantTree) × IsBox text plant) ⊎ ((fault : BoxFault) × HasBoxFault text fault)
+judged : (text : List ℕ) (ls : List Line) → Reads text ls → (o : Option BoxFault) → least_fault text ls ≡ o → ((plant : PlantTree) × IsBox text plant) ⊎ ((fault : BoxFault) × HasBoxFault text fault)
 judged text ls r None e =
     let right = idle_right text ls e in
     let idle = limits_of (idles_in ls) right in
@@ -58,7 +58,7 @@ none_read text ls e r = let none : ◌≡◌ {A = Option (List Line)} None (Some
 
 read_or_not : (text : List ℕ) (o : Option (List Line)) → lines_in text ≡ o → ((plant : PlantTree) × IsBox text plant) ⊎ ((fault : BoxFault) × HasBoxFault text fault)
 read_or_not text None e = inr (Form, inl (λ ls r. none_read text ls e r, refl))
-read_or_not text (Some ls) e = judged text ls (lines_found text ls e) (least text ls) refl
+read_or_not text (Some ls) e = judged text ls (lines_found text ls e) (least_fault text ls) refl
 
 pub some_answer : (text : List ℕ) → ((plant : PlantTree) × IsBox text plant) ⊎ ((fault : BoxFault) × HasBoxFault text fault)
 some_answer text = read_or_not text (lines_in text) refl

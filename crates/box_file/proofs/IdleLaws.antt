@@ -12,7 +12,7 @@ use Rattle.box_file.specs.declared.idle_line.IdleKind.TheVariants as kinds
 use Rattle.box_file.specs.declared.limits.Limits.{Limits}
 use Rattle.box_file.specs.Text.{is_numeral}
 use Rattle.box_file.specs.steps.Reading.{number_in}
-use Rattle.box_file.specs.Idle.{greatest_idle, least_for, limit_for, usual_limits}
+use Rattle.box_file.specs.Idle.{max_idle_seconds, minimum_for, limit_for, usual_limits}
 use Rattle.box_file.specs.Box.{AreLimits, Idle, idle_for, is_of_kind, is_out_of_range, seconds_of}
 
 -- ---- limits by their numbers
@@ -24,7 +24,7 @@ abbrev are_positive : Numbers → Bool
 are_positive n = nat_lt 0 n.0 && nat_lt 0 n.1 && nat_lt 0 n.2 && nat_lt 0 n.3 && nat_lt 0 n.4
 
 abbrev made : (n : Numbers) → IsTrue (are_positive n) → Limits
-made n p = record { established = n.0; transitory = n.1; udp = n.2; ask = n.3; other = n.4; positive = p }
+made n p = record { established = n.0; transitory = n.1; udp = n.2; echo = n.3; other = n.4; positive = p }
 
 same_made : (m n : Numbers) → m ≡ n → (p : IsTrue (are_positive m)) (q : IsTrue (are_positive n)) → made m p ≡ made n q
 same_made m n e p =
@@ -36,31 +36,31 @@ same_limits l m same =
     let e = same kinds.Established in
     let t = same kinds.Transitory in
     let u = same kinds.Udp in
-    let a = same kinds.Ask in
+    let a = same kinds.Echo in
     let o = same kinds.Other in
-    let all : ◌≡◌ {A = Numbers} (l.established, l.transitory, l.udp, l.ask, l.other) (m.established, m.transitory, m.udp, m.ask, m.other) = cc in
-    same_made (l.established, l.transitory, l.udp, l.ask, l.other) (m.established, m.transitory, m.udp, m.ask, m.other) all l.positive m.positive
+    let all : ◌≡◌ {A = Numbers} (l.established, l.transitory, l.udp, l.echo, l.other) (m.established, m.transitory, m.udp, m.echo, m.other) = cc in
+    same_made (l.established, l.transitory, l.udp, l.echo, l.other) (m.established, m.transitory, m.udp, m.echo, m.other) all l.positive m.positive
 
 -- ---- lines in range
 
-some_least : (k : IdleKind) → 0 < least_for k
-some_least kinds.Udp = omega arith
-some_least kinds.Established = omega arith
-some_least kinds.Transitory = omega arith
-some_least kinds.Ask = omega arith
-some_least kinds.Other = omega arith
+some_minimum : (k : IdleKind) → 0 < minimum_for k
+some_minimum kinds.Udp = omega arith
+some_minimum kinds.Established = omega arith
+some_minimum kinds.Transitory = omega arith
+some_minimum kinds.Echo = omega arith
+some_minimum kinds.Other = omega arith
 
-not_below : (n least : ℕ) → 0 < least → nat_lt n least ≡ false → 0 < n
-not_below n least some e = grind (arith, nat_tests, some, e)
+not_below : (n minimum : ℕ) → 0 < minimum → nat_lt n minimum ≡ false → 0 < n
+not_below n minimum some e = grind (arith, nat_tests, some, e)
 
-not_above : (n : ℕ) → nat_lt greatest_idle n ≡ false → n < 2 ^ 32
+not_above : (n : ℕ) → nat_lt max_idle_seconds n ≡ false → n < 2 ^ 32
 not_above n e = grind (arith, nat_tests, e)
 
 -- a second at least, and no more than a `u32` holds
 pub in_range : (i : Idle) → is_out_of_range i ≡ false → (0 < seconds_of i) × (seconds_of i < 2 ^ 32)
 in_range i e =
-    let p = or_parts (nat_lt (seconds_of i) (least_for i.kind)) (nat_lt greatest_idle (seconds_of i)) e in
-    (not_below (seconds_of i) (least_for i.kind) (some_least i.kind) p.0, not_above (seconds_of i) p.1)
+    let p = or_parts (nat_lt (seconds_of i) (minimum_for i.kind)) (nat_lt max_idle_seconds (seconds_of i)) e in
+    (not_below (seconds_of i) (minimum_for i.kind) (some_minimum i.kind) p.0, not_above (seconds_of i) p.1)
 
 found_step : (p : Idle → Bool) (i : Idle) (is : List Idle) (v : Bool) → is_out_of_range i ≡ false → IfSome (find p is) (λ j. is_out_of_range j ≡ false) → IfSome (cond v (Some i) (find p is)) (λ j. is_out_of_range j ≡ false)
 found_step p i is true h k = h
@@ -79,39 +79,39 @@ found k i is e there =
     in_range i (subst P (sym there) (found_in_range (is_of_kind k) is e))
 
 -- what it says is what is said for the kind
-pub found_says : (k : IdleKind) (i : Idle) (is : List Idle) → Some i ≡ find (is_of_kind k) is → seconds_of i ≡ idle_for is k
-found_says k i is there = ap (λ o. unwrap_or (option_map seconds_of o) (limit_for usual_limits k)) there
+pub found_limit : (k : IdleKind) (i : Idle) (is : List Idle) → Some i ≡ find (is_of_kind k) is → seconds_of i ≡ idle_for is k
+found_limit k i is there = ap (λ o. unwrap_or (option_map seconds_of o) (limit_for usual_limits k)) there
 
 -- where no line says it, the usual ones are
-pub usual_says : (k : IdleKind) (is : List Idle) → None ≡ find (is_of_kind k) is → limit_for usual_limits k ≡ idle_for is k
-usual_says k is none = ap (λ o. unwrap_or (option_map seconds_of o) (limit_for usual_limits k)) none
+pub usual_limit : (k : IdleKind) (is : List Idle) → None ≡ find (is_of_kind k) is → limit_for usual_limits k ≡ idle_for is k
+usual_limit k is none = ap (λ o. unwrap_or (option_map seconds_of o) (limit_for usual_limits k)) none
 
 pub usual_positive : (k : IdleKind) → 0 < limit_for usual_limits k
 usual_positive kinds.Udp = omega arith
 usual_positive kinds.Established = omega arith
 usual_positive kinds.Transitory = omega arith
-usual_positive kinds.Ask = omega arith
+usual_positive kinds.Echo = omega arith
 usual_positive kinds.Other = omega arith
 
-said_positive : (k : IdleKind) (is : List Idle) → list_any is_out_of_range is ≡ false → (o : Option Idle) → o ≡ find (is_of_kind k) is → 0 < idle_for is k
-said_positive k is e None there = subst (λ (n : ℕ). 0 < n) (usual_says k is there) (usual_positive k)
-said_positive k is e (Some i) there = subst (λ (n : ℕ). 0 < n) (found_says k i is there) (found k i is e there).0
+limit_at_least_one : (k : IdleKind) (is : List Idle) → list_any is_out_of_range is ≡ false → (o : Option Idle) → o ≡ find (is_of_kind k) is → 0 < idle_for is k
+limit_at_least_one k is e None there = subst (λ (n : ℕ). 0 < n) (usual_limit k is there) (usual_positive k)
+limit_at_least_one k is e (Some i) there = subst (λ (n : ℕ). 0 < n) (found_limit k i is there) (found k i is e there).0
 
-said : (k : IdleKind) (is : List Idle) → list_any is_out_of_range is ≡ false → nat_lt 0 (idle_for is k) ≡ true
-said k is e = lt-ltb _ _ (said_positive k is e (find (is_of_kind k) is) refl)
+limit_positive : (k : IdleKind) (is : List Idle) → list_any is_out_of_range is ≡ false → nat_lt 0 (idle_for is k) ≡ true
+limit_positive k is e = lt-ltb _ _ (limit_at_least_one k is e (find (is_of_kind k) is) refl)
 
 -- lines in range say limits
 pub limits_of : (is : List Idle) → list_any is_out_of_range is ≡ false → Limits
 limits_of is e =
-    made (idle_for is kinds.Established, idle_for is kinds.Transitory, idle_for is kinds.Udp, idle_for is kinds.Ask, idle_for is kinds.Other)
-    (rw (said kinds.Established is e, said kinds.Transitory is e, said kinds.Udp is e, said kinds.Ask is e, said kinds.Other is e) refl)
+    made (idle_for is kinds.Established, idle_for is kinds.Transitory, idle_for is kinds.Udp, idle_for is kinds.Echo, idle_for is kinds.Other)
+    (rw (limit_positive kinds.Established is e, limit_positive kinds.Transitory is e, limit_positive kinds.Udp is e, limit_positive kinds.Echo is e, limit_positive kinds.Other is e) refl)
 
 pub are_limits : (is : List Idle) (e : list_any is_out_of_range is ≡ false) → AreLimits is (limits_of is e)
 unfolding limits_of
 are_limits is e kinds.Udp = refl
 are_limits is e kinds.Established = refl
 are_limits is e kinds.Transitory = refl
-are_limits is e kinds.Ask = refl
+are_limits is e kinds.Echo = refl
 are_limits is e kinds.Other = refl
 
 -- ---- the code's seconds

@@ -9,10 +9,10 @@ use Rattle.std.proofs.lemmas.Bool.{ltb-true, lt-ltb, eqb-true, false≢true, and
 use Rattle.std.proofs.lemmas.Bool.Decides.{nat_tests}
 use Rattle.std.proofs.lemmas.Fmt.{digits_decimal, digits_value-decimal, decimal-digits_value, decimal_nonempty, first_decimal, length-decimal-le}
 use Rattle.std.specs.Option.{option_map}
-use Rattle.list_laws.specs.Options.{if_found, bind_found}
+use Rattle.list_laws.specs.Options.{IfSome_cond, IfSome_bind}
 use Rattle.box_file.specs.declared.idle_line.IdleKind.{IdleKind}
 use Rattle.box_file.specs.declared.idle_line.IdleKind.TheVariants as kinds
-use Rattle.box_file.specs.Text.{has_some, words_of, lines_of, dotted, dotted_prefix, is_numeral}
+use Rattle.box_file.specs.Text.{is_nonempty, words_of, lines_of, dotted, dotted_prefix, is_numeral}
 use Rattle.box_file.specs.Idle.{word_of}
 use Rattle.box_file.specs.Box.{Interface, NamedRoute, Idle, Line, interface_line, route_line, default_line, idle_line, words_in, is_name_byte, IsName, IsLine, each_is_line, same_text, Reads}
 use Rattle.box_file.specs.steps.Reading.{uncons, has_none, onto, cut, number_in, is_name, name_in, octet_in, address_in, prefixed_in, interface_words, route_words, default_words, kind_in, idle_words, line_of, line_in, all_in, lines_in}
@@ -72,7 +72,7 @@ lone_zero (d ∷ ds) e z =
 
 number_found : (ds : List ℕ) → IfSome (number_in ds) (λ n. (decimal n ≡ ds) × (n < 2 ^ 32))
 unfolding number_in
-number_found ds = if_found _ (is_numeral ds && nat_lt (digits_value 10 ds) 4294967296) (digits_value 10 ds) (λ e.
+number_found ds = IfSome_cond _ (is_numeral ds && nat_lt (digits_value 10 ds) 4294967296) (digits_value 10 ds) (λ e.
     let p = and_parts (is_numeral ds) (nat_lt (digits_value 10 ds) 4294967296) e in
     let plain = numeral_digits ds p.0 in
     let small : digits_value 10 ds < 4294967296 = ltb-true _ _ p.1 in
@@ -113,7 +113,7 @@ decimal_lacks at n other small = lacks_all is_ascii_digit at other (decimal n) (
 
 octet_found : (ds : List ℕ) → IfSome (octet_in ds) (λ n. (decimal n ≡ ds) × (n < 256))
 unfolding octet_in
-octet_found ds = bind_found _ (number_in ds) _ (number_found ds) (λ n en. if_found _ (nat_lt n 256) n (λ e. (en.0, ltb-true _ _ e)))
+octet_found ds = IfSome_bind _ (number_in ds) _ (number_found ds) (λ n en. IfSome_cond _ (nat_lt n 256) n (λ e. (en.0, ltb-true _ _ e)))
 
 octet_only : (n : ℕ) → n < 256 → octet_in (decimal n) ≡ Some n
 unfolding octet_in
@@ -142,13 +142,13 @@ dotted_joined w x y z hw hx hy hz =
 address_found : (bs : List ℕ) → IfSome (address_in bs) (λ a. (dotted a ≡ bs) × (a < 2 ^ 32))
 unfolding address_in
 address_found bs =
-    bind_found _ (cut 46 bs) _ (cut_found 46 bs) (λ a ea.
-    bind_found _ (cut 46 a.1) _ (cut_found 46 a.1) (λ b eb.
-    bind_found _ (cut 46 b.1) _ (cut_found 46 b.1) (λ c ec.
-    bind_found _ (octet_in a.0) _ (octet_found a.0) (λ w ew.
-    bind_found _ (octet_in b.0) _ (octet_found b.0) (λ x ex.
-    bind_found _ (octet_in c.0) _ (octet_found c.0) (λ y ey.
-    bind_found _ (octet_in c.1) _ (octet_found c.1) (λ z ez.
+    IfSome_bind _ (cut 46 bs) _ (cut_found 46 bs) (λ a ea.
+    IfSome_bind _ (cut 46 a.1) _ (cut_found 46 a.1) (λ b eb.
+    IfSome_bind _ (cut 46 b.1) _ (cut_found 46 b.1) (λ c ec.
+    IfSome_bind _ (octet_in a.0) _ (octet_found a.0) (λ w ew.
+    IfSome_bind _ (octet_in b.0) _ (octet_found b.0) (λ x ex.
+    IfSome_bind _ (octet_in c.0) _ (octet_found c.0) (λ y ey.
+    IfSome_bind _ (octet_in c.1) _ (octet_found c.1) (λ z ez.
     let whole = dotted_joined w x y z ew.1 ex.1 ey.1 ez.1 in
     (whole.0 ∙ rw (ea, eb, ec, ew.0, ex.0, ey.0, ez.0) refl, whole.1))))))))
 
@@ -186,10 +186,10 @@ dotted_lacks at a other dot small =
 prefixed_found : (bs : List ℕ) → IfSome (prefixed_in bs) (λ p. (bs ≡ dotted_prefix p.0 p.1) × (p.0 < 2 ^ 32) × (p.1 < 33))
 unfolding prefixed_in
 prefixed_found bs =
-    bind_found _ (cut 47 bs) _ (cut_found 47 bs) (λ a ea.
-    bind_found _ (address_in a.0) _ (address_found a.0) (λ d ed.
-    bind_found _ (number_in a.1) _ (number_found a.1) (λ n en.
-    if_found {A = ℕ × ℕ} _ (nat_lt n 33) (d, n) (λ e. (ea ∙ rw (ed.0, en.0) refl, ed.1, ltb-true _ _ e)))))
+    IfSome_bind _ (cut 47 bs) _ (cut_found 47 bs) (λ a ea.
+    IfSome_bind _ (address_in a.0) _ (address_found a.0) (λ d ed.
+    IfSome_bind _ (number_in a.1) _ (number_found a.1) (λ n en.
+    IfSome_cond {A = ℕ × ℕ} _ (nat_lt n 33) (d, n) (λ e. (ea ∙ rw (ed.0, en.0) refl, ed.1, ltb-true _ _ e)))))
 
 prefixed_only : (a p : ℕ) → a < 2 ^ 32 → p < 33 → prefixed_in (dotted_prefix a p) ≡ Some (a, p)
 unfolding prefixed_in
@@ -201,7 +201,7 @@ prefixed_only a p small short =
 
 name_found : (bs : List ℕ) → IfSome (name_in bs) (λ n. (n ≡ bs) × IsName n)
 unfolding name_in
-name_found bs = if_found _ (is_name bs) bs (λ e.
+name_found bs = IfSome_cond _ (is_name bs) bs (λ e.
     let p = and_parts (nat_lt 0 (length bs) && nat_lt (length bs) 16) (list_all is_name_byte bs) e in
     let q = and_parts (nat_lt 0 (length bs)) (nat_lt (length bs) 16) p.0 in
     (refl, (ltb-true _ _ q.0, ltb-true _ _ q.1, p.1)))
@@ -226,13 +226,13 @@ none_left (x ∷ xs) e = absurd cc
 interface_found : (ws : List (List ℕ)) → IfSome (interface_words ws) (λ l. IsLine l × (words_in l ≡ codes "interface" ∷ ws))
 unfolding interface_words
 interface_found ws =
-    bind_found _ (uncons ws) _ (uncons_found ws) (λ a ea.
-    bind_found _ (uncons a.1) _ (uncons_found a.1) (λ b eb.
-    bind_found _ (uncons b.1) _ (uncons_found b.1) (λ c ec.
-    bind_found _ (number_in a.0) _ (number_found a.0) (λ i ei.
-    bind_found _ (name_in b.0) _ (name_found b.0) (λ n en.
-    bind_found _ (prefixed_in c.0) _ (prefixed_found c.0) (λ p ep.
-    if_found _ (has_none c.1 && nat_lt 0 i && nat_lt i 2147483648 && nat_lt 0 p.1) (interface_line (record { index = i; name = n; address = p.0; prefix = p.1 })) (λ e.
+    IfSome_bind _ (uncons ws) _ (uncons_found ws) (λ a ea.
+    IfSome_bind _ (uncons a.1) _ (uncons_found a.1) (λ b eb.
+    IfSome_bind _ (uncons b.1) _ (uncons_found b.1) (λ c ec.
+    IfSome_bind _ (number_in a.0) _ (number_found a.0) (λ i ei.
+    IfSome_bind _ (name_in b.0) _ (name_found b.0) (λ n en.
+    IfSome_bind _ (prefixed_in c.0) _ (prefixed_found c.0) (λ p ep.
+    IfSome_cond _ (has_none c.1 && nat_lt 0 i && nat_lt i 2147483648 && nat_lt 0 p.1) (interface_line (record { index = i; name = n; address = p.0; prefix = p.1 })) (λ e.
     let f = and_parts (has_none c.1 && nat_lt 0 i && nat_lt i 2147483648) (nat_lt 0 p.1) e in
     let g = and_parts (has_none c.1 && nat_lt 0 i) (nat_lt i 2147483648) f.0 in
     let h = and_parts (has_none c.1) (nat_lt 0 i) g.0 in
@@ -249,11 +249,11 @@ interface_only i h =
 route_found : (ws : List (List ℕ)) → IfSome (route_words ws) (λ l. IsLine l × (words_in l ≡ codes "route" ∷ ws))
 unfolding route_words
 route_found ws =
-    bind_found _ (uncons ws) _ (uncons_found ws) (λ a ea.
-    bind_found _ (uncons a.1) _ (uncons_found a.1) (λ b eb.
-    bind_found _ (prefixed_in a.0) _ (prefixed_found a.0) (λ p ep.
-    bind_found _ (name_in b.0) _ (name_found b.0) (λ n en.
-    if_found _ (has_none b.1 && p.0 % 2 ^ (32 - p.1) == 0) (route_line (record { address = p.0; prefix = p.1; name = n })) (λ e.
+    IfSome_bind _ (uncons ws) _ (uncons_found ws) (λ a ea.
+    IfSome_bind _ (uncons a.1) _ (uncons_found a.1) (λ b eb.
+    IfSome_bind _ (prefixed_in a.0) _ (prefixed_found a.0) (λ p ep.
+    IfSome_bind _ (name_in b.0) _ (name_found b.0) (λ n en.
+    IfSome_cond _ (has_none b.1 && p.0 % 2 ^ (32 - p.1) == 0) (route_line (record { address = p.0; prefix = p.1; name = n })) (λ e.
     let f = and_parts (has_none b.1) (p.0 % 2 ^ (32 - p.1) == 0) e in
     ((ep.1, ep.2, eqb-true _ _ f.1, en.1), rw (ea, eb, none_left b.1 f.0, en.0, ep.0) refl))))))
 
@@ -266,9 +266,9 @@ route_only r h =
 default_found : (ws : List (List ℕ)) → IfSome (default_words ws) (λ l. IsLine l × (words_in l ≡ codes "default" ∷ ws))
 unfolding default_words
 default_found ws =
-    bind_found _ (uncons ws) _ (uncons_found ws) (λ a ea.
-    bind_found _ (name_in a.0) _ (name_found a.0) (λ n en.
-    if_found _ (has_none a.1) (default_line n) (λ e. (en.1, rw (ea, none_left a.1 e, en.0) refl))))
+    IfSome_bind _ (uncons ws) _ (uncons_found ws) (λ a ea.
+    IfSome_bind _ (name_in a.0) _ (name_found a.0) (λ n en.
+    IfSome_cond _ (has_none a.1) (default_line n) (λ e. (en.1, rw (ea, none_left a.1 e, en.0) refl))))
 
 default_only : (n : List ℕ) → IsName n → default_words (n ∷ []) ≡ Some (default_line n)
 unfolding default_words
@@ -289,22 +289,22 @@ kind_by word k o h = choice_found (λ l. word_of l ≡ word) (same_text word (wo
 
 kind_found : (word : List ℕ) → IfSome (kind_in word) (λ k. word_of k ≡ word)
 kind_found word =
-    kind_by word kinds.Udp _ (kind_by word kinds.Established _ (kind_by word kinds.Transitory _ (kind_by word kinds.Ask _ (kind_by word kinds.Other None tt))))
+    kind_by word kinds.Udp _ (kind_by word kinds.Established _ (kind_by word kinds.Transitory _ (kind_by word kinds.Echo _ (kind_by word kinds.Other None tt))))
 
 kind_only : (k : IdleKind) → kind_in (word_of k) ≡ Some k
 kind_only kinds.Udp = refl
 kind_only kinds.Established = refl
 kind_only kinds.Transitory = refl
-kind_only kinds.Ask = refl
+kind_only kinds.Echo = refl
 kind_only kinds.Other = refl
 
 idle_found : (ws : List (List ℕ)) → IfSome (idle_words ws) (λ l. IsLine l × (words_in l ≡ codes "idle" ∷ ws))
 unfolding idle_words
 idle_found ws =
-    bind_found _ (uncons ws) _ (uncons_found ws) (λ a ea.
-    bind_found _ (uncons a.1) _ (uncons_found a.1) (λ b eb.
-    bind_found _ (kind_in a.0) _ (kind_found a.0) (λ k ek.
-    if_found _ (has_none b.1 && is_numeral b.0) (idle_line (record { kind = k; digits = b.0 })) (λ e.
+    IfSome_bind _ (uncons ws) _ (uncons_found ws) (λ a ea.
+    IfSome_bind _ (uncons a.1) _ (uncons_found a.1) (λ b eb.
+    IfSome_bind _ (kind_in a.0) _ (kind_found a.0) (λ k ek.
+    IfSome_cond _ (has_none b.1 && is_numeral b.0) (idle_line (record { kind = k; digits = b.0 })) (λ e.
     let f = and_parts (has_none b.1) (is_numeral b.0) e in
     (f.1, rw (ea, eb, none_left b.1 f.0, ek) refl)))))
 
@@ -325,7 +325,7 @@ line_of_found word ws =
 
 line_found : (ws : List (List ℕ)) → IfSome (line_in ws) (λ l. IsLine l × (words_in l ≡ ws))
 unfolding line_in
-line_found ws = bind_found _ (uncons ws) _ (uncons_found ws) (λ a ea. rw ea (line_of_found a.0 a.1))
+line_found ws = IfSome_bind _ (uncons ws) _ (uncons_found ws) (λ a ea. rw ea (line_of_found a.0 a.1))
 
 line_only : (l : Line) → IsLine l → line_in (words_in l) ≡ Some l
 unfolding line_in
@@ -343,7 +343,7 @@ next_found t l ts (Some ls) h k = let head = sym h.1 in let tail = k.1 in ((h.0,
 each_found : (ts : List (List (List ℕ))) → IfSome (all_in ts) (λ ls. each_is_line ls × (ts ≡ map words_in ls))
 unfolding all_in
 each_found [] = (tt, refl)
-each_found (t ∷ ts) = bind_found _ (line_in t) _ (line_found t) (λ l el. next_found t l ts (all_in ts) el (each_found ts))
+each_found (t ∷ ts) = IfSome_bind _ (line_in t) _ (line_found t) (λ l el. next_found t l ts (all_in ts) el (each_found ts))
 
 each_only : (ls : List Line) → each_is_line ls → all_in (map words_in ls) ≡ Some ls
 unfolding all_in
@@ -352,7 +352,7 @@ each_only (l ∷ ls) h = rw (line_only l h.0, each_only ls h.1) refl
 
 pub lines_found : (text : List ℕ) (ls : List Line) → lines_in text ≡ Some ls → Reads text ls
 lines_found text ls e =
-    let h = rw e at (each_found (filter has_some (map words_of (lines_of text)))) in
+    let h = rw e at (each_found (filter is_nonempty (map words_of (lines_of text)))) in
     record { each = h.0; written = h.1 }
 
 pub lines_only : (text : List ℕ) (ls : List Line) → Reads text ls → lines_in text ≡ Some ls

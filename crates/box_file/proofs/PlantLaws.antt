@@ -4,10 +4,10 @@ use Rattle.std.specs.Prelude.{filter, find, unwrap_or, IfSome, is_some}
 use Rattle.std.specs.List.{list_any, filter_map}
 use Rattle.std.specs.Option.{option_map}
 use Rattle.std.proofs.lemmas.Bool.{or_parts}
-use Rattle.box_file.specs.Box.{Interface, NamedRoute, RouteTo, Line, interface_line, route_line, default_line, idle_line, each_is_line, IsIndex, interfaces_in, routes_in, defaults_in, route_to, is_named, is_unknown, is_misformed, known_index, entering_of, covers, greatest, best_way}
+use Rattle.box_file.specs.Box.{Interface, NamedRoute, RouteEntry, Line, interface_line, route_line, default_line, idle_line, each_is_line, IsIndex, interfaces_in, routes_in, defaults_in, route_of_line, is_named, is_unknown, is_malformed, known_index, entering_of, covers, greatest, best_interface}
 use Rattle.set_intervals.specs.declared.range.Range.{Range}
 use Rattle.box_file.specs.steps.Best.{GivesBest}
-use Rattle.box_file.specs.steps.Plant.{EachIndexed, EachWay, KnowsNames}
+use Rattle.box_file.specs.steps.Plant.{EachIndexed, EachRouteIndexed, KnowsNames}
 
 -- ---- numbers of interfaces
 
@@ -40,19 +40,19 @@ not_unknown n is true e f = e
 not_unknown n is false e f = absurd cc
 
 -- each route has the number of an interface
-way_numbers : (is : List Interface) → EachIndexed is → (ls : List Line) → each_is_line ls → list_any (λ (r : NamedRoute). is_unknown is r.name) (routes_in ls) ≡ false → EachWay (filter_map (route_to is) ls)
-way_numbers is h [] k e = tt
-way_numbers is h (interface_line i ∷ ls) k e = ((k.0.0, k.0.1), way_numbers is h ls k.1 e)
-way_numbers is h (route_line r ∷ ls) k e =
+route_indexes : (is : List Interface) → EachIndexed is → (ls : List Line) → each_is_line ls → list_any (λ (r : NamedRoute). is_unknown is r.name) (routes_in ls) ≡ false → EachRouteIndexed (filter_map (route_of_line is) ls)
+route_indexes is h [] k e = tt
+route_indexes is h (interface_line i ∷ ls) k e = ((k.0.0, k.0.1), route_indexes is h ls k.1 e)
+route_indexes is h (route_line r ∷ ls) k e =
     let p = or_parts (is_unknown is r.name) (list_any (λ (s : NamedRoute). is_unknown is s.name) (routes_in ls)) e in
-    (known_number r.name is h (not_unknown r.name is (list_any (is_named r.name) is) refl p.0), way_numbers is h ls k.1 p.1)
-way_numbers is h (default_line n ∷ ls) k e = way_numbers is h ls k.1 e
-way_numbers is h (idle_line i ∷ ls) k e = way_numbers is h ls k.1 e
+    (known_number r.name is h (not_unknown r.name is (list_any (is_named r.name) is) refl p.0), route_indexes is h ls k.1 p.1)
+route_indexes is h (default_line n ∷ ls) k e = route_indexes is h ls k.1 e
+route_indexes is h (idle_line i ∷ ls) k e = route_indexes is h ls k.1 e
 
-pub each_way : (ls : List Line) → each_is_line ls → KnowsNames ls → EachWay (filter_map (route_to (interfaces_in ls)) ls)
-each_way ls h k = way_numbers (interfaces_in ls) (each_indexed ls h) ls h (or_parts _ _ k.known).0
+pub each_route_indexed : (ls : List Line) → each_is_line ls → KnowsNames ls → EachRouteIndexed (filter_map (route_of_line (interfaces_in ls)) ls)
+each_route_indexed ls h k = route_indexes (interfaces_in ls) (each_indexed ls h) ls h (or_parts _ _ k.known).0
 
-entry_number : (is : List Interface) (ns : List (List ℕ)) → EachIndexed is → is_misformed ns ≡ false → list_any (is_unknown is) ns ≡ false → IsIndex (entering_of is ns)
+entry_number : (is : List Interface) (ns : List (List ℕ)) → EachIndexed is → is_malformed ns ≡ false → list_any (is_unknown is) ns ≡ false → IsIndex (entering_of is ns)
 entry_number is [] h one e = absurd cc
 entry_number is (n ∷ ns) h one e =
     let p = or_parts (is_unknown is n) (list_any (is_unknown is) ns) e in
@@ -63,24 +63,24 @@ entry_is_index ls h k = entry_number (interfaces_in ls) (defaults_in ls) (each_i
 
 -- ---- the best way's number
 
-kept_step : (p : RouteTo → Bool) (r : RouteTo) (rs : List RouteTo) (b : Bool) → IsIndex r.interface → EachWay (filter p rs) → EachWay (cond b (r ∷ filter p rs) (filter p rs))
+kept_step : (p : RouteEntry → Bool) (r : RouteEntry) (rs : List RouteEntry) (b : Bool) → IsIndex r.interface → EachRouteIndexed (filter p rs) → EachRouteIndexed (cond b (r ∷ filter p rs) (filter p rs))
 kept_step p r rs true h k = (h, k)
 kept_step p r rs false h k = k
 
-filtered_ways : (p : RouteTo → Bool) (rs : List RouteTo) → EachWay rs → EachWay (filter p rs)
-filtered_ways p [] h = tt
-filtered_ways p (r ∷ rs) h = kept_step p r rs (p r) h.0 (filtered_ways p rs h.1)
+filtered_routes : (p : RouteEntry → Bool) (rs : List RouteEntry) → EachRouteIndexed rs → EachRouteIndexed (filter p rs)
+filtered_routes p [] h = tt
+filtered_routes p (r ∷ rs) h = kept_step p r rs (p r) h.0 (filtered_routes p rs h.1)
 
-found_way_step : (p : RouteTo → Bool) (r : RouteTo) (rs : List RouteTo) (b : Bool) → IsIndex r.interface → IfSome (option_map (λ s. s.interface) (find p rs)) IsIndex → IfSome (option_map (λ (s : RouteTo). s.interface) (cond b (Some r) (find p rs))) IsIndex
-found_way_step p r rs true h k = h
-found_way_step p r rs false h k = k
+found_route_step : (p : RouteEntry → Bool) (r : RouteEntry) (rs : List RouteEntry) (b : Bool) → IsIndex r.interface → IfSome (option_map (λ s. s.interface) (find p rs)) IsIndex → IfSome (option_map (λ (s : RouteEntry). s.interface) (cond b (Some r) (find p rs))) IsIndex
+found_route_step p r rs true h k = h
+found_route_step p r rs false h k = k
 
-found_ways : (p : RouteTo → Bool) (rs : List RouteTo) → EachWay rs → IfSome (option_map (λ s. s.interface) (find p rs)) IsIndex
-found_ways p [] h = tt
-found_ways p (r ∷ rs) h = found_way_step p r rs (p r) h.0 (found_ways p rs h.1)
+found_routes : (p : RouteEntry → Bool) (rs : List RouteEntry) → EachRouteIndexed rs → IfSome (option_map (λ s. s.interface) (find p rs)) IsIndex
+found_routes p [] h = tt
+found_routes p (r ∷ rs) h = found_route_step p r rs (p r) h.0 (found_routes p rs h.1)
 
-pub best_number : (rs : List RouteTo) (a : ℕ) → EachWay rs → IfSome (best_way rs a) IsIndex
-best_number rs a h = let covering = filter (covers a) rs in found_ways (λ r. r.prefix == greatest covering) covering (filtered_ways (covers a) rs h)
+pub best_number : (rs : List RouteEntry) (a : ℕ) → EachRouteIndexed rs → IfSome (best_interface rs a) IsIndex
+best_number rs a h = let covering = filter (covers a) rs in found_routes (λ r. r.prefix == greatest covering) covering (filtered_routes (covers a) rs h)
 
 -- ---- finding and being there
 
@@ -92,27 +92,27 @@ some-map : {A B : Type 0} (f : A → B) (o : Option A) → is_some (option_map f
 some-map f None = refl
 some-map f (Some x) = refl
 
-pub there_told : {A : Type 0} (f : A → Interface) (p : Interface → Bool) (is : List Interface) (o : Option A) (b : Bool) → option_map f o ≡ find p is → b ≡ is_some o → b ≡ list_any p is
-there_told f p is o b e told = told ∙ sym (some-map f o) ∙ ap is_some e ∙ some-found p is
+pub is_there : {A : Type 0} (f : A → Interface) (p : Interface → Bool) (is : List Interface) (o : Option A) (b : Bool) → option_map f o ≡ find p is → b ≡ is_some o → b ≡ list_any p is
+is_there f p is o b e decided = decided ∙ sym (some-map f o) ∙ ap is_some e ∙ some-found p is
 
 pub number_found : (p : Interface → Bool) (is : List Interface) (i : Interface) → EachIndexed is → Some i ≡ find p is → IsIndex i.index
 number_found p is i h e =
     let P : Option Interface → Type 0 = λ o. IfSome (option_map (λ j. j.index) o) IsIndex in
     subst P (sym e) (found_index p is h)
 
-pub way_found : (rs : List RouteTo) (b : ℕ) (o : Option ℕ) → EachWay rs → o ≡ best_way rs b → IfSome o IsIndex
-way_found rs b o h e = let P : Option ℕ → Type 0 = λ w. IfSome w IsIndex in subst P (sym e) (best_number rs b h)
+pub route_found_index : (rs : List RouteEntry) (b : ℕ) (o : Option ℕ) → EachRouteIndexed rs → o ≡ best_interface rs b → IfSome o IsIndex
+route_found_index rs b o h e = let P : Option ℕ → Type 0 = λ w. IfSome w IsIndex in subst P (sym e) (best_number rs b h)
 
 -- ---- the parts of a plant
 
 pub sound_indexes : (is js : List Interface) → is ≡ js → EachIndexed js → EachIndexed is
 sound_indexes is js e h = let P : List Interface → Type 0 = λ ks. EachIndexed ks in subst P (sym e) h
 
-pub sound_ways : (rs ss : List RouteTo) → rs ≡ ss → EachWay ss → EachWay rs
-sound_ways rs ss e h = let P : List RouteTo → Type 0 = λ ts. EachWay ts in subst P (sym e) h
+pub sound_routes : (rs ss : List RouteEntry) → rs ≡ ss → EachRouteIndexed ss → EachRouteIndexed rs
+sound_routes rs ss e h = let P : List RouteEntry → Type 0 = λ ts. EachRouteIndexed ts in subst P (sym e) h
 
 pub sound_entry : (m n : ℕ) → m ≡ n → IsIndex n → IsIndex m
 sound_entry m n e h = let P : ℕ → Type 0 = λ k. IsIndex k in subst P (sym e) h
 
-pub sound_table : (table : List (Range × ℕ)) (rs ss : List RouteTo) → rs ≡ ss → GivesBest table rs → GivesBest table ss
-sound_table table rs ss e h a = h a ∙ ap (λ ts. best_way ts a) e
+pub sound_table : (table : List (Range × ℕ)) (rs ss : List RouteEntry) → rs ≡ ss → GivesBest table rs → GivesBest table ss
+sound_table table rs ss e h a = h a ∙ ap (λ ts. best_interface ts a) e

@@ -10,7 +10,7 @@ use Rattle.std.proofs.lemmas.Bool.Decides.{nat_tests}
 use Rattle.std.proofs.lemmas.List.{take_more, take-append-drop}
 use Rattle.std.proofs.lemmas.Option.{same_Some}
 use Rattle.std.proofs.Math.Bool.{or-false}
-use Rattle.box_file.specs.Box.{some_two}
+use Rattle.box_file.specs.Box.{any_pair}
 use Rattle.box_file.specs.steps.Tests.{two_values, value_at}
 
 or_assoc : (a b c : Bool) → (a || b) || c ≡ a || (b || c)
@@ -28,29 +28,29 @@ pub any-append : {A : Type 0} (p : A → Bool) (xs ys : List A) → list_any p (
 any-append p [] ys = refl
 any-append p (x ∷ xs) ys = ap (λ v. p x || v) (any-append p xs ys) ∙ sym (or_assoc (p x) (list_any p xs) (list_any p ys))
 
-pub two-push : {A : Type 0} (t : A → A → Bool) (xs : List A) (y : A) → some_two t (xs ++ y ∷ []) ≡ some_two t xs || list_any (λ x. t x y) xs
+pub two-push : {A : Type 0} (t : A → A → Bool) (xs : List A) (y : A) → any_pair t (xs ++ y ∷ []) ≡ any_pair t xs || list_any (λ x. t x y) xs
 two-push t [] y = refl
 two-push t (x ∷ xs) y =
     let first : list_any (t x) (xs ++ y ∷ []) ≡ list_any (t x) xs || t x y = any-append (t x) xs (y ∷ []) ∙ ap (λ v. list_any (t x) xs || v) (or-false (t x y)) in
-    rw (first, two-push t xs y) (or_swap (list_any (t x) xs) (t x y) (some_two t xs) (list_any (λ z. t z y) xs))
+    rw (first, two-push t xs y) (or_swap (list_any (t x) xs) (t x y) (any_pair t xs) (list_any (λ z. t z y) xs))
 
 front_step : (a b c d f : Bool) → a || b ≡ true → f ≡ a || c → (b ≡ true → d ≡ true) → f || d ≡ true
 front_step true b c d f e g h = rw g refl
 front_step false b c d f e g h = or_right f d (h e)
 
 -- what stands twice in the front stands twice in the whole
-two_in_front : {A : Type 0} (t : A → A → Bool) (xs ys : List A) → some_two t xs ≡ true → some_two t (xs ++ ys) ≡ true
+two_in_front : {A : Type 0} (t : A → A → Bool) (xs ys : List A) → any_pair t xs ≡ true → any_pair t (xs ++ ys) ≡ true
 two_in_front t [] ys e = absurd cc
-two_in_front t (x ∷ xs) ys e = front_step (list_any (t x) xs) (some_two t xs) (list_any (t x) ys) (some_two t (xs ++ ys)) (list_any (t x) (xs ++ ys)) e (any-append (t x) xs ys) (two_in_front t xs ys)
+two_in_front t (x ∷ xs) ys e = front_step (list_any (t x) xs) (any_pair t xs) (list_any (t x) ys) (any_pair t (xs ++ ys)) (list_any (t x) (xs ++ ys)) e (any-append (t x) xs ys) (two_in_front t xs ys)
 
 -- one more at the end of the front
-pub two_more : {A : Type 0} (t : A → A → Bool) (xs : List A) (i : ℕ) (d : A) (v : Bool) → i < length xs → some_two t (take i xs) ≡ false → list_any (λ x. t x (get_or xs i d)) (take i xs) ≡ v → some_two t (take (i + 1) xs) ≡ v
-two_more t xs i d v lt none here = ap (some_two t) (take_more xs i d lt) ∙ two-push t (take i xs) (get_or xs i d) ∙ ap (λ w. w || list_any (λ x. t x (get_or xs i d)) (take i xs)) none ∙ here
+pub two_more : {A : Type 0} (t : A → A → Bool) (xs : List A) (i : ℕ) (d : A) (v : Bool) → i < length xs → any_pair t (take i xs) ≡ false → list_any (λ x. t x (get_or xs i d)) (take i xs) ≡ v → any_pair t (take (i + 1) xs) ≡ v
+two_more t xs i d v lt none here = ap (any_pair t) (take_more xs i d lt) ∙ two-push t (take i xs) (get_or xs i d) ∙ ap (λ w. w || list_any (λ x. t x (get_or xs i d)) (take i xs)) none ∙ here
 
-pub two_found : {A : Type 0} (t : A → A → Bool) (xs : List A) (i : ℕ) (d : A) → i < length xs → some_two t (take i xs) ≡ false → list_any (λ x. t x (get_or xs i d)) (take i xs) ≡ true → some_two t xs ≡ true
+pub two_found : {A : Type 0} (t : A → A → Bool) (xs : List A) (i : ℕ) (d : A) → i < length xs → any_pair t (take i xs) ≡ false → list_any (λ x. t x (get_or xs i d)) (take i xs) ≡ true → any_pair t xs ≡ true
 two_found t xs i d lt none here =
-    let front : some_two t (take (i + 1) xs) ≡ true = two_more t xs i d true lt none here in
-    ap (some_two t) (sym (take-append-drop (i + 1) xs)) ∙ two_in_front t (take (i + 1) xs) (drop (i + 1) xs) front
+    let front : any_pair t (take (i + 1) xs) ≡ true = two_more t xs i d true lt none here in
+    ap (any_pair t) (sym (take-append-drop (i + 1) xs)) ∙ two_in_front t (take (i + 1) xs) (drop (i + 1) xs) front
 
 -- ---- one key with two values
 
@@ -82,15 +82,15 @@ agree_step x xs k v true e others at h =
     let same : x.1 ≡ v = same_Some x.1 v at in
     let key : x.0 ≡ k = eqb-true _ _ e in
     let rest : list_any (λ y. two_values y (x.0, x.1)) xs ≡ false = any_flip x xs ∙ others in
-    let told : list_any (λ y. two_values y (k, v)) xs ≡ false = rw (key, same) at rest in
-    rw (e, same_number x.1 v same) told
+    let decided : list_any (λ y. two_values y (k, v)) xs ≡ false = rw (key, same) at rest in
+    rw (e, same_number x.1 v same) decided
 agree_step x xs k v false e others at h = rw e (h at)
 
 -- where no key has two values yet, a pair with the key's value gives it none
-pub agrees : (xs : List (ℕ × ℕ)) (k v : ℕ) → some_two two_values xs ≡ false → value_at k xs ≡ Some v → list_any (λ y. two_values y (k, v)) xs ≡ false
+pub agrees : (xs : List (ℕ × ℕ)) (k v : ℕ) → any_pair two_values xs ≡ false → value_at k xs ≡ Some v → list_any (λ y. two_values y (k, v)) xs ≡ false
 agrees [] k v none at = refl
 agrees (x ∷ xs) k v none at =
-    let parts = or_parts (list_any (two_values x) xs) (some_two two_values xs) none in
+    let parts = or_parts (list_any (two_values x) xs) (any_pair two_values xs) none in
     agree_step x xs k v (x.0 == k) refl parts.0 at (agrees xs k v parts.1)
 
 clash_step : (x : ℕ × ℕ) (xs : List (ℕ × ℕ)) (k v w : ℕ) (b : Bool) → (x.0 == k) ≡ b → (w == v) ≡ false → cond b (Some x.1) (value_at k xs) ≡ Some w → (value_at k xs ≡ Some w → list_any (λ y. two_values y (k, v)) xs ≡ true) → list_any (λ y. two_values y (k, v)) (x ∷ xs) ≡ true
@@ -151,8 +151,8 @@ number_here x xs b v e f = any_flips x xs ∙ sym e ∙ f
 pub map_more : (q : ℕ) (xs : List (ℕ × ℕ)) (i : ℕ) (d : ℕ × ℕ) (old : ℕ → Option ℕ) (new : Option ℕ) → i < length xs → ((n : ℕ) → old n ≡ value_at n (take i xs)) → (old (get_or xs i d).0 ≡ None) ⊎ (old (get_or xs i d).0 ≡ Some (get_or xs i d).1) → new ≡ cond (is_eq (nat_cmp (get_or xs i d).0 q)) (Some (get_or xs i d).1) (old q) → new ≡ value_at q (take (i + 1) xs)
 map_more q xs i d old new lt was at now =
     let x = get_or xs i d in
-    let told : (value_at x.0 (take i xs) ≡ None) ⊎ (value_at x.0 (take i xs) ≡ Some x.1) = elim at [ inl e ↦ inl (sym (was x.0) ∙ e) | inr e ↦ inr (sym (was x.0) ∙ e) ] in
-    now ∙ ap (λ v. cond v (Some x.1) (old q)) (at_key x.0 q) ∙ ap (λ o. cond (x.0 == q) (Some x.1) o) (was q) ∙ sym (value_more q xs i d lt told)
+    let decided : (value_at x.0 (take i xs) ≡ None) ⊎ (value_at x.0 (take i xs) ≡ Some x.1) = elim at [ inl e ↦ inl (sym (was x.0) ∙ e) | inr e ↦ inr (sym (was x.0) ∙ e) ] in
+    now ∙ ap (λ v. cond v (Some x.1) (old q)) (at_key x.0 q) ∙ ap (λ o. cond (x.0 == q) (Some x.1) o) (was q) ∙ sym (value_more q xs i d lt decided)
 
 pub other_number : (m n : ℕ) → (m ≡ n → ⊥) → (m == n) ≡ false
 other_number m n h = grind (arith, nat_tests)

@@ -6,7 +6,7 @@ use Rattle.std.proofs.lemmas.Bool.{false≢true, eqb-true}
 use Rattle.std.proofs.lemmas.Bool.Decides.{nat_tests}
 use Rattle.std.proofs.lemmas.List.{append-nil}
 use Rattle.list_laws.specs.Lists.{rest_from}
-use Rattle.box_file.specs.Text.{onto_first, parts_of, is_blank, has_some, before_comment, words_of}
+use Rattle.box_file.specs.Text.{onto_first, parts_of, is_blank, is_nonempty, before_comment, words_of}
 use Rattle.box_file.specs.steps.Reading.{begins_word, ends_word, uncons}
 
 -- ---- places
@@ -62,7 +62,7 @@ onto-prepend b [] = refl
 onto-prepend b (p ∷ ps) = refl
 
 abbrev WordFront : ℕ → List ℕ → List ℕ → Type 0
-WordFront c w ts = filter has_some (prepend (c ∷ w) (parts_of is_blank (before_comment ts))) ≡ ((c ∷ w) ++ take (position_or_len ends_word ts) ts) ∷ words_of (drop (position_or_len ends_word ts) ts)
+WordFront c w ts = filter is_nonempty (prepend (c ∷ w) (parts_of is_blank (before_comment ts))) ≡ ((c ∷ w) ++ take (position_or_len ends_word ts) ts) ∷ words_of (drop (position_or_len ends_word ts) ts)
 
 front_step : (c : ℕ) (w : List ℕ) (b : ℕ) (bs : List ℕ) (s v : Bool) → (b == 35) ≡ s → is_blank b ≡ v → WordFront c (w ++ b ∷ []) bs → WordFront c w (b ∷ bs)
 front_step c w b bs true true es ev h = rw (ev, es) (ap (λ (t : List ℕ). t ∷ []) (sym (append-nil (c ∷ w))))
@@ -73,7 +73,7 @@ front_step c w b bs false false es ev h =
     let n = position_or_len ends_word bs in
     let left : prepend (c ∷ w) (onto_first b P) ≡ prepend (c ∷ (w ++ b ∷ [])) P = prepend-onto (c ∷ w) b P in
     let joined : (c ∷ (w ++ b ∷ [])) ++ take n bs ≡ (c ∷ w) ++ (b ∷ take n bs) = append_assoc (c ∷ w) (b ∷ []) (take n bs) in
-    rw (es, ev, one-add) (ap (filter has_some) left ∙ h ∙ ap (λ (t : List ℕ). t ∷ words_of (drop n bs)) joined)
+    rw (es, ev, one-add) (ap (filter is_nonempty) left ∙ h ∙ ap (λ (t : List ℕ). t ∷ words_of (drop n bs)) joined)
 
 word_front : (c : ℕ) (w ts : List ℕ) → WordFront c w ts
 word_front c w [] = ap (λ (t : List ℕ). t ∷ []) (sym (append-nil (c ∷ w)))
@@ -85,7 +85,7 @@ taken_step b bs true false es ev some = let none : 0 < 0 = rw (ev, es) at some i
 taken_step b bs false true es ev some = let none : 0 < 0 = rw ev at some in absurd (omega arith)
 taken_step b bs false false es ev some =
     let P = parts_of is_blank (before_comment bs) in
-    rw (ev, es, ev, one-add) (ap (filter has_some) (onto-prepend b P) ∙ word_front b [] bs)
+    rw (ev, es, ev, one-add) (ap (filter is_nonempty) (onto-prepend b P) ∙ word_front b [] bs)
 
 pub word_taken : (ts : List ℕ) → 0 < position_or_len ends_word ts → words_of ts ≡ take (position_or_len ends_word ts) ts ∷ words_of (drop (position_or_len ends_word ts) ts)
 word_taken [] some = absurd (omega arith)

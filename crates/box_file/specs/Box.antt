@@ -13,8 +13,8 @@ use Rattle.box_file.specs.declared.fault.BoxError.{BoxError}
 use Rattle.box_file.specs.declared.fault.BoxError.TheVariants.{Refused, Memory}
 use Rattle.box_file.specs.declared.idle_line.IdleKind.{IdleKind}
 use Rattle.box_file.specs.declared.limits.Limits.{Limits}
-use Rattle.box_file.specs.Text.{has_some, words_of, lines_of, dotted_prefix, is_numeral}
-use Rattle.box_file.specs.Idle.{word_of, is_same_kind, limit_for, usual_limits, least_for, greatest_idle}
+use Rattle.box_file.specs.Text.{is_nonempty, words_of, lines_of, dotted_prefix, is_numeral}
+use Rattle.box_file.specs.Idle.{word_of, is_same_kind, limit_for, usual_limits, minimum_for, max_idle_seconds}
 
 -- ---- lines
 
@@ -74,7 +74,7 @@ each_is_line (l ∷ ls) = IsLine l × each_is_line ls
 -- the text, its lines without words left out, is these lines
 pub record Reads (text : List ℕ) (lines : List Line) : Type 0 where
   pub each : each_is_line lines
-  pub written : filter has_some (map words_of (lines_of text)) ≡ map words_in lines
+  pub written : filter is_nonempty (map words_of (lines_of text)) ≡ map words_in lines
 
 -- ---- what stands in the lines, in text order
 
@@ -123,9 +123,9 @@ same_text (x ∷ xs) [] = false
 same_text (x ∷ xs) (y ∷ ys) = x == y && same_text xs ys
 
 -- some two of a list pass the test, the earlier one first
-abbrev pub some_two : {A : Type 0} → (A → A → Bool) → List A → Bool
-some_two test [] = false
-some_two test (x ∷ xs) = list_any (test x) xs || some_two test xs
+abbrev pub any_pair : {A : Type 0} → (A → A → Bool) → List A → Bool
+any_pair test [] = false
+any_pair test (x ∷ xs) = list_any (test x) xs || any_pair test xs
 
 abbrev pub two_names : Interface → Interface → Bool
 two_names i j = i.index == j.index && not (same_text i.name j.name)
@@ -150,15 +150,15 @@ abbrev pub is_unknown : List Interface → List ℕ → Bool
 is_unknown interfaces n = not (list_any (is_named n) interfaces)
 
 -- there isn't exactly one default
-abbrev pub is_misformed : List (List ℕ) → Bool
-is_misformed defaults = not (length defaults == 1)
+abbrev pub is_malformed : List (List ℕ) → Bool
+is_malformed defaults = not (length defaults == 1)
 
 -- some index has two names, some name two indexes, an address stands twice, or a route's prefix, or a kind of idle
 -- limit, whatever its seconds
 abbrev pub is_repeated : List Interface → List NamedRoute → List Idle → Bool
 is_repeated interfaces routes idles =
-    some_two two_names interfaces || some_two two_indexes interfaces || some_two same_address interfaces
-    || some_two same_prefix routes || some_two same_kind idles
+    any_pair two_names interfaces || any_pair two_indexes interfaces || any_pair same_address interfaces
+    || any_pair same_prefix routes || any_pair same_kind idles
 
 -- a route or the default names no interface
 abbrev pub has_unknown : List Interface → List NamedRoute → List (List ℕ) → Bool
@@ -175,25 +175,25 @@ seconds_of i = digits_value 10 i.digits
 
 -- below the least for its kind, or above a week
 abbrev pub is_out_of_range : Idle → Bool
-is_out_of_range i = nat_lt (seconds_of i) (least_for i.kind) || nat_lt greatest_idle (seconds_of i)
+is_out_of_range i = nat_lt (seconds_of i) (minimum_for i.kind) || nat_lt max_idle_seconds (seconds_of i)
 
 -- whether a text of these lines has the fault
-abbrev pub is_wrong : List ℕ → List Line → BoxFault → Bool
-is_wrong text lines Form = is_misformed (defaults_in lines)
-is_wrong text lines Repeated = is_repeated (interfaces_in lines) (routes_in lines) (idles_in lines)
-is_wrong text lines UnknownName = has_unknown (interfaces_in lines) (routes_in lines) (defaults_in lines)
-is_wrong text lines TooLarge = is_too_large text (interfaces_in lines) (routes_in lines)
-is_wrong text lines OutOfRange = list_any is_out_of_range (idles_in lines)
+abbrev pub has_fault : List ℕ → List Line → BoxFault → Bool
+has_fault text lines Form = is_malformed (defaults_in lines)
+has_fault text lines Repeated = is_repeated (interfaces_in lines) (routes_in lines) (idles_in lines)
+has_fault text lines UnknownName = has_unknown (interfaces_in lines) (routes_in lines) (defaults_in lines)
+has_fault text lines TooLarge = is_too_large text (interfaces_in lines) (routes_in lines)
+has_fault text lines OutOfRange = list_any is_out_of_range (idles_in lines)
 
 -- the least of its faults
-abbrev pub least : List ℕ → List Line → Option BoxFault
-least text lines = find (is_wrong text lines) (Form ∷ Repeated ∷ UnknownName ∷ TooLarge ∷ OutOfRange ∷ [])
+abbrev pub least_fault : List ℕ → List Line → Option BoxFault
+least_fault text lines = find (has_fault text lines) (Form ∷ Repeated ∷ UnknownName ∷ TooLarge ∷ OutOfRange ∷ [])
 
 -- a text is refused for this fault: it is no lines, or the least that is wrong with them
 abbrev pub HasBoxFault : List ℕ → BoxFault → Type 0
 HasBoxFault text fault =
     (((lines : List Line) → Reads text lines → ⊥) × (fault ≡ Form))
-    ⊎ ((lines : List Line) × Reads text lines × (least text lines ≡ Some fault))
+    ⊎ ((lines : List Line) × Reads text lines × (least_fault text lines ≡ Some fault))
 
 -- an error is the text's fault, or none of the text's
 abbrev pub IsBoxRefusal : List ℕ → BoxError → Type 0
@@ -203,7 +203,7 @@ IsBoxRefusal text Memory = Unit {0}
 -- ---- what the lines mean
 
 -- a prefix, and the index of the interface that packets to it leave by
-pub record RouteTo : Type 0 where
+pub record RouteEntry : Type 0 where
   pub address : ℕ
   pub prefix : ℕ
   pub interface : ℕ
@@ -212,7 +212,7 @@ pub record PlantTree : Type 0 where
   -- one for each interface line, in text order
   pub interfaces : List Interface
   -- in text order
-  pub routes : List RouteTo
+  pub routes : List RouteEntry
   -- the interface of the default line
   pub entering : ℕ
   -- for how long connections may be idle
@@ -227,12 +227,12 @@ abbrev pub known_index : List Interface → List ℕ → ℕ
 known_index interfaces n = unwrap_or (index_of interfaces n) 0
 
 -- an interface's line is also a route to its prefix, at its place in the text
-abbrev pub route_to : List Interface → Line → Option RouteTo
-route_to interfaces (interface_line i) = Some (record { address = i.address; prefix = i.prefix; interface = i.index })
-route_to interfaces (route_line r) =
+abbrev pub route_of_line : List Interface → Line → Option RouteEntry
+route_of_line interfaces (interface_line i) = Some (record { address = i.address; prefix = i.prefix; interface = i.index })
+route_of_line interfaces (route_line r) =
     Some (record { address = r.address; prefix = r.prefix; interface = known_index interfaces r.name })
-route_to interfaces (default_line n) = None
-route_to interfaces (idle_line i) = None
+route_of_line interfaces (default_line n) = None
+route_of_line interfaces (idle_line i) = None
 
 -- the index of the interface that the first default names
 abbrev pub entering_of : List Interface → List (List ℕ) → ℕ
@@ -255,7 +255,7 @@ abbrev pub plant_of : List Line → Limits → PlantTree
 plant_of lines idle =
     record {
       interfaces = interfaces_in lines;
-      routes = filter_map (route_to (interfaces_in lines)) lines;
+      routes = filter_map (route_of_line (interfaces_in lines)) lines;
       entering = entering_of (interfaces_in lines) (defaults_in lines);
       idle = idle;
     }
@@ -264,7 +264,7 @@ plant_of lines idle =
 pub record IsBox (text : List ℕ) (plant : PlantTree) : Type 0 where
   pub lines : List Line
   pub read : Reads text lines
-  pub faultless : least text lines ≡ None
+  pub faultless : least_fault text lines ≡ None
   pub limits : AreLimits (idles_in lines) plant.idle
   pub meant : plant ≡ plant_of lines plant.idle
 
@@ -301,21 +301,21 @@ abbrev pub name_of : PlantTree → ℕ → Option (List ℕ)
 name_of plant n = option_map (λ i. i.name) (find (has_index n) plant.interfaces)
 
 -- the address agrees with the route's in the prefix's bits
-abbrev pub covers : ℕ → RouteTo → Bool
+abbrev pub covers : ℕ → RouteEntry → Bool
 covers a r = r.address / 2 ^ (32 - r.prefix) == a / 2 ^ (32 - r.prefix)
 
-abbrev pub greatest : List RouteTo → ℕ
+abbrev pub greatest : List RouteEntry → ℕ
 greatest [] = 0
 greatest (r ∷ rs) = max r.prefix (greatest rs)
 
 -- the first of greatest prefix
-abbrev pub best_of : List RouteTo → Option RouteTo
+abbrev pub best_of : List RouteEntry → Option RouteEntry
 best_of routes = find (λ r. r.prefix == greatest routes) routes
 
 -- the interface of the best of the routes that cover the address
-abbrev pub best_way : List RouteTo → ℕ → Option ℕ
-best_way routes a = option_map (λ r. r.interface) (best_of (filter (covers a) routes))
+abbrev pub best_interface : List RouteEntry → ℕ → Option ℕ
+best_interface routes a = option_map (λ r. r.interface) (best_of (filter (covers a) routes))
 
 -- among the routes that cover the address one of greatest prefix, the first in the text; none for 224.0.0.0 and above
 abbrev pub route : PlantTree → ℕ → Option ℕ
-route plant a = if nat_lt a 3758096384 then best_way plant.routes a else None
+route plant a = if nat_lt a 3758096384 then best_interface plant.routes a else None

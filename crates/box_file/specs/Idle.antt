@@ -1,7 +1,7 @@
 -- For how long connections may be idle: the kinds that a box file tells apart, what is usual, and what may be said.
 use Rattle.std.specs.Prelude.{refl, ℕ, ◌==◌, Bool, List, codes}
 use Rattle.box_file.specs.declared.idle_line.IdleKind.{IdleKind}
-use Rattle.box_file.specs.declared.idle_line.IdleKind.TheVariants.{Udp, Established, Transitory, Ask, Other}
+use Rattle.box_file.specs.declared.idle_line.IdleKind.TheVariants.{Udp, Established, Transitory, Echo, Other}
 use Rattle.box_file.specs.declared.limits.Limits.{Limits}
 
 -- in seconds: two hours and four minutes for an established connection of TCP and four minutes for one that opens or
@@ -12,7 +12,7 @@ usual_limits = record {
   established = 7440;
   transitory = 240;
   udp = 300;
-  ask = 60;
+  echo = 60;
   other = 600;
   positive = refl;
 }
@@ -22,14 +22,14 @@ abbrev pub word_of : IdleKind → List ℕ
 word_of Udp = codes "udp"
 word_of Established = codes "established"
 word_of Transitory = codes "transitory"
-word_of Ask = codes "ask"
+word_of Echo = codes "ask"
 word_of Other = codes "other"
 
 abbrev pub number_of : IdleKind → ℕ
 number_of Udp = 0
 number_of Established = 1
 number_of Transitory = 2
-number_of Ask = 3
+number_of Echo = 3
 number_of Other = 4
 
 abbrev pub is_same_kind : IdleKind → IdleKind → Bool
@@ -40,19 +40,19 @@ abbrev pub limit_for : Limits → IdleKind → ℕ
 limit_for limits Udp = limits.udp
 limit_for limits Established = limits.established
 limit_for limits Transitory = limits.transitory
-limit_for limits Ask = limits.ask
+limit_for limits Echo = limits.echo
 limit_for limits Other = limits.other
 
 -- the least that a box file may say, in seconds: two minutes for UDP (RFC 4787, REQ-5), two hours and four minutes
 -- for an established connection of TCP and four minutes for one that opens or closes (RFC 5382, REQ-5), one second
 -- for the others (own)
-abbrev pub least_for : IdleKind → ℕ
-least_for Udp = 120
-least_for Established = 7440
-least_for Transitory = 240
-least_for Ask = 1
-least_for Other = 1
+abbrev pub minimum_for : IdleKind → ℕ
+minimum_for Udp = 120
+minimum_for Established = 7440
+minimum_for Transitory = 240
+minimum_for Echo = 1
+minimum_for Other = 1
 
 -- the most that it may say: a week (own)
-abbrev pub greatest_idle : ℕ
-greatest_idle = 604800
+abbrev pub max_idle_seconds : ℕ
+max_idle_seconds = 604800

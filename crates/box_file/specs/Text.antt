@@ -21,9 +21,9 @@ is_newline b = b == 10
 abbrev pub is_blank : ℕ → Bool
 is_blank b = b == 32 || b == 9
 
-abbrev pub has_some : {A : Type 0} → List A → Bool
-has_some [] = false
-has_some (x ∷ xs) = true
+abbrev pub is_nonempty : {A : Type 0} → List A → Bool
+is_nonempty [] = false
+is_nonempty (x ∷ xs) = true
 
 -- what stands before the first `#`
 abbrev pub before_comment : List ℕ → List ℕ
@@ -32,7 +32,7 @@ before_comment (b ∷ bs) = if b == 35 then [] else b ∷ before_comment bs
 
 -- the words of a line: parted by blanks, up to a comment
 abbrev pub words_of : List ℕ → List (List ℕ)
-words_of line = filter has_some (parts_of is_blank (before_comment line))
+words_of line = filter is_nonempty (parts_of is_blank (before_comment line))
 
 abbrev pub lines_of : List ℕ → List (List ℕ)
 lines_of = parts_of is_newline

@@ -1,23 +1,23 @@
 //! Finds what the lines of a box file are refused for.
 ghost use Rattle.std.specs.Prelude.{◌≡◌, ◌++◌, map, length, IfOk};
 ghost use Rattle.std.specs.List.{list_any};
-ghost use Rattle.box_file.specs.Box.{interfaces_in, routes_in, defaults_in, idles_in, each_is_line, is_out_of_range, is_repeated, has_unknown, is_too_large, least};
+ghost use Rattle.box_file.specs.Box.{interfaces_in, routes_in, defaults_in, idles_in, each_is_line, is_out_of_range, is_repeated, has_unknown, is_too_large, least_fault};
 ghost use Rattle.box_file.specs.steps.Reading.{interface_tree, route_tree, idle_tree, line_tree};
-ghost use Rattle.box_file.specs.steps.Tests.{key_of, index_and_name, name_and_index, prefix_key, kind_key, EachNamed, EachShort, EachName, IsSorted, least_of};
+ghost use Rattle.box_file.specs.steps.Tests.{key_of, index_and_name, name_and_index, prefix_key, kind_key, EachNamed, EachShort, EachName, AreLinesByKind, least_fault_of};
 
+use crate::duplicates::{has_conflicting_values, has_duplicate, has_unknown};
 use crate::fault::BoxFault;
 use crate::idle::is_out_of_range;
 use crate::idle_line::IdleLine;
 use crate::line::{InterfaceLine, Line, RouteLine};
-use crate::repeats::{has_twice, has_two_values, has_unknown};
 use std::alloc::{AllocError, Global};
 
 /// A longer text is refused.
-const MOST_BYTES: usize = 1_048_576;
+const MAX_BYTES: usize = 1_048_576;
 /// More interface lines are refused.
-const MOST_INTERFACES: usize = 64;
+const MAX_INTERFACES: usize = 64;
 /// More route lines are refused.
-const MOST_ROUTES: usize = 1024;
+const MAX_ROUTES: usize = 1024;
 
 /// The interface lines among the lines.
 pub fn interfaces<'t>(
@@ -194,27 +194,27 @@ fn is_repeated(
         ≡ is_repeated (map interface_tree interfaces.now) (map route_tree routes.now) (map idle_tree idles.now)) }
 {
     let by_index = index_names(alloc, interfaces)?;
-    if has_two_values(alloc, &by_index)? {
+    if has_conflicting_values(alloc, &by_index)? {
         return Ok(true);
     }
     let by_name = name_indexes(alloc, interfaces)?;
-    if has_two_values(alloc, &by_name)? {
+    if has_conflicting_values(alloc, &by_name)? {
         return Ok(true);
     }
     let own = addresses(alloc, interfaces)?;
-    if has_twice(alloc, &own)? {
+    if has_duplicate(alloc, &own)? {
         return Ok(true);
     }
     let networks = prefixes(alloc, routes)?;
-    if has_twice(alloc, &networks)? {
+    if has_duplicate(alloc, &networks)? {
         return Ok(true);
     }
     let kinds = kinds(alloc, idles)?;
-    has_twice(alloc, &kinds)
+    has_duplicate(alloc, &kinds)
 }
 
 /// Whether a route or the default names no interface.
-fn names_none(
+fn names_unknown_interface(
     alloc: Global,
     interfaces: &[InterfaceLine],
     routes: &[RouteLine],
@@ -235,7 +235,7 @@ fn names_none(
 fn is_too_large(text: &[u8], interfaces: &[InterfaceLine], routes: &[RouteLine]) -> bool
     ensures { result ≡ is_too_large text.now (map interface_tree interfaces.now) (map route_tree routes.now) }
 {
-    text.len() > MOST_BYTES || interfaces.len() > MOST_INTERFACES || routes.len() > MOST_ROUTES
+    text.len() > MAX_BYTES || interfaces.len() > MAX_INTERFACES || routes.len() > MAX_ROUTES
 }
 
 /// Whether an idle limit is out of its range.
@@ -247,7 +247,7 @@ fn has_out_of_range(idles: &[IdleLine]) -> bool
 
 /// The lines of a text by their kinds.
 #[derive(Drop)]
-struct Sorted<'t> {
+struct LinesByKind<'t> {
     interfaces: Vec<InterfaceLine<'t>>,
     routes: Vec<RouteLine<'t>>,
     defaults: Vec<&'t [u8]>,
@@ -255,10 +255,10 @@ struct Sorted<'t> {
 }
 
 /// Sorts the lines.
-fn by_kind<'t>(alloc: Global, lines: &[Line<'t>]) -> Result<Sorted<'t>, AllocError>
-    ensures { IfOk result (λ s. IsSorted (map line_tree lines.now) (map interface_tree s.interfaces.items) (map route_tree s.routes.items) (map (λ n. n.now) s.defaults.items) (map idle_tree s.idles.items)) }
+fn lines_by_kind<'t>(alloc: Global, lines: &[Line<'t>]) -> Result<LinesByKind<'t>, AllocError>
+    ensures { IfOk result (λ s. AreLinesByKind (map line_tree lines.now) (map interface_tree s.interfaces.items) (map route_tree s.routes.items) (map (λ n. n.now) s.defaults.items) (map idle_tree s.idles.items)) }
 {
-    Ok(Sorted {
+    Ok(LinesByKind {
         interfaces: interfaces(alloc, lines)?,
         routes: routes(alloc, lines)?,
         defaults: defaults(alloc, lines)?,
@@ -267,7 +267,7 @@ fn by_kind<'t>(alloc: Global, lines: &[Line<'t>]) -> Result<Sorted<'t>, AllocErr
 }
 
 /// The least fault that applies, of a text with these lines of each kind.
-fn least_of(
+fn least_fault_of(
     alloc: Global,
     text: &[u8],
     interfaces: &[InterfaceLine],
@@ -279,7 +279,7 @@ fn least_of(
     requires short { EachShort (map route_tree routes.now) }
     requires names { EachName (map (λ n. n.now) defaults.now) }
     ensures { IfOk result (λ o. o
-        ≡ least_of text.now (map interface_tree interfaces.now) (map route_tree routes.now) (map (λ n. n.now) defaults.now) (map idle_tree idles.now)) }
+        ≡ least_fault_of text.now (map interface_tree interfaces.now) (map route_tree routes.now) (map (λ n. n.now) defaults.now) (map idle_tree idles.now)) }
 {
     if defaults.len() != 1 {
         return Ok(Some(BoxFault::Form));
@@ -287,7 +287,7 @@ fn least_of(
     if is_repeated(alloc, interfaces, routes, idles)? {
         return Ok(Some(BoxFault::Repeated));
     }
-    if names_none(alloc, interfaces, routes, defaults)? {
+    if names_unknown_interface(alloc, interfaces, routes, defaults)? {
         return Ok(Some(BoxFault::UnknownName));
     }
     if is_too_large(text, interfaces, routes) {
@@ -302,10 +302,10 @@ fn least_of(
 /// The least fault that applies, of a text that is these lines.
 pub fn fault_of(alloc: Global, text: &[u8], lines: &[Line]) -> Result<Option<BoxFault>, AllocError>
     requires { each_is_line (map line_tree lines.now) }
-    ensures { IfOk result (λ o. o ≡ least text.now (map line_tree lines.now)) }
+    ensures { IfOk result (λ o. o ≡ least_fault text.now (map line_tree lines.now)) }
 {
-    let sorted = by_kind(alloc, lines)?;
-    least_of(
+    let sorted = lines_by_kind(alloc, lines)?;
+    least_fault_of(
         alloc,
         text,
         &sorted.interfaces,

@@ -6,7 +6,7 @@ ghost use Rattle.box_file.specs.Idle.{limit_for, usual_limits};
 ghost use Rattle.box_file.specs.Box.{AreLimits, idle_for, is_of_kind, is_out_of_range, seconds_of};
 ghost use Rattle.box_file.specs.steps.Reading.{idle_tree};
 
-use crate::idle_line::{GREATEST, IdleKind, IdleLine};
+use crate::idle_line::{IdleKind, IdleLine, MAX_IDLE_SECONDS};
 use crate::limits::Limits;
 use crate::numbers::number;
 
@@ -23,11 +23,11 @@ pub fn is_out_of_range(line: &IdleLine) -> bool
     ensures { result ≡ is_out_of_range (idle_tree line.now) }
 {
     let seconds = seconds(line);
-    seconds < line.kind.least() || GREATEST < seconds
+    seconds < line.kind.minimum() || MAX_IDLE_SECONDS < seconds
 }
 
 /// The first line of the kind.
-fn with_kind<'i, 't>(lines: &'i [IdleLine<'t>], kind: IdleKind) -> Option<&'i IdleLine<'t>>
+fn find_by_kind<'i, 't>(lines: &'i [IdleLine<'t>], kind: IdleKind) -> Option<&'i IdleLine<'t>>
     ensures { option_map (λ i. idle_tree i.now) result ≡ find (is_of_kind kind) (map idle_tree lines.now) }
 {
     let mut rest = lines;
@@ -46,7 +46,7 @@ fn limit(lines: &[IdleLine], kind: IdleKind) -> u32
     ensures value { result ≡ idle_for (map idle_tree lines.now) kind }
     ensures positive { 0 < result }
 {
-    match with_kind(lines, kind) {
+    match find_by_kind(lines, kind) {
         Some(line) => seconds(line),
         None => Limits::usual().of(kind),
     }
@@ -61,7 +61,7 @@ pub fn limits(lines: &[IdleLine]) -> Limits
         established: limit(lines, IdleKind::Established),
         transitory: limit(lines, IdleKind::Transitory),
         udp: limit(lines, IdleKind::Udp),
-        ask: limit(lines, IdleKind::Ask),
+        echo: limit(lines, IdleKind::Echo),
         other: limit(lines, IdleKind::Other),
     }
 }

@@ -3,16 +3,16 @@ ghost use Rattle.std.specs.Prelude.{IsTrue};
 ghost use Rattle.box_file.specs.Text.{is_numeral};
 
 // The least that may be said, in seconds. For UDP: two minutes (RFC 4787, REQ-5).
-const LEAST_UDP: u32 = 120;
+const MIN_UDP: u32 = 120;
 // For an established connection of TCP: two hours and four minutes (RFC 5382, REQ-5).
-const LEAST_ESTABLISHED: u32 = 7_440;
+const MIN_ESTABLISHED: u32 = 7_440;
 // For one of TCP that opens or closes: four minutes (RFC 5382, REQ-5).
-const LEAST_TRANSITORY: u32 = 240;
+const MIN_TRANSITORY: u32 = 240;
 // For the others no limit is 0.
-const LEAST_OF_OTHERS: u32 = 1;
+const MIN_OTHER: u32 = 1;
 
 /// The most that may be said for any kind, in seconds: a week.
-pub const GREATEST: u32 = 604_800;
+pub const MAX_IDLE_SECONDS: u32 = 604_800;
 
 /// `idle udp 120`. Its number, of any size, borrows the text.
 #[derive(Clone, Copy)]
@@ -32,24 +32,24 @@ pub enum IdleKind {
     /// Those of TCP that open or close.
     Transitory,
     /// Those begun by an ask for an echo.
-    Ask,
+    Echo,
     /// Those of other protocols.
     Other,
 }
 
 impl IdleKind {
     ghost use Rattle.std.specs.Prelude.{◌≡◌};
-    ghost use Rattle.box_file.specs.Idle.{least_for, number_of};
+    ghost use Rattle.box_file.specs.Idle.{minimum_for, number_of};
 
     /// The least that a box file may say for it.
-    pub fn least(self) -> u32
-        ensures { result ≡ least_for self }
+    pub fn minimum(self) -> u32
+        ensures { result ≡ minimum_for self }
     {
         match self {
-            IdleKind::Udp => LEAST_UDP,
-            IdleKind::Established => LEAST_ESTABLISHED,
-            IdleKind::Transitory => LEAST_TRANSITORY,
-            IdleKind::Ask | IdleKind::Other => LEAST_OF_OTHERS,
+            IdleKind::Udp => MIN_UDP,
+            IdleKind::Established => MIN_ESTABLISHED,
+            IdleKind::Transitory => MIN_TRANSITORY,
+            IdleKind::Echo | IdleKind::Other => MIN_OTHER,
         }
     }
 
@@ -61,7 +61,7 @@ impl IdleKind {
             IdleKind::Udp => 0,
             IdleKind::Established => 1,
             IdleKind::Transitory => 2,
-            IdleKind::Ask => 3,
+            IdleKind::Echo => 3,
             IdleKind::Other => 4,
         }
     }

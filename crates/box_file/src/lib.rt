@@ -3,6 +3,7 @@
 #![tactic(auto)]
 
 mod checks;
+mod duplicates;
 mod fault;
 mod idle;
 mod idle_line;
@@ -11,7 +12,6 @@ mod limits;
 mod line;
 mod numbers;
 mod plant;
-mod repeats;
 mod routes;
 mod words;
 

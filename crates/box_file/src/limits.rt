@@ -11,7 +11,7 @@ const USUAL_TRANSITORY: u32 = 240;
 // What is recommended for UDP: five minutes (RFC 4787, REQ-5).
 const USUAL_UDP: u32 = 300;
 // The least for an echo: one minute (RFC 5508, REQ-2).
-const USUAL_ASK: u32 = 60;
+const USUAL_ECHO: u32 = 60;
 // For other protocols no RFC says: ten minutes.
 const USUAL_OTHER: u32 = 600;
 
@@ -26,10 +26,10 @@ pub struct Limits {
     /// Of UDP.
     pub udp: u32,
     /// Of ICMP, begun by an ask for an echo.
-    pub ask: u32,
+    pub echo: u32,
     /// Of another protocol.
     pub other: u32,
-    pub ghost positive: { IsTrue (nat_lt 0 established && nat_lt 0 transitory && nat_lt 0 udp && nat_lt 0 ask && nat_lt 0 other) },
+    pub ghost positive: { IsTrue (nat_lt 0 established && nat_lt 0 transitory && nat_lt 0 udp && nat_lt 0 echo && nat_lt 0 other) },
 }
 
 impl Limits {
@@ -44,7 +44,7 @@ impl Limits {
             established: USUAL_ESTABLISHED,
             transitory: USUAL_TRANSITORY,
             udp: USUAL_UDP,
-            ask: USUAL_ASK,
+            echo: USUAL_ECHO,
             other: USUAL_OTHER,
         }
     }
@@ -57,7 +57,7 @@ impl Limits {
             IdleKind::Udp => self.udp,
             IdleKind::Established => self.established,
             IdleKind::Transitory => self.transitory,
-            IdleKind::Ask => self.ask,
+            IdleKind::Echo => self.echo,
             IdleKind::Other => self.other,
         }
     }

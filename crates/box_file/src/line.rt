@@ -50,10 +50,10 @@ fn interface(rest: &[u8]) -> Option<Line<'_>>
 {
     let (index, rest) = word(rest)?;
     let (own_name, rest) = word(rest)?;
-    let (place, rest) = word(rest)?;
+    let (prefix_word, rest) = word(rest)?;
     let index = number(index)?;
     let name = name(own_name)?;
-    let (address, prefix) = prefixed(place)?;
+    let (address, prefix) = prefixed(prefix_word)?;
     if is_end(rest) && 0 < index && index < 2_147_483_648 && 0 < prefix {
         Some(Line::Interface(InterfaceLine {
             index,
@@ -71,9 +71,9 @@ fn interface(rest: &[u8]) -> Option<Line<'_>>
 fn route(rest: &[u8]) -> Option<Line<'_>>
     ensures { option_map line_tree result ≡ route_words (words_of rest.now) }
 {
-    let (place, rest) = word(rest)?;
+    let (prefix_word, rest) = word(rest)?;
     let (out_name, rest) = word(rest)?;
-    let (address, prefix) = prefixed(place)?;
+    let (address, prefix) = prefixed(prefix_word)?;
     let name = name(out_name)?;
     if is_end(rest) && is_network(address, prefix) {
         Some(Line::Route(RouteLine {
@@ -111,7 +111,7 @@ fn idle_kind(word: &[u8]) -> Option<IdleKind>
     } else if word == b"transitory".as_slice() {
         Some(IdleKind::Transitory)
     } else if word == b"ask".as_slice() {
-        Some(IdleKind::Ask)
+        Some(IdleKind::Echo)
     } else if word == b"other".as_slice() {
         Some(IdleKind::Other)
     } else {

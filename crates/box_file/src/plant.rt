@@ -2,9 +2,9 @@
 ghost use Rattle.std.specs.Prelude.{◌≡◌, map, find, unwrap_or, false, IfOk, IfErr, IfSome};
 ghost use Rattle.std.specs.List.{filter_map, list_any};
 ghost use Rattle.std.specs.Option.{option_map};
-ghost use Rattle.box_file.specs.Box.{has_address, has_index, is_named, index_of, known_index, route_to, entering_of, AreLimits, plant_of, idles_in, is_out_of_range, IsBox, IsBoxRefusal, IsIndex, route, is_own, owner, first_address, named, name_of, each_is_line};
+ghost use Rattle.box_file.specs.Box.{has_address, has_index, is_named, index_of, known_index, route_of_line, entering_of, AreLimits, plant_of, idles_in, is_out_of_range, IsBox, IsBoxRefusal, IsIndex, route, is_own, owner, first_address, named, name_of, each_is_line};
 ghost use Rattle.box_file.specs.steps.Reading.{interface_tree, line_tree};
-ghost use Rattle.box_file.specs.steps.Best.{way_tree};
+ghost use Rattle.box_file.specs.steps.Best.{route_entry};
 ghost use Rattle.box_file.specs.steps.Plant.{interface_of, KnowsNames};
 
 use crate::checks::{defaults, fault_of, idles, interfaces};
@@ -98,9 +98,9 @@ fn known_index(lines: &[InterfaceLine], name: &[u8]) -> IfIndex
 }
 
 /// The route that the line gives: an interface's line gives one to its own prefix.
-fn route_to(interfaces: &[InterfaceLine], line: &Line) -> Option<Route>
-    ensures { option_map way_tree result
-        ≡ route_to (map interface_tree interfaces.now) (line_tree line.now) }
+fn route_of_line(interfaces: &[InterfaceLine], line: &Line) -> Option<Route>
+    ensures { option_map route_entry result
+        ≡ route_of_line (map interface_tree interfaces.now) (line_tree line.now) }
 {
     match line {
         Line::Interface(interface) => Some(Route {
@@ -123,12 +123,12 @@ fn routes(
     interfaces: &[InterfaceLine],
     lines: &[Line],
 ) -> Result<Vec<Route>, AllocError>
-    ensures { IfOk result (λ v. map way_tree v.items
-        ≡ filter_map (route_to (map interface_tree interfaces.now)) (map line_tree lines.now)) }
+    ensures { IfOk result (λ v. map route_entry v.items
+        ≡ filter_map (route_of_line (map interface_tree interfaces.now)) (map line_tree lines.now)) }
 {
     let mut found = Vec::new(alloc);
     for line in lines {
-        if let Some(route) = route_to(interfaces, line) {
+        if let Some(route) = route_of_line(interfaces, line) {
             found.push(route)?;
         }
     }
@@ -171,7 +171,7 @@ fn plant_of(alloc: Global, lines: &[Line]) -> Result<Plant, AllocError>
 }
 
 /// The first interface with this address.
-fn with_address(interfaces: &[Interface], address: u32) -> Option<&Interface>
+fn find_by_address(interfaces: &[Interface], address: u32) -> Option<&Interface>
     ensures { option_map (λ i. interface_of i.now) result
         ≡ find (has_address address) (map interface_of interfaces.now) }
 {
@@ -186,7 +186,7 @@ fn with_address(interfaces: &[Interface], address: u32) -> Option<&Interface>
 }
 
 /// The first interface with this index.
-fn with_index(interfaces: &[Interface], index: IfIndex) -> Option<&Interface>
+fn find_by_index(interfaces: &[Interface], index: IfIndex) -> Option<&Interface>
     ensures { option_map (λ i. interface_of i.now) result
         ≡ find (has_index index) (map interface_of interfaces.now) }
 {
@@ -201,7 +201,7 @@ fn with_index(interfaces: &[Interface], index: IfIndex) -> Option<&Interface>
 }
 
 /// The first interface with this name.
-fn with_name<'p>(interfaces: &'p [Interface], name: &[u8]) -> Option<&'p Interface>
+fn find_by_name<'p>(interfaces: &'p [Interface], name: &[u8]) -> Option<&'p Interface>
     ensures { option_map (λ i. interface_of i.now) result
         ≡ find (is_named name.now) (map interface_of interfaces.now) }
 {
@@ -246,7 +246,7 @@ impl Plant {
     pub fn is_own(&self, address: u32) -> bool
         ensures { result ≡ is_own self.now address }
     {
-        with_address(&self.interfaces, address).is_some()
+        find_by_address(&self.interfaces, address).is_some()
     }
 
     /// The interface that has the address.
@@ -254,7 +254,7 @@ impl Plant {
         ensures value { result ≡ owner self.now address }
         ensures index { IfSome result IsIndex }
     {
-        let interface = with_address(&self.interfaces, address)?;
+        let interface = find_by_address(&self.interfaces, address)?;
         Some(interface.index)
     }
 
@@ -262,7 +262,7 @@ impl Plant {
     pub fn first_address(&self, index: IfIndex) -> Option<u32>
         ensures { result ≡ first_address self.now index }
     {
-        let interface = with_index(&self.interfaces, index)?;
+        let interface = find_by_index(&self.interfaces, index)?;
         Some(interface.address)
     }
 
@@ -271,7 +271,7 @@ impl Plant {
         ensures value { result ≡ named self.now name.now }
         ensures index { IfSome result IsIndex }
     {
-        let interface = with_name(&self.interfaces, name)?;
+        let interface = find_by_name(&self.interfaces, name)?;
         Some(interface.index)
     }
 
@@ -279,7 +279,7 @@ impl Plant {
     pub fn name(&self, index: IfIndex) -> Option<&[u8]>
         ensures { option_map (λ n. n.now) result ≡ name_of self.now index }
     {
-        let interface = with_index(&self.interfaces, index)?;
+        let interface = find_by_index(&self.interfaces, index)?;
         Some(&interface.name)
     }
 

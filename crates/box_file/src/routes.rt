@@ -1,6 +1,6 @@
 //! Routes, and the table in which an address finds the best of them.
 ghost use Rattle.std.specs.Prelude.{◌≡◌, ◌+◌, ◌-◌, ◌<◌, ◌≤◌, ◌^◌, map, IfOk};
-ghost use Rattle.box_file.specs.steps.Best.{begin_of, end_of, way_tree, GivesBest, GivesFirst, IsLongestFirst};
+ghost use Rattle.box_file.specs.steps.Best.{begin_of, end_of, route_entry, GivesBest, GivesFirst, IsLongestFirst};
 
 use set_intervals::{Intervals, Range};
 use std::alloc::{AllocError, Global};
@@ -26,7 +26,7 @@ fn size_of(route: &Route) -> u128
 /// The first address that the route covers.
 #[tactic(auto, using(crate::proofs::BestLaws::begin_is))]
 fn begin_of(route: &Route) -> u128
-    ensures value { result ≡ begin_of (way_tree route.now) }
+    ensures value { result ≡ begin_of (route_entry route.now) }
     ensures fits { result < 2 ^ 32 }
 {
     let address = u128::from(route.address);
@@ -35,8 +35,8 @@ fn begin_of(route: &Route) -> u128
 
 /// The addresses that the route covers.
 fn range_of(route: &Route) -> Range
-    ensures low { result.low ≡ begin_of (way_tree route.now) }
-    ensures high { result.high + 1 ≡ end_of (way_tree route.now) }
+    ensures low { result.low ≡ begin_of (route_entry route.now) }
+    ensures high { result.high + 1 ≡ end_of (route_entry route.now) }
 {
     let begin = begin_of(route);
     Range::new(begin, begin + (size_of(route) - 1)).unwrap()
@@ -45,7 +45,7 @@ fn range_of(route: &Route) -> Range
 /// The routes by their prefixes, the longest first; those of one length stay in order.
 fn longest_first(alloc: Global, routes: &[Route]) -> Result<Vec<Route>, AllocError>
     ensures { IfOk result (λ sorted.
-        IsLongestFirst (map way_tree routes.now) (map way_tree sorted.items)) }
+        IsLongestFirst (map route_entry routes.now) (map route_entry sorted.items)) }
 {
     let mut sorted = Vec::from_slice(alloc, routes)?;
     sorted.sort_by(|one, other| other.prefix.cmp(&one.prefix))?;
@@ -54,7 +54,7 @@ fn longest_first(alloc: Global, routes: &[Route]) -> Result<Vec<Route>, AllocErr
 
 /// The routes' addresses with their interfaces.
 fn pairs_of(alloc: Global, routes: &[Route]) -> Result<Vec<(Range, u32)>, AllocError>
-    ensures { IfOk result (λ pairs. GivesFirst pairs.items (map way_tree routes.now)) }
+    ensures { IfOk result (λ pairs. GivesFirst pairs.items (map route_entry routes.now)) }
 {
     let mut pairs = Vec::new(alloc);
     for route in routes {
@@ -65,7 +65,7 @@ fn pairs_of(alloc: Global, routes: &[Route]) -> Result<Vec<(Range, u32)>, AllocE
 
 /// The table of the routes: the interface of the best of those that cover an address.
 pub fn table(alloc: Global, routes: &[Route]) -> Result<Intervals<u32>, AllocError>
-    ensures { IfOk result (λ table. GivesBest table (map way_tree routes.now)) }
+    ensures { IfOk result (λ table. GivesBest table (map route_entry routes.now)) }
 {
     let sorted = longest_first(alloc, routes)?;
     let pairs = pairs_of(alloc, &sorted)?;

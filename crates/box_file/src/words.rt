@@ -10,8 +10,8 @@ ghost use Rattle.box_file.specs.steps.Reading.{cut, first_line, begins_word, end
 pub fn cut(bytes: &[u8], at: u8) -> Option<(&[u8], &[u8])>
     ensures { option_map (λ x. (x.0.now, x.1.now)) result ≡ cut at bytes.now }
 {
-    let place = bytes.iter().position(|byte| *byte == at)?;
-    Some((&bytes[..place], &bytes[place + 1..]))
+    let index = bytes.iter().position(|byte| *byte == at)?;
+    Some((&bytes[..index], &bytes[index + 1..]))
 }
 
 /// The front of a text up to its first newline, and what follows that.

@@ -4,7 +4,7 @@ use Rattle.std.specs.Prelude.{Contains}
 use Rattle.std.proofs.lemmas.Bool.{cases_lt}
 use Rattle.list_laws.specs.Lists.{Contains-head}
 use Rattle.chain_graph.specs.Graph.{Call, IsPath, jumps}
-use Rattle.chain_graph.specs.Known.{stopped, IsDepth}
+use Rattle.chain_graph.specs.Measures.{saturated, IsDepth}
 use Rattle.chain_graph.specs.Nodes.{Graph, calls_of, Calls}
 use Rattle.chain_graph.specs.steps.Passes.{jump_of, deepest}
 use Rattle.list_laws.specs.Elements.{Contains-tail, Contains-cases}
@@ -13,23 +13,23 @@ pub deepest-append : (f : ℕ → ℕ) (xs ys : List (Call ℕ)) → deepest f (
 deepest-append f [] ys = omega arith
 deepest-append f (e ∷ es) ys = let rest = deepest-append f es ys in omega arith
 
-pub deepest-least : (f : ℕ → ℕ) (calls : List (Call ℕ)) (e : Call ℕ) → Contains calls e → stopped (f e.to + jump_of e) ≤ deepest f calls
+pub deepest-least : (f : ℕ → ℕ) (calls : List (Call ℕ)) (e : Call ℕ) → Contains calls e → saturated (f e.to + jump_of e) ≤ deepest f calls
 deepest-least f [] e h = let l = h.1 in absurd (omega arith)
 deepest-least f (x ∷ xs) e h = ⊎_elim
-    (λ s. subst (λ y. stopped (f y.to + jump_of y) ≤ deepest f (x ∷ xs)) s (omega arith))
+    (λ s. subst (λ y. saturated (f y.to + jump_of y) ≤ deepest f (x ∷ xs)) s (omega arith))
     (λ r. let l = deepest-least f xs e r in omega arith)
     (Contains-cases x xs e h)
 
-pub deepest-found : (f : ℕ → ℕ) (calls : List (Call ℕ)) → (deepest f calls ≡ 0) ⊎ ((e : Call ℕ) × Contains calls e × (deepest f calls ≡ stopped (f e.to + jump_of e)))
+pub deepest-found : (f : ℕ → ℕ) (calls : List (Call ℕ)) → (deepest f calls ≡ 0) ⊎ ((e : Call ℕ) × Contains calls e × (deepest f calls ≡ saturated (f e.to + jump_of e)))
 deepest-found f [] = inl refl
 deepest-found f (x ∷ xs) = ⊎_elim
     (λ l. inr (x, Contains-head x xs, omega (arith, l)))
     (λ l. let same : deepest f (x ∷ xs) ≡ deepest f xs = omega (arith, l) in
     ⊎_elim (λ z. inl (same ∙ z)) (λ r. inr (r.0, Contains-tail x xs r.0 r.1, same ∙ r.2)) (deepest-found f xs))
-    (cases_lt (deepest f xs) (stopped (f x.to + jump_of x)))
+    (cases_lt (deepest f xs) (saturated (f x.to + jump_of x)))
 
 module _ (g : Graph) (c : ℕ) (table : List ℕ) (known : (e : Call ℕ) → Calls g c e → IsDepth g e.to (get_or table e.to 0)) where
-  pub depth-most : (b : ℕ) (es : List (Call ℕ)) → IsPath (Calls g) c es b → stopped (jumps es) ≤ deepest (λ k. get_or table k 0) (calls_of g c)
+  pub depth-most : (b : ℕ) (es : List (Call ℕ)) → IsPath (Calls g) c es b → saturated (jumps es) ≤ deepest (λ k. get_or table k 0) (calls_of g c)
   depth-most b [] p = omega arith
   depth-most b (e ∷ es) p =
       let after = (known e p.0).most b es p.1 in

@@ -2,8 +2,8 @@ pub mod Once
 pub mod NodeLaws
 pub mod CostLaws
 pub mod DepthLaws
-pub mod LeadLaws
+pub mod ReachLaws
 pub mod CycleLaws
 pub mod ReadLaws
 pub mod StepLaws
-pub mod EndLaws
+pub mod OrderLaws

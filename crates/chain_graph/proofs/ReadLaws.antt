@@ -63,7 +63,7 @@ popped path rest after c n e long is =
 pub at-path : (g : List (List ℕ)) (marks : List Mark) (left path rest order : List ℕ) (c : ℕ) → path ≡ rest ++ c ∷ [] → IsSound g marks left path order → IsSound g marks left (rest ++ c ∷ []) order
 at-path g marks left path rest order c e s = subst (λ p. IsSound g marks left p order) e s
 
-pub last-leads : (g : List (List ℕ)) (path rest : List ℕ) (c t : ℕ) → path ≡ rest ++ c ∷ [] → HasEdge g c t → (i : ℕ) → i + 1 ≡ length path → HasEdge g (get_or path i 0) t
-last-leads g path rest c t e edge i h =
+pub last-reaching : (g : List (List ℕ)) (path rest : List ℕ) (c t : ℕ) → path ≡ rest ++ c ∷ [] → HasEdge g c t → (i : ℕ) → i + 1 ≡ length path → HasEdge g (get_or path i 0) t
+last-reaching g path rest c t e edge i h =
     let n = ap length e ∙ length_push rest c in
     subst (λ x. HasEdge g x t) (sym (ap (λ p. get_or p i 0) e ∙ get_or_push rest c 0 i (omega arith))) edge

@@ -13,13 +13,13 @@ pub data NodeTree (K : Type 0) : Type 0 where
   chain : List (List (Call K)) → NodeTree K
   verdict_map : List (Call K) → NodeTree K
 
-abbrev pub itself : {A : Type 0} → A → A
-itself x = x
+abbrev pub identity : {A : Type 0} → A → A
+identity x = x
 
 module _ {K : Type 0} where
   -- all calls of a node
   abbrev pub calls_in : NodeTree K → List (Call K)
-  calls_in (chain ss) = flat_map itself ss
+  calls_in (chain ss) = flat_map identity ss
   calls_in (verdict_map es) = es
 
   -- a path from a to b along these calls, where `calls a e` says that chain a has the call e

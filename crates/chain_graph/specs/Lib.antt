@@ -1,5 +1,5 @@
 pub mod Graph
 pub mod Nodes
 pub mod Order
-pub mod Known
+pub mod Measures
 pub mod steps

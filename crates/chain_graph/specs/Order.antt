@@ -10,7 +10,7 @@ abbrev pub IsRepeatFree : List ℕ → Type 0
 IsRepeatFree xs = (i : ℕ) → i < length xs → Contains (take i xs) (get_or xs i 0) → ⊥
 
 -- each node is in it once, and whatever a node in it leads to stands before it
-pub record IsOrder (g : List (List ℕ)) (order : List ℕ) : Type 0 where
+pub record IsTopologicalOrder (g : List (List ℕ)) (order : List ℕ) : Type 0 where
   pub below : All (λ c. c < length g) order
   pub all : (c : ℕ) → c < length g → Contains order c
   pub once : IsRepeatFree order

@@ -2,8 +2,8 @@
 ghost use Rattle.std.specs.Prelude.{◌≡◌, ◌<◌, ℕ, All, length, map, slice_index, IfOk};
 ghost use Rattle.chain_graph.specs.Graph.{chain_cost, greatest, node_cost};
 ghost use Rattle.chain_graph.specs.Nodes.{call_of, statements_of, node_of, graph_of, targets_of, InRange};
-ghost use Rattle.chain_graph.specs.Order.{IsOrder};
-ghost use Rattle.chain_graph.specs.Known.{stopped, IsCost};
+ghost use Rattle.chain_graph.specs.Order.{IsTopologicalOrder};
+ghost use Rattle.chain_graph.specs.Measures.{saturated, IsCost};
 ghost use Rattle.chain_graph.specs.steps.Passes.{IsWithin};
 
 use crate::node::{Edge, Node};
@@ -25,7 +25,7 @@ fn greatest(costs: &[u64], calls: &[Edge]) -> u64
 fn chain_cost(costs: &[u64], statements: &[Vec<Edge>]) -> u64
     requires { All (λ s. All (λ e. e.to < length costs.now) s.items) statements.now }
     ensures { result
-        ≡ stopped (chain_cost (λ c. slice_index costs.now c) (statements_of statements.now)) }
+        ≡ saturated (chain_cost (λ c. slice_index costs.now c) (statements_of statements.now)) }
 {
     let mut sum = 0u64;
     for calls in statements {
@@ -37,7 +37,7 @@ fn chain_cost(costs: &[u64], statements: &[Vec<Edge>]) -> u64
 /// What a node costs, or the greatest number.
 fn node_cost(costs: &[u64], node: &Node) -> u64
     requires { IsWithin (length costs.now) node.now }
-    ensures { result ≡ stopped (node_cost (λ c. slice_index costs.now c) (node_of node.now)) }
+    ensures { result ≡ saturated (node_cost (λ c. slice_index costs.now c) (node_of node.now)) }
 {
     match node {
         Node::Chain(statements) => chain_cost(costs, statements),
@@ -48,10 +48,10 @@ fn node_cost(costs: &[u64], node: &Node) -> u64
 /// What each node costs, or the greatest number.
 pub fn node_costs(alloc: Global, nodes: &[Node], order: &[usize]) -> Result<Vec<u64>, AllocError>
     requires range { InRange (graph_of nodes.now) (length nodes.now) }
-    requires order { IsOrder (targets_of (graph_of nodes.now)) order.now }
+    requires order { IsTopologicalOrder (targets_of (graph_of nodes.now)) order.now }
     ensures long { IfOk result (λ costs. length costs.items ≡ length nodes.now) }
     ensures costs { IfOk result (λ costs. (cost : ℕ → ℕ) → IsCost (graph_of nodes.now) cost
-        → (c : ℕ) → c < length nodes.now → slice_index costs.items c ≡ stopped (cost c)) }
+        → (c : ℕ) → c < length nodes.now → slice_index costs.items c ≡ saturated (cost c)) }
 {
     let mut costs = vec![in alloc; 0u64; nodes.len()]?;
     for &node in order {

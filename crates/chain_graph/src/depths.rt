@@ -1,9 +1,9 @@
 //! How deep nodes jump.
 ghost use Rattle.std.specs.Prelude.{◌≡◌, ◌<◌, ◌+◌, ℕ, All, length, map, slice_index, IfOk, flat_map};
-ghost use Rattle.chain_graph.specs.Graph.{calls_in, itself};
+ghost use Rattle.chain_graph.specs.Graph.{calls_in, identity};
 ghost use Rattle.chain_graph.specs.Nodes.{call_of, statements_of, node_of, graph_of, targets_of, InRange};
-ghost use Rattle.chain_graph.specs.Order.{IsOrder};
-ghost use Rattle.chain_graph.specs.Known.{stopped, IsDepth};
+ghost use Rattle.chain_graph.specs.Order.{IsTopologicalOrder};
+ghost use Rattle.chain_graph.specs.Measures.{saturated, IsDepth};
 ghost use Rattle.chain_graph.specs.steps.Passes.{deepest, jump_of, IsWithin};
 
 use crate::node::{Edge, Node};
@@ -12,7 +12,7 @@ use std::alloc::{AllocError, Global};
 /// How deep a call goes, or the greatest number.
 fn call_depth(depths: &[u64], call: &Edge) -> u64
     requires { call.now.to < length depths.now }
-    ensures { result ≡ stopped (slice_index depths.now call.now.to + jump_of (call_of call.now)) }
+    ensures { result ≡ saturated (slice_index depths.now call.now.to + jump_of (call_of call.now)) }
 {
     let depth = depths[call.to];
     if call.is_jump {
@@ -38,7 +38,7 @@ fn deepest_call(depths: &[u64], calls: &[Edge]) -> u64
 fn chain_depth(depths: &[u64], statements: &[Vec<Edge>]) -> u64
     requires { All (λ s. All (λ e. e.to < length depths.now) s.items) statements.now }
     ensures { result
-        ≡ deepest (λ c. slice_index depths.now c) (flat_map itself (statements_of statements.now)) }
+        ≡ deepest (λ c. slice_index depths.now c) (flat_map identity (statements_of statements.now)) }
 {
     let mut most = 0;
     for calls in statements {
@@ -61,7 +61,7 @@ fn node_depth(depths: &[u64], node: &Node) -> u64
 /// How deep each node jumps, or the greatest number.
 pub fn node_depths(alloc: Global, nodes: &[Node], order: &[usize]) -> Result<Vec<u64>, AllocError>
     requires range { InRange (graph_of nodes.now) (length nodes.now) }
-    requires order { IsOrder (targets_of (graph_of nodes.now)) order.now }
+    requires order { IsTopologicalOrder (targets_of (graph_of nodes.now)) order.now }
     ensures long { IfOk result (λ depths. length depths.items ≡ length nodes.now) }
     ensures depths { IfOk result (λ depths. (c : ℕ) → c < length nodes.now
         → IsDepth (graph_of nodes.now) c (slice_index depths.items c)) }

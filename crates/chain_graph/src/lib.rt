@@ -5,14 +5,14 @@
 //! are as safe as two.
 #![tactic(auto)]
 
+mod analysis;
 mod costs;
 mod depths;
-mod judging;
-mod leads;
 mod node;
+mod reaching;
 mod search;
 mod targets;
 
-pub use judging::{Judged, judge};
-pub use leads::leads_to_marked;
+pub use analysis::{GraphAnalysis, analyze};
 pub use node::{Edge, Node};
+pub use reaching::reaches_marked;

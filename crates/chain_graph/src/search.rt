@@ -4,17 +4,17 @@
 //! itself.
 ghost use Rattle.std.specs.Prelude.{◌≡◌, ◌<◌, ◌++◌, List, [], ◌∷◌, ℕ, length, IfOk};
 ghost use Rattle.chain_graph.specs.steps.Targets.{rows_of, TargetsInRange};
-ghost use Rattle.chain_graph.specs.steps.Search.{IsSearch, Stepped, VisitOf, Answers};
+ghost use Rattle.chain_graph.specs.steps.Search.{IsSearch, StepResult, VisitResult, IsSortResult};
 
 use std::alloc::{AllocError, Global};
 
 /// What the search finds.
 #[derive(Debug, Drop)]
-pub enum Found {
+pub enum SortResult {
     /// Each node once, after all that it leads to.
     Order(Vec<usize>),
     /// Some node leads to itself.
-    Ring,
+    Cycle,
 }
 
 /// How far a node is searched.
@@ -66,7 +66,7 @@ fn step(targets: &[Vec<usize>], search: &mut Search, last: usize) -> Result<bool
     requires below { last < length targets.now }
     requires last { (rest : List ℕ) × (search.old.path.items ≡ rest ++ last ∷ []) }
     ensures steps { IfOk result (λ fine.
-        Stepped (rows_of targets.now) search.old search.new fine) }
+        StepResult (rows_of targets.now) search.old search.new fine) }
 {
     let left = search.left[last];
     if left == 0 {
@@ -97,7 +97,7 @@ fn visit(targets: &[Vec<usize>], search: &mut Search, root: usize) -> Result<boo
     requires path { search.old.path.items ≡ [] }
     requires root { root < length targets.now }
     ensures visits { IfOk result (λ fine.
-        VisitOf (rows_of targets.now) search.old search.new root fine) }
+        VisitResult (rows_of targets.now) search.old search.new root fine) }
 {
     if search.marks[root] != Mark::New {
         return Ok(true);
@@ -113,15 +113,15 @@ fn visit(targets: &[Vec<usize>], search: &mut Search, root: usize) -> Result<boo
 }
 
 /// Each node once, after all that it leads to, unless some node leads to itself.
-pub fn in_order(alloc: Global, targets: &[Vec<usize>]) -> Result<Found, AllocError>
+pub fn topological_sort(alloc: Global, targets: &[Vec<usize>]) -> Result<SortResult, AllocError>
     requires { TargetsInRange (rows_of targets.now) }
-    ensures { IfOk result (λ found. Answers (rows_of targets.now) found) }
+    ensures { IfOk result (λ found. IsSortResult (rows_of targets.now) found) }
 {
     let mut search = start(alloc, targets)?;
     for root in 0..targets.len() {
         if !visit(targets, &mut search, root)? {
-            return Ok(Found::Ring);
+            return Ok(SortResult::Cycle);
         }
     }
-    Ok(Found::Order(search.order))
+    Ok(SortResult::Order(search.order))
 }

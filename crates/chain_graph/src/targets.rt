@@ -1,6 +1,6 @@
 //! The nodes that nodes lead to, without how.
 ghost use Rattle.std.specs.Prelude.{◌≡◌, ◌++◌, map, IfOk, OnOk, flat_map};
-ghost use Rattle.chain_graph.specs.Graph.{calls_in, itself};
+ghost use Rattle.chain_graph.specs.Graph.{calls_in, identity};
 ghost use Rattle.chain_graph.specs.Nodes.{call_of, statements_of, node_of, graph_of, targets_of};
 ghost use Rattle.chain_graph.specs.steps.Targets.{rows_of};
 
@@ -21,7 +21,7 @@ fn add_targets(targets: &mut Vec<usize>, calls: &[Edge]) -> Result<(), AllocErro
 /// Adds the targets of a chain.
 fn add_chain_targets(targets: &mut Vec<usize>, statements: &[Vec<Edge>]) -> Result<(), AllocError>
     ensures { OnOk result (targets.new.items
-        ≡ targets.old.items ++ map (λ e. e.to) (flat_map itself (statements_of statements.now))) }
+        ≡ targets.old.items ++ map (λ e. e.to) (flat_map identity (statements_of statements.now))) }
 {
     for calls in statements {
         add_targets(targets, calls)?;

@@ -15,9 +15,9 @@ use Rattle.clap.proofs.WalkLemmas.{both, walk_stopped}
 use Rattle.command_line.specs.CommandLine.{are_operands, are_plain, is_check, is_explain, is_plain_word, is_run, is_well_formed, names_file, operands, without_flag, without_report}
 use Rattle.command_line.specs.steps.Program.{program_app}
 use Rattle.command_line.proofs.Formed.{Formed, RunFormed, WaitFormed, flag_turn, no_flag_word, run_turn}
-use Rattle.command_line.proofs.Reading.{Pending, check, check_ended, check_required, ended, first, flagged, flagged_row, goes_on, later, moves, names, pending_value, repeats, reported, run, run_ended, run_required, settled_row, so_far, taken_row, telling, top, waits_for_file}
-use Rattle.command_line.proofs.Rows.{Holds, check_rows, has_row-at, holds_more, row, row_at, run_rows, told}
-use Rattle.command_line.proofs.Turns.{at, end_of, standing}
+use Rattle.command_line.proofs.Reading.{Pending, check, check_ended, check_required, ended, first, flagged, flagged_row, goes_on, later, moves, names, pending_value, repeats, reported, run, run_ended, run_required, settled_row, so_far, taken_row, explaining, top, waits_for_file}
+use Rattle.command_line.proofs.Rows.{Holds, check_rows, has_row-at, holds_more, row, row_at, run_rows, set_row}
+use Rattle.command_line.proofs.ParseSteps.{at, end_of, standing}
 use Rattle.command_line.proofs.Words.{Seen, View, flag_end, view_end}
 
 -- ---- a walk without a fault
@@ -135,8 +135,8 @@ run_defaults = defaults_pass run.rules (
 check_defaults : (rows : List Row) → defaults_fault rows check.rules ≡ []
 check_defaults = defaults_pass check.rules (λ rows. no_default _ _, (λ rows. no_default _ _, (λ rows. good_default (has_row (codes "all") rows), (λ rows. no_default _ _, tt))))
 
-telling_defaults : (rows : List Row) → defaults_fault rows telling.rules ≡ []
-telling_defaults = defaults_pass telling.rules (λ rows. no_default _ _, (λ rows. no_default _ _, tt))
+telling_defaults : (rows : List Row) → defaults_fault rows explaining.rules ≡ []
+telling_defaults = defaults_pass explaining.rules (λ rows. no_default _ _, (λ rows. no_default _ _, tt))
 
 -- ---- a run, with the paths that were met so far
 
@@ -168,7 +168,7 @@ module _ (a b c d : Option Text) (p n : ℕ) where
     good_trace file word rest rows pending is goes h settles formed =
         let all = so_far run rows pending in
         let none : row_at (codes "trace") all ≡ None = h.1.1.1.1.1.0 in
-        let more : Holds (run_rows a b c d true file) (all ++ told (codes "trace") ∷ []) = holds_more (run_rows a b c d false file) all (told (codes "trace")) none h in
+        let more : Holds (run_rows a b c d true file) (all ++ set_row (codes "trace") ∷ []) = holds_more (run_rows a b c d false file) all (set_row (codes "trace")) none h in
         let so = goes (subst (Holds (run_rows a b c d true file)) (sym (flagged_row (codes "trace") all none)) more) refl formed in
         let after = walk_fault run [] (standing (at (flagged (codes "trace") all) None) p false) rest in
         subst (λ (t : Text). Passes run (standing (at rows pending) p false) (t ∷ rest)) (sym ((bytes_eq-Decides word (codes "--trace")).0 is))
@@ -365,7 +365,7 @@ module _ (a b : Option Text) (p n : ℕ) where
   good_all word rest rows pending is goes h settles formed =
       let all = so_far check rows pending in
       let none : row_at (codes "all") all ≡ None = h.1.1.0 in
-      let more : Holds (check_rows a b true) (all ++ told (codes "all") ∷ []) = holds_more (check_rows a b false) all (told (codes "all")) none h in
+      let more : Holds (check_rows a b true) (all ++ set_row (codes "all") ∷ []) = holds_more (check_rows a b false) all (set_row (codes "all")) none h in
       let so = goes (subst (Holds (check_rows a b true)) (sym (flagged_row (codes "all") all none)) more) refl formed in
       let after = walk_fault check [] (standing (at (flagged (codes "all") all) None) p false) rest in
       subst (λ (t : Text). Passes check (standing (at rows pending) p false) (t ∷ rest)) (sym ((bytes_eq-Decides word (codes "--all")).0 is))
@@ -433,42 +433,42 @@ check_level rest e =
 abbrev TellingFormed : Bool → ℕ → List Text → Type 0
 TellingFormed t n rest = Formed (codes "--all") t true n rest
 
-abbrev Tells : ℕ → ℕ → Bool → List Text → Pending → Type 0
-Tells p n t rest pending = TellingFormed t n rest → Passes telling (standing (at [] pending) p t) rest
+abbrev GivesExplain : ℕ → ℕ → Bool → List Text → Pending → Type 0
+GivesExplain p n t rest pending = TellingFormed t n rest → Passes explaining (standing (at [] pending) p t) rest
 
 abbrev TellingNext : ℕ → ℕ → Pending → Type 0
 TellingNext p n pending = (t : Bool) (word : Text) (rest : List Text) (m : ℕ) → (t ≡ false → is_plain_word word ≡ true) → suc m ≡ n → TellingFormed t m rest
-    → Passes telling (standing (at [] pending) p t) (word ∷ rest)
+    → Passes explaining (standing (at [] pending) p t) (word ∷ rest)
 
-module _ (p n : ℕ) (pending : Pending) (finish : 0 ≡ n → ends telling (standing (at [] pending) p false) ≡ []) (next_word : TellingNext p n pending) where
-  tell_on : (t : Bool) (rest : List Text) → Tells p n t rest pending
-  tell_on t [] formed =
+module _ (p n : ℕ) (pending : Pending) (finish : 0 ≡ n → ends explaining (standing (at [] pending) p false) ≡ []) (next_word : TellingNext p n pending) where
+  explain_on : (t : Bool) (rest : List Text) → GivesExplain p n t rest pending
+  explain_on t [] formed =
       let count : 0 ≡ n = sym (ap (λ (v : Seen). length v.0) (flag_end (codes "--all") t true)) ∙ formed.1 in
-      passes_end telling (standing (at [] pending) p t) (finish count)
-  tell_on true (word ∷ rest) formed = next_word true word rest (length rest) (λ bad. absurd (true≢false bad)) formed.1 (refl, refl)
-  tell_on false (word ∷ rest) formed = elim (flag_turn (codes "--all") true n word rest refl formed) [
-    | inl q ↦ dashes_pass telling (at [] pending) p word rest q.0 (tell_on true rest q.1)
+      passes_end explaining (standing (at [] pending) p t) (finish count)
+  explain_on true (word ∷ rest) formed = next_word true word rest (length rest) (λ bad. absurd (true≢false bad)) formed.1 (refl, refl)
+  explain_on false (word ∷ rest) formed = elim (flag_turn (codes "--all") true n word rest refl formed) [
+    | inl q ↦ dashes_pass explaining (at [] pending) p word rest q.0 (explain_on true rest q.1)
     | inr (inl q) ↦ absurd (true≢false q.1)
     | inr (inr q) ↦ next_word false word rest q.1 (λ _. q.0) q.2 q.3
   ]
 
-tell1 : (a : Text) (t : Bool) (rest : List Text) → Tells 2 0 t rest (pending_value (codes "code") a)
-tell1 a = tell_on 2 0 (pending_value (codes "code") a)
-    (λ _. none_left (defaults_fault (row (codes "code") a ∷ []) telling.rules) _ (telling_defaults (row (codes "code") a ∷ [])) refl)
+tell1 : (a : Text) (t : Bool) (rest : List Text) → GivesExplain 2 0 t rest (pending_value (codes "code") a)
+tell1 a = explain_on 2 0 (pending_value (codes "code") a)
+    (λ _. none_left (defaults_fault (row (codes "code") a ∷ []) explaining.rules) _ (telling_defaults (row (codes "code") a ∷ [])) refl)
     (λ t word rest m plain bad formed. absurd (omega (arith, bad)))
 
-tell0 : (t : Bool) (rest : List Text) → Tells 1 1 t rest None
-tell0 = tell_on 1 1 None (λ bad. absurd (omega (arith, bad)))
+tell0 : (t : Bool) (rest : List Text) → GivesExplain 1 1 t rest None
+tell0 = explain_on 1 1 None (λ bad. absurd (omega (arith, bad)))
     (λ t word rest m plain is formed.
     let left : m ≡ 0 = omega (arith, is) in
-    operand_passes telling t 1 word (at [] None) rest plain refl
-    (subst (λ (w : Walk). Passes telling w rest) (sym (moves telling false t [] None (codes "code") word 2))
+    operand_passes explaining t 1 word (at [] None) rest plain refl
+    (subst (λ (w : Walk). Passes explaining w rest) (sym (moves explaining false t [] None (codes "code") word 2))
     (tell1 word t rest (formed.0, formed.1 ∙ left))))
 
-telling_level : (rest : List Text) → is_explain rest ≡ true → level_fault telling [] nothing_held rest false [] ≡ []
+telling_level : (rest : List Text) → is_explain rest ≡ true → level_fault explaining [] nothing_held rest false [] ≡ []
 telling_level rest e =
     let q = both (are_plain rest) (length (operands rest) == 1) e in
-    level_passes telling rest (tell0 false rest (q.0, eqb-true (length (operands rest)) 1 q.1))
+    level_passes explaining rest (tell0 false rest (q.0, eqb-true (length (operands rest)) 1 q.1))
 
 -- ---- all the words
 

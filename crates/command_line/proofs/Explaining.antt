@@ -12,8 +12,8 @@ passes (suc k) [] = true
 passes (suc k) (w ∷ ws) = not (bytes_eq w (codes "--")) && (not (bytes_eq w (codes "--explain")) && passes k ws)
 
 -- what is kept and what is told of a word and the words after it
-abbrev told_by : Bool → Bool → Bool → Bool
-told_by d x more = cond d false (x || more)
+abbrev explained_by : Bool → Bool → Bool → Bool
+explained_by d x more = cond d false (x || more)
 
 abbrev left_by : Bool → Bool → Text → List Text → List Text → List Text
 left_by d x w ws more = cond d (w ∷ ws) (cond x ws (w ∷ more))
@@ -44,7 +44,7 @@ at_end zero (v ∷ ws) l p = absurd (omega arith)
 at_end (suc k) (v ∷ ws) l p =
     let is = two_false _ _ _ p in
     let more = at_end k ws (omega arith) is.2 in (
-      ap (λ b. told_by b (bytes_eq v (codes "--explain")) (has_explain ws)) is.0 ∙ ap (λ b. told_by false b (has_explain ws)) is.1 ∙ more.0,
+      ap (λ b. explained_by b (bytes_eq v (codes "--explain")) (has_explain ws)) is.0 ∙ ap (λ b. explained_by false b (has_explain ws)) is.1 ∙ more.0,
       ap (λ b. left_by b (bytes_eq v (codes "--explain")) v ws (without_explain ws)) is.0 ∙ ap (λ b. left_by false b v ws (without_explain ws)) is.1
           ∙ ap (λ (l : List Text). v ∷ l) more.1,
     )
@@ -52,13 +52,13 @@ at_end (suc k) (v ∷ ws) l p =
 pub at_dashes : (k : ℕ) (ws : List Text) (w : Text) → k < length ws → passes k ws ≡ true → bytes_eq (get_or ws k w) (codes "--") ≡ true → Nothing ws
 at_dashes k [] w l p d = (refl, refl)
 at_dashes zero (v ∷ ws) w l p d = (
-  ap (λ b. told_by b (bytes_eq v (codes "--explain")) (has_explain ws)) d,
+  ap (λ b. explained_by b (bytes_eq v (codes "--explain")) (has_explain ws)) d,
   ap (λ b. left_by b (bytes_eq v (codes "--explain")) v ws (without_explain ws)) d,
 )
 at_dashes (suc k) (v ∷ ws) w l p d =
     let is = two_false _ _ _ p in
     let more = at_dashes k ws w (omega arith) is.2 d in (
-      ap (λ b. told_by b (bytes_eq v (codes "--explain")) (has_explain ws)) is.0 ∙ ap (λ b. told_by false b (has_explain ws)) is.1 ∙ more.0,
+      ap (λ b. explained_by b (bytes_eq v (codes "--explain")) (has_explain ws)) is.0 ∙ ap (λ b. explained_by false b (has_explain ws)) is.1 ∙ more.0,
       ap (λ b. left_by b (bytes_eq v (codes "--explain")) v ws (without_explain ws)) is.0 ∙ ap (λ b. left_by false b v ws (without_explain ws)) is.1
           ∙ ap (λ (l : List Text). v ∷ l) more.1,
     )
@@ -67,13 +67,13 @@ pub at_flag : (k : ℕ) (ws : List Text) (w : Text) → k < length ws → passes
     → bytes_eq (get_or ws k w) (codes "--explain") ≡ true → Found k ws
 at_flag k [] w l p d x = absurd (omega arith)
 at_flag zero (v ∷ ws) w l p d x = (
-  ap (λ b. told_by b (bytes_eq v (codes "--explain")) (has_explain ws)) d ∙ ap (λ b. told_by false b (has_explain ws)) x,
+  ap (λ b. explained_by b (bytes_eq v (codes "--explain")) (has_explain ws)) d ∙ ap (λ b. explained_by false b (has_explain ws)) x,
   ap (λ b. left_by b (bytes_eq v (codes "--explain")) v ws (without_explain ws)) d ∙ ap (λ b. left_by false b v ws (without_explain ws)) x,
 )
 at_flag (suc k) (v ∷ ws) w l p d x =
     let is = two_false _ _ _ p in
     let more = at_flag k ws w (omega arith) is.2 d x in (
-      ap (λ b. told_by b (bytes_eq v (codes "--explain")) (has_explain ws)) is.0 ∙ ap (λ b. told_by false b (has_explain ws)) is.1 ∙ more.0,
+      ap (λ b. explained_by b (bytes_eq v (codes "--explain")) (has_explain ws)) is.0 ∙ ap (λ b. explained_by false b (has_explain ws)) is.1 ∙ more.0,
       ap (λ b. left_by b (bytes_eq v (codes "--explain")) v ws (without_explain ws)) is.0 ∙ ap (λ b. left_by false b v ws (without_explain ws)) is.1
           ∙ ap (λ (l : List Text). v ∷ l) more.1,
     )

@@ -10,8 +10,8 @@ use Rattle.clap.specs.Walk.{Text}
 use Rattle.clap.proofs.WalkLemmas.{both}
 use Rattle.std.specs.Prelude.{option_and_then}
 use Rattle.std.proofs.Common.{◌==◌}
-use Rattle.command_line.specs.CommandLine.{are_plain, as_report, is_plain_word, names_file, names_file_by, report_among, unreported, without_flag, without_report}
-use Rattle.command_line.proofs.Turns.{long_text}
+use Rattle.command_line.specs.CommandLine.{are_plain, as_report, is_plain_word, names_file, names_file_by, report_option, without_report_by, without_flag, without_report}
+use Rattle.command_line.proofs.ParseSteps.{long_text}
 use Rattle.command_line.proofs.Words.{Seen, flag_dashes, flag_met, flag_plain, flag_view, kept, left_by, no_flag, words_in}
 
 -- ---- a plain word
@@ -135,7 +135,7 @@ long_report word v e = go (long_of word) refl e
         λ j. Some (sym name j, worth j)
     named q false is e = cc
 
-    go : (o : Option (Text × Option Text)) → long_of word ≡ o → report_among o ≡ Some v → long_of word ≡ Some (codes "report", v)
+    go : (o : Option (Text × Option Text)) → long_of word ≡ o → report_option o ≡ Some v → long_of word ≡ Some (codes "report", v)
     go None is e = cc
     go (Some q) is e = is ∙ named q (bytes_eq (codes "report") q.0) refl e
 
@@ -153,7 +153,7 @@ run_turn met file n word rest e = go (bytes_eq word (codes "--")) refl (as_repor
     twice v is names formed = elim (flag_turn trace met n word rest refl formed) [
       | inl q ↦ true≢false (sym q.0 ∙ is)
       | inr (inl q) ↦ let same : word ≡ trace = (bytes_eq-Decides word trace).0 q.0 in cannot (sym (ap as_report same) ∙ names)
-      | inr (inr q) ↦ cannot (sym (ap report_among (no_flag_word word q.0).1) ∙ names)
+      | inr (inr q) ↦ cannot (sym (ap report_option (no_flag_word word q.0).1) ∙ names)
     ]
       where
         cannot : None ≡ Some v → ⊥
@@ -178,10 +178,10 @@ run_turn met file n word rest e = go (bytes_eq word (codes "--")) refl (as_repor
         (sym (ap (λ d. file_left_by d word rest) is ∙ ap (λ o. names_file_by o rest (names_file rest)) bare) ∙ e.0)
     go false is None bare (Some f) e = other (Some f) is bare e refl
     go false is (Some None) names None e =
-        let formed = subst (λ ws. Formed trace false met n ws) (ap (λ d. left_by d word rest) is ∙ ap (λ o. unreported o word rest (without_report rest)) names) e.1 in
+        let formed = subst (λ ws. Formed trace false met n ws) (ap (λ d. left_by d word rest) is ∙ ap (λ o. without_report_by o word rest (without_report rest)) names) e.1 in
         let file = sym (ap (λ d. file_left_by d word rest) is ∙ ap (λ o. names_file_by o rest (names_file rest)) names) ∙ e.0 in
         inr (inr (inr (inl (refl, long_text word (codes "report") (long_report word None names), (file, formed)))))
     go false is (Some (Some f)) names None e =
-        let formed = subst (λ ws. Formed trace false met n ws) (ap (λ d. left_by d word rest) is ∙ ap (λ o. unreported o word rest (without_report rest)) names) e.1 in
+        let formed = subst (λ ws. Formed trace false met n ws) (ap (λ d. left_by d word rest) is ∙ ap (λ o. without_report_by o word rest (without_report rest)) names) e.1 in
         inr (inr (inl (f, refl, is, long_report word (Some f) names, (refl, formed))))
     go false is (Some v) names (Some f) e = absurd (twice v is names e.1)

@@ -4,5 +4,5 @@ pub mod Explaining
 pub mod Formed
 pub mod Reading
 pub mod Rows
-pub mod Turns
+pub mod ParseSteps
 pub mod Words

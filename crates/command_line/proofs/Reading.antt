@@ -34,12 +34,12 @@ use Rattle.clap.specs.Matches.{one_text}
 use Rattle.clap.specs.Values.{bool_text}
 use Rattle.clap.proofs.WalkLemmas.{one_text-rows}
 use Rattle.clap.specs.declared.parser.matches.ValueSource.TheVariants.{CommandLine, DefaultValue}
-use Rattle.command_line.specs.CommandLine.{Asks, as_report, has_flag, name_of_file, operands, report_among, report_of, without_flag, without_report}
-use Rattle.command_line.specs.steps.Given.{HasTask, TellsTask}
+use Rattle.command_line.specs.CommandLine.{RequestsTask, as_report, has_flag, name_of_file, operands, report_option, report_of, without_flag, without_report}
+use Rattle.command_line.specs.steps.Given.{HasTask, GivesTask}
 use Rattle.command_line.specs.declared.task.Task.{Task}
 use Rattle.command_line.specs.steps.Program.{flag_rule, path_rule, program_app, report_rule}
-use Rattle.command_line.proofs.Rows.{Holds, appended, appended_anew, check_ends, check_rows, flag_of, has_row-at, holds_more, row, row_at, row_of, run_ends, run_rows, source_of, told, untold, with_row, Known}
-use Rattle.command_line.proofs.Turns.{AsksHelp, at, end_of, first_nil, long_text, not_nil, stand, standing, then_nil, trail, turn, word_is}
+use Rattle.command_line.proofs.Rows.{Holds, appended, appended_anew, check_ends, check_rows, flag_of, has_row-at, holds_more, row, row_at, row_of, run_ends, run_rows, source_of, set_row, unset_row, with_row, Known}
+use Rattle.command_line.proofs.ParseSteps.{AsksHelp, at, end_of, first_nil, long_text, not_nil, stand, standing, then_nil, trail, parse_step, word_is}
 use Rattle.command_line.proofs.Words.{Seen, View, flag_dashes, flag_end, flag_met, flag_plain, flag_view, no_flag, view, view_attached, view_dashes, view_end, view_flag, view_plain, view_waits, waiting_view}
 use Rattle.command_line.specs.declared.task.Task.TheVariants.{Run, Check, Explain}
 
@@ -57,8 +57,8 @@ run = slice_index_or whole.subs 0 (new_shape [])
 abbrev pub check : Shape
 check = slice_index_or whole.subs 1 (new_shape [])
 
-abbrev pub telling : Shape
-telling = slice_index_or whole.subs 2 (new_shape [])
+abbrev pub explaining : Shape
+explaining = slice_index_or whole.subs 2 (new_shape [])
 
 abbrev pub names : Names
 names = names_of whole
@@ -99,16 +99,16 @@ run_asks x rest h next e = help_short run.rules (104 == x || false) rest h next 
 check_asks : AsksHelp check
 check_asks x rest h next e = help_short check.rules (104 == x || false) rest h next e
 
-telling_asks : AsksHelp telling
-telling_asks x rest h next e = help_short telling.rules (104 == x || false) rest h next e
+telling_asks : AsksHelp explaining
+telling_asks x rest h next e = help_short explaining.rules (104 == x || false) rest h next e
 
 -- ---- long flags
 
 no_long_top : (q : Text × Option Text) (h : Held) → long_fault top.rules top.args_override_self (arg_by_long top.rules q.0) q.1 h ≡ [] → ⊥
 no_long_top q h e = shown_long top.rules (bytes_eq (codes "help") q.0 || false) (bytes_eq (codes "version") q.0 || false) q.1 h e
 
-no_long_telling : (q : Text × Option Text) (h : Held) → long_fault telling.rules telling.args_override_self (arg_by_long telling.rules q.0) q.1 h ≡ [] → ⊥
-no_long_telling q h e = help_long telling.rules (bytes_eq (codes "help") q.0 || false) q.1 h e
+no_long_telling : (q : Text × Option Text) (h : Held) → long_fault explaining.rules explaining.args_override_self (arg_by_long explaining.rules q.0) q.1 h ≡ [] → ⊥
+no_long_telling q h e = help_long explaining.rules (bytes_eq (codes "help") q.0 || false) q.1 h e
 
 -- a long flag of a run: the flag, or the file for the report
 abbrev IsRunFlag : Text × Option Text → Type 0
@@ -169,8 +169,8 @@ pending_value id word = Some (id, word ∷ [])
 pub settled_row : (id word : Text) (all : List Row) → row_at id all ≡ None → used (filled (path_rule id)) (word ∷ []) all ≡ all ++ row id word ∷ []
 settled_row id word all none = appended_anew id (row id word).reading CommandLine (word ∷ []) all none
 
-pub flagged_row : (id : Text) (all : List Row) → row_at id all ≡ None → flagged id all ≡ all ++ told id ∷ []
-flagged_row id all none = appended_anew id (told id).reading CommandLine (codes "true" ∷ []) all none
+pub flagged_row : (id : Text) (all : List Row) → row_at id all ≡ None → flagged id all ≡ all ++ set_row id ∷ []
+flagged_row id all none = appended_anew id (set_row id).reading CommandLine (codes "true" ∷ []) all none
 
 pub moves : (s : Shape) (b u : Bool) (rows : List Row) (pending : Pending) (id word : Text) (p : ℕ)
     → ◌≡◌ {A = Walk} (record {
@@ -202,7 +202,7 @@ again id r rows is e = not_nil _ _ (subst (λ (b : Bool). repeats b ≡ []) (the
 -- a flag that is used without a fault was not met
 once : (id : Text) (met : Bool) (rows : List Row) → row_at id rows ≡ flag_of id met → repeats (has_row id rows) ≡ [] → met ≡ false
 once id false rows is e = refl
-once id true rows is e = absurd (again id (told id) rows is e)
+once id true rows is e = absurd (again id (set_row id) rows is e)
 
 -- ---- what a run ends with
 
@@ -221,7 +221,7 @@ same_either true x = refl
 same_either false x = refl
 
 abbrev with_default_row : Text → List Row → List Row
-with_default_row id all = with_values id (untold id).reading DefaultValue (codes "false" ∷ []) all
+with_default_row id all = with_values id (unset_row id).reading DefaultValue (codes "false" ∷ []) all
 
 abbrev kept_by : Text → List Row → List Row
 kept_by id all = cond (has_row id all) all all
@@ -249,11 +249,11 @@ check_defaults all =
 
 -- what the flag's row is once its default is in
 with_flag : (id : Text) (met : Bool) (all : List Row) → row_at id all ≡ flag_of id met
-    → cond (has_row id all) all (with_default_row id all) ≡ cond met all (all ++ untold id ∷ [])
-with_flag id true all is = ap (λ (b : Bool). cond b all (with_default_row id all)) (there id (told id) all is)
+    → cond (has_row id all) all (with_default_row id all) ≡ cond met all (all ++ unset_row id ∷ [])
+with_flag id true all is = ap (λ (b : Bool). cond b all (with_default_row id all)) (there id (set_row id) all is)
 with_flag id false all is =
     ap (λ (b : Bool). cond b all (with_default_row id all)) (has_row-at id all ∙ ap (λ (o : Option Row). is_some o) is)
-    ∙ appended id (untold id).reading DefaultValue (codes "false" ∷ []) all is
+    ∙ appended id (unset_row id).reading DefaultValue (codes "false" ∷ []) all is
 
 pub run_ended : (a b c d : Option Text) (met : Bool) (file : Option Text) (all : List Row) → Holds (run_rows a b c d met file) all
     → Holds (run_ends a b c d met file) (fold with_default all run.rules)
@@ -261,7 +261,7 @@ run_ended a b c d true file all h =
     subst (Holds (run_ends a b c d true file)) (sym (run_defaults all ∙ with_flag (codes "trace") true all h.1.1.1.1.1.0)) h
 run_ended a b c d false file all h =
     subst (Holds (run_ends a b c d false file)) (sym (run_defaults all ∙ with_flag (codes "trace") false all h.1.1.1.1.1.0))
-    (holds_more (run_rows a b c d false file) all (untold (codes "trace")) h.1.1.1.1.1.0 h)
+    (holds_more (run_rows a b c d false file) all (unset_row (codes "trace")) h.1.1.1.1.1.0 h)
 
 pub check_ended : (a b : Option Text) (met : Bool) (all : List Row) → Holds (check_rows a b met) all
     → Holds (check_ends a b met) (fold with_default all check.rules)
@@ -269,7 +269,7 @@ check_ended a b true all h =
     subst (Holds (check_ends a b true)) (sym (check_defaults all ∙ with_flag (codes "all") true all h.1.1.0)) h
 check_ended a b false all h =
     subst (Holds (check_ends a b false)) (sym (check_defaults all ∙ with_flag (codes "all") false all h.1.1.0))
-    (holds_more (check_rows a b false) all (untold (codes "all")) h.1.1.0 h)
+    (holds_more (check_rows a b false) all (unset_row (codes "all")) h.1.1.0 h)
 
 -- ---- what is required
 
@@ -350,7 +350,7 @@ module _ (a b c d : Option Text) (p : ℕ) (front : List Text → List Text) whe
         → walk_fault run [] (standing (at rows (Some (codes "report", vs))) p false) rest ≡ []
         → Faulty (end_of run (standing (at rows (Some (codes "report", vs))) p false) rest)
     doomed rows vs [] never e = never
-    doomed rows vs (word ∷ rest) never e = turn run run_asks idle rows (Some (codes "report", vs)) p word rest Faulty e
+    doomed rows vs (word ∷ rest) never e = parse_step run run_asks idle rows (Some (codes "report", vs)) p word rest Faulty e
         (λ is left. doomed_trail idle rows vs rest never left)
         (λ q is long fault left. absurd (never (run_flag q _ fault).1))
         (λ is long steps left. absurd (doomed_step rows vs never steps))
@@ -362,7 +362,7 @@ module _ (a b c d : Option Text) (p : ℕ) (front : List Text → List Text) whe
     twice : (f : Text) (rows : List Row) (rest : List Text) → row_at (codes "report") rows ≡ Some (row (codes "report") f)
         → walk_fault run [] (waits_for_file rows p false) rest ≡ [] → Faulty (end_of run (waits_for_file rows p false) rest)
     twice f rows [] is e = empty_file rows
-    twice f rows (word ∷ rest) is e = turn run run_asks (option (codes "report")) rows (Some (codes "report", [])) p word rest Faulty e
+    twice f rows (word ∷ rest) is e = parse_step run run_asks (option (codes "report")) rows (Some (codes "report", [])) p word rest Faulty e
         (λ dashes left. doomed_trail (option (codes "report")) rows [] rest (empty_file rows) left)
         (λ q dashes long fault left. absurd (empty_file rows (run_flag q _ fault).1))
         (λ dashes long steps left. doomed rows (word ∷ []) rest (λ s. again (codes "report") (row (codes "report") f) rows is s) left)
@@ -379,11 +379,11 @@ module _ (a b c d : Option Text) (p : ℕ) (front : List Text → List Text) whe
         let all = so_far run rows pending in
         let unmet : met ≡ false = once (codes "trace") met all h.1.1.1.1.1.0 (then_nil (settle_fault run.rules run.args_override_self (at rows pending)) _ fault) in
         let none : row_at (codes "trace") all ≡ None = h.1.1.1.1.1.0 ∙ ap (flag_of (codes "trace")) unmet in
-        let more : Holds (run_rows a b c d true file) (all ++ told (codes "trace") ∷ []) = holds_more (run_rows a b c d met file) all (told (codes "trace")) none h in
+        let more : Holds (run_rows a b c d true file) (all ++ set_row (codes "trace") ∷ []) = holds_more (run_rows a b c d met file) all (set_row (codes "trace")) none h in
         let so = goes unmet (subst (Holds (run_rows a b c d true file)) (sym (flagged_row (codes "trace") all none)) more) left in
         let W : Walk = end_of run (standing (at (flagged (codes "trace") all) None) p false) rest in
         subst (λ (m : Bool). Out (view false m file (word ∷ rest)) W) (sym unmet)
-        (subst (λ (v : View). Out v W) (sym (view_flag file word rest is (ap report_among long) (flag_text word (codes "trace") long))) so)
+        (subst (λ (v : View). Out v W) (sym (view_flag file word rest is (ap report_option long) (flag_text word (codes "trace") long))) so)
 
     -- the file for the report, in the same word
     at_file : (f : Text) (met : Bool) (file : Option Text) (word : Text) (rest : List Text) (rows : List Row) (pending : Pending)
@@ -400,7 +400,7 @@ module _ (a b c d : Option Text) (p : ℕ) (front : List Text → List Text) whe
         let more : Holds (run_rows a b c d met (Some f)) (all ++ row (codes "report") f ∷ []) = holds_more (run_rows a b c d met None) all (row (codes "report") f) h.1.1.1.1.0 h in
         let so = goes (subst (Holds (run_rows a b c d met (Some f))) (sym (settled_row (codes "report") f all h.1.1.1.1.0)) more) left in
         let W : Walk = end_of run (standing (at (reported f all) None) p false) rest in
-        subst (λ (v : View). Out v W) (sym (view_attached met f word rest is (ap report_among long))) so
+        subst (λ (v : View). Out v W) (sym (view_attached met f word rest is (ap report_option long))) so
 
     -- the file for the report, in the next word
     at_option : (met : Bool) (file : Option Text) (word : Text) (rest : List Text) (rows : List Row) (pending : Pending)
@@ -412,7 +412,7 @@ module _ (a b c d : Option Text) (p : ℕ) (front : List Text → List Text) whe
     at_option met (Some g) word rest rows pending h is long left waits = λ settles checks. absurd (twice g (so_far run rows pending) rest h.1.1.1.1.0 left settles)
     at_option met None word rest rows pending h is long left waits =
         let W : Walk = end_of run (waits_for_file (so_far run rows pending) p false) rest in
-        subst (λ (v : View). Out v W) (sym (view_waits met word rest is (ap report_among long))) (waits h left)
+        subst (λ (v : View). Out v W) (sym (view_waits met word rest is (ap report_option long))) (waits h left)
 
     -- one word more
     one : (met : Bool) (file : Option Text) (word : Text) (rest : List Text) (rows : List Row) (pending : Pending)
@@ -422,11 +422,11 @@ module _ (a b c d : Option Text) (p : ℕ) (front : List Text → List Text) whe
         → Waits met rest (so_far run rows pending)
         → Goes false met file (word ∷ rest) rows pending
     one met file word rest rows pending dashes flags files waits h e =
-        turn run run_asks idle rows pending p word rest (Out (view false met file (word ∷ rest))) e
+        parse_step run run_asks idle rows pending p word rest (Out (view false met file (word ∷ rest))) e
         (λ is left. subst (λ (v : View). Out v (end_of run (standing (at rows pending) p true) rest)) (sym (view_dashes met file word rest is)) (dashes h left))
         flag
         (λ is long steps left.
-        let bare : as_report word ≡ None = ap report_among long in
+        let bare : as_report word ≡ None = ap report_option long in
         let unflagged : bytes_eq word (codes "--trace") ≡ false = no_flag word (codes "--trace") refl long in
         subst (λ (v : View). Out v (end_of run (next_walk false word rows pending) rest)) (sym (view_plain met file word rest is bare unflagged))
         (next false met file word rest rows pending h steps left))
@@ -453,7 +453,7 @@ module _ (a b c d : Option Text) (p : ℕ) (front : List Text → List Text) whe
     file_word : (met : Bool) (word : Text) (rest : List Text) (rows : List Row) → Goes false met (Some word) rest rows (pending_value (codes "report") word)
         → Waits met (word ∷ rest) rows
     file_word met word rest rows goes h e =
-        turn run run_asks (option (codes "report")) rows (Some (codes "report", [])) p word rest (Out (waiting_view met (word ∷ rest))) e
+        parse_step run run_asks (option (codes "report")) rows (Some (codes "report", [])) p word rest (Out (waiting_view met (word ∷ rest))) e
         (λ is left. λ settles checks. absurd (doomed_trail (option (codes "report")) rows [] rest (empty_file rows) left settles))
         (λ q is long fault left. absurd (empty_file rows (run_flag q _ fault).1))
         (λ is long steps left. goes (subst (Holds (run_rows a b c d met (Some word))) (sym (settled_row (codes "report") word rows h.1.1.1.1.0))
@@ -592,7 +592,7 @@ module _ (a b : Option Text) (p : ℕ) (front : List Text → List Text) where
       let all = so_far check rows pending in
       let unmet : met ≡ false = once (codes "all") met all h.1.1.0 (then_nil (settle_fault check.rules check.args_override_self (at rows pending)) _ fault) in
       let none : row_at (codes "all") all ≡ None = h.1.1.0 ∙ ap (flag_of (codes "all")) unmet in
-      let more : Holds (check_rows a b true) (all ++ told (codes "all") ∷ []) = holds_more (check_rows a b met) all (told (codes "all")) none h in
+      let more : Holds (check_rows a b true) (all ++ set_row (codes "all") ∷ []) = holds_more (check_rows a b met) all (set_row (codes "all")) none h in
       let so = goes (subst (Holds (check_rows a b true)) (sym (flagged_row (codes "all") all none)) more) left in
       let W : Walk = end_of check (standing (at (flagged (codes "all") all) None) p false) rest in
       subst (λ (m : Bool). Checked (check_view false m (word ∷ rest)) W) (sym unmet)
@@ -604,7 +604,7 @@ module _ (a b : Option Text) (p : ℕ) (front : List Text → List Text) where
         → Checks false true rest (flagged (codes "all") (so_far check rows pending)) None
         → Checks false met (word ∷ rest) rows pending
     check_one met word rest rows pending dashes flags h e =
-        turn check check_asks idle rows pending p word rest (Checked (check_view false met (word ∷ rest))) e
+        parse_step check check_asks idle rows pending p word rest (Checked (check_view false met (word ∷ rest))) e
         (λ is left. subst (λ (v : Seen). Checked v (end_of check (standing (at rows pending) p true) rest)) (sym (flag_dashes (codes "--all") met word rest is)) (dashes h left))
         (λ q is long fault left. subst At (sym (check_flag q (at rows pending) fault)) (λ i l f w. at_all met word rest rows pending h i l f w flags) is long fault left)
         (λ is long steps left.
@@ -668,11 +668,11 @@ check0 = check_on None None 1 (λ ops. ops)
 
 -- ---- what a code means
 
-abbrev pub IsTelling : List Text → List Row → Type 0
-IsTelling ops rows = (a : Text) × (ops ≡ a ∷ []) × (rows ≡ row (codes "code") a ∷ [])
+abbrev pub IsExplaining : List Text → List Row → Type 0
+IsExplaining ops rows = (a : Text) × (ops ≡ a ∷ []) × (rows ≡ row (codes "code") a ∷ [])
 
-abbrev Tells : List Text → Walk → Type 0
-Tells ops w = check_fault telling (finished telling.rules w.held) false ≡ [] → IsTelling ops (finished telling.rules w.held)
+abbrev GivesExplain : List Text → Walk → Type 0
+GivesExplain ops w = check_fault explaining (finished explaining.rules w.held) false ≡ [] → IsExplaining ops (finished explaining.rules w.held)
 
 abbrev operands_from : Bool → List Text → List Text
 operands_from t rest = cond t rest (operands rest)
@@ -684,27 +684,27 @@ none_left false = refl
 operands_by : (word : Text) (rest : List Text) (b : Bool) → bytes_eq word (codes "--") ≡ b → operands (word ∷ rest) ≡ cond b rest (word ∷ operands rest)
 operands_by word rest b is = ap (λ (d : Bool). cond d rest (word ∷ operands rest)) is
 
-telling1 : (a : Text) (t : Bool) (rest : List Text) → walk_fault telling [] (standing (at [] (pending_value (codes "code") a)) 2 t) rest ≡ []
-    → Tells (a ∷ operands_from t rest) (end_of telling (standing (at [] (pending_value (codes "code") a)) 2 t) rest)
-telling1 a t [] e = λ _. (a, ap (λ (l : List Text). a ∷ l) (none_left t), refl)
-telling1 a true (word ∷ rest) e =
-    trail telling telling_asks idle [] (pending_value (codes "code") a) 2 word rest (Tells (a ∷ word ∷ rest)) e (λ bad left. not_nil _ _ bad)
-telling1 a false (word ∷ rest) e =
-    turn telling telling_asks idle [] (pending_value (codes "code") a) 2 word rest (Tells (a ∷ operands (word ∷ rest))) e
-    (λ is left. subst (λ (ops : List Text). Tells (a ∷ ops) (end_of telling (standing (at [] (pending_value (codes "code") a)) 2 true) rest)) (sym (operands_by word rest true is)) (telling1 a true rest left))
+explaining1 : (a : Text) (t : Bool) (rest : List Text) → walk_fault explaining [] (standing (at [] (pending_value (codes "code") a)) 2 t) rest ≡ []
+    → GivesExplain (a ∷ operands_from t rest) (end_of explaining (standing (at [] (pending_value (codes "code") a)) 2 t) rest)
+explaining1 a t [] e = λ _. (a, ap (λ (l : List Text). a ∷ l) (none_left t), refl)
+explaining1 a true (word ∷ rest) e =
+    trail explaining telling_asks idle [] (pending_value (codes "code") a) 2 word rest (GivesExplain (a ∷ word ∷ rest)) e (λ bad left. not_nil _ _ bad)
+explaining1 a false (word ∷ rest) e =
+    parse_step explaining telling_asks idle [] (pending_value (codes "code") a) 2 word rest (GivesExplain (a ∷ operands (word ∷ rest))) e
+    (λ is left. subst (λ (ops : List Text). GivesExplain (a ∷ ops) (end_of explaining (standing (at [] (pending_value (codes "code") a)) 2 true) rest)) (sym (operands_by word rest true is)) (explaining1 a true rest left))
     (λ q is long fault left. absurd (no_long_telling q _ fault))
     (λ is long bad left. not_nil _ _ bad)
 
-telling0 : (t : Bool) (rest : List Text) → walk_fault telling [] (standing (at [] None) 1 t) rest ≡ []
-    → Tells (operands_from t rest) (end_of telling (standing (at [] None) 1 t) rest)
-telling0 t [] e = λ bad. not_nil _ _ bad
-telling0 true (word ∷ rest) e =
-    trail telling telling_asks idle [] None 1 word rest (Tells (word ∷ rest)) e (λ steps left. telling1 word true rest left)
-telling0 false (word ∷ rest) e =
-    turn telling telling_asks idle [] None 1 word rest (Tells (operands (word ∷ rest))) e
-    (λ is left. subst (λ (ops : List Text). Tells ops (end_of telling (standing (at [] None) 1 true) rest)) (sym (operands_by word rest true is)) (telling0 true rest left))
+explaining0 : (t : Bool) (rest : List Text) → walk_fault explaining [] (standing (at [] None) 1 t) rest ≡ []
+    → GivesExplain (operands_from t rest) (end_of explaining (standing (at [] None) 1 t) rest)
+explaining0 t [] e = λ bad. not_nil _ _ bad
+explaining0 true (word ∷ rest) e =
+    trail explaining telling_asks idle [] None 1 word rest (GivesExplain (word ∷ rest)) e (λ steps left. explaining1 word true rest left)
+explaining0 false (word ∷ rest) e =
+    parse_step explaining telling_asks idle [] None 1 word rest (GivesExplain (operands (word ∷ rest))) e
+    (λ is left. subst (λ (ops : List Text). GivesExplain ops (end_of explaining (standing (at [] None) 1 true) rest)) (sym (operands_by word rest true is)) (explaining0 true rest left))
     (λ q is long fault left. absurd (no_long_telling q _ fault))
-    (λ is long steps left. subst (λ (ops : List Text). Tells ops (end_of telling (standing (at [] (pending_value (codes "code") word)) 2 false) rest)) (sym (operands_by word rest false is)) (telling1 word false rest left))
+    (λ is long steps left. subst (λ (ops : List Text). GivesExplain ops (end_of explaining (standing (at [] (pending_value (codes "code") word)) 2 false) rest)) (sym (operands_by word rest false is)) (explaining1 word false rest left))
 
 -- ---- all the words
 
@@ -750,7 +750,7 @@ first = standing nothing_held 1 false
 -- a subcommand's name, the words after it and the rows that it has of them
 abbrev pub IsTask : Text → List Text → List Row → Type 0
 IsTask name rest rows = ((name ≡ codes "run") × IsRun (view false false None rest) rows)
-    ⊎ (((name ≡ codes "check") × IsCheck (check_view false false rest) rows) ⊎ ((name ≡ codes "explain") × IsTelling (operands rest) rows))
+    ⊎ (((name ≡ codes "check") × IsCheck (check_view false false rest) rows) ⊎ ((name ≡ codes "explain") × IsExplaining (operands rest) rows))
 
 -- without a fault the words are a subcommand's name and its values
 abbrev pub Reads : List Text → Option (Text × List Text) → Type 0
@@ -779,10 +779,10 @@ check_reads rest e =
     let level = level_nil check rest e in
     (codes "check", rest, _, refl, refl, inr (inl (refl, check0 false false rest [] None (refl, (refl, (refl, tt))) level.0 level.2)))
 
-telling_reads : (rest : List Text) → entered_fault whole (Some (codes "explain", rest)) ≡ [] → Reads (codes "explain" ∷ rest) (Some (codes "explain", rest))
-telling_reads rest e =
-    let level = level_nil telling rest e in
-    (codes "explain", rest, _, refl, refl, inr (inr (refl, telling0 false rest level.0 level.2)))
+explaining_reads : (rest : List Text) → entered_fault whole (Some (codes "explain", rest)) ≡ [] → Reads (codes "explain" ∷ rest) (Some (codes "explain", rest))
+explaining_reads rest e =
+    let level = level_nil explaining rest e in
+    (codes "explain", rest, _, refl, refl, inr (inr (refl, explaining0 false rest level.0 level.2)))
 
 stray : (rest : List Text) → walk_fault top names (standing nothing_held 1 true) rest ≡ [] → ended (fold (walked top.rules names) (standing nothing_held 1 true) rest) ≡ [] → ⊥
 unfolding walked walk_fault
@@ -821,7 +821,7 @@ words_read (word ∷ rest) e end =
     elim (met_name word) [
       | inl q ↦ task (codes "run") q.0 q.1 (run_reads rest)
       | inr (inl q) ↦ task (codes "check") q.0 q.1 (check_reads rest)
-      | inr (inr (inl q)) ↦ task (codes "explain") q.0 q.1 (telling_reads rest)
+      | inr (inr (inl q)) ↦ task (codes "explain") q.0 q.1 (explaining_reads rest)
       | inr (inr (inr (inl q))) ↦ not_nil _ _ (no_other (Some (codes "help")) (subst Q q here))
       | inr (inr (inr (inr q))) ↦
           let fine = subst Q q here in
@@ -911,9 +911,9 @@ is_check_task words name rows got same = elim got.3 [
   | inr (inr q) ↦ absurd (true≢false (sym (subst (λ (n : Text). bytes_eq n (codes "check") ≡ true) q.0 same)))
 ]
 
-pub is_telling_task : (words : List Text) (name : Text) (rows : List Row) (got : HasRead words name rows) → bytes_eq name (codes "explain") ≡ true
-    → (words ≡ got.0 ∷ codes "explain" ∷ got.1) × IsTelling (operands got.1) rows
-is_telling_task words name rows got same = elim got.3 [
+pub is_explain_task : (words : List Text) (name : Text) (rows : List Row) (got : HasRead words name rows) → bytes_eq name (codes "explain") ≡ true
+    → (words ≡ got.0 ∷ codes "explain" ∷ got.1) × IsExplaining (operands got.1) rows
+is_explain_task words name rows got same = elim got.3 [
   | inl q ↦ absurd (true≢false (sym (subst (λ (n : Text). bytes_eq n (codes "explain") ≡ true) q.0 same)))
   | inr (inl q) ↦ absurd (true≢false (sym (subst (λ (n : Text). bytes_eq n (codes "explain") ≡ true) q.0 same)))
   | inr (inr q) ↦ (got.2 ∙ ap (λ (n : Text). got.0 ∷ n ∷ got.1) q.0, q.1)
@@ -967,25 +967,25 @@ pub file_is : (f : Found) (file result : Option Text) (rows : List Row) → rows
 file_is f file result rows is at_id read =
     read ∙ first_value-rows f (codes "report") ∙ ap (first_of (codes "report")) is ∙ ap (option_and_then (λ (r : Row). slice_get r.values 0)) at_id ∙ first_value_of file
 
-pub asks_run : (words rest : List Text) (program a b c d : Text) (met : Bool) (file : Option (Bor Text)) (r p i o : Bor Text) → words ≡ program ∷ codes "run" ∷ rest
+pub requests_run : (words rest : List Text) (program a b c d : Text) (met : Bool) (file : Option (Bor Text)) (r p i o : Bor Text) → words ≡ program ∷ codes "run" ∷ rest
     → operands (without_flag (codes "--trace") (without_report rest)) ≡ a ∷ b ∷ c ∷ d ∷ [] → name_of_file file ≡ report_of rest → met ≡ has_flag (codes "--trace") (without_report rest)
     → r.now ≡ a → p.now ≡ b → i.now ≡ c → o.now ≡ d
-    → Asks words (Run (record { trace = met; report = file; paths = record { rules = r; plant = p; input = i; output = o } }))
-asks_run words rest program a b c d met file r p i o is ops files flags er ep ei eo =
-    subst (λ (ws : List Text). Asks ws (Run (record { trace = met; report = file; paths = record { rules = r; plant = p; input = i; output = o } }))) (sym is)
+    → RequestsTask words (Run (record { trace = met; report = file; paths = record { rules = r; plant = p; input = i; output = o } }))
+requests_run words rest program a b c d met file r p i o is ops files flags er ep ei eo =
+    subst (λ (ws : List Text). RequestsTask ws (Run (record { trace = met; report = file; paths = record { rules = r; plant = p; input = i; output = o } }))) (sym is)
     (refl, files, flags, ops ∙ λ j. sym er j ∷ sym ep j ∷ sym ei j ∷ sym eo j ∷ [])
 
-pub asks_check : (words rest : List Text) (program a b : Text) (met : Bool) (r p : Bor Text) → words ≡ program ∷ codes "check" ∷ rest
+pub requests_check : (words rest : List Text) (program a b : Text) (met : Bool) (r p : Bor Text) → words ≡ program ∷ codes "check" ∷ rest
     → operands (without_flag (codes "--all") rest) ≡ a ∷ b ∷ [] → met ≡ has_flag (codes "--all") rest
-    → r.now ≡ a → p.now ≡ b → Asks words (Check (record { all = met; texts = record { rules = r; plant = p } }))
-asks_check words rest program a b met r p is ops flags er ep =
-    subst (λ (ws : List Text). Asks ws (Check (record { all = met; texts = record { rules = r; plant = p } }))) (sym is)
+    → r.now ≡ a → p.now ≡ b → RequestsTask words (Check (record { all = met; texts = record { rules = r; plant = p } }))
+requests_check words rest program a b met r p is ops flags er ep =
+    subst (λ (ws : List Text). RequestsTask ws (Check (record { all = met; texts = record { rules = r; plant = p } }))) (sym is)
     (refl, flags, ops ∙ λ j. sym er j ∷ sym ep j ∷ [])
 
-pub asks_telling : (words rest : List Text) (program a : Text) (code : Bor Text) → words ≡ program ∷ codes "explain" ∷ rest → operands rest ≡ a ∷ []
-    → code.now ≡ a → Asks words (Explain code)
-asks_telling words rest program a code is ops e =
-    subst (λ (ws : List Text). Asks ws (Explain code)) (sym is)
+pub requests_explain : (words rest : List Text) (program a : Text) (code : Bor Text) → words ≡ program ∷ codes "explain" ∷ rest → operands rest ≡ a ∷ []
+    → code.now ≡ a → RequestsTask words (Explain code)
+requests_explain words rest program a code is ops e =
+    subst (λ (ws : List Text). RequestsTask ws (Explain code)) (sym is)
     (refl, ops ∙ λ j. sym e j ∷ [])
 
 pub refused : (app : App) (words : List Text) (e : Error) → app ≡ program_app → (is_simple_and_free app ≡ true → HasKind (fault_of app words) e)
@@ -1011,8 +1011,8 @@ has_task words name f got = record {
         has_value _ rows.0 (path_is f (codes "rules") rows.0 (rows_of f) refl rows.3.0),
         has_value _ rows.1 (path_is f (codes "plant") rows.1 (rows_of f) refl rows.3.1.0),
       );
-  telling = λ same.
-      let rows = (is_telling_task words name (rows_of f) got same).1 in
+  explaining = λ same.
+      let rows = (is_explain_task words name (rows_of f) got same).1 in
       has_value _ rows.0 (value_is f (codes "code") rows.0 _ rows.2 refl);
   run = λ other last.
       let rows = (is_run_task words name (rows_of f) got other last).1 in (
@@ -1024,26 +1024,26 @@ has_task words name f got = record {
 }
 
 -- the task is the one that the words ask for
-pub asks_told : (words : List Text) (name : Text) (f : Found) (task : Task) → HasRead words name (rows_of f) → TellsTask name f task → Asks words task
-asks_told words name f (Run task) got told =
-    let is = is_run_task words name (rows_of f) got told.0 told.1 in
+pub task_requested : (words : List Text) (name : Text) (f : Found) (task : Task) → HasRead words name (rows_of f) → GivesTask name f task → RequestsTask words task
+task_requested words name f (Run task) got set_row =
+    let is = is_run_task words name (rows_of f) got set_row.0 set_row.1 in
     let rows = is.1 in
-    asks_run words got.1 got.0 rows.0 rows.1 rows.2 rows.3 task.trace task.report task.paths.rules task.paths.plant task.paths.input task.paths.output is.0 rows.4
-    (file_is f _ _ (rows_of f) refl rows.5.1.1.1.1.0 told.3)
-    (flag_is f (codes "trace") _ _ (rows_of f) refl rows.5.1.1.1.1.1.0 told.2.0 told.2.1)
-    (same_value _ task.paths.rules.now rows.0 told.4 (path_is f (codes "rules") rows.0 (rows_of f) refl rows.5.0))
-    (same_value _ task.paths.plant.now rows.1 told.5 (path_is f (codes "plant") rows.1 (rows_of f) refl rows.5.1.0))
-    (same_value _ task.paths.input.now rows.2 told.6 (path_is f (codes "input") rows.2 (rows_of f) refl rows.5.1.1.0))
-    (same_value _ task.paths.output.now rows.3 told.7 (path_is f (codes "output") rows.3 (rows_of f) refl rows.5.1.1.1.0))
-asks_told words name f (Check task) got told =
-    let is = is_check_task words name (rows_of f) got told.0 in
+    requests_run words got.1 got.0 rows.0 rows.1 rows.2 rows.3 task.trace task.report task.paths.rules task.paths.plant task.paths.input task.paths.output is.0 rows.4
+    (file_is f _ _ (rows_of f) refl rows.5.1.1.1.1.0 set_row.3)
+    (flag_is f (codes "trace") _ _ (rows_of f) refl rows.5.1.1.1.1.1.0 set_row.2.0 set_row.2.1)
+    (same_value _ task.paths.rules.now rows.0 set_row.4 (path_is f (codes "rules") rows.0 (rows_of f) refl rows.5.0))
+    (same_value _ task.paths.plant.now rows.1 set_row.5 (path_is f (codes "plant") rows.1 (rows_of f) refl rows.5.1.0))
+    (same_value _ task.paths.input.now rows.2 set_row.6 (path_is f (codes "input") rows.2 (rows_of f) refl rows.5.1.1.0))
+    (same_value _ task.paths.output.now rows.3 set_row.7 (path_is f (codes "output") rows.3 (rows_of f) refl rows.5.1.1.1.0))
+task_requested words name f (Check task) got set_row =
+    let is = is_check_task words name (rows_of f) got set_row.0 in
     let rows = is.1 in
-    asks_check words got.1 got.0 rows.0 rows.1 task.all task.texts.rules task.texts.plant is.0 rows.2
-    (flag_is f (codes "all") _ _ (rows_of f) refl rows.3.1.1.0 told.1.0 told.1.1)
-    (same_value _ task.texts.rules.now rows.0 told.2 (path_is f (codes "rules") rows.0 (rows_of f) refl rows.3.0))
-    (same_value _ task.texts.plant.now rows.1 told.3 (path_is f (codes "plant") rows.1 (rows_of f) refl rows.3.1.0))
-asks_told words name f (Explain code) got told =
-    let is = is_telling_task words name (rows_of f) got told.0 in
+    requests_check words got.1 got.0 rows.0 rows.1 task.all task.texts.rules task.texts.plant is.0 rows.2
+    (flag_is f (codes "all") _ _ (rows_of f) refl rows.3.1.1.0 set_row.1.0 set_row.1.1)
+    (same_value _ task.texts.rules.now rows.0 set_row.2 (path_is f (codes "rules") rows.0 (rows_of f) refl rows.3.0))
+    (same_value _ task.texts.plant.now rows.1 set_row.3 (path_is f (codes "plant") rows.1 (rows_of f) refl rows.3.1.0))
+task_requested words name f (Explain code) got set_row =
+    let is = is_explain_task words name (rows_of f) got set_row.0 in
     let rows = is.1 in
-    asks_telling words got.1 got.0 rows.0 code is.0 rows.1
-    (same_value _ code.now rows.0 told.1 (value_is f (codes "code") rows.0 _ rows.2 refl))
+    requests_explain words got.1 got.0 rows.0 code is.0 rows.1
+    (same_value _ code.now rows.0 set_row.1 (value_is f (codes "code") rows.0 _ rows.2 refl))

@@ -68,11 +68,11 @@ row id v = new_row id (reading_by (filled (path_rule id))) CommandLine (v ∷ []
 abbrev pub flag_row : Text → ValueSource → Text → Row
 flag_row id s v = new_row id (reading_by (filled (flag_rule id))) s (v ∷ [])
 
-abbrev pub told : Text → Row
-told id = flag_row id CommandLine (codes "true")
+abbrev pub set_row : Text → Row
+set_row id = flag_row id CommandLine (codes "true")
 
-abbrev pub untold : Text → Row
-untold id = flag_row id DefaultValue (codes "false")
+abbrev pub unset_row : Text → Row
+unset_row id = flag_row id DefaultValue (codes "false")
 
 -- ---- what is known of the rows
 
@@ -101,11 +101,11 @@ abbrev pub row_of : Text → Option Text → Option Row
 row_of id o = option_map (row id) o
 
 abbrev pub flag_of : Text → Bool → Option Row
-flag_of id met = cond met (Some (told id)) None
+flag_of id met = cond met (Some (set_row id)) None
 
 -- once the defaults are in
 abbrev pub source_of : Text → Bool → Row
-source_of id met = cond met (told id) (untold id)
+source_of id met = cond met (set_row id) (unset_row id)
 
 -- the paths that were met so far, the file for the report, and whether the flag was met
 abbrev pub run_rows : Option Text → Option Text → Option Text → Option Text → Bool → Option Text → Known

@@ -5,7 +5,7 @@ use Rattle.std.specs.Str.{bytes_eq}
 use Rattle.std.proofs.lemmas.Slice.Eq.{bytes_eq-Decides}
 use Rattle.clap.specs.Lexer.{long_of}
 use Rattle.clap.specs.Walk.{Text}
-use Rattle.command_line.specs.CommandLine.{as_report, file_by, has_flag, operands, report_of, unreported, without_flag, without_report}
+use Rattle.command_line.specs.CommandLine.{as_report, file_by, has_flag, operands, report_of, without_report_by, without_flag, without_report}
 
 -- ---- the words that are left, behind a `--` or before it, with the flag met or not
 
@@ -99,7 +99,7 @@ view_end false met None = ap (λ (v : Seen). (v, None)) (flag_end (codes "--trac
 view_end false met (Some f) = ap (λ (v : Seen). (v, Some f)) (flag_end (codes "--trace") false met)
 
 abbrev pub left_by : Bool → Text → List Text → List Text
-left_by d word rest = cond d (word ∷ rest) (unreported (as_report word) word rest (without_report rest))
+left_by d word rest = cond d (word ∷ rest) (without_report_by (as_report word) word rest (without_report rest))
 
 abbrev file_by_word : Bool → Text → List Text → Option Text
 file_by_word d word rest = cond d None (file_by (as_report word) rest (report_of rest))
@@ -117,7 +117,7 @@ Kept file word rest = (words_in false file (word ∷ rest) ≡ word ∷ words_in
 
 pub kept : (file : Option Text) (word : Text) (rest : List Text) → bytes_eq word (codes "--") ≡ false → as_report word ≡ None → Kept file word rest
 kept None word rest is apart = (
-  ap (λ b. left_by b word rest) is ∙ ap (λ o. unreported o word rest (without_report rest)) apart,
+  ap (λ b. left_by b word rest) is ∙ ap (λ o. without_report_by o word rest (without_report rest)) apart,
   ap (λ b. file_by_word b word rest) is ∙ ap (λ o. file_by o rest (report_of rest)) apart,
 )
 kept (Some f) word rest is apart = (refl, refl)
@@ -144,13 +144,13 @@ view_plain met file word rest is apart other =
 pub view_attached : (met : Bool) (f word : Text) (rest : List Text) → bytes_eq word (codes "--") ≡ false → as_report word ≡ Some (Some f)
     → view false met None (word ∷ rest) ≡ view false met (Some f) rest
 view_attached met f word rest is names =
-    let e = ap (λ b. left_by b word rest) is ∙ ap (λ o. unreported o word rest (without_report rest)) names in
+    let e = ap (λ b. left_by b word rest) is ∙ ap (λ o. without_report_by o word rest (without_report rest)) names in
     let g = ap (λ b. file_by_word b word rest) is ∙ ap (λ o. file_by o rest (report_of rest)) names in
     λ j. (flag_view (codes "--trace") false met (e j), g j)
 
 pub view_waits : (met : Bool) (word : Text) (rest : List Text) → bytes_eq word (codes "--") ≡ false → as_report word ≡ Some None
     → view false met None (word ∷ rest) ≡ waiting_view met rest
 view_waits met word rest is names =
-    let e = ap (λ b. left_by b word rest) is ∙ ap (λ o. unreported o word rest (without_report rest)) names in
+    let e = ap (λ b. left_by b word rest) is ∙ ap (λ o. without_report_by o word rest (without_report rest)) names in
     let g = ap (λ b. file_by_word b word rest) is ∙ ap (λ o. file_by o rest (report_of rest)) names in
     λ j. (flag_view (codes "--trace") false met (e j), g j)

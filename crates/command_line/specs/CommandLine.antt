@@ -8,7 +8,7 @@ use Rattle.clap.specs.Lexer.{long_of}
 use Rattle.clap.specs.Words.{Text}
 use Rattle.command_line.specs.declared.task.Task.{Task}
 use Rattle.command_line.specs.declared.task.Task.TheVariants.{Run, Check, Explain}
-use Rattle.command_line.specs.declared.task.Paths.{Paths}
+use Rattle.command_line.specs.declared.task.ReplayPaths.{ReplayPaths}
 
 -- the words after `run`, `check` or `explain` that are no options: all but the first `--`
 abbrev pub operands : List Text → List Text
@@ -27,13 +27,13 @@ without_flag flag [] = []
 without_flag flag (word ∷ rest) = if bytes_eq word (codes "--") then word ∷ rest
     else (if bytes_eq word flag then rest else word ∷ without_flag flag rest)
 
-abbrev pub report_among : Option (Text × Option Text) → Option (Option Text)
-report_among None = None
-report_among (Some option) = if bytes_eq (codes "report") option.0 then Some option.1 else None
+abbrev pub report_option : Option (Text × Option Text) → Option (Option Text)
+report_option None = None
+report_option (Some option) = if bytes_eq (codes "report") option.0 then Some option.1 else None
 
 -- the word is `--report`, or `--report=FILE` with what stands behind the `=`
 abbrev pub as_report : Text → Option (Option Text)
-as_report word = report_among (long_of word)
+as_report word = report_option (long_of word)
 
 -- the file that a word names, by what it is as an option: FILE itself, or the next word
 abbrev pub file_by : Option (Option Text) → List Text → Option Text → Option Text
@@ -47,35 +47,35 @@ report_of [] = None
 report_of (word ∷ rest) =
     if bytes_eq word (codes "--") then None else file_by (as_report word) rest (report_of rest)
 
-abbrev pub unreported : Option (Option Text) → Text → List Text → List Text → List Text
-unreported None word rest later = word ∷ later
-unreported (Some None) word rest later = drop 1 rest
-unreported (Some (Some file)) word rest later = rest
+abbrev pub without_report_by : Option (Option Text) → Text → List Text → List Text → List Text
+without_report_by None word rest later = word ∷ later
+without_report_by (Some None) word rest later = drop 1 rest
+without_report_by (Some (Some file)) word rest later = rest
 
 -- these words without the first `--report FILE` or `--report=FILE` before any `--`
 abbrev pub without_report : List Text → List Text
 without_report [] = []
 without_report (word ∷ rest) = if bytes_eq word (codes "--") then word ∷ rest
-    else unreported (as_report word) word rest (without_report rest)
+    else without_report_by (as_report word) word rest (without_report rest)
 
-abbrev pub texts_of : Paths → List Text
-texts_of p = p.rules.now ∷ p.plant.now ∷ p.input.now ∷ p.output.now ∷ []
+abbrev pub path_texts : ReplayPaths → List Text
+path_texts p = p.rules.now ∷ p.plant.now ∷ p.input.now ∷ p.output.now ∷ []
 
 abbrev pub name_of_file : Option (Bor Text) → Option Text
 name_of_file file = option_map (λ f. f.now) file
 
 -- the words ask for this task: they are the program's name, and `run`, where the report goes, the flag where the run is
 -- traced, and the four paths, or `check`, the flag where all faults are told, and the two, or `explain` and a code
-abbrev pub Asks : List Text → Task → Type 0
-Asks (program ∷ name ∷ rest) (Run task) =
+abbrev pub RequestsTask : List Text → Task → Type 0
+RequestsTask (program ∷ name ∷ rest) (Run task) =
     (name ≡ codes "run") × (name_of_file task.report ≡ report_of rest)
     × (task.trace ≡ has_flag (codes "--trace") (without_report rest))
-    × (operands (without_flag (codes "--trace") (without_report rest)) ≡ texts_of task.paths)
-Asks (program ∷ name ∷ rest) (Check task) =
+    × (operands (without_flag (codes "--trace") (without_report rest)) ≡ path_texts task.paths)
+RequestsTask (program ∷ name ∷ rest) (Check task) =
     (name ≡ codes "check") × (task.all ≡ has_flag (codes "--all") rest)
     × (operands (without_flag (codes "--all") rest) ≡ task.texts.rules.now ∷ task.texts.plant.now ∷ [])
-Asks (program ∷ name ∷ rest) (Explain code) = (name ≡ codes "explain") × (operands rest ≡ code.now ∷ [])
-Asks _ _ = ⊥
+RequestsTask (program ∷ name ∷ rest) (Explain code) = (name ≡ codes "explain") × (operands rest ≡ code.now ∷ [])
+RequestsTask _ _ = ⊥
 
 -- the word is read as a path wherever it stands: it is `-`, or does not begin with a hyphen
 abbrev pub is_plain_word : Text → Bool

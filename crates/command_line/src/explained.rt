@@ -7,13 +7,13 @@ ghost use Rattle.command_line.specs.CommandLine.{has_explain, is_explained, task
 ///
 /// It may stand at any place before the first `--`; of several the first is taken.
 pub fn take_explain(words: &mut Vec<&str>) -> bool
-    ensures told { result ≡ is_explained (map (λ w. w.now) words.old.items) }
+    ensures explained { result ≡ is_explained (map (λ w. w.now) words.old.items) }
     ensures left { map (λ w. w.now) words.new.items ≡ task_words (map (λ w. w.now) words.old.items) }
 {
     let Some((_, options)) = words.split_first() else {
         return false;
     };
-    let Some(place) = place_of(options) else {
+    let Some(place) = explain_index(options) else {
         return false;
     };
     words.remove(place + 1);
@@ -21,7 +21,7 @@ pub fn take_explain(words: &mut Vec<&str>) -> bool
 }
 
 // The place of the first `--explain` before any `--`.
-fn place_of(words: &[&str]) -> Option<usize>
+fn explain_index(words: &[&str]) -> Option<usize>
     ensures { let texts = map (λ w. w.now) words.now in
         MatchOption result
         ((has_explain texts ≡ false) × (without_explain texts ≡ texts))

@@ -7,4 +7,4 @@ mod program;
 mod task;
 
 pub use explained::take_explain;
-pub use task::{CheckTask, Paths, ReplayTask, Task, Texts, read_task};
+pub use task::{CheckPaths, CheckTask, ReplayPaths, ReplayTask, Task, read_task};

@@ -2,8 +2,8 @@
 ghost use Rattle.std.specs.Prelude.{◌≡◌, IfErr, IfOk, Some, map, true};
 ghost use Rattle.std.specs.Option.{IsSome};
 ghost use Rattle.clap.specs.Words.{first_value, found_of, kind_of};
-ghost use Rattle.command_line.specs.CommandLine.{Asks, is_well_formed};
-ghost use Rattle.command_line.specs.steps.Given.{HasTask, TellsTask};
+ghost use Rattle.command_line.specs.CommandLine.{RequestsTask, is_well_formed};
+ghost use Rattle.command_line.specs.steps.Given.{HasTask, GivesTask};
 
 use crate::program::program;
 use clap::error::ErrorKind;
@@ -28,12 +28,12 @@ pub struct ReplayTask<'a> {
     pub trace: bool,
     /// FILE, where the report goes, or standard output.
     pub report: Option<&'a str>,
-    pub paths: Paths<'a>,
+    pub paths: ReplayPaths<'a>,
 }
 
 /// The paths of a run, as the words give them.
 #[derive(Clone, Copy)]
-pub struct Paths<'a> {
+pub struct ReplayPaths<'a> {
     /// RULES, the file of the ruleset.
     pub rules: &'a str,
     /// BOX, the file of the box that the rules stand on.
@@ -49,12 +49,12 @@ pub struct Paths<'a> {
 pub struct CheckTask<'a> {
     /// Whether all faults are told, and not the first alone.
     pub all: bool,
-    pub texts: Texts<'a>,
+    pub texts: CheckPaths<'a>,
 }
 
 /// The paths of a check, as the words give them.
 #[derive(Clone, Copy)]
-pub struct Texts<'a> {
+pub struct CheckPaths<'a> {
     /// RULES, the file of the ruleset.
     pub rules: &'a str,
     /// BOX, the file of the box that the rules stand on.
@@ -74,7 +74,7 @@ pub struct Texts<'a> {
 /// # Errors
 /// `clap`'s, whose `exit_code` is 0 where the words ask for help, and 2 where they are no task.
 pub fn read_task<'a>(alloc: Global, words: &'a [&'a str]) -> Result<Task<'a>, Error>
-    ensures asked { IfOk result (Asks (map (λ w. w.now) words.entry.now)) }
+    ensures requested { IfOk result (RequestsTask (map (λ w. w.now) words.entry.now)) }
     ensures refused { IfErr result (λ e. is_well_formed (map (λ w. w.now) words.entry.now) ≡ true
         → kind_of e ≡ ErrorKind.OutOfMemory) }
 {
@@ -86,12 +86,12 @@ pub fn read_task<'a>(alloc: Global, words: &'a [&'a str]) -> Result<Task<'a>, Er
 // The task of a subcommand, by its name and what was given to it.
 fn task_of<'a>(name: &str, given: &ArgMatches<'a>) -> Task<'a>
     requires { HasTask name.now (found_of given.now) }
-    ensures { TellsTask name.now (found_of given.now) result }
+    ensures { GivesTask name.now (found_of given.now) result }
 {
     if name == "check" {
         return Task::Check(CheckTask {
             all: given.get_flag("all"),
-            texts: Texts {
+            texts: CheckPaths {
                 rules: value_of(given, "rules"),
                 plant: value_of(given, "plant"),
             },
@@ -103,7 +103,7 @@ fn task_of<'a>(name: &str, given: &ArgMatches<'a>) -> Task<'a>
     Task::Run(ReplayTask {
         trace: given.get_flag("trace"),
         report: given.get_str("report"),
-        paths: Paths {
+        paths: ReplayPaths {
             rules: value_of(given, "rules"),
             plant: value_of(given, "plant"),
             input: value_of(given, "input"),

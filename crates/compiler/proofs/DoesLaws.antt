@@ -4,52 +4,52 @@ use Rattle.std.specs.Prelude.{slice_get, nat_lt}
 use Rattle.std.proofs.lemmas.Bool.Decides.{nat_tests}
 use Rattle.rule_meaning.specs.declared.facts.Facts.{Facts}
 use Rattle.rule_meaning.specs.declared.event.Event.{Event}
-use Rattle.rule_meaning.specs.Runs.{After, at_end, over, IsOver}
+use Rattle.rule_meaning.specs.Runs.{RunResult, at_end, over, IsTerminal}
 use Rattle.filter_vm.specs.declared.code.Instruction.{Instruction}
 use Rattle.filter_vm.specs.declared.code.TableCode.{TableCode}
-use Rattle.filter_vm.specs.Machine.{Going, Stop, stop, lost, statement_at, settle, settle_at, found_at, go_back, go_to, call, at_limit, one_more, act, action_says, exec}
+use Rattle.filter_vm.specs.Machine.{Continuation, Stop, stop, invalid_code, statement_at, fetch, fetch_or, fetched_at, return_from, enter_chain, call, at_limit, one_more, apply_effect, action_effect, exec}
 
 -- what is left to do behind this: after the end of a chain one goes back
-abbrev pub finish : Going → List ℕ → After → ℕ → Stop
-finish go stack (at_end f es) ticks = go_back go stack f es ticks
-finish go stack (over ending f es) ticks = stop (over ending f es) ticks
+abbrev pub finish : Continuation → List ℕ → RunResult → ℕ → Stop
+finish go stack (at_end f es) ticks = return_from go stack f es ticks
+finish go stack (over verdict f es) ticks = stop (over verdict f es) ticks
 
 -- where the base chain is over it is the same where one would go back to
-pub finish-over : (go : Going) (stack stack' : List ℕ) (o : After) (ticks : ℕ) → IsOver o → finish go stack o ticks ≡ finish go stack' o ticks
+pub finish-over : (go : Continuation) (stack stack' : List ℕ) (o : RunResult) (ticks : ℕ) → IsTerminal o → finish go stack o ticks ≡ finish go stack' o ticks
 finish-over go stack stack' (at_end f es) ticks h = absurd h
-finish-over go stack stack' (over ending f es) ticks h = refl
+finish-over go stack stack' (over verdict f es) ticks h = refl
 
 -- with no place to go back to the run stops
-pub finish-last : (go : Going) (o : After) (ticks : ℕ) → (finish go [] o ticks).after ≡ o
+pub finish-last : (go : Continuation) (o : RunResult) (ticks : ℕ) → (finish go [] o ticks).after ≡ o
 finish-last go (at_end f es) ticks = refl
-finish-last go (over ending f es) ticks = refl
+finish-last go (over verdict f es) ticks = refl
 
 -- a chain that is there
-pub goes_to : (go : Going) (place : Option ℕ) (at_step : ℕ) (stack : List ℕ) (f : Facts) (es : List Event) (ticks : ℕ) → place ≡ Some at_step → go_to go place stack f es ticks ≡ go at_step stack f es ticks
-goes_to go place at_step stack f es ticks is = ap (λ o. go_to go o stack f es ticks) is
+pub goes_to : (go : Continuation) (place : Option ℕ) (at_step : ℕ) (stack : List ℕ) (f : Facts) (es : List Event) (ticks : ℕ) → place ≡ Some at_step → enter_chain go place stack f es ticks ≡ go at_step stack f es ticks
+goes_to go place at_step stack f es ticks is = ap (λ o. enter_chain go o stack f es ticks) is
 
 -- and that one can come back from
-pub calls : (go : Going) (place : Option ℕ) (at_step back : ℕ) (stack : List ℕ) (f : Facts) (es : List Event) (ticks : ℕ) → place ≡ Some at_step → length stack < 16 → call go place back stack f es ticks ≡ go at_step (back ∷ stack) f es ticks
+pub calls : (go : Continuation) (place : Option ℕ) (at_step back : ℕ) (stack : List ℕ) (f : Facts) (es : List Event) (ticks : ℕ) → place ≡ Some at_step → length stack < 16 → call go place back stack f es ticks ≡ go at_step (back ∷ stack) f es ticks
 calls go place at_step back stack f es ticks is room =
     let fits : nat_lt (length stack) 16 ≡ true = grind (arith, nat_tests) in
-    ap (λ (b : Bool). if b then go_to go place (back ∷ stack) f es ticks else lost f es ticks) fits ∙ goes_to go place at_step (back ∷ stack) f es ticks is
+    ap (λ (b : Bool). if b then enter_chain go place (back ∷ stack) f es ticks else invalid_code f es ticks) fits ∙ goes_to go place at_step (back ∷ stack) f es ticks is
 
 module _ (t : TableCode) where
   -- this does, in so many statements at most, what leads there: more fuel changes nothing
-  pub record Does (most : ℕ) (doing : Going → ℕ → Stop) (stack : List ℕ) (o : After) : Type 0 where
+  pub record Does (most : ℕ) (doing : Continuation → ℕ → Stop) (stack : List ℕ) (o : RunResult) : Type 0 where
     pub used : ℕ
     pub few : used ≤ most
     pub same : (extra before : ℕ) → doing (exec t (extra + used)) before ≡ finish (exec t extra) stack o (before + used)
 
-  pub does-more : {doing : Going → ℕ → Stop} {stack : List ℕ} {o : After} (less most : ℕ) → less ≤ most → Does less doing stack o → Does most doing stack o
+  pub does-more : {doing : Continuation → ℕ → Stop} {stack : List ℕ} {o : RunResult} (less most : ℕ) → less ≤ most → Does less doing stack o → Does most doing stack o
   does-more less most fits d = record { used = d.used; few = omega (arith, d.few); same = d.same }
 
   -- the same, said otherwise
-  pub does-same : {doing doing' : Going → ℕ → Stop} {stack : List ℕ} {o : After} (most : ℕ) → ((go : Going) (before : ℕ) → doing' go before ≡ doing go before) → Does most doing stack o → Does most doing' stack o
+  pub does-same : {doing doing' : Continuation → ℕ → Stop} {stack : List ℕ} {o : RunResult} (most : ℕ) → ((go : Continuation) (before : ℕ) → doing' go before ≡ doing go before) → Does most doing stack o → Does most doing' stack o
   does-same most is d = record { used = d.used; few = d.few; same = λ extra before. is (exec t (extra + d.used)) before ∙ d.same extra before }
 
   -- what needs no statement more
-  pub does-now : {doing : Going → ℕ → Stop} {stack : List ℕ} {o : After} (most : ℕ) → ((go : Going) (before : ℕ) → doing go before ≡ finish go stack o before) → Does most doing stack o
+  pub does-now : {doing : Continuation → ℕ → Stop} {stack : List ℕ} {o : RunResult} (most : ℕ) → ((go : Continuation) (before : ℕ) → doing go before ≡ finish go stack o before) → Does most doing stack o
   does-now {doing} {stack} {o} most is = record {
     used = 0;
     few = omega arith;
@@ -60,11 +60,11 @@ module _ (t : TableCode) where
   }
 
   -- where a chain that one came to by a jump is over, so is this one
-  pub does-over : {doing : Going → ℕ → Stop} {stack stack' : List ℕ} {o : After} (most : ℕ) → IsOver o → Does most doing stack o → Does most doing stack' o
+  pub does-over : {doing : Continuation → ℕ → Stop} {stack stack' : List ℕ} {o : RunResult} (most : ℕ) → IsTerminal o → Does most doing stack o → Does most doing stack' o
   does-over {stack = stack} {stack' = stack'} {o = o} most is d = record { used = d.used; few = d.few; same = λ extra before. d.same extra before ∙ finish-over (exec t extra) stack stack' o (before + d.used) is }
 
   -- after a chain that ended one goes back
-  pub does-then : {doing : Going → ℕ → Stop} {stack : List ℕ} {g : Facts} {later : List Event} {o : After} (first second back : ℕ) → Does first doing (back ∷ stack) (at_end g later) → Does second (λ go. go back stack g later) stack o → Does (first + second) doing stack o
+  pub does-then : {doing : Continuation → ℕ → Stop} {stack : List ℕ} {g : Facts} {later : List Event} {o : RunResult} (first second back : ℕ) → Does first doing (back ∷ stack) (at_end g later) → Does second (λ go. go back stack g later) stack o → Does (first + second) doing stack o
   does-then {doing} {stack} {g} {later} {o} first second back a b = record {
     used = b.used + a.used;
     few = omega (arith, a.few, b.few);
@@ -76,18 +76,18 @@ module _ (t : TableCode) where
 
   -- ---- steps
 
-  found : (at_step : ℕ) (stack : List ℕ) (i : Instruction) → statement_at (slice_get t.steps.items at_step) ≡ Some i → settle t.steps.items at_step stack ≡ found_at at_step stack i
-  found at_step [] i is = ap (λ o. settle_at o at_step [] None) is
-  found at_step (q ∷ qs) i is = ap (λ o. settle_at o at_step (q ∷ qs) (settle t.steps.items q qs)) is
+  found : (at_step : ℕ) (stack : List ℕ) (i : Instruction) → statement_at (slice_get t.steps.items at_step) ≡ Some i → fetch t.steps.items at_step stack ≡ fetched_at at_step stack i
+  found at_step [] i is = ap (λ o. fetch_or o at_step [] None) is
+  found at_step (q ∷ qs) i is = ap (λ o. fetch_or o at_step (q ∷ qs) (fetch t.steps.items q qs)) is
 
   -- the end of a chain takes no statement
-  pub exec-end : (fuel at_step : ℕ) (stack : List ℕ) (f : Facts) (es : List Event) (ticks : ℕ) → statement_at (slice_get t.steps.items at_step) ≡ None → exec t fuel at_step stack f es ticks ≡ go_back (exec t fuel) stack f es ticks
-  exec-end zero at_step [] f es ticks is = ap (λ o. at_limit (settle_at o at_step [] None) f es ticks) is
-  exec-end (suc n) at_step [] f es ticks is = ap (λ o. one_more t (exec t n) (settle_at o at_step [] None) f es ticks) is
-  exec-end zero at_step (q ∷ qs) f es ticks is = ap (λ o. at_limit (settle_at o at_step (q ∷ qs) (settle t.steps.items q qs)) f es ticks) is
-  exec-end (suc n) at_step (q ∷ qs) f es ticks is = ap (λ o. one_more t (exec t n) (settle_at o at_step (q ∷ qs) (settle t.steps.items q qs)) f es ticks) is
+  pub exec-end : (fuel at_step : ℕ) (stack : List ℕ) (f : Facts) (es : List Event) (ticks : ℕ) → statement_at (slice_get t.steps.items at_step) ≡ None → exec t fuel at_step stack f es ticks ≡ return_from (exec t fuel) stack f es ticks
+  exec-end zero at_step [] f es ticks is = ap (λ o. at_limit (fetch_or o at_step [] None) f es ticks) is
+  exec-end (suc n) at_step [] f es ticks is = ap (λ o. one_more t (exec t n) (fetch_or o at_step [] None) f es ticks) is
+  exec-end zero at_step (q ∷ qs) f es ticks is = ap (λ o. at_limit (fetch_or o at_step (q ∷ qs) (fetch t.steps.items q qs)) f es ticks) is
+  exec-end (suc n) at_step (q ∷ qs) f es ticks is = ap (λ o. one_more t (exec t n) (fetch_or o at_step (q ∷ qs) (fetch t.steps.items q qs)) f es ticks) is
 
-  pub exec-step : (n at_step : ℕ) (stack : List ℕ) (f : Facts) (es : List Event) (ticks : ℕ) (i : Instruction) → statement_at (slice_get t.steps.items at_step) ≡ Some i → exec t (suc n) at_step stack f es ticks ≡ act t.places.items i.rule (action_says t.lookups i.action f) at_step i.skip (exec t n) stack f es (ticks + 1)
+  pub exec-step : (n at_step : ℕ) (stack : List ℕ) (f : Facts) (es : List Event) (ticks : ℕ) (i : Instruction) → statement_at (slice_get t.steps.items at_step) ≡ Some i → exec t (suc n) at_step stack f es ticks ≡ apply_effect t.chain_offsets.items i.rule (action_effect t.lookups i.action f) at_step i.skip (exec t n) stack f es (ticks + 1)
   exec-step n at_step stack f es ticks i is = ap (λ o. one_more t (exec t n) o f es ticks) (found at_step stack i is)
 
   pub does-end : (most at_step : ℕ) (stack : List ℕ) (f : Facts) (es : List Event) → statement_at (slice_get t.steps.items at_step) ≡ None → Does most (λ go. go at_step stack f es) stack (at_end f es)
@@ -97,11 +97,11 @@ module _ (t : TableCode) where
     same = λ extra before.
         let same_fuel : extra + 0 ≡ extra = omega arith in
         let same_ticks : before ≡ before + 0 = omega arith in
-        ap (λ n. exec t n at_step stack f es before) same_fuel ∙ exec-end extra at_step stack f es before is ∙ ap (λ n. go_back (exec t extra) stack f es n) same_ticks;
+        ap (λ n. exec t n at_step stack f es before) same_fuel ∙ exec-end extra at_step stack f es before is ∙ ap (λ n. return_from (exec t extra) stack f es n) same_ticks;
   }
 
   -- a statement, and what it does
-  pub does-step : {stack : List ℕ} {f : Facts} {es : List Event} {o : After} (less most at_step : ℕ) (i : Instruction) → suc less ≤ most → statement_at (slice_get t.steps.items at_step) ≡ Some i → Does less (λ go. act t.places.items i.rule (action_says t.lookups i.action f) at_step i.skip go stack f es) stack o → Does most (λ go. go at_step stack f es) stack o
+  pub does-step : {stack : List ℕ} {f : Facts} {es : List Event} {o : RunResult} (less most at_step : ℕ) (i : Instruction) → suc less ≤ most → statement_at (slice_get t.steps.items at_step) ≡ Some i → Does less (λ go. apply_effect t.chain_offsets.items i.rule (action_effect t.lookups i.action f) at_step i.skip go stack f es) stack o → Does most (λ go. go at_step stack f es) stack o
   does-step {stack} {f} {es} {o} less most at_step i fits is d = record {
     used = suc d.used;
     few = omega (arith, d.few);

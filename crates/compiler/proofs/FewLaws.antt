@@ -4,13 +4,13 @@ use Rattle.std.specs.Prelude.{sum_by, slice_get}
 use Rattle.std.specs.List.{zip}
 use Rattle.std.proofs.lemmas.List.Sums.{sum_by-cons}
 use Rattle.nft_tree.specs.Tree.{Text, HeadTree, ChainTree, TableTree}
-use Rattle.nft_tree.specs.Parts.{chains_of}
-use Rattle.chain_graph.specs.Known.{stopped}
+use Rattle.nft_tree.specs.TableItems.{chains_of}
+use Rattle.chain_graph.specs.Measures.{saturated}
 use Rattle.rule_paths.specs.Paths.{Caller, a_chain, AreCosts, AreAllCosts, base_cost, table_cost, ruleset_cost}
 use Rattle.rule_paths.specs.Findings.{AreChainCosts}
 use Rattle.rule_check.specs.Checked.{base_part, base_sum, ruleset_sum}
 
-part_is : (cost : Caller → ℕ) (name : Text) (head : Option HeadTree) → base_part head (stopped (cost (a_chain name))) ≤ 65536 → base_part head (stopped (cost (a_chain name))) ≡ base_cost cost name head
+part_is : (cost : Caller → ℕ) (name : Text) (head : Option HeadTree) → base_part head (saturated (cost (a_chain name))) ≤ 65536 → base_part head (saturated (cost (a_chain name))) ≡ base_cost cost name head
 part_is cost name None few = refl
 part_is cost name (Some head) few = omega arith
 
@@ -18,12 +18,12 @@ abbrev part : ChainTree × ℕ → ℕ
 part p = base_part p.0.head p.1
 
 abbrev row_of : (Caller → ℕ) → List ChainTree → List ℕ
-row_of cost cs = map (λ c. stopped (cost (a_chain c.name))) cs
+row_of cost cs = map (λ c. saturated (cost (a_chain c.name))) cs
 
 parts_are : (cost : Caller → ℕ) (cs : List ChainTree) → sum_by part (zip cs (row_of cost cs)) ≤ 65536 → sum_by part (zip cs (row_of cost cs)) ≡ sum_by (λ c. base_cost cost c.name c.head) cs
 parts_are cost [] few = refl
 parts_are cost (c ∷ cs) few =
-    let both = sum_by-cons part (c, stopped (cost (a_chain c.name))) (zip cs (row_of cost cs)) in
+    let both = sum_by-cons part (c, saturated (cost (a_chain c.name))) (zip cs (row_of cost cs)) in
     both ∙ ap₂ ◌+◌ (part_is cost c.name c.head (omega (arith, both))) (parts_are cost cs (omega (arith, both))) ∙ sym (sum_by-cons (λ (x : ChainTree). base_cost cost x.name x.head) c cs)
 
 table_is : (t : TableTree) (row : List ℕ) (cost : Caller → ℕ) → AreChainCosts t row → AreCosts t cost → base_sum t row ≤ 65536 → base_sum t row ≡ table_cost cost t

@@ -4,10 +4,10 @@ pub mod StartLaws
 pub mod OrderLaws
 pub mod TotalLaws
 pub mod FewLaws
-pub mod WholeLaws
+pub mod RulesetCodeLaws
 pub mod DoesLaws
-pub mod PlacedLaws
+pub mod LayoutLaws
 pub mod Simulation
 pub mod BaseLaws
-pub mod AlikeLaws
+pub mod AgreementLaws
 pub mod CodedLaws

@@ -11,11 +11,11 @@ use Rattle.std.proofs.lemmas.List.Sorted.{list_any-IsPermutation}
 use Rattle.nft_tree.specs.declared.chain.Hook.{Hook}
 use Rattle.nft_tree.specs.Tree.{TableTree}
 use Rattle.rule_paths.specs.Paths.{Caller, AreAllCosts}
-use Rattle.rule_meaning.specs.Hooks.{Base, bases_of, priority, runs_before, stands_at}
+use Rattle.rule_meaning.specs.Hooks.{BaseChain, base_chains_of, priority, runs_before, is_on_hook}
 use Rattle.filter_vm.specs.declared.code.Start.{Start}
-use Rattle.compiler.specs.declared.base.BaseChain.{BaseChain}
+use Rattle.compiler.specs.declared.compiled_chain.CompiledChain.{CompiledChain}
 use Rattle.compiler.specs.Compiled.{HasStarts, start_cost}
-use Rattle.compiler.specs.steps.Bases.{base, runs_at, Ordered}
+use Rattle.compiler.specs.steps.Bases.{base, runs_on_hook, Ordered}
 use Rattle.compiler.proofs.AddLaws.{none_first, none_later}
 use Rattle.compiler.proofs.StartLaws.{filter_alike}
 
@@ -46,26 +46,26 @@ both_false true b h = absurd (false≢true h)
 both_false false true h = absurd (false≢true h)
 both_false false false h = refl
 
-tied : (a b : Base) → ties runs_before a b ≡ true → priority a ≡ priority b
+tied : (a b : BaseChain) → ties runs_before a b ≡ true → priority a ≡ priority b
 tied a b h = int_ranked (priority a) (priority b) Equal (sym (both_false (int_lt (priority a) (priority b)) (int_lt (priority b) (priority a)) h))
 
 abbrev tie : ℤ → ℤ → Bool
 tie p q = not (int_lt p q) && not (int_lt q p)
 
-abbrev by_priority : BaseChain → BaseChain → Bool
+abbrev by_priority : CompiledChain → CompiledChain → Bool
 by_priority x y = runs_before (base x) (base y)
 
-abbrev ties_with : Base → BaseChain → Bool
+abbrev ties_with : BaseChain → CompiledChain → Bool
 ties_with b x = ties runs_before b (base x)
 
 -- those that tie with any base chain stand as they did
-module _ (b : Base) (xs ys : List BaseChain) (moved : IsPermutation xs ys) (stable : IsStableBy by_priority xs ys) where
+module _ (b : BaseChain) (xs ys : List CompiledChain) (moved : IsPermutation xs ys) (stable : IsStableBy by_priority xs ys) where
   stays_if : (some : Bool) → list_any (ties_with b) xs ≡ some → filter (ties_with b) ys ≡ filter (ties_with b) xs
   stays_if true some =
       let found = Any-from_list_any (ties_with b) xs some in
       let x = found.1 in
       let same : priority b ≡ priority (base x) = tied b (base x) found.4 in
-      let alike : (y : BaseChain) → ties_with b y ≡ ties by_priority x y = λ y. ap (λ p. tie p (priority (base y))) same in
+      let alike : (y : CompiledChain) → ties_with b y ≡ ties by_priority x y = λ y. ap (λ p. tie p (priority (base y))) same in
       filter_alike (ties_with b) (ties by_priority x) alike ys ∙ stable x ∙ sym (filter_alike (ties_with b) (ties by_priority x) alike xs)
   stays_if false none = none_passes (ties_with b) ys (sym (list_any-IsPermutation (ties_with b) xs ys moved) ∙ none) ∙ sym (none_passes (ties_with b) xs none)
 
@@ -74,15 +74,15 @@ module _ (b : Base) (xs ys : List BaseChain) (moved : IsPermutation xs ys) (stab
 
 -- ---- the starts of a hook
 
-pub has_starts : (tables : List TableTree) (hook : Hook) (bases : List BaseChain) (starts : List Start) → map base bases ≡ bases_of tables → (o : Ordered hook bases starts)
+pub has_starts : (tables : List TableTree) (hook : Hook) (bases : List CompiledChain) (starts : List Start) → map base bases ≡ base_chains_of tables → (o : Ordered hook bases starts)
     → ((cost : TableTree → Caller → ℕ) → AreAllCosts tables cost → map (λ s. s.cost) starts ≡ map (start_cost tables cost) (map base o.order)) → HasStarts tables hook starts
 has_starts tables hook bases starts text o costs =
-    let at_hook : map base (filter (runs_at hook) bases) ≡ filter (stands_at hook) (bases_of tables) = filter_shown base (stands_at hook) bases ∙ ap (filter (stands_at hook)) text in
+    let on_hook : map base (filter (runs_on_hook hook) bases) ≡ filter (is_on_hook hook) (base_chains_of tables) = filter_shown base (is_on_hook hook) bases ∙ ap (filter (is_on_hook hook)) text in
     record {
       order = map base o.order;
       in_order = record {
         rising = sorted_shown base runs_before o.order o.rising;
-        stable = λ b. stays b (filter (runs_at hook) bases) o.order o.moved o.stable ∙ ap (filter (ties runs_before b)) at_hook;
+        stable = λ b. stays b (filter (runs_on_hook hook) bases) o.order o.moved o.stable ∙ ap (filter (ties runs_before b)) on_hook;
       };
       are = o.starts_are;
       costs = costs;

@@ -5,19 +5,19 @@ use Rattle.std.specs.List.{list_any, filter_map}
 use Rattle.std.proofs.lemmas.List.{append-nil}
 use Rattle.std.proofs.lemmas.Bool.{cases_lt}
 use Rattle.std.proofs.lemmas.Option.{slice_get_within}
-use Rattle.list_laws.specs.Options.{mapped_some}
+use Rattle.list_laws.specs.Options.{some_of_map}
 use Rattle.nft_tree.specs.Tree as tree
 use Rattle.nft_tree.specs.Tree.{Statement, ChainTree, ItemTree, TableTree}
-use Rattle.nft_tree.specs.Parts.{chain_in, chains_of}
+use Rattle.nft_tree.specs.TableItems.{chain_in, chains_of}
 use Rattle.box_file.specs.Box.{PlantTree}
-use Rattle.rule_types.specs.Types.{rule_misfits, item_misfits, table_misfits}
-use Rattle.rule_values.specs.Faults.{if_some, item_is_wrong, priority_is_wrong}
-use Rattle.rule_meaning.specs.Runs.{Program, named}
+use Rattle.rule_types.specs.Types.{rule_mismatches, item_mismatches, table_mismatches}
+use Rattle.rule_values.specs.Faults.{if_some, item_out_of_range, priority_out_of_range}
+use Rattle.rule_meaning.specs.Runs.{Program, table_program}
 use Rattle.filter_vm.specs.declared.code.TableCode.{TableCode}
 use Rattle.lowering.specs.Lowered.{Extends}
-use Rattle.compiler.specs.Placed.{RulesAt, IsTableCode, AreTableCodes}
-use Rattle.compiler.specs.steps.Adding.{Grows, Adds, rule_is_wrong}
-use Rattle.compiler.proofs.AddLaws.{keeps_push, slice_get-push, extends_itself, grows_itself, grows_on, none_first, none_later}
+use Rattle.compiler.specs.CodeLayout.{RulesAt, IsTableCode, AreTableCodes}
+use Rattle.compiler.specs.steps.Adding.{ExtendsCode, Adds, rule_is_wrong}
+use Rattle.compiler.proofs.AddLaws.{keeps_push, slice_get-push, extends_itself, extends_code_itself, extends_code_on, none_first, none_later}
 
 -- ---- what is wrong with no item is wrong with no chain
 
@@ -29,16 +29,16 @@ chains_free p q h (tree.set s ∷ items) none = chains_free p q h items (none_la
 chains_free p q h (tree.map_item m ∷ items) none = chains_free p q h items (none_later (p (tree.map_item m)) (list_any p items) none)
 
 abbrev pub chain_misfits : TableTree → ChainTree → Bool
-chain_misfits t c = list_any (rule_misfits t) c.rules
+chain_misfits t c = list_any (rule_mismatches t) c.rules
 
 abbrev pub chain_rules_wrong : ChainTree → Bool
 chain_rules_wrong c = list_any rule_is_wrong c.rules
 
-pub types_free : (t : TableTree) → table_misfits t ≡ false → list_any (chain_misfits t) (chains_of t) ≡ false
-types_free t = chains_free (item_misfits t) (chain_misfits t) (λ c h. h) t.items
+pub types_free : (t : TableTree) → table_mismatches t ≡ false → list_any (chain_misfits t) (chains_of t) ≡ false
+types_free t = chains_free (item_mismatches t) (chain_misfits t) (λ c h. h) t.items
 
-pub bounds_free : (t : TableTree) → list_any item_is_wrong t.items ≡ false → list_any chain_rules_wrong (chains_of t) ≡ false
-bounds_free t = chains_free item_is_wrong chain_rules_wrong (λ c h. none_later (if_some (λ head. priority_is_wrong head.priority) c.head) (chain_rules_wrong c) h) t.items
+pub bounds_free : (t : TableTree) → list_any item_out_of_range t.items ≡ false → list_any chain_rules_wrong (chains_of t) ≡ false
+bounds_free t = chains_free item_out_of_range chain_rules_wrong (λ c h. none_later (if_some (λ head. priority_out_of_range head.priority) c.head) (chain_rules_wrong c) h) t.items
 
 -- ---- the chains of a table
 
@@ -54,65 +54,65 @@ rules_in c = map (λ r. r.statements) c.rules
 pub record ChainsSoFar (p : Program Statement) (all rest : List ChainTree) (now : TableCode) : Type 0 where
   pub front : List ChainTree
   pub split : all ≡ front ++ rest
-  pub count : length now.places.items ≡ length front
+  pub count : length now.chain_offsets.items ≡ length front
   pub placed : (c : ℕ) (chain : ChainTree) → c < length front → slice_get all c ≡ Some chain
-      → (at_step : ℕ) × (slice_get now.places.items c ≡ Some at_step) × ((later : TableCode) → Grows now later → RulesAt p later at_step c 1 (rules_in chain))
+      → (at_step : ℕ) × (slice_get now.chain_offsets.items c ≡ Some at_step) × ((later : TableCode) → ExtendsCode now later → RulesAt p later at_step c 1 (rules_in chain))
 
-pub chains_none : (p : Program Statement) (all rest : List ChainTree) (t : TableCode) → rest ≡ all → t.places.items ≡ [] → ChainsSoFar p all rest t
+pub chains_none : (p : Program Statement) (all rest : List ChainTree) (t : TableCode) → rest ≡ all → t.chain_offsets.items ≡ [] → ChainsSoFar p all rest t
 chains_none p all rest t is none = record { front = []; split = sym is; count = ap length none; placed = λ c chain lt has. absurd (omega arith) }
 
 pub chains_more : (p : Program Statement) (all rest others : List ChainTree) (chain : ChainTree) (now with_place new : TableCode) → rest ≡ chain ∷ others
-    → with_place.places.items ≡ now.places.items ++ length now.steps.items ∷ [] → with_place.steps ≡ now.steps → with_place.lookups ≡ now.lookups
-    → Adds (λ later at_step. RulesAt p later at_step (length now.places.items) 1 (rules_in chain)) with_place new
+    → with_place.chain_offsets.items ≡ now.chain_offsets.items ++ length now.steps.items ∷ [] → with_place.steps ≡ now.steps → with_place.lookups ≡ now.lookups
+    → Adds (λ later at_step. RulesAt p later at_step (length now.chain_offsets.items) 1 (rules_in chain)) with_place new
     → ChainsSoFar p all rest now → ChainsSoFar p all others new
-chains_more p all rest others chain now with_place new is places steps lookups adds so = record {
+chains_more p all rest others chain now with_place new is chain_offsets steps lookups adds so = record {
   front = so.front ++ chain ∷ [];
   split = split;
-  count = ap (λ ps. length ps.items) adds.same_places ∙ ap length places ∙ omega (arith, so.count, length-append now.places.items (length now.steps.items ∷ []), length-append so.front (chain ∷ []));
+  count = ap (λ ps. length ps.items) adds.same_places ∙ ap length chain_offsets ∙ omega (arith, so.count, length-append now.chain_offsets.items (length now.steps.items ∷ []), length-append so.front (chain ∷ []));
   placed = λ c x lt has. ⊎_elim (before c x has) (here c x lt has) (cases_lt c (length so.front));
 }
   where
     split : all ≡ (so.front ++ chain ∷ []) ++ others
     split = so.split ∙ ap (λ xs. so.front ++ xs) is ∙ sym (append_assoc so.front (chain ∷ []) others)
 
-    pushed : Grows now with_place
+    pushed : ExtendsCode now with_place
     pushed = record {
       steps = λ i x h. subst (λ ss. slice_get ss.items i ≡ Some x) (sym steps) h;
-      places = λ i x h. subst (λ ps. slice_get ps i ≡ Some x) (sym places) (keeps_push now.places.items (length now.steps.items) i x h);
+      chain_offsets = λ i x h. subst (λ ps. slice_get ps i ≡ Some x) (sym chain_offsets) (keeps_push now.chain_offsets.items (length now.steps.items) i x h);
       lookups = subst (λ l. Extends now.lookups l) (sym lookups) (extends_itself now.lookups);
     }
 
-    grown : Grows now new
-    grown = grows_on now with_place new pushed adds.grows
+    grown : ExtendsCode now new
+    grown = extends_code_on now with_place new pushed adds.extends_code
 
-    before : (c : ℕ) (x : ChainTree) → slice_get all c ≡ Some x → c < length so.front → (at_step : ℕ) × (slice_get new.places.items c ≡ Some at_step) × ((later : TableCode) → Grows new later → RulesAt p later at_step c 1 (rules_in x))
+    before : (c : ℕ) (x : ChainTree) → slice_get all c ≡ Some x → c < length so.front → (at_step : ℕ) × (slice_get new.chain_offsets.items c ≡ Some at_step) × ((later : TableCode) → ExtendsCode new later → RulesAt p later at_step c 1 (rules_in x))
     before c x has lt =
         let old = so.placed c x lt has in
-        (old.0, grown.places c old.0 old.1, λ later g. old.2 later (grows_on now new later grown g))
+        (old.0, grown.chain_offsets c old.0 old.1, λ later g. old.2 later (extends_code_on now new later grown g))
 
-    here : (c : ℕ) (x : ChainTree) → c < length (so.front ++ chain ∷ []) → slice_get all c ≡ Some x → length so.front ≤ c → (at_step : ℕ) × (slice_get new.places.items c ≡ Some at_step) × ((later : TableCode) → Grows new later → RulesAt p later at_step c 1 (rules_in x))
+    here : (c : ℕ) (x : ChainTree) → c < length (so.front ++ chain ∷ []) → slice_get all c ≡ Some x → length so.front ≤ c → (at_step : ℕ) × (slice_get new.chain_offsets.items c ≡ Some at_step) × ((later : TableCode) → ExtendsCode new later → RulesAt p later at_step c 1 (rules_in x))
     here c x lt has ge =
         let at : c ≡ length so.front = omega (arith, length-append so.front (chain ∷ [])) in
-        let at_place : c ≡ length now.places.items = at ∙ sym so.count in
+        let at_place : c ≡ length now.chain_offsets.items = at ∙ sym so.count in
         let same : Some chain ≡ Some x = sym (ap (λ xs. slice_get xs c) (so.split ∙ ap (λ xs. so.front ++ xs) is) ∙ ap (λ n. slice_get (so.front ++ chain ∷ others) n) at ∙ slice_get-seam so.front chain others) ∙ has in
         let is_x : chain ≡ x = cc in
         let n : length with_place.steps.items ≡ length now.steps.items = ap (λ ss. length ss.items) steps in
-        let got : slice_get with_place.places.items (length now.places.items) ≡ Some (length now.steps.items) = ap (λ ps. slice_get ps (length now.places.items)) places ∙ slice_get-push now.places.items (length now.steps.items) in (
+        let got : slice_get with_place.chain_offsets.items (length now.chain_offsets.items) ≡ Some (length now.steps.items) = ap (λ ps. slice_get ps (length now.chain_offsets.items)) chain_offsets ∙ slice_get-push now.chain_offsets.items (length now.steps.items) in (
           length now.steps.items,
-          subst (λ m. slice_get new.places.items m ≡ Some (length now.steps.items)) (sym at_place) (adds.grows.places (length now.places.items) (length now.steps.items) got),
+          subst (λ m. slice_get new.chain_offsets.items m ≡ Some (length now.steps.items)) (sym at_place) (adds.extends_code.chain_offsets (length now.chain_offsets.items) (length now.steps.items) got),
           λ later g. subst (λ y. RulesAt p later (length now.steps.items) c 1 (rules_in y)) is_x
               (subst (λ m. RulesAt p later (length now.steps.items) m 1 (rules_in chain)) (sym at_place)
-              (subst (λ a. RulesAt p later a (length now.places.items) 1 (rules_in chain)) n (adds.stands later g))),
+              (subst (λ a. RulesAt p later a (length now.chain_offsets.items) 1 (rules_in chain)) n (adds.holds later g))),
         )
 
-pub chains_all : (plant : PlantTree) (number : ℕ) (t : TableTree) (rest : List ChainTree) (now : TableCode) → rest ≡ [] → ChainsSoFar (named plant number t) (chains_of t) rest now → IsTableCode plant number t now
+pub chains_all : (plant : PlantTree) (number : ℕ) (t : TableTree) (rest : List ChainTree) (now : TableCode) → rest ≡ [] → ChainsSoFar (table_program plant number t) (chains_of t) rest now → IsTableCode plant number t now
 chains_all plant number t rest now none so = record {
   chains = λ c rules has.
-      let found = mapped_some rules_in (slice_get (chains_of t) c) rules has in
-      let whole : chains_of t ≡ so.front = so.split ∙ ap (λ xs. so.front ++ xs) none ∙ append-nil so.front in
-      let lt : c < length so.front = subst (λ xs. c < length xs) whole (slice_get_within (chains_of t) c found.0 found.1) in
-      let stands = so.placed c found.0 lt found.1 in
-      (stands.0, stands.1, subst (λ rs. RulesAt (named plant number t) now stands.0 c 1 rs) found.2 (stands.2 now (grows_itself now)));
+      let found = some_of_map rules_in (slice_get (chains_of t) c) rules has in
+      let ruleset_code : chains_of t ≡ so.front = so.split ∙ ap (λ xs. so.front ++ xs) none ∙ append-nil so.front in
+      let lt : c < length so.front = subst (λ xs. c < length xs) ruleset_code (slice_get_within (chains_of t) c found.0 found.1) in
+      let holds = so.placed c found.0 lt found.1 in
+      (holds.0, holds.1, subst (λ rs. RulesAt (table_program plant number t) now holds.0 c 1 rs) found.2 (holds.2 now (extends_code_itself now)));
 }
 
 -- ---- the tables of a ruleset
@@ -129,7 +129,7 @@ tables_none plant all codes none = record { front = []; split = refl; count = ap
 
 pub tables_more : (plant : PlantTree) (all rest others : List TableTree) (t : TableTree) (now new : List TableCode) (code : TableCode) → rest ≡ t ∷ others → new ≡ now ++ code ∷ [] → IsTableCode plant (length now) t code
     → TablesSoFar plant all rest now → TablesSoFar plant all others new
-tables_more plant all rest others t now new code is pushed stands so = record {
+tables_more plant all rest others t now new code is pushed holds so = record {
   front = so.front ++ t ∷ [];
   split = so.split ∙ ap (λ xs. so.front ++ xs) is ∙ sym (append_assoc so.front (t ∷ []) others);
   count = ap length pushed ∙ omega (arith, so.count, length-append now (code ∷ []), length-append so.front (t ∷ []));
@@ -149,13 +149,13 @@ tables_more plant all rest others t now new code is pushed stands so = record {
         let is_x : t ≡ x = cc in (
           code,
           ap (λ cs. slice_get cs i) pushed ∙ ap (λ n. slice_get (now ++ code ∷ []) n) at_code ∙ slice_get-push now code,
-          subst (λ y. IsTableCode plant i y code) is_x (subst (λ n. IsTableCode plant n t code) (sym at_code) stands),
+          subst (λ y. IsTableCode plant i y code) is_x (subst (λ n. IsTableCode plant n t code) (sym at_code) holds),
         )
 
 pub tables_all : (plant : PlantTree) (all rest : List TableTree) (codes : List TableCode) → rest ≡ [] → TablesSoFar plant all rest codes → AreTableCodes plant all codes
 tables_all plant all rest codes none so = record {
-  as_many = so.count ∙ ap length (sym (so.split ∙ ap (λ xs. so.front ++ xs) none ∙ append-nil so.front));
+  same_length = so.count ∙ ap length (sym (so.split ∙ ap (λ xs. so.front ++ xs) none ∙ append-nil so.front));
   each = λ i t has.
-      let whole : all ≡ so.front = so.split ∙ ap (λ xs. so.front ++ xs) none ∙ append-nil so.front in
-      so.made i t (subst (λ xs. i < length xs) whole (slice_get_within all i t has)) has;
+      let ruleset_code : all ≡ so.front = so.split ∙ ap (λ xs. so.front ++ xs) none ∙ append-nil so.front in
+      so.made i t (subst (λ xs. i < length xs) ruleset_code (slice_get_within all i t has)) has;
 }

@@ -7,14 +7,14 @@ use Rattle.nft_tree.specs.declared.chain.Policy.{Policy}
 use Rattle.nft_tree.specs.Tree.{TableTree}
 use Rattle.rule_paths.specs.Paths.{Caller, AreAllCosts}
 use Rattle.rule_check.specs.Checked.{CheckedTree}
-use Rattle.rule_laws.specs.Ranked.{chain_cost_by}
+use Rattle.rule_laws.specs.Ranking.{chain_cost_by}
 use Rattle.rule_meaning.specs.declared.facts.Facts.{Facts}
 use Rattle.rule_meaning.specs.declared.event.ChainNo.{ChainNo}
 use Rattle.rule_meaning.specs.declared.event.Event.{Event}
-use Rattle.rule_meaning.specs.Hooks.{Base, bases_of, priority, policy_of, is_filter, stands_at, InOrder, End, RunsBase}
+use Rattle.rule_meaning.specs.Hooks.{BaseChain, base_chains_of, priority, policy_of, is_filter, is_on_hook, InOrder, HookResult, RunsBaseChain}
 use Rattle.filter_vm.specs.declared.code.Code.{Code}
 use Rattle.filter_vm.specs.declared.code.Start.{Start}
-use Rattle.filter_vm.specs.Machine.{starts_of, end_of}
+use Rattle.filter_vm.specs.Machine.{starts_of, base_chain_result}
 
 -- ---- starts
 
@@ -26,12 +26,12 @@ pub record StartHead : Type 0 where
   pub is_nat : Bool
 
 -- what the code tells
-abbrev pub told : Start → StartHead
-told s = record { chain = s.chain; policy = s.policy; priority = s.priority; is_nat = s.is_nat }
+abbrev pub start_head : Start → StartHead
+start_head s = record { chain = s.chain; policy = s.policy; priority = s.priority; is_nat = s.is_nat }
 
 -- what the ruleset tells: without a policy a base chain accepts (nft(8), "Chains")
-abbrev pub told_of : Base → StartHead
-told_of b = record {
+abbrev pub base_chain_head : BaseChain → StartHead
+base_chain_head b = record {
   chain = b.number;
   policy = policy_of b.head;
   priority = priority b;
@@ -44,34 +44,34 @@ cost_in cost None chain = 0
 cost_in cost (Some t) chain = 1 + chain_cost_by t (cost t) chain
 
 -- what a base chain of a ruleset costs, 1 more than its rules
-abbrev pub start_cost : List TableTree → (TableTree → Caller → ℕ) → Base → ℕ
+abbrev pub start_cost : List TableTree → (TableTree → Caller → ℕ) → BaseChain → ℕ
 start_cost tables cost b = cost_in cost (slice_get tables b.number.table) b.number.chain
 
 -- the starts are the base chains of the hook, in order of priority and of text, each at its cost
 pub record HasStarts (tables : List TableTree) (hook : Hook) (starts : List Start) : Type 0 where
-  pub order : List Base
-  pub in_order : InOrder (filter (stands_at hook) (bases_of tables)) order
-  pub are : map told starts ≡ map told_of order
+  pub order : List BaseChain
+  pub in_order : InOrder (filter (is_on_hook hook) (base_chains_of tables)) order
+  pub are : map start_head starts ≡ map base_chain_head order
   pub costs : (cost : TableTree → Caller → ℕ) → AreAllCosts tables cost
       → map (λ s. s.cost) starts ≡ map (start_cost tables cost) order
 
 -- ---- runs
 
 -- from each start code comes to that end, with those events, to which the rules of its base chain lead
-abbrev pub RunsAlike : CheckedTree → Code → Type 0
-RunsAlike checked code = (hook : Hook) (start : Start) (b : Base)
-    → Contains (starts_of code hook) start → Contains (bases_of checked.rules) b → told start ≡ told_of b
-    → (f : Facts) (es : List Event) (end : End)
-    → RunsBase checked.plant checked.rules b f es end ↔ (end ≡ end_of code start f es)
+abbrev pub AgreesWithRules : CheckedTree → Code → Type 0
+AgreesWithRules checked code = (hook : Hook) (start : Start) (b : BaseChain)
+    → Contains (starts_of code hook) start → Contains (base_chains_of checked.rules) b → start_head start ≡ base_chain_head b
+    → (f : Facts) (es : List Event) (end : HookResult)
+    → RunsBaseChain checked.plant checked.rules b f es end ↔ (end ≡ base_chain_result code start f es)
 
 -- ---- cost
 
 -- the starts of a hook together
-abbrev pub cost_at : Code → Hook → ℕ
-cost_at code hook = sum_by (λ s. s.cost) (starts_of code hook)
+abbrev pub hook_cost : Code → Hook → ℕ
+hook_cost code hook = sum_by (λ s. s.cost) (starts_of code hook)
 
 -- all starts together
 abbrev pub total_cost : Code → ℕ
 total_cost code =
-    cost_at code hooks.Prerouting + cost_at code hooks.Input + cost_at code hooks.Forward
-    + cost_at code hooks.Output + cost_at code hooks.Postrouting
+    hook_cost code hooks.Prerouting + hook_cost code hooks.Input + hook_cost code hooks.Forward
+    + hook_cost code hooks.Output + hook_cost code hooks.Postrouting

@@ -1,3 +1,3 @@
 pub mod Compiled
-pub mod Placed
+pub mod CodeLayout
 pub mod steps

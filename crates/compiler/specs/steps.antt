@@ -1,3 +1,3 @@
 pub mod Adding
 pub mod Bases
-pub mod Whole
+pub mod RulesetCode

@@ -5,23 +5,23 @@ ghost use Rattle.nft_tree.specs.Tree.{TableTree};
 ghost use Rattle.rule_paths.specs.Paths.{AreAllCosts, Caller, ruleset_cost};
 ghost use Rattle.rule_check.specs.WellFormed.{WellFormed};
 ghost use Rattle.filter_vm.specs.Machine.{starts_of};
-ghost use Rattle.compiler.specs.Compiled.{HasStarts, RunsAlike, total_cost};
-ghost use Rattle.compiler.specs.Placed.{AreTableCodes};
-ghost use Rattle.compiler.specs.steps.Whole.{IsWhole};
+ghost use Rattle.compiler.specs.Compiled.{HasStarts, AgreesWithRules, total_cost};
+ghost use Rattle.compiler.specs.CodeLayout.{AreTableCodes};
+ghost use Rattle.compiler.specs.steps.RulesetCode.{IsRulesetCode};
 
-use crate::starts::{base_chains, starts_at};
+use crate::starts::{base_chains, starts_on_hook};
 use crate::tables::table_codes;
 use filter_vm::Code;
 use nft_tree::Hook;
 use rule_check::Checked;
-use rule_laws::{ranked, some_outcome};
+use rule_laws::{costs_rank_chains, hooks_terminate};
 use rule_names::names_of;
 use std::alloc::{AllocError, Global};
 
 /// The code of each table, and the starts of each hook.
-fn whole(alloc: Global, checked: &Checked) -> Result<Code, AllocError>
+fn ruleset_code(alloc: Global, checked: &Checked) -> Result<Code, AllocError>
     requires { WellFormed checked.now.rules checked.now.plant }
-    ensures { IfOk result (λ code. IsWhole checked.now code) }
+    ensures { IfOk result (λ code. IsRulesetCode checked.now code) }
 {
     let Some(names) = names_of(alloc, checked.tree())? else {
         // A checked ruleset has no name twice.
@@ -31,11 +31,11 @@ fn whole(alloc: Global, checked: &Checked) -> Result<Code, AllocError>
     let bases = base_chains(alloc, checked, &names)?;
     Ok(Code {
         tables,
-        prerouting: starts_at(alloc, Hook::Prerouting, &bases)?,
-        input: starts_at(alloc, Hook::Input, &bases)?,
-        forward: starts_at(alloc, Hook::Forward, &bases)?,
-        output: starts_at(alloc, Hook::Output, &bases)?,
-        postrouting: starts_at(alloc, Hook::Postrouting, &bases)?,
+        prerouting: starts_on_hook(alloc, Hook::Prerouting, &bases)?,
+        input: starts_on_hook(alloc, Hook::Input, &bases)?,
+        forward: starts_on_hook(alloc, Hook::Forward, &bases)?,
+        output: starts_on_hook(alloc, Hook::Output, &bases)?,
+        postrouting: starts_on_hook(alloc, Hook::Postrouting, &bases)?,
     })
 }
 
@@ -49,15 +49,15 @@ fn whole(alloc: Global, checked: &Checked) -> Result<Code, AllocError>
 /// For want of memory alone.
 pub fn compile(alloc: Global, checked: &Checked) -> Result<Code, AllocError>
     ensures starts { IfOk result (λ code. (hook : Hook) → HasStarts checked.now.rules hook (starts_of code hook)) }
-    ensures runs { IfOk result (λ code. RunsAlike checked.now code) }
+    ensures runs { IfOk result (λ code. AgreesWithRules checked.now code) }
     ensures steps { IfOk result (λ code. AreTableCodes checked.now.plant checked.now.rules code.tables.items) }
     ensures total { IfOk result (λ code. (cost : TableTree → Caller → ℕ) → AreAllCosts checked.now.rules cost
         → total_cost code ≡ ruleset_cost cost checked.now.rules) }
     ensures cost { IfOk result (λ code. total_cost code ≤ 65536) }
 {
     // What is known of checked rulesets; none of the three does anything.
-    checked.measured();
-    ranked();
-    some_outcome();
-    whole(alloc, checked)
+    checked.known_bounds();
+    costs_rank_chains();
+    hooks_terminate();
+    ruleset_code(alloc, checked)
 }

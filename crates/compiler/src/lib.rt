@@ -1,7 +1,7 @@
 //! Checked rulesets as code whose events and outcomes are those of the rules.
 #![tactic(auto)]
 
-mod base;
+mod compiled_chain;
 mod compiling;
 mod rules;
 mod starts;

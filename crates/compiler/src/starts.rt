@@ -2,16 +2,16 @@
 ghost use Rattle.std.specs.Prelude.{◌≡◌, ◌+◌, ◌<◌, ℕ, false, List, filter, length, map, slice_get, slice_index, Some, All, IfOk, OnOk};
 ghost use Rattle.std.specs.List.{list_any};
 ghost use Rattle.nft_tree.specs.Tree.{ChainTree, HeadTree, chain_tree};
-ghost use Rattle.nft_tree.specs.Parts.{chains_of};
-ghost use Rattle.rule_paths.specs.Paths.{MOST_COST};
-ghost use Rattle.rule_values.specs.Faults.{chain_is_wrong, has_wrong_value, item_is_wrong};
+ghost use Rattle.nft_tree.specs.TableItems.{chains_of};
+ghost use Rattle.rule_paths.specs.Paths.{MAX_COST};
+ghost use Rattle.rule_values.specs.Faults.{chain_out_of_range, has_wrong_value, item_out_of_range};
 ghost use Rattle.rule_check.specs.Checked.{AreRulesetCosts};
-ghost use Rattle.rule_meaning.specs.Hooks.{base_of, bases_from, bases_of, same_hook};
-ghost use Rattle.compiler.specs.Compiled.{told, told_of};
-ghost use Rattle.compiler.specs.steps.Bases.{AddsBases, CostsIn, Ordered, base, runs_at};
+ghost use Rattle.rule_meaning.specs.Hooks.{base_chain_of, base_chains_from, base_chains_of, same_hook};
+ghost use Rattle.compiler.specs.Compiled.{start_head, base_chain_head};
+ghost use Rattle.compiler.specs.steps.Bases.{AddsBases, CostsIn, Ordered, base, runs_on_hook};
 
-use crate::base::BaseChain;
-use crate::rules::short;
+use crate::compiled_chain::CompiledChain;
+use crate::rules::to_u32;
 use filter_vm::Start;
 use nft_tree::{Chain, Hook};
 use rule_check::Checked;
@@ -24,16 +24,16 @@ fn add_base<'t>(
     number: ChainNo,
     chain: &'t Chain,
     cost: u64,
-    bases: &mut Vec<BaseChain<'t>>,
+    bases: &mut Vec<CompiledChain<'t>>,
 ) -> Result<(), AllocError>
-    requires bounds { chain_is_wrong (chain_tree chain.now) ≡ false }
-    requires small { (head : HeadTree) → (chain_tree chain.now).head ≡ Some head → cost < MOST_COST }
+    requires bounds { chain_out_of_range (chain_tree chain.now) ≡ false }
+    requires small { (head : HeadTree) → (chain_tree chain.now).head ≡ Some head → cost < MAX_COST }
     ensures { OnOk result (AddsBases
-        (base_of number.table number.chain (chain_tree chain.now).head) (λ n c. (n ≡ number) × (c ≡ cost + 1))
+        (base_chain_of number.table number.chain (chain_tree chain.now).head) (λ n c. (n ≡ number) × (c ≡ cost + 1))
         bases.old.items bases.new.items) }
 {
     if let Some(head) = &chain.head {
-        bases.push(BaseChain {
+        bases.push(CompiledChain {
             number,
             head,
             cost: cost as u32 + 1,
@@ -47,20 +47,20 @@ fn add_bases<'t>(
     table: u32,
     names: &TableNames<'t>,
     costs: &[u64],
-    bases: &mut Vec<BaseChain<'t>>,
+    bases: &mut Vec<CompiledChain<'t>>,
 ) -> Result<(), AllocError>
-    requires bounds { list_any item_is_wrong names.now.items ≡ false }
+    requires bounds { list_any item_out_of_range names.now.items ≡ false }
     requires long { length costs.now ≡ length (chains_of names.now) }
     requires small { (j : ℕ) (c : ChainTree) (head : HeadTree) → slice_get (chains_of names.now) j ≡ Some c
-        → c.head ≡ Some head → slice_index costs.now j < MOST_COST }
+        → c.head ≡ Some head → slice_index costs.now j < MAX_COST }
     ensures { OnOk result (AddsBases
-        (bases_from table 0 (chains_of names.now)) (λ n c. (n.table ≡ table) × (c ≡ slice_index costs.now n.chain + 1))
+        (base_chains_from table 0 (chains_of names.now)) (λ n c. (n.table ≡ table) × (c ≡ slice_index costs.now n.chain + 1))
         bases.old.items bases.new.items) }
 {
     for (place, chain) in names.chains().iter().enumerate() {
         let number = ChainNo {
             table,
-            chain: short(place)?,
+            chain: to_u32(place)?,
         };
         add_base(number, chain, costs[place], bases)?;
     }
@@ -72,16 +72,16 @@ pub(crate) fn base_chains<'t>(
     alloc: Global,
     checked: &Checked,
     names: &[TableNames<'t>],
-) -> Result<Vec<BaseChain<'t>>, AllocError>
+) -> Result<Vec<CompiledChain<'t>>, AllocError>
     requires names { names.now ≡ checked.now.rules }
     requires bounds { list_any (has_wrong_value checked.now.plant) names.now ≡ false }
-    ensures bases { IfOk result (λ bases. map base bases.items ≡ bases_of checked.now.rules) }
+    ensures bases { IfOk result (λ bases. map base bases.items ≡ base_chains_of checked.now.rules) }
     ensures costs { IfOk result (λ bases. (costs : List (List ℕ)) → AreRulesetCosts checked.now.rules costs
         → All (λ b. CostsIn costs b.number b.cost) bases.items) }
 {
     let mut bases = Vec::new(alloc);
     for (table, names) in names.iter().enumerate() {
-        add_bases(short(table)?, names, checked.costs(table), &mut bases)?;
+        add_bases(to_u32(table)?, names, checked.costs(table), &mut bases)?;
     }
     Ok(bases)
 }
@@ -100,25 +100,25 @@ fn is_same(hook: Hook, other: Hook) -> bool
 }
 
 /// The base chains of a hook, in text order.
-fn chains_at<'t>(
+fn chains_on_hook<'t>(
     alloc: Global,
     hook: Hook,
-    bases: &[BaseChain<'t>],
-) -> Result<Vec<BaseChain<'t>>, AllocError>
-    ensures { IfOk result (λ at_hook. at_hook.items ≡ filter (runs_at hook) bases.now) }
+    bases: &[CompiledChain<'t>],
+) -> Result<Vec<CompiledChain<'t>>, AllocError>
+    ensures { IfOk result (λ on_hook. on_hook.items ≡ filter (runs_on_hook hook) bases.now) }
 {
-    let mut at_hook = Vec::new(alloc);
+    let mut on_hook = Vec::new(alloc);
     for base in bases {
         if is_same(base.head.hook, hook) {
-            at_hook.push(*base)?;
+            on_hook.push(*base)?;
         }
     }
-    Ok(at_hook)
+    Ok(on_hook)
 }
 
 /// Base chains in the order in which they run, as starts.
-fn as_starts(alloc: Global, bases: &[BaseChain]) -> Result<Vec<Start>, AllocError>
-    ensures starts { IfOk result (λ starts. map told starts.items ≡ map told_of (map base bases.now)) }
+fn as_starts(alloc: Global, bases: &[CompiledChain]) -> Result<Vec<Start>, AllocError>
+    ensures starts { IfOk result (λ starts. map start_head starts.items ≡ map base_chain_head (map base bases.now)) }
     ensures costs { IfOk result (λ starts. map (λ s. s.cost) starts.items ≡ map (λ b. b.cost) bases.now) }
 {
     let mut starts = Vec::with_capacity(alloc, bases.len())?;
@@ -129,14 +129,14 @@ fn as_starts(alloc: Global, bases: &[BaseChain]) -> Result<Vec<Start>, AllocErro
 }
 
 /// The starts of a hook.
-pub(crate) fn starts_at(
+pub(crate) fn starts_on_hook(
     alloc: Global,
     hook: Hook,
-    bases: &[BaseChain],
+    bases: &[CompiledChain],
 ) -> Result<Vec<Start>, AllocError>
     ensures { IfOk result (λ starts. Ordered hook bases.now starts.items) }
 {
-    let mut at_hook = chains_at(alloc, hook, bases)?;
-    at_hook.sort_by_key(|base| base.head.priority.number())?;
-    as_starts(alloc, &at_hook)
+    let mut on_hook = chains_on_hook(alloc, hook, bases)?;
+    on_hook.sort_by_key(|base| base.head.priority.number())?;
+    as_starts(alloc, &on_hook)
 }

@@ -2,13 +2,13 @@
 ghost use Rattle.std.specs.Prelude.{◌≡◌, false, length, IfOk, OnOk};
 ghost use Rattle.std.specs.List.{list_any};
 ghost use Rattle.nft_tree.specs.Tree.{chain_tree};
-ghost use Rattle.rule_types.specs.Types.{table_misfits};
-ghost use Rattle.rule_values.specs.Faults.{has_wrong_value, item_is_wrong};
-ghost use Rattle.compiler.specs.Placed.{AreTableCodes, IsTableCode};
+ghost use Rattle.rule_types.specs.Types.{table_mismatches};
+ghost use Rattle.rule_values.specs.Faults.{has_wrong_value, item_out_of_range};
+ghost use Rattle.compiler.specs.CodeLayout.{AreTableCodes, IsTableCode};
 
-use crate::rules::{add_rules, short};
+use crate::rules::{add_rules, to_u32};
 use box_file::Plant;
-use filter_vm::{IndexedTable, Steps, TableCode};
+use filter_vm::{IndexedTable, StepList, TableCode};
 use lowering::declared;
 use rule_meaning::ChainNo;
 use rule_names::TableNames;
@@ -21,22 +21,22 @@ fn table_code(
     names: &TableNames,
     table: u32,
 ) -> Result<TableCode, AllocError>
-    requires types { table_misfits names.now ≡ false }
-    requires bounds { list_any item_is_wrong names.now.items ≡ false }
+    requires types { table_mismatches names.now ≡ false }
+    requires bounds { list_any item_out_of_range names.now.items ≡ false }
     ensures { IfOk result (λ code. IsTableCode plant.now table names.now code) }
 {
     let mut code = TableCode {
-        steps: Steps::new(alloc),
-        places: Vec::new(alloc),
+        steps: StepList::new(alloc),
+        chain_offsets: Vec::new(alloc),
         lookups: declared(alloc, plant, names)?,
     };
     let mut rest = names.chains();
     while let [chain, others @ ..] = rest {
         let number = ChainNo {
             table,
-            chain: short(code.places.len())?,
+            chain: to_u32(code.chain_offsets.len())?,
         };
-        code.places.push(code.steps.list().len())?;
+        code.chain_offsets.push(code.steps.list().len())?;
         add_rules(alloc, plant, names, number, &chain.rules, &mut code)?;
         rest = others;
     }
@@ -49,14 +49,14 @@ pub(crate) fn table_codes(
     plant: &Plant,
     names: &[TableNames],
 ) -> Result<Vec<IndexedTable>, AllocError>
-    requires types { list_any table_misfits names.now ≡ false }
+    requires types { list_any table_mismatches names.now ≡ false }
     requires bounds { list_any (has_wrong_value plant.now) names.now ≡ false }
     ensures { IfOk result (λ codes. AreTableCodes plant.now names.now codes.items) }
 {
     let mut codes = Vec::new(alloc);
     let mut rest = names;
     while let [table, others @ ..] = rest {
-        let number = short(codes.len())?;
+        let number = to_u32(codes.len())?;
         let code = table_code(alloc, plant, table, number)?;
         codes.push(IndexedTable::new(alloc, code)?)?;
         rest = others;

@@ -7,7 +7,7 @@ use Rattle.std.proofs.lemmas.List.Elements.{Contains-push_cases}
 use Rattle.nat_mapping.specs.steps.Holders.{holders_cons}
 use Rattle.ip_headers.specs.declared.tuple.Mapping.{Mapping}
 use Rattle.nat_mapping.specs.Mappings.{HoldsSame, holders_of, same_mapping}
-use Rattle.translation.specs.Mapped.{listed}
+use Rattle.translation.specs.LiveMappings.{listed}
 
 pub holders-append : (m : Mapping) (one other : List Mapping)
     → holders_of m (one ++ other) ≡ holders_of m one + holders_of m other

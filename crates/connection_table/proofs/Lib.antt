@@ -1,4 +1,4 @@
 pub mod Counts
 pub mod Mapped
 pub mod Taken
-pub mod Open
+pub mod Untranslated

@@ -7,33 +7,33 @@ use Rattle.ip_headers.specs.declared.tuple.Mapping.{Mapping}
 use Rattle.conntrack.specs.declared.connection.ConnId.{ConnId}
 use Rattle.conntrack.specs.declared.connection.Direction.{Direction}
 use Rattle.conntrack.specs.declared.connection.Flags.{Flags}
-use Rattle.conntrack.specs.declared.connection.Held.{Held}
-use Rattle.conntrack.specs.Held.{same_id, touched, touched_at}
+use Rattle.conntrack.specs.declared.connection.ConntrackEntry.{ConntrackEntry}
+use Rattle.conntrack.specs.ConntrackEntry.{same_id, touched, touched_at}
 use Rattle.nat_mapping.specs.Mappings.{holders_of}
-use Rattle.translation.specs.Mapped.{listed, mappings_in, mappings_of}
+use Rattle.translation.specs.LiveMappings.{listed, mappings_in, mappings_of}
 use Rattle.connection_table.proofs.Counts.{holders-append, length-listed}
 
 -- a connection keeps them
 module _ (id : ConnId) (direction : Direction) (flags : Flags) (mark now : ℕ) where
-  mappings_of-touched : (b : Bool) (h : Held)
+  mappings_of-touched : (b : Bool) (h : ConntrackEntry)
       → mappings_of (cond b (touched direction flags mark now h) h) ≡ mappings_of h
   mappings_of-touched true h = refl
   mappings_of-touched false h = refl
 
-  pub mappings_in-touched_at : (held : List Held)
+  pub mappings_in-touched_at : (held : List ConntrackEntry)
       → mappings_in (touched_at id direction flags mark now held) ≡ mappings_in held
   mappings_in-touched_at [] = refl
   mappings_in-touched_at (h ∷ held) = rw (mappings_of-touched (same_id id h) h, mappings_in-touched_at held)
 
 -- ---- how many hold a mapping
 
-pub holders-first : (m : Mapping) (h : Held) (held : List Held) → holders_of m (mappings_in (h ∷ held))
+pub holders-first : (m : Mapping) (h : ConntrackEntry) (held : List ConntrackEntry) → holders_of m (mappings_in (h ∷ held))
     ≡ holders_of m (listed h.source) + (holders_of m (listed h.dest) + holders_of m (mappings_in held))
 holders-first m h held =
     let both = holders-append m (mappings_of h) (mappings_in held) in
     omega (arith, both, holders-append m (listed h.source) (listed h.dest))
 
-pub holders-begun : (m : Mapping) (held : List Held) (h : Held) → holders_of m (mappings_in (held ++ h ∷ []))
+pub holders-begun : (m : Mapping) (held : List ConntrackEntry) (h : ConntrackEntry) → holders_of m (mappings_in (held ++ h ∷ []))
     ≡ holders_of m (listed h.dest) + (holders_of m (listed h.source) + holders_of m (mappings_in held))
 holders-begun m held h =
     let split : mappings_in (held ++ h ∷ []) ≡ mappings_in held ++ mappings_in (h ∷ []) =
@@ -42,7 +42,7 @@ holders-begun m held h =
     rw split (omega (arith, both, holders-first m h [], holders_none m))
 
 -- two of each connection at most
-pub length-mappings_in : (held : List Held) → length (mappings_in held) ≤ 2 * length held
+pub length-mappings_in : (held : List ConntrackEntry) → length (mappings_in held) ≤ 2 * length held
 length-mappings_in [] = omega arith
 length-mappings_in (h ∷ held) =
     let both = length-append (mappings_of h) (mappings_in held) in

@@ -2,20 +2,20 @@
 ghost use Rattle.std.specs.Prelude.{◌≡◌, ◌+◌, ◌<◌, ◌≤◌, ◌↔◌, ◌++◌, ◌∷◌, [], ℕ, IsTrue, List, false, length, map, IfOk, IsOk, OnErr, OnOk, Err};
 ghost use Rattle.ip_headers.specs.declared.tuple.Mapping.{Mapping};
 ghost use Rattle.conntrack.specs.declared.connection.ConnId.{ConnId};
-ghost use Rattle.conntrack.specs.Held.{IsNoneLater, begun_with, belongs_in, connection_of, has_distinct_ids, has_id, is_taken, live_at, most_held, touched_at};
+ghost use Rattle.conntrack.specs.ConntrackEntry.{IsNoneLater, begun_with, belongs_in, connection_of, has_distinct_ids, has_id, is_taken, live_at, max_connections, touched_at};
 ghost use Rattle.conntrack.specs.Phases.{no_flags};
 ghost use Rattle.conntrack.specs.Updates.{after_end};
 ghost use Rattle.ip_headers.specs.Tuple.{inverse};
 ghost use Rattle.nat_mapping.specs.Mappings.{HoldsSame, IsOneToOne, holders_of};
 ghost use Rattle.translation.specs.Fitting.{Fits, IsFitting};
-ghost use Rattle.translation.specs.Mapped.{listed, mappings_in};
-ghost use Rattle.translation.specs.Ways.{way_by};
-ghost use Rattle.connection_table.specs.Table.{IsOpen, begun_as};
+ghost use Rattle.translation.specs.LiveMappings.{listed, mappings_in};
+ghost use Rattle.translation.specs.CtInfos.{ct_info_by};
+ghost use Rattle.connection_table.specs.Table.{IsConfirmable, begun_as};
 
 use box_file::Limits;
 use conntrack::laws::{looked_up, none_later};
 use conntrack::{
-    Aged, BeginError, Belonging, Connection, Flags, Memory, Moment, Place, Steps, Tracker,
+    Aged, BeginError, Belonging, Connection, ConnectionRef, Flags, Memory, Moment, Steps, Tracker,
 };
 use ip_headers::{Mapping as Mapped, Tuple};
 use nat_mapping::Mappings;
@@ -23,7 +23,7 @@ use nat_mapping::laws::{same_answers, stays_one_to_one};
 use std::alloc::{AllocError, Global};
 use std::hash::RandomState;
 use std::marker::Model;
-use translation::Draft;
+use translation::NewConnection;
 
 /// The connections that are held by `T`, with the mappings that they were begun with.
 #[derive(Drop)]
@@ -35,7 +35,7 @@ pub struct ConnectionTable<T: Tracker> {
 impl<T: Tracker> Model for ConnectionTable<T> {
     ghost use Rattle.std.specs.Prelude.{◌&&◌, nat_le};
     ghost use Rattle.nat_mapping.specs.Mappings.{HoldsSame};
-    ghost use Rattle.translation.specs.Mapped.{mappings_in};
+    ghost use Rattle.translation.specs.LiveMappings.{mappings_in};
     ghost use Rattle.connection_table.specs.Table.{Table};
 
     ghost Value = { Table };
@@ -105,8 +105,8 @@ impl<T: Tracker> ConnectionTable<T> {
         ensures later { IsNoneLater now self.new.held }
         ensures room { IsTrue self.old.has_room → IsTrue self.new.has_room }
         // The last step can count it, or begin its connection.
-        ensures open { IsOpen tuple result self.new.held }
-        ensures fits { Fits (way_by tuple result) (mappings_in self.new.held) }
+        ensures confirmable { IsConfirmable tuple result self.new.held }
+        ensures fits { Fits (ct_info_by tuple result) (mappings_in self.new.held) }
     {
         // What it belongs to is held, and else its tuple is free.
         looked_up();
@@ -142,16 +142,16 @@ impl<T: Tracker> ConnectionTable<T> {
     }
 
     /// Counts one more packet of a connection that is held, which leaves this mark.
-    pub fn touch(&mut self, place: &Place, flags: Flags, mark: u32, now: Moment)
-        requires is_held { IsTrue (has_id place.now.id self.old.held) }
+    pub fn touch(&mut self, found: &ConnectionRef, flags: Flags, mark: u32, now: Moment)
+        requires is_held { IsTrue (has_id found.now.id self.old.held) }
         requires later { IsNoneLater now self.old.held }
-        ensures held { self.new.held ≡ touched_at place.now.id place.now.direction flags mark now self.old.held }
+        ensures held { self.new.held ≡ touched_at found.now.id found.now.direction flags mark now self.old.held }
         ensures limits { self.new.limits ≡ self.old.limits }
         ensures room { IsTrue self.old.has_room → IsTrue self.new.has_room }
     {
         let mut steps = Steps::new();
         self.tracker
-            .touch(place.id, place.direction, flags, mark, now, &mut steps);
+            .touch(found.id, found.direction, flags, mark, now, &mut steps);
     }
 
     /// Begins a connection with its first packet, which had these flags and leaves this mark; it holds
@@ -159,38 +159,38 @@ impl<T: Tracker> ConnectionTable<T> {
     /// its reply tuple is an incoming tuple of another; then nothing changes.
     pub fn begin(
         &mut self,
-        draft: &Draft,
+        new_connection: &NewConnection,
         flags: Flags,
         mark: u32,
         now: Moment,
     ) -> Result<(), BeginError>
         requires room { IsTrue self.old.has_room }
-        requires free { is_taken draft.now.original self.old.held ≡ false }
+        requires free { is_taken new_connection.now.original self.old.held ≡ false }
         requires later { IsNoneLater now self.old.held }
-        requires fits { IsFitting draft.now (mappings_in self.old.held) }
+        requires fits { IsFitting new_connection.now (mappings_in self.old.held) }
         ensures ok { OnOk result ((id : ConnId) × (has_id id self.old.held ≡ false)
-            × (self.new.held ≡ self.old.held ++ begun_with id (begun_as draft.now mark now) flags ∷ [])) }
-        ensures full { (result ≡ Err BeginError.Full) ↔ (most_held ≤ length self.old.held) }
+            × (self.new.held ≡ self.old.held ++ begun_with id (begun_as new_connection.now mark now) flags ∷ [])) }
+        ensures full { (result ≡ Err BeginError.Full) ↔ (max_connections ≤ length self.old.held) }
         ensures clash { (result ≡ Err BeginError.Clash)
-            ↔ ((length self.old.held < most_held) × IsTrue (is_taken (begun_as draft.now mark now).reply self.old.held)) }
+            ↔ ((length self.old.held < max_connections) × IsTrue (is_taken (begun_as new_connection.now mark now).reply self.old.held)) }
         ensures err { OnErr result (self.new ≡ self.old) }
         ensures limits { self.new.limits ≡ self.old.limits }
     {
         let connection = Connection {
-            original: draft.original,
-            reply: draft.tuple.inverse(),
+            original: new_connection.original,
+            reply: new_connection.tuple.inverse(),
             mark,
             last: now,
-            source: draft.source,
-            dest: draft.dest,
+            source: new_connection.source,
+            dest: new_connection.dest,
         };
         // What is held stays one to one with the mappings that fit.
         stays_one_to_one();
         same_answers();
         let mut steps = Steps::new();
         self.tracker.begin(connection, flags, &mut steps)?;
-        hold(&mut self.mappings, draft.source);
-        hold(&mut self.mappings, draft.dest);
+        hold(&mut self.mappings, new_connection.source);
+        hold(&mut self.mappings, new_connection.dest);
         Ok(())
     }
 

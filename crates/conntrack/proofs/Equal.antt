@@ -2,7 +2,7 @@
 use Rattle.std.proofs.Common.{◌≡◌, refl, arith}
 use Rattle.std.proofs.lemmas.Bool.Decides.{nat_tests}
 use Rattle.ip_headers.specs.declared.tuple.Kind.{Kind}
-use Rattle.ip_headers.specs.declared.tuple.Kind.TheVariants.{Tcp, Udp, Ask, Answer, Other}
+use Rattle.ip_headers.specs.declared.tuple.Kind.TheVariants.{Tcp, Udp, EchoRequest, EchoReply, Other}
 use Rattle.ip_headers.specs.declared.tuple.Endpoint.{Endpoint}
 use Rattle.ip_headers.specs.declared.tuple.Tuple.{Tuple}
 use Rattle.ip_headers.specs.Same.{same_kind, same_endpoint, same_tuple}
@@ -10,8 +10,8 @@ use Rattle.ip_headers.specs.Same.{same_kind, same_endpoint, same_tuple}
 same_kind-sym : (a b : Kind) → same_kind a b ≡ same_kind b a
 same_kind-sym Tcp Tcp = refl
 same_kind-sym Udp Udp = refl
-same_kind-sym Ask Ask = refl
-same_kind-sym Answer Answer = refl
+same_kind-sym EchoRequest EchoRequest = refl
+same_kind-sym EchoReply EchoReply = refl
 same_kind-sym (Other a) (Other b) = grind (arith, nat_tests)
 same_kind-sym a b = refl
 

@@ -4,5 +4,5 @@ pub mod Names
 pub mod Same
 pub mod Searches
 pub mod Changes
-pub mod Places
+pub mod Lookups
 pub mod Packets

@@ -2,17 +2,17 @@
 use Rattle.std.proofs.Common.{◌≡◌, ℕ, List, [], ◌∷◌, map, Option, None, Some, Bool, true, false, ◌&&◌, cond, refl, sym, ◌∙◌, ap}
 use Rattle.std.specs.List.{find, list_any}
 use Rattle.std.specs.Option.{option_map}
-use Rattle.conntrack.specs.declared.connection.Held.{Held}
+use Rattle.conntrack.specs.declared.connection.ConntrackEntry.{ConntrackEntry}
 use Rattle.conntrack.specs.declared.connection.ConnId.{ConnId}
 use Rattle.ip_headers.specs.declared.tuple.Tuple.{Tuple}
 use Rattle.conntrack.specs.declared.connection.Flags.{Flags}
-use Rattle.conntrack.specs.Held.{nameless, nameless_belonging, nameless_place, belonging_by, belongs_in, of_original, of_reply, is_taken, is_incoming, place_of, live_at}
+use Rattle.conntrack.specs.ConntrackEntry.{without_id, belonging_without_id, ref_without_id, belonging_by, belongs_in, of_original, of_reply, is_taken, is_incoming, connection_ref, live_at}
 use Rattle.ip_headers.specs.Same.{same_tuple}
 use Rattle.conntrack.specs.Phases.{is_lone_syn, is_closing}
 use Rattle.conntrack.specs.declared.belonging.Belonging.TheVariants.{Ends, Found}
 use Rattle.conntrack.specs.declared.connection.Direction.TheVariants.{Original}
 use Rattle.box_file.specs.declared.limits.Limits.{Limits}
-use Rattle.conntrack.specs.Stories.{Tracked, StandsAt, belongs, live_list}
+use Rattle.conntrack.specs.Histories.{TrackedPacket, RepresentsAt, belongs, live_list}
 
 pub option_map-find : {A B : Type 0} (f : A → B) (p : B → Bool) (xs : List A) → option_map f (find (λ x. p (f x)) xs) ≡ find p (map f xs)
 option_map-find f p [] = refl
@@ -26,30 +26,30 @@ pub list_any-map : {A B : Type 0} (f : A → B) (p : B → Bool) (xs : List A) �
 list_any-map f p [] = refl
 list_any-map f p (x ∷ xs) = rw (list_any-map f p xs)
 
-ends_or_found : (b : Bool) (id : ConnId) (place : _) → nameless_belonging (cond b (Ends id) (Found place)) ≡ nameless_belonging (cond b (Ends (record { 0 = 0 })) (Found (nameless_place place)))
-ends_or_found true id place = refl
-ends_or_found false id place = refl
+ends_or_found : (b : Bool) (id : ConnId) (found : _) → belonging_without_id (cond b (Ends id) (Found found)) ≡ belonging_without_id (cond b (Ends (record { 0 = 0 })) (Found (ref_without_id found)))
+ends_or_found true id found = refl
+ends_or_found false id found = refl
 
-nameless_by : (flags : Flags) (o r : Option Held) → nameless_belonging (belonging_by flags o r) ≡ nameless_belonging (belonging_by flags (option_map nameless o) (option_map nameless r))
-nameless_by flags (Some h) r = ends_or_found (is_lone_syn flags && is_closing h) h.id (place_of h Original)
-nameless_by flags None (Some h) = refl
-nameless_by flags None None = refl
+without_id_by : (flags : Flags) (o r : Option ConntrackEntry) → belonging_without_id (belonging_by flags o r) ≡ belonging_without_id (belonging_by flags (option_map without_id o) (option_map without_id r))
+without_id_by flags (Some h) r = ends_or_found (is_lone_syn flags && is_closing h) h.id (connection_ref h Original)
+without_id_by flags None (Some h) = refl
+without_id_by flags None None = refl
 
 -- what a tuple belongs to is told alike
-pub same_belonging : (held others : List Held) (tuple : Tuple) (flags : Flags) → map nameless held ≡ map nameless others → nameless_belonging (belongs_in held tuple flags) ≡ nameless_belonging (belongs_in others tuple flags)
+pub same_belonging : (held others : List ConntrackEntry) (tuple : Tuple) (flags : Flags) → map without_id held ≡ map without_id others → belonging_without_id (belongs_in held tuple flags) ≡ belonging_without_id (belongs_in others tuple flags)
 same_belonging held others tuple flags e =
-    let by : (hs : List Held) → nameless_belonging (belongs_in hs tuple flags) ≡ nameless_belonging (belonging_by flags (of_original (map nameless hs) tuple) (of_reply (map nameless hs) tuple)) =
-    λ hs. nameless_by flags (of_original hs tuple) (of_reply hs tuple)
-    ∙ ap (λ o. nameless_belonging (belonging_by flags o (option_map nameless (of_reply hs tuple)))) (option_map-find nameless (λ h. same_tuple h.original tuple) hs)
-    ∙ ap (λ r. nameless_belonging (belonging_by flags (of_original (map nameless hs) tuple) r)) (option_map-find nameless (λ h. same_tuple h.reply tuple) hs) in
-    by held ∙ ap (λ ns. nameless_belonging (belonging_by flags (of_original ns tuple) (of_reply ns tuple))) e ∙ sym (by others)
+    let by : (hs : List ConntrackEntry) → belonging_without_id (belongs_in hs tuple flags) ≡ belonging_without_id (belonging_by flags (of_original (map without_id hs) tuple) (of_reply (map without_id hs) tuple)) =
+    λ hs. without_id_by flags (of_original hs tuple) (of_reply hs tuple)
+    ∙ ap (λ o. belonging_without_id (belonging_by flags o (option_map without_id (of_reply hs tuple)))) (option_map-find without_id (λ h. same_tuple h.original tuple) hs)
+    ∙ ap (λ r. belonging_without_id (belonging_by flags (of_original (map without_id hs) tuple) r)) (option_map-find without_id (λ h. same_tuple h.reply tuple) hs) in
+    by held ∙ ap (λ ns. belonging_without_id (belonging_by flags (of_original ns tuple) (of_reply ns tuple))) e ∙ sym (by others)
 
 -- whether a tuple is taken is told alike
-pub same_taken : (held others : List Held) (tuple : Tuple) → map nameless held ≡ map nameless others → is_taken tuple held ≡ is_taken tuple others
+pub same_taken : (held others : List ConntrackEntry) (tuple : Tuple) → map without_id held ≡ map without_id others → is_taken tuple held ≡ is_taken tuple others
 same_taken held others tuple e =
-    let by = list_any-map nameless (is_incoming tuple) in
+    let by = list_any-map without_id (is_incoming tuple) in
     by held ∙ ap (λ ns. is_taken tuple ns) e ∙ sym (by others)
 
 -- what is looked up in what is held is what the story tells
-pub belongs_by_story : (limits : Limits) (held : List Held) (now : ℕ) (tuple : Tuple) (flags : Flags) (story : List Tracked) → StandsAt limits held story now → nameless_belonging (belongs_in (live_at limits now held) tuple flags) ≡ nameless_belonging (belongs limits story now tuple flags)
-belongs_by_story limits held now tuple flags story s = same_belonging (live_at limits now held) (live_list limits story now) tuple flags s.live
+pub belongs_by_history : (limits : Limits) (held : List ConntrackEntry) (now : ℕ) (tuple : Tuple) (flags : Flags) (history : List TrackedPacket) → RepresentsAt limits held history now → belonging_without_id (belongs_in (live_at limits now held) tuple flags) ≡ belonging_without_id (belongs limits history now tuple flags)
+belongs_by_history limits held now tuple flags history s = same_belonging (live_at limits now held) (live_list limits history now) tuple flags s.live

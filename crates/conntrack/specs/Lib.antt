@@ -1,7 +1,7 @@
 pub mod Tuples
 pub mod Phases
-pub mod Held
-pub mod Stories
+pub mod ConntrackEntry
+pub mod Histories
 pub mod Updates
-pub mod Trials
+pub mod Examples
 pub mod steps

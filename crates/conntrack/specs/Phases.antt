@@ -1,11 +1,11 @@
 -- How far a connection is, and for how long it may be idle.
 use Rattle.std.specs.Prelude.{ℕ, ◌*◌, ◌/◌, ◌%◌, ◌==◌, Bool, true, false, not, ◌&&◌, ◌||◌, if◌then◌else◌}
 use Rattle.ip_headers.specs.declared.tuple.Kind.{Kind}
-use Rattle.ip_headers.specs.declared.tuple.Kind.TheVariants.{Tcp, Udp, Ask, Answer, Other}
+use Rattle.ip_headers.specs.declared.tuple.Kind.TheVariants.{Tcp, Udp, EchoRequest, EchoReply, Other}
 use Rattle.conntrack.specs.declared.connection.Flags.{Flags}
 use Rattle.conntrack.specs.declared.connection.Phase.{Phase}
 use Rattle.conntrack.specs.declared.connection.Phase.TheVariants.{Opening, Established, Closing}
-use Rattle.conntrack.specs.declared.connection.Held.{Held}
+use Rattle.conntrack.specs.declared.connection.ConntrackEntry.{ConntrackEntry}
 use Rattle.box_file.specs.declared.limits.Limits.{Limits}
 
 -- ---- flags
@@ -45,7 +45,7 @@ phase_by original reply =
     else (if (original.syn && original.ack) && (reply.syn && reply.ack) then Established
     else Opening)
 
-abbrev pub phase_of : Held → Phase
+abbrev pub phase_of : ConntrackEntry → Phase
 phase_of h = phase_by h.from_original h.from_reply
 
 abbrev pub is_closing_phase : Phase → Bool
@@ -53,7 +53,7 @@ is_closing_phase Opening = false
 is_closing_phase Established = false
 is_closing_phase Closing = true
 
-abbrev pub is_closing : Held → Bool
+abbrev pub is_closing : ConntrackEntry → Bool
 is_closing h = is_closing_phase (phase_of h)
 
 -- ---- limits
@@ -69,6 +69,6 @@ limit_by limits Udp phase = seconds limits.udp
 limit_by limits Tcp Opening = seconds limits.transitory
 limit_by limits Tcp Established = seconds limits.established
 limit_by limits Tcp Closing = seconds limits.transitory
-limit_by limits Ask phase = seconds limits.ask
-limit_by limits Answer phase = seconds limits.ask
+limit_by limits EchoRequest phase = seconds limits.echo
+limit_by limits EchoReply phase = seconds limits.echo
 limit_by limits (Other number) phase = seconds limits.other

@@ -5,12 +5,12 @@ use Rattle.ip_headers.specs.declared.tuple.Tuple.{Tuple}
 use Rattle.conntrack.specs.declared.connection.ConnId.{ConnId}
 use Rattle.conntrack.specs.declared.connection.Connection.{Connection}
 use Rattle.conntrack.specs.declared.connection.Flags.{Flags}
-use Rattle.conntrack.specs.declared.connection.Held.{Held}
+use Rattle.conntrack.specs.declared.connection.ConntrackEntry.{ConntrackEntry}
 use Rattle.conntrack.specs.declared.belonging.Belonging.{Belonging}
-use Rattle.conntrack.specs.declared.belonging.Belonging.TheVariants.{Nowhere, Ends, Found}
+use Rattle.conntrack.specs.declared.belonging.Belonging.TheVariants.{NotFound, Ends, Found}
 use Rattle.conntrack.specs.Phases.{no_flags}
-use Rattle.conntrack.specs.Held.{begun_with, is_taken, touched_at, without}
-use Rattle.conntrack.specs.Stories.{Tracked, What, Nothing, Begins, Touches}
+use Rattle.conntrack.specs.ConntrackEntry.{begun_with, is_taken, touched_at, without}
+use Rattle.conntrack.specs.Histories.{TrackedPacket, ConnectionChange, NoChange, Begins, Touches}
 
 -- a packet with a tuple, at its moment
 pub record Arrival : Type 0 where
@@ -27,12 +27,12 @@ pub data Confirmation : Type 0 where
 
 -- ---- what becomes of a list of connections among which it belongs so
 
-abbrev pub after_end : Belonging → List Held → List Held
+abbrev pub after_end : Belonging → List ConntrackEntry → List ConntrackEntry
 after_end (Ends id) held = without id held
 after_end other held = held
 
 -- the connection that it begins has this name
-abbrev pub with_begun : ConnId → Arrival → Confirmation → List Held → List Held
+abbrev pub with_begun : ConnId → Arrival → Confirmation → List ConntrackEntry → List ConntrackEntry
 with_begun id p Unconfirmed held = held
 with_begun id p (Confirmed mark reply source dest) held =
     let connection : Connection = record {
@@ -45,18 +45,18 @@ with_begun id p (Confirmed mark reply source dest) held =
     } in
     held ++ begun_with id connection p.flags ∷ []
 
-abbrev pub after_packet : Belonging → ConnId → Arrival → Confirmation → List Held → List Held
-after_packet (Found place) id p Unconfirmed held = held
-after_packet (Found place) id p (Confirmed mark reply source dest) held =
-    touched_at place.id place.direction p.flags mark p.moment held
-after_packet Nowhere id p count held = with_begun id p count held
-after_packet (Ends ended) id p count held = with_begun id p count (without ended held)
+abbrev pub after_packet : Belonging → ConnId → Arrival → Confirmation → List ConntrackEntry → List ConntrackEntry
+after_packet (Found found) id p Unconfirmed held = held
+after_packet (Found found) id p (Confirmed mark reply source dest) held =
+    touched_at found.id found.direction p.flags mark p.moment held
+after_packet NotFound id p confirmation held = with_begun id p confirmation held
+after_packet (Ends ended) id p confirmation held = with_begun id p confirmation (without ended held)
 
 -- a connection that it begins has no incoming tuple of another one
-abbrev pub IsBegunApart : Belonging → Confirmation → List Held → Type 0
-IsBegunApart (Found place) count held = Unit {0}
-IsBegunApart other Unconfirmed held = Unit {0}
-IsBegunApart other (Confirmed mark reply source dest) held = is_taken reply (after_end other held) ≡ false
+abbrev pub DoesNotClash : Belonging → Confirmation → List ConntrackEntry → Type 0
+DoesNotClash (Found found) confirmation held = Unit {0}
+DoesNotClash other Unconfirmed held = Unit {0}
+DoesNotClash other (Confirmed mark reply source dest) held = is_taken reply (after_end other held) ≡ false
 
 -- ---- the entry of a packet that belongs so
 
@@ -64,25 +64,25 @@ abbrev pub ended_by_packet : Belonging → Option ℕ
 ended_by_packet (Ends id) = Some id.0
 ended_by_packet other = None
 
-abbrev pub what_of_packet : Belonging → Arrival → Confirmation → What
-what_of_packet belonging p Unconfirmed = Nothing
-what_of_packet (Found place) p (Confirmed mark reply source dest) = Touches place.id.0 place.direction
-what_of_packet other p (Confirmed mark reply source dest) =
+abbrev pub change_of_packet : Belonging → Arrival → Confirmation → ConnectionChange
+change_of_packet belonging p Unconfirmed = NoChange
+change_of_packet (Found found) p (Confirmed mark reply source dest) = Touches found.id.0 found.direction
+change_of_packet other p (Confirmed mark reply source dest) =
     Begins (record { original = p.tuple; reply = reply; source = source; dest = dest })
 
 abbrev pub mark_left : Confirmation → ℕ
 mark_left Unconfirmed = 0
 mark_left (Confirmed mark reply source dest) = mark
 
-abbrev pub entry_of : Belonging → Arrival → Confirmation → Tracked
-entry_of belonging p count = record {
+abbrev pub entry_of : Belonging → Arrival → Confirmation → TrackedPacket
+entry_of belonging p confirmation = record {
   moment = p.moment;
   flags = p.flags;
-  mark = mark_left count;
-  what = what_of_packet belonging p count;
+  mark = mark_left confirmation;
+  change = change_of_packet belonging p confirmation;
   ended = ended_by_packet belonging;
 }
 
 -- the entry of a record without such a packet
-abbrev pub entry_at : ℕ → Tracked
-entry_at moment = record { moment = moment; flags = no_flags; mark = 0; what = Nothing; ended = None }
+abbrev pub entry_at : ℕ → TrackedPacket
+entry_at moment = record { moment = moment; flags = no_flags; mark = 0; change = NoChange; ended = None }

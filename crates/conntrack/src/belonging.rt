@@ -1,13 +1,13 @@
 //! What a packet belongs to.
 ghost use Rattle.std.specs.Prelude.{◌≡◌};
-ghost use Rattle.conntrack.specs.Held.{place_of, state_of};
+ghost use Rattle.conntrack.specs.ConntrackEntry.{connection_ref, state_of};
 
-use crate::connection::{ConnId, Direction, Held};
+use crate::connection::{ConnId, ConntrackEntry, Direction};
 use ip_headers::{Kind, Tuple};
 
 /// A connection that a packet belongs to, as it was before the packet.
 #[derive(Clone, Copy, Debug, PartialEq, Eq)]
-pub struct Place {
+pub struct ConnectionRef {
     /// The connection's name.
     pub id: ConnId,
     /// The packet's direction.
@@ -26,16 +26,16 @@ pub struct Place {
 #[derive(Clone, Copy, Debug, PartialEq, Eq)]
 pub enum Belonging {
     /// To no live connection.
-    Nowhere,
+    NotFound,
     /// To none either: it ends a closing connection, to begin it anew.
     Ends(ConnId),
     /// To this one.
-    Found(Place),
+    Found(ConnectionRef),
 }
 
 /// How a packet with a tuple stands to connections.
 #[derive(Clone, Copy, Debug, PartialEq, Eq)]
-pub enum State {
+pub enum LookupState {
     /// Of a connection that packets of both directions are seen of.
     Established,
     /// Of a connection that none has answered, or to begin one.
@@ -44,12 +44,12 @@ pub enum State {
     Invalid,
 }
 
-impl Place {
+impl ConnectionRef {
     /// The place of a packet of this direction in a connection.
-    pub fn of(held: &Held, direction: Direction) -> Self
-        ensures { result ≡ place_of held.now direction }
+    pub fn of(held: &ConntrackEntry, direction: Direction) -> Self
+        ensures { result ≡ connection_ref held.now direction }
     {
-        Place {
+        ConnectionRef {
             id: held.id,
             direction,
             original: held.original,
@@ -62,19 +62,19 @@ impl Place {
 
 impl Belonging {
     /// The state of a packet of this kind that belongs so.
-    pub fn state(self, kind: Kind) -> State
+    pub fn state(self, kind: Kind) -> LookupState
         ensures { result ≡ state_of kind self }
     {
         match (self, kind) {
-            (Belonging::Found(place), _) => {
-                if place.direction == Direction::Reply || place.replied {
-                    State::Established
+            (Belonging::Found(found), _) => {
+                if found.direction == Direction::Reply || found.replied {
+                    LookupState::Established
                 } else {
-                    State::New
+                    LookupState::New
                 }
             }
-            (_, Kind::Answer) => State::Invalid,
-            (_, Kind::Tcp | Kind::Udp | Kind::Ask | Kind::Other(_)) => State::New,
+            (_, Kind::EchoReply) => LookupState::Invalid,
+            (_, Kind::Tcp | Kind::Udp | Kind::EchoRequest | Kind::Other(_)) => LookupState::New,
         }
     }
 }

@@ -1,7 +1,7 @@
 //! A connection as it is held.
 ghost use Rattle.std.specs.Prelude.{◌≡◌, true};
 ghost use Rattle.conntrack.specs.Phases.{flags_of, is_closing, is_lone_syn, no_flags, phase_by, phase_of, seen_more};
-ghost use Rattle.conntrack.specs.Held.{aged_of, connection_of, is_live, limit_of, touched};
+ghost use Rattle.conntrack.specs.ConntrackEntry.{aged_of, connection_of, is_live, limit_of, touched};
 
 use crate::limits::limit_by;
 use box_file::Limits;
@@ -49,7 +49,7 @@ pub struct ConnId(pub usize);
 
 /// A connection that is held.
 #[derive(Clone, Copy, Debug, PartialEq, Eq)]
-pub struct Held {
+pub struct ConntrackEntry {
     /// Its name.
     pub id: ConnId,
     /// The tuple of its incoming packets in direction original.
@@ -145,7 +145,7 @@ impl Flags {
     }
 }
 
-impl Held {
+impl ConntrackEntry {
     /// How far it is, if it is a connection of TCP.
     pub fn phase(&self) -> Phase
         ensures { result ≡ phase_of self.now }

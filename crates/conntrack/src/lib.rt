@@ -3,16 +3,16 @@
 
 mod belonging;
 mod connection;
+pub mod examples;
 pub mod laws;
 mod limits;
 mod list_tracker;
 mod step_count;
 mod tracker;
-pub mod trials;
 
-pub use belonging::{Belonging, Place, State};
-pub use connection::{Aged, ConnId, Connection, Direction, Flags, Held, Moment, Phase};
+pub use belonging::{Belonging, ConnectionRef, LookupState};
+pub use connection::{Aged, ConnId, Connection, ConntrackEntry, Direction, Flags, Moment, Phase};
 pub use limits::limit_by;
 pub use list_tracker::ListTracker;
 pub use step_count::Steps;
-pub use tracker::{BeginError, LIMIT, Memory, Tracker};
+pub use tracker::{BeginError, MAX_CONNECTIONS, Memory, Tracker};

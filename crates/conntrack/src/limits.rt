@@ -16,7 +16,7 @@ pub fn limit_by(limits: Limits, kind: Kind, phase: Phase) -> u64
         (Kind::Udp, _) => limits.udp,
         (Kind::Tcp, Phase::Established) => limits.established,
         (Kind::Tcp, Phase::Opening | Phase::Closing) => limits.transitory,
-        (Kind::Ask | Kind::Answer, _) => limits.ask,
+        (Kind::EchoRequest | Kind::EchoReply, _) => limits.echo,
         (Kind::Other(_), _) => limits.other,
     };
     u64::from(seconds) * NANOSECONDS_IN_SECOND

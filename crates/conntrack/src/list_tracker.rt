@@ -3,12 +3,12 @@ ghost use Rattle.std.specs.Prelude.{◌≡◌, ◌+◌, ◌<◌, ◌≤◌, ◌^
 ghost use Rattle.std.specs.List.{find, list_any};
 ghost use Rattle.ip_headers.specs.Same.{same_tuple};
 ghost use Rattle.conntrack.specs.steps.Names.{has_ids_below};
-ghost use Rattle.conntrack.specs.Held.{are_apart, belongs_in, has_distinct_ids, has_id, is_incoming, is_live, is_taken, live_at, of_original, of_reply, same_id, touched, touched_at, without};
+ghost use Rattle.conntrack.specs.ConntrackEntry.{have_disjoint_tuples, belongs_in, has_distinct_ids, has_id, is_incoming, is_live, is_taken, live_at, of_original, of_reply, same_id, touched, touched_at, without};
 
-use crate::belonging::{Belonging, Place};
-use crate::connection::{Aged, ConnId, Connection, Direction, Flags, Held, Moment};
+use crate::belonging::{Belonging, ConnectionRef};
+use crate::connection::{Aged, ConnId, Connection, ConntrackEntry, Direction, Flags, Moment};
 use crate::step_count::Steps;
-use crate::tracker::{BeginError, LIMIT, Memory, Tracker};
+use crate::tracker::{BeginError, MAX_CONNECTIONS, Memory, Tracker};
 use box_file::Limits;
 use ip_headers::Tuple;
 use std::alloc::Global;
@@ -17,10 +17,10 @@ use std::hash::RandomState;
 /// Keeps connections in a list, in order of beginning. Each call goes through the whole list.
 #[derive(Drop)]
 pub struct ListTracker {
-    conns: Vec<Held>,
+    conns: Vec<ConntrackEntry>,
     limits: Limits,
     ghost distinct: { IsTrue (has_distinct_ids conns.items) },
-    ghost apart: { IsTrue (are_apart conns.items) },
+    ghost apart: { IsTrue (have_disjoint_tuples conns.items) },
 }
 
 /// Whether two tuples are one.
@@ -31,7 +31,12 @@ fn is_same(one: Tuple, other: Tuple) -> bool
 }
 
 /// The first that is live and has this original tuple.
-fn find_original(conns: &[Held], limits: Limits, tuple: Tuple, now: Moment) -> Option<Held>
+fn find_original(
+    conns: &[ConntrackEntry],
+    limits: Limits,
+    tuple: Tuple,
+    now: Moment,
+) -> Option<ConntrackEntry>
     ensures { result ≡ find (λ h. is_live limits now h && same_tuple h.original tuple) conns.now }
 {
     conns
@@ -41,7 +46,12 @@ fn find_original(conns: &[Held], limits: Limits, tuple: Tuple, now: Moment) -> O
 }
 
 /// The first that is live and has this reply tuple.
-fn find_reply(conns: &[Held], limits: Limits, tuple: Tuple, now: Moment) -> Option<Held>
+fn find_reply(
+    conns: &[ConntrackEntry],
+    limits: Limits,
+    tuple: Tuple,
+    now: Moment,
+) -> Option<ConntrackEntry>
     ensures { result ≡ find (λ h. is_live limits now h && same_tuple h.reply tuple) conns.now }
 {
     conns
@@ -52,7 +62,13 @@ fn find_reply(conns: &[Held], limits: Limits, tuple: Tuple, now: Moment) -> Opti
 
 /// What a packet belongs to among those that are live.
 #[tactic(auto, using(crate::proofs::Lists::find_filter_rules))]
-fn look_in(conns: &[Held], limits: Limits, tuple: Tuple, flags: Flags, now: Moment) -> Belonging
+fn look_in(
+    conns: &[ConntrackEntry],
+    limits: Limits,
+    tuple: Tuple,
+    flags: Flags,
+    now: Moment,
+) -> Belonging
     ensures { result ≡ belongs_in (live_at limits now conns.now) tuple flags }
 {
     match find_original(conns, limits, tuple, now) {
@@ -60,25 +76,32 @@ fn look_in(conns: &[Held], limits: Limits, tuple: Tuple, flags: Flags, now: Mome
             if flags.is_lone_syn() && held.is_closing() {
                 Belonging::Ends(held.id)
             } else {
-                Belonging::Found(Place::of(&held, Direction::Original))
+                Belonging::Found(ConnectionRef::of(&held, Direction::Original))
             }
         }
         None => match find_reply(conns, limits, tuple, now) {
-            Some(held) => Belonging::Found(Place::of(&held, Direction::Reply)),
-            None => Belonging::Nowhere,
+            Some(held) => Belonging::Found(ConnectionRef::of(&held, Direction::Reply)),
+            None => Belonging::NotFound,
         },
     }
 }
 
 /// Whether a tuple is an incoming tuple of one of them.
-fn is_taken(conns: &[Held], tuple: Tuple) -> bool
+fn is_taken(conns: &[ConntrackEntry], tuple: Tuple) -> bool
     ensures { result ≡ is_taken tuple conns.now }
 {
     conns.iter().any(|held| is_same(held.original, tuple) || is_same(held.reply, tuple))
 }
 
 /// Counts one more packet, where it is of this connection.
-fn touch_if(held: &mut Held, id: ConnId, direction: Direction, flags: Flags, mark: u32, now: Moment)
+fn touch_if(
+    held: &mut ConntrackEntry,
+    id: ConnId,
+    direction: Direction,
+    flags: Flags,
+    mark: u32,
+    now: Moment,
+)
     ensures { held.new ≡ (if same_id id held.old then touched direction flags mark now held.old else held.old) }
 {
     if held.id == id {
@@ -88,7 +111,7 @@ fn touch_if(held: &mut Held, id: ConnId, direction: Direction, flags: Flags, mar
 
 /// Counts one more packet of the connection of that name.
 fn touch_in(
-    conns: &mut Vec<Held>,
+    conns: &mut Vec<ConntrackEntry>,
     id: ConnId,
     direction: Direction,
     flags: Flags,
@@ -105,7 +128,7 @@ fn touch_in(
 }
 
 /// Takes out the connection of that name.
-fn take_out(conns: &mut Vec<Held>, id: ConnId)
+fn remove_entry(conns: &mut Vec<ConntrackEntry>, id: ConnId)
     ensures items { conns.new.items ≡ without id conns.old.items }
     ensures capacity { vec_capacity conns.new ≡ vec_capacity conns.old }
     ensures len { vec_len conns.new ≤ vec_len conns.old }
@@ -114,7 +137,7 @@ fn take_out(conns: &mut Vec<Held>, id: ConnId)
 }
 
 /// The first that is dead.
-fn find_dead(conns: &[Held], limits: Limits, now: Moment) -> Option<Held>
+fn find_expired(conns: &[ConntrackEntry], limits: Limits, now: Moment) -> Option<ConntrackEntry>
     ensures { result ≡ find (λ h. not (is_live limits now h)) conns.now }
 {
     conns
@@ -124,21 +147,21 @@ fn find_dead(conns: &[Held], limits: Limits, now: Moment) -> Option<Held>
 }
 
 /// The connection of that name.
-fn find_named(conns: &[Held], id: ConnId) -> Option<Held>
+fn find_by_id(conns: &[ConntrackEntry], id: ConnId) -> Option<ConntrackEntry>
     ensures { result ≡ find (same_id id) conns.now }
 {
     conns.iter().find(|held| held.id == id).copied()
 }
 
 /// Whether a connection of that name is held.
-fn has(conns: &[Held], id: ConnId) -> bool
+fn has(conns: &[ConntrackEntry], id: ConnId) -> bool
     ensures { result ≡ has_id id conns.now }
 {
     conns.iter().any(|held| held.id == id)
 }
 
 /// A name that no connection has.
-fn free_id(conns: &[Held]) -> ConnId
+fn free_id(conns: &[ConntrackEntry]) -> ConnId
     ensures { has_id result conns.now ≡ false }
 {
     let next = next_number(conns);
@@ -150,7 +173,7 @@ fn free_id(conns: &[Held]) -> ConnId
 }
 
 /// A number past those of all names; the greatest there is, where one of them comes near it.
-fn next_number(conns: &[Held]) -> usize
+fn next_number(conns: &[ConntrackEntry]) -> usize
     ensures { result < 2 ^ 64 - 1 → has_ids_below result conns.now ≡ true }
 {
     let mut next: usize = 0;
@@ -161,7 +184,7 @@ fn next_number(conns: &[Held]) -> usize
 }
 
 /// The least name that no connection has.
-fn least_free(conns: &[Held]) -> ConnId
+fn least_free(conns: &[ConntrackEntry]) -> ConnId
     ensures { has_id result conns.now ≡ false }
 {
     for number in 0..conns.len() {
@@ -180,7 +203,7 @@ impl Tracker for ListTracker {
 
     ghost has_room = { λ t. nat_lt (vec_len t.conns) (vec_capacity t.conns) };
 
-    ghost most_slots = { None };
+    ghost max_slots = { None };
 
     // It hashes nothing.
     fn new(alloc: Global, _hasher: RandomState, idle: Limits) -> Self {
@@ -227,14 +250,14 @@ impl Tracker for ListTracker {
         steps: &mut Steps,
     ) -> Result<ConnId, BeginError> {
         steps.add(self.conns.len());
-        if self.conns.len() >= LIMIT {
+        if self.conns.len() >= MAX_CONNECTIONS {
             return Err(BeginError::Full);
         }
         if is_taken(&self.conns, connection.reply) {
             return Err(BeginError::Clash);
         }
         let id = free_id(&self.conns);
-        match self.conns.push(Held {
+        match self.conns.push(ConntrackEntry {
             id,
             original: connection.original,
             reply: connection.reply,
@@ -254,9 +277,9 @@ impl Tracker for ListTracker {
     #[tactic(auto, using(crate::proofs::Names::name_rules))]
     fn end(&mut self, id: ConnId, steps: &mut Steps) -> Aged {
         steps.add(self.conns.len());
-        match find_named(&self.conns, id) {
+        match find_by_id(&self.conns, id) {
             Some(held) => {
-                take_out(&mut self.conns, id);
+                remove_entry(&mut self.conns, id);
                 held.aged()
             }
             None => unreachable!(),
@@ -266,10 +289,10 @@ impl Tracker for ListTracker {
     #[tactic(auto, using(crate::proofs::Names::name_rules))]
     fn age(&mut self, now: Moment, steps: &mut Steps) -> Option<Aged> {
         steps.add(self.conns.len());
-        match find_dead(&self.conns, self.limits, now) {
-            Some(dead) => {
-                take_out(&mut self.conns, dead.id);
-                Some(dead.aged())
+        match find_expired(&self.conns, self.limits, now) {
+            Some(expired) => {
+                remove_entry(&mut self.conns, expired.id);
+                Some(expired.aged())
             }
             None => None,
         }

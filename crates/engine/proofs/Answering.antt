@@ -4,29 +4,29 @@ use Rattle.nft_tree.specs.Tree.{TableTree}
 use Rattle.nft_parser.specs.declared.fault.TextFault.{TextFault}
 use Rattle.nft_parser.specs.Spells.{Spells, HasTextFault}
 use Rattle.rule_check.specs.declared.fault.CheckFault.{CheckFault}
-use Rattle.rule_check.specs.WellFormed.{Least, WellFormed}
+use Rattle.rule_check.specs.WellFormed.{LeastFault, WellFormed}
 use Rattle.box_file.specs.declared.fault.BoxFault.{BoxFault}
 use Rattle.box_file.specs.Box.{PlantTree, IsBox, HasBoxFault}
 use Rattle.pcap_io.specs.declared.fault.CaptureFault.{CaptureFault}
 use Rattle.pcap_io.specs.declared.fault.CaptureFault.TheVariants as captures
-use Rattle.pcap_io.specs.Pcap.{Captured, Pcap, Ending, Whole, Torn, Malformed, Over, header_fault, told}
-use Rattle.story.specs.Story.{capture_text}
+use Rattle.pcap_io.specs.Pcap.{Captured, Pcap, Ending, Whole, Torn, Malformed, Over, header_fault, decoded_records}
+use Rattle.history.specs.History.{capture_text}
 use Rattle.report.specs.Report.{report_text}
 use Rattle.engine.specs.declared.fault.RulesFault.TheVariants.{Text, Check}
 use Rattle.engine.specs.declared.fault.RunFault.{RunFault}
 use Rattle.engine.specs.declared.fault.RunFault.TheVariants.{Rules, Box, Capture}
 use Rattle.engine.specs.Meaning.{Accepted, Meaning, ending_of}
 use Rattle.engine.specs.Refusals.{IsOfTexts, IsRefusal, Refuses, Spelled}
-use Rattle.engine.specs.Judged.{Judged, Misjudged}
+use Rattle.engine.specs.Judged.{Judged, JudgeRefuses}
 use Rattle.engine.specs.declared.judging.Counts.{Counts}
 use Rattle.rule_limits.specs.Limits.{chain_count, rule_count}
-use Rattle.engine.proofs.Stories.{SomeEntry, some_story}
+use Rattle.engine.proofs.Histories.{SomeEntry, some_history}
 
 -- what the readers of the texts promise
 pub record TextAnswers : Type 0 where
   pub text : (text : List ℕ) → ((tables : List TableTree) × Spells tables text) ⊎ ((fault : TextFault) × HasTextFault text fault)
   pub plant : (text : List ℕ) → ((p : PlantTree) × IsBox text p) ⊎ ((fault : BoxFault) × HasBoxFault text fault)
-  pub check : (tables : List TableTree) (p : PlantTree) → WellFormed tables p ⊎ ((fault : CheckFault) × Least fault tables p)
+  pub check : (tables : List TableTree) (p : PlantTree) → WellFormed tables p ⊎ ((fault : CheckFault) × LeastFault fault tables p)
 
 -- and with them the reader of the capture, and the rules
 pub record Answers : Type 0 where
@@ -41,13 +41,13 @@ Answer rules box capture trace =
 
 meant : Answers → (rules box capture : List ℕ) (trace : Bool) (accepted : Accepted rules box) (records : List Captured) (torn : Bool) → Pcap capture records (ending_of torn) → Answer rules box capture trace
 meant answers rules box capture trace accepted records torn read =
-    let s = some_story answers.entry accepted.setup accepted.well_formed [] (told read.format records) in
+    let s = some_history answers.entry accepted.setup accepted.well_formed [] (decoded_records read.format records) in
     inl (
       length records,
       torn,
       capture_text s.0,
       report_text accepted.setup trace s.0 torn,
-      record { accepted = accepted; records = records; read = read; counted = refl; story = s.0; grows = s.1; captured = refl; reported = refl },
+      record { accepted = accepted; records = records; read = read; counted = refl; history = s.0; is_history = s.1; captured = refl; reported = refl },
     )
 
 -- by how the records stop
@@ -66,7 +66,7 @@ captured answers rules box capture trace accepted = by_reading (answers.reading 
     by_reading (inr r) = stopped answers rules box capture trace accepted r.0 r.1 r.2
 
 -- by what is wrong with it
-judged : Answers → (rules box capture : List ℕ) (trace : Bool) (texts : Spelled rules box) → WellFormed texts.tables texts.plant ⊎ ((fault : CheckFault) × Least fault texts.tables texts.plant) → Answer rules box capture trace
+judged : Answers → (rules box capture : List ℕ) (trace : Bool) (texts : Spelled rules box) → WellFormed texts.tables texts.plant ⊎ ((fault : CheckFault) × LeastFault fault texts.tables texts.plant) → Answer rules box capture trace
 judged answers rules box capture trace texts (inl well) =
     captured answers rules box capture trace (record { setup = record { rules = texts.tables; plant = texts.plant }; spelled = texts.spelled; read = texts.read; well_formed = well })
 judged answers rules box capture trace texts (inr found) = inr (Rules (Check found.0), tt, (texts, found.1))
@@ -85,10 +85,10 @@ answered answers rules box capture trace = by_text (answers.texts.text rules) (a
 -- ---- judging
 
 abbrev pub Judgement : List ℕ → List ℕ → Type 0
-Judgement rules box = ((counts : Counts) × Judged rules box counts) ⊎ ((fault : RunFault) × IsOfTexts fault × Misjudged rules box fault)
+Judgement rules box = ((counts : Counts) × Judged rules box counts) ⊎ ((fault : RunFault) × IsOfTexts fault × JudgeRefuses rules box fault)
 
 -- by what is wrong with the ruleset
-counted : (rules box : List ℕ) (texts : Spelled rules box) → WellFormed texts.tables texts.plant ⊎ ((fault : CheckFault) × Least fault texts.tables texts.plant) → Judgement rules box
+counted : (rules box : List ℕ) (texts : Spelled rules box) → WellFormed texts.tables texts.plant ⊎ ((fault : CheckFault) × LeastFault fault texts.tables texts.plant) → Judgement rules box
 counted rules box texts (inl well) =
     inl (
       record { tables = length texts.tables; chains = min (chain_count texts.tables) (2 ^ 64 - 1); rules = min (rule_count texts.tables) (2 ^ 64 - 1) },

@@ -1,10 +1,10 @@
 mod Known
 mod Writes
-mod Stories
-mod Telling
+mod Histories
+mod WritingOutputs
 mod Replays
 mod Texts
 mod Refusing
 mod Answering
-mod Misjudging
+mod JudgeRefusing
 mod Meanings

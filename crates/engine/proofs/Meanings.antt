@@ -8,27 +8,27 @@ use Rattle.box_file.specs.Box.{PlantTree, IsBox}
 use Rattle.pcap_io.specs.declared.format.Format.{Format}
 use Rattle.pcap_io.specs.declared.fault.CaptureFault.{CaptureFault}
 use Rattle.pcap_io.specs.declared.fault.CaptureFault.TheVariants as captures
-use Rattle.pcap_io.specs.Pcap.{Captured, Pcap, Ending, Ends, format_of, header_fault, told, HEADER_BYTES}
-use Rattle.pcap_io.specs.Seen.{Seen, READ_AHEAD, ahead}
+use Rattle.pcap_io.specs.Pcap.{Captured, Pcap, Ending, Ends, format_of, header_fault, decoded_records, HEADER_BYTES}
+use Rattle.pcap_io.specs.CaptureStates.{CaptureState, READ_AHEAD, ahead}
 use Rattle.pcap_io.specs.Counting.{one_more}
-use Rattle.story.specs.Story.{Entry, capture_text}
+use Rattle.history.specs.History.{Entry, capture_text}
 use Rattle.report.specs.Report.{report_text}
 use Rattle.rule_check.specs.Checked.{CheckedTree}
-use Rattle.stepping.specs.Stands.{setup_of}
-use Rattle.story.specs.Setup.{Setup}
-use Rattle.stepping.specs.Next.{Grows}
+use Rattle.stepping.specs.Representing.{setup_of}
+use Rattle.history.specs.Setup.{Setup}
+use Rattle.stepping.specs.Next.{IsHistoryOf}
 use Rattle.engine.specs.declared.fault.RunFault.{RunFault}
 use Rattle.engine.specs.declared.fault.RunFault.TheVariants.{Rules, Box, Capture, Device, Memory}
-use Rattle.engine.specs.Meaning.{Accepted, ending_of, Meaning, Wrote}
-use Rattle.engine.specs.Refusals.{Refuses, IsEarly, IsOfTexts, IsRefused}
-use Rattle.engine.specs.Judged.{Misjudged}
-use Rattle.engine.specs.Left.{Devices, Left, SoFar, Unbegun, Untouched}
+use Rattle.engine.specs.Meaning.{Accepted, ending_of, Meaning, WroteOutputs}
+use Rattle.engine.specs.Refusals.{Refuses, IsBeforeHeader, IsOfTexts, IsRefused}
+use Rattle.engine.specs.Judged.{JudgeRefuses}
+use Rattle.engine.specs.AfterFault.{Devices, LeftDevices, RecordsTaken, NothingTaken, Untouched}
 use Rattle.engine.specs.steps.Inputs.{IsChecked}
-use Rattle.engine.specs.steps.Replayed.{Reached, Start, coming}
-use Rattle.engine.specs.steps.Written.{Told, Held, SaysWithin, IsWithin, start_of}
+use Rattle.engine.specs.steps.Replayed.{ReadSoFar, ReplayStart, unread_input}
+use Rattle.engine.specs.steps.Written.{OutputsWritten, RefusedAtRecord, FaultLeaves, IsWithin, start_of}
 use Rattle.engine.proofs.Known.{known, nothing}
 use Rattle.engine.proofs.Replays.{ahead_is}
-use Rattle.engine.proofs.Stories.{OneEntry, one_story}
+use Rattle.engine.proofs.Histories.{OneEntry, one_history}
 
 -- ---- what follows under a result
 
@@ -77,26 +77,26 @@ same_sign true false e = cc
 same_sign false true e = cc
 
 -- stories of one setup and one reading
-same_story : Single → (s t : Setup) (f g : Format) (xs ys : List Captured) (a b : List Entry) → s ≡ t → f ≡ g → xs ≡ ys → Grows s [] (told f xs) a → Grows t [] (told g ys) b → a ≡ b
-same_story one s t f g xs ys a b setup format records grows other =
-    one_story one.entry t [] (told g ys) a b
-    (subst (λ (x : List Captured). Grows t [] (told g x) a) records (subst (λ (x : Format). Grows t [] (told x xs) a) format (subst (λ (x : Setup). Grows x [] (told f xs) a) setup grows)))
+same_history : Single → (s t : Setup) (f g : Format) (xs ys : List Captured) (a b : List Entry) → s ≡ t → f ≡ g → xs ≡ ys → IsHistoryOf s [] (decoded_records f xs) a → IsHistoryOf t [] (decoded_records g ys) b → a ≡ b
+same_history one s t f g xs ys a b setup format records is_history other =
+    one_history one.entry t [] (decoded_records g ys) a b
+    (subst (λ (x : List Captured). IsHistoryOf t [] (decoded_records g x) a) records (subst (λ (x : Format). IsHistoryOf t [] (decoded_records x xs) a) format (subst (λ (x : Setup). IsHistoryOf x [] (decoded_records f xs) a) setup is_history)))
     other
 
-pub one_meaning_of : Single → (rules box capture : List ℕ) (trace : Bool) (count others : ℕ) (torn sign : Bool) (sent other_sent report other_report : List ℕ)
-    → Meaning rules box capture trace count torn sent report → Meaning rules box capture trace others sign other_sent other_report
-    → (count ≡ others) × (torn ≡ sign) × (sent ≡ other_sent) × (report ≡ other_report)
-one_meaning_of one rules box capture trace count others torn sign sent other_sent report other_report m n =
-    let same = one.reading capture m.records n.records (ending_of torn) (ending_of sign) m.read n.read in
-    let signs : torn ≡ sign = same_sign torn sign same.1 in
+pub one_meaning_of : Single → (rules box capture : List ℕ) (trace : Bool) (count others : ℕ) (torn other_torn : Bool) (sent other_sent report other_report : List ℕ)
+    → Meaning rules box capture trace count torn sent report → Meaning rules box capture trace others other_torn other_sent other_report
+    → (count ≡ others) × (torn ≡ other_torn) × (sent ≡ other_sent) × (report ≡ other_report)
+one_meaning_of one rules box capture trace count others torn other_torn sent other_sent report other_report m n =
+    let same = one.reading capture m.records n.records (ending_of torn) (ending_of other_torn) m.read n.read in
+    let signs : torn ≡ other_torn = same_sign torn other_torn same.1 in
     let setups : m.accepted.setup ≡ n.accepted.setup = same_setup one rules box m.accepted n.accepted in
-    let stories : m.story ≡ n.story =
-    same_story one m.accepted.setup n.accepted.setup m.read.format n.read.format m.records n.records m.story n.story setups same.2 same.0 m.grows n.grows in (
+    let histories : m.history ≡ n.history =
+    same_history one m.accepted.setup n.accepted.setup m.read.format n.read.format m.records n.records m.history n.history setups same.2 same.0 m.is_history n.is_history in (
       m.counted ∙ ap length same.0 ∙ sym n.counted,
       signs,
-      m.captured ∙ ap capture_text stories ∙ sym n.captured,
-      m.reported ∙ ap (λ (s : Setup). report_text s trace m.story torn) setups ∙ ap (λ s. report_text n.accepted.setup trace s torn) stories
-          ∙ ap (report_text n.accepted.setup trace n.story) signs ∙ sym n.reported,
+      m.captured ∙ ap capture_text histories ∙ sym n.captured,
+      m.reported ∙ ap (λ (s : Setup). report_text s trace m.history torn) setups ∙ ap (λ s. report_text n.accepted.setup trace s torn) histories
+          ∙ ap (report_text n.accepted.setup trace n.history) signs ∙ sym n.reported,
     )
 
 -- ---- after the header
@@ -106,53 +106,53 @@ abbrev pub Opened : Option (List ℕ) → Option (List ℕ) → Format → Type 
 Opened input to_come format = IfSome input (λ bytes. (HEADER_BYTES ≤ length bytes) × (format_of bytes ≡ Ok format) × (to_come ≡ Some (drop HEADER_BYTES bytes)))
 
 -- what is to come is what the capture tells, where the reader is at its end with it
-pub opened : (input : Option (List ℕ)) (s : Seen) (unread : Option (List ℕ)) (part : List ℕ) → Consumes input unread part → (s.ended ≡ true → IsAtEnd unread)
-    → IfSome input (λ bytes. (HEADER_BYTES ≤ length bytes) × (format_of bytes ≡ Ok s.format) × (ahead s unread ≡ Some (drop HEADER_BYTES bytes))) → Opened input (coming s unread) s.format
+pub opened : (input : Option (List ℕ)) (s : CaptureState) (unread : Option (List ℕ)) (part : List ℕ) → Consumes input unread part → (s.ended ≡ true → IsAtEnd unread)
+    → IfSome input (λ bytes. (HEADER_BYTES ≤ length bytes) × (format_of bytes ≡ Ok s.format) × (ahead s unread ≡ Some (drop HEADER_BYTES bytes))) → Opened input (unread_input s unread) s.format
 opened None s unread part takes at_end h = tt
 opened (Some bytes) s None part takes at_end h = absurd takes
 opened (Some bytes) s (Some left) part takes at_end h = (h.0, h.1, sym (ahead_is s (Some left) left refl at_end) ∙ h.2)
 
 -- the reading of a capture whose header is accepted
-reading : (setup : Setup) (format : Format) (bytes : List ℕ) (unread : Option (List ℕ)) (ending : Ending) (at : Reached setup format (drop HEADER_BYTES bytes) unread) → format_of bytes ≡ Ok format
+reading : (setup : Setup) (format : Format) (bytes : List ℕ) (unread : Option (List ℕ)) (ending : Ending) (at : ReadSoFar setup format (drop HEADER_BYTES bytes) unread) → format_of bytes ≡ Ok format
     → Ends format ending (length at.follows.records) (at.ahead ++ at.left) → Pcap bytes at.follows.records ending
 reading setup format bytes unread ending at header ends =
     record { format = format; accepted = header; rest = at.ahead ++ at.left; whole = at.follows.joined; each = at.follows.each; not_over = at.follows.not_over; ends = ends }
 
-pub wrote : Single → (rules box : List ℕ) (accepted : Accepted rules box) (start : Start) (format : Format) (input to_come unread w r : Option (List ℕ)) (count : ℕ) (torn : Bool) → start.setup ≡ accepted.setup
-    → Opened input to_come format → IfSome to_come (λ bytes. Told start format bytes count torn unread w r)
-    → IfSome input (λ bytes. Wrote rules box bytes start.trace count torn start.sent w start.report r)
+pub wrote : Single → (rules box : List ℕ) (accepted : Accepted rules box) (start : ReplayStart) (format : Format) (input to_come unread w r : Option (List ℕ)) (count : ℕ) (torn : Bool) → start.setup ≡ accepted.setup
+    → Opened input to_come format → IfSome to_come (λ bytes. OutputsWritten start format bytes count torn unread w r)
+    → IfSome input (λ bytes. WroteOutputs rules box bytes start.trace count torn start.sent w start.report r)
 unfolding reading
 wrote one rules box accepted start format None to_come unread w r count torn same opened done = tt
 wrote one rules box accepted start format (Some bytes) to_come unread w r count torn same opened done =
-    let t : Told start format (drop HEADER_BYTES bytes) count torn unread w r = known to_come (drop HEADER_BYTES bytes) (λ bytes. Told start format bytes count torn unread w r) opened.2 done in
-    let story : List Entry = t.reached.story in
-    let meaning : Meaning rules box bytes start.trace count torn (capture_text story) (report_text start.setup start.trace story torn) =
+    let t : OutputsWritten start format (drop HEADER_BYTES bytes) count torn unread w r = known to_come (drop HEADER_BYTES bytes) (λ bytes. OutputsWritten start format bytes count torn unread w r) opened.2 done in
+    let history : List Entry = t.reached.history in
+    let meaning : Meaning rules box bytes start.trace count torn (capture_text history) (report_text start.setup start.trace history torn) =
     record {
       accepted = accepted;
       records = t.reached.follows.records;
       read = reading start.setup format bytes unread (ending_of torn) t.reached opened.1 t.ends;
       counted = t.counted;
-      story = story;
-      grows = subst (λ (s : Setup). Grows s [] (told format t.reached.follows.records) story) same t.reached.follows.grows;
+      history = history;
+      is_history = subst (λ (s : Setup). IsHistoryOf s [] (decoded_records format t.reached.follows.records) history) same t.reached.follows.is_history;
       captured = refl;
-      reported = ap (λ (s : Setup). report_text s start.trace story torn) same;
+      reported = ap (λ (s : Setup). report_text s start.trace history torn) same;
     } in
     record {
-      sent = capture_text story;
-      report = report_text start.setup start.trace story torn;
+      sent = capture_text history;
+      report = report_text start.setup start.trace history torn;
       meaning = meaning;
-      only = λ others sign other_sent other_report m. one_meaning_of one rules box bytes start.trace others count sign torn other_sent _ other_report _ m meaning;
+      only = λ others other_torn other_sent other_report m. one_meaning_of one rules box bytes start.trace others count other_torn torn other_sent _ other_report _ m meaning;
       appends = t.finished.all_sent;
-      tells = t.finished.all_lines;
+      appends_report = t.finished.all_lines;
     }
 
 -- a fault within the records is a refusal of the capture, or none
 pub refuses_within : (rules box : List ℕ) (accepted : Accepted rules box) (setup : Setup) (trace : Bool) (format : Format) (input to_come : Option (List ℕ)) (old new : Devices) (fault : RunFault) → Opened input to_come format → IsWithin fault
-    → IfSome to_come (λ bytes. SaysWithin setup trace format bytes old new fault) → Refuses rules box input fault
+    → IfSome to_come (λ bytes. FaultLeaves setup trace format bytes old new fault) → Refuses rules box input fault
 refuses_within rules box accepted setup trace format None to_come old new (Capture fault) opened within says = (accepted, tt)
 refuses_within rules box accepted setup trace format (Some bytes) to_come old new (Capture fault) opened within says =
-    let s = known to_come (drop HEADER_BYTES bytes) (λ bytes. SaysWithin setup trace format bytes old new (Capture fault)) opened.2 says in
-    let h : Held (start_of setup trace old) format (drop HEADER_BYTES bytes) fault new.unread new.sent new.report = s.0 in
+    let s = known to_come (drop HEADER_BYTES bytes) (λ bytes. FaultLeaves setup trace format bytes old new (Capture fault)) opened.2 says in
+    let h : RefusedAtRecord (start_of setup trace old) format (drop HEADER_BYTES bytes) fault new.unread new.sent new.report = s.0 in
     (accepted, inr (h.reached.follows.records, h.ending, reading setup format bytes new.unread h.ending h.reached opened.1 h.ends, h.refused))
 refuses_within rules box accepted setup trace format input to_come old new (Rules fault) opened within says = absurd within
 refuses_within rules box accepted setup trace format input to_come old new (Box fault) opened within says = absurd within
@@ -161,8 +161,8 @@ refuses_within rules box accepted setup trace format input to_come old new Memor
 
 -- ---- what is left
 
-so_far : (rules box bytes : List ℕ) (accepted : Accepted rules box) (format : Format) (new : Devices) → format_of bytes ≡ Ok format → Reached accepted.setup format (drop HEADER_BYTES bytes) new.unread → SoFar rules box bytes new
-so_far rules box bytes accepted format new header at =
+taken_so_far : (rules box bytes : List ℕ) (accepted : Accepted rules box) (format : Format) (new : Devices) → format_of bytes ≡ Ok format → ReadSoFar accepted.setup format (drop HEADER_BYTES bytes) new.unread → RecordsTaken rules box bytes new
+taken_so_far rules box bytes accepted format new header at =
     record {
       accepted = accepted;
       format = format;
@@ -174,8 +174,8 @@ so_far rules box bytes accepted format new header at =
       unread = at.is_left;
       each = at.follows.each;
       not_over = at.follows.not_over;
-      story = at.story;
-      grows = at.follows.grows;
+      history = at.history;
+      is_history = at.follows.is_history;
     }
 
 -- once the capture is opened, before which no read failed
@@ -183,25 +183,25 @@ abbrev opened_of : Devices → Option (List ℕ) → ℕ → Devices
 opened_of old unread failed = record { unread = unread; sent = old.sent; report = old.report; reads_failed = failed; sends_failed = old.sends_failed; reports_failed = old.reports_failed }
 
 left_within : (rules box : List ℕ) (trace : Bool) (accepted : Accepted rules box) (format : Format) (bytes : List ℕ) (old new : Devices) (unread : Option (List ℕ)) (failed : ℕ) (fault : RunFault) → format_of bytes ≡ Ok format → IsWithin fault
-    → failed ≡ old.reads_failed → (new.unread ≡ unread → Untouched old new → new.reads_failed ≡ old.reads_failed → Unbegun bytes old new)
-    → SaysWithin accepted.setup trace format (drop HEADER_BYTES bytes) (opened_of old unread failed) new fault → Left rules box bytes trace old new fault
-unfolding so_far
+    → failed ≡ old.reads_failed → (new.unread ≡ unread → Untouched old new → new.reads_failed ≡ old.reads_failed → NothingTaken bytes old new)
+    → FaultLeaves accepted.setup trace format (drop HEADER_BYTES bytes) (opened_of old unread failed) new fault → LeftDevices rules box bytes trace old new fault
+unfolding taken_so_far
 left_within rules box trace accepted format bytes old new unread failed (Rules fault) header within before none says = absurd within
 left_within rules box trace accepted format bytes old new unread failed (Box fault) header within before none says = absurd within
-left_within rules box trace accepted format bytes old new unread failed (Capture fault) header within before none (h, calm) =
+left_within rules box trace accepted format bytes old new unread failed (Capture fault) header within before none (h, no_failure) =
     inr (record {
-      so_far = so_far rules box bytes accepted format new header h.reached;
+      taken_so_far = taken_so_far rules box bytes accepted format new header h.reached;
       few = h.few;
       ending = h.ending;
       ends = h.ends;
       refused = h.refused;
       sent = h.all.all_sent;
       report = h.all.all_lines;
-      all_read = calm ∙ before;
+      all_read = no_failure ∙ before;
     })
 left_within rules box trace accepted format bytes old new unread failed Device header within before none (inl (inl (c, fails))) =
     inr (inl (record {
-      so_far = so_far rules box bytes accepted format new header c.reached;
+      taken_so_far = taken_so_far rules box bytes accepted format new header c.reached;
       few = c.few;
       torn = c.torn;
       ends = c.ends;
@@ -209,17 +209,17 @@ left_within rules box trace accepted format bytes old new unread failed Device h
       report = c.all.all_lines;
       failed = fails ∙ ap one_more before;
     }))
-left_within rules box trace accepted format bytes old new unread failed Device header within before none (inl (inr (h, calm))) =
+left_within rules box trace accepted format bytes old new unread failed Device header within before none (inl (inr (h, no_failure))) =
     inr (inr (inl (record {
-      so_far = so_far rules box bytes accepted format new header h.reached;
+      taken_so_far = taken_so_far rules box bytes accepted format new header h.reached;
       few = h.few;
       sent = h.part.part_sent;
       report = h.part.part_lines;
-      all_read = calm ∙ before;
+      all_read = no_failure ∙ before;
     })))
 left_within rules box trace accepted format bytes old new unread failed Device header within before none (inr (u, fails)) =
     inr (inr (inr (record {
-      so_far = so_far rules box bytes accepted format new header u.reached;
+      taken_so_far = taken_so_far rules box bytes accepted format new header u.reached;
       few = u.few;
       torn = u.torn;
       ends = u.ends;
@@ -227,9 +227,9 @@ left_within rules box trace accepted format bytes old new unread failed Device h
       report = u.unfinished.part_lines;
       failed = fails;
     })))
-left_within rules box trace accepted format bytes old new unread failed Memory header within before none (inl (l, calm)) =
+left_within rules box trace accepted format bytes old new unread failed Memory header within before none (inl (l, no_failure)) =
     inr (record {
-      so_far = so_far rules box bytes accepted format new header l.reached;
+      taken_so_far = taken_so_far rules box bytes accepted format new header l.reached;
       untaken = l.untaken;
       is_record = l.is_record;
       more = l.more;
@@ -237,54 +237,54 @@ left_within rules box trace accepted format bytes old new unread failed Memory h
       few = l.few;
       sent = l.all.all_sent;
       report = l.all.all_lines;
-      all_read = calm ∙ before;
+      all_read = no_failure ∙ before;
     })
-left_within rules box trace accepted format bytes old new unread failed Memory header within before none (inr (same, kept, calm)) = inl (none same kept (calm ∙ before))
+left_within rules box trace accepted format bytes old new unread failed Memory header within before none (inr (same, kept, no_failure)) = inl (none same kept (no_failure ∙ before))
 
 -- ---- before the first record
 
 -- what a reader gave and has left
 unbegun : (bytes part : List ℕ) (old new : Devices) (unread : Option (List ℕ)) → new.unread ≡ unread → Consumes (Some bytes) unread part → length part ≤ READ_AHEAD → Untouched old new
-    → new.reads_failed ≡ old.reads_failed → Unbegun bytes old new
-unbegun bytes part old new None e takes few kept calm = absurd takes
-unbegun bytes part old new (Some left) e takes few kept calm = record { part = part; left = left; unread = e; joined = takes; few = few; untouched = kept; all_read = calm }
+    → new.reads_failed ≡ old.reads_failed → NothingTaken bytes old new
+unbegun bytes part old new None e takes few kept no_failure = absurd takes
+unbegun bytes part old new (Some left) e takes few kept no_failure = record { part = part; left = left; unread = e; joined = takes; few = few; untouched = kept; all_read = no_failure }
 
 -- a read failed before the header was there
 pub left_unopened : (rules box : List ℕ) (accepted : Accepted rules box) (trace : Bool) (input : Option (List ℕ)) (old new : Devices) (part : List ℕ) → Consumes input new.unread part → length part < HEADER_BYTES → Untouched old new
-    → new.reads_failed ≡ one_more old.reads_failed → IfSome input (λ bytes. Left rules box bytes trace old new Device)
+    → new.reads_failed ≡ one_more old.reads_failed → IfSome input (λ bytes. LeftDevices rules box bytes trace old new Device)
 left_unopened rules box accepted trace None old new part takes short kept failed = tt
 left_unopened rules box accepted trace (Some bytes) old new part takes short kept failed = by_rest new.unread refl takes
   where
-    by_rest : (rest : Option (List ℕ)) → new.unread ≡ rest → Consumes (Some bytes) rest part → Left rules box bytes trace old new Device
+    by_rest : (rest : Option (List ℕ)) → new.unread ≡ rest → Consumes (Some bytes) rest part → LeftDevices rules box bytes trace old new Device
     by_rest None e h = absurd h
     by_rest (Some left) e h = inl (record { accepted = accepted; part = part; left = left; unread = e; joined = h; short = short; untouched = kept; failed = failed })
 
 -- the header is refused
 pub left_unread : (rules box : List ℕ) (trace : Bool) (input : Option (List ℕ)) (old new : Devices) (part : List ℕ) (fault : CaptureFault) → Consumes input new.unread part → length part ≤ READ_AHEAD → Untouched old new
-    → new.reads_failed ≡ old.reads_failed → IfSome input (λ bytes. header_fault bytes ≡ Some fault) → IfSome input (λ bytes. Left rules box bytes trace old new (Capture fault))
-left_unread rules box trace None old new part fault takes few kept calm refused = tt
-left_unread rules box trace (Some bytes) old new part fault takes few kept calm refused = inl (refused, unbegun bytes part old new new.unread refl takes few kept calm)
+    → new.reads_failed ≡ old.reads_failed → IfSome input (λ bytes. header_fault bytes ≡ Some fault) → IfSome input (λ bytes. LeftDevices rules box bytes trace old new (Capture fault))
+left_unread rules box trace None old new part fault takes few kept no_failure refused = tt
+left_unread rules box trace (Some bytes) old new part fault takes few kept no_failure refused = inl (refused, unbegun bytes part old new new.unread refl takes few kept no_failure)
 
 pub refused_unread : (rules box : List ℕ) (input : Option (List ℕ)) (fault : CaptureFault) → Accepted rules box → IfSome input (λ bytes. header_fault bytes ≡ Some fault) → Refuses rules box input (Capture fault)
 refused_unread rules box input fault accepted refused = (accepted, IfSome_weaker input (λ bytes. header_fault bytes ≡ Some fault) (λ bytes. IsRefused bytes fault) (λ bytes h. inl h) refused)
 
 -- there was no room before anything was written
 pub left_untouched : (rules box : List ℕ) (trace : Bool) (input : Option (List ℕ)) (old new : Devices) (part : List ℕ) → Consumes input new.unread part → length part ≤ READ_AHEAD → Untouched old new
-    → new.reads_failed ≡ old.reads_failed → IfSome input (λ bytes. Left rules box bytes trace old new Memory)
-left_untouched rules box trace None old new part takes few kept calm = tt
-left_untouched rules box trace (Some bytes) old new part takes few kept calm = inl (unbegun bytes part old new new.unread refl takes few kept calm)
+    → new.reads_failed ≡ old.reads_failed → IfSome input (λ bytes. LeftDevices rules box bytes trace old new Memory)
+left_untouched rules box trace None old new part takes few kept no_failure = tt
+left_untouched rules box trace (Some bytes) old new part takes few kept no_failure = inl (unbegun bytes part old new new.unread refl takes few kept no_failure)
 
 -- a fault of the texts, or want of room beside them: nothing was read
-pub left_of_texts : (rules box : List ℕ) (trace : Bool) (input : Option (List ℕ)) (old new : Devices) (fault : RunFault) → Consumes input new.unread [] → Untouched old new → new.reads_failed ≡ old.reads_failed → Misjudged rules box fault
-    → IfSome input (λ bytes. Left rules box bytes trace old new fault)
-left_of_texts rules box trace input old new (Rules fault) takes kept calm of = nothing input (λ bytes. Left rules box bytes trace old new (Rules fault)) (λ bytes. kept)
-left_of_texts rules box trace input old new (Box fault) takes kept calm of = nothing input (λ bytes. Left rules box bytes trace old new (Box fault)) (λ bytes. kept)
-left_of_texts rules box trace input old new Memory takes kept calm of = left_untouched rules box trace input old new [] takes (omega arith) kept calm
-left_of_texts rules box trace input old new (Capture fault) takes kept calm of = absurd of
-left_of_texts rules box trace input old new Device takes kept calm of = absurd of
+pub left_of_texts : (rules box : List ℕ) (trace : Bool) (input : Option (List ℕ)) (old new : Devices) (fault : RunFault) → Consumes input new.unread [] → Untouched old new → new.reads_failed ≡ old.reads_failed → JudgeRefuses rules box fault
+    → IfSome input (λ bytes. LeftDevices rules box bytes trace old new fault)
+left_of_texts rules box trace input old new (Rules fault) takes kept no_failure of = nothing input (λ bytes. LeftDevices rules box bytes trace old new (Rules fault)) (λ bytes. kept)
+left_of_texts rules box trace input old new (Box fault) takes kept no_failure of = nothing input (λ bytes. LeftDevices rules box bytes trace old new (Box fault)) (λ bytes. kept)
+left_of_texts rules box trace input old new Memory takes kept no_failure of = left_untouched rules box trace input old new [] takes (omega arith) kept no_failure
+left_of_texts rules box trace input old new (Capture fault) takes kept no_failure of = absurd of
+left_of_texts rules box trace input old new Device takes kept no_failure of = absurd of
 
 -- and it wasn't told early
-pub not_early : (fault : RunFault) (P : Type 0) → IsWithin fault → IsEarly fault → P
+pub not_early : (fault : RunFault) (P : Type 0) → IsWithin fault → IsBeforeHeader fault → P
 not_early (Capture captures.Malformed) P within early = absurd early
 not_early (Capture captures.TooMany) P within early = absurd early
 not_early (Capture captures.TornEnd) P within early = absurd within
@@ -309,23 +309,23 @@ not_of_texts Memory P within of = absurd of
 abbrev pub accepted_of : (rules box : List ℕ) (checked : CheckedTree) → IsChecked rules box checked → Accepted rules box
 accepted_of rules box checked fine = record { setup = setup_of checked; spelled = fine.spelled; read = fine.read; well_formed = fine.well_formed }
 
-pub wrote_all : Single → (rules box : List ℕ) (checked : CheckedTree) (start : Start) (format : Format) (input to_come unread w r : Option (List ℕ)) (count : ℕ) (torn : Bool)
-    → IsChecked rules box checked → start.setup ≡ setup_of checked → Opened input to_come format → IfSome to_come (λ bytes. Told start format bytes count torn unread w r)
-    → IfSome input (λ bytes. Wrote rules box bytes start.trace count torn start.sent w start.report r)
+pub wrote_all : Single → (rules box : List ℕ) (checked : CheckedTree) (start : ReplayStart) (format : Format) (input to_come unread w r : Option (List ℕ)) (count : ℕ) (torn : Bool)
+    → IsChecked rules box checked → start.setup ≡ setup_of checked → Opened input to_come format → IfSome to_come (λ bytes. OutputsWritten start format bytes count torn unread w r)
+    → IfSome input (λ bytes. WroteOutputs rules box bytes start.trace count torn start.sent w start.report r)
 wrote_all one rules box checked start format input to_come unread w r count torn fine same opened done =
     wrote one rules box (accepted_of rules box checked fine) start format input to_come unread w r count torn same opened done
 
 pub refuses_all : (rules box : List ℕ) (checked : CheckedTree) (setup : Setup) (trace : Bool) (format : Format) (input to_come : Option (List ℕ)) (old new : Devices) (fault : RunFault)
-    → IsChecked rules box checked → Opened input to_come format → IsWithin fault → IfSome to_come (λ bytes. SaysWithin setup trace format bytes old new fault) → Refuses rules box input fault
+    → IsChecked rules box checked → Opened input to_come format → IsWithin fault → IfSome to_come (λ bytes. FaultLeaves setup trace format bytes old new fault) → Refuses rules box input fault
 refuses_all rules box checked setup trace format input to_come old new fault fine opened within says =
     refuses_within rules box (accepted_of rules box checked fine) setup trace format input to_come old new fault opened within says
 
 pub left_all : (rules box : List ℕ) (trace : Bool) (checked : CheckedTree) (setup : Setup) (format : Format) (input to_come : Option (List ℕ)) (old new : Devices) (unread : Option (List ℕ)) (failed : ℕ) (part : List ℕ) (fault : RunFault)
     → failed ≡ old.reads_failed → Consumes input unread part → length part ≤ READ_AHEAD → IsChecked rules box checked → setup ≡ setup_of checked → Opened input to_come format → IsWithin fault
-    → IfSome to_come (λ bytes. SaysWithin setup trace format bytes (opened_of old unread failed) new fault) → IfSome input (λ bytes. Left rules box bytes trace old new fault)
+    → IfSome to_come (λ bytes. FaultLeaves setup trace format bytes (opened_of old unread failed) new fault) → IfSome input (λ bytes. LeftDevices rules box bytes trace old new fault)
 left_all rules box trace checked setup format None to_come old new unread failed part fault before takes few fine same opened within says = tt
 left_all rules box trace checked setup format (Some bytes) to_come old new unread failed part fault before takes few fine same opened within says =
     left_within rules box trace (accepted_of rules box checked fine) format bytes old new unread failed fault opened.1 within before
     (λ left kept all_read. unbegun bytes part old new unread left takes few kept all_read)
-    (subst (λ (s : Setup). SaysWithin s trace format (drop HEADER_BYTES bytes) (opened_of old unread failed) new fault) same
-    (known to_come (drop HEADER_BYTES bytes) (λ bytes. SaysWithin setup trace format bytes (opened_of old unread failed) new fault) opened.2 says))
+    (subst (λ (s : Setup). FaultLeaves s trace format (drop HEADER_BYTES bytes) (opened_of old unread failed) new fault) same
+    (known to_come (drop HEADER_BYTES bytes) (λ bytes. FaultLeaves setup trace format bytes (opened_of old unread failed) new fault) opened.2 says))

@@ -9,7 +9,7 @@ use Rattle.box_file.specs.Box.{PlantTree, IsBox, HasBoxFault}
 use Rattle.pcap_io.specs.declared.fault.CaptureFault.{CaptureFault}
 use Rattle.pcap_io.specs.Pcap.{Captured, Pcap, Ending, header_fault}
 use Rattle.rule_check.specs.declared.fault.CheckFault.{CheckFault}
-use Rattle.rule_check.specs.WellFormed.{Least, WellFormed}
+use Rattle.rule_check.specs.WellFormed.{LeastFault, WellFormed}
 use Rattle.rule_limits.specs.Limits.{chain_count, rule_count}
 use Rattle.engine.specs.declared.judging.Counts.{Counts}
 use Rattle.engine.specs.declared.fault.RulesFault.{RulesFault}
@@ -18,7 +18,7 @@ use Rattle.engine.specs.declared.fault.RunFault.{RunFault}
 use Rattle.engine.specs.declared.fault.RunFault.TheVariants.{Rules, Box, Capture, Device, Memory}
 use Rattle.engine.specs.Meaning.{Accepted, Meaning, ending_of}
 use Rattle.engine.specs.Refusals.{IsFaulty, IsOfTexts, IsRefused, IsRefusal, Refuses, Spelled, fault_at}
-use Rattle.engine.specs.Judged.{Judged, Misjudged}
+use Rattle.engine.specs.Judged.{Judged, JudgeRefuses}
 use Rattle.engine.proofs.Meanings.{OneBox, OneReading, OneTree}
 
 -- what the readers of the texts and of the capture promise
@@ -29,7 +29,7 @@ pub record Laws : Type 0 where
   -- of which it has at most one
   pub one_fault : (text : List ℕ) (first second : TextFault) → HasTextFault text first → HasTextFault text second → first ≡ second
   -- nor has a ruleset on a box more than one least fault
-  pub one_check : (tables : List TableTree) (plant : PlantTree) (fault other : CheckFault) → Least fault tables plant → Least other tables plant → fault ≡ other
+  pub one_check : (tables : List TableTree) (plant : PlantTree) (fault other : CheckFault) → LeastFault fault tables plant → LeastFault other tables plant → fault ≡ other
   pub plant : OneBox
   -- and alike for boxes
   pub sound_box : (text : List ℕ) (p : PlantTree) (fault : BoxFault) → IsBox text p → HasBoxFault text fault → ⊥
@@ -76,9 +76,9 @@ moved : (P : List TableTree → PlantTree → Type 0) (s t : List TableTree) (p 
 moved P s t p q e f h = subst (λ (x : PlantTree). P t x) f (subst (λ (x : List TableTree). P x p) e h)
 
 -- a ruleset that spells one has no fault of its text, and one in which nothing is wrong no other
-not_sound : Laws → (rules box : List ℕ) (fault : CheckFault) (a b : Spelled rules box) → Least fault a.tables a.plant → WellFormed b.tables b.plant → ⊥
+not_sound : Laws → (rules box : List ℕ) (fault : CheckFault) (a b : Spelled rules box) → LeastFault fault a.tables a.plant → WellFormed b.tables b.plant → ⊥
 not_sound laws rules box fault a b least sound =
-    sound fault (moved (λ s p. Least fault s p) a.tables b.tables a.plant b.plant (same_tables laws rules box a b) (same_plant laws rules box a b) least).wrong
+    sound fault (moved (λ s p. LeastFault fault s p) a.tables b.tables a.plant b.plant (same_tables laws rules box a b) (same_plant laws rules box a b) least).wrong
 
 -- two faults of the text or the tree are one
 one_faulty : Laws → (rules box : List ℕ) (fault other : RulesFault) → IsFaulty rules box fault → IsFaulty rules box other → fault ≡ other
@@ -86,8 +86,8 @@ one_faulty laws rules box (Text f) (Text g) h k = ap Text (laws.one_fault rules 
 one_faulty laws rules box (Text f) (Check g) h k = absurd (laws.faultless rules k.0.tables f k.0.spelled h)
 one_faulty laws rules box (Check f) (Text g) h k = absurd (laws.faultless rules h.0.tables g h.0.spelled k)
 one_faulty laws rules box (Check f) (Check g) h k =
-    let least : Least g h.0.tables h.0.plant =
-    moved (λ s p. Least g s p) k.0.tables h.0.tables k.0.plant h.0.plant (same_tables laws rules box k.0 h.0) (same_plant laws rules box k.0 h.0) k.1 in
+    let least : LeastFault g h.0.tables h.0.plant =
+    moved (λ s p. LeastFault g s p) k.0.tables h.0.tables k.0.plant h.0.plant (same_tables laws rules box k.0 h.0) (same_plant laws rules box k.0 h.0) k.1 in
     ap Check (laws.one_check h.0.tables h.0.plant f g h.1 least)
 
 -- a ruleset in which nothing is wrong has neither
@@ -156,7 +156,7 @@ judged_once laws rules box counts other j k =
     ∙ ap (λ n. record { tables = other.tables; chains = other.chains; rules = n }) (j.all_rules ∙ ap (λ ts. min (rule_count ts) (2 ^ 64 - 1)) same ∙ sym k.all_rules)
 
 -- and no fault
-pub judged_or_faulty : Laws → (rules box : List ℕ) (counts : Counts) (fault : RunFault) → IsOfTexts fault → Judged rules box counts → Misjudged rules box fault → ⊥
+pub judged_or_faulty : Laws → (rules box : List ℕ) (counts : Counts) (fault : RunFault) → IsOfTexts fault → Judged rules box counts → JudgeRefuses rules box fault → ⊥
 judged_or_faulty laws rules box counts (Rules fault) is j h = not_faulty laws rules box fault j.texts j.well_formed h
 judged_or_faulty laws rules box counts (Box fault) is j h = laws.sound_box box j.texts.plant fault j.texts.read h.2
 judged_or_faulty laws rules box counts (Capture fault) is j h = is
@@ -164,7 +164,7 @@ judged_or_faulty laws rules box counts Device is j h = is
 judged_or_faulty laws rules box counts Memory is j h = is
 
 -- of which there is one at most
-pub misjudged_once : Laws → (rules box : List ℕ) (fault other : RunFault) → IsOfTexts fault → IsOfTexts other → Misjudged rules box fault → Misjudged rules box other → fault ≡ other
+pub misjudged_once : Laws → (rules box : List ℕ) (fault other : RunFault) → IsOfTexts fault → IsOfTexts other → JudgeRefuses rules box fault → JudgeRefuses rules box other → fault ≡ other
 misjudged_once laws rules box (Rules f) (Rules g) is is' h k = ap Rules (one_faulty laws rules box f g h k)
 misjudged_once laws rules box (Rules f) (Box g) is is' h k = absurd (faulty_or_box laws rules box f g k.0 h k.1 k.2)
 misjudged_once laws rules box (Box f) (Rules g) is is' h k = absurd (faulty_or_box laws rules box g f h.0 k h.1 h.2)

@@ -11,35 +11,35 @@ use Rattle.pcap_io.specs.declared.format.Format.{Format}
 use Rattle.pcap_io.specs.declared.fault.CaptureFault.{CaptureFault}
 use Rattle.pcap_io.specs.declared.fault.CaptureFault.TheVariants as captures
 use Rattle.pcap_io.specs.declared.fault.CaptureError.TheVariants.{Refused, Device}
-use Rattle.pcap_io.specs.Pcap.{Captured, Recorded, IsRecord, Ending, Whole, Torn, Malformed, Over, Ends, frame, stream_of, told, own_moment}
-use Rattle.pcap_io.specs.Seen.{Seen, Breaks, IsOfRecords, IsPart, Reads, Says, READ_AHEAD, ahead}
+use Rattle.pcap_io.specs.Pcap.{Captured, Recorded, IsRecord, Ending, Whole, Torn, Malformed, Over, Ends, frame, stream_of, decoded_records, own_moment}
+use Rattle.pcap_io.specs.CaptureStates.{CaptureState, FailsBetween, IsOfRecords, IsPartialRecord, ReadsRecord, NextAnswers, READ_AHEAD, ahead}
 use Rattle.pcap_io.specs.Counting.{one_more}
-use Rattle.story.specs.Story.{Entry}
-use Rattle.story.specs.Setup.{Setup}
-use Rattle.stepping.specs.Next.{Next, Grows}
+use Rattle.history.specs.History.{Entry}
+use Rattle.history.specs.Setup.{Setup}
+use Rattle.stepping.specs.Next.{Next, IsHistoryOf}
 use Rattle.engine.specs.declared.fault.RunFault.TheVariants as faults
 use Rattle.engine.specs.declared.replay.Replay.{Replay}
 use Rattle.engine.specs.Meaning.{ending_of}
 use Rattle.engine.specs.steps.Written.{torn_at}
-use Rattle.engine.specs.steps.Replayed.{AllTold, Broke, Cut, Follows, Halted, Interrupts, IsStop, Lacks, PartTold, Plays, Reached, Replayed, Start, Took, coming, ending_at}
+use Rattle.engine.specs.steps.Replayed.{AllWritten, BreaksAtRecord, CutByRead, BeginsWithRecords, HaltedByWrite, Interrupts, IsStop, CutByMemory, PrefixWritten, ReplayRepresents, ReadSoFar, Replayed, ReplayStart, TakesRecord, unread_input, ending_at}
 use Rattle.engine.proofs.Known.{known}
-use Rattle.engine.proofs.Stories.{grows_more, latest_after, latest_more, told_more}
+use Rattle.engine.proofs.Histories.{is_history_more, latest_after, latest_more, decoded_more}
 
 -- these records were taken, and the reader has these bytes left behind those that are held
-pub record Carried (replay : Replay) (start : Start) (format : Format) (bytes : List ℕ) (unread w r : Option (List ℕ)) : Type 0 where
+pub record Carried (replay : Replay) (start : ReplayStart) (format : Format) (bytes : List ℕ) (unread w r : Option (List ℕ)) : Type 0 where
   pub rest : List ℕ
   pub left : List ℕ
   pub is_left : unread ≡ Some left
   pub rest_is : rest ≡ replay.records.held ++ left
-  pub story : List Entry
-  pub follows : Follows start.setup format bytes rest story
+  pub history : List Entry
+  pub follows : BeginsWithRecords start.setup format bytes rest history
   pub counted : replay.records.count ≡ length follows.records
   pub latest_is : replay.records.latest ≡ latest_after format 0 follows.records
-  pub plays : Plays replay start story w r
+  pub replay_represents : ReplayRepresents replay start history w r
 
 -- before the first record
-pub begun : (replay : Replay) (start : Start) (unread w r : Option (List ℕ)) → replay.records.count ≡ 0 → replay.records.latest ≡ 0 → Plays replay start [] w r
-    → IfSome (coming replay.records unread) (λ bytes. Carried replay start replay.records.format bytes unread w r)
+pub begun : (replay : Replay) (start : ReplayStart) (unread w r : Option (List ℕ)) → replay.records.count ≡ 0 → replay.records.latest ≡ 0 → ReplayRepresents replay start [] w r
+    → IfSome (unread_input replay.records unread) (λ bytes. Carried replay start replay.records.format bytes unread w r)
 begun replay start None w r none early p = tt
 begun replay start (Some left) w r none early p =
     record {
@@ -47,11 +47,11 @@ begun replay start (Some left) w r none early p =
       left = left;
       is_left = refl;
       rest_is = refl;
-      story = [];
-      follows = record { records = []; joined = refl; each = λ k d lt. absurd (omega (arith, lt)); not_over = omega arith; grows = refl };
+      history = [];
+      follows = record { records = []; joined = refl; each = λ k d lt. absurd (omega (arith, lt)); not_over = omega arith; is_history = refl };
       counted = none;
       latest_is = early;
-      plays = p;
+      replay_represents = p;
     }
 
 -- ---- what the reader has left
@@ -61,41 +61,41 @@ ahead_by : (ended : Bool) (held left : List ℕ) → (ended ≡ true → left �
 ahead_by true held left at_end = rw (at_end refl) (ap Some (sym (append-nil held)))
 ahead_by false held left at_end = refl
 
-pub ahead_is : (s : Seen) (unread : Option (List ℕ)) (left : List ℕ) → unread ≡ Some left → (s.ended ≡ true → IsAtEnd unread) → ahead s unread ≡ Some (s.held ++ left)
+pub ahead_is : (s : CaptureState) (unread : Option (List ℕ)) (left : List ℕ) → unread ≡ Some left → (s.ended ≡ true → IsAtEnd unread) → ahead s unread ≡ Some (s.held ++ left)
 ahead_is s unread left is at_end = rw is (ahead_by s.ended s.held left (λ e. subst IsAtEnd is (at_end e)))
 
 -- what a call of the capture says of the bytes to come
-said : (replay : Replay) (start : Start) (format : Format) (bytes : List ℕ) (unread w r : Option (List ℕ)) (c : Carried replay start format bytes unread w r) (P : List ℕ → Type 0)
+said : (replay : Replay) (start : ReplayStart) (format : Format) (bytes : List ℕ) (unread w r : Option (List ℕ)) (c : Carried replay start format bytes unread w r) (P : List ℕ → Type 0)
     → (replay.records.ended ≡ true → IsAtEnd unread) → IfSome (ahead replay.records unread) P → P c.rest
 said replay start format bytes unread w r c P at_end h = known (ahead replay.records unread) c.rest P (ahead_is replay.records unread c.left c.is_left at_end ∙ ap Some (sym c.rest_is)) h
 
 -- what it left then
-record Left (s : Seen) (after : Option (List ℕ)) (rest : List ℕ) : Type 0 where
+record LeftDevices (s : CaptureState) (after : Option (List ℕ)) (rest : List ℕ) : Type 0 where
   pub left : List ℕ
   pub is_left : after ≡ Some left
   pub joined : rest ≡ s.held ++ left
 
-still_left : (s : Seen) (before after : Option (List ℕ)) (left part rest : List ℕ) → before ≡ Some left → Consumes before after part → (s.ended ≡ true → IsAtEnd after) → ahead s after ≡ Some rest → Left s after rest
+still_left : (s : CaptureState) (before after : Option (List ℕ)) (left part rest : List ℕ) → before ≡ Some left → Consumes before after part → (s.ended ≡ true → IsAtEnd after) → ahead s after ≡ Some rest → LeftDevices s after rest
 still_left s before after left part rest is takes at_end e = by_left after (subst (λ (b : Option (List ℕ)). Consumes b after part) is takes) at_end e
   where
-    by_left : (after : Option (List ℕ)) → Consumes (Some left) after part → (s.ended ≡ true → IsAtEnd after) → ahead s after ≡ Some rest → Left s after rest
+    by_left : (after : Option (List ℕ)) → Consumes (Some left) after part → (s.ended ≡ true → IsAtEnd after) → ahead s after ≡ Some rest → LeftDevices s after rest
     by_left None takes at_end e = absurd takes
     by_left (Some l) takes at_end e = record { left = l; is_left = refl; joined = same_Some _ _ (sym e ∙ ahead_is s (Some l) l refl at_end) }
 
 -- with other bytes behind the records
-abbrev moved : (setup : Setup) (format : Format) (bytes rest after : List ℕ) (story : List Entry) → rest ≡ after → Follows setup format bytes rest story → Follows setup format bytes after story
-moved setup format bytes rest after story e f =
-    record { records = f.records; joined = f.joined ∙ ap (stream_of f.records) e; each = f.each; not_over = f.not_over; grows = f.grows }
+abbrev moved : (setup : Setup) (format : Format) (bytes rest after : List ℕ) (history : List Entry) → rest ≡ after → BeginsWithRecords setup format bytes rest history → BeginsWithRecords setup format bytes after history
+moved setup format bytes rest after history e f =
+    record { records = f.records; joined = f.joined ∙ ap (stream_of f.records) e; each = f.each; not_over = f.not_over; is_history = f.is_history }
 
 -- so far these records
-abbrev reached : (replay : Replay) (start : Start) (format : Format) (bytes : List ℕ) (unread w r : Option (List ℕ)) → Carried replay start format bytes unread w r → Reached start.setup format bytes unread
+abbrev reached : (replay : Replay) (start : ReplayStart) (format : Format) (bytes : List ℕ) (unread w r : Option (List ℕ)) → Carried replay start format bytes unread w r → ReadSoFar start.setup format bytes unread
 reached replay start format bytes unread w r c =
     record {
       ahead = replay.records.held;
       left = c.left;
       is_left = c.is_left;
-      story = c.story;
-      follows = moved start.setup format bytes c.rest (replay.records.held ++ c.left) c.story c.rest_is c.follows;
+      history = c.history;
+      follows = moved start.setup format bytes c.rest (replay.records.held ++ c.left) c.history c.rest_is c.follows;
     }
 
 stream_more : (records : List Captured) (last : Captured) (rest : List ℕ) → stream_of (records ++ last ∷ []) rest ≡ stream_of records (frame last ++ rest)
@@ -113,52 +113,52 @@ each_more format records last each is = All-append (IsRecord format) records (la
 -- ---- more records
 
 -- it told what it had to tell
-pub kept_up : (replay replay' : Replay) (start : Start) (format : Format) (a unread w w' r r' : Option (List ℕ)) → replay'.records ≡ replay.records → ((story : List Entry) → Plays replay start story w r → Plays replay' start story w' r')
+pub kept_up : (replay replay' : Replay) (start : ReplayStart) (format : Format) (a unread w w' r r' : Option (List ℕ)) → replay'.records ≡ replay.records → ((history : List Entry) → ReplayRepresents replay start history w r → ReplayRepresents replay' start history w' r')
     → IfSome a (λ bytes. Carried replay start format bytes unread w r) → IfSome a (λ bytes. Carried replay' start format bytes unread w' r')
-kept_up replay replay' start format None unread w w' r r' same plays c = tt
-kept_up replay replay' start format (Some bytes) unread w w' r r' same plays c =
+kept_up replay replay' start format None unread w w' r r' same replay_represents c = tt
+kept_up replay replay' start format (Some bytes) unread w w' r r' same replay_represents c =
     record {
       rest = c.rest;
       left = c.left;
       is_left = c.is_left;
-      rest_is = c.rest_is ∙ ap (λ (s : Seen). s.held ++ c.left) (sym same);
-      story = c.story;
+      rest_is = c.rest_is ∙ ap (λ (s : CaptureState). s.held ++ c.left) (sym same);
+      history = c.history;
       follows = c.follows;
-      counted = ap (λ (s : Seen). s.count) same ∙ c.counted;
-      latest_is = ap (λ (s : Seen). s.latest) same ∙ c.latest_is;
-      plays = plays c.story c.plays;
+      counted = ap (λ (s : CaptureState). s.count) same ∙ c.counted;
+      latest_is = ap (λ (s : CaptureState). s.latest) same ∙ c.latest_is;
+      replay_represents = replay_represents c.history c.replay_represents;
     }
 
 -- what is known of one more record
-record Further (start : Start) (format : Format) (bytes before : List ℕ) (after : Option (List ℕ)) (new : Seen) (taken : Recorded) (story : List Entry) : Type 0 where
+record Further (start : ReplayStart) (format : Format) (bytes before : List ℕ) (after : Option (List ℕ)) (new : CaptureState) (taken : Recorded) (history : List Entry) : Type 0 where
   captured : Captured
   is_record : IsRecord format captured
   rest : List ℕ
   joined : before ≡ frame captured ++ rest
-  left : Left new after rest
+  left : LeftDevices new after rest
   last_is : new.last ≡ Some taken
-  follows : (e : Entry) → Next start.setup story taken e → Follows start.setup format bytes rest (e ∷ story)
-  counted : (e : Entry) (n : Next start.setup story taken e) → new.count ≡ length (follows e n).records
-  latest_is : (e : Entry) (n : Next start.setup story taken e) → new.latest ≡ latest_after format 0 (follows e n).records
+  follows : (e : Entry) → Next start.setup history taken e → BeginsWithRecords start.setup format bytes rest (e ∷ history)
+  counted : (e : Entry) (n : Next start.setup history taken e) → new.count ≡ length (follows e n).records
+  latest_is : (e : Entry) (n : Next start.setup history taken e) → new.latest ≡ latest_after format 0 (follows e n).records
 
 -- what a call of `next` says of the reader
-pub record Fetched (old new : Seen) (before after : Option (List ℕ)) : Type 0 where
+pub record Fetched (old new : CaptureState) (before after : Option (List ℕ)) : Type 0 where
   pub at_end : old.ended ≡ true → IsAtEnd before
   pub takes : (part : List ℕ) × Consumes before after part
   pub drained : new.ended ≡ true → IsAtEnd after
 
-further : (replay : Replay) (new : Seen) (start : Start) (format : Format) (bytes : List ℕ) (unread after w r : Option (List ℕ)) (c : Carried replay start format bytes unread w r) → replay.records.format ≡ format
-    → Fetched replay.records new unread after → IfSome (ahead replay.records unread) (λ bytes. Says bytes (ahead new after) replay.records new (Ok true))
-    → (taken : Recorded) × Further start format bytes c.rest after new taken c.story
+further : (replay : Replay) (new : CaptureState) (start : ReplayStart) (format : Format) (bytes : List ℕ) (unread after w r : Option (List ℕ)) (c : Carried replay start format bytes unread w r) → replay.records.format ≡ format
+    → Fetched replay.records new unread after → IfSome (ahead replay.records unread) (λ bytes. NextAnswers bytes (ahead new after) replay.records new (Ok true))
+    → (taken : Recorded) × Further start format bytes c.rest after new taken c.history
 further replay new start format bytes unread after w r c same fetched says =
-    let reads : Reads c.rest (ahead new after) replay.records new = said replay start format bytes unread w r c (λ rest. Says rest (ahead new after) replay.records new (Ok true)) fetched.at_end says in
+    let reads : ReadsRecord c.rest (ahead new after) replay.records new = said replay start format bytes unread w r c (λ rest. NextAnswers rest (ahead new after) replay.records new (Ok true)) fetched.at_end says in
     let is : IsRecord format reads.captured = subst (λ (f : Format). IsRecord f reads.captured) same reads.is_record in
     let latest_now : new.latest ≡ max replay.records.latest (own_moment format reads.captured) = reads.latest_is ∙ ap (λ f. max replay.records.latest (own_moment f reads.captured)) same in
     let taken : Recorded = record { moment = new.latest; link = replay.records.format.link; bytes = reads.captured.bytes } in
     let taken_is : taken ≡ record { moment = max replay.records.latest (own_moment format reads.captured); link = format.link; bytes = reads.captured.bytes } =
     ap (λ m. record { moment = m; link = replay.records.format.link; bytes = reads.captured.bytes }) latest_now
     ∙ ap (λ (f : Format). record { moment = max replay.records.latest (own_moment format reads.captured); link = f.link; bytes = reads.captured.bytes }) same in
-    let tells : told format (c.follows.records ++ reads.captured ∷ []) ≡ told format c.follows.records ++ taken ∷ [] = told_more format c.follows.records reads.captured taken replay.records.latest c.latest_is taken_is in
+    let appends_report : decoded_records format (c.follows.records ++ reads.captured ∷ []) ≡ decoded_records format c.follows.records ++ taken ∷ [] = decoded_more format c.follows.records reads.captured taken replay.records.latest c.latest_is taken_is in
     let count_now : new.count ≡ length (c.follows.records ++ reads.captured ∷ []) = let e = c.counted in let f = reads.counted in omega (arith, e, f, length-append c.follows.records (reads.captured ∷ [])) in (
       taken,
       record {
@@ -173,7 +173,7 @@ further replay new start format bytes unread after w r c same fetched says =
           joined = c.follows.joined ∙ ap (stream_of c.follows.records) reads.joined ∙ sym (stream_more c.follows.records reads.captured reads.rest);
           each = each_more format c.follows.records reads.captured c.follows.each is;
           not_over = let e = c.counted in let f = reads.fewer in omega (arith, e, f, length-append c.follows.records (reads.captured ∷ []));
-          grows = subst (λ (rs : List Recorded). Grows start.setup [] rs (e ∷ c.story)) (sym tells) (grows_more start.setup [] (told format c.follows.records) taken c.story e c.follows.grows n);
+          is_history = subst (λ (rs : List Recorded). IsHistoryOf start.setup [] rs (e ∷ c.history)) (sym appends_report) (is_history_more start.setup [] (decoded_records format c.follows.records) taken c.history e c.follows.is_history n);
         };
         counted = λ e n. count_now;
         latest_is = λ e n. latest_now ∙ ap (λ n. max n (own_moment format reads.captured)) c.latest_is ∙ sym (latest_more format 0 c.follows.records reads.captured);
@@ -181,69 +181,69 @@ further replay new start format bytes unread after w r c same fetched says =
     )
 
 -- a record was read, and not yet taken
-abbrev pub read_on : Replay → Seen → Replay
+abbrev pub read_on : Replay → CaptureState → Replay
 read_on replay new = record { engine = replay.engine; numbers = replay.numbers; records = new; sink = replay.sink }
 
-still_plays : (replay : Replay) (new : Seen) (start : Start) (story : List Entry) (w r : Option (List ℕ)) → Plays replay start story w r → Plays (read_on replay new) start story w r
-still_plays replay new start story w r p = record { same = p.same; stands = p.stands; gets = p.gets; lines = p.lines; reports = p.reports; tells = p.tells }
+still_plays : (replay : Replay) (new : CaptureState) (start : ReplayStart) (history : List Entry) (w r : Option (List ℕ)) → ReplayRepresents replay start history w r → ReplayRepresents (read_on replay new) start history w r
+still_plays replay new start history w r p = record { same = p.same; represents = p.represents; gets = p.gets; lines = p.lines; reports = p.reports; appends_report = p.appends_report }
 
 -- one more record was taken
-pub more : (replay replay' : Replay) (new : Seen) (start : Start) (format : Format) (a unread after w w' r : Option (List ℕ)) → IfSome a (λ bytes. Carried replay start format bytes unread w r) → replay.records.format ≡ format
-    → Fetched replay.records new unread after → IfSome (ahead replay.records unread) (λ bytes. Says bytes (ahead new after) replay.records new (Ok true))
-    → ((story : List Entry) → Plays (read_on replay new) start story w r → IfSome new.last (λ taken. Took replay' start story taken w' r)) → replay'.records ≡ new
+pub more : (replay replay' : Replay) (new : CaptureState) (start : ReplayStart) (format : Format) (a unread after w w' r : Option (List ℕ)) → IfSome a (λ bytes. Carried replay start format bytes unread w r) → replay.records.format ≡ format
+    → Fetched replay.records new unread after → IfSome (ahead replay.records unread) (λ bytes. NextAnswers bytes (ahead new after) replay.records new (Ok true))
+    → ((history : List Entry) → ReplayRepresents (read_on replay new) start history w r → IfSome new.last (λ taken. TakesRecord replay' start history taken w' r)) → replay'.records ≡ new
     → IfSome a (λ bytes. Carried replay' start format bytes after w' r)
 more replay replay' new start format None unread after w w' r c same fetched says takes is = tt
 more replay replay' new start format (Some bytes) unread after w w' r c same fetched says takes is =
     let f = further replay new start format bytes unread after w r c same fetched says in
-    let t : Took replay' start c.story f.0 w' r =
-    known new.last f.0 (λ taken. Took replay' start c.story taken w' r) f.1.last_is (takes c.story (still_plays replay new start c.story w r c.plays)) in
+    let t : TakesRecord replay' start c.history f.0 w' r =
+    known new.last f.0 (λ taken. TakesRecord replay' start c.history taken w' r) f.1.last_is (takes c.history (still_plays replay new start c.history w r c.replay_represents)) in
     record {
       rest = f.1.rest;
       left = f.1.left.left;
       is_left = f.1.left.is_left;
-      rest_is = f.1.left.joined ∙ ap (λ (s : Seen). s.held ++ f.1.left.left) (sym is);
-      story = t.entry ∷ c.story;
+      rest_is = f.1.left.joined ∙ ap (λ (s : CaptureState). s.held ++ f.1.left.left) (sym is);
+      history = t.entry ∷ c.history;
       follows = f.1.follows t.entry t.next;
-      counted = ap (λ (s : Seen). s.count) is ∙ f.1.counted t.entry t.next;
-      latest_is = ap (λ (s : Seen). s.latest) is ∙ f.1.latest_is t.entry t.next;
-      plays = t.plays;
+      counted = ap (λ (s : CaptureState). s.count) is ∙ f.1.counted t.entry t.next;
+      latest_is = ap (λ (s : CaptureState). s.latest) is ∙ f.1.latest_is t.entry t.next;
+      replay_represents = t.replay_represents;
     }
 
 -- ---- it stops
 
 -- where what was read of the records was told in part
-pub halted : (replay : Replay) (start : Start) (format : Format) (a unread w w' r r' : Option (List ℕ)) → IfSome a (λ bytes. Carried replay start format bytes unread w r) → length replay.records.held ≤ READ_AHEAD
-    → ((story : List Entry) → Plays replay start story w r → PartTold start story w' r') → IfSome a (λ bytes. Halted start format bytes unread w' r')
+pub halted : (replay : Replay) (start : ReplayStart) (format : Format) (a unread w w' r r' : Option (List ℕ)) → IfSome a (λ bytes. Carried replay start format bytes unread w r) → length replay.records.held ≤ READ_AHEAD
+    → ((history : List Entry) → ReplayRepresents replay start history w r → PrefixWritten start history w' r') → IfSome a (λ bytes. HaltedByWrite start format bytes unread w' r')
 halted replay start format None unread w w' r r' c few part = tt
-halted replay start format (Some bytes) unread w w' r r' c few part = record { reached = reached replay start format bytes unread w r c; few = few; part = part c.story c.plays }
+halted replay start format (Some bytes) unread w w' r r' c few part = record { reached = reached replay start format bytes unread w r c; few = few; part = part c.history c.replay_represents }
 
 -- at a record
-pub halted_at : (replay : Replay) (new : Seen) (start : Start) (format : Format) (a unread after w w' r r' : Option (List ℕ)) → IfSome a (λ bytes. Carried replay start format bytes unread w r) → replay.records.format ≡ format
-    → Fetched replay.records new unread after → length new.held ≤ READ_AHEAD → IfSome (ahead replay.records unread) (λ bytes. Says bytes (ahead new after) replay.records new (Ok true))
-    → ((story : List Entry) → Plays (read_on replay new) start story w r → IfSome new.last (λ taken. Broke start story taken w' r'))
-    → IfSome a (λ bytes. Halted start format bytes after w' r')
+pub halted_at : (replay : Replay) (new : CaptureState) (start : ReplayStart) (format : Format) (a unread after w w' r r' : Option (List ℕ)) → IfSome a (λ bytes. Carried replay start format bytes unread w r) → replay.records.format ≡ format
+    → Fetched replay.records new unread after → length new.held ≤ READ_AHEAD → IfSome (ahead replay.records unread) (λ bytes. NextAnswers bytes (ahead new after) replay.records new (Ok true))
+    → ((history : List Entry) → ReplayRepresents (read_on replay new) start history w r → IfSome new.last (λ taken. BreaksAtRecord start history taken w' r'))
+    → IfSome a (λ bytes. HaltedByWrite start format bytes after w' r')
 halted_at replay new start format None unread after w w' r r' c same fetched few says breaks = tt
 halted_at replay new start format (Some bytes) unread after w w' r r' c same fetched few says breaks =
     let f = further replay new start format bytes unread after w r c same fetched says in
-    let b : Broke start c.story f.0 w' r' =
-    known new.last f.0 (λ taken. Broke start c.story taken w' r') f.1.last_is (breaks c.story (still_plays replay new start c.story w r c.plays)) in
+    let b : BreaksAtRecord start c.history f.0 w' r' =
+    known new.last f.0 (λ taken. BreaksAtRecord start c.history taken w' r') f.1.last_is (breaks c.history (still_plays replay new start c.history w r c.replay_represents)) in
     record {
       reached = record {
         ahead = new.held;
         left = f.1.left.left;
         is_left = f.1.left.is_left;
-        story = b.entry ∷ c.story;
-        follows = moved start.setup format bytes f.1.rest (new.held ++ f.1.left.left) (b.entry ∷ c.story) f.1.left.joined (f.1.follows b.entry b.next);
+        history = b.entry ∷ c.history;
+        follows = moved start.setup format bytes f.1.rest (new.held ++ f.1.left.left) (b.entry ∷ c.history) f.1.left.joined (f.1.follows b.entry b.next);
       };
       few = few;
       part = b.part;
     }
 
 -- at a record that there was no room to take, before which all was told
-pub lacks : (replay : Replay) (new : Seen) (start : Start) (format : Format) (a unread after w w' r r' : Option (List ℕ)) → IfSome a (λ bytes. Carried replay start format bytes unread w r) → replay.records.format ≡ format
-    → Fetched replay.records new unread after → length new.held ≤ READ_AHEAD → IfSome (ahead replay.records unread) (λ bytes. Says bytes (ahead new after) replay.records new (Ok true))
-    → ((story : List Entry) → Plays (read_on replay new) start story w r → AllTold start story w' r')
-    → IfSome a (λ bytes. Lacks start format bytes after w' r')
+pub lacks : (replay : Replay) (new : CaptureState) (start : ReplayStart) (format : Format) (a unread after w w' r r' : Option (List ℕ)) → IfSome a (λ bytes. Carried replay start format bytes unread w r) → replay.records.format ≡ format
+    → Fetched replay.records new unread after → length new.held ≤ READ_AHEAD → IfSome (ahead replay.records unread) (λ bytes. NextAnswers bytes (ahead new after) replay.records new (Ok true))
+    → ((history : List Entry) → ReplayRepresents (read_on replay new) start history w r → AllWritten start history w' r')
+    → IfSome a (λ bytes. CutByMemory start format bytes after w' r')
 lacks replay new start format None unread after w w' r r' c same fetched few says all = tt
 lacks replay new start format (Some bytes) unread after w w' r r' c same fetched few says all =
     let f = further replay new start format bytes unread after w r c same fetched says in
@@ -252,8 +252,8 @@ lacks replay new start format (Some bytes) unread after w w' r r' c same fetched
         ahead = frame f.1.captured ++ new.held;
         left = f.1.left.left;
         is_left = f.1.left.is_left;
-        story = c.story;
-        follows = moved start.setup format bytes c.rest ((frame f.1.captured ++ new.held) ++ f.1.left.left) c.story
+        history = c.history;
+        follows = moved start.setup format bytes c.rest ((frame f.1.captured ++ new.held) ++ f.1.left.left) c.history
             (f.1.joined ∙ ap (λ xs. frame f.1.captured ++ xs) f.1.left.joined ∙ sym (append_assoc (frame f.1.captured) new.held f.1.left.left)) c.follows;
       };
       untaken = f.1.captured;
@@ -261,43 +261,43 @@ lacks replay new start format (Some bytes) unread after w w' r r' c same fetched
       more = new.held;
       read = refl;
       few = few;
-      all = all c.story (still_plays replay new start c.story w r c.plays);
+      all = all c.history (still_plays replay new start c.history w r c.replay_represents);
     }
 
 -- at a read that fails, before which all was told
-part_ends : (format : Format) (count : ℕ) (held : List ℕ) → IsPart format count held → (torn : Bool) × Ends format (ending_of torn) count held
+part_ends : (format : Format) (count : ℕ) (held : List ℕ) → IsPartialRecord format count held → (torn : Bool) × Ends format (ending_of torn) count held
 part_ends format count held (inl whole) = (false, whole)
 part_ends format count held (inr torn) = (true, torn)
 
-pub cut : (replay replay' : Replay) (new : Seen) (start : Start) (format : Format) (a unread after w w' r r' : Option (List ℕ)) → IfSome a (λ bytes. Carried replay start format bytes unread w r) → replay'.records ≡ replay.records
-    → replay'.records.format ≡ format → Fetched replay'.records new unread after → length new.held ≤ READ_AHEAD → IfSome (ahead replay'.records unread) (λ bytes. Says bytes (ahead new after) replay'.records new (Err Device)) → new.format ≡ replay'.records.format
-    → new.count ≡ replay'.records.count → ((story : List Entry) → Plays replay start story w r → AllTold start story w' r')
-    → IfSome a (λ bytes. Cut start format bytes after w' r')
+pub cut : (replay replay' : Replay) (new : CaptureState) (start : ReplayStart) (format : Format) (a unread after w w' r r' : Option (List ℕ)) → IfSome a (λ bytes. Carried replay start format bytes unread w r) → replay'.records ≡ replay.records
+    → replay'.records.format ≡ format → Fetched replay'.records new unread after → length new.held ≤ READ_AHEAD → IfSome (ahead replay'.records unread) (λ bytes. NextAnswers bytes (ahead new after) replay'.records new (Err Device)) → new.format ≡ replay'.records.format
+    → new.count ≡ replay'.records.count → ((history : List Entry) → ReplayRepresents replay start history w r → AllWritten start history w' r')
+    → IfSome a (λ bytes. CutByRead start format bytes after w' r')
 cut replay replay' new start format None unread after w w' r r' c is same fetched few says kept count all = tt
 cut replay replay' new start format (Some bytes) unread after w w' r r' c is same fetched few says kept count all =
-    let b : Breaks c.rest (ahead new after) new =
-    known (ahead replay'.records unread) c.rest (λ rest. Says rest (ahead new after) replay'.records new (Err Device))
-    (ahead_is replay'.records unread c.left c.is_left fetched.at_end ∙ ap Some (ap (λ (s : Seen). s.held ++ c.left) is ∙ sym c.rest_is)) says in
+    let b : FailsBetween c.rest (ahead new after) new =
+    known (ahead replay'.records unread) c.rest (λ rest. NextAnswers rest (ahead new after) replay'.records new (Err Device))
+    (ahead_is replay'.records unread c.left c.is_left fetched.at_end ∙ ap Some (ap (λ (s : CaptureState). s.held ++ c.left) is ∙ sym c.rest_is)) says in
     let l = still_left new unread after c.left fetched.takes.0 c.rest c.is_left fetched.takes.1 fetched.drained b.lost_none in
-    let part : IsPart format (length c.follows.records) new.held =
-    subst (λ (n : ℕ). IsPart format n new.held) (count ∙ ap (λ (s : Seen). s.count) is ∙ c.counted) (subst (λ (f : Format). IsPart f new.count new.held) (kept ∙ same) b.part) in
+    let part : IsPartialRecord format (length c.follows.records) new.held =
+    subst (λ (n : ℕ). IsPartialRecord format n new.held) (count ∙ ap (λ (s : CaptureState). s.count) is ∙ c.counted) (subst (λ (f : Format). IsPartialRecord f new.count new.held) (kept ∙ same) b.part) in
     let ends = part_ends format (length c.follows.records) new.held part in
     record {
       reached = record {
         ahead = new.held;
         left = l.left;
         is_left = l.is_left;
-        story = c.story;
-        follows = moved start.setup format bytes c.rest (new.held ++ l.left) c.story l.joined c.follows;
+        history = c.history;
+        follows = moved start.setup format bytes c.rest (new.held ++ l.left) c.history l.joined c.follows;
       };
       few = few;
       torn = ends.0;
       ends = ends.1;
-      all = all c.story c.plays;
+      all = all c.history c.replay_represents;
     }
 
 -- where the bytes to come are no further record
-replayed : (replay : Replay) (new : Seen) (start : Start) (format : Format) (ending : Ending) (a unread after w r : Option (List ℕ)) → IfSome a (λ bytes. Carried replay start format bytes unread w r)
+replayed : (replay : Replay) (new : CaptureState) (start : ReplayStart) (format : Format) (ending : Ending) (a unread after w r : Option (List ℕ)) → IfSome a (λ bytes. Carried replay start format bytes unread w r)
     → Fetched replay.records new unread after → length new.held ≤ READ_AHEAD
     → IfSome (ahead replay.records unread) (λ rest. Ends format ending replay.records.count rest × (ahead new after ≡ Some rest)) → IfSome a (λ bytes. Replayed (read_on replay new) start format bytes ending after w r)
 replayed replay new start format ending None unread after w r c fetched few says = tt
@@ -310,12 +310,12 @@ replayed replay new start format ending (Some bytes) unread after w r c fetched 
         ahead = new.held;
         left = l.left;
         is_left = l.is_left;
-        story = c.story;
-        follows = moved start.setup format bytes c.rest (new.held ++ l.left) c.story l.joined c.follows;
+        history = c.history;
+        follows = moved start.setup format bytes c.rest (new.held ++ l.left) c.history l.joined c.follows;
       };
       few = few;
       ends = subst (Ends format ending (length c.follows.records)) l.joined (subst (λ (n : ℕ). Ends format ending n c.rest) c.counted s.0);
-      plays = still_plays replay new start c.story w r c.plays;
+      replay_represents = still_plays replay new start c.history w r c.replay_represents;
     }
 
 -- in the format that is known
@@ -323,9 +323,9 @@ in_format : (f g : Format) (ending : Ending) (count : ℕ) (o after : Option (Li
 in_format f g ending count o after e h = subst (λ (x : Format). IfSome o (λ bytes. Ends x ending count bytes × (after ≡ Some bytes))) e h
 
 -- at the end of the bytes
-pub ended : (replay : Replay) (new : Seen) (start : Start) (format : Format) (a unread after w r : Option (List ℕ)) → IfSome a (λ bytes. Carried replay start format bytes unread w r) → replay.records.format ≡ format
+pub ended : (replay : Replay) (new : CaptureState) (start : ReplayStart) (format : Format) (a unread after w r : Option (List ℕ)) → IfSome a (λ bytes. Carried replay start format bytes unread w r) → replay.records.format ≡ format
     → Fetched replay.records new unread after → length new.held ≤ READ_AHEAD
-    → IfSome (ahead replay.records unread) (λ bytes. Says bytes (ahead new after) replay.records new (Ok false)) → IfSome a (λ bytes. Replayed (read_on replay new) start format bytes (ending_at None) after w r)
+    → IfSome (ahead replay.records unread) (λ bytes. NextAnswers bytes (ahead new after) replay.records new (Ok false)) → IfSome a (λ bytes. Replayed (read_on replay new) start format bytes (ending_at None) after w r)
 ended replay new start format a unread after w r c same fetched few says =
     replayed replay new start format Whole a unread after w r c fetched few
     (in_format replay.records.format format Whole replay.records.count (ahead replay.records unread) (ahead new after) same
@@ -341,9 +341,9 @@ stops captures.Version is = absurd is
 stops captures.LinkType is = absurd is
 
 -- at a fault of the records
-pub refused : (replay : Replay) (new : Seen) (start : Start) (format : Format) (fault : CaptureFault) (a unread after w r : Option (List ℕ)) → IsOfRecords (Refused fault)
+pub refused : (replay : Replay) (new : CaptureState) (start : ReplayStart) (format : Format) (fault : CaptureFault) (a unread after w r : Option (List ℕ)) → IsOfRecords (Refused fault)
     → IfSome a (λ bytes. Carried replay start format bytes unread w r) → replay.records.format ≡ format → Fetched replay.records new unread after → length new.held ≤ READ_AHEAD
-    → IfSome (ahead replay.records unread) (λ bytes. Says bytes (ahead new after) replay.records new (Err (Refused fault))) → IfSome a (λ bytes. Replayed (read_on replay new) start format bytes (ending_at (Some fault)) after w r)
+    → IfSome (ahead replay.records unread) (λ bytes. NextAnswers bytes (ahead new after) replay.records new (Err (Refused fault))) → IfSome a (λ bytes. Replayed (read_on replay new) start format bytes (ending_at (Some fault)) after w r)
 refused replay new start format captures.TornEnd a unread after w r is c same fetched few says =
     replayed replay new start format Torn a unread after w r c fetched few (in_format replay.records.format format Torn replay.records.count (ahead replay.records unread) (ahead new after) same says)
 refused replay new start format captures.Malformed a unread after w r is c same fetched few says =
@@ -366,16 +366,16 @@ torn_only captures.LinkType torn e = cc
 -- ---- by the fault
 
 -- a read failed
-pub interrupts_cut : (start : Start) (format : Format) (a unread w r : Option (List ℕ)) (before after : ℕ) → after ≡ one_more before → IfSome a (λ bytes. Cut start format bytes unread w r)
+pub interrupts_cut : (start : ReplayStart) (format : Format) (a unread w r : Option (List ℕ)) (before after : ℕ) → after ≡ one_more before → IfSome a (λ bytes. CutByRead start format bytes unread w r)
     → IfSome a (λ bytes. Interrupts start format bytes unread w r before after faults.Device)
-interrupts_cut start format a unread w r before after failed h = IfSome_weaker a (λ bytes. Cut start format bytes unread w r) (λ bytes. Interrupts start format bytes unread w r before after faults.Device) (λ bytes c. inl (c, failed)) h
+interrupts_cut start format a unread w r before after failed h = IfSome_weaker a (λ bytes. CutByRead start format bytes unread w r) (λ bytes. Interrupts start format bytes unread w r before after faults.Device) (λ bytes c. inl (c, failed)) h
 
 -- a writer failed
-pub interrupts_halted : (start : Start) (format : Format) (a unread w r : Option (List ℕ)) (before after : ℕ) → after ≡ before → IfSome a (λ bytes. Halted start format bytes unread w r)
+pub interrupts_halted : (start : ReplayStart) (format : Format) (a unread w r : Option (List ℕ)) (before after : ℕ) → after ≡ before → IfSome a (λ bytes. HaltedByWrite start format bytes unread w r)
     → IfSome a (λ bytes. Interrupts start format bytes unread w r before after faults.Device)
-interrupts_halted start format a unread w r before after calm h = IfSome_weaker a (λ bytes. Halted start format bytes unread w r) (λ bytes. Interrupts start format bytes unread w r before after faults.Device) (λ bytes c. inr (c, calm)) h
+interrupts_halted start format a unread w r before after no_failure h = IfSome_weaker a (λ bytes. HaltedByWrite start format bytes unread w r) (λ bytes. Interrupts start format bytes unread w r before after faults.Device) (λ bytes c. inr (c, no_failure)) h
 
 -- there was no room for a record
-pub interrupts_lacks : (start : Start) (format : Format) (a unread w r : Option (List ℕ)) (before after : ℕ) → after ≡ before → IfSome a (λ bytes. Lacks start format bytes unread w r)
+pub interrupts_lacks : (start : ReplayStart) (format : Format) (a unread w r : Option (List ℕ)) (before after : ℕ) → after ≡ before → IfSome a (λ bytes. CutByMemory start format bytes unread w r)
     → IfSome a (λ bytes. Interrupts start format bytes unread w r before after faults.Memory)
-interrupts_lacks start format a unread w r before after calm h = IfSome_weaker a (λ bytes. Lacks start format bytes unread w r) (λ bytes. Interrupts start format bytes unread w r before after faults.Memory) (λ bytes c. (c, calm)) h
+interrupts_lacks start format a unread w r before after no_failure h = IfSome_weaker a (λ bytes. CutByMemory start format bytes unread w r) (λ bytes. Interrupts start format bytes unread w r before after faults.Memory) (λ bytes c. (c, no_failure)) h

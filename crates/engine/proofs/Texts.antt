@@ -5,11 +5,11 @@ use Rattle.pcap_io.specs.declared.format.Format.{Format}
 use Rattle.pcap_io.specs.declared.fault.CaptureFault.{CaptureFault}
 use Rattle.pcap_io.specs.declared.fault.CaptureFault.TheVariants as captures
 use Rattle.pcap_io.specs.Pcap.{Ending, Ends}
-use Rattle.pcap_io.specs.Seen.{Seen, READ_AHEAD}
+use Rattle.pcap_io.specs.CaptureStates.{CaptureState, READ_AHEAD}
 use Rattle.pcap_io.specs.Sll2.{sll2_header}
-use Rattle.pcap_io.specs.Counting.{AppendsPart, one_more}
-use Rattle.story.specs.Story.{Entry, capture_text}
-use Rattle.story.specs.Setup.{Setup}
+use Rattle.pcap_io.specs.Counting.{AppendsPrefix, one_more}
+use Rattle.history.specs.History.{Entry, capture_text}
+use Rattle.history.specs.Setup.{Setup}
 use Rattle.engine.specs.declared.fault.RunFault.{RunFault}
 use Rattle.engine.specs.declared.fault.RunFault.TheVariants.{Rules, Box, Capture, Device, Memory}
 use Rattle.pcap_io.specs.declared.counted.Counted.{Counted}
@@ -20,10 +20,10 @@ use Rattle.list_laws.specs.Options.{IfSome_weaker}
 use Rattle.engine.specs.declared.replay.Replay.{Replay}
 use Rattle.engine.specs.Meaning.{ending_of}
 use Rattle.engine.specs.Refusals.{IsOfRecord, fault_at}
-use Rattle.engine.specs.Left.{Devices, OneFailed, Untouched}
-use Rattle.engine.specs.steps.Replayed.{AllTold, Halted, Interrupts, IsStop, OneOfTwo, PartTold, Plays, Replayed, Start, coming, ending_at}
-use Rattle.engine.specs.steps.Written.{Ended, Finished, IsWithin, SaysWithin, Told, Unfinished, start_of, torn_at}
-use Rattle.engine.proofs.Stories.{story_length}
+use Rattle.engine.specs.AfterFault.{Devices, OneFailed, Untouched}
+use Rattle.engine.specs.steps.Replayed.{AllWritten, HaltedByWrite, Interrupts, IsStop, OneOfTwo, PrefixWritten, ReplayRepresents, Replayed, ReplayStart, unread_input, ending_at}
+use Rattle.engine.specs.steps.Written.{FinishFails, OutputsFinished, IsWithin, FaultLeaves, OutputsWritten, ReportUnfinished, start_of, torn_at}
+use Rattle.engine.proofs.Histories.{history_length}
 use Rattle.engine.proofs.Known.{nothing}
 
 -- what is Ok is no Err, whatever it holds
@@ -52,18 +52,18 @@ torn_capture (Some captures.LinkType) = tt
 from_stop : (stop : Option CaptureFault) (fault : RunFault) (P : RunFault → Type 0) → torn_at stop ≡ Err fault → IfErr (torn_at stop) P → P fault
 from_stop stop fault P e h = let Q : Result Bool RunFault → Type 0 = λ r. IfErr r P in subst Q e h
 
-pub ended_stop : (start : Start) (story : List Entry) (stop : Option CaptureFault) (w r : Option (List ℕ)) (before after : ℕ) (fault : RunFault) → torn_at stop ≡ Err fault → AllTold start story w r
-    → Ended start story stop w r before after fault
-ended_stop start story stop w r before after (Capture fault) e all = (e, all)
-ended_stop start story stop w r before after (Rules fault) e all = absurd (from_stop stop (Rules fault) IsCapture e (torn_capture stop))
-ended_stop start story stop w r before after (Box fault) e all = absurd (from_stop stop (Box fault) IsCapture e (torn_capture stop))
-ended_stop start story stop w r before after Device e all = absurd (from_stop stop Device IsCapture e (torn_capture stop))
-ended_stop start story stop w r before after Memory e all = absurd (from_stop stop Memory IsCapture e (torn_capture stop))
+pub ended_stop : (start : ReplayStart) (history : List Entry) (stop : Option CaptureFault) (w r : Option (List ℕ)) (before after : ℕ) (fault : RunFault) → torn_at stop ≡ Err fault → AllWritten start history w r
+    → FinishFails start history stop w r before after fault
+ended_stop start history stop w r before after (Capture fault) e all = (e, all)
+ended_stop start history stop w r before after (Rules fault) e all = absurd (from_stop stop (Rules fault) IsCapture e (torn_capture stop))
+ended_stop start history stop w r before after (Box fault) e all = absurd (from_stop stop (Box fault) IsCapture e (torn_capture stop))
+ended_stop start history stop w r before after Device e all = absurd (from_stop stop Device IsCapture e (torn_capture stop))
+ended_stop start history stop w r before after Memory e all = absurd (from_stop stop Memory IsCapture e (torn_capture stop))
 
-pub ended_device : (start : Start) (story : List Entry) (stop : Option CaptureFault) (torn : Bool) (w r : Option (List ℕ)) (before after : ℕ) → torn_at stop ≡ Ok torn → PartTold start story w r ⊎ (Unfinished start story torn w r × (after ≡ one_more before))
-    → Ended start story stop w r before after Device
-ended_device start story stop torn w r before after e (inl part) = inl part
-ended_device start story stop torn w r before after e (inr (u, failed)) = inr (torn, e, u, failed)
+pub ended_device : (start : ReplayStart) (history : List Entry) (stop : Option CaptureFault) (torn : Bool) (w r : Option (List ℕ)) (before after : ℕ) → torn_at stop ≡ Ok torn → PrefixWritten start history w r ⊎ (ReportUnfinished start history torn w r × (after ≡ one_more before))
+    → FinishFails start history stop w r before after Device
+ended_device start history stop torn w r before after e (inl part) = inl part
+ended_device start history stop torn w r before after e (inr (u, failed)) = inr (torn, e, u, failed)
 
 within_stop : (stop : Option CaptureFault) → IsStop stop → IfErr (torn_at stop) IsWithin
 within_stop None is = tt
@@ -110,8 +110,8 @@ ending_torn (Some captures.LinkType) torn e = cc
 -- ---- before the first record
 
 -- nothing but a beginning of the header was written
-pub halted_open : (start : Start) (s : Seen) (unread w r : Option (List ℕ)) → length s.held ≤ READ_AHEAD → start.report ≡ r → AppendsPart start.sent w sll2_header
-    → IfSome (coming s unread) (λ bytes. Halted start s.format bytes unread w r)
+pub halted_open : (start : ReplayStart) (s : CaptureState) (unread w r : Option (List ℕ)) → length s.held ≤ READ_AHEAD → start.report ≡ r → AppendsPrefix start.sent w sll2_header
+    → IfSome (unread_input s unread) (λ bytes. HaltedByWrite start s.format bytes unread w r)
 halted_open start s None w r few same part = tt
 halted_open start s (Some left) w r few same part =
     record {
@@ -119,13 +119,13 @@ halted_open start s (Some left) w r few same part =
         ahead = s.held;
         left = left;
         is_left = refl;
-        story = [];
-        follows = record { records = []; joined = refl; each = λ k d lt. absurd (omega (arith, lt)); not_over = omega arith; grows = refl };
+        history = [];
+        follows = record { records = []; joined = refl; each = λ k d lt. absurd (omega (arith, lt)); not_over = omega arith; is_history = refl };
       };
       few = few;
       part = record {
         part_sent = part_same start.sent w sll2_header (capture_text []) part (sym (append-nil sll2_header));
-        part_lines = subst (λ (x : Option (List ℕ)). AppendsPart start.report x []) same (part_none start.report []);
+        part_lines = subst (λ (x : Option (List ℕ)). AppendsPrefix start.report x []) same (part_none start.report []);
       };
     }
 
@@ -175,45 +175,45 @@ refused_by_none (Rules fault) refused e = refused
 refused_by_none (Box fault) refused e = refused
 refused_by_none (Capture fault) refused e = cc
 
-pub says_interrupted : (setup : Setup) (trace : Bool) (format : Format) (a : Option (List ℕ)) (old new : Devices) (fault : RunFault)
-    → IfSome a (λ bytes. Interrupts (start_of setup trace old) format bytes new.unread new.sent new.report old.reads_failed new.reads_failed fault) → IfSome a (λ bytes. SaysWithin setup trace format bytes old new fault)
-says_interrupted setup trace format None old new fault h = tt
-says_interrupted setup trace format (Some bytes) old new Device h = inl h
-says_interrupted setup trace format (Some bytes) old new Memory h = inl h
-says_interrupted setup trace format (Some bytes) old new (Rules fault) h = absurd h
-says_interrupted setup trace format (Some bytes) old new (Box fault) h = absurd h
-says_interrupted setup trace format (Some bytes) old new (Capture fault) h = absurd h
+pub fault_leaves_interrupted : (setup : Setup) (trace : Bool) (format : Format) (a : Option (List ℕ)) (old new : Devices) (fault : RunFault)
+    → IfSome a (λ bytes. Interrupts (start_of setup trace old) format bytes new.unread new.sent new.report old.reads_failed new.reads_failed fault) → IfSome a (λ bytes. FaultLeaves setup trace format bytes old new fault)
+fault_leaves_interrupted setup trace format None old new fault h = tt
+fault_leaves_interrupted setup trace format (Some bytes) old new Device h = inl h
+fault_leaves_interrupted setup trace format (Some bytes) old new Memory h = inl h
+fault_leaves_interrupted setup trace format (Some bytes) old new (Rules fault) h = absurd h
+fault_leaves_interrupted setup trace format (Some bytes) old new (Box fault) h = absurd h
+fault_leaves_interrupted setup trace format (Some bytes) old new (Capture fault) h = absurd h
 
 -- writers that are as they were hold what they held
 pub untouched : {W : Type 0} (contents : W → Option (List ℕ)) (old new : Counted W) (r : Option (List ℕ)) → new ≡ old → Keeps (contents old.inner) (contents new.inner) × Keeps r r
 untouched {W = W} contents old new r e = (subst (λ (x : Counted W). Keeps (contents old.inner) (contents x.inner)) (sym e) (Keeps-refl (contents old.inner)), Keeps-refl r)
 
 -- before the first record: a beginning of the header was written, or there was no room
-pub says_begun : {T : Type 0} (setup : Setup) (trace : Bool) (s : Seen) (old new : Devices) (fault : RunFault) → IsErrOf {T = T} (Err fault) Device ⊎ IsErrOf {T = T} (Err fault) Memory → length s.held ≤ READ_AHEAD
-    → new.unread ≡ old.unread → new.reads_failed ≡ old.reads_failed → old.report ≡ new.report → AppendsPart old.sent new.sent sll2_header → (fault ≡ Memory → Untouched old new)
-    → IfSome (coming s old.unread) (λ bytes. SaysWithin setup trace s.format bytes old new fault)
-says_begun setup trace s old new Device is few same calm kept part none =
-    IfSome_weaker (coming s old.unread) (λ bytes. Halted (start_of setup trace old) s.format bytes old.unread new.sent new.report) (λ bytes. SaysWithin setup trace s.format bytes old new Device)
-    (λ bytes h. inl (inr (subst (λ (u : Option (List ℕ)). Halted (start_of setup trace old) s.format bytes u new.sent new.report) (sym same) h, calm))) (halted_open (start_of setup trace old) s old.unread new.sent new.report few kept part)
-says_begun setup trace s old new Memory is few same calm kept part none = nothing (coming s old.unread) (λ bytes. SaysWithin setup trace s.format bytes old new Memory) (λ bytes. inr (same, none refl, calm))
-says_begun setup trace s old new (Rules fault) (inl e) few same calm kept part none = cc
-says_begun setup trace s old new (Rules fault) (inr e) few same calm kept part none = cc
-says_begun setup trace s old new (Box fault) (inl e) few same calm kept part none = cc
-says_begun setup trace s old new (Box fault) (inr e) few same calm kept part none = cc
-says_begun setup trace s old new (Capture fault) (inl e) few same calm kept part none = cc
-says_begun setup trace s old new (Capture fault) (inr e) few same calm kept part none = cc
+pub fault_leaves_begun : {T : Type 0} (setup : Setup) (trace : Bool) (s : CaptureState) (old new : Devices) (fault : RunFault) → IsErrOf {T = T} (Err fault) Device ⊎ IsErrOf {T = T} (Err fault) Memory → length s.held ≤ READ_AHEAD
+    → new.unread ≡ old.unread → new.reads_failed ≡ old.reads_failed → old.report ≡ new.report → AppendsPrefix old.sent new.sent sll2_header → (fault ≡ Memory → Untouched old new)
+    → IfSome (unread_input s old.unread) (λ bytes. FaultLeaves setup trace s.format bytes old new fault)
+fault_leaves_begun setup trace s old new Device is few same no_failure kept part none =
+    IfSome_weaker (unread_input s old.unread) (λ bytes. HaltedByWrite (start_of setup trace old) s.format bytes old.unread new.sent new.report) (λ bytes. FaultLeaves setup trace s.format bytes old new Device)
+    (λ bytes h. inl (inr (subst (λ (u : Option (List ℕ)). HaltedByWrite (start_of setup trace old) s.format bytes u new.sent new.report) (sym same) h, no_failure))) (halted_open (start_of setup trace old) s old.unread new.sent new.report few kept part)
+fault_leaves_begun setup trace s old new Memory is few same no_failure kept part none = nothing (unread_input s old.unread) (λ bytes. FaultLeaves setup trace s.format bytes old new Memory) (λ bytes. inr (same, none refl, no_failure))
+fault_leaves_begun setup trace s old new (Rules fault) (inl e) few same no_failure kept part none = cc
+fault_leaves_begun setup trace s old new (Rules fault) (inr e) few same no_failure kept part none = cc
+fault_leaves_begun setup trace s old new (Box fault) (inl e) few same no_failure kept part none = cc
+fault_leaves_begun setup trace s old new (Box fault) (inr e) few same no_failure kept part none = cc
+fault_leaves_begun setup trace s old new (Capture fault) (inl e) few same no_failure kept part none = cc
+fault_leaves_begun setup trace s old new (Capture fault) (inr e) few same no_failure kept part none = cc
 
 -- a fault after the last record
-pub says_ended : (replay : Replay) (setup : Setup) (trace : Bool) (format : Format) (a w r : Option (List ℕ)) (stop : Option CaptureFault) (old new : Devices) (before : ℕ) (fault : RunFault) → IsStop stop
+pub fault_leaves_ended : (replay : Replay) (setup : Setup) (trace : Bool) (format : Format) (a w r : Option (List ℕ)) (stop : Option CaptureFault) (old new : Devices) (before : ℕ) (fault : RunFault) → IsStop stop
     → (fault ≡ Device) ⊎ (torn_at stop ≡ Err fault) → new.reads_failed ≡ old.reads_failed → before ≡ old.reports_failed
-    → ((story : List Entry) → Plays replay (start_of setup trace old) story w r → Ended (start_of setup trace old) story stop new.sent new.report before new.reports_failed fault)
-    → IfSome a (λ bytes. Replayed replay (start_of setup trace old) format bytes (ending_at stop) new.unread w r) → IfSome a (λ bytes. SaysWithin setup trace format bytes old new fault)
-says_ended replay setup trace format None w r stop old new before fault is why calm same ends i = tt
-says_ended replay setup trace format (Some bytes) w r stop old new before (Rules fault) is why calm same ends i = absurd (ends i.reached.story i.plays)
-says_ended replay setup trace format (Some bytes) w r stop old new before (Box fault) is why calm same ends i = absurd (ends i.reached.story i.plays)
-says_ended replay setup trace format (Some bytes) w r stop old new before Memory is why calm same ends i = absurd (ends i.reached.story i.plays)
-says_ended replay setup trace format (Some bytes) w r stop old new before (Capture fault) is why calm same ends i =
-    let e = ends i.reached.story i.plays in (
+    → ((history : List Entry) → ReplayRepresents replay (start_of setup trace old) history w r → FinishFails (start_of setup trace old) history stop new.sent new.report before new.reports_failed fault)
+    → IfSome a (λ bytes. Replayed replay (start_of setup trace old) format bytes (ending_at stop) new.unread w r) → IfSome a (λ bytes. FaultLeaves setup trace format bytes old new fault)
+fault_leaves_ended replay setup trace format None w r stop old new before fault is why no_failure same ends i = tt
+fault_leaves_ended replay setup trace format (Some bytes) w r stop old new before (Rules fault) is why no_failure same ends i = absurd (ends i.reached.history i.replay_represents)
+fault_leaves_ended replay setup trace format (Some bytes) w r stop old new before (Box fault) is why no_failure same ends i = absurd (ends i.reached.history i.replay_represents)
+fault_leaves_ended replay setup trace format (Some bytes) w r stop old new before Memory is why no_failure same ends i = absurd (ends i.reached.history i.replay_represents)
+fault_leaves_ended replay setup trace format (Some bytes) w r stop old new before (Capture fault) is why no_failure same ends i =
+    let e = ends i.reached.history i.replay_represents in (
       record {
         reached = i.reached;
         few = i.few;
@@ -222,12 +222,12 @@ says_ended replay setup trace format (Some bytes) w r stop old new before (Captu
         ends = i.ends;
         all = e.1;
       },
-      calm,
+      no_failure,
     )
-says_ended replay setup trace format (Some bytes) w r stop old new before Device is why calm same ends i = by_call (ends i.reached.story i.plays)
+fault_leaves_ended replay setup trace format (Some bytes) w r stop old new before Device is why no_failure same ends i = by_call (ends i.reached.history i.replay_represents)
   where
-    by_call : Ended (start_of setup trace old) i.reached.story stop new.sent new.report before new.reports_failed Device → SaysWithin setup trace format bytes old new Device
-    by_call (inl part) = inl (inr (record { reached = i.reached; few = i.few; part = part }, calm))
+    by_call : FinishFails (start_of setup trace old) i.reached.history stop new.sent new.report before new.reports_failed Device → FaultLeaves setup trace format bytes old new Device
+    by_call (inl part) = inl (inr (record { reached = i.reached; few = i.few; part = part }, no_failure))
     by_call (inr u) =
         inr (
           record {
@@ -241,14 +241,14 @@ says_ended replay setup trace format (Some bytes) w r stop old new before Device
         )
 
 -- all is done
-pub told_all : (replay : Replay) (start : Start) (format : Format) (a unread w w' r r' : Option (List ℕ)) (stop : Option CaptureFault) (torn : Bool) (count : ℕ) → torn_at stop ≡ Ok torn → count ≡ replay.numbers.records
-    → ((story : List Entry) → Plays replay start story w r → Finished start story torn w' r')
-    → IfSome a (λ bytes. Replayed replay start format bytes (ending_at stop) unread w r) → IfSome a (λ bytes. Told start format bytes count torn unread w' r')
-told_all replay start format None unread w w' r r' stop torn count is counted finishes i = tt
-told_all replay start format (Some bytes) unread w w' r r' stop torn count is counted finishes i =
+pub all_written : (replay : Replay) (start : ReplayStart) (format : Format) (a unread w w' r r' : Option (List ℕ)) (stop : Option CaptureFault) (torn : Bool) (count : ℕ) → torn_at stop ≡ Ok torn → count ≡ replay.numbers.records
+    → ((history : List Entry) → ReplayRepresents replay start history w r → OutputsFinished start history torn w' r')
+    → IfSome a (λ bytes. Replayed replay start format bytes (ending_at stop) unread w r) → IfSome a (λ bytes. OutputsWritten start format bytes count torn unread w' r')
+all_written replay start format None unread w w' r r' stop torn count is counted finishes i = tt
+all_written replay start format (Some bytes) unread w w' r r' stop torn count is counted finishes i =
     record {
       reached = i.reached;
       ends = subst (λ (x : Ending). Ends format x (length i.reached.follows.records) (i.reached.ahead ++ i.reached.left)) (ending_torn stop torn is) i.ends;
-      counted = counted ∙ i.plays.reports.records ∙ story_length start.setup format i.reached.follows.records i.reached.story i.reached.follows.grows;
-      finished = finishes i.reached.story i.plays;
+      counted = counted ∙ i.replay_represents.reports.records ∙ history_length start.setup format i.reached.follows.records i.reached.history i.reached.follows.is_history;
+      finished = finishes i.reached.history i.replay_represents;
     }

@@ -17,9 +17,9 @@ pub record Judged (rules box : List ℕ) (counts : Counts) : Type 0 where
   pub all_rules : counts.rules ≡ min (rule_count texts.tables) (2 ^ 64 - 1)
 
 -- the first that is refused: the rules' text, the box file, the rules' tree; or there was no room
-abbrev pub Misjudged : List ℕ → List ℕ → RunFault → Type 0
-Misjudged rules box (Rules fault) = IsFaulty rules box fault
-Misjudged rules box (Box fault) = RefusesBox rules box fault
-Misjudged rules box Memory = Unit {0}
-Misjudged rules box (Capture fault) = ⊥
-Misjudged rules box Device = ⊥
+abbrev pub JudgeRefuses : List ℕ → List ℕ → RunFault → Type 0
+JudgeRefuses rules box (Rules fault) = IsFaulty rules box fault
+JudgeRefuses rules box (Box fault) = RefusesBox rules box fault
+JudgeRefuses rules box Memory = Unit {0}
+JudgeRefuses rules box (Capture fault) = ⊥
+JudgeRefuses rules box Device = ⊥

@@ -1,5 +1,5 @@
 pub mod Meaning
 pub mod Refusals
 pub mod Judged
-pub mod Left
+pub mod AfterFault
 pub mod steps

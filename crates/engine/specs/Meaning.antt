@@ -3,11 +3,11 @@ use Rattle.std.specs.Prelude.{◌≡◌, ℕ, Bool, true, false, List, [], lengt
 use Rattle.std.specs.Io.KnownBytes.{Appends}
 use Rattle.nft_parser.specs.Spells.{Spells}
 use Rattle.box_file.specs.Box.{IsBox}
-use Rattle.pcap_io.specs.Pcap.{Captured, Pcap, Ending, Whole, Torn, told}
-use Rattle.story.specs.Story.{Entry, capture_text}
+use Rattle.pcap_io.specs.Pcap.{Captured, Pcap, Ending, Whole, Torn, decoded_records}
+use Rattle.history.specs.History.{Entry, capture_text}
 use Rattle.report.specs.Report.{report_text}
-use Rattle.story.specs.Setup.{Setup}
-use Rattle.stepping.specs.Next.{Grows}
+use Rattle.history.specs.Setup.{Setup}
+use Rattle.stepping.specs.Next.{IsHistoryOf}
 use Rattle.rule_check.specs.WellFormed.{WellFormed}
 
 -- both texts are accepted: the first spells a ruleset in which nothing is wrong on the box that the second spells
@@ -29,19 +29,19 @@ pub record Meaning (rules box capture : List ℕ) (trace : Bool) (count : ℕ) (
   pub records : List Captured
   pub read : Pcap capture records (ending_of torn)
   pub counted : count ≡ length records
-  pub story : List Entry
-  pub grows : Grows accepted.setup [] (told read.format records) story
-  pub captured : sent ≡ capture_text story
-  pub reported : report ≡ report_text accepted.setup trace story torn
+  pub history : List Entry
+  pub is_history : IsHistoryOf accepted.setup [] (decoded_records read.format records) history
+  pub captured : sent ≡ capture_text history
+  pub reported : report ≡ report_text accepted.setup trace history torn
 
 -- the writers got the two texts of the meaning, and there is no other meaning
-pub record Wrote (rules box capture : List ℕ) (trace : Bool) (count : ℕ) (torn : Bool)
+pub record WroteOutputs (rules box capture : List ℕ) (trace : Bool) (count : ℕ) (torn : Bool)
     (old new old_report new_report : Option (List ℕ)) : Type 0 where
   pub sent : List ℕ
   pub report : List ℕ
   pub meaning : Meaning rules box capture trace count torn sent report
-  pub only : (others : ℕ) (sign : Bool) (capture_text report_text : List ℕ)
-      → Meaning rules box capture trace others sign capture_text report_text
-      → (others ≡ count) × (sign ≡ torn) × (capture_text ≡ sent) × (report_text ≡ report)
+  pub only : (others : ℕ) (other_torn : Bool) (capture_text report_text : List ℕ)
+      → Meaning rules box capture trace others other_torn capture_text report_text
+      → (others ≡ count) × (other_torn ≡ torn) × (capture_text ≡ sent) × (report_text ≡ report)
   pub appends : Appends old new sent
-  pub tells : Appends old_report new_report report
+  pub appends_report : Appends old_report new_report report

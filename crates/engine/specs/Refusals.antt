@@ -11,7 +11,7 @@ use Rattle.engine.specs.declared.fault.RulesFault.{RulesFault}
 use Rattle.engine.specs.declared.fault.RulesFault.TheVariants.{Text, Check}
 use Rattle.engine.specs.declared.fault.RunFault.{RunFault}
 use Rattle.engine.specs.declared.fault.RunFault.TheVariants.{Rules, Box, Capture, Device, Memory}
-use Rattle.rule_check.specs.WellFormed.{Least}
+use Rattle.rule_check.specs.WellFormed.{LeastFault}
 use Rattle.engine.specs.Meaning.{Accepted}
 
 -- the two texts spell this ruleset and this box
@@ -25,7 +25,7 @@ pub record Spelled (rules box : List ℕ) : Type 0 where
 -- with its tree on the box
 abbrev pub IsFaulty : List ℕ → List ℕ → RulesFault → Type 0
 IsFaulty rules box (Text fault) = HasTextFault rules fault
-IsFaulty rules box (Check fault) = (texts : Spelled rules box) × Least fault texts.tables texts.plant
+IsFaulty rules box (Check fault) = (texts : Spelled rules box) × LeastFault fault texts.tables texts.plant
 
 -- the box file is refused, where the rules' text is accepted
 abbrev pub RefusesBox : List ℕ → List ℕ → BoxFault → Type 0
@@ -85,14 +85,14 @@ IsOfRecord Device = ⊥
 IsOfRecord Memory = ⊥
 
 -- a fault that is told before the capture's header is accepted
-abbrev pub IsEarly : RunFault → Type 0
-IsEarly (Rules fault) = Unit {0}
-IsEarly (Box fault) = Unit {0}
-IsEarly (Capture captures.TornEnd) = Unit {0}
-IsEarly (Capture captures.Magic) = Unit {0}
-IsEarly (Capture captures.Version) = Unit {0}
-IsEarly (Capture captures.LinkType) = Unit {0}
-IsEarly (Capture captures.Malformed) = ⊥
-IsEarly (Capture captures.TooMany) = ⊥
-IsEarly Device = ⊥
-IsEarly Memory = ⊥
+abbrev pub IsBeforeHeader : RunFault → Type 0
+IsBeforeHeader (Rules fault) = Unit {0}
+IsBeforeHeader (Box fault) = Unit {0}
+IsBeforeHeader (Capture captures.TornEnd) = Unit {0}
+IsBeforeHeader (Capture captures.Magic) = Unit {0}
+IsBeforeHeader (Capture captures.Version) = Unit {0}
+IsBeforeHeader (Capture captures.LinkType) = Unit {0}
+IsBeforeHeader (Capture captures.Malformed) = ⊥
+IsBeforeHeader (Capture captures.TooMany) = ⊥
+IsBeforeHeader Device = ⊥
+IsBeforeHeader Memory = ⊥

@@ -5,7 +5,7 @@ ghost use Rattle.nft_parser.specs.Spells.{Spells, HasTextFault};
 ghost use Rattle.nft_parser.specs.declared.fault.TextFault.{TextFault};
 ghost use Rattle.box_file.specs.Box.{IsBox, HasBoxFault};
 ghost use Rattle.box_file.specs.declared.fault.BoxFault.{BoxFault};
-ghost use Rattle.engine.specs.Judged.{Misjudged};
+ghost use Rattle.engine.specs.Judged.{JudgeRefuses};
 ghost use Rattle.engine.specs.declared.fault.RulesFault.{RulesFault};
 ghost use Rattle.engine.specs.declared.fault.RunFault.{RunFault};
 ghost use Rattle.engine.specs.steps.Inputs.{IsChecked};
@@ -20,7 +20,7 @@ use std::alloc::Global;
 /// The ruleset and the box that the texts spell, in which nothing is wrong.
 pub(crate) fn checked(alloc: Global, rules: &[u8], plant: &[u8]) -> Result<Checked, RunFault>
     ensures fine { IfOk result (λ checked. IsChecked rules.now plant.now checked) }
-    ensures refused { IfErr result (λ fault. Misjudged rules.now plant.now fault) }
+    ensures refused { IfErr result (λ fault. JudgeRefuses rules.now plant.now fault) }
 {
     let ruleset = ruleset(alloc, rules)?;
     let plant = forwarding_box(alloc, plant)?;

@@ -1,6 +1,6 @@
 //! A ruleset judged before it is loaded.
 ghost use Rattle.std.specs.Prelude.{IfOk, IfErr};
-ghost use Rattle.engine.specs.Judged.{Judged, Misjudged};
+ghost use Rattle.engine.specs.Judged.{Judged, JudgeRefuses};
 
 use crate::fault::RunFault;
 use crate::inputs::checked;
@@ -21,7 +21,7 @@ pub struct Counts {
 /// least that is wrong with the ruleset on the box; `Memory` where there was no room to judge it.
 pub fn judge(alloc: Global, rules: &[u8], plant: &[u8]) -> Result<Counts, RunFault>
     ensures accepted { IfOk result (λ counts. Judged rules.now plant.now counts) }
-    ensures refused { IfErr result (λ fault. Misjudged rules.now plant.now fault) }
+    ensures refused { IfErr result (λ fault. JudgeRefuses rules.now plant.now fault) }
 {
     let checked = checked(alloc, rules, plant)?;
     let tree = checked.tree();

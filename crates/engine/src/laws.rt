@@ -4,22 +4,22 @@
 ghost use Rattle.std.specs.Prelude.{◌≡◌, ◌⊎◌, List, ℕ, Bool, Some};
 ghost use Rattle.engine.specs.declared.fault.RunFault.{RunFault};
 ghost use Rattle.engine.specs.declared.judging.Counts.{Counts};
-ghost use Rattle.engine.specs.Judged.{Judged, Misjudged};
+ghost use Rattle.engine.specs.Judged.{Judged, JudgeRefuses};
 ghost use Rattle.engine.specs.Meaning.{Meaning};
 ghost use Rattle.engine.specs.Refusals.{IsOfTexts, IsRefusal, Refuses};
 
 use box_file::{one_box, some_box};
 use nft_parser::{one_fault, one_tree};
 use pcap_io::{one_reading, some_reading};
-use rule_check::{one_judgement, some_judgement};
+use rule_check::{least_fault_unique, well_formed_or_least_fault};
 use stepping::one_entry;
 
 /// Two texts and a capture mean at most one count of records, one kind of end, one capture and
 /// one report.
 pub fn one_meaning()
-    ensures { (rules box capture : List ℕ) (trace : Bool) (count others : ℕ) (torn sign : Bool) (sent other_sent report other_report : List ℕ)
-        → Meaning rules box capture trace count torn sent report → Meaning rules box capture trace others sign other_sent other_report
-        → (count ≡ others) × (torn ≡ sign) × (sent ≡ other_sent) × (report ≡ other_report) }
+    ensures { (rules box capture : List ℕ) (trace : Bool) (count others : ℕ) (torn other_torn : Bool) (sent other_sent report other_report : List ℕ)
+        → Meaning rules box capture trace count torn sent report → Meaning rules box capture trace others other_torn other_sent other_report
+        → (count ≡ others) × (torn ≡ other_torn) × (sent ≡ other_sent) × (report ≡ other_report) }
 {
     one_tree();
     one_box();
@@ -34,7 +34,7 @@ pub fn one_refusal()
 {
     one_tree();
     one_fault();
-    one_judgement();
+    least_fault_unique();
     one_box();
     one_reading();
 }
@@ -46,7 +46,7 @@ pub fn no_meaning()
 {
     one_tree();
     one_fault();
-    one_judgement();
+    least_fault_unique();
     one_box();
     one_reading();
 }
@@ -59,7 +59,7 @@ pub fn some_answer()
 {
     nft_parser::some_answer();
     some_box();
-    some_judgement();
+    well_formed_or_least_fault();
     some_reading();
     one_entry();
 }
@@ -68,21 +68,21 @@ pub fn some_answer()
 /// and never both.
 pub fn one_judging()
     ensures counts { (rules box : List ℕ) (counts other : Counts) → Judged rules box counts → Judged rules box other → counts ≡ other }
-    ensures fault { (rules box : List ℕ) (fault other : RunFault) → IsOfTexts fault → IsOfTexts other → Misjudged rules box fault → Misjudged rules box other → fault ≡ other }
-    ensures apart { (rules box : List ℕ) (counts : Counts) (fault : RunFault) → IsOfTexts fault → Judged rules box counts → Misjudged rules box fault → ⊥ }
+    ensures fault { (rules box : List ℕ) (fault other : RunFault) → IsOfTexts fault → IsOfTexts other → JudgeRefuses rules box fault → JudgeRefuses rules box other → fault ≡ other }
+    ensures apart { (rules box : List ℕ) (counts : Counts) (fault : RunFault) → IsOfTexts fault → Judged rules box counts → JudgeRefuses rules box fault → ⊥ }
 {
     one_tree();
     one_fault();
-    one_judgement();
+    least_fault_unique();
     one_box();
     one_reading();
 }
 
 /// Two texts are judged, or refused for a fault.
 pub fn some_judging()
-    ensures { (rules box : List ℕ) → ((counts : Counts) × Judged rules box counts) ⊎ ((fault : RunFault) × IsOfTexts fault × Misjudged rules box fault) }
+    ensures { (rules box : List ℕ) → ((counts : Counts) × Judged rules box counts) ⊎ ((fault : RunFault) × IsOfTexts fault × JudgeRefuses rules box fault) }
 {
     nft_parser::some_answer();
     some_box();
-    some_judgement();
+    well_formed_or_least_fault();
 }

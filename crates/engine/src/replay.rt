@@ -1,19 +1,19 @@
 //! The records of a capture, one after another.
 ghost use Rattle.std.specs.Prelude.{◌≡◌, ◌≢◌, ◌<◌, ◌≤◌, ◌+◌, ◌⊎◌, [], Bool, List, ℕ, Option, true, false, Ok, Err, None, IfOk, IfErr, IfSome, IsErrOf, OnOk, OnErr, length};
 ghost use Rattle.std.specs.Io.KnownBytes.{IsAtEnd};
-ghost use Rattle.pcap_io.specs.Counting.{AppendsPart, one_more};
-ghost use Rattle.pcap_io.specs.Seen.{READ_AHEAD, is_ready};
+ghost use Rattle.pcap_io.specs.Counting.{AppendsPrefix, one_more};
+ghost use Rattle.pcap_io.specs.CaptureStates.{READ_AHEAD, is_ready};
 ghost use Rattle.pcap_io.specs.Sll2.{sll2_header};
-ghost use Rattle.pcap_io.specs.Waiting.{Gets};
+ghost use Rattle.pcap_io.specs.Buffering.{AppendsBuffered};
 ghost use Rattle.nft_tree.specs.Tree.{tables_of};
-ghost use Rattle.report.specs.Standing.{Reports};
-ghost use Rattle.stepping.specs.Stands.{Stands};
-ghost use Rattle.story.specs.Story.{Entry};
+ghost use Rattle.report.specs.Representing.{IsReportOf};
+ghost use Rattle.stepping.specs.Representing.{Represents};
+ghost use Rattle.history.specs.History.{Entry};
 ghost use Rattle.engine.specs.declared.fault.RunFault.{RunFault};
-ghost use Rattle.engine.specs.Left.{OneFailed};
+ghost use Rattle.engine.specs.AfterFault.{OneFailed};
 ghost use Rattle.engine.specs.Refusals.{IsOfRecord};
-ghost use Rattle.engine.specs.steps.Replayed.{AllTold, Broke, Interrupts, IsStop, OneOfTwo, PartTold, Plays, Replayed, Start, Took, coming, ending_at};
-ghost use Rattle.engine.specs.steps.Written.{Ended, Finished, IsWithin, SaysWithin, Told, Unfinished, torn_at};
+ghost use Rattle.engine.specs.steps.Replayed.{AllWritten, BreaksAtRecord, Interrupts, IsStop, OneOfTwo, PrefixWritten, ReplayRepresents, Replayed, ReplayStart, TakesRecord, unread_input, ending_at};
+ghost use Rattle.engine.specs.steps.Written.{FinishFails, OutputsFinished, IsWithin, FaultLeaves, OutputsWritten, ReportUnfinished, torn_at};
 
 use crate::fault::RunFault;
 use crate::runs::Summary;
@@ -26,7 +26,7 @@ use std::io::{Read, Write};
 use stepping::{Engine, one_entry};
 
 /// How many notes may wait until they are written.
-const MOST_WAITING: usize = 4096;
+const MOST_PENDING: usize = 4096;
 
 /// A run among the records of its capture.
 pub(crate) struct Replay {
@@ -63,11 +63,11 @@ impl Outputs {
         trace: bool,
         sent: &mut Counted<W>,
     ) -> Result<Outputs, RunFault>
-        ensures fresh { IfOk result (λ outputs. Reports outputs.numbers (tables_of rules.now) trace [] []) }
-        ensures gets { IfOk result (λ outputs. Gets [] (W.contents sent.old.inner) (W.contents sent.new.inner) outputs.sink.waiting sll2_header) }
-        ensures part { OnErr result (AppendsPart (W.contents sent.old.inner) (W.contents sent.new.inner) sll2_header) }
+        ensures fresh { IfOk result (λ outputs. IsReportOf outputs.numbers (tables_of rules.now) trace [] []) }
+        ensures gets { IfOk result (λ outputs. AppendsBuffered [] (W.contents sent.old.inner) (W.contents sent.new.inner) outputs.sink.buffered sll2_header) }
+        ensures part { OnErr result (AppendsPrefix (W.contents sent.old.inner) (W.contents sent.new.inner) sll2_header) }
         ensures kinds { OnErr result (IsErrOf result RunFault.Device ⊎ IsErrOf result RunFault.Memory) }
-        ensures calm { result ≢ Err RunFault.Device → sent.new.failures ≡ sent.old.failures }
+        ensures no_failure { result ≢ Err RunFault.Device → sent.new.failures ≡ sent.old.failures }
         ensures device { IsErrOf result RunFault.Device → sent.new.failures ≡ one_more sent.old.failures }
         ensures memory { IsErrOf result RunFault.Memory → sent.new ≡ sent.old }
     {
@@ -90,12 +90,12 @@ impl Replay {
         trace: bool,
         sent: &mut Counted<W>,
     ) -> Result<Self, RunFault>
-        requires stands { Stands engine [] }
+        requires represents { Represents engine [] }
         ensures same { IfOk result (λ replay. (replay.engine ≡ engine) × (replay.records ≡ records) × (replay.numbers.records ≡ 0)) }
-        ensures plays { (report : Option (List ℕ)) → IfOk result (λ replay. Plays replay (record { setup = engine.setup; trace = trace; sent = W.contents sent.old.inner; report = report }) [] (W.contents sent.new.inner) report) }
-        ensures part { OnErr result (AppendsPart (W.contents sent.old.inner) (W.contents sent.new.inner) sll2_header) }
+        ensures replay_represents { (report : Option (List ℕ)) → IfOk result (λ replay. ReplayRepresents replay (record { setup = engine.setup; trace = trace; sent = W.contents sent.old.inner; report = report }) [] (W.contents sent.new.inner) report) }
+        ensures part { OnErr result (AppendsPrefix (W.contents sent.old.inner) (W.contents sent.new.inner) sll2_header) }
         ensures kinds { OnErr result (IsErrOf result RunFault.Device ⊎ IsErrOf result RunFault.Memory) }
-        ensures calm { result ≢ Err RunFault.Device → sent.new.failures ≡ sent.old.failures }
+        ensures no_failure { result ≢ Err RunFault.Device → sent.new.failures ≡ sent.old.failures }
         ensures device { IsErrOf result RunFault.Device → sent.new.failures ≡ one_more sent.old.failures }
         ensures memory { IsErrOf result RunFault.Memory → sent.new ≡ sent.old }
     {
@@ -112,7 +112,7 @@ impl Replay {
     /// is done before each read. Answers the fault of the capture that the records stop at, none at
     /// their end. `Err` is `Device`; or `Memory` where there was no room to take a record, and then
     /// what was done before it is written and flushed.
-    pub(crate) fn play<R: Read, W: Write, W2: Write>(
+    pub(crate) fn replay_records<R: Read, W: Write, W2: Write>(
         &mut self,
         capture: &mut Counted<R>,
         sent: &mut Counted<W>,
@@ -120,24 +120,24 @@ impl Replay {
     ) -> Result<Option<CaptureFault>, RunFault>
         requires fresh { (self.old.records.fault ≡ None) × (self.old.records.count ≡ 0) × (self.old.records.latest ≡ 0) }
         requires none { self.old.numbers.records ≡ 0 }
-        requires stands { Stands self.old.engine [] }
+        requires represents { Represents self.old.engine [] }
         requires few { length self.old.records.held ≤ READ_AHEAD }
         requires drained { self.old.records.ended ≡ true → IsAtEnd (R.remaining capture.old.inner) }
-        ensures ok { (start : Start) → Plays self.old start [] (W.contents sent.old.inner) (W2.contents report.old.inner)
-            → IfOk result (λ stop. IfSome (coming self.old.records (R.remaining capture.old.inner)) (λ bytes.
+        ensures ok { (start : ReplayStart) → ReplayRepresents self.old start [] (W.contents sent.old.inner) (W2.contents report.old.inner)
+            → IfOk result (λ stop. IfSome (unread_input self.old.records (R.remaining capture.old.inner)) (λ bytes.
             Replayed self.new start self.old.records.format bytes (ending_at stop) (R.remaining capture.new.inner) (W.contents sent.new.inner) (W2.contents report.new.inner))) }
         ensures stop { IfOk result IsStop }
         ensures drained { IfOk result (λ stop. (torn : Bool) → torn_at stop ≡ Ok torn → IsAtEnd (R.remaining capture.new.inner)) }
-        ensures interrupted { (start : Start) → Plays self.old start [] (W.contents sent.old.inner) (W2.contents report.old.inner)
-            → IfErr result (λ fault. IfSome (coming self.old.records (R.remaining capture.old.inner)) (λ bytes.
+        ensures interrupted { (start : ReplayStart) → ReplayRepresents self.old start [] (W.contents sent.old.inner) (W2.contents report.old.inner)
+            → IfErr result (λ fault. IfSome (unread_input self.old.records (R.remaining capture.old.inner)) (λ bytes.
             Interrupts start self.old.records.format bytes (R.remaining capture.new.inner) (W.contents sent.new.inner) (W2.contents report.new.inner) capture.old.failures capture.new.failures fault)) }
         ensures flushed { IsErrOf result RunFault.Memory → (sent.new.is_flushed ≡ true) × (report.new.is_flushed ≡ true) }
         ensures kinds { OnErr result (IsErrOf result RunFault.Device ⊎ IsErrOf result RunFault.Memory) }
-        ensures calm { result ≢ Err RunFault.Device → (capture.new.failures ≡ capture.old.failures) × (sent.new.failures ≡ sent.old.failures) × (report.new.failures ≡ report.old.failures) }
+        ensures no_failure { result ≢ Err RunFault.Device → (capture.new.failures ≡ capture.old.failures) × (sent.new.failures ≡ sent.old.failures) × (report.new.failures ≡ report.old.failures) }
         ensures device { IsErrOf result RunFault.Device → OneFailed capture.old.failures capture.new.failures sent.old.failures sent.new.failures report.old.failures report.new.failures }
     {
         'each: loop {
-            self.keep_up(sent, report)?;
+            self.flush_before_read(sent, report)?;
             match self.records.next(capture) {
                 Ok(true) => {}
                 Ok(false) => return Ok(None),
@@ -155,40 +155,40 @@ impl Replay {
 
     /// Tells what is done where the next record has to be read first, so that whoever waits for it
     /// sees all, and where much waits to be told.
-    fn keep_up<W: Write, W2: Write>(
+    fn flush_before_read<W: Write, W2: Write>(
         &mut self,
         sent: &mut Counted<W>,
         report: &mut Counted<W2>,
     ) -> Result<(), DeviceFailed>
-        ensures ok { (start : Start) (story : List Entry) → Plays self.old start story (W.contents sent.old.inner) (W2.contents report.old.inner)
-            → OnOk result (Plays self.new start story (W.contents sent.new.inner) (W2.contents report.new.inner)) }
+        ensures ok { (start : ReplayStart) (history : List Entry) → ReplayRepresents self.old start history (W.contents sent.old.inner) (W2.contents report.old.inner)
+            → OnOk result (ReplayRepresents self.new start history (W.contents sent.new.inner) (W2.contents report.new.inner)) }
         // No read comes before all is told.
-        ensures told { (start : Start) (story : List Entry) → Plays self.old start story (W.contents sent.old.inner) (W2.contents report.old.inner)
-            → is_ready self.old.records ≡ false → OnOk result (AllTold start story (W.contents sent.new.inner) (W2.contents report.new.inner)) }
-        ensures part { (start : Start) (story : List Entry) → Plays self.old start story (W.contents sent.old.inner) (W2.contents report.old.inner)
-            → OnErr result (PartTold start story (W.contents sent.new.inner) (W2.contents report.new.inner)) }
+        ensures told { (start : ReplayStart) (history : List Entry) → ReplayRepresents self.old start history (W.contents sent.old.inner) (W2.contents report.old.inner)
+            → is_ready self.old.records ≡ false → OnOk result (AllWritten start history (W.contents sent.new.inner) (W2.contents report.new.inner)) }
+        ensures part { (start : ReplayStart) (history : List Entry) → ReplayRepresents self.old start history (W.contents sent.old.inner) (W2.contents report.old.inner)
+            → OnErr result (PrefixWritten start history (W.contents sent.new.inner) (W2.contents report.new.inner)) }
         ensures same { (self.new.engine ≡ self.old.engine) × (self.new.records ≡ self.old.records) × (self.new.numbers.records ≡ self.old.numbers.records) }
-        ensures calm { OnOk result ((sent.new.failures ≡ sent.old.failures) × (report.new.failures ≡ report.old.failures)) }
+        ensures no_failure { OnOk result ((sent.new.failures ≡ sent.old.failures) × (report.new.failures ≡ report.old.failures)) }
         ensures device { OnErr result (OneOfTwo sent.old.failures sent.new.failures report.old.failures report.new.failures) }
     {
-        if self.records.is_ready() && self.numbers.waits() <= MOST_WAITING {
+        if self.records.is_ready() && self.numbers.pending() <= MOST_PENDING {
             return Ok(());
         }
-        self.tell(sent, report)
+        self.write_pending(sent, report)
     }
 
     /// Writes what waits of the packets, and the lines of what is noted.
-    fn tell<W: Write, W2: Write>(
+    fn write_pending<W: Write, W2: Write>(
         &mut self,
         sent: &mut Counted<W>,
         report: &mut Counted<W2>,
     ) -> Result<(), DeviceFailed>
-        ensures ok { (start : Start) (story : List Entry) → Plays self.old start story (W.contents sent.old.inner) (W2.contents report.old.inner)
-            → OnOk result (Plays self.new start story (W.contents sent.new.inner) (W2.contents report.new.inner) × AllTold start story (W.contents sent.new.inner) (W2.contents report.new.inner)) }
-        ensures part { (start : Start) (story : List Entry) → Plays self.old start story (W.contents sent.old.inner) (W2.contents report.old.inner)
-            → OnErr result (PartTold start story (W.contents sent.new.inner) (W2.contents report.new.inner)) }
+        ensures ok { (start : ReplayStart) (history : List Entry) → ReplayRepresents self.old start history (W.contents sent.old.inner) (W2.contents report.old.inner)
+            → OnOk result (ReplayRepresents self.new start history (W.contents sent.new.inner) (W2.contents report.new.inner) × AllWritten start history (W.contents sent.new.inner) (W2.contents report.new.inner)) }
+        ensures part { (start : ReplayStart) (history : List Entry) → ReplayRepresents self.old start history (W.contents sent.old.inner) (W2.contents report.old.inner)
+            → OnErr result (PrefixWritten start history (W.contents sent.new.inner) (W2.contents report.new.inner)) }
         ensures same { (self.new.engine ≡ self.old.engine) × (self.new.records ≡ self.old.records) × (self.new.numbers.records ≡ self.old.numbers.records) }
-        ensures calm { OnOk result ((sent.new.failures ≡ sent.old.failures) × (report.new.failures ≡ report.old.failures)) }
+        ensures no_failure { OnOk result ((sent.new.failures ≡ sent.old.failures) × (report.new.failures ≡ report.old.failures)) }
         ensures device { OnErr result (OneOfTwo sent.old.failures sent.new.failures report.old.failures report.new.failures) }
     {
         self.sink.send(sent)?;
@@ -202,13 +202,13 @@ impl Replay {
         sent: &mut Counted<W>,
         report: &mut Counted<W2>,
     ) -> Result<(), DeviceFailed>
-        ensures ok { (start : Start) (story : List Entry) → Plays self.old start story (W.contents sent.old.inner) (W2.contents report.old.inner)
-            → OnOk result (AllTold start story (W.contents sent.new.inner) (W2.contents report.new.inner)) }
-        ensures part { (start : Start) (story : List Entry) → Plays self.old start story (W.contents sent.old.inner) (W2.contents report.old.inner)
-            → OnErr result (PartTold start story (W.contents sent.new.inner) (W2.contents report.new.inner)) }
+        ensures ok { (start : ReplayStart) (history : List Entry) → ReplayRepresents self.old start history (W.contents sent.old.inner) (W2.contents report.old.inner)
+            → OnOk result (AllWritten start history (W.contents sent.new.inner) (W2.contents report.new.inner)) }
+        ensures part { (start : ReplayStart) (history : List Entry) → ReplayRepresents self.old start history (W.contents sent.old.inner) (W2.contents report.old.inner)
+            → OnErr result (PrefixWritten start history (W.contents sent.new.inner) (W2.contents report.new.inner)) }
         ensures flushed { OnOk result ((sent.new.is_flushed ≡ true) × (report.new.is_flushed ≡ true)) }
         ensures records { self.new.numbers.records ≡ self.old.numbers.records }
-        ensures calm { OnOk result ((sent.new.failures ≡ sent.old.failures) × (report.new.failures ≡ report.old.failures)) }
+        ensures no_failure { OnOk result ((sent.new.failures ≡ sent.old.failures) × (report.new.failures ≡ report.old.failures)) }
         ensures device { OnErr result (OneOfTwo sent.old.failures sent.new.failures report.old.failures report.new.failures) }
     {
         self.sink.finish(sent)?;
@@ -224,17 +224,17 @@ impl Replay {
     fn take<W: Write>(&mut self, sent: &mut Counted<W>) -> Result<bool, DeviceFailed>
         requires read { self.old.records.last ≢ None }
         requires few { (self.old.engine.records < 4294967296) × (self.old.numbers.records < 4294967296) }
-        requires stands { (story : List Entry) × Stands self.old.engine story }
-        ensures ok { (start : Start) (story : List Entry) (report : Option (List ℕ)) → Plays self.old start story (W.contents sent.old.inner) report
-            → result ≡ Ok true → IfSome self.old.records.last (λ taken. Took self.new start story taken (W.contents sent.new.inner) report) }
-        ensures kept { (start : Start) (story : List Entry) (report : Option (List ℕ)) → Plays self.old start story (W.contents sent.old.inner) report
-            → result ≡ Ok false → Plays self.new start story (W.contents sent.new.inner) report }
-        ensures broken { (start : Start) (story : List Entry) (report : Option (List ℕ)) → Plays self.old start story (W.contents sent.old.inner) report
-            → result ≢ Ok true → IfSome self.old.records.last (λ taken. Broke start story taken (W.contents sent.new.inner) report) }
-        ensures stands { result ≡ Ok true → (story : List Entry) × Stands self.new.engine story }
+        requires represents { (history : List Entry) × Represents self.old.engine history }
+        ensures ok { (start : ReplayStart) (history : List Entry) (report : Option (List ℕ)) → ReplayRepresents self.old start history (W.contents sent.old.inner) report
+            → result ≡ Ok true → IfSome self.old.records.last (λ taken. TakesRecord self.new start history taken (W.contents sent.new.inner) report) }
+        ensures kept { (start : ReplayStart) (history : List Entry) (report : Option (List ℕ)) → ReplayRepresents self.old start history (W.contents sent.old.inner) report
+            → result ≡ Ok false → ReplayRepresents self.new start history (W.contents sent.new.inner) report }
+        ensures broken { (start : ReplayStart) (history : List Entry) (report : Option (List ℕ)) → ReplayRepresents self.old start history (W.contents sent.old.inner) report
+            → result ≢ Ok true → IfSome self.old.records.last (λ taken. BreaksAtRecord start history taken (W.contents sent.new.inner) report) }
+        ensures represents { result ≡ Ok true → (history : List Entry) × Represents self.new.engine history }
         ensures counted { result ≡ Ok true → (self.new.engine.records ≡ self.old.engine.records + 1) × (self.new.numbers.records ≡ self.old.numbers.records + 1) }
         ensures same { self.new.records ≡ self.old.records }
-        ensures calm { OnOk result (sent.new.failures ≡ sent.old.failures) }
+        ensures no_failure { OnOk result (sent.new.failures ≡ sent.old.failures) }
         ensures device { OnErr result (sent.new.failures ≡ one_more sent.old.failures) }
     {
         // A record that can't be taken has an entry too.
@@ -267,20 +267,20 @@ impl Replay {
 
     /// Writes what is left of both texts, the lines that come after the last record too, and flushes
     /// both writers.
-    fn conclude<W: Write, W2: Write>(
+    fn finish_outputs<W: Write, W2: Write>(
         &mut self,
         torn: bool,
         sent: &mut Counted<W>,
         report: &mut Counted<W2>,
     ) -> Result<(), DeviceFailed>
-        ensures ok { (start : Start) (story : List Entry) → Plays self.old start story (W.contents sent.old.inner) (W2.contents report.old.inner)
-            → OnOk result (Finished start story torn (W.contents sent.new.inner) (W2.contents report.new.inner)) }
-        ensures part { (start : Start) (story : List Entry) → Plays self.old start story (W.contents sent.old.inner) (W2.contents report.old.inner)
-            → OnErr result (PartTold start story (W.contents sent.new.inner) (W2.contents report.new.inner)
-            ⊎ (Unfinished start story torn (W.contents sent.new.inner) (W2.contents report.new.inner) × (report.new.failures ≡ one_more report.old.failures))) }
+        ensures ok { (start : ReplayStart) (history : List Entry) → ReplayRepresents self.old start history (W.contents sent.old.inner) (W2.contents report.old.inner)
+            → OnOk result (OutputsFinished start history torn (W.contents sent.new.inner) (W2.contents report.new.inner)) }
+        ensures part { (start : ReplayStart) (history : List Entry) → ReplayRepresents self.old start history (W.contents sent.old.inner) (W2.contents report.old.inner)
+            → OnErr result (PrefixWritten start history (W.contents sent.new.inner) (W2.contents report.new.inner)
+            ⊎ (ReportUnfinished start history torn (W.contents sent.new.inner) (W2.contents report.new.inner) × (report.new.failures ≡ one_more report.old.failures))) }
         ensures flushed { OnOk result ((sent.new.is_flushed ≡ true) × (report.new.is_flushed ≡ true)) }
         ensures records { self.new.numbers.records ≡ self.old.numbers.records }
-        ensures calm { OnOk result ((sent.new.failures ≡ sent.old.failures) × (report.new.failures ≡ report.old.failures)) }
+        ensures no_failure { OnOk result ((sent.new.failures ≡ sent.old.failures) × (report.new.failures ≡ report.old.failures)) }
         ensures device { OnErr result (OneOfTwo sent.old.failures sent.new.failures report.old.failures report.new.failures) }
     {
         self.sink.finish(sent)?;
@@ -299,19 +299,19 @@ impl Replay {
         report: &mut Counted<W2>,
     ) -> Result<bool, RunFault>
         ensures torn { IfOk result (λ torn. torn_at stop ≡ Ok torn) }
-        ensures ok { (start : Start) (story : List Entry) → Plays self.old start story (W.contents sent.old.inner) (W2.contents report.old.inner)
-            → IfOk result (λ torn. Finished start story torn (W.contents sent.new.inner) (W2.contents report.new.inner)) }
+        ensures ok { (start : ReplayStart) (history : List Entry) → ReplayRepresents self.old start history (W.contents sent.old.inner) (W2.contents report.old.inner)
+            → IfOk result (λ torn. OutputsFinished start history torn (W.contents sent.new.inner) (W2.contents report.new.inner)) }
         ensures flushed { result ≢ Err RunFault.Device → (sent.new.is_flushed ≡ true) × (report.new.is_flushed ≡ true) }
-        ensures ended { (start : Start) (story : List Entry) → Plays self.old start story (W.contents sent.old.inner) (W2.contents report.old.inner)
-            → IfErr result (Ended start story stop (W.contents sent.new.inner) (W2.contents report.new.inner) report.old.failures report.new.failures) }
+        ensures ended { (start : ReplayStart) (history : List Entry) → ReplayRepresents self.old start history (W.contents sent.old.inner) (W2.contents report.old.inner)
+            → IfErr result (FinishFails start history stop (W.contents sent.new.inner) (W2.contents report.new.inner) report.old.failures report.new.failures) }
         ensures kinds { IfErr result (λ fault. (fault ≡ RunFault.Device) ⊎ (torn_at stop ≡ Err fault)) }
         ensures records { self.new.numbers.records ≡ self.old.numbers.records }
-        ensures calm { result ≢ Err RunFault.Device → (sent.new.failures ≡ sent.old.failures) × (report.new.failures ≡ report.old.failures) }
+        ensures no_failure { result ≢ Err RunFault.Device → (sent.new.failures ≡ sent.old.failures) × (report.new.failures ≡ report.old.failures) }
         ensures device { IsErrOf result RunFault.Device → OneOfTwo sent.old.failures sent.new.failures report.old.failures report.new.failures }
     {
         match torn_at(stop) {
             Ok(torn) => {
-                self.conclude(torn, sent, report)?;
+                self.finish_outputs(torn, sent, report)?;
                 Ok(torn)
             }
             Err(fault) => {
@@ -330,26 +330,26 @@ impl Replay {
     ) -> Result<Summary, RunFault>
         requires fresh { (self.old.records.fault ≡ None) × (self.old.records.count ≡ 0) × (self.old.records.latest ≡ 0) }
         requires none { self.old.numbers.records ≡ 0 }
-        requires stands { Stands self.old.engine [] }
+        requires represents { Represents self.old.engine [] }
         requires few { length self.old.records.held ≤ READ_AHEAD }
         requires drained { self.old.records.ended ≡ true → IsAtEnd (R.remaining capture.old.inner) }
-        ensures ok { (start : Start) → Plays self.old start [] (W.contents sent.old.inner) (W2.contents report.old.inner)
-            → IfOk result (λ summary. IfSome (coming self.old.records (R.remaining capture.old.inner)) (λ bytes.
-            Told start self.old.records.format bytes summary.records summary.torn (R.remaining capture.new.inner) (W.contents sent.new.inner) (W2.contents report.new.inner))) }
+        ensures ok { (start : ReplayStart) → ReplayRepresents self.old start [] (W.contents sent.old.inner) (W2.contents report.old.inner)
+            → IfOk result (λ summary. IfSome (unread_input self.old.records (R.remaining capture.old.inner)) (λ bytes.
+            OutputsWritten start self.old.records.format bytes summary.records summary.torn (R.remaining capture.new.inner) (W.contents sent.new.inner) (W2.contents report.new.inner))) }
         ensures drained { OnOk result (IsAtEnd (R.remaining capture.new.inner)) }
         ensures flushed { OnOk result ((sent.new.is_flushed ≡ true) × (report.new.is_flushed ≡ true)) }
         ensures refused { IfErr result (λ fault. IsOfRecord fault → (sent.new.is_flushed ≡ true) × (report.new.is_flushed ≡ true)) }
         ensures memory { IsErrOf result RunFault.Memory → (sent.new.is_flushed ≡ true) × (report.new.is_flushed ≡ true) }
         ensures within { IfErr result IsWithin }
-        ensures left { (start : Start) (sends : ℕ) → Plays self.old start [] (W.contents sent.old.inner) (W2.contents report.old.inner)
-            → IfErr result (λ fault. IfSome (coming self.old.records (R.remaining capture.old.inner)) (λ bytes.
-            SaysWithin start.setup start.trace self.old.records.format bytes
+        ensures left { (start : ReplayStart) (sends : ℕ) → ReplayRepresents self.old start [] (W.contents sent.old.inner) (W2.contents report.old.inner)
+            → IfErr result (λ fault. IfSome (unread_input self.old.records (R.remaining capture.old.inner)) (λ bytes.
+            FaultLeaves start.setup start.trace self.old.records.format bytes
             (record { unread = R.remaining capture.old.inner; sent = start.sent; report = start.report; reads_failed = capture.old.failures; sends_failed = sends; reports_failed = report.old.failures })
             (record { unread = R.remaining capture.new.inner; sent = W.contents sent.new.inner; report = W2.contents report.new.inner; reads_failed = capture.new.failures; sends_failed = sent.new.failures; reports_failed = report.new.failures }) fault)) }
         ensures device { IsErrOf result RunFault.Device → OneFailed capture.old.failures capture.new.failures sent.old.failures sent.new.failures report.old.failures report.new.failures }
-        ensures calm { result ≢ Err RunFault.Device → (capture.new.failures ≡ capture.old.failures) × (sent.new.failures ≡ sent.old.failures) × (report.new.failures ≡ report.old.failures) }
+        ensures no_failure { result ≢ Err RunFault.Device → (capture.new.failures ≡ capture.old.failures) × (sent.new.failures ≡ sent.old.failures) × (report.new.failures ≡ report.old.failures) }
     {
-        let stop = self.play(capture, sent, report)?;
+        let stop = self.replay_records(capture, sent, report)?;
         let torn = self.finish(stop, sent, report)?;
         Ok(Summary {
             records: self.numbers.records(),

@@ -1,14 +1,14 @@
 //! A whole run.
 ghost use Rattle.std.specs.Prelude.{◌≡◌, ◌≢◌, ◌≤◌, ◌⊎◌, [], List, length, true, Err, None, IfOk, IfErr, IfSome, OnOk, IsErrOf};
 ghost use Rattle.std.specs.Io.KnownBytes.{IsAtEnd};
-ghost use Rattle.pcap_io.specs.Seen.{READ_AHEAD};
-ghost use Rattle.stepping.specs.Stands.{Stands};
+ghost use Rattle.pcap_io.specs.CaptureStates.{READ_AHEAD};
+ghost use Rattle.stepping.specs.Representing.{Represents};
 ghost use Rattle.engine.specs.declared.fault.RunFault.{RunFault};
-ghost use Rattle.engine.specs.Meaning.{Wrote};
-ghost use Rattle.engine.specs.Refusals.{Refuses, IsOfRecord, IsOfTexts, IsEarly};
-ghost use Rattle.engine.specs.Left.{Left, OneFailed};
-ghost use Rattle.engine.specs.steps.Replayed.{coming};
-ghost use Rattle.engine.specs.steps.Written.{IsWithin, SaysWithin, Told};
+ghost use Rattle.engine.specs.Meaning.{WroteOutputs};
+ghost use Rattle.engine.specs.Refusals.{Refuses, IsOfRecord, IsOfTexts, IsBeforeHeader};
+ghost use Rattle.engine.specs.AfterFault.{LeftDevices, OneFailed};
+ghost use Rattle.engine.specs.steps.Replayed.{unread_input};
+ghost use Rattle.engine.specs.steps.Written.{IsWithin, FaultLeaves, OutputsWritten};
 
 use crate::fault::RunFault;
 use crate::inputs::checked;
@@ -62,7 +62,7 @@ pub fn run<R: Read, W: Write, W2: Write>(
 ) -> Result<Summary, RunFault>
     // Byte for byte what the rules give: the meaning holds of what was written, and of no other pair of texts.
     ensures meaning { IfOk result (λ summary. IfSome (R.remaining capture.old.inner) (λ input.
-        Wrote rules.now plant.now input trace summary.records summary.torn (W.contents sent.old.inner) (W.contents sent.new.inner) (W2.contents report.old.inner) (W2.contents report.new.inner))) }
+        WroteOutputs rules.now plant.now input trace summary.records summary.torn (W.contents sent.old.inner) (W.contents sent.new.inner) (W2.contents report.old.inner) (W2.contents report.new.inner))) }
     // The reader has come to its end.
     ensures drained { OnOk result (IsAtEnd (R.remaining capture.new.inner)) }
     // Nothing that was written is still held back, nor at a record that is refused or that there was no room for.
@@ -74,15 +74,15 @@ pub fn run<R: Read, W: Write, W2: Write>(
     // Where a text is refused nothing was read of the capture.
     ensures unread { IfErr result (λ fault. IsOfTexts fault → capture.new ≡ capture.old) }
     // Before the capture's header is accepted nothing is written.
-    ensures early { IfErr result (λ fault. IsEarly fault → (sent.new ≡ sent.old) × (report.new ≡ report.old)) }
+    ensures before_header { IfErr result (λ fault. IsBeforeHeader fault → (sent.new ≡ sent.old) × (report.new ≡ report.old)) }
     // After a fault each writer holds a beginning of the text of the whole records read, and all that these give where a read fails, or a record is refused or not taken for want of room; and the reader was read no further than one buffer holds.
     ensures left { IfErr result (λ fault. IfSome (R.remaining capture.old.inner) (λ input.
-        Left rules.now plant.now input trace
+        LeftDevices rules.now plant.now input trace
         (record { unread = R.remaining capture.old.inner; sent = W.contents sent.old.inner; report = W2.contents report.old.inner; reads_failed = capture.old.failures; sends_failed = sent.old.failures; reports_failed = report.old.failures })
         (record { unread = R.remaining capture.new.inner; sent = W.contents sent.new.inner; report = W2.contents report.new.inner; reads_failed = capture.new.failures; sends_failed = sent.new.failures; reports_failed = report.new.failures }) fault)) }
     // A device fault is one call that failed, which wasn't tried again; otherwise none failed.
     ensures device { IsErrOf result RunFault.Device → OneFailed capture.old.failures capture.new.failures sent.old.failures sent.new.failures report.old.failures report.new.failures }
-    ensures calm { result ≢ Err RunFault.Device → (capture.new.failures ≡ capture.old.failures) × (sent.new.failures ≡ sent.old.failures) × (report.new.failures ≡ report.old.failures) }
+    ensures no_failure { result ≢ Err RunFault.Device → (capture.new.failures ≡ capture.old.failures) × (sent.new.failures ≡ sent.old.failures) × (report.new.failures ≡ report.old.failures) }
 {
     let checked = checked(alloc, rules, plant)?;
     let records = match Capture::open(alloc, capture) {
@@ -111,23 +111,23 @@ fn write_texts<R: Read, W: Write, W2: Write>(
     report: &mut Counted<W2>,
 ) -> Result<Summary, RunFault>
     requires fresh { (records.fault ≡ None) × (records.count ≡ 0) × (records.latest ≡ 0) }
-    requires stands { Stands engine [] }
+    requires represents { Represents engine [] }
     requires few { length records.held ≤ READ_AHEAD }
     requires drained { records.ended ≡ true → IsAtEnd (R.remaining capture.old.inner) }
-    ensures ok { IfOk result (λ summary. IfSome (coming records (R.remaining capture.old.inner)) (λ bytes.
-        Told (record { setup = engine.setup; trace = trace; sent = W.contents sent.old.inner; report = W2.contents report.old.inner })
+    ensures ok { IfOk result (λ summary. IfSome (unread_input records (R.remaining capture.old.inner)) (λ bytes.
+        OutputsWritten (record { setup = engine.setup; trace = trace; sent = W.contents sent.old.inner; report = W2.contents report.old.inner })
         records.format bytes summary.records summary.torn (R.remaining capture.new.inner) (W.contents sent.new.inner) (W2.contents report.new.inner))) }
     ensures drained { OnOk result (IsAtEnd (R.remaining capture.new.inner)) }
     ensures flushed { OnOk result ((sent.new.is_flushed ≡ true) × (report.new.is_flushed ≡ true)) }
     ensures refused { IfErr result (λ fault. IsOfRecord fault → (sent.new.is_flushed ≡ true) × (report.new.is_flushed ≡ true)) }
     ensures memory { IsErrOf result RunFault.Memory → ((sent.new ≡ sent.old) × (report.new ≡ report.old)) ⊎ ((sent.new.is_flushed ≡ true) × (report.new.is_flushed ≡ true)) }
     ensures within { IfErr result IsWithin }
-    ensures left { IfErr result (λ fault. IfSome (coming records (R.remaining capture.old.inner)) (λ bytes.
-        SaysWithin engine.setup trace records.format bytes
+    ensures left { IfErr result (λ fault. IfSome (unread_input records (R.remaining capture.old.inner)) (λ bytes.
+        FaultLeaves engine.setup trace records.format bytes
         (record { unread = R.remaining capture.old.inner; sent = W.contents sent.old.inner; report = W2.contents report.old.inner; reads_failed = capture.old.failures; sends_failed = sent.old.failures; reports_failed = report.old.failures })
         (record { unread = R.remaining capture.new.inner; sent = W.contents sent.new.inner; report = W2.contents report.new.inner; reads_failed = capture.new.failures; sends_failed = sent.new.failures; reports_failed = report.new.failures }) fault)) }
     ensures device { IsErrOf result RunFault.Device → OneFailed capture.old.failures capture.new.failures sent.old.failures sent.new.failures report.old.failures report.new.failures }
-    ensures calm { result ≢ Err RunFault.Device → (capture.new.failures ≡ capture.old.failures) × (sent.new.failures ≡ sent.old.failures) × (report.new.failures ≡ report.old.failures) }
+    ensures no_failure { result ≢ Err RunFault.Device → (capture.new.failures ≡ capture.old.failures) × (sent.new.failures ≡ sent.old.failures) × (report.new.failures ≡ report.old.failures) }
 {
     let mut replay = Replay::new(alloc, engine, records, trace, sent)?;
     replay.write(capture, sent, report)

@@ -1,7 +1,7 @@
 -- Parts that lie within a text.
 use Rattle.std.specs.Prelude.{ℕ, ◌≤◌, List}
 use Rattle.std.specs.List.{All}
-use Rattle.fault_places.specs.declared.parts.Span.{Span}
+use Rattle.fault_places.specs.declared.brace_parts.Span.{Span}
 
 -- the part begins before it ends, and ends within so many bytes
 abbrev pub IsWithin : ℕ → Span → Type 0

@@ -1,24 +1,24 @@
 //! A brace that isn't closed.
-use crate::parts::{Quotes, has_at};
+use crate::brace_parts::{Quotes, has_at};
 use std::alloc::{AllocError, Global};
 
 /// Whether the line at an offset begins what can't stand in so many open braces: a table in any, a
 /// chain, a set or a map in two.
-fn begins_outside(text: &[u8], place: usize, depth: usize) -> bool {
-    let is_table = depth > 0 && has_at(text, place, b"table ");
+fn begins_outside(text: &[u8], offset: usize, depth: usize) -> bool {
+    let is_table = depth > 0 && has_at(text, offset, b"table ");
     let is_declaration = depth > 1
-        && (has_at(text, place, b"chain ")
-            || has_at(text, place, b"set ")
-            || has_at(text, place, b"map "));
-    (is_table || is_declaration) && opens(text, place)
+        && (has_at(text, offset, b"chain ")
+            || has_at(text, offset, b"set ")
+            || has_at(text, offset, b"map "));
+    (is_table || is_declaration) && opens(text, offset)
 }
 
 /// Whether a brace stands on the line, from an offset on.
-fn opens(text: &[u8], place: usize) -> bool {
-    if place > text.len() {
+fn opens(text: &[u8], offset: usize) -> bool {
+    if offset > text.len() {
         return false;
     }
-    for byte in &text[place..] {
+    for byte in &text[offset..] {
         match byte {
             b'{' => return true,
             b'\n' => return false,
@@ -32,7 +32,7 @@ fn opens(text: &[u8], place: usize) -> bool {
 #[derive(Clone, Copy)]
 pub struct OpenBrace {
     /// The offset of the brace.
-    pub place: usize,
+    pub offset: usize,
     /// The offset at which it is seen that it isn't closed.
     pub seen: usize,
 }
@@ -67,7 +67,7 @@ pub fn unclosed_brace(alloc: Global, text: &[u8]) -> Result<Option<OpenBrace>, A
     let mut quotes = Quotes::NONE;
     let mut at_start = true;
     let mut seen = 0;
-    for (place, byte) in text.iter().enumerate() {
+    for (offset, byte) in text.iter().enumerate() {
         if quotes.skips(*byte) {
             continue;
         }
@@ -75,15 +75,15 @@ pub fn unclosed_brace(alloc: Global, text: &[u8]) -> Result<Option<OpenBrace>, A
             b'\n' => at_start = true,
             b' ' | b'\t' | b'\r' => {}
             _ => {
-                seen = place;
-                if at_start && begins_outside(text, place, open.len()) {
+                seen = offset;
+                if at_start && begins_outside(text, offset, open.len()) {
                     break;
                 }
                 at_start = false;
             }
         }
         match byte {
-            b'{' => open.push(place)?,
+            b'{' => open.push(offset)?,
             b'}' => {
                 let _ = open.pop();
             }
@@ -91,7 +91,7 @@ pub fn unclosed_brace(alloc: Global, text: &[u8]) -> Result<Option<OpenBrace>, A
         }
     }
     match open.pop() {
-        Some(place) => Ok(Some(OpenBrace { place, seen })),
+        Some(offset) => Ok(Some(OpenBrace { offset, seen })),
         None => Ok(None),
     }
 }

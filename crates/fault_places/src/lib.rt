@@ -4,22 +4,22 @@
 //! one it is.
 #![tactic(auto)]
 
-mod assembling;
+mod brace_parts;
 mod braces;
+mod enclosing;
 mod lines;
-mod listing;
 mod masking;
-mod parts;
 mod position;
-mod surroundings;
-mod wording;
+mod set_elements;
+mod stripping;
+mod tokens;
 
-pub use assembling::{Placed, Stripped, last_place, strip, with_parts};
+pub use brace_parts::{Level, Span, spans};
 pub use braces::{OpenBrace, braces_match, unclosed_brace};
+pub use enclosing::{EnclosingItems, enclosing_items};
 pub use lines::box_lines;
-pub use listing::{Depth, elements};
 pub use masking::mask;
-pub use parts::{Level, Span, spans};
-pub use position::{Position, line_at, place_at};
-pub use surroundings::{Surroundings, surroundings_at};
-pub use wording::words;
+pub use position::{Position, line_at, position_at};
+pub use set_elements::{Depth, elements};
+pub use stripping::{RemovedPart, Stripped, last_part, strip, with_parts};
+pub use tokens::words;

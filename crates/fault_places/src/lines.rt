@@ -2,12 +2,12 @@
 ghost use Rattle.std.specs.Prelude.{◌≤◌, IfOk, length};
 ghost use Rattle.fault_places.specs.Within.{AllWithin};
 
-use crate::parts::{Level, Span, has_at};
+use crate::brace_parts::{Level, Span, has_at};
 use std::alloc::{AllocError, Global};
 
 /// Whether a line is sought: an `interface` line is a declaration, the `default` line stands for a
 /// table, and any other for a rule.
-fn is_sought(text: &[u8], level: Level, start: usize) -> bool {
+fn is_wanted(text: &[u8], level: Level, start: usize) -> bool {
     let declares = has_at(text, start, b"interface");
     match level {
         Level::Rules => !declares && !has_at(text, start, b"default"),
@@ -28,15 +28,15 @@ pub fn box_lines(alloc: Global, text: &[u8], level: Level) -> Result<Vec<Span>, 
 {
     let mut parts = Vec::new(alloc);
     let mut start = 0;
-    for (place, byte) in text.iter().enumerate() {
+    for (offset, byte) in text.iter().enumerate() {
         if *byte == b'\n' {
-            if is_sought(text, level, start) {
-                parts.push(Span { start, end: place })?;
+            if is_wanted(text, level, start) {
+                parts.push(Span { start, end: offset })?;
             }
-            start = place + 1;
+            start = offset + 1;
         }
     }
-    if start < text.len() && is_sought(text, level, start) {
+    if start < text.len() && is_wanted(text, level, start) {
         parts.push(Span {
             start,
             end: text.len(),

@@ -1,5 +1,5 @@
 //! Texts without some of their parts.
-use crate::parts::Span;
+use crate::brace_parts::Span;
 
 /// Writes blanks over these parts of the text, and leaves the ends of its lines where they are. A
 /// part that doesn't lie within the text is passed over.

@@ -2,7 +2,7 @@
 ghost use Rattle.std.specs.Prelude.{◌≡◌, ◌≤◌, ◌+◌, IfSome, length};
 ghost use Rattle.fault_places.specs.Within.{IsWithin};
 
-use crate::parts::Span;
+use crate::brace_parts::Span;
 
 /// Where an offset stands in a text, and the line that has it.
 #[derive(Clone, Copy)]
@@ -17,7 +17,7 @@ pub struct Position {
 }
 
 /// The position of an offset of a text.
-pub fn place_at(text: &[u8], offset: usize) -> Position
+pub fn position_at(text: &[u8], offset: usize) -> Position
     requires { offset ≤ length text.now }
     ensures begins { result.start ≤ offset }
     ensures ends { result.end ≤ length text.now }
@@ -27,10 +27,10 @@ pub fn place_at(text: &[u8], offset: usize) -> Position
 {
     let mut line = 0;
     let mut start = 0;
-    for place in 0..offset {
-        if text[place] == b'\n' {
+    for at in 0..offset {
+        if text[at] == b'\n' {
             line += 1;
-            start = place + 1;
+            start = at + 1;
         }
     }
     Position {
@@ -47,9 +47,9 @@ fn line_end(text: &[u8], offset: usize) -> usize
     ensures within { result ≤ length text.now }
     ensures behind { offset ≤ result }
 {
-    for place in offset..text.len() {
-        if text[place] == b'\n' {
-            return place;
+    for at in offset..text.len() {
+        if text[at] == b'\n' {
+            return at;
         }
     }
     text.len()
@@ -61,15 +61,15 @@ pub fn line_at(text: &[u8], number: usize) -> Option<Span>
 {
     let mut line = 1;
     let mut start = 0;
-    for (place, byte) in text.iter().enumerate() {
+    for (at, byte) in text.iter().enumerate() {
         if *byte != b'\n' {
             continue;
         }
         if line == number {
-            return Some(Span { start, end: place });
+            return Some(Span { start, end: at });
         }
         line += 1;
-        start = place + 1;
+        start = at + 1;
     }
     if line == number {
         return Some(Span {

@@ -3,12 +3,12 @@
 //! A place is a help and no promise: no contract says which one is told.
 #![tactic(auto)]
 
-mod capture_places;
-mod listing;
-mod searching;
-mod stumbling;
-mod telling;
+mod capture_locations;
+mod fault_list;
+mod fault_location;
+mod render;
+mod syntax_position;
 
-pub use capture_places::{CapturePlace, capture_place};
-pub use listing::all_faults;
-pub use telling::{Paths, Sources, explained};
+pub use capture_locations::{CaptureLocation, capture_location};
+pub use fault_list::all_faults;
+pub use render::{SourcePaths, Sources, explained};

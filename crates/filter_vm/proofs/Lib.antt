@@ -1,6 +1,6 @@
-pub mod Joining
+pub mod ConcatenationLaws
 pub mod Tables
 pub mod Guarded
 pub mod Seeks
-pub mod Finds
-pub mod Turns
+pub mod RunBuilders
+pub mod MachineSteps

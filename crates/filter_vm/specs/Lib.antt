@@ -1,4 +1,4 @@
-pub mod Listed
+pub mod StepItems
 pub mod Actions
 pub mod Machine
 pub mod steps

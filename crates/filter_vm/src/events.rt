@@ -1,6 +1,6 @@
 //! What happens while rules run.
 ghost use Rattle.std.specs.Prelude.{◌≡◌, ◌≤◌, ◌<◌, ◌+◌, ◌-◌, ◌^◌, ◌++◌, ◌∷◌, [], IfOk, vec_capacity, length, min};
-ghost use Rattle.filter_vm.specs.Machine.{Ran};
+ghost use Rattle.filter_vm.specs.Machine.{EventsAndTicks};
 
 use rule_meaning::Event;
 use std::alloc::{AllocError, Global};
@@ -18,7 +18,7 @@ pub struct Events {
 }
 
 impl Model for Events {
-    ghost Value = { Ran };
+    ghost Value = { EventsAndTicks };
 
     ghost view = { λ e. record { events = e.list.items; ticks = e.ticks } };
 

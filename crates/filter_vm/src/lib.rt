@@ -3,25 +3,25 @@
 #![tactic(auto)]
 
 mod actions;
-mod asked;
 mod code;
+mod concatenation;
 mod events;
-mod finding;
 mod guards;
-mod indexed;
-mod joined;
-mod lane;
+mod indexed_table;
 mod machine;
 mod merging;
 mod reading;
+mod rule_head;
+mod run_builder;
 mod runs;
+mod selector_index;
 mod selectors;
 mod size;
 mod stack;
 
 pub use code::{Action, Code, Instruction, Lookups, Operand, Start, Step, TableCode};
 pub use events::Events;
-pub use guards::Steps;
-pub use indexed::IndexedTable;
+pub use guards::StepList;
+pub use indexed_table::IndexedTable;
 pub use machine::{run, run_in_place};
 pub use size::CodeSize;

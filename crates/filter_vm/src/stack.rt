@@ -1,6 +1,6 @@
 //! The places to go back to.
 ghost use Rattle.std.specs.Prelude.{◌≡◌, ◌≤◌, ◌<◌, ◌∷◌, [], ℕ, List, MatchOption, length, nat_lt, reverse, take};
-ghost use Rattle.filter_vm.specs.Machine.{MOST_PLACES};
+ghost use Rattle.filter_vm.specs.Machine.{JUMP_STACK_SIZE};
 
 use std::marker::Model;
 
@@ -10,14 +10,14 @@ const SIZE: usize = 16;
 /// The places to go back to, at most 16, the last one first.
 #[derive(Drop)]
 pub(crate) struct Stack {
-    places: [usize; SIZE],
+    return_offsets: [usize; SIZE],
     len: usize,
 }
 
 impl Model for Stack {
     ghost Value = { List ℕ };
 
-    ghost view = { λ s. reverse (take s.len s.places) };
+    ghost view = { λ s. reverse (take s.len s.return_offsets) };
 
     ghost invariant = { λ s. s.len ≤ 16 };
 }
@@ -28,24 +28,24 @@ impl Stack {
         ensures { result ≡ [] }
     {
         Stack {
-            places: [0; SIZE],
+            return_offsets: [0; SIZE],
             len: 0,
         }
     }
 
     /// Whether one more can be stored.
     pub(crate) fn has_room(&self) -> bool
-        ensures { result ≡ nat_lt (length self.now) MOST_PLACES }
+        ensures { result ≡ nat_lt (length self.now) JUMP_STACK_SIZE }
     {
         self.len < SIZE
     }
 
     /// One more place.
-    pub(crate) fn push(&mut self, place: usize)
-        requires { length self.old < MOST_PLACES }
-        ensures { self.new ≡ place ∷ self.old }
+    pub(crate) fn push(&mut self, offset: usize)
+        requires { length self.old < JUMP_STACK_SIZE }
+        ensures { self.new ≡ offset ∷ self.old }
     {
-        self.places[self.len] = place;
+        self.return_offsets[self.len] = offset;
         self.len += 1;
     }
 
@@ -53,12 +53,12 @@ impl Stack {
     pub(crate) fn pop(&mut self) -> Option<usize>
         ensures { MatchOption result
             ((self.old ≡ []) × (self.new ≡ []))
-            (λ place. self.old ≡ place ∷ self.new) }
+            (λ offset. self.old ≡ offset ∷ self.new) }
     {
         if self.len == 0 {
             return None;
         }
         self.len -= 1;
-        Some(self.places[self.len])
+        Some(self.return_offsets[self.len])
     }
 }

@@ -8,7 +8,7 @@ use Rattle.std.proofs.lemmas.List.Kept.{IsSortedBy-filter}
 use Rattle.std.proofs.lemmas.List.Elements.{All-contains, All-contains_itself, All-filter, Contains-append_cases, filter_agree, filter_passes}
 use Rattle.rule_meaning.proofs.Priorities.{priorities}
 use Rattle.list_laws.specs.Tests.{and-flip}
-use Rattle.rule_meaning.specs.Hooks.{Base, InOrder, runs_before}
+use Rattle.rule_meaning.specs.Hooks.{BaseChain, InOrder, runs_before}
 
 -- ---- filters
 
@@ -39,7 +39,7 @@ module _ {X : Type 0} where
 -- ---- order
 
 -- some base chains of a text, in the order that all of them have
-pub some_in_order : (test : Base → Bool) (text order : List Base) → InOrder text order → InOrder (filter test text) (filter test order)
+pub some_in_order : (test : BaseChain → Bool) (text order : List BaseChain) → InOrder text order → InOrder (filter test text) (filter test order)
 some_in_order test text order o =
     record {
       rising = IsSortedBy-filter runs_before priorities test order o.rising;
@@ -51,12 +51,12 @@ neither true h = h refl
 neither false h = refl
 
 -- a base chain ties with itself
-tied : (b : Base) → ties runs_before b b ≡ true
+tied : (b : BaseChain) → ties runs_before b b ≡ true
 tied b = let e : runs_before b b ≡ false = neither (runs_before b b) (priorities.one_way b b) in ap (λ t. not t && not t) e
 
 -- what stands in order stands in the text
-pub in_text : (text order : List Base) → InOrder text order → (b : Base) → Contains order b → Contains text b
+pub in_text : (text order : List BaseChain) → InOrder text order → (b : BaseChain) → Contains order b → Contains text b
 in_text text order o b h =
     let same = ties runs_before b in
-    let kept : Contains (filter same text) b = subst (λ (l : List Base). Contains l b) (o.stable b) (Contains-filter same order b h (tied b)) in
+    let kept : Contains (filter same text) b = subst (λ (l : List BaseChain). Contains l b) (o.stable b) (Contains-filter same order b h (tied b)) in
     All-contains (Contains text) (filter same text) b (All-filter same (Contains text) text (All-contains_itself text)) kept

@@ -1,30 +1,30 @@
 //! Base chains in turn.
 ghost use Rattle.std.specs.Prelude.{◌≡◌, ◌≤◌, ◌+◌, length};
-ghost use Rattle.hook_runs.specs.steps.Starts.{cost_of, goes_on, in_turn};
+ghost use Rattle.hook_runs.specs.steps.Starts.{cost_of, continues, in_order_result};
 
 use filter_vm::{Code, Events, Start, run_in_place};
-use rule_meaning::{Ending, Facts};
+use rule_meaning::{Facts, HookVerdict};
 
 /// Whether a packet goes on from a base chain that ends so.
 #[inline(always)]
-fn goes_on(ending: Ending) -> bool
-    ensures { result ≡ goes_on ending }
+fn continues(verdict: HookVerdict) -> bool
+    ensures { result ≡ continues verdict }
 {
-    matches!(ending, Ending::Accepted)
+    matches!(verdict, HookVerdict::Accepted)
 }
 
 /// Runs a packet through base chains, one after another, until one doesn't accept it. What rules may
 /// read of it is changed in place.
 #[inline(always)]
-pub(crate) fn run_in_turn(
+pub(crate) fn run_in_order(
     code: &Code,
     starts: &[Start],
     facts: &mut Facts,
     events: &mut Events,
-) -> Ending
+) -> HookVerdict
     requires room { length events.old.events + cost_of starts.now ≤ 65536 }
-    ensures end { record { ending = result; facts = facts.new; events = events.new.events }
-        ≡ in_turn code.now starts.now facts.old events.old.events }
+    ensures end { record { verdict = result; facts = facts.new; events = events.new.events }
+        ≡ in_order_result code.now starts.now facts.old events.old.events }
     ensures events { length events.new.events ≤ length events.old.events + cost_of starts.now }
     ensures rise { events.old.ticks ≤ events.new.ticks }
     ensures ticks { events.new.ticks ≤ events.old.ticks + cost_of starts.now }
@@ -32,10 +32,10 @@ pub(crate) fn run_in_turn(
     // The count's type bounds it.
     let _ = events.ticks();
     for start in starts {
-        let ending = run_in_place(code, *start, facts, events);
-        if !goes_on(ending) {
-            return ending;
+        let verdict = run_in_place(code, *start, facts, events);
+        if !continues(verdict) {
+            return verdict;
         }
     }
-    Ending::Accepted
+    HookVerdict::Accepted
 }

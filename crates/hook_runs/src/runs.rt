@@ -3,15 +3,15 @@ ghost use Rattle.std.specs.Prelude.{◌≡◌, ◌≤◌, ◌+◌, ℕ, IfOk, le
 ghost use Rattle.nft_tree.specs.Tree.{TableTree};
 ghost use Rattle.rule_paths.specs.Paths.{AreAllCosts, Caller, ruleset_cost};
 ghost use Rattle.rule_meaning.specs.Hooks.{Chains};
-ghost use Rattle.hook_runs.specs.Parts.{all_cost, bases_in, part_cost};
+ghost use Rattle.hook_runs.specs.Stages.{total_stage_cost, chains_in_stage, stage_cost};
 
-use crate::parts::{Part, Parts};
-use crate::running::run_in_turn;
-use crate::sorting::parts_of;
+use crate::running::run_in_order;
+use crate::sorting::staged_chains;
+use crate::stages::{HookStage, StagedChains};
 use compiler::compile;
 use filter_vm::{Code, Events};
 use rule_check::Checked;
-use rule_meaning::{Ending, Facts};
+use rule_meaning::{Facts, HookVerdict};
 use std::alloc::{AllocError, Global};
 use std::marker::Model;
 
@@ -21,18 +21,18 @@ use std::marker::Model;
 pub struct HookRuns {
     checked: Checked,
     code: Code,
-    parts: Parts,
+    stages: StagedChains,
 }
 
 impl Model for HookRuns {
-    ghost use Rattle.hook_runs.specs.Parts.{CostedTree};
-    ghost use Rattle.hook_runs.specs.steps.Starts.{IsReady, ready};
+    ghost use Rattle.hook_runs.specs.Stages.{CostedTree};
+    ghost use Rattle.hook_runs.specs.steps.Starts.{IsCompiled, costed_tree};
 
     ghost Value = { CostedTree };
 
-    ghost view = { λ r. ready r.checked r.parts };
+    ghost view = { λ r. costed_tree r.checked r.stages };
 
-    ghost invariant = { λ r. IsReady r.checked r.code r.parts };
+    ghost invariant = { λ r. IsCompiled r.checked r.code r.stages };
 }
 
 impl HookRuns {
@@ -44,14 +44,14 @@ impl HookRuns {
         // Each base chain that isn't of hook output, nor of type nat on input or forward, runs in
         // one part at what it costs; any other in none.
         ensures cost { IfOk result (λ runs. (cost : TableTree → Caller → ℕ) → AreAllCosts checked.rules cost
-            → all_cost runs ≤ ruleset_cost cost checked.rules) }
+            → total_stage_cost runs ≤ ruleset_cost cost checked.rules) }
     {
         let code = compile(alloc, &checked)?;
-        let parts = parts_of(alloc, &code)?;
+        let stages = staged_chains(alloc, &code)?;
         Ok(HookRuns {
             checked,
             code,
-            parts,
+            stages,
         })
     }
 
@@ -66,7 +66,7 @@ impl HookRuns {
     /// What is known of the costs of its parts: one after another they fit into the events of a
     /// record. It does nothing.
     pub fn costs(&self)
-        ensures { all_cost self.now ≤ 65536 }
+        ensures { total_stage_cost self.now ≤ 65536 }
     {
         let _ = &self.code;
     }
@@ -75,14 +75,14 @@ impl HookRuns {
     /// it. What rules may read is changed in place: at the end it has the marks that they wrote. No
     /// more events happen, and no more statements are started, than the part costs.
     #[inline(always)]
-    pub fn run(&self, part: Part, facts: &mut Facts, events: &mut Events) -> Ending
-        requires room { length events.old.events + part_cost self.now part ≤ 65536 }
-        ensures end { Chains self.now.plant self.now.rules (bases_in part) facts.old events.old.events
-            (record { ending = result; facts = facts.new; events = events.new.events }) }
-        ensures events { length events.new.events ≤ length events.old.events + part_cost self.now part }
+    pub fn run(&self, stage: HookStage, facts: &mut Facts, events: &mut Events) -> HookVerdict
+        requires room { length events.old.events + stage_cost self.now stage ≤ 65536 }
+        ensures end { Chains self.now.plant self.now.rules (chains_in_stage stage) facts.old events.old.events
+            (record { verdict = result; facts = facts.new; events = events.new.events }) }
+        ensures events { length events.new.events ≤ length events.old.events + stage_cost self.now stage }
         ensures ticks { (events.old.ticks ≤ events.new.ticks)
-            × (events.new.ticks ≤ events.old.ticks + part_cost self.now part) }
+            × (events.new.ticks ≤ events.old.ticks + stage_cost self.now stage) }
     {
-        run_in_turn(&self.code, self.parts.starts(part), facts, events)
+        run_in_order(&self.code, self.stages.starts(stage), facts, events)
     }
 }

@@ -1,14 +1,14 @@
 //! Which base chains run in which part.
 ghost use Rattle.std.specs.Prelude.{◌≡◌, IfOk};
-ghost use Rattle.hook_runs.specs.steps.Starts.{AreParts, after, before, filters, translators};
+ghost use Rattle.hook_runs.specs.steps.Starts.{AreStagedChains, after, before, filter_starts, nat_starts};
 
-use crate::parts::Parts;
+use crate::stages::StagedChains;
 use filter_vm::{Code, Start};
 use std::alloc::{AllocError, Global};
 
 /// Filter chains on prerouting of priority -200 and below run before a connection is looked for
 /// (netfilter looks for it at `NF_IP_PRI_CONNTRACK`, -200): those below this.
-const AFTER_TRACKING: i32 = -199;
+const AFTER_CONNTRACK: i32 = -199;
 
 /// The destination is translated here, before filter chains of the same priority (nft(8),
 /// `dstnat`): all chains of type nat run here, whatever their own priority.
@@ -26,49 +26,53 @@ struct Sides {
 }
 
 /// The base chains of each part.
-pub(crate) fn parts_of(alloc: Global, code: &Code) -> Result<Parts, AllocError>
-    ensures { IfOk result (λ parts. AreParts code.now parts) }
+pub(crate) fn staged_chains(alloc: Global, code: &Code) -> Result<StagedChains, AllocError>
+    ensures { IfOk result (λ stages. AreStagedChains code.now stages) }
 {
-    let prerouting = split(alloc, &filters(alloc, &code.prerouting)?, AFTER_TRACKING)?;
+    let prerouting = split(
+        alloc,
+        &filter_starts(alloc, &code.prerouting)?,
+        AFTER_CONNTRACK,
+    )?;
     let destination = split(alloc, &prerouting.after, DESTINATION)?;
-    let source = split(alloc, &filters(alloc, &code.postrouting)?, SOURCE)?;
-    Ok(Parts {
-        early: prerouting.before,
-        before_destination: destination.before,
-        to_destination: translators(alloc, &code.prerouting)?,
-        after_destination: destination.after,
-        input: filters(alloc, &code.input)?,
-        forward: filters(alloc, &code.forward)?,
-        before_source: source.before,
-        to_source: translators(alloc, &code.postrouting)?,
-        after_source: source.after,
+    let source = split(alloc, &filter_starts(alloc, &code.postrouting)?, SOURCE)?;
+    Ok(StagedChains {
+        prerouting_raw: prerouting.before,
+        prerouting_before_nat: destination.before,
+        prerouting_nat: nat_starts(alloc, &code.prerouting)?,
+        prerouting_after_nat: destination.after,
+        input: filter_starts(alloc, &code.input)?,
+        forward: filter_starts(alloc, &code.forward)?,
+        postrouting_before_nat: source.before,
+        postrouting_nat: nat_starts(alloc, &code.postrouting)?,
+        postrouting_after_nat: source.after,
     })
 }
 
 /// Those of type filter.
-fn filters(alloc: Global, starts: &[Start]) -> Result<Vec<Start>, AllocError>
-    ensures { IfOk result (λ kept. kept.items ≡ filters starts.now) }
+fn filter_starts(alloc: Global, starts: &[Start]) -> Result<Vec<Start>, AllocError>
+    ensures { IfOk result (λ kept. kept.items ≡ filter_starts starts.now) }
 {
-    let mut filters = Vec::new(alloc);
+    let mut filter_starts = Vec::new(alloc);
     for start in starts {
         if !start.is_nat {
-            filters.push(*start)?;
+            filter_starts.push(*start)?;
         }
     }
-    Ok(filters)
+    Ok(filter_starts)
 }
 
 /// Those of type nat.
-fn translators(alloc: Global, starts: &[Start]) -> Result<Vec<Start>, AllocError>
-    ensures { IfOk result (λ kept. kept.items ≡ translators starts.now) }
+fn nat_starts(alloc: Global, starts: &[Start]) -> Result<Vec<Start>, AllocError>
+    ensures { IfOk result (λ kept. kept.items ≡ nat_starts starts.now) }
 {
-    let mut translators = Vec::new(alloc);
+    let mut nat_starts = Vec::new(alloc);
     for start in starts {
         if start.is_nat {
-            translators.push(*start)?;
+            nat_starts.push(*start)?;
         }
     }
-    Ok(translators)
+    Ok(nat_starts)
 }
 
 /// Those on both sides of a priority.

@@ -6,9 +6,9 @@ use Rattle.std.proofs.lemmas.Grind.{common_steps}
 use Rattle.ip_headers.specs.declared.view.HeaderFault.{HeaderFault}
 use Rattle.ip_headers.specs.declared.view.HeaderFault.TheVariants.{Short, Version, HeaderLength, Length, Truncated, Checksum, Fragment, Transport}
 use Rattle.ip_headers.specs.Sum.{ones_sum_of}
-use Rattle.ip_headers.specs.Transport.{transport_is_wrong}
+use Rattle.ip_headers.specs.Transport.{transport_is_malformed}
 use Rattle.ip_headers.specs.Passing.{Passes, PassesHeader}
-use Rattle.ip_headers.specs.steps.Ends.{has_ports}
+use Rattle.ip_headers.specs.steps.Ports.{has_ports}
 use Rattle.ip_headers.specs.Header.{header, header_len, total_len, version, protocol, is_fragment, fault_of, packet_of, payload_of}
 
 -- ---- the tests by their answers
@@ -43,7 +43,7 @@ passes p none = record {
     sum = grind (arith, none);
   };
   unbroken = grind (arith, none);
-  carried = last_is (nat_lt (length p) 20) (not (version p == 4)) (nat_lt (header_len p) 20) (nat_lt (total_len p) (header_len p)) (nat_lt (length p) (total_len p)) (not (ones_sum_of (header p) == 65535)) (is_fragment p) (transport_is_wrong (protocol p) (payload_of p)) none;
+  carried = last_is (nat_lt (length p) 20) (not (version p == 4)) (nat_lt (header_len p) 20) (nat_lt (total_len p) (header_len p)) (nat_lt (length p) (total_len p)) (not (ones_sum_of (header p) == 65535)) (is_fragment p) (transport_is_malformed (protocol p) (payload_of p)) none;
 }
 
 -- what the first three tests let through, the others judge
@@ -51,11 +51,11 @@ abbrev judged : List ℕ → Option HeaderFault
 judged p =
     if nat_lt (total_len p) (header_len p) then Some Length else (if nat_lt (length p) (total_len p) then Some Truncated
     else (if not (ones_sum_of (header p) == 65535) then Some Checksum else (if is_fragment p then Some Fragment
-    else (if transport_is_wrong (protocol p) (payload_of p) then Some Transport else None))))
+    else (if transport_is_malformed (protocol p) (payload_of p) then Some Transport else None))))
 
 by_others : (p : List ℕ) → 20 ≤ length p → version p ≡ 4 → 20 ≤ header_len p → fault_of p ≡ judged p
 by_others p long four head =
-    after_three (nat_lt (length p) 20) (not (version p == 4)) (nat_lt (header_len p) 20) (nat_lt (total_len p) (header_len p)) (nat_lt (length p) (total_len p)) (not (ones_sum_of (header p) == 65535)) (is_fragment p) (transport_is_wrong (protocol p) (payload_of p))
+    after_three (nat_lt (length p) 20) (not (version p == 4)) (nat_lt (header_len p) 20) (nat_lt (total_len p) (header_len p)) (nat_lt (length p) (total_len p)) (not (ones_sum_of (header p) == 65535)) (is_fragment p) (transport_is_malformed (protocol p) (payload_of p))
     (le-ltb _ _ long) (ap not (eq-eqb _ _ four)) (le-ltb _ _ head)
 
 pub too_small : (p : List ℕ) → 20 ≤ length p → version p ≡ 4 → 20 ≤ header_len p → total_len p < header_len p → fault_of p ≡ Some Length
@@ -67,7 +67,7 @@ cut p long four head fits short = by_others p long four head ∙ rw (le-ltb _ _ 
 pub damaged : (p : List ℕ) → 20 ≤ length p → version p ≡ 4 → 20 ≤ header_len p → header_len p ≤ total_len p → total_len p ≤ length p → ones_sum_of (header p) ≢ 65535 → fault_of p ≡ Some Checksum
 damaged p long four head fits whole wrong = by_others p long four head ∙ rw (le-ltb _ _ fits, le-ltb _ _ whole, ne_eqb _ _ wrong) refl
 
-by_last_two : (p : List ℕ) → PassesHeader p → fault_of p ≡ (if is_fragment p then Some Fragment else (if transport_is_wrong (protocol p) (payload_of p) then Some Transport else None))
+by_last_two : (p : List ℕ) → PassesHeader p → fault_of p ≡ (if is_fragment p then Some Fragment else (if transport_is_malformed (protocol p) (payload_of p) then Some Transport else None))
 by_last_two p ok = by_others p (omega (arith, ok.long, ok.head, ok.whole)) ok.four ok.long ∙ rw (le-ltb _ _ ok.head, le-ltb _ _ ok.whole, eq-eqb _ _ ok.sum) refl
 
 pub fault_free : (p : List ℕ) → Passes p → fault_of p ≡ None
@@ -76,7 +76,7 @@ fault_free p ok = by_last_two p ok.head ∙ rw (ok.unbroken, ok.carried) refl
 pub broken : (p : List ℕ) → PassesHeader p → is_fragment p ≡ true → fault_of p ≡ Some Fragment
 broken p ok is = by_last_two p ok ∙ rw is refl
 
-pub refused : (p : List ℕ) → PassesHeader p → is_fragment p ≡ false → transport_is_wrong (protocol p) (payload_of p) ≡ true → fault_of p ≡ Some Transport
+pub refused : (p : List ℕ) → PassesHeader p → is_fragment p ≡ false → transport_is_malformed (protocol p) (payload_of p) ≡ true → fault_of p ≡ Some Transport
 refused p ok unbroken wrong = by_last_two p ok ∙ rw (unbroken, wrong) refl
 
 -- ---- a packet passes by itself
@@ -111,7 +111,7 @@ packet_passes p ok =
 pub long_enough : (p : List ℕ) → fault_of p ≡ None → 20 ≤ length p
 long_enough p none = let ok = (passes p none).head in omega (arith, ok.long, ok.head, ok.whole)
 
-eight_of : (number : ℕ) (payload : List ℕ) → transport_is_wrong number payload ≡ false → has_ports number ≡ true → 8 ≤ length payload
+eight_of : (number : ℕ) (payload : List ℕ) → transport_is_malformed number payload ≡ false → has_ports number ≡ true → 8 ≤ length payload
 eight_of number payload right some = grind (arith, right, some)
 
 pub eight_bytes : (p : List ℕ) → Passes p → has_ports (protocol p) ≡ true → 8 ≤ length (payload_of p)

@@ -4,7 +4,7 @@ use mathlib.Core.Bool.{not}
 use Rattle.std.specs.Simd.Lanes.{sum_l, fold_l, zip2, Each1, Each2}
 use Rattle.std.proofs.lemmas.Simd.{fold-sum}
 use Rattle.std.specs.Prelude.{All}
-use Rattle.ip_headers.specs.Sum.{words_sum, folded, ones_sum_of, ones_add, carried}
+use Rattle.ip_headers.specs.Sum.{words_sum, folded, ones_sum_of, ones_add, sum_with_carries}
 
 pub add_folded : (a b : ℕ) → b < 65536 → ones_add (folded a) b ≡ folded (a + b)
 add_folded a b small = grind arith
@@ -84,10 +84,10 @@ placed_step high xs i lt = rw (drop-cons xs i 0 lt, add-one) (placed_cons high _
 pub add_folded_right : (a b : ℕ) → a < 65536 → ones_add a (folded b) ≡ folded (a + b)
 add_folded_right a b small = grind arith
 
-pub carried_is : (xs : List ℕ) → ((i : ℕ) → get_or xs i 0 < 256) → carried xs ≡ ones_sum_of xs
-carried_is [] small = refl
-carried_is (x ∷ []) small = grind (arith, small 0)
-carried_is (x ∷ y ∷ xs) small = ap (λ n. ones_add (x * 256 + y) n) (carried_is xs (λ i. small (suc (suc i)))) ∙ add_folded_right (x * 256 + y) (words_sum xs) (omega (arith, small 0, small 1))
+pub sum_with_carries_is : (xs : List ℕ) → ((i : ℕ) → get_or xs i 0 < 256) → sum_with_carries xs ≡ ones_sum_of xs
+sum_with_carries_is [] small = refl
+sum_with_carries_is (x ∷ []) small = grind (arith, small 0)
+sum_with_carries_is (x ∷ y ∷ xs) small = ap (λ n. ones_add (x * 256 + y) n) (sum_with_carries_is xs (λ i. small (suc (suc i)))) ∙ add_folded_right (x * 256 + y) (words_sum xs) (omega (arith, small 0, small 1))
 
 -- 0 only where every byte is 0
 pub zero_bytes : (xs : List ℕ) → ones_sum_of xs ≡ 0 → All (λ b. b ≡ 0) xs

@@ -4,10 +4,10 @@ use Rattle.std.specs.Prelude.{Option, Some, None, if◌then◌else◌}
 use Rattle.ip_headers.specs.declared.view.HeaderFault.{HeaderFault}
 use Rattle.ip_headers.specs.declared.view.HeaderFault.TheVariants.{Short, Version, HeaderLength, Length, Truncated}
 use Rattle.ip_headers.specs.declared.view.HeaderFault.TheVariants.{Checksum, Fragment, Transport}
-use Rattle.ip_headers.specs.Bytes.{byte_at, word_at, number_at}
+use Rattle.ip_headers.specs.Bytes.{byte_at, u16_at, u32_at}
 use Rattle.ip_headers.specs.Sum.{ones_sum_of}
-use Rattle.ip_headers.specs.Transport.{transport_in, transport_is_wrong}
-use Rattle.ip_headers.specs.declared.transport.Transport.{Transport as Carried}
+use Rattle.ip_headers.specs.Transport.{transport_in, transport_is_malformed}
+use Rattle.ip_headers.specs.declared.transport.Transport.{Transport as PacketTransport}
 
 -- the fields of the header
 abbrev pub version : List ℕ → ℕ
@@ -18,11 +18,11 @@ abbrev pub header_len : List ℕ → ℕ
 header_len bytes = byte_at bytes 0 % 16 * 4
 
 abbrev pub total_len : List ℕ → ℕ
-total_len bytes = word_at bytes 2
+total_len bytes = u16_at bytes 2
 
 -- the reserved bit, DF, MF and the offset in units of eight bytes
 abbrev pub flags_and_offset : List ℕ → ℕ
-flags_and_offset bytes = word_at bytes 6
+flags_and_offset bytes = u16_at bytes 6
 
 abbrev pub ttl : List ℕ → ℕ
 ttl bytes = byte_at bytes 8
@@ -31,13 +31,13 @@ abbrev pub protocol : List ℕ → ℕ
 protocol bytes = byte_at bytes 9
 
 abbrev pub header_checksum : List ℕ → ℕ
-header_checksum bytes = word_at bytes 10
+header_checksum bytes = u16_at bytes 10
 
 abbrev pub source : List ℕ → ℕ
-source bytes = number_at bytes 12
+source bytes = u32_at bytes 12
 
 abbrev pub destination : List ℕ → ℕ
-destination bytes = number_at bytes 16
+destination bytes = u32_at bytes 16
 
 -- the header, whose sum a right checksum makes ffff
 abbrev pub header : List ℕ → List ℕ
@@ -76,9 +76,9 @@ fault_of bytes =
     else (if nat_lt (length bytes) (total_len bytes) then Some Truncated
     else (if not (ones_sum_of (header bytes) == 65535) then Some Checksum
     else (if is_fragment bytes then Some Fragment
-    else (if transport_is_wrong (protocol bytes) (payload_of bytes) then Some Transport
+    else (if transport_is_malformed (protocol bytes) (payload_of bytes) then Some Transport
     else None)))))))
 
 -- what a packet carries
-abbrev pub transport_of : List ℕ → Carried
+abbrev pub transport_of : List ℕ → PacketTransport
 transport_of packet = transport_in (protocol packet) (payload_of packet)

@@ -2,7 +2,7 @@
 use Rattle.std.specs.Prelude.{◌≡◌, ℕ, ◌≤◌, false, List, length}
 use Rattle.ip_headers.specs.Sum.{ones_sum_of}
 use Rattle.ip_headers.specs.Header.{header, header_len, total_len, version, protocol, is_fragment, payload_of}
-use Rattle.ip_headers.specs.Transport.{transport_is_wrong}
+use Rattle.ip_headers.specs.Transport.{transport_is_malformed}
 
 -- the tests of the header but the one for fragments
 pub record PassesHeader (bytes : List ℕ) : Type 0 where
@@ -16,4 +16,4 @@ pub record PassesHeader (bytes : List ℕ) : Type 0 where
 pub record Passes (bytes : List ℕ) : Type 0 where
   pub head : PassesHeader bytes
   pub unbroken : is_fragment bytes ≡ false
-  pub carried : transport_is_wrong (protocol bytes) (payload_of bytes) ≡ false
+  pub carried : transport_is_malformed (protocol bytes) (payload_of bytes) ≡ false

@@ -1,7 +1,7 @@
 -- When two tuples are one.
 use Rattle.std.specs.Prelude.{Bool, true, false, ◌==◌, ◌&&◌}
 use Rattle.ip_headers.specs.declared.tuple.Kind.{Kind}
-use Rattle.ip_headers.specs.declared.tuple.Kind.TheVariants.{Tcp, Udp, Ask, Answer, Other}
+use Rattle.ip_headers.specs.declared.tuple.Kind.TheVariants.{Tcp, Udp, EchoRequest, EchoReply, Other}
 use Rattle.ip_headers.specs.declared.tuple.Endpoint.{Endpoint}
 use Rattle.ip_headers.specs.declared.tuple.Tuple.{Tuple}
 
@@ -9,8 +9,8 @@ use Rattle.ip_headers.specs.declared.tuple.Tuple.{Tuple}
 abbrev pub same_kind : Kind → Kind → Bool
 same_kind Tcp Tcp = true
 same_kind Udp Udp = true
-same_kind Ask Ask = true
-same_kind Answer Answer = true
+same_kind EchoRequest EchoRequest = true
+same_kind EchoReply EchoReply = true
 same_kind (Other a) (Other b) = a == b
 same_kind a b = false
 

@@ -20,7 +20,7 @@ abbrev pub ones_add : ℕ → ℕ → ℕ
 ones_add a b = if nat_lt (a + b) 65536 then a + b else a + b - 65535
 
 -- the sum by its carries, word by word
-abbrev pub carried : List ℕ → ℕ
-carried [] = 0
-carried (high ∷ []) = high * 256
-carried (high ∷ low ∷ rest) = ones_add (high * 256 + low) (carried rest)
+abbrev pub sum_with_carries : List ℕ → ℕ
+sum_with_carries [] = 0
+sum_with_carries (high ∷ []) = high * 256
+sum_with_carries (high ∷ low ∷ rest) = ones_add (high * 256 + low) (sum_with_carries rest)

@@ -3,16 +3,16 @@ use Rattle.std.specs.Prelude.{ℕ, ◌*◌, ◌/◌, ◌==◌, ◌||◌, nat_lt,
 use Rattle.std.specs.Prelude.{if◌then◌else◌}
 use Rattle.ip_headers.specs.declared.transport.Transport.{Transport}
 use Rattle.ip_headers.specs.declared.transport.Transport.TheVariants.{Tcp, Udp, Icmp, Other}
-use Rattle.ip_headers.specs.Bytes.{byte_at, word_at}
+use Rattle.ip_headers.specs.Bytes.{byte_at, u16_at}
 
 -- ---- the fields, from the payload's first byte on
 
 -- of TCP and of UDP
 abbrev pub source_port : List ℕ → ℕ
-source_port payload = word_at payload 0
+source_port payload = u16_at payload 0
 
 abbrev pub destination_port : List ℕ → ℕ
-destination_port payload = word_at payload 2
+destination_port payload = u16_at payload 2
 
 -- of TCP: the header's length in words of four bytes
 abbrev pub data_offset : List ℕ → ℕ
@@ -24,7 +24,7 @@ tcp_flags payload = byte_at payload 13
 
 -- of UDP: the length of header and data in bytes
 abbrev pub udp_length : List ℕ → ℕ
-udp_length payload = word_at payload 4
+udp_length payload = u16_at payload 4
 
 -- of ICMP
 abbrev pub icmp_type : List ℕ → ℕ
@@ -32,30 +32,30 @@ icmp_type payload = byte_at payload 0
 
 -- of an ICMP echo and of its reply
 abbrev pub identifier : List ℕ → ℕ
-identifier payload = word_at payload 4
+identifier payload = u16_at payload 4
 
 -- ---- the tests
 
 -- fewer than the 20 bytes of a header without options, or an offset that is less than they are or beyond the end
-abbrev pub tcp_is_wrong : List ℕ → Bool
-tcp_is_wrong payload =
+abbrev pub tcp_is_malformed : List ℕ → Bool
+tcp_is_malformed payload =
     nat_lt (length payload) 20 || nat_lt (data_offset payload) 5 || nat_lt (length payload) (data_offset payload * 4)
 
 -- fewer than the 8 bytes of a header, or a length that is less than they are or beyond the end
-abbrev pub udp_is_wrong : List ℕ → Bool
-udp_is_wrong payload =
+abbrev pub udp_is_malformed : List ℕ → Bool
+udp_is_malformed payload =
     nat_lt (length payload) 8 || nat_lt (udp_length payload) 8 || nat_lt (length payload) (udp_length payload)
 
 -- fewer than the 8 bytes that begin every message
-abbrev pub icmp_is_wrong : List ℕ → Bool
-icmp_is_wrong payload = nat_lt (length payload) 8
+abbrev pub icmp_is_malformed : List ℕ → Bool
+icmp_is_malformed payload = nat_lt (length payload) 8
 
 -- by the number of the protocol: TCP is 6, UDP 17, ICMP 1; of the others nothing is tested
-abbrev pub transport_is_wrong : ℕ → List ℕ → Bool
-transport_is_wrong number payload =
-    if number == 6 then tcp_is_wrong payload
-    else (if number == 17 then udp_is_wrong payload
-    else (if number == 1 then icmp_is_wrong payload
+abbrev pub transport_is_malformed : ℕ → List ℕ → Bool
+transport_is_malformed number payload =
+    if number == 6 then tcp_is_malformed payload
+    else (if number == 17 then udp_is_malformed payload
+    else (if number == 1 then icmp_is_malformed payload
     else false))
 
 -- ---- what is carried

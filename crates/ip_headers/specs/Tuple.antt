@@ -5,7 +5,7 @@ use Rattle.std.specs.Prelude.{ℕ, ◌+◌, ◌%◌, ◌==◌, ◌&&◌, ◌||�
 use Rattle.std.specs.Prelude.{if◌then◌else◌}
 use Rattle.std.specs.Option.{option_map}
 use Rattle.ip_headers.specs.declared.tuple.Kind.{Kind}
-use Rattle.ip_headers.specs.declared.tuple.Kind.TheVariants.{Tcp, Udp, Ask, Answer, Other}
+use Rattle.ip_headers.specs.declared.tuple.Kind.TheVariants.{Tcp, Udp, EchoRequest, EchoReply, Other}
 use Rattle.ip_headers.specs.declared.tuple.Tuple.{Tuple}
 use Rattle.ip_headers.specs.Header.{version, header_len, flags_and_offset, protocol, source, destination, payload_of}
 use Rattle.ip_headers.specs.Transport.{source_port, destination_port, icmp_type, identifier}
@@ -13,23 +13,23 @@ use Rattle.ip_headers.specs.Transport.{source_port, destination_port, icmp_type,
 -- ---- kinds
 
 -- type 8 of ICMP is an echo, type 0 its reply (RFC 792), whatever their code; other messages have no kind
-abbrev pub message_kind : ℕ → Option Kind
-message_kind message = if message == 8 then Some Ask else (if message == 0 then Some Answer else None)
+abbrev pub echo_kind : ℕ → Option Kind
+echo_kind message = if message == 8 then Some EchoRequest else (if message == 0 then Some EchoReply else None)
 
 -- by the number of the protocol and the payload
 abbrev pub kind_of : ℕ → List ℕ → Option Kind
 kind_of number payload =
     if number == 6 then Some Tcp
     else (if number == 17 then Some Udp
-    else (if number == 1 then message_kind (icmp_type payload)
+    else (if number == 1 then echo_kind (icmp_type payload)
     else Some (Other number)))
 
 -- an answer goes where its ask came from
 abbrev pub inverse_kind : Kind → Kind
 inverse_kind Tcp = Tcp
 inverse_kind Udp = Udp
-inverse_kind Ask = Answer
-inverse_kind Answer = Ask
+inverse_kind EchoRequest = EchoReply
+inverse_kind EchoReply = EchoRequest
 inverse_kind (Other number) = Other number
 
 -- ---- the ports of a kind: an identifier belongs to the end that asks; where there is no port it is 0
@@ -37,15 +37,15 @@ inverse_kind (Other number) = Other number
 abbrev pub port_from : Kind → List ℕ → ℕ
 port_from Tcp payload = source_port payload
 port_from Udp payload = source_port payload
-port_from Ask payload = identifier payload
-port_from Answer payload = 0
+port_from EchoRequest payload = identifier payload
+port_from EchoReply payload = 0
 port_from (Other number) payload = 0
 
 abbrev pub port_to : Kind → List ℕ → ℕ
 port_to Tcp payload = destination_port payload
 port_to Udp payload = destination_port payload
-port_to Ask payload = 0
-port_to Answer payload = identifier payload
+port_to EchoRequest payload = 0
+port_to EchoReply payload = identifier payload
 port_to (Other number) payload = 0
 
 -- ---- tuples

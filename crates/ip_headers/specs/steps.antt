@@ -1,3 +1,3 @@
 -- What private functions read on the way: nothing that a public contract cites.
-pub mod Ends
+pub mod Ports
 pub mod Equal

@@ -1,6 +1,6 @@
 //! The fields of a packet, lent for writing.
 ghost use Rattle.std.specs.Prelude.{◌≡◌, ◌+◌, ◌<◌, ◌≤◌, length, slice_set};
-ghost use Rattle.ip_headers.specs.Bytes.{with_number, with_word};
+ghost use Rattle.ip_headers.specs.Bytes.{with_u32, with_u16};
 ghost use Rattle.ip_headers.specs.Header.{payload_at};
 
 /// The fields of a datagram, lent for writing: each call changes the bytes of its field and no other.
@@ -49,117 +49,117 @@ impl<'a> PartsMut<'a> {
     pub fn set_header_checksum(&mut self, checksum: u16)
         requires { self.old.start + 12 ≤ length self.old.packet.now }
         ensures same_reference { self.new.packet.ghost_name ≡ self.old.packet.ghost_name }
-        ensures bytes { self.new.packet.now ≡ with_word self.old.packet.now (self.old.start + 10) checksum }
+        ensures bytes { self.new.packet.now ≡ with_u16 self.old.packet.now (self.old.start + 10) checksum }
         ensures start { self.new.start ≡ self.old.start }
         ensures payload { self.new.payload ≡ self.old.payload }
     {
-        put_word(self.packet, self.start + 10, checksum);
+        write_u16(self.packet, self.start + 10, checksum);
     }
 
     /// Writes the source address.
     pub fn set_source(&mut self, address: u32)
         requires { self.old.start + 16 ≤ length self.old.packet.now }
         ensures same_reference { self.new.packet.ghost_name ≡ self.old.packet.ghost_name }
-        ensures bytes { self.new.packet.now ≡ with_number self.old.packet.now (self.old.start + 12) address }
+        ensures bytes { self.new.packet.now ≡ with_u32 self.old.packet.now (self.old.start + 12) address }
         ensures start { self.new.start ≡ self.old.start }
         ensures payload { self.new.payload ≡ self.old.payload }
     {
-        put_number(self.packet, self.start + 12, address);
+        write_u32(self.packet, self.start + 12, address);
     }
 
     /// Writes the destination address.
     pub fn set_destination(&mut self, address: u32)
         requires { self.old.start + 20 ≤ length self.old.packet.now }
         ensures same_reference { self.new.packet.ghost_name ≡ self.old.packet.ghost_name }
-        ensures bytes { self.new.packet.now ≡ with_number self.old.packet.now (self.old.start + 16) address }
+        ensures bytes { self.new.packet.now ≡ with_u32 self.old.packet.now (self.old.start + 16) address }
         ensures start { self.new.start ≡ self.old.start }
         ensures payload { self.new.payload ≡ self.old.payload }
     {
-        put_number(self.packet, self.start + 16, address);
+        write_u32(self.packet, self.start + 16, address);
     }
 
     /// Writes the source port of TCP or UDP.
     pub fn set_source_port(&mut self, port: u16)
         requires { self.old.payload + 2 ≤ length self.old.packet.now }
         ensures same_reference { self.new.packet.ghost_name ≡ self.old.packet.ghost_name }
-        ensures bytes { self.new.packet.now ≡ with_word self.old.packet.now self.old.payload port }
+        ensures bytes { self.new.packet.now ≡ with_u16 self.old.packet.now self.old.payload port }
         ensures start { self.new.start ≡ self.old.start }
         ensures payload { self.new.payload ≡ self.old.payload }
     {
-        put_word(self.packet, self.payload, port);
+        write_u16(self.packet, self.payload, port);
     }
 
     /// Writes the destination port of TCP or UDP.
     pub fn set_destination_port(&mut self, port: u16)
         requires { self.old.payload + 4 ≤ length self.old.packet.now }
         ensures same_reference { self.new.packet.ghost_name ≡ self.old.packet.ghost_name }
-        ensures bytes { self.new.packet.now ≡ with_word self.old.packet.now (self.old.payload + 2) port }
+        ensures bytes { self.new.packet.now ≡ with_u16 self.old.packet.now (self.old.payload + 2) port }
         ensures start { self.new.start ≡ self.old.start }
         ensures payload { self.new.payload ≡ self.old.payload }
     {
-        put_word(self.packet, self.payload + 2, port);
+        write_u16(self.packet, self.payload + 2, port);
     }
 
     /// Writes the identifier of an ICMP query.
     pub fn set_identifier(&mut self, identifier: u16)
         requires { self.old.payload + 6 ≤ length self.old.packet.now }
         ensures same_reference { self.new.packet.ghost_name ≡ self.old.packet.ghost_name }
-        ensures bytes { self.new.packet.now ≡ with_word self.old.packet.now (self.old.payload + 4) identifier }
+        ensures bytes { self.new.packet.now ≡ with_u16 self.old.packet.now (self.old.payload + 4) identifier }
         ensures start { self.new.start ≡ self.old.start }
         ensures payload { self.new.payload ≡ self.old.payload }
     {
-        put_word(self.packet, self.payload + 4, identifier);
+        write_u16(self.packet, self.payload + 4, identifier);
     }
 
     /// Writes the checksum of a segment of TCP.
     pub fn set_tcp_checksum(&mut self, checksum: u16)
         requires { self.old.payload + 18 ≤ length self.old.packet.now }
         ensures same_reference { self.new.packet.ghost_name ≡ self.old.packet.ghost_name }
-        ensures bytes { self.new.packet.now ≡ with_word self.old.packet.now (self.old.payload + 16) checksum }
+        ensures bytes { self.new.packet.now ≡ with_u16 self.old.packet.now (self.old.payload + 16) checksum }
         ensures start { self.new.start ≡ self.old.start }
         ensures payload { self.new.payload ≡ self.old.payload }
     {
-        put_word(self.packet, self.payload + 16, checksum);
+        write_u16(self.packet, self.payload + 16, checksum);
     }
 
     /// Writes the checksum of a datagram of UDP.
     pub fn set_udp_checksum(&mut self, checksum: u16)
         requires { self.old.payload + 8 ≤ length self.old.packet.now }
         ensures same_reference { self.new.packet.ghost_name ≡ self.old.packet.ghost_name }
-        ensures bytes { self.new.packet.now ≡ with_word self.old.packet.now (self.old.payload + 6) checksum }
+        ensures bytes { self.new.packet.now ≡ with_u16 self.old.packet.now (self.old.payload + 6) checksum }
         ensures start { self.new.start ≡ self.old.start }
         ensures payload { self.new.payload ≡ self.old.payload }
     {
-        put_word(self.packet, self.payload + 6, checksum);
+        write_u16(self.packet, self.payload + 6, checksum);
     }
 
     /// Writes the checksum of a message of ICMP.
     pub fn set_icmp_checksum(&mut self, checksum: u16)
         requires { self.old.payload + 4 ≤ length self.old.packet.now }
         ensures same_reference { self.new.packet.ghost_name ≡ self.old.packet.ghost_name }
-        ensures bytes { self.new.packet.now ≡ with_word self.old.packet.now (self.old.payload + 2) checksum }
+        ensures bytes { self.new.packet.now ≡ with_u16 self.old.packet.now (self.old.payload + 2) checksum }
         ensures start { self.new.start ≡ self.old.start }
         ensures payload { self.new.payload ≡ self.old.payload }
     {
-        put_word(self.packet, self.payload + 2, checksum);
+        write_u16(self.packet, self.payload + 2, checksum);
     }
 }
 
 // Writes a word, the high byte first.
-fn put_word(bytes: &mut [u8], place: usize, word: u16)
-    requires { place + 2 ≤ length bytes.old }
-    ensures { bytes.new ≡ with_word bytes.old place word }
+fn write_u16(bytes: &mut [u8], offset: usize, word: u16)
+    requires { offset + 2 ≤ length bytes.old }
+    ensures { bytes.new ≡ with_u16 bytes.old offset word }
 {
     let [high, low] = word.to_be_bytes();
-    bytes[place] = high;
-    bytes[place + 1] = low;
+    bytes[offset] = high;
+    bytes[offset + 1] = low;
 }
 
 // Writes a number of two words, the high one first.
-fn put_number(bytes: &mut [u8], place: usize, number: u32)
-    requires { place + 4 ≤ length bytes.old }
-    ensures { bytes.new ≡ with_number bytes.old place number }
+fn write_u32(bytes: &mut [u8], offset: usize, number: u32)
+    requires { offset + 4 ≤ length bytes.old }
+    ensures { bytes.new ≡ with_u32 bytes.old offset number }
 {
-    put_word(bytes, place, (number / 65536) as u16);
-    put_word(bytes, place + 2, (number % 65536) as u16);
+    write_u16(bytes, offset, (number / 65536) as u16);
+    write_u16(bytes, offset + 2, (number % 65536) as u16);
 }

@@ -1,6 +1,6 @@
 //! The ones' complement sum (RFC 1071).
 ghost use Rattle.std.specs.Prelude.{◌≡◌, ◌+◌, All, length};
-ghost use Rattle.ip_headers.specs.Sum.{words_sum, ones_sum_of, ones_add, carried, folded};
+ghost use Rattle.ip_headers.specs.Sum.{words_sum, ones_sum_of, ones_add, sum_with_carries, folded};
 
 use std::simd::prelude::*;
 
@@ -12,7 +12,7 @@ const BLOCK: usize = 16;
 pub fn ones_sum(bytes: &[u8]) -> u16
     ensures sum { result ≡ ones_sum_of bytes.now }
     // The same by its carries, word by word.
-    ensures carries { result ≡ carried bytes.now }
+    ensures carries { result ≡ sum_with_carries bytes.now }
     ensures zero { result ≡ 0 → All (λ byte. byte ≡ 0) bytes.now }
 {
     let mut sum = 0;

@@ -1,6 +1,6 @@
 //! What a packet carries: TCP, UDP or ICMP.
 ghost use Rattle.std.specs.Prelude.{◌≡◌, false, length};
-ghost use Rattle.ip_headers.specs.Transport.{destination_port_of, icmp_is_wrong, icmp_type_of, source_port_of, tcp_flags_of, tcp_is_wrong, transport_in, transport_is_wrong, udp_is_wrong};
+ghost use Rattle.ip_headers.specs.Transport.{destination_port_of, icmp_is_malformed, icmp_type_of, source_port_of, tcp_flags_of, tcp_is_malformed, transport_in, transport_is_malformed, udp_is_malformed};
 
 use byteorder::{BigEndian, ByteOrder};
 
@@ -82,19 +82,19 @@ impl Transport {
 }
 
 /// Whether a payload is too short for its protocol, or tells a length that isn't there.
-pub(crate) fn is_wrong(protocol: u8, payload: &[u8]) -> bool
-    ensures { result ≡ transport_is_wrong protocol payload.now }
+pub(crate) fn is_malformed(protocol: u8, payload: &[u8]) -> bool
+    ensures { result ≡ transport_is_malformed protocol payload.now }
 {
     match protocol {
-        TCP => tcp_is_wrong(payload),
-        UDP => udp_is_wrong(payload),
+        TCP => tcp_is_malformed(payload),
+        UDP => udp_is_malformed(payload),
         ICMP => payload.len() < 8,
         _ => false,
     }
 }
 
-fn tcp_is_wrong(payload: &[u8]) -> bool
-    ensures { result ≡ tcp_is_wrong payload.now }
+fn tcp_is_malformed(payload: &[u8]) -> bool
+    ensures { result ≡ tcp_is_malformed payload.now }
 {
     if payload.len() < 20 {
         return true;
@@ -104,8 +104,8 @@ fn tcp_is_wrong(payload: &[u8]) -> bool
     offset < 5 || payload.len() < offset * 4
 }
 
-fn udp_is_wrong(payload: &[u8]) -> bool
-    ensures { result ≡ udp_is_wrong payload.now }
+fn udp_is_malformed(payload: &[u8]) -> bool
+    ensures { result ≡ udp_is_malformed payload.now }
 {
     if payload.len() < 8 {
         return true;
@@ -116,7 +116,7 @@ fn udp_is_wrong(payload: &[u8]) -> bool
 
 /// What a payload is that the tests let through.
 pub(crate) fn read(protocol: u8, payload: &[u8]) -> Transport
-    requires { transport_is_wrong protocol payload.now ≡ false }
+    requires { transport_is_malformed protocol payload.now ≡ false }
     ensures { result ≡ transport_in protocol payload.now }
 {
     match protocol {

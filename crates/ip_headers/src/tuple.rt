@@ -2,8 +2,8 @@
 ghost use Rattle.std.specs.Prelude.{◌≡◌, ◌≤◌, true, length};
 ghost use Rattle.ip_headers.specs.Header.{protocol};
 ghost use Rattle.ip_headers.specs.Transport.{icmp_type};
-ghost use Rattle.ip_headers.specs.Tuple.{inner_tuple, inverse, inverse_kind, is_error_type, message_kind, tuple_in};
-ghost use Rattle.ip_headers.specs.steps.Ends.{ends, ends_of, has_ports};
+ghost use Rattle.ip_headers.specs.Tuple.{inner_tuple, inverse, inverse_kind, is_error_type, echo_kind, tuple_in};
+ghost use Rattle.ip_headers.specs.steps.Ports.{kind_and_ports, with_ports, has_ports};
 
 use crate::transport::{ICMP, TCP, UDP};
 use byteorder::{BigEndian, ByteOrder};
@@ -25,9 +25,9 @@ pub enum Kind {
     /// UDP.
     Udp,
     /// An ICMP echo (RFC 792), a query in RFC 5508.
-    Ask,
+    EchoRequest,
     /// The reply to an echo.
-    Answer,
+    EchoReply,
     /// The protocol of this number, without ports.
     Other(u8),
 }
@@ -61,8 +61,8 @@ impl Kind {
         ensures back { inverse_kind result ≡ self }
     {
         match self {
-            Self::Ask => Self::Answer,
-            Self::Answer => Self::Ask,
+            Self::EchoRequest => Self::EchoReply,
+            Self::EchoReply => Self::EchoRequest,
             same => same,
         }
     }
@@ -98,7 +98,7 @@ pub(crate) fn tuple_in(datagram: &[u8], payload: &[u8]) -> Option<Tuple>
     requires ports { has_ports (protocol datagram.now) ≡ true → 8 ≤ length payload.now }
     ensures { result ≡ tuple_in datagram.now payload.now }
 {
-    let (kind, from, to) = ends(datagram[9], payload)?;
+    let (kind, from, to) = kind_and_ports(datagram[9], payload)?;
     Some(Tuple {
         kind,
         source: Endpoint {
@@ -113,9 +113,9 @@ pub(crate) fn tuple_in(datagram: &[u8], payload: &[u8]) -> Option<Tuple>
 }
 
 /// The kind of what a protocol carries, and the ports that it comes from and goes to.
-fn ends(protocol: u8, payload: &[u8]) -> Option<(Kind, u16, u16)>
+fn kind_and_ports(protocol: u8, payload: &[u8]) -> Option<(Kind, u16, u16)>
     requires { has_ports protocol ≡ true → 8 ≤ length payload.now }
-    ensures { result ≡ ends protocol payload.now }
+    ensures { result ≡ kind_and_ports protocol payload.now }
 {
     match protocol {
         TCP => Some((
@@ -128,20 +128,20 @@ fn ends(protocol: u8, payload: &[u8]) -> Option<(Kind, u16, u16)>
             BigEndian::read_u16(payload),
             BigEndian::read_u16(&payload[2..]),
         )),
-        ICMP => query_ends(payload),
+        ICMP => query_kind_and_ports(payload),
         number => Some((Kind::Other(number), 0, 0)),
     }
 }
 
 /// The same of a message of ICMP: an echo or its reply.
-fn query_ends(message: &[u8]) -> Option<(Kind, u16, u16)>
+fn query_kind_and_ports(message: &[u8]) -> Option<(Kind, u16, u16)>
     requires { 8 ≤ length message.now }
-    ensures { result ≡ ends_of (message_kind (icmp_type message.now)) message.now }
+    ensures { result ≡ with_ports (echo_kind (icmp_type message.now)) message.now }
 {
     let identifier = BigEndian::read_u16(&message[4..]);
     match message[0] {
-        0 => Some((Kind::Answer, 0, identifier)),
-        8 => Some((Kind::Ask, identifier, 0)),
+        0 => Some((Kind::EchoReply, 0, identifier)),
+        8 => Some((Kind::EchoRequest, identifier, 0)),
         _ => None,
     }
 }

@@ -89,7 +89,7 @@ impl<'a> View<'a> {
         if BigEndian::read_u16(&packet[6..]) % 16384 != 0 {
             return Err(HeaderFault::Fragment);
         }
-        if transport::is_wrong(packet[9], payload) {
+        if transport::is_malformed(packet[9], payload) {
             return Err(HeaderFault::Transport);
         }
         Ok(View {

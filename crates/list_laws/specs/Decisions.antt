@@ -13,24 +13,24 @@ pub Contains-there : {A : Type 0} (y x : A) (xs : List A) → Contains xs x → 
 Contains-there y x xs at = (suc at.0, omega (arith, at.1), at.2)
 
 pub Contains-cases : {A : Type 0} (y x : A) (xs : List A) → Contains (y ∷ xs) x → (y ≡ x) ⊎ Contains xs x
-Contains-cases y x xs at = by_place at.0 at.1 at.2
+Contains-cases y x xs at = by_index at.0 at.1 at.2
   where
-    by_place : (k : ℕ) → k < suc (length xs) → get_or (y ∷ xs) k x ≡ x → (y ≡ x) ⊎ Contains xs x
-    by_place zero within found = inl found
-    by_place (suc k) within found = inr (k, omega arith, found)
+    by_index : (k : ℕ) → k < suc (length xs) → get_or (y ∷ xs) k x ≡ x → (y ≡ x) ⊎ Contains xs x
+    by_index zero within found = inl found
+    by_index (suc k) within found = inr (k, omega arith, found)
 
 module _ {A : Type 0} (P : A → Type 0) where
-  some_step : (x : A) (xs : List A) → Decided (P x) → Decided ((y : A) × Contains xs y × P y) → Decided ((y : A) × Contains (x ∷ xs) y × P y)
-  some_step x xs (inl p) later = inl (x, Contains-head x xs, p)
-  some_step x xs (inr no_p) (inl h) = inl (h.0, Contains-there x h.0 xs h.1, h.2)
-  some_step x xs (inr no_p) (inr none) =
+  some_cons : (x : A) (xs : List A) → Decided (P x) → Decided ((y : A) × Contains xs y × P y) → Decided ((y : A) × Contains (x ∷ xs) y × P y)
+  some_cons x xs (inl p) later = inl (x, Contains-head x xs, p)
+  some_cons x xs (inr no_p) (inl h) = inl (h.0, Contains-there x h.0 xs h.1, h.2)
+  some_cons x xs (inr no_p) (inr none) =
       inr (λ h. elim (Contains-cases x h.0 xs h.1) [ inl e ↦ no_p (subst P (sym e) h.2) | inr at ↦ none (h.0, at, h.2) ])
 
   -- whether one of a list is so
   pub some_decided : (xs : List A) → ((x : A) → Contains xs x → Decided (P x)) → Decided ((x : A) × Contains xs x × P x)
   some_decided [] each = inr (λ h. Contains-none h.0 h.1)
   some_decided (x ∷ xs) each =
-      some_step x xs (each x (Contains-head x xs)) (some_decided xs (λ y at. each y (Contains-there x y xs at)))
+      some_cons x xs (each x (Contains-head x xs)) (some_decided xs (λ y at. each y (Contains-there x y xs at)))
 
 -- what is decided of one is decided of what says the same
 pub decided_as : {P Q : Type 0} → (P → Q) → (Q → P) → Decided P → Decided Q

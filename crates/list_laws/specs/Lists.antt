@@ -9,9 +9,9 @@ pub Contains-head : {X : Type 0} (x : X) (xs : List X) → Contains (x ∷ xs) x
 Contains-head x xs = (0, omega arith, refl)
 
 -- a test of what each element shows
-pub any_over : {X Y : Type 0} (p : Y → Bool) (h : X → Y) (xs : List X) → list_any (λ x. p (h x)) xs ≡ list_any p (map h xs)
-any_over p h [] = refl
-any_over p h (x ∷ xs) = ap (λ v. p (h x) || v) (any_over p h xs)
+pub any_of_map : {X Y : Type 0} (p : Y → Bool) (h : X → Y) (xs : List X) → list_any (λ x. p (h x)) xs ≡ list_any p (map h xs)
+any_of_map p h [] = refl
+any_of_map p h (x ∷ xs) = ap (λ v. p (h x) || v) (any_of_map p h xs)
 
 -- the first of those that pass one test to pass another
 pub find-filter : {X : Type 0} (p q : X → Bool) (xs : List X) → find p (filter q xs) ≡ find (λ x. q x && p x) xs
@@ -25,9 +25,9 @@ pub map-more : {X Y : Type 0} (h : X → Y) (xs : List X) (i : ℕ) (x : X) → 
 map-more h xs i x l e = ap (map h) (take_more xs i x l) ∙ map-append h (take i xs) (get_or xs i x ∷ []) ∙ ap (λ y. map h (take i xs) ++ h y ∷ []) (sym e)
 
 -- a list is its first element and the others
-pub parted : {X : Type 0} (xs : List X) (x : X) → 1 ≤ length xs → x ≡ get_or xs 0 x → xs ≡ x ∷ take (length xs - 1) (drop 1 xs)
-parted [] x some is = absurd (omega arith)
-parted (y ∷ ys) x some is = ap (λ z. z ∷ ys) (sym is) ∙ ap (λ l. x ∷ l) (sym (take_all (length (y ∷ ys) - 1) ys (omega arith)))
+pub head_and_rest : {X : Type 0} (xs : List X) (x : X) → 1 ≤ length xs → x ≡ get_or xs 0 x → xs ≡ x ∷ take (length xs - 1) (drop 1 xs)
+head_and_rest [] x some is = absurd (omega arith)
+head_and_rest (y ∷ ys) x some is = ap (λ z. z ∷ ys) (sym is) ∙ ap (λ l. x ∷ l) (sym (take_all (length (y ∷ ys) - 1) ys (omega arith)))
 
 -- all from a place on
 pub rest_from : (xs : List ℕ) (i : ℕ) → take (length xs - i) (drop i xs) ≡ drop i xs

@@ -7,15 +7,15 @@ pub option_cases : {A : Type 0} (o : Option A) → (o ≡ None) ⊎ ((x : A) × 
 option_cases None = inl refl
 option_cases (Some x) = inr (x, refl)
 
-pub none_or_some : {A : Type 0} (o : Option A) (x : A) → o ≡ None → o ≡ Some x → ⊥
-none_or_some o x none some = cc
+pub none_not_some : {A : Type 0} (o : Option A) (x : A) → o ≡ None → o ≡ Some x → ⊥
+none_not_some o x none some = cc
 
-pub one_some : {A : Type 0} (o : Option A) (x y : A) → o ≡ Some x → o ≡ Some y → x ≡ y
-one_some o x y e f = cc
+pub some_unique : {A : Type 0} (o : Option A) (x y : A) → o ≡ Some x → o ≡ Some y → x ≡ y
+some_unique o x y e f = cc
 
-pub mapped_some : {A B : Type 0} (f : A → B) (o : Option A) (y : B) → option_map f o ≡ Some y → (x : A) × (o ≡ Some x) × (f x ≡ y)
-mapped_some f None y h = cc
-mapped_some f (Some x) y h = (x, refl, cc)
+pub some_of_map : {A B : Type 0} (f : A → B) (o : Option A) (y : B) → option_map f o ≡ Some y → (x : A) × (o ≡ Some x) × (f x ≡ y)
+some_of_map f None y h = cc
+some_of_map f (Some x) y h = (x, refl, cc)
 
 -- ---- one step after another
 
@@ -33,11 +33,11 @@ pub IfSome_weaker : {A : Type 0} (o : Option A) (P Q : A → Type 0) → ((x : A
 IfSome_weaker None P Q k h = tt
 IfSome_weaker (Some x) P Q k h = k x h
 
-pub if_found : {A : Type 0} (Q : A → Type 0) (b : Bool) (x : A) → (b ≡ true → Q x) → IfSome (cond b (Some x) None) Q
-if_found Q true x h = h refl
-if_found Q false x h = tt
+pub IfSome_cond : {A : Type 0} (Q : A → Type 0) (b : Bool) (x : A) → (b ≡ true → Q x) → IfSome (cond b (Some x) None) Q
+IfSome_cond Q true x h = h refl
+IfSome_cond Q false x h = tt
 
 -- a step, and what follows it
-pub bind_found : {A B : Type 0} {P : A → Type 0} (Q : B → Type 0) (o : Option A) (f : A → Option B) → IfSome o P → ((x : A) → P x → IfSome (f x) Q) → IfSome (o >>= f) Q
-bind_found Q None f h k = tt
-bind_found Q (Some x) f h k = k x h
+pub IfSome_bind : {A B : Type 0} {P : A → Type 0} (Q : B → Type 0) (o : Option A) (f : A → Option B) → IfSome o P → ((x : A) → P x → IfSome (f x) Q) → IfSome (o >>= f) Q
+IfSome_bind Q None f h k = tt
+IfSome_bind Q (Some x) f h k = k x h

@@ -1,4 +1,4 @@
-mod Rooms
+mod BitWidths
 mod Gathered
 mod Unions
 mod Pairwise

@@ -1,29 +1,29 @@
 //! The sets and maps that a table declares.
 ghost use Rattle.std.specs.Prelude.{◌≡◌, false, map, IfOk};
 ghost use Rattle.nft_tree.specs.Tree.{map_tree, pair_tree, set_tree};
-ghost use Rattle.nft_tree.specs.Parts.{maps_of, sets_of};
-ghost use Rattle.rule_types.specs.Types.{is_too_wide, table_misfits};
+ghost use Rattle.nft_tree.specs.TableItems.{maps_of, sets_of};
+ghost use Rattle.rule_types.specs.Types.{is_too_wide, table_mismatches};
 ghost use Rattle.rule_names.specs.Names.{some_of};
-ghost use Rattle.nft_tree.specs.Kinds.{key_kinds};
+ghost use Rattle.nft_tree.specs.ComparedTypes.{key_compared_types};
 ghost use Rattle.lowering.specs.Lowered.{HasDeclared};
-ghost use Rattle.lowering.specs.steps.Tables.{AllTwo, IsMapNumbers, IsMapVerdicts, IsDeclaredSet};
+ghost use Rattle.lowering.specs.steps.Tables.{AllPairs, IsMapNumbers, IsMapVerdicts, IsDeclaredSet};
 
-use crate::keys::key_kinds;
+use crate::keys::key_compared_types;
 use crate::tables::{number_table, set_table, verdict_table};
 use box_file::Plant;
 use filter_vm::Lookups;
-use nft_tree::{Kind, MapDecl, Pair, SetDecl, ValueType};
-use rule_meaning::Decision;
+use nft_tree::{ComparedType, MapDecl, Pair, SetDecl, ValueType};
+use rule_meaning::RuleVerdict;
 use rule_names::TableNames;
 use set_intervals::Intervals;
 use std::alloc::{AllocError, Global};
 
 /// The table of a declared set.
 fn declared_set(alloc: Global, plant: &Plant, set: &SetDecl) -> Result<Intervals<()>, AllocError>
-    requires { is_too_wide (key_kinds (set_tree set.now).key) ≡ false }
+    requires { is_too_wide (key_compared_types (set_tree set.now).key) ≡ false }
     ensures { IfOk result (IsDeclaredSet plant.now (set_tree set.now)) }
 {
-    let kinds = key_kinds(alloc, &set.key)?;
+    let kinds = key_compared_types(alloc, &set.key)?;
     match &set.elements {
         Some(elements) => set_table(alloc, plant, &kinds, elements),
         None => set_table(alloc, plant, &kinds, &[]),
@@ -36,8 +36,8 @@ fn declared_sets(
     plant: &Plant,
     names: &TableNames,
 ) -> Result<Vec<Intervals<()>>, AllocError>
-    requires types { table_misfits names.now ≡ false }
-    ensures { IfOk result (λ tables. AllTwo (IsDeclaredSet plant.now) (sets_of names.now) tables.items) }
+    requires types { table_mismatches names.now ≡ false }
+    ensures { IfOk result (λ tables. AllPairs (IsDeclaredSet plant.now) (sets_of names.now) tables.items) }
 {
     let mut tables = Vec::new(alloc);
     for set in names.sets() {
@@ -62,7 +62,7 @@ fn declared_verdicts(
     plant: &Plant,
     names: &TableNames,
     map: &MapDecl,
-) -> Result<Intervals<Decision>, AllocError>
+) -> Result<Intervals<RuleVerdict>, AllocError>
     ensures { IfOk result (IsMapVerdicts plant.now names.now (map_tree map.now)) }
 {
     match map.types.data() {
@@ -80,7 +80,7 @@ fn declared_numbers(
     ensures { IfOk result (IsMapNumbers plant.now (map_tree map.now)) }
 {
     match map.types.data() {
-        Some(Kind::Named(ValueType::Mark)) => {
+        Some(ComparedType::Named(ValueType::Mark)) => {
             number_table(
                 alloc,
                 plant,
@@ -89,7 +89,7 @@ fn declared_numbers(
                 pairs_of(map),
             )
         }
-        Some(Kind::Named(ValueType::Address)) => {
+        Some(ComparedType::Named(ValueType::Address)) => {
             number_table(
                 alloc,
                 plant,
@@ -107,8 +107,8 @@ fn all_verdicts(
     alloc: Global,
     plant: &Plant,
     names: &TableNames,
-) -> Result<Vec<Intervals<Decision>>, AllocError>
-    ensures { IfOk result (λ tables. AllTwo (IsMapVerdicts plant.now names.now) (maps_of names.now) tables.items) }
+) -> Result<Vec<Intervals<RuleVerdict>>, AllocError>
+    ensures { IfOk result (λ tables. AllPairs (IsMapVerdicts plant.now names.now) (maps_of names.now) tables.items) }
 {
     let mut tables = Vec::new(alloc);
     for map in names.maps() {
@@ -123,7 +123,7 @@ fn all_numbers(
     plant: &Plant,
     names: &TableNames,
 ) -> Result<Vec<Intervals<u32>>, AllocError>
-    ensures { IfOk result (λ tables. AllTwo (IsMapNumbers plant.now) (maps_of names.now) tables.items) }
+    ensures { IfOk result (λ tables. AllPairs (IsMapNumbers plant.now) (maps_of names.now) tables.items) }
 {
     let mut tables = Vec::new(alloc);
     for map in names.maps() {
@@ -134,7 +134,7 @@ fn all_numbers(
 
 /// Tables for the sets and maps that a table declares, by their numbers in text order, on a box.
 pub fn declared(alloc: Global, plant: &Plant, names: &TableNames) -> Result<Lookups, AllocError>
-    requires types { table_misfits names.now ≡ false }
+    requires types { table_mismatches names.now ≡ false }
     ensures { IfOk result (λ lookups. HasDeclared plant.now names.now lookups) }
 {
     Ok(Lookups {

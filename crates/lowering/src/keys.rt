@@ -2,21 +2,24 @@
 ghost use Rattle.std.specs.Prelude.{◌≡◌, ◌+◌, ◌*◌, ◌^◌, ◌≤◌, false, map, IfOk};
 ghost use Rattle.std.specs.Option.{option_map};
 ghost use Rattle.nft_tree.specs.Tree.{key_tree, set_type_tree, value_tree};
-ghost use Rattle.nft_tree.specs.Kinds.{key_kinds, selector_kind};
+ghost use Rattle.nft_tree.specs.ComparedTypes.{key_compared_types, selector_compared_type};
 ghost use Rattle.nft_values.specs.Values.{span_of};
 ghost use Rattle.rule_types.specs.Types.{is_too_wide};
 ghost use Rattle.rule_meaning.specs.Sets.{key_numbers, parts};
 ghost use Rattle.rule_meaning.specs.Selectors.{join};
 
 use box_file::Plant;
-use nft_tree::{Key, Kind, Selector, SetType, Value, ValueType};
+use nft_tree::{ComparedType, Key, Selector, SetType, Value, ValueType};
 use nft_values::{numbers_of, value_numbers, width};
 use set_intervals::Range;
 use std::alloc::{AllocError, Global};
 
 /// The types of what the selectors read.
-pub(crate) fn selector_kinds(alloc: Global, selectors: &[Selector]) -> Result<Vec<Kind>, AllocError>
-    ensures { IfOk result (λ kinds. kinds.items ≡ map selector_kind selectors.now) }
+pub(crate) fn selector_kinds(
+    alloc: Global,
+    selectors: &[Selector],
+) -> Result<Vec<ComparedType>, AllocError>
+    ensures { IfOk result (λ kinds. kinds.items ≡ map selector_compared_type selectors.now) }
 {
     selectors
         .iter()
@@ -25,18 +28,21 @@ pub(crate) fn selector_kinds(alloc: Global, selectors: &[Selector]) -> Result<Ve
 }
 
 /// The types that are named.
-fn named_kinds(alloc: Global, types: &[ValueType]) -> Result<Vec<Kind>, AllocError>
-    ensures { IfOk result (λ kinds. kinds.items ≡ map Kind.Named types.now) }
+fn named_kinds(alloc: Global, types: &[ValueType]) -> Result<Vec<ComparedType>, AllocError>
+    ensures { IfOk result (λ kinds. kinds.items ≡ map ComparedType.Named types.now) }
 {
     types
         .iter()
-        .map(|value_type| Kind::Named(*value_type))
+        .map(|value_type| ComparedType::Named(*value_type))
         .collect(alloc)
 }
 
 /// The types of a declared set's keys, part by part.
-pub(crate) fn key_kinds(alloc: Global, key: &SetType) -> Result<Vec<Kind>, AllocError>
-    ensures { IfOk result (λ kinds. kinds.items ≡ key_kinds (set_type_tree key.now)) }
+pub(crate) fn key_compared_types(
+    alloc: Global,
+    key: &SetType,
+) -> Result<Vec<ComparedType>, AllocError>
+    ensures { IfOk result (λ kinds. kinds.items ≡ key_compared_types (set_type_tree key.now)) }
 {
     match key {
         SetType::Types(types) => named_kinds(alloc, types),
@@ -55,7 +61,7 @@ fn shifted(number: u128, bits: u32) -> u128
 
 /// The values of these types side by side, the first one highest. `None` where one of them stands for
 /// no number, or there are more of the one than of the other.
-fn joined(plant: &Plant, kinds: &[Kind], values: &[Value]) -> Option<u128>
+fn concatenated(plant: &Plant, kinds: &[ComparedType], values: &[Value]) -> Option<u128>
     requires { is_too_wide kinds.now ≡ false }
     ensures { result ≡ join 0 (parts plant.now kinds.now (map value_tree values.now)) }
 {
@@ -71,7 +77,7 @@ fn joined(plant: &Plant, kinds: &[Kind], values: &[Value]) -> Option<u128>
 }
 
 /// The numbers that a key of these types stands for; `None` where it stands for none.
-pub(crate) fn key_numbers(plant: &Plant, kinds: &[Kind], key: &Key) -> Option<Range>
+pub(crate) fn key_numbers(plant: &Plant, kinds: &[ComparedType], key: &Key) -> Option<Range>
     requires { is_too_wide kinds.now ≡ false }
     ensures { option_map span_of result ≡ key_numbers plant.now kinds.now (key_tree key.now) }
 {
@@ -81,7 +87,7 @@ pub(crate) fn key_numbers(plant: &Plant, kinds: &[Kind], key: &Key) -> Option<Ra
             _ => None,
         },
         Key::Joined(values) => {
-            let number = joined(plant, kinds, values)?;
+            let number = concatenated(plant, kinds, values)?;
             Range::new(number, number)
         }
     }

@@ -4,11 +4,11 @@
 
 mod declarations;
 mod keys;
-mod lookups;
+mod lookup_tables;
 mod matches;
+mod nat_statements;
 mod statements;
 mod tables;
-mod translations;
 
 pub use declarations::declared;
 pub use statements::action;

@@ -1,19 +1,19 @@
 //! Tests of packets as actions.
 ghost use Rattle.std.specs.Prelude.{◌≡◌, ◌==◌, false, map, not, bit_and, IfOk, OnOk};
 ghost use Rattle.nft_tree.specs.Tree.{flag_tree, match_tree, range_tree};
-ghost use Rattle.nft_tree.specs.Kinds.{selector_kind};
+ghost use Rattle.nft_tree.specs.ComparedTypes.{selector_compared_type};
 ghost use Rattle.nft_values.specs.Values.{numbers_of};
-ghost use Rattle.rule_types.specs.Types.{match_misfits};
+ghost use Rattle.rule_types.specs.Types.{match_mismatches};
 ghost use Rattle.rule_meaning.specs.Selectors.{value};
 ghost use Rattle.rule_meaning.specs.Matches.{bit_selector, bit_type, bits_of, bits_pass, compares_with, flag_number, flags_of, holds, tests, union, word_number};
 ghost use Rattle.rule_meaning.specs.Statements.{passes_if};
 ghost use Rattle.lowering.specs.Lowered.{Extends, HasDeclared};
-ghost use Rattle.lowering.specs.steps.Actions.{AlwaysSays, LowersTo, scope_of};
+ghost use Rattle.lowering.specs.steps.Actions.{AlwaysHasEffect, HasEffect, scope_of};
 
-use crate::lookups::set_number;
+use crate::lookup_tables::set_index;
 use box_file::Plant;
 use filter_vm::{Action, Lookups};
-use nft_tree::{BitField, BitTest, Flag, Match, Operator, Range, Selector, ValueType};
+use nft_tree::{BitField, BitTest, Flag, Match, Operator, Selector, ValueRange, ValueType};
 use nft_values::numbers_of;
 use rule_names::TableNames;
 use set_intervals::Range as Interval;
@@ -21,14 +21,14 @@ use std::alloc::{AllocError, Global};
 
 /// The action that fails of every packet: no bits are unequal to none.
 fn never(selector: Selector) -> Action
-    ensures { AlwaysSays (λ f. passes_if false) result }
+    ensures { AlwaysHasEffect (λ f. passes_if false) result }
 {
     Action::BitsUnequal(selector, 0, 0)
 }
 
 /// A selector against a value, a range or a prefix.
-fn compare(plant: &Plant, selector: Selector, operator: Operator, range: &Range) -> Action
-    ensures { AlwaysSays (λ f. passes_if (tests (value selector f) (compares_with operator (numbers_of plant.now (selector_kind selector) (range_tree range.now))))) result }
+fn compare(plant: &Plant, selector: Selector, operator: Operator, range: &ValueRange) -> Action
+    ensures { AlwaysHasEffect (λ f. passes_if (tests (value selector f) (compares_with operator (numbers_of plant.now (selector_compared_type selector) (range_tree range.now))))) result }
 {
     match numbers_of(plant, selector.kind(), range) {
         Some(numbers) => Action::Compare(selector, operator, numbers),
@@ -38,7 +38,7 @@ fn compare(plant: &Plant, selector: Selector, operator: Operator, range: &Range)
 
 /// What is read is the number.
 fn equals(selector: Selector, number: u128) -> Action
-    ensures { AlwaysSays (λ f. passes_if (tests (value selector f) (λ n. n == number))) result }
+    ensures { AlwaysHasEffect (λ f. passes_if (tests (value selector f) (λ n. n == number))) result }
 {
     match Interval::new(number, number) {
         Some(numbers) => Action::Compare(selector, Operator::Equal, numbers),
@@ -57,7 +57,7 @@ fn word_number(value_type: ValueType, word: &[u8]) -> u128
 }
 
 /// The selector and the type of bits.
-fn bit_place(field: BitField) -> (Selector, ValueType)
+fn bit_source(field: BitField) -> (Selector, ValueType)
     ensures selector { result.0 ≡ bit_selector field }
     ensures named { result.1 ≡ bit_type field }
 {
@@ -80,9 +80,9 @@ fn bits_of(value_type: ValueType, words: &[Vec<u8>]) -> u128
 
 /// What is read of a connection against bits.
 fn test_bits(field: BitField, test: BitTest, words: &[Vec<u8>]) -> Action
-    ensures { AlwaysSays (λ f. passes_if (tests (value (bit_selector field) f) (bits_pass test (bits_of field (map (λ w. w.items) words.now))))) result }
+    ensures { AlwaysHasEffect (λ f. passes_if (tests (value (bit_selector field) f) (bits_pass test (bits_of field (map (λ w. w.items) words.now))))) result }
 {
-    let (selector, value_type) = bit_place(field);
+    let (selector, value_type) = bit_source(field);
     let bits = bits_of(value_type, words);
     match test {
         BitTest::Any => Action::BitsUnequal(selector, bits, 0),
@@ -113,7 +113,7 @@ fn flags_of(flags: &[Flag]) -> u128
 }
 
 /// The action that passes where the test holds.
-pub(crate) fn test_packet(
+pub(crate) fn lower_match(
     alloc: Global,
     plant: &Plant,
     names: &TableNames,
@@ -121,22 +121,22 @@ pub(crate) fn test_packet(
     lookups: &mut Lookups,
 ) -> Result<Action, AllocError>
     requires declared { HasDeclared plant.now names.now lookups.old }
-    requires types { match_misfits names.now (match_tree test.now) ≡ false }
+    requires types { match_mismatches names.now (match_tree test.now) ≡ false }
     ensures extends { OnOk result (Extends lookups.old lookups.new) }
-    ensures says { IfOk result (LowersTo lookups.new (λ f. passes_if (holds (scope_of plant.now names.now) (match_tree test.now) f))) }
+    ensures statement_effect { IfOk result (HasEffect lookups.new (λ f. passes_if (holds (scope_of plant.now names.now) (match_tree test.now) f))) }
 {
     const FLAGS: Selector = Selector::TcpFlags;
     match test {
         Match::Compare(selector, operator, range) => {
             Ok(compare(plant, *selector, *operator, range))
         }
-        Match::In(selectors, set) => Ok(Action::Within(
+        Match::In(selectors, set) => Ok(Action::InSet(
             selectors.clone()?,
-            set_number(alloc, plant, names, selectors, set, lookups)?,
+            set_index(alloc, plant, names, selectors, set, lookups)?,
         )),
-        Match::NotIn(selectors, set) => Ok(Action::Without(
+        Match::NotIn(selectors, set) => Ok(Action::NotInSet(
             selectors.clone()?,
-            set_number(alloc, plant, names, selectors, set, lookups)?,
+            set_index(alloc, plant, names, selectors, set, lookups)?,
         )),
         Match::Bits(field, how, words) => Ok(test_bits(*field, *how, words)),
         Match::AnyFlag(flags) => Ok(Action::BitsUnequal(FLAGS, flags_of(flags), 0)),

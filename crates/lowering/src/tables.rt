@@ -2,18 +2,18 @@
 ghost use Rattle.std.specs.Prelude.{◌≡◌, ℕ, false, map, slice_get, is_some, IfOk, OnOk, IfSome};
 ghost use Rattle.std.specs.Option.{option_map};
 ghost use Rattle.nft_tree.specs.Tree.{data_tree, element_tree, pair_tree, verdict_tree};
-ghost use Rattle.nft_tree.specs.declared.kind.Kind.TheVariants.{Named};
+ghost use Rattle.nft_tree.specs.declared.compared_types.ComparedType.TheVariants.{Named};
 ghost use Rattle.rule_types.specs.Types.{is_too_wide};
 ghost use Rattle.rule_meaning.specs.Sets.{data_number, data_verdict, pair_gives};
-ghost use Rattle.rule_meaning.specs.Statements.{chain_number, decision_of};
+ghost use Rattle.rule_meaning.specs.Statements.{chain_number, rule_verdict_of};
 ghost use Rattle.lowering.specs.Lowered.{Keeps};
-ghost use Rattle.lowering.specs.steps.Tables.{IsNumberTable, IsRead, IsSetTable, IsVerdictTable, entry_gives};
+ghost use Rattle.lowering.specs.steps.Tables.{IsNumberTable, IsNumberType, IsSetTable, IsVerdictTable, entry_gives};
 
 use crate::keys::key_numbers;
 use box_file::Plant;
-use nft_tree::{Data, Element, Kind, Pair, ValueType, Verdict};
+use nft_tree::{ComparedType, Data, Element, Pair, ValueType, Verdict};
 use nft_values::{numbers_of, value_numbers};
-use rule_meaning::Decision;
+use rule_meaning::RuleVerdict;
 use rule_names::TableNames;
 use set_intervals::{Intervals, Range};
 use std::alloc::{AllocError, Global};
@@ -22,7 +22,7 @@ use std::alloc::{AllocError, Global};
 fn chain_number(names: &TableNames, name: &[u8]) -> Result<u32, AllocError>
     ensures { IfOk result (λ n. n ≡ chain_number names.now name.now) }
 {
-    let place = match names.chain_place(name) {
+    let place = match names.chain_index(name) {
         Some(place) => place,
         None => names.chains().len(),
     };
@@ -34,16 +34,16 @@ fn chain_number(names: &TableNames, name: &[u8]) -> Result<u32, AllocError>
 }
 
 /// What the verdict decides, its chain by its number.
-pub(crate) fn decision(names: &TableNames, verdict: &Verdict) -> Result<Decision, AllocError>
-    ensures { IfOk result (λ d. d ≡ decision_of names.now (verdict_tree verdict.now)) }
+pub(crate) fn rule_verdict(names: &TableNames, verdict: &Verdict) -> Result<RuleVerdict, AllocError>
+    ensures { IfOk result (λ d. d ≡ rule_verdict_of names.now (verdict_tree verdict.now)) }
 {
     Ok(match verdict {
-        Verdict::Accept => Decision::Accept,
-        Verdict::Drop => Decision::Drop,
-        Verdict::Continue => Decision::Continue,
-        Verdict::Return => Decision::Return,
-        Verdict::Jump(name) => Decision::Jump(chain_number(names, name)?),
-        Verdict::Goto(name) => Decision::Goto(chain_number(names, name)?),
+        Verdict::Accept => RuleVerdict::Accept,
+        Verdict::Drop => RuleVerdict::Drop,
+        Verdict::Continue => RuleVerdict::Continue,
+        Verdict::Return => RuleVerdict::Return,
+        Verdict::Jump(name) => RuleVerdict::Jump(chain_number(names, name)?),
+        Verdict::Goto(name) => RuleVerdict::Goto(chain_number(names, name)?),
     })
 }
 
@@ -51,7 +51,7 @@ pub(crate) fn decision(names: &TableNames, verdict: &Verdict) -> Result<Decision
 fn element_pairs(
     alloc: Global,
     plant: &Plant,
-    kinds: &[Kind],
+    kinds: &[ComparedType],
     elements: &[Element],
 ) -> Result<Vec<(Range, ())>, AllocError>
     requires { is_too_wide kinds.now ≡ false }
@@ -70,7 +70,7 @@ fn element_pairs(
 pub(crate) fn set_table(
     alloc: Global,
     plant: &Plant,
-    kinds: &[Kind],
+    kinds: &[ComparedType],
     elements: &[Element],
 ) -> Result<Intervals<()>, AllocError>
     requires { is_too_wide kinds.now ≡ false }
@@ -81,11 +81,11 @@ pub(crate) fn set_table(
 }
 
 /// What an element decides; `None` where it gives a value.
-fn data_decision(names: &TableNames, datum: &Data) -> Result<Option<Decision>, AllocError>
-    ensures { IfOk result (λ d. d ≡ option_map (decision_of names.now) (data_verdict (data_tree datum.now))) }
+fn element_verdict(names: &TableNames, datum: &Data) -> Result<Option<RuleVerdict>, AllocError>
+    ensures { IfOk result (λ d. d ≡ option_map (rule_verdict_of names.now) (data_verdict (data_tree datum.now))) }
 {
     match datum {
-        Data::Verdict(verdict) => Ok(Some(decision(names, verdict)?)),
+        Data::Verdict(verdict) => Ok(Some(rule_verdict(names, verdict)?)),
         Data::Value(_) => Ok(None),
     }
 }
@@ -95,18 +95,18 @@ fn data_decision(names: &TableNames, datum: &Data) -> Result<Option<Decision>, A
 fn verdict_entry(
     plant: &Plant,
     names: &TableNames,
-    kind: Kind,
+    kind: ComparedType,
     pair: &Pair,
-) -> Result<Option<(Range, Decision)>, AllocError>
-    ensures { IfOk result (λ entry. (n : ℕ) → entry_gives entry n ≡ option_map (decision_of names.now) (pair_gives data_verdict plant.now kind n (pair_tree pair.now))) }
+) -> Result<Option<(Range, RuleVerdict)>, AllocError>
+    ensures { IfOk result (λ entry. (n : ℕ) → entry_gives entry n ≡ option_map (rule_verdict_of names.now) (pair_gives data_verdict plant.now kind n (pair_tree pair.now))) }
 {
     let Some(range) = numbers_of(plant, kind, &pair.key) else {
         return Ok(None);
     };
-    let Some(decision) = data_decision(names, &pair.value)? else {
+    let Some(rule_verdict) = element_verdict(names, &pair.value)? else {
         return Ok(None);
     };
-    Ok(Some((range, decision)))
+    Ok(Some((range, rule_verdict)))
 }
 
 /// What elements with keys of the type decide, by their numbers.
@@ -114,9 +114,9 @@ fn verdict_pairs(
     alloc: Global,
     plant: &Plant,
     names: &TableNames,
-    kind: Kind,
+    kind: ComparedType,
     pairs: &[Pair],
-) -> Result<Vec<(Range, Decision)>, AllocError>
+) -> Result<Vec<(Range, RuleVerdict)>, AllocError>
     ensures { IfOk result (λ entries. IsVerdictTable plant.now names.now kind (map pair_tree pairs.now) entries.items) }
 {
     let mut entries = Vec::new(alloc);
@@ -133,9 +133,9 @@ pub(crate) fn verdict_table(
     alloc: Global,
     plant: &Plant,
     names: &TableNames,
-    kind: Kind,
+    kind: ComparedType,
     pairs: &[Pair],
-) -> Result<Intervals<Decision>, AllocError>
+) -> Result<Intervals<RuleVerdict>, AllocError>
     ensures { IfOk result (IsVerdictTable plant.now names.now kind (map pair_tree pairs.now)) }
 {
     let entries = verdict_pairs(alloc, plant, names, kind, pairs)?;
@@ -144,13 +144,13 @@ pub(crate) fn verdict_table(
 
 /// The number that an element gives, a mark or an address; `None` where it gives none of the type.
 fn data_number(plant: &Plant, given: ValueType, datum: &Data) -> Option<u32>
-    requires { IsRead given }
+    requires { IsNumberType given }
     ensures { result ≡ data_number plant.now (Named given) (data_tree datum.now) }
 {
     match datum {
         Data::Verdict(_) => None,
         Data::Value(value) => {
-            let number = value_numbers(plant, Kind::Named(given), value)?.low();
+            let number = value_numbers(plant, ComparedType::Named(given), value)?.low();
             Some(number as u32)
         }
     }
@@ -158,8 +158,13 @@ fn data_number(plant: &Plant, given: ValueType, datum: &Data) -> Option<u32>
 
 /// The numbers of an element with a key of the type, and the number that it gives; `None` where one of
 /// them stands for no number.
-fn number_entry(plant: &Plant, kind: Kind, given: ValueType, pair: &Pair) -> Option<(Range, u32)>
-    requires { IsRead given }
+fn number_entry(
+    plant: &Plant,
+    kind: ComparedType,
+    given: ValueType,
+    pair: &Pair,
+) -> Option<(Range, u32)>
+    requires { IsNumberType given }
     ensures { (n : ℕ) → entry_gives result n ≡ pair_gives (data_number plant.now (Named given)) plant.now kind n (pair_tree pair.now) }
 {
     let range = numbers_of(plant, kind, &pair.key)?;
@@ -171,11 +176,11 @@ fn number_entry(plant: &Plant, kind: Kind, given: ValueType, pair: &Pair) -> Opt
 fn number_pairs(
     alloc: Global,
     plant: &Plant,
-    kind: Kind,
+    kind: ComparedType,
     given: ValueType,
     pairs: &[Pair],
 ) -> Result<Vec<(Range, u32)>, AllocError>
-    requires { IsRead given }
+    requires { IsNumberType given }
     ensures { IfOk result (λ entries. IsNumberTable plant.now kind given (map pair_tree pairs.now) entries.items) }
 {
     let mut entries = Vec::new(alloc);
@@ -192,11 +197,11 @@ fn number_pairs(
 pub(crate) fn number_table(
     alloc: Global,
     plant: &Plant,
-    kind: Kind,
+    kind: ComparedType,
     given: ValueType,
     pairs: &[Pair],
 ) -> Result<Intervals<u32>, AllocError>
-    requires { IsRead given }
+    requires { IsNumberType given }
     ensures { IfOk result (IsNumberTable plant.now kind given (map pair_tree pairs.now)) }
 {
     let entries = number_pairs(alloc, plant, kind, given, pairs)?;

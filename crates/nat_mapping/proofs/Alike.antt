@@ -6,9 +6,9 @@ use Rattle.std.proofs.lemmas.Bool.{eqb-true, and_parts}
 use Rattle.ip_headers.specs.declared.tuple.Kind.{Kind}
 use Rattle.ip_headers.specs.declared.tuple.Endpoint.{Endpoint}
 use Rattle.ip_headers.specs.declared.tuple.Mapping.{Mapping}
-use Rattle.port_pool.specs.declared.range.Range.{Range}
+use Rattle.port_pool.specs.declared.range.CandidateRange.{CandidateRange}
 use Rattle.port_pool.specs.Candidates.{candidates}
-use Rattle.nat_mapping.specs.Mappings.{is_outside, is_from, HoldsSame, inbound_of, port_of, is_port_held, fresh_port, source_of, or_else, order_of, IsOneToOne}
+use Rattle.nat_mapping.specs.Mappings.{has_external, has_internal, HoldsSame, inbound_of, port_of, is_port_held, first_free_port, source_of, or_else, order_of, IsOneToOne}
 use Rattle.nat_mapping.proofs.Equal.{kind_test, endpoint_test}
 use Rattle.nat_mapping.proofs.Lists.{found_among, none_such, has_holder, is_among}
 use Rattle.nat_mapping.proofs.OneMore.{one_to_one-within}
@@ -42,9 +42,9 @@ module _ (one other : List Mapping) (same : HoldsSame one other) (unique : IsOne
 
   pub inbound_alike : (kind : Kind) (external : Endpoint) → inbound_of kind external one ≡ inbound_of kind external other
   unfolding inbound_of
-  inbound_alike kind external = found_alike (is_outside kind external) (λ m. m.internal) agree
+  inbound_alike kind external = found_alike (has_external kind external) (λ m. m.internal) agree
     where
-      agree : (x y : Mapping) → Contains other x → Contains other y → is_outside kind external x ≡ true → is_outside kind external y ≡ true → x.internal ≡ y.internal
+      agree : (x y : Mapping) → Contains other x → Contains other y → has_external kind external x ≡ true → has_external kind external y ≡ true → x.internal ≡ y.internal
       agree x y a b p q =
           let first = and_parts _ _ p in
           let second = and_parts _ _ q in
@@ -52,9 +52,9 @@ module _ (one other : List Mapping) (same : HoldsSame one other) (unique : IsOne
 
   pub port_alike : (kind : Kind) (internal : Endpoint) (address : ℕ) → port_of kind internal address one ≡ port_of kind internal address other
   unfolding port_of
-  port_alike kind internal address = found_alike (is_from kind internal address) (λ m. m.external.port) agree
+  port_alike kind internal address = found_alike (has_internal kind internal address) (λ m. m.external.port) agree
     where
-      agree : (x y : Mapping) → Contains other x → Contains other y → is_from kind internal address x ≡ true → is_from kind internal address y ≡ true → x.external.port ≡ y.external.port
+      agree : (x y : Mapping) → Contains other x → Contains other y → has_internal kind internal address x ≡ true → has_internal kind internal address y ≡ true → x.external.port ≡ y.external.port
       agree x y a b p q =
           let first = and_parts _ _ p in
           let second = and_parts _ _ q in
@@ -63,12 +63,12 @@ module _ (one other : List Mapping) (same : HoldsSame one other) (unique : IsOne
           let same_address : x.external.address ≡ y.external.address = eqb-true _ _ here.1 ∙ sym (eqb-true _ _ there.1) in
           unique.one_port x y a b (kind_test.exact _ _ first.0 ∙ sym (kind_test.exact _ _ second.0)) (endpoint_test.exact _ _ here.0 ∙ sym (endpoint_test.exact _ _ there.0)) same_address
 
-  fresh_alike : (kind : Kind) (internal : Endpoint) (address : ℕ) (range : Option Range) → fresh_port kind internal address range one ≡ fresh_port kind internal address range other
-  fresh_alike kind internal address range =
+  first_free_alike : (kind : Kind) (internal : Endpoint) (address : ℕ) (range : Option CandidateRange) → first_free_port kind internal address range one ≡ first_free_port kind internal address range other
+  first_free_alike kind internal address range =
       let tests : ◌≡◌ {A = ℕ → Bool} (λ p. not (is_port_held kind address one p)) (λ p. not (is_port_held kind address other p)) = λ i. λ p. not (is_some (inbound_alike kind (record { address = address; port = p }) i)) in
       ap (λ f. find f (candidates (order_of kind) internal.port range)) tests
 
-  pub source_alike : (kind : Kind) (internal : Endpoint) (address : ℕ) (range : Option Range) → source_of kind internal address range one ≡ source_of kind internal address range other
+  pub source_alike : (kind : Kind) (internal : Endpoint) (address : ℕ) (range : Option CandidateRange) → source_of kind internal address range one ≡ source_of kind internal address range other
   source_alike kind internal address range =
-      ap (λ o. or_else o (fresh_port kind internal address range one)) (port_alike kind internal address)
-      ∙ ap (λ o. or_else (port_of kind internal address other) o) (fresh_alike kind internal address range)
+      ap (λ o. or_else o (first_free_port kind internal address range one)) (port_alike kind internal address)
+      ∙ ap (λ o. or_else (port_of kind internal address other) o) (first_free_alike kind internal address range)

@@ -8,21 +8,21 @@ use Rattle.std.proofs.lemmas.Bool.{cases_Bool, cond-true, cond-false, both_ways,
 use Rattle.ip_headers.specs.declared.tuple.Kind.{Kind}
 use Rattle.ip_headers.specs.declared.tuple.Endpoint.{Endpoint}
 use Rattle.ip_headers.specs.declared.tuple.Mapping.{Mapping}
-use Rattle.port_pool.specs.declared.range.Range.{Range}
+use Rattle.port_pool.specs.declared.range.CandidateRange.{CandidateRange}
 use Rattle.nat_mapping.specs.declared.keys.SourceKey.{SourceKey}
 use Rattle.nat_mapping.specs.declared.keys.InboundKey.{InboundKey}
 use Rattle.nat_mapping.specs.declared.keys.PoolKey.{PoolKey}
-use Rattle.nat_mapping.specs.declared.keys.Holding.{Holding}
+use Rattle.nat_mapping.specs.declared.keys.MappedPort.{MappedPort}
 use Rattle.port_pool.specs.Candidates.{candidates}
 use Rattle.std.specs.List.{Contains}
-use Rattle.nat_mapping.specs.Mappings.{holders_of, is_outside, is_from, inbound_of, port_of, is_port_held, order_of, or_else, source_of, IsOneToOne}
+use Rattle.nat_mapping.specs.Mappings.{holders_of, has_external, has_internal, inbound_of, port_of, is_port_held, order_of, or_else, source_of, IsOneToOne}
 use Rattle.nat_mapping.specs.steps.Keys.{source_key_of, inbound_key_of, inbound_at, mapping_at}
-use Rattle.nat_mapping.specs.steps.Kept.{holders_at, Counts, IsSound}
+use Rattle.nat_mapping.specs.steps.Consistent.{holders_at, CountsHolders, IsSound}
 use Rattle.nat_mapping.proofs.Equal.{kind_test, endpoint_test}
 use Rattle.nat_mapping.proofs.Lists.{find_held, find_none, has_holder, is_among}
 
 -- where a mapping has holders, it is found
-pub holding_at : (o : Option Holding) (port : ℕ) → 0 < holders_at o port → (h : Holding) × ((o ≡ Some h) × (h.port ≡ port))
+pub holding_at : (o : Option MappedPort) (port : ℕ) → 0 < holders_at o port → (h : MappedPort) × ((o ≡ Some h) × (h.port ≡ port))
 holding_at None port some = absurd (omega arith)
 holding_at (Some h) port some =
     elim (cases_Bool (port == h.port)) [
@@ -30,13 +30,13 @@ holding_at (Some h) port some =
       | inr f ↦ let none : cond (port == h.port) h.holders 0 ≡ 0 = cond-false (port == h.port) h.holders 0 f in absurd (omega (arith, none))
     ]
 
-pub holders_by : (o : Option Holding) (port : ℕ) (h : Holding) → o ≡ Some h → h.port ≡ port → holders_at o port ≡ h.holders
+pub holders_by : (o : Option MappedPort) (port : ℕ) (h : MappedPort) → o ≡ Some h → h.port ≡ port → holders_at o port ≡ h.holders
 holders_by o port h is here =
     ap (λ p. holders_at p port) is ∙ cond-true (port == h.port) h.holders 0 (eq-eqb port h.port (sym here))
 
-module _ (sources : SourceKey → Option Holding) (inbounds : InboundKey → Option Endpoint) (taken : PoolKey → ℕ → Bool) (sound : IsSound sources inbounds taken) (held : List Mapping) (counts : Counts sources held) where
+module _ (sources : SourceKey → Option MappedPort) (inbounds : InboundKey → Option Endpoint) (taken : PoolKey → ℕ → Bool) (sound : IsSound sources inbounds taken) (held : List Mapping) (counts : CountsHolders sources held) where
   -- a mapping that has holders is in the maps
-  pub kept : (m : Mapping) → 0 < holders_of m held → (h : Holding) × ((sources (source_key_of m) ≡ Some h) × (h.port ≡ m.external.port))
+  pub kept : (m : Mapping) → 0 < holders_of m held → (h : MappedPort) × ((sources (source_key_of m) ≡ Some h) × (h.port ≡ m.external.port))
   kept m some =
       let P : ℕ → Type 0 = λ n. 0 < n in
       holding_at (sources (source_key_of m)) m.external.port (subst P (counts m) some)
@@ -49,27 +49,27 @@ module _ (sources : SourceKey → Option Holding) (inbounds : InboundKey → Opt
       ap inbounds same ∙ sound.out (source_key_of m) found.0 found.1.0
 
   -- what is in the map has holders
-  pub filed : (key : SourceKey) (h : Holding) → sources key ≡ Some h → 0 < holders_of (mapping_at key h) held
+  pub filed : (key : SourceKey) (h : MappedPort) → sources key ≡ Some h → 0 < holders_of (mapping_at key h) held
   filed key h is =
       let n : holders_of (mapping_at key h) held ≡ h.holders = counts (mapping_at key h) ∙ holders_by (sources key) h.port h is refl in
       omega (arith, n, sound.held key h is)
 
   pub inbound_is : (kind : Kind) (external : Endpoint) → inbound_of kind external held ≡ inbounds (record { kind = kind; external = external })
   unfolding inbound_of
-  inbound_is kind external = by (find (is_outside kind external) held) refl
+  inbound_is kind external = by (find (has_external kind external) held) refl
     where
-      none : (o : Option Endpoint) → inbounds (record { kind = kind; external = external }) ≡ o → find (is_outside kind external) held ≡ None → None ≡ o
+      none : (o : Option Endpoint) → inbounds (record { kind = kind; external = external }) ≡ o → find (has_external kind external) held ≡ None → None ≡ o
       none None is e = refl
       none (Some i) is e =
           let back = sound.back (record { kind = kind; external = external }) i is in
           let m : Mapping = mapping_at (record { kind = kind; internal = i; address = external.address }) back.0 in
-          let fails : is_outside kind external m ≡ false = find_none (is_outside kind external) held m e (filed _ back.0 back.1.0) in
+          let fails : has_external kind external m ≡ false = find_none (has_external kind external) held m e (filed _ back.0 back.1.0) in
           let port : (m.external.port == external.port) ≡ true = eq-eqb _ _ back.1.1 in
-          absurd (both_ways (is_outside kind external m) fails (and_from _ _ (kind_test.same kind) (and_from _ _ (eq-eqb external.address external.address refl) port)))
+          absurd (both_ways (has_external kind external m) fails (and_from _ _ (kind_test.same kind) (and_from _ _ (eq-eqb external.address external.address refl) port)))
 
-      by : (f : Option Mapping) → find (is_outside kind external) held ≡ f → option_map (λ m. m.internal) f ≡ inbounds (record { kind = kind; external = external })
+      by : (f : Option Mapping) → find (has_external kind external) held ≡ f → option_map (λ m. m.internal) f ≡ inbounds (record { kind = kind; external = external })
       by (Some m) e =
-          let got = find_held (is_outside kind external) held m e in
+          let got = find_held (has_external kind external) held m e in
           let parts = and_parts _ _ got.0 in
           let same_kinds : kind ≡ m.kind = sym (kind_test.exact _ _ parts.0) in
           let same_ends : external ≡ m.external = sym (endpoint_test.exact _ _ parts.1) in
@@ -79,21 +79,21 @@ module _ (sources : SourceKey → Option Holding) (inbounds : InboundKey → Opt
 
   pub port_is : (kind : Kind) (internal : Endpoint) (address : ℕ) → port_of kind internal address held ≡ option_map (λ h. h.port) (sources (record { kind = kind; internal = internal; address = address }))
   unfolding port_of
-  port_is kind internal address = by (find (is_from kind internal address) held) refl
+  port_is kind internal address = by (find (has_internal kind internal address) held) refl
     where
       key : SourceKey
       key = record { kind = kind; internal = internal; address = address }
 
-      none : (o : Option Holding) → sources (record { kind = kind; internal = internal; address = address }) ≡ o → find (is_from kind internal address) held ≡ None → None ≡ option_map (λ h. h.port) o
+      none : (o : Option MappedPort) → sources (record { kind = kind; internal = internal; address = address }) ≡ o → find (has_internal kind internal address) held ≡ None → None ≡ option_map (λ h. h.port) o
       none None is e = refl
       none (Some h) is e =
           let m : Mapping = mapping_at (record { kind = kind; internal = internal; address = address }) h in
-          let fails : is_from kind internal address m ≡ false = find_none (is_from kind internal address) held m e (filed _ h is) in
-          absurd (both_ways (is_from kind internal address m) fails (and_from _ _ (kind_test.same kind) (and_from _ _ (endpoint_test.same internal) (eq-eqb address address refl))))
+          let fails : has_internal kind internal address m ≡ false = find_none (has_internal kind internal address) held m e (filed _ h is) in
+          absurd (both_ways (has_internal kind internal address m) fails (and_from _ _ (kind_test.same kind) (and_from _ _ (endpoint_test.same internal) (eq-eqb address address refl))))
 
-      by : (f : Option Mapping) → find (is_from kind internal address) held ≡ f → option_map (λ m. m.external.port) f ≡ option_map (λ h. h.port) (sources (record { kind = kind; internal = internal; address = address }))
+      by : (f : Option Mapping) → find (has_internal kind internal address) held ≡ f → option_map (λ m. m.external.port) f ≡ option_map (λ h. h.port) (sources (record { kind = kind; internal = internal; address = address }))
       by (Some m) e =
-          let got = find_held (is_from kind internal address) held m e in
+          let got = find_held (has_internal kind internal address) held m e in
           let parts = and_parts _ _ got.0 in
           let ends = and_parts _ _ parts.1 in
           let same_kinds : kind ≡ m.kind = sym (kind_test.exact _ _ parts.0) in
@@ -108,7 +108,7 @@ module _ (sources : SourceKey → Option Holding) (inbounds : InboundKey → Opt
       by None e = none (sources (record { kind = kind; internal = internal; address = address })) refl e
 
   -- what stands outside, by its external endpoint
-  pub source_is : (kind : Kind) (internal : Endpoint) (address : ℕ) (range : Option Range) → source_of kind internal address range held
+  pub source_is : (kind : Kind) (internal : Endpoint) (address : ℕ) (range : Option CandidateRange) → source_of kind internal address range held
       ≡ or_else (option_map (λ h. h.port) (sources (record { kind = kind; internal = internal; address = address }))) (find (λ p. not (is_some (inbounds (inbound_at (record { kind = kind; address = address }) p)))) (candidates (order_of kind) internal.port range))
   source_is kind internal address range =
       let tests : ◌≡◌ {A = ℕ → Bool} (λ p. not (is_port_held kind address held p)) (λ p. not (is_some (inbounds (inbound_at (record { kind = kind; address = address }) p)))) = λ i. λ p. not (is_some (inbound_is kind (record { address = address; port = p }) i)) in
@@ -132,8 +132,8 @@ module _ (sources : SourceKey → Option Holding) (inbounds : InboundKey → Opt
           ∙ ap (λ z. record { kind = n.kind; internal = n.internal; address = z }) a in
           let here = kept m (has_holder m held x) in
           let there = kept n (has_holder n held y) in
-          sym here.1.1 ∙ ap (λ (h : Holding). h.port) (same_Some here.0 there.0 (sym here.1.0 ∙ ap sources same ∙ there.1.0)) ∙ there.1.1
+          sym here.1.1 ∙ ap (λ (h : MappedPort). h.port) (same_Some here.0 there.0 (sym here.1.0 ∙ ap sources same ∙ there.1.0)) ∙ there.1.1
 
   -- what is filed is held
-  pub filed_among : (key : SourceKey) (h : Holding) → sources key ≡ Some h → Contains held (mapping_at key h)
+  pub filed_among : (key : SourceKey) (h : MappedPort) → sources key ≡ Some h → Contains held (mapping_at key h)
   filed_among key h is = is_among (mapping_at key h) held (filed key h is)

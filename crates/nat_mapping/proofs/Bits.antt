@@ -92,22 +92,22 @@ module _ (orders orders' : PoolKey → Option Order) (taken taken' : PoolKey →
   pub used_more : ((q : PoolKey) → orders' q ≡ orders q) → BitSet taken taken' key port true → AreUsed orders' taken'
   used_more same set = record {
     order = λ k o e. used.order k o (sym (same k) ∙ e);
-    row = λ k e. used.row k (ap is_some (sym (same k)) ∙ e);
+    bitmap = λ k e. used.bitmap k (ap is_some (sym (same k)) ∙ e);
     used = λ k e. let old = used.used k (ap is_some (sym (same k)) ∙ e) in (old.0, set k old.0 ∙ taken_either (same_pool key k && old.0 == port) (taken k old.0) old.1);
   }
 
   -- a pool begins, with that port taken
   pub used_begun : (order : Order) → order ≡ order_of key.kind → has_pool key.kind ≡ true → Sets orders orders' key (Some order) → BitSet taken taken' key port true → AreUsed orders' taken'
-  used_begun order is row sets set = record {
+  used_begun order is bitmap sets set = record {
     order = λ k o e. elim (decide same_pool pool_test key k) [
       | inl same ↦
           let o_is : order ≡ o = same_Some order o (sym sets.at ∙ ap orders' same ∙ e) in
           sym o_is ∙ is ∙ ap (λ (x : PoolKey). order_of x.kind) same
       | inr apart ↦ used.order k o (sym (sets.off k apart) ∙ e)
     ];
-    row = λ k e. elim (decide same_pool pool_test key k) [
-      | inl same ↦ ap (λ (x : PoolKey). has_pool x.kind) (sym same) ∙ row
-      | inr apart ↦ used.row k (ap is_some (sym (sets.off k apart)) ∙ e)
+    bitmap = λ k e. elim (decide same_pool pool_test key k) [
+      | inl same ↦ ap (λ (x : PoolKey). has_pool x.kind) (sym same) ∙ bitmap
+      | inr apart ↦ used.bitmap k (ap is_some (sym (sets.off k apart)) ∙ e)
     ];
     used = λ k e. elim (decide same_pool pool_test key k) [
       | inl same ↦
@@ -128,7 +128,7 @@ module _ (orders orders' : PoolKey → Option Order) (taken taken' : PoolKey →
   pub used_kept : ((q : PoolKey) → orders' q ≡ orders q) → BitSet taken taken' key port false → (p : ℕ) × (taken' key p ≡ true) → AreUsed orders' taken'
   used_kept same set some = record {
     order = λ k o e. used.order k o (sym (same k) ∙ e);
-    row = λ k e. used.row k (ap is_some (sym (same k)) ∙ e);
+    bitmap = λ k e. used.bitmap k (ap is_some (sym (same k)) ∙ e);
     used = λ k e. elim (decide same_pool pool_test key k) [
       | inl here ↦ (some.0, ap (λ x. taken' x some.0) (sym here) ∙ some.1)
       | inr apart ↦ let old = used.used k (ap is_some (sym (same k)) ∙ e) in (old.0, off_taken k old.0 apart set old.1)
@@ -142,9 +142,9 @@ module _ (orders orders' : PoolKey → Option Order) (taken taken' : PoolKey →
       | inl same ↦ absurd (none-some o (sym sets.at ∙ ap orders' same ∙ e))
       | inr apart ↦ used.order k o (sym (sets.off k apart) ∙ e)
     ];
-    row = λ k e. elim (decide same_pool pool_test key k) [
+    bitmap = λ k e. elim (decide same_pool pool_test key k) [
       | inl same ↦ let contra : false ≡ true = ap is_some (sym sets.at ∙ ap orders' same) ∙ e in absurd (cc)
-      | inr apart ↦ used.row k (ap is_some (sym (sets.off k apart)) ∙ e)
+      | inr apart ↦ used.bitmap k (ap is_some (sym (sets.off k apart)) ∙ e)
     ];
     used = λ k e. elim (decide same_pool pool_test key k) [
       | inl same ↦ let contra : false ≡ true = ap is_some (sym sets.at ∙ ap orders' same) ∙ e in absurd (cc)
@@ -156,6 +156,6 @@ module _ (orders orders' : PoolKey → Option Order) (taken taken' : PoolKey →
   pub used_same : ((q : PoolKey) → orders' q ≡ orders q) → ((q : PoolKey) (p : ℕ) → taken' q p ≡ taken q p) → AreUsed orders' taken'
   used_same same same_ports = record {
     order = λ k o e. used.order k o (sym (same k) ∙ e);
-    row = λ k e. used.row k (ap is_some (sym (same k)) ∙ e);
+    bitmap = λ k e. used.bitmap k (ap is_some (sym (same k)) ∙ e);
     used = λ k e. let old = used.used k (ap is_some (sym (same k)) ∙ e) in (old.0, same_ports k old.0 ∙ old.1);
   }

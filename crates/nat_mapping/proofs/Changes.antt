@@ -3,17 +3,17 @@ use Rattle.std.specs.Prelude.{◌==◌, ◌&&◌, if◌then◌else◌}
 use Rattle.std.proofs.Common.{◌≡◌, ℕ, ◌<◌, ◌+◌, Bool, true, false, cond, is_some, Option, Some, None, refl, sym, ◌∙◌, ap, subst, inl, inr, arith}
 use Rattle.std.proofs.lemmas.Bool.{cases_Bool, cond-true, cond-false, and_parts, and_from, and_right, eqb-true, eq-eqb, false_from_ne_true}
 use Rattle.std.proofs.lemmas.Option.{same_Some}
-use Rattle.list_laws.specs.Options.{none_or_some}
+use Rattle.list_laws.specs.Options.{none_not_some}
 use Rattle.ip_headers.specs.declared.tuple.Endpoint.{Endpoint}
 use Rattle.ip_headers.specs.declared.tuple.Mapping.{Mapping}
 use Rattle.nat_mapping.specs.declared.keys.SourceKey.{SourceKey}
 use Rattle.nat_mapping.specs.declared.keys.InboundKey.{InboundKey}
 use Rattle.nat_mapping.specs.declared.keys.PoolKey.{PoolKey}
-use Rattle.nat_mapping.specs.declared.keys.Holding.{Holding}
+use Rattle.nat_mapping.specs.declared.keys.MappedPort.{MappedPort}
 use Rattle.ip_headers.specs.Same.{same_kind, same_endpoint}
 use Rattle.nat_mapping.specs.Mappings.{same_mapping}
 use Rattle.nat_mapping.specs.steps.Keys.{has_pool, same_source, same_inbound, same_pool, source_key_of, inbound_key_of, pool_key_of, mapping_at, source_at, inbound_at}
-use Rattle.nat_mapping.specs.steps.Kept.{holders_at, ArePorts, IsSound}
+use Rattle.nat_mapping.specs.steps.Consistent.{holders_at, ArePorts, IsSound}
 use Rattle.nat_mapping.proofs.Equal.{source_test, inbound_test, pool_test, decide, mapping_exact}
 use Rattle.nat_mapping.proofs.Sets.{Sets}
 
@@ -38,34 +38,34 @@ ports_set inbounds inbounds' taken taken' m w ports sets sets_port key port some
           sets_port key port some ∙ cond-false _ (is_some w) (taken key port) elsewhere ∙ ports key port some ∙ ap is_some (sym (sets.off (inbound_at key port) apart))
     ]
 
-module _ (sources sources' : SourceKey → Option Holding) (inbounds : InboundKey → Option Endpoint) (taken : PoolKey → ℕ → Bool) where
+module _ (sources sources' : SourceKey → Option MappedPort) (inbounds : InboundKey → Option Endpoint) (taken : PoolKey → ℕ → Bool) where
   -- a mapping gets another number of holders
-  pub sound_changed : (key : SourceKey) (h h' : Holding) → IsSound sources inbounds taken → sources key ≡ Some h → h'.port ≡ h.port → 0 < h'.holders → Sets sources sources' key (Some h') → IsSound sources' inbounds taken
+  pub sound_changed : (key : SourceKey) (h h' : MappedPort) → IsSound sources inbounds taken → sources key ≡ Some h → h'.port ≡ h.port → 0 < h'.holders → Sets sources sources' key (Some h') → IsSound sources' inbounds taken
   sound_changed key h h' sound is same_port some sets = record {
     held = λ k g e. elim (decide same_source source_test key k) [
       | inl same ↦
           let g_is : h' ≡ g = same_Some h' g (sym sets.at ∙ ap sources' same ∙ e) in
-          let P : Holding → Type 0 = λ x. 0 < x.holders in subst P g_is some
+          let P : MappedPort → Type 0 = λ x. 0 < x.holders in subst P g_is some
       | inr apart ↦ sound.held k g (sym (sets.off k apart) ∙ e)
     ];
     out = λ k g e. elim (decide same_source source_test key k) [
       | inl same ↦
           let g_is : h' ≡ g = same_Some h' g (sym sets.at ∙ ap sources' same ∙ e) in
           let before : sources k ≡ Some h = ap sources (sym same) ∙ is in
-          let port_is : h.port ≡ g.port = sym same_port ∙ ap (λ (x : Holding). x.port) g_is in
+          let port_is : h.port ≡ g.port = sym same_port ∙ ap (λ (x : MappedPort). x.port) g_is in
           ap (λ p. inbounds (record { kind = k.kind; external = record { address = k.address; port = p } })) (sym port_is) ∙ sound.out k h before
       | inr apart ↦ sound.out k g (sym (sets.off k apart) ∙ e)
     ];
     back = λ o i e. let old = sound.back o i e in elim (decide same_source source_test key (source_at o i)) [
       | inl same ↦
           let h_is : h ≡ old.0 = same_Some h old.0 (sym is ∙ ap sources same ∙ old.1.0) in
-          (h', (ap sources' (sym same) ∙ sets.at, same_port ∙ ap (λ (x : Holding). x.port) h_is ∙ old.1.1))
+          (h', (ap sources' (sym same) ∙ sets.at, same_port ∙ ap (λ (x : MappedPort). x.port) h_is ∙ old.1.1))
       | inr apart ↦ (old.0, (sets.off (source_at o i) apart ∙ old.1.0, old.1.1))
     ];
     ports = sound.ports;
   }
 
-module _ (sources sources' : SourceKey → Option Holding) (inbounds inbounds' : InboundKey → Option Endpoint) (taken taken' : PoolKey → ℕ → Bool) (m : Mapping) (sound : IsSound sources inbounds taken) where
+module _ (sources sources' : SourceKey → Option MappedPort) (inbounds inbounds' : InboundKey → Option Endpoint) (taken taken' : PoolKey → ℕ → Bool) (m : Mapping) (sound : IsSound sources inbounds taken) where
   -- where a mapping isn't in the one map, its external endpoint isn't in the other, but for another's
   pub inbound_free : sources (source_key_of m) ≡ None → ((i : Endpoint) → inbounds (inbound_key_of m) ≡ Some i → i ≡ m.internal) → inbounds (inbound_key_of m) ≡ None
   inbound_free none fits = by (inbounds (inbound_key_of m)) refl
@@ -75,27 +75,27 @@ module _ (sources sources' : SourceKey → Option Holding) (inbounds inbounds' :
       by (Some i) is =
           let back = sound.back (inbound_key_of m) i is in
           let here : source_at (inbound_key_of m) i ≡ source_key_of m = ap (λ x. record { kind = m.kind; internal = x; address = m.external.address }) (fits i is) in
-          absurd (none_or_some (sources (source_key_of m)) back.0 none (ap sources (sym here) ∙ back.1.0))
+          absurd (none_not_some (sources (source_key_of m)) back.0 none (ap sources (sym here) ∙ back.1.0))
 
   -- a mapping begins
-  pub sound_begun : (one : Holding) → one.port ≡ m.external.port → 0 < one.holders → sources (source_key_of m) ≡ None → inbounds (inbound_key_of m) ≡ None → Sets sources sources' (source_key_of m) (Some one) → Sets inbounds inbounds' (inbound_key_of m) (Some m.internal) → PortSet taken taken' (pool_key_of m) m.external.port true → IsSound sources' inbounds' taken'
+  pub sound_begun : (one : MappedPort) → one.port ≡ m.external.port → 0 < one.holders → sources (source_key_of m) ≡ None → inbounds (inbound_key_of m) ≡ None → Sets sources sources' (source_key_of m) (Some one) → Sets inbounds inbounds' (inbound_key_of m) (Some m.internal) → PortSet taken taken' (pool_key_of m) m.external.port true → IsSound sources' inbounds' taken'
   sound_begun one port_is some no_source no_inbound sets sets_out sets_port = record {
     held = λ k g e. elim (decide same_source source_test (source_key_of m) k) [
       | inl same ↦
           let g_is : one ≡ g = same_Some one g (sym sets.at ∙ ap sources' same ∙ e) in
-          let P : Holding → Type 0 = λ x. 0 < x.holders in subst P g_is some
+          let P : MappedPort → Type 0 = λ x. 0 < x.holders in subst P g_is some
       | inr apart ↦ sound.held k g (sym (sets.off k apart) ∙ e)
     ];
     out = λ k g e. elim (decide same_source source_test (source_key_of m) k) [
       | inl same ↦
           let g_is : one ≡ g = same_Some one g (sym sets.at ∙ ap sources' same ∙ e) in
-          let g_port : m.external.port ≡ g.port = sym port_is ∙ ap (λ (x : Holding). x.port) g_is in
+          let g_port : m.external.port ≡ g.port = sym port_is ∙ ap (λ (x : MappedPort). x.port) g_is in
           let there : inbound_key_of m ≡ inbound_key_of (mapping_at k g) =
           ap (λ (x : SourceKey). inbound_key_of (mapping_at x (record { port = m.external.port; holders = 0 }))) same ∙ ap (λ p. record { kind = k.kind; external = record { address = k.address; port = p } }) g_port in
           ap inbounds' (sym there) ∙ sets_out.at ∙ ap (λ (x : SourceKey). Some x.internal) same
       | inr apart ↦
           let before = sound.out k g (sym (sets.off k apart) ∙ e) in
-          sets_out.off (inbound_key_of (mapping_at k g)) (λ same. none_or_some (inbounds (inbound_key_of m)) k.internal no_inbound (ap inbounds same ∙ before)) ∙ before
+          sets_out.off (inbound_key_of (mapping_at k g)) (λ same. none_not_some (inbounds (inbound_key_of m)) k.internal no_inbound (ap inbounds same ∙ before)) ∙ before
     ];
     back = λ o i e. elim (decide same_inbound inbound_test (inbound_key_of m) o) [
       | inl same ↦
@@ -104,20 +104,20 @@ module _ (sources sources' : SourceKey → Option Holding) (inbounds inbounds' :
           (one, (ap sources' (sym there) ∙ sets.at, port_is ∙ ap (λ (x : InboundKey). x.external.port) same))
       | inr apart ↦
           let old = sound.back o i (sym (sets_out.off o apart) ∙ e) in
-          (old.0, (sets.off (source_at o i) (λ same. none_or_some (sources (source_key_of m)) old.0 no_source (ap sources same ∙ old.1.0)) ∙ old.1.0, old.1.1))
+          (old.0, (sets.off (source_at o i) (λ same. none_not_some (sources (source_key_of m)) old.0 no_source (ap sources same ∙ old.1.0)) ∙ old.1.0, old.1.1))
     ];
     ports = ports_set inbounds inbounds' taken taken' m (Some m.internal) sound.ports sets_out sets_port;
   }
 
   -- a mapping ends
-  pub sound_ended : (h : Holding) → sources (source_key_of m) ≡ Some h → h.port ≡ m.external.port → Sets sources sources' (source_key_of m) None → Sets inbounds inbounds' (inbound_key_of m) None → PortSet taken taken' (pool_key_of m) m.external.port false → IsSound sources' inbounds' taken'
+  pub sound_ended : (h : MappedPort) → sources (source_key_of m) ≡ Some h → h.port ≡ m.external.port → Sets sources sources' (source_key_of m) None → Sets inbounds inbounds' (inbound_key_of m) None → PortSet taken taken' (pool_key_of m) m.external.port false → IsSound sources' inbounds' taken'
   sound_ended h is port_is sets sets_out sets_port = record {
     held = λ k g e. elim (decide same_source source_test (source_key_of m) k) [
-      | inl same ↦ absurd (none_or_some (sources' k) g (ap sources' (sym same) ∙ sets.at) e)
+      | inl same ↦ absurd (none_not_some (sources' k) g (ap sources' (sym same) ∙ sets.at) e)
       | inr apart ↦ sound.held k g (sym (sets.off k apart) ∙ e)
     ];
     out = λ k g e. elim (decide same_source source_test (source_key_of m) k) [
-      | inl same ↦ absurd (none_or_some (sources' k) g (ap sources' (sym same) ∙ sets.at) e)
+      | inl same ↦ absurd (none_not_some (sources' k) g (ap sources' (sym same) ∙ sets.at) e)
       | inr apart ↦
           let before = sound.out k g (sym (sets.off k apart) ∙ e) in
           sets_out.off (inbound_key_of (mapping_at k g)) (λ same.
@@ -125,14 +125,14 @@ module _ (sources sources' : SourceKey → Option Holding) (inbounds inbounds' :
           apart (ap (λ (x : InboundKey). source_at x m.internal) same ∙ ap (source_at (inbound_key_of (mapping_at k g))) internal)) ∙ before
     ];
     back = λ o i e. elim (decide same_inbound inbound_test (inbound_key_of m) o) [
-      | inl same ↦ absurd (none_or_some (inbounds' o) i (ap inbounds' (sym same) ∙ sets_out.at) e)
+      | inl same ↦ absurd (none_not_some (inbounds' o) i (ap inbounds' (sym same) ∙ sets_out.at) e)
       | inr apart ↦
           let old = sound.back o i (sym (sets_out.off o apart) ∙ e) in (
             old.0,
             (
               sets.off (source_at o i) (λ same.
                   let h_is : h ≡ old.0 = same_Some h old.0 (sym is ∙ ap sources same ∙ old.1.0) in
-                  let port : m.external.port ≡ o.external.port = sym port_is ∙ ap (λ (x : Holding). x.port) h_is ∙ old.1.1 in
+                  let port : m.external.port ≡ o.external.port = sym port_is ∙ ap (λ (x : MappedPort). x.port) h_is ∙ old.1.1 in
                   apart (ap (λ (x : SourceKey). inbound_at (record { kind = x.kind; address = x.address }) m.external.port) same ∙ ap (inbound_at (record { kind = o.kind; address = o.external.address })) port)) ∙ old.1.0,
               old.1.1,
             ),
@@ -145,21 +145,21 @@ module _ (sources sources' : SourceKey → Option Holding) (inbounds inbounds' :
       stood = ap (λ p. inbounds (record { kind = m.kind; external = record { address = m.external.address; port = p } })) (sym port_is) ∙ sound.out (source_key_of m) h is
 
 -- so many hold the mapping that an entry has, to this port
-abbrev pub HoldsAt : Option Holding → ℕ → ℕ → Type 0
+abbrev pub HoldsAt : Option MappedPort → ℕ → ℕ → Type 0
 HoldsAt o port n = (p : ℕ) → holders_at o p ≡ cond (p == port) n 0
 
-pub holds_none : (o : Option Holding) (port : ℕ) → o ≡ None → HoldsAt o port 0
+pub holds_none : (o : Option MappedPort) (port : ℕ) → o ≡ None → HoldsAt o port 0
 holds_none o port none p = ap (λ x. holders_at x p) none ∙ sym (nothing (p == port))
   where
     nothing : (b : Bool) → ◌≡◌ {A = ℕ} (cond b 0 0) 0
     nothing true = refl
     nothing false = refl
 
-pub holds_some : (o : Option Holding) (port : ℕ) (h : Holding) → o ≡ Some h → h.port ≡ port → HoldsAt o port h.holders
+pub holds_some : (o : Option MappedPort) (port : ℕ) (h : MappedPort) → o ≡ Some h → h.port ≡ port → HoldsAt o port h.holders
 holds_some o port h some same p = ap (λ x. holders_at x p) some ∙ ap (λ q. cond (p == q) h.holders 0) same
 
 -- one map has a holder more of one mapping than the other, and is the same at other keys
-pub one_more : (sources sources' : SourceKey → Option Holding) (m : Mapping) (a b : ℕ) → HoldsAt (sources (source_key_of m)) m.external.port a → HoldsAt (sources' (source_key_of m)) m.external.port b → b ≡ a + 1 → ((q : SourceKey) → ¬ (source_key_of m ≡ q) → sources' q ≡ sources q)
+pub one_more : (sources sources' : SourceKey → Option MappedPort) (m : Mapping) (a b : ℕ) → HoldsAt (sources (source_key_of m)) m.external.port a → HoldsAt (sources' (source_key_of m)) m.external.port b → b ≡ a + 1 → ((q : SourceKey) → ¬ (source_key_of m ≡ q) → sources' q ≡ sources q)
     → (q : Mapping) → holders_at (sources' (source_key_of q)) q.external.port ≡ cond (same_mapping q m) 1 0 + holders_at (sources (source_key_of q)) q.external.port
 one_more sources sources' m a b old new more off q =
     elim (decide same_source source_test (source_key_of m) (source_key_of q)) [

@@ -12,11 +12,11 @@ use Rattle.std.proofs.lemmas.List.Sums.{sum_by-append}
 use Rattle.std.proofs.lemmas.List.Folds.{sum_by-replicate}
 use Rattle.ip_headers.specs.declared.tuple.Mapping.{Mapping}
 use Rattle.nat_mapping.specs.declared.keys.SourceKey.{SourceKey}
-use Rattle.nat_mapping.specs.declared.keys.Holding.{Holding}
+use Rattle.nat_mapping.specs.declared.keys.MappedPort.{MappedPort}
 use Rattle.ip_headers.specs.Same.{same_kind, same_endpoint}
 use Rattle.nat_mapping.specs.Mappings.{same_mapping, holders_of, HoldsSame}
 use Rattle.nat_mapping.specs.steps.Keys.{source_key_of, mapping_at, same_source}
-use Rattle.nat_mapping.specs.steps.Kept.{held_by, holders_at, Counts, Sources}
+use Rattle.nat_mapping.specs.steps.Consistent.{held_by, holders_at, CountsHolders, Sources}
 use Rattle.nat_mapping.proofs.Equal.{source_test, equivalence}
 
 regroup : (a b c d : Bool) → (a && (b && (c && d))) ≡ ((a && (b && c)) && d)
@@ -25,7 +25,7 @@ regroup true true false d = refl
 regroup true false c d = refl
 regroup false b c d = refl
 
-same_by : (m : Mapping) (key : SourceKey) (h : Holding) → same_mapping m (mapping_at key h) ≡ (same_source (source_key_of m) key && m.external.port == h.port)
+same_by : (m : Mapping) (key : SourceKey) (h : MappedPort) → same_mapping m (mapping_at key h) ≡ (same_source (source_key_of m) key && m.external.port == h.port)
 same_by m key h = regroup (same_kind m.kind key.kind) (same_endpoint m.internal key.internal) (m.external.address == key.address) (m.external.port == h.port)
 
 times : (b : Bool) (n : ℕ) → n * cond b 1 0 ≡ cond b n 0
@@ -38,7 +38,7 @@ head m x n rest =
     let f : Mapping → ℕ = λ y. cond (same_mapping m y) 1 0 in
     sum_by-append f (replicate n x) rest ∙ ap (λ k. k + sum_by f rest) (sum_by-replicate f n x ∙ times (same_mapping m x) n)
 
-pub count_entries : (es : List (SourceKey × Holding)) → IsDistinct same_source (keys_of es) → (m : Mapping) → holders_of m (held_by es) ≡ holders_at (lookup (same_source (source_key_of m)) es) m.external.port
+pub count_entries : (es : List (SourceKey × MappedPort)) → IsDistinct same_source (keys_of es) → (m : Mapping) → holders_of m (held_by es) ≡ holders_at (lookup (same_source (source_key_of m)) es) m.external.port
 unfolding held_by holders_of
 count_entries [] distinct m = refl
 count_entries (e ∷ es) distinct m =
@@ -59,13 +59,13 @@ count_entries (e ∷ es) distinct m =
     ]
 
 -- the list that a map stands for holds each mapping as often as the map says
-pub counts_of : (sources : Sources) → IsUnique same_source sources → Counts (get same_source sources) (held_by sources.entries)
+pub counts_of : (sources : Sources) → IsUnique same_source sources → CountsHolders (get same_source sources) (held_by sources.entries)
 counts_of sources unique m = count_entries sources.entries unique m
 
 -- so does each list with the same members
-pub counts_same : (sources : Sources) → IsUnique same_source sources → (held now : List Mapping) → held_by sources.entries ≡ now → HoldsSame held now → Counts (get same_source sources) held
+pub counts_same : (sources : Sources) → IsUnique same_source sources → (held now : List Mapping) → held_by sources.entries ≡ now → HoldsSame held now → CountsHolders (get same_source sources) held
 counts_same sources unique held now is same m = same m ∙ ap (holders_of m) (sym is) ∙ counts_of sources unique m
 
-pub distinct_none : (es : List (SourceKey × Holding)) → es ≡ [] → IsDistinct same_source (keys_of es)
+pub distinct_none : (es : List (SourceKey × MappedPort)) → es ≡ [] → IsDistinct same_source (keys_of es)
 unfolding IsDistinct
-distinct_none es none = let P : List (SourceKey × Holding) → Type 0 = λ xs. IsDistinct same_source (keys_of xs) in subst P (sym none) tt
+distinct_none es none = let P : List (SourceKey × MappedPort) → Type 0 = λ xs. IsDistinct same_source (keys_of xs) in subst P (sym none) tt

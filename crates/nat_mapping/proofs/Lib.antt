@@ -10,4 +10,4 @@ pub mod Answers
 pub mod Changes
 pub mod Entries
 pub mod Whole
-pub mod Places
+pub mod PoolCounts

@@ -4,13 +4,13 @@ use Rattle.std.specs.List.{find, Contains}
 use Rattle.std.specs.Option.{option_map}
 use Rattle.std.proofs.lemmas.Bool.{cases_Bool, cond-true, cond-false, eqb-true, eq-eqb, and_parts, and_from}
 use Rattle.std.proofs.lemmas.Option.{none-some, same_Some}
-use Rattle.list_laws.specs.Options.{mapped_some}
+use Rattle.list_laws.specs.Options.{some_of_map}
 use Rattle.ip_headers.specs.declared.tuple.Kind.{Kind}
 use Rattle.ip_headers.specs.declared.tuple.Endpoint.{Endpoint}
 use Rattle.ip_headers.specs.declared.tuple.Mapping.{Mapping}
-use Rattle.port_pool.specs.declared.range.Range.{Range}
+use Rattle.port_pool.specs.declared.range.CandidateRange.{CandidateRange}
 use Rattle.port_pool.specs.Candidates.{candidates}
-use Rattle.nat_mapping.specs.Mappings.{is_outside, is_from, inbound_of, port_of, is_port_held, fresh_port, source_of, or_else, order_of, IsOneToOne}
+use Rattle.nat_mapping.specs.Mappings.{has_external, has_internal, inbound_of, port_of, is_port_held, first_free_port, source_of, or_else, order_of, IsOneToOne}
 use Rattle.nat_mapping.proofs.Equal.{kind_test, endpoint_test}
 use Rattle.nat_mapping.proofs.Lists.{found_among, none_such, contains_cases}
 
@@ -69,7 +69,7 @@ module _ (held : List Mapping) (one : IsOneToOne held) where
 
   -- ---- the one that a source gets
 
-  module _ (kind : Kind) (internal : Endpoint) (address : ℕ) (range : Option Range) (port : ℕ) where
+  module _ (kind : Kind) (internal : Endpoint) (address : ℕ) (range : Option CandidateRange) (port : ℕ) where
     abbrev gotten : Mapping
     gotten = record { kind = kind; internal = internal; external = record { address = address; port = port } }
 
@@ -83,9 +83,9 @@ module _ (held : List Mapping) (one : IsOneToOne held) where
     reused : port_of kind internal address held ≡ Some port → Suits gotten
     unfolding port_of
     reused h =
-        let found = mapped_some (λ (m : Mapping). m.external.port) (find (is_from kind internal address) held) port h in
+        let found = some_of_map (λ (m : Mapping). m.external.port) (find (has_internal kind internal address) held) port h in
         let n = found.0 in
-        let r = found_among (is_from kind internal address) held n found.1 in
+        let r = found_among (has_internal kind internal address) held n found.1 in
         let parts = and_parts _ _ r.1 in
         let ends = and_parts _ _ parts.1 in
         let k : n.kind ≡ kind = kind_test.exact _ _ parts.0 in
@@ -105,23 +105,23 @@ module _ (held : List Mapping) (one : IsOneToOne held) where
     chosen : port_of kind internal address held ≡ None → inbound_of kind (record { address = address; port = port }) held ≡ None → Suits gotten
     unfolding port_of inbound_of
     chosen h g =
-        let none_from = none_of_map (λ (m : Mapping). m.external.port) (find (is_from kind internal address) held) h in
-        let none_there = none_of_map (λ (m : Mapping). m.internal) (find (is_outside kind (record { address = address; port = port })) held) g in
+        let none_from = none_of_map (λ (m : Mapping). m.external.port) (find (has_internal kind internal address) held) h in
+        let none_there = none_of_map (λ (m : Mapping). m.internal) (find (has_external kind (record { address = address; port = port })) held) g in
         record {
-          one_internal = λ n among k e. absurd (none_such (is_outside kind (record { address = address; port = port })) held n none_there among (stands n k e));
-          one_port = λ n among k i e. absurd (none_such (is_from kind internal address) held n none_from among (maps n k i e));
+          one_internal = λ n among k e. absurd (none_such (has_external kind (record { address = address; port = port })) held n none_there among (stands n k e));
+          one_port = λ n among k i e. absurd (none_such (has_internal kind internal address) held n none_from among (maps n k i e));
         }
       where
-        stands : (n : Mapping) → n.kind ≡ kind → n.external ≡ gotten.external → is_outside kind (record { address = address; port = port }) n ≡ true
+        stands : (n : Mapping) → n.kind ≡ kind → n.external ≡ gotten.external → has_external kind (record { address = address; port = port }) n ≡ true
         stands n k e = rw (k, e) (and_from _ _ (kind_test.same kind) (endpoint_test.same gotten.external))
 
-        maps : (n : Mapping) → n.kind ≡ kind → n.internal ≡ internal → n.external.address ≡ address → is_from kind internal address n ≡ true
+        maps : (n : Mapping) → n.kind ≡ kind → n.internal ≡ internal → n.external.address ≡ address → has_internal kind internal address n ≡ true
         maps n k i a = rw (k, i, a) (and_from _ _ (kind_test.same kind) (and_from _ _ (endpoint_test.same internal) (eq-eqb address address refl)))
 
     pub source_one_to_one : source_of kind internal address range held ≡ Some port → IsOneToOne (gotten ∷ held)
     source_one_to_one h = one_to_one-cons gotten (by_port (port_of kind internal address held) refl h)
       where
-        by_port : (o : Option ℕ) → port_of kind internal address held ≡ o → or_else o (fresh_port kind internal address range held) ≡ Some port → Suits gotten
+        by_port : (o : Option ℕ) → port_of kind internal address held ≡ o → or_else o (first_free_port kind internal address range held) ≡ Some port → Suits gotten
         by_port (Some p) e k = reused (e ∙ k)
         by_port None e k =
             let passes = found_passes (λ p. not (is_port_held kind address held p)) (candidates (order_of kind) internal.port range) port k in
@@ -137,9 +137,9 @@ module _ (held : List Mapping) (kind : Kind) (internal external : Endpoint) wher
   pub inbound_among : inbound_of kind external held ≡ Some internal → Contains held found
   unfolding inbound_of
   inbound_among h =
-      let some = mapped_some (λ (m : Mapping). m.internal) (find (is_outside kind external) held) internal h in
+      let some = some_of_map (λ (m : Mapping). m.internal) (find (has_external kind external) held) internal h in
       let n = some.0 in
-      let r = found_among (is_outside kind external) held n some.1 in
+      let r = found_among (has_external kind external) held n some.1 in
       let parts = and_parts _ _ r.1 in
       let k : n.kind ≡ kind = kind_test.exact _ _ parts.0 in
       let e : n.external ≡ external = endpoint_test.exact _ _ parts.1 in

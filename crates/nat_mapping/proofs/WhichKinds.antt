@@ -2,10 +2,10 @@
 use Rattle.std.proofs.Common.{◌≡◌, ◌≢◌, ℕ, Bool, true, false, cond, Option, Some, None, is_some, refl}
 use Rattle.std.specs.List.{find}
 use Rattle.ip_headers.specs.declared.tuple.Kind.{Kind}
-use Rattle.ip_headers.specs.declared.tuple.Kind.TheVariants.{Tcp, Udp, Ask, Answer, Other}
+use Rattle.ip_headers.specs.declared.tuple.Kind.TheVariants.{Tcp, Udp, EchoRequest, EchoReply, Other}
 use Rattle.port_pool.specs.declared.order.Order.{Order}
 use Rattle.port_pool.specs.declared.order.Order.TheVariants.{Ports, Identifiers, Zero}
-use Rattle.port_pool.specs.declared.range.Range.{Range}
+use Rattle.port_pool.specs.declared.range.CandidateRange.{CandidateRange}
 use Rattle.port_pool.specs.Candidates.{candidates}
 use Rattle.nat_mapping.specs.Mappings.{order_of}
 use Rattle.nat_mapping.specs.steps.Keys.{has_pool}
@@ -13,15 +13,15 @@ use Rattle.nat_mapping.specs.steps.Keys.{has_pool}
 pub row_order : (kind : Kind) → has_pool kind ≡ true → order_of kind ≢ Zero
 row_order Tcp is = λ e. absurd (cc)
 row_order Udp is = λ e. absurd (cc)
-row_order Ask is = λ e. absurd (cc)
-row_order Answer is = λ e. absurd (cc)
+row_order EchoRequest is = λ e. absurd (cc)
+row_order EchoReply is = λ e. absurd (cc)
 row_order (Other number) is = absurd (cc)
 
 pub zero_order : (kind : Kind) → has_pool kind ≡ false → order_of kind ≡ Zero
 zero_order Tcp none = absurd (cc)
 zero_order Udp none = absurd (cc)
-zero_order Ask none = absurd (cc)
-zero_order Answer none = absurd (cc)
+zero_order EchoRequest none = absurd (cc)
+zero_order EchoReply none = absurd (cc)
 zero_order (Other number) none = refl
 
 pub is_none : {X : Type 0} (o : Option X) → is_some o ≡ false → o ≡ None
@@ -29,7 +29,7 @@ is_none None e = refl
 is_none (Some x) e = absurd (cc)
 
 -- 0 is the only candidate of a kind without ports
-pub zero_found : (test : ℕ → Bool) (order : Order) (s : ℕ) (range : Option Range) → order ≡ Zero → find test (candidates order s range) ≡ cond (test 0) (Some 0) None
+pub zero_found : (test : ℕ → Bool) (order : Order) (s : ℕ) (range : Option CandidateRange) → order ≡ Zero → find test (candidates order s range) ≡ cond (test 0) (Some 0) None
 unfolding candidates
 zero_found test Ports s range is = absurd (cc)
 zero_found test Identifiers s range is = absurd (cc)

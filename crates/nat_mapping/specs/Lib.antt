@@ -1,3 +1,3 @@
 pub mod Mappings
-pub mod Holdings
+pub mod MappingsView
 pub mod steps

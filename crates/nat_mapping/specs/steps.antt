@@ -2,5 +2,5 @@
 pub mod Keys
 pub mod Ports
 pub mod Pooled
-pub mod Kept
+pub mod Consistent
 pub mod Holders

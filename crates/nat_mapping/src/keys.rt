@@ -30,12 +30,12 @@ pub(crate) struct PoolKey {
 
 /// The port of a mapping, and how many hold it.
 #[derive(Clone, Copy, Debug)]
-pub(crate) struct Holding {
+pub(crate) struct MappedPort {
     pub(crate) port: u16,
     pub(crate) holders: usize,
 }
 
-impl Holding {
+impl MappedPort {
     /// Held by one.
     pub(crate) fn first(port: u16) -> Self
         ensures { result ≡ record { port = port; holders = 1 } }
@@ -81,7 +81,7 @@ pub(crate) fn order(kind: Kind) -> Order
 {
     match kind {
         Kind::Tcp | Kind::Udp => Order::Ports,
-        Kind::Ask | Kind::Answer => Order::Identifiers,
+        Kind::EchoRequest | Kind::EchoReply => Order::Identifiers,
         Kind::Other(_) => Order::Zero,
     }
 }

@@ -5,13 +5,13 @@ ghost use Rattle.std.specs.declared.option.Option.{Option};
 ghost use Rattle.ip_headers.specs.declared.tuple.Endpoint.{Endpoint};
 ghost use Rattle.ip_headers.specs.declared.tuple.Kind.{Kind};
 ghost use Rattle.ip_headers.specs.declared.tuple.Mapping.{Mapping};
-ghost use Rattle.port_pool.specs.declared.range.Range.{Range};
+ghost use Rattle.port_pool.specs.declared.range.CandidateRange.{CandidateRange};
 ghost use Rattle.nat_mapping.specs.Mappings.{HoldsSame, IsOneToOne, inbound_of, port_of, source_of};
 
 /// What keeps a list one to one: the mapping to the port that `source` gives, held once more; and to
 /// have no other mappings, fewer of them or more holders.
 pub fn stays_one_to_one()
-    ensures source { (held : List Mapping) (kind : Kind) (internal : Endpoint) (address : ℕ) (range : Option Range) (port : ℕ)
+    ensures source { (held : List Mapping) (kind : Kind) (internal : Endpoint) (address : ℕ) (range : Option CandidateRange) (port : ℕ)
         → IsOneToOne held → source_of kind internal address range held ≡ Some port
         → IsOneToOne (record { kind = kind; internal = internal; external = record { address = address; port = port } } ∷ held) }
     ensures within { (some all : List Mapping) → ((m : Mapping) → Contains some m → Contains all m)
@@ -35,6 +35,6 @@ pub fn same_answers()
     ensures port { (one other : List Mapping) → HoldsSame one other → IsOneToOne other
         → (kind : Kind) (internal : Endpoint) (address : ℕ) → port_of kind internal address one ≡ port_of kind internal address other }
     ensures source { (one other : List Mapping) → HoldsSame one other → IsOneToOne other
-        → (kind : Kind) (internal : Endpoint) (address : ℕ) (range : Option Range)
+        → (kind : Kind) (internal : Endpoint) (address : ℕ) (range : Option CandidateRange)
         → source_of kind internal address range one ≡ source_of kind internal address range other }
 {}

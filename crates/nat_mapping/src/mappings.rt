@@ -4,21 +4,21 @@ ghost use Rattle.std.specs.List.{find};
 ghost use Rattle.std.specs.HashMap.{get};
 ghost use Rattle.ip_headers.specs.declared.tuple.Mapping.{Mapping as Mapped};
 ghost use Rattle.port_pool.specs.Candidates.{candidates};
-ghost use Rattle.nat_mapping.specs.Mappings.{HoldsSame, IsOneToOne, holders_of, inbound_of, order_of, places_of, source_of};
+ghost use Rattle.nat_mapping.specs.Mappings.{HoldsSame, IsOneToOne, holders_of, inbound_of, order_of, pool_count_of, source_of};
 ghost use Rattle.nat_mapping.specs.steps.Keys.{inbound_at, same_inbound};
-ghost use Rattle.nat_mapping.specs.steps.Kept.{ArePorts};
+ghost use Rattle.nat_mapping.specs.steps.Consistent.{ArePorts};
 ghost use Rattle.nat_mapping.specs.steps.Pooled.{taken_in, IsPooled};
 
 use crate::keys::{
-    Holding, InboundKey, PoolKey, SourceKey, has_pool, inbound_key, pool_key, source_key,
+    InboundKey, MappedPort, PoolKey, SourceKey, has_pool, inbound_key, pool_key, source_key,
 };
 use crate::pools::Pools;
 use crate::tables::{
-    change_source, drop_inbound, drop_source, find_inbound, find_source, put_inbound, put_source,
-    spare_inbounds, spare_sources,
+    find_inbound, find_source, insert_inbound, insert_source, remove_inbound, remove_source,
+    spare_inbounds, spare_sources, update_source,
 };
 use ip_headers::{Endpoint, Kind, Mapping};
-use port_pool::Range;
+use port_pool::CandidateRange;
 use std::alloc::Global;
 use std::collections::HashMap;
 use std::hash::RandomState;
@@ -42,7 +42,7 @@ pub enum MapError {
 /// are held.
 #[derive(Drop)]
 pub struct Mappings {
-    sources: HashMap<SourceKey, Holding, RandomState>,
+    sources: HashMap<SourceKey, MappedPort, RandomState>,
     inbounds: HashMap<InboundKey, Endpoint, RandomState>,
     pools: Pools,
 }
@@ -50,11 +50,11 @@ pub struct Mappings {
 impl Model for Mappings {
     ghost use Rattle.std.specs.Prelude.{min};
     ghost use Rattle.std.specs.HashMap.{spare};
-    ghost use Rattle.nat_mapping.specs.Holdings.{Holdings};
+    ghost use Rattle.nat_mapping.specs.MappingsView.{MappingsView};
     ghost use Rattle.nat_mapping.specs.steps.Pooled.{pool_count, pool_room};
-    ghost use Rattle.nat_mapping.specs.steps.Kept.{held_by, IsKept};
+    ghost use Rattle.nat_mapping.specs.steps.Consistent.{held_by, IsConsistent};
 
-    ghost Value = { Holdings };
+    ghost Value = { MappingsView };
 
     ghost view = { λ t. record {
       held = held_by t.sources.entries;
@@ -62,7 +62,7 @@ impl Model for Mappings {
       pools = pool_count t.pools;
     } };
 
-    ghost invariant = { λ t. IsKept t.sources t.inbounds t.pools };
+    ghost invariant = { λ t. IsConsistent t.sources t.inbounds t.pools };
 }
 
 impl Mappings {
@@ -90,7 +90,7 @@ impl Mappings {
         kind: Kind,
         internal: Endpoint,
         address: u32,
-        range: Option<Range>,
+        range: Option<CandidateRange>,
     ) -> Result<u16, MapError>
         // Of whatever list stands for what is held.
         ensures ok { (held : List Mapped) → HoldsSame held self.now.held
@@ -104,8 +104,10 @@ impl Mappings {
             address,
         };
         match find_source(&self.sources, key) {
-            Some(holding) => Ok(holding.port),
-            None => fresh_port(&self.inbounds, &self.pools, key, range).ok_or(MapError::NoPort),
+            Some(mapped) => Ok(mapped.port),
+            None => first_free_port(&self.inbounds, &self.pools, key, range).ok_or(
+                MapError::NoPort,
+            ),
         }
     }
 
@@ -127,7 +129,7 @@ impl Mappings {
     /// address at which a mapping is held, and at most two for the next ones.
     pub fn pools(&self) -> usize
         ensures value { result ≡ self.now.pools }
-        ensures bounded { (held : List Mapped) → HoldsSame held self.now.held → result ≤ places_of held + 2 }
+        ensures bounded { (held : List Mapped) → HoldsSame held self.now.held → result ≤ pool_count_of held + 2 }
     {
         self.pools.count()
     }
@@ -205,16 +207,16 @@ impl Mappings {
     {
         let key = source_key(m);
         match find_source(&self.sources, key) {
-            Some(holding) => {
-                let more = Holding {
-                    port: holding.port,
-                    holders: holding.holders + 1,
+            Some(mapped) => {
+                let more = MappedPort {
+                    port: mapped.port,
+                    holders: mapped.holders + 1,
                 };
-                change_source(&mut self.sources, key, more);
+                update_source(&mut self.sources, key, more);
             }
             None => {
-                put_source(&mut self.sources, key, Holding::first(m.external.port));
-                put_inbound(&mut self.inbounds, inbound_key(m), m.internal);
+                insert_source(&mut self.sources, key, MappedPort::first(m.external.port));
+                insert_inbound(&mut self.inbounds, inbound_key(m), m.internal);
                 self.pools.take(pool_key(m), m.external.port);
             }
         }
@@ -229,16 +231,16 @@ impl Mappings {
         let key = source_key(m);
         match find_source(&self.sources, key) {
             None => unreachable!(),
-            Some(holding) => {
-                if holding.holders > 1 {
-                    let fewer = Holding {
-                        port: holding.port,
-                        holders: holding.holders - 1,
+            Some(mapped) => {
+                if mapped.holders > 1 {
+                    let fewer = MappedPort {
+                        port: mapped.port,
+                        holders: mapped.holders - 1,
                     };
-                    change_source(&mut self.sources, key, fewer);
+                    update_source(&mut self.sources, key, fewer);
                 } else {
-                    drop_source(&mut self.sources, key);
-                    drop_inbound(&mut self.inbounds, inbound_key(m));
+                    remove_source(&mut self.sources, key);
+                    remove_inbound(&mut self.inbounds, inbound_key(m));
                     self.pools.give(pool_key(m), m.external.port);
                 }
             }
@@ -247,11 +249,11 @@ impl Mappings {
 }
 
 /// The first candidate for an internal endpoint behind which none stands at the external address.
-fn fresh_port(
+fn first_free_port(
     inbounds: &HashMap<InboundKey, Endpoint, RandomState>,
     pools: &Pools,
     key: SourceKey,
-    range: Option<Range>,
+    range: Option<CandidateRange>,
 ) -> Option<u16>
     requires pooled { IsPooled pools.now }
     requires ports { ArePorts (get same_inbound inbounds.now) (taken_in pools.now) }

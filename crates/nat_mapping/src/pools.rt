@@ -10,7 +10,7 @@ ghost use Rattle.nat_mapping.specs.steps.Keys.{has_pool, same_pool};
 ghost use Rattle.nat_mapping.specs.steps.Ports.{is_taken_by, order_by, IsSpare};
 
 use crate::keys::{PoolKey, has_pool, order};
-use port_pool::{Order, Pool, Range, first};
+use port_pool::{CandidateRange, Order, Pool, first};
 use std::alloc::{AllocError, Global};
 use std::collections::HashMap;
 use std::hash::RandomState;
@@ -59,7 +59,12 @@ impl Pools {
     }
 
     /// The first candidate that is free.
-    pub(crate) fn choose(&self, key: PoolKey, port: u16, range: Option<Range>) -> Option<u16>
+    pub(crate) fn choose(
+        &self,
+        key: PoolKey,
+        port: u16,
+        range: Option<CandidateRange>,
+    ) -> Option<u16>
         requires { IsPooled self.now }
         ensures { result ≡ find (λ p. not (taken_in self.now key p)) (candidates (order_of key.kind) port range) }
     {
@@ -80,7 +85,7 @@ impl Pools {
         ensures succeeds { pools ≤ pool_room self.old → IsOk result }
     {
         self.pools.reserve(pools)?;
-        stock(&mut self.spares, self.alloc, pools)
+        fill_spares(&mut self.spares, self.alloc, pools)
     }
 
     /// A port is taken.
@@ -95,12 +100,16 @@ impl Pools {
         if !has_pool(key.kind) {
             return;
         }
-        if take_at(&mut self.pools, key, port) {
+        if take_port(&mut self.pools, key, port) {
             return;
         }
         match self.spares.pop() {
             None => unreachable!(),
-            Some(pool) => begin(&mut self.pools, key, begun(pool, order(key.kind), port)),
+            Some(pool) => insert_pool(
+                &mut self.pools,
+                key,
+                start_pool(pool, order(key.kind), port),
+            ),
         }
     }
 
@@ -115,18 +124,18 @@ impl Pools {
         if !has_pool(key.kind) {
             return;
         }
-        if give_at(&mut self.pools, key, port) {
-            if let Some(pool) = end(&mut self.pools, key) {
-                keep(&mut self.spares, pool);
+        if give_port(&mut self.pools, key, port) {
+            if let Some(pool) = remove_pool(&mut self.pools, key) {
+                keep_spare(&mut self.spares, pool);
             }
         }
     }
 }
 
 /// Takes a port of a pool, if there is that pool.
-fn take_at(pools: &mut HashMap<PoolKey, Pool, RandomState>, key: PoolKey, port: u16) -> bool
+fn take_port(pools: &mut HashMap<PoolKey, Pool, RandomState>, key: PoolKey, port: u16) -> bool
     requires free { is_taken_by (get same_pool pools.old key) port ≡ false }
-    requires row { order_by (get same_pool pools.old key) ≢ Some Order.Zero }
+    requires bitmap { order_by (get same_pool pools.old key) ≢ Some Order.Zero }
     ensures found { result ≡ is_some (get same_pool pools.old key) }
     ensures taken { result ≡ true → (q : Key) (p : ℕ) → is_taken_by (get same_pool pools.new q) p ≡ (if same_pool key q && p == port then true else is_taken_by (get same_pool pools.old q) p) }
     ensures orders { (q : Key) → order_by (get same_pool pools.new q) ≡ order_by (get same_pool pools.old q) }
@@ -144,7 +153,7 @@ fn take_at(pools: &mut HashMap<PoolKey, Pool, RandomState>, key: PoolKey, port: 
 }
 
 /// Gives a port back to its pool, and tells whether no port of that pool is taken any more.
-fn give_at(pools: &mut HashMap<PoolKey, Pool, RandomState>, key: PoolKey, port: u16) -> bool
+fn give_port(pools: &mut HashMap<PoolKey, Pool, RandomState>, key: PoolKey, port: u16) -> bool
     requires { is_taken_by (get same_pool pools.old key) port ≡ true }
     ensures taken { (q : Key) (p : ℕ) → is_taken_by (get same_pool pools.new q) p ≡ (if same_pool key q && p == port then false else is_taken_by (get same_pool pools.old q) p) }
     ensures orders { (q : Key) → order_by (get same_pool pools.new q) ≡ order_by (get same_pool pools.old q) }
@@ -163,9 +172,9 @@ fn give_at(pools: &mut HashMap<PoolKey, Pool, RandomState>, key: PoolKey, port: 
 }
 
 /// A spare pool, put to use: one port of it is taken.
-fn begun(pool: Pool, order: Order, port: u16) -> Pool
+fn start_pool(pool: Pool, order: Order, port: u16) -> Pool
     requires spare { IsSpare pool }
-    requires row { order ≢ Order.Zero }
+    requires bitmap { order ≢ Order.Zero }
     ensures order { order_by (Some result) ≡ Some order }
     ensures taken { (p : ℕ) → is_taken_by (Some result) p ≡ (p == port) }
 {
@@ -175,7 +184,7 @@ fn begun(pool: Pool, order: Order, port: u16) -> Pool
 }
 
 /// Puts a pool where there is none.
-fn begin(pools: &mut HashMap<PoolKey, Pool, RandomState>, key: PoolKey, pool: Pool)
+fn insert_pool(pools: &mut HashMap<PoolKey, Pool, RandomState>, key: PoolKey, pool: Pool)
     requires { 0 < spare pools.old }
     ensures pools { (q : Key) → get same_pool pools.new q ≡ cond (same_pool key q) (Some pool) (get same_pool pools.old q) }
     ensures spare { spare pools.old ≤ spare pools.new + 1 }
@@ -188,7 +197,7 @@ fn begin(pools: &mut HashMap<PoolKey, Pool, RandomState>, key: PoolKey, pool: Po
 }
 
 /// Takes a pool out.
-fn end(pools: &mut HashMap<PoolKey, Pool, RandomState>, key: PoolKey) -> Option<Pool>
+fn remove_pool(pools: &mut HashMap<PoolKey, Pool, RandomState>, key: PoolKey) -> Option<Pool>
     ensures value { result ≡ get same_pool pools.old key }
     ensures pools { (q : Key) → get same_pool pools.new q ≡ cond (same_pool key q) None (get same_pool pools.old q) }
     ensures spare { spare pools.old ≤ spare pools.new }
@@ -198,7 +207,7 @@ fn end(pools: &mut HashMap<PoolKey, Pool, RandomState>, key: PoolKey) -> Option<
 }
 
 /// Makes so many pools ready.
-fn stock(spares: &mut Vec<Pool>, alloc: Global, pools: usize) -> Result<(), AllocError>
+fn fill_spares(spares: &mut Vec<Pool>, alloc: Global, pools: usize) -> Result<(), AllocError>
     requires pools { pools ≤ SPARES }
     requires few { vec_len spares.old ≤ SPARES }
     requires spares { All IsSpare spares.old.items }
@@ -216,7 +225,7 @@ fn stock(spares: &mut Vec<Pool>, alloc: Global, pools: usize) -> Result<(), Allo
 }
 
 /// Keeps a pool for the next address, if not enough are kept and there is room in the list.
-fn keep(spares: &mut Vec<Pool>, pool: Pool)
+fn keep_spare(spares: &mut Vec<Pool>, pool: Pool)
     requires few { vec_len spares.old ≤ SPARES }
     requires spares { All IsSpare spares.old.items }
     requires spare { IsSpare pool }

@@ -5,16 +5,16 @@ ghost use Rattle.nat_mapping.specs.declared.keys.SourceKey.{SourceKey as ByInter
 ghost use Rattle.nat_mapping.specs.declared.keys.InboundKey.{InboundKey as ByExternal};
 ghost use Rattle.nat_mapping.specs.steps.Keys.{same_inbound, same_source};
 
-use crate::keys::{Holding, InboundKey, SourceKey};
+use crate::keys::{InboundKey, MappedPort, SourceKey};
 use ip_headers::Endpoint;
 use std::collections::HashMap;
 use std::hash::RandomState;
 
 /// How a mapping is held.
 pub(crate) fn find_source(
-    sources: &HashMap<SourceKey, Holding, RandomState>,
+    sources: &HashMap<SourceKey, MappedPort, RandomState>,
     key: SourceKey,
-) -> Option<Holding>
+) -> Option<MappedPort>
     ensures { result ≡ get same_source sources.now key }
 {
     sources.get(&key).copied()
@@ -31,7 +31,7 @@ pub(crate) fn find_inbound(
 }
 
 /// How many mappings more can begin.
-pub(crate) fn spare_sources(sources: &HashMap<SourceKey, Holding, RandomState>) -> usize
+pub(crate) fn spare_sources(sources: &HashMap<SourceKey, MappedPort, RandomState>) -> usize
     ensures { result ≡ spare sources.now }
 {
     sources.capacity() - sources.len()
@@ -45,40 +45,43 @@ pub(crate) fn spare_inbounds(inbounds: &HashMap<InboundKey, Endpoint, RandomStat
 }
 
 /// Changes how a mapping is held.
-pub(crate) fn change_source(
-    sources: &mut HashMap<SourceKey, Holding, RandomState>,
+pub(crate) fn update_source(
+    sources: &mut HashMap<SourceKey, MappedPort, RandomState>,
     key: SourceKey,
-    holding: Holding,
+    mapped: MappedPort,
 )
     requires { IsSome (get same_source sources.old key) }
-    ensures values { (q : ByInternal) → get same_source sources.new q ≡ cond (same_source key q) (Some holding) (get same_source sources.old q) }
+    ensures values { (q : ByInternal) → get same_source sources.new q ≡ cond (same_source key q) (Some mapped) (get same_source sources.old q) }
     ensures spare { spare sources.new ≡ spare sources.old }
     ensures unique { IsUnique same_source sources.new }
 {
-    if let Some(place) = sources.get_mut(&key) {
-        *place = holding;
+    if let Some(entry) = sources.get_mut(&key) {
+        *entry = mapped;
     }
 }
 
 /// Begins a mapping.
-pub(crate) fn put_source(
-    sources: &mut HashMap<SourceKey, Holding, RandomState>,
+pub(crate) fn insert_source(
+    sources: &mut HashMap<SourceKey, MappedPort, RandomState>,
     key: SourceKey,
-    holding: Holding,
+    mapped: MappedPort,
 )
     requires { 0 < spare sources.old }
-    ensures values { (q : ByInternal) → get same_source sources.new q ≡ cond (same_source key q) (Some holding) (get same_source sources.old q) }
+    ensures values { (q : ByInternal) → get same_source sources.new q ≡ cond (same_source key q) (Some mapped) (get same_source sources.old q) }
     ensures spare { spare sources.old ≤ spare sources.new + 1 }
     ensures unique { IsUnique same_source sources.new }
 {
-    match sources.insert(key, holding) {
+    match sources.insert(key, mapped) {
         Ok(_) => (),
         Err(_) => unreachable!(),
     }
 }
 
 /// Ends a mapping.
-pub(crate) fn drop_source(sources: &mut HashMap<SourceKey, Holding, RandomState>, key: SourceKey)
+pub(crate) fn remove_source(
+    sources: &mut HashMap<SourceKey, MappedPort, RandomState>,
+    key: SourceKey,
+)
     ensures values { (q : ByInternal) → get same_source sources.new q ≡ cond (same_source key q) None (get same_source sources.old q) }
     ensures spare { spare sources.old ≤ spare sources.new }
     ensures unique { IsUnique same_source sources.new }
@@ -87,7 +90,7 @@ pub(crate) fn drop_source(sources: &mut HashMap<SourceKey, Holding, RandomState>
 }
 
 /// Lets an internal endpoint stand behind an external one.
-pub(crate) fn put_inbound(
+pub(crate) fn insert_inbound(
     inbounds: &mut HashMap<InboundKey, Endpoint, RandomState>,
     key: InboundKey,
     internal: Endpoint,
@@ -103,7 +106,7 @@ pub(crate) fn put_inbound(
 }
 
 /// Lets none stand behind it.
-pub(crate) fn drop_inbound(
+pub(crate) fn remove_inbound(
     inbounds: &mut HashMap<InboundKey, Endpoint, RandomState>,
     key: InboundKey,
 )

@@ -1,13 +1,13 @@
 -- What spells a selector (nft(8), "Payload expressions", "Meta expressions", "Conntrack expressions").
 use Rattle.std.specs.Prelude.{ℕ, List, [], ◌∷◌, codes, Bool, true, false, Option, Some, None, is_some}
-use Rattle.nft_lexer.specs.declared.token.Mark.TheVariants.{Dot}
-use Rattle.nft_lexer.specs.Sign.{Sign}
+use Rattle.nft_lexer.specs.declared.token.Punctuator.TheVariants.{Dot}
+use Rattle.nft_lexer.specs.Terminal.{Terminal}
 use Rattle.nft_tree.specs.declared.selector.Selector.{Selector}
 use Rattle.nft_tree.specs.declared.selector.Selector.TheVariants as kinds
 use Rattle.nft_tree.specs.declared.selector.ValueType.{ValueType}
 use Rattle.nft_tree.specs.declared.selector.ValueType.TheVariants.{InterfaceName, InterfaceIndex}
-use Rattle.nft_tree.specs.Words.{entry_in, words_of, selector_type}
-use Rattle.token_reader.specs.Grammar.{Grammar, keyword, sign, one_of, separated, ◌▹◌, ◌∣◌}
+use Rattle.nft_tree.specs.ValueTypes.{entry_in, words_of, selector_type}
+use Rattle.token_reader.specs.Grammar.{Grammar, keyword, punctuation, one_of, separated, ◌▹◌, ◌∣◌}
 
 -- words, and the selectors that they name
 abbrev pub in_ip : List (List ℕ × Selector)
@@ -41,8 +41,8 @@ in_ct = (codes "mark", kinds.CtMark) ∷ (codes "state", kinds.CtState) ∷ (cod
     (codes "status", kinds.CtStatus) ∷ []
 
 -- those that stand without `meta`, too
-abbrev pub alone : List (List ℕ × Selector)
-alone = (codes "iifname", kinds.InputName) ∷ (codes "oifname", kinds.OutputName) ∷ (codes "iif", kinds.InputIndex) ∷
+abbrev pub without_meta : List (List ℕ × Selector)
+without_meta = (codes "iifname", kinds.InputName) ∷ (codes "oifname", kinds.OutputName) ∷ (codes "iif", kinds.InputIndex) ∷
     (codes "oif", kinds.OutputIndex) ∷ []
 
 -- anysel
@@ -55,18 +55,18 @@ selector =
     ∣ keyword (codes "th") ▹ one_of in_th
     ∣ keyword (codes "icmp") ▹ one_of in_icmp
     ∣ keyword (codes "ct") ▹ one_of in_ct
-    ∣ one_of alone
+    ∣ one_of without_meta
 
-abbrev pub SpellsSelector : Selector → List Sign → List Sign → Type 0
+abbrev pub SpellsSelector : Selector → List Terminal → List Terminal → Type 0
 SpellsSelector = selector.spells
 
 -- keys = anysel {"." anysel}
 unfoldable pub selectors : Grammar (List Selector)
-selectors = separated (sign Dot) selector
+selectors = separated (punctuation Dot) selector
 
 -- no further selector stands here that would go on with others
-abbrev pub EndsSelectors : List Sign → Type 0
-EndsSelectors ts = (s : Selector) (to : List Sign) → (sign Dot ▹ selector).spells s ts to → ⊥
+abbrev pub EndsSelectors : List Terminal → Type 0
+EndsSelectors ts = (s : Selector) (to : List Terminal) → (punctuation Dot ▹ selector).spells s ts to → ⊥
 
 -- a type lists the word; any word is the name of an interface
 abbrev pub is_word_of : Option ValueType → List ℕ → Bool

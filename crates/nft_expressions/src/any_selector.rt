@@ -1,25 +1,25 @@
 //! Selectors, and selectors joined by dots.
 ghost use Rattle.std.specs.Prelude.{◌≡◌, List, IfOk, IfSome, IsSomeAnd};
-ghost use Rattle.nft_lexer.specs.Sign.{Sign};
+ghost use Rattle.nft_lexer.specs.Terminal.{Terminal};
 ghost use Rattle.nft_tree.specs.declared.selector.Selector.{Selector};
-ghost use Rattle.token_reader.specs.Readers.{IsAfter, IsRead, ahead};
+ghost use Rattle.token_reader.specs.Readers.{IsAfter, IsRead, remaining};
 ghost use Rattle.nft_expressions.specs.Selectors.{EndsSelectors, SpellsSelector, selector, selectors};
 
-use crate::selector_words::{ALONE, IN_CT, IN_ICMP, IN_IP, IN_META, IN_TCP, IN_TH, IN_UDP};
+use crate::selector_words::{IN_CT, IN_ICMP, IN_IP, IN_META, IN_TCP, IN_TH, IN_UDP, WITHOUT_META};
 use nft_lexer::Token;
 use nft_tree::{Memory, Selector};
 use std::alloc::Global;
-use token_reader::{Dot, Part, after_word, one_of, separated};
+use token_reader::{Dot, Production, after_word, one_of, separated};
 
 /// The one selector at this place, whatever follows it, and where it ends; none where no selector
 /// stands here.
 pub fn anysel(tokens: &[Token], at: usize) -> Option<(Selector, usize)>
     // What is read is spelled here.
-    ensures found { IfSome result (λ x. SpellsSelector x.0 (ahead tokens.now at) (ahead tokens.now x.1)) }
+    ensures found { IfSome result (λ x. SpellsSelector x.0 (remaining tokens.now at) (remaining tokens.now x.1)) }
     // It ends behind this place, within the tokens.
     ensures within { IfSome result (λ x. IsAfter tokens.now at x.1) }
     // What is spelled here is read: there is no other selector, and where nothing is read there is none.
-    ensures only { (s : Selector) (to : List Sign) → SpellsSelector s (ahead tokens.now at) to → IsSomeAnd result (λ x. (x.0 ≡ s) × (ahead tokens.now x.1 ≡ to)) }
+    ensures only { (s : Selector) (to : List Terminal) → SpellsSelector s (remaining tokens.now at) to → IsSomeAnd result (λ x. (x.0 ≡ s) × (remaining tokens.now x.1 ≡ to)) }
     // It is what reading from left to right gives.
     ensures read { IsRead (λ s. s) selector.read tokens.now at result }
 {
@@ -52,12 +52,12 @@ fn selector(tokens: &[Token], at: usize) -> Option<(Selector, usize)>
     if let Some(at) = after_word(tokens, at, b"ct") {
         return one_of(tokens, at, &IN_CT);
     }
-    one_of(tokens, at, &ALONE)
+    one_of(tokens, at, &WITHOUT_META)
 }
 
 struct AnySelector;
 
-impl Part for AnySelector {
+impl Production for AnySelector {
     type Item = Selector;
 
     ghost Tree = { Selector };
@@ -84,9 +84,9 @@ pub fn selectors(
     at: usize,
 ) -> Result<Option<(Vec<Selector>, usize)>, Memory>
     // What is read is spelled here.
-    ensures found { IfOk result (λ o. IfSome o (λ x. selectors.spells x.0.items (ahead tokens.now at) (ahead tokens.now x.1))) }
+    ensures found { IfOk result (λ o. IfSome o (λ x. selectors.spells x.0.items (remaining tokens.now at) (remaining tokens.now x.1))) }
     // What is spelled here, with no further selector after it, is read.
-    ensures only { (ss : List Selector) (to : List Sign) → selectors.spells ss (ahead tokens.now at) to → EndsSelectors to → IfOk result (λ o. IsSomeAnd o (λ x. (x.0.items ≡ ss) × (ahead tokens.now x.1 ≡ to))) }
+    ensures only { (ss : List Selector) (to : List Terminal) → selectors.spells ss (remaining tokens.now at) to → EndsSelectors to → IfOk result (λ o. IsSomeAnd o (λ x. (x.0.items ≡ ss) × (remaining tokens.now x.1 ≡ to))) }
     // It is what reading from left to right gives.
     ensures read { IfOk result (IsRead (λ found. found.items) selectors.read tokens.now at) }
 {

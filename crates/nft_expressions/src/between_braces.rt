@@ -1,16 +1,16 @@
 //! Lists up to the brace that closes them.
 ghost use Rattle.std.specs.Prelude.{◌≡◌, ◌+◌, ◌-◌, ◌<◌, ◌≤◌, Some, drop, length, map, take, option_map, IfOk, IfSome};
-ghost use Rattle.nft_lexer.specs.Sign.{sign_of, signs};
-ghost use Rattle.token_reader.specs.Readers.{IsRead, ahead};
-ghost use Rattle.nft_expressions.specs.steps.Reading.{after_plain, at_brace, enclosed_at, inside_at, listed_at, up_to_brace_at};
+ghost use Rattle.nft_lexer.specs.Terminal.{terminal_of, terminals};
+ghost use Rattle.token_reader.specs.Readers.{IsRead, remaining};
+ghost use Rattle.nft_expressions.specs.steps.Reading.{after_plain, at_brace, enclosed_at, inside_at, comma_separated_at, up_to_brace_at};
 
-use nft_lexer::{Kind, Mark, Token};
+use nft_lexer::{Punctuator, Token, TokenKind};
 use nft_tree::Memory;
 use std::alloc::Global;
-use token_reader::{Comma, Part, after_mark, found, separated};
+use token_reader::{Comma, Production, after_punctuator, found, separated};
 
 /// A part of a list between braces.
-pub(crate) trait InBraces: Part {
+pub(crate) trait InBraces: Production {
     /// The fewest tokens that one takes, with the comma after it. Only the room that a list has
     /// before it grows comes from this.
     fn fewest_tokens() -> usize
@@ -19,11 +19,11 @@ pub(crate) trait InBraces: Part {
 
 /// The token here, unless it is a closing brace, and the place after it.
 fn inside<'t>(tokens: &[Token<'t>], at: usize) -> Option<(Token<'t>, usize)>
-    ensures { IsRead (λ t. sign_of t.kind t.text.now) inside_at tokens.now at result }
+    ensures { IsRead (λ t. terminal_of t.kind t.text.now) inside_at tokens.now at result }
 {
     let token = tokens.get(at)?;
     match token.kind {
-        Kind::Mark(Mark::CloseBrace) => None,
+        TokenKind::Punctuator(Punctuator::CloseBrace) => None,
         _ => Some((*token, at + 1)),
     }
 }
@@ -35,14 +35,14 @@ fn enclosed<'t>(
     tokens: &[Token<'t>],
     at: usize,
 ) -> Result<(Vec<Token<'t>>, usize), Memory>
-    ensures read { IfOk result (λ x. enclosed_at (ahead tokens.now at) ≡ at_brace (signs x.0.items) (ahead tokens.now x.1)) }
+    ensures read { IfOk result (λ x. enclosed_at (remaining tokens.now at) ≡ at_brace (terminals x.0.items) (remaining tokens.now x.1)) }
     ensures within { IfOk result (λ x. at + length x.0.items ≤ x.1) }
 {
     let mut kept = Vec::new(alloc);
     let mut here = at;
     while let Some((token, after)) = inside(tokens, here) {
         here = after;
-        if let Kind::NewLine = token.kind {
+        if let TokenKind::NewLine = token.kind {
             continue;
         }
         kept.push(token)?;
@@ -52,37 +52,40 @@ fn enclosed<'t>(
 
 /// The place after the token here, unless that is a newline or a closing brace.
 fn after_plain(tokens: &[Token], at: usize) -> Option<usize>
-    ensures read { option_map (ahead tokens.now) result ≡ after_plain (ahead tokens.now at) }
+    ensures read { option_map (remaining tokens.now) result ≡ after_plain (remaining tokens.now at) }
     ensures next { IfSome result (λ end. end ≡ at + 1) }
 {
     match tokens.get(at)?.kind {
-        Kind::NewLine | Kind::Mark(Mark::CloseBrace) => None,
+        TokenKind::NewLine | TokenKind::Punctuator(Punctuator::CloseBrace) => None,
         _ => Some(at + 1),
     }
 }
 
 /// The place of the first closing brace, where no newline stands between here and it.
 fn unbroken(tokens: &[Token], at: usize) -> Option<usize>
-    ensures read { IfSome result (λ brace. enclosed_at (ahead tokens.now at) ≡ Some (signs (take (brace - at) (drop at tokens.now)), ahead tokens.now brace)) }
+    ensures read { IfSome result (λ brace. enclosed_at (remaining tokens.now at) ≡ Some (terminals (take (brace - at) (drop at tokens.now)), remaining tokens.now brace)) }
     ensures within { IfSome result (λ brace. (at ≤ brace) × (brace ≤ length tokens.now)) }
 {
     let mut here = at;
     while let Some(after) = after_plain(tokens, here) {
         here = after;
     }
-    after_mark(tokens, here, Mark::CloseBrace)?;
+    after_punctuator(tokens, here, Punctuator::CloseBrace)?;
     Some(here)
 }
 
 /// x {"," x} [","], all of the tokens
-#[tactic(auto, unfolding(crate::specs::steps::Reading::listed_at))]
-fn listed<P: InBraces>(alloc: Global, tokens: &[Token]) -> Result<Option<Vec<P::Item>>, Memory>
-    ensures read { IfOk result (λ o. option_map (λ found. map P.tree found.items) o ≡ listed_at P.read_at (signs tokens.now)) }
+#[tactic(auto, unfolding(crate::specs::steps::Reading::comma_separated_at))]
+fn comma_separated<P: InBraces>(
+    alloc: Global,
+    tokens: &[Token],
+) -> Result<Option<Vec<P::Item>>, Memory>
+    ensures read { IfOk result (λ o. option_map (λ found. map P.tree found.items) o ≡ comma_separated_at P.read_at (terminals tokens.now)) }
     ensures some { IfOk result (λ o. IfSome o (λ _. 0 < length tokens.now)) }
 {
     let room = tokens.len().div_ceil(P::fewest_tokens());
     let (found, end) = found!(separated::<Comma, P>(alloc, tokens, 0, room)?);
-    if after_mark(tokens, end, Mark::Comma).unwrap_or(end) < tokens.len() {
+    if after_punctuator(tokens, end, Punctuator::Comma).unwrap_or(end) < tokens.len() {
         return Ok(None);
     }
     Ok(Some(found))
@@ -98,11 +101,11 @@ pub(crate) fn up_to_brace<P: InBraces>(
     ensures { IfOk result (IsRead (λ found. map P.tree found.items) (up_to_brace_at P.read_at) tokens.now at) }
 {
     if let Some(brace) = unbroken(tokens, at) {
-        let found = found!(listed::<P>(alloc, &tokens[at..brace])?);
+        let found = found!(comma_separated::<P>(alloc, &tokens[at..brace])?);
         return Ok(Some((found, brace)));
     }
     let (inner, brace) = enclosed(alloc, tokens, at)?;
-    found!(after_mark(tokens, brace, Mark::CloseBrace));
-    let found = found!(listed::<P>(alloc, &inner)?);
+    found!(after_punctuator(tokens, brace, Punctuator::CloseBrace));
+    let found = found!(comma_separated::<P>(alloc, &inner)?);
     Ok(Some((found, brace)))
 }

@@ -1,21 +1,21 @@
 //! Elements of sets.
 ghost use Rattle.std.specs.Prelude.{◌≡◌, ◌≤◌, length, IfOk};
 ghost use Rattle.nft_tree.specs.Tree.{ElementTree, ValueTree, element_tree, key_tree, value_tree};
-ghost use Rattle.token_reader.specs.Readers.{ahead};
+ghost use Rattle.token_reader.specs.Readers.{remaining};
 ghost use Rattle.nft_expressions.specs.Elements.{element};
 ghost use Rattle.nft_expressions.specs.steps.Reading.{key_after, next_value_at};
 
 use crate::between_braces::InBraces;
 use crate::values::{comment, range_after, value, value_after};
-use nft_lexer::{Mark, Token};
-use nft_tree::{Element, Key, Memory, Range, Value};
+use nft_lexer::{Punctuator, Token};
+use nft_tree::{Element, Key, Memory, Value, ValueRange};
 use std::alloc::Global;
-use token_reader::{Part, after_mark, found, more};
+use token_reader::{Production, after_punctuator, found, more};
 
 /// "." value
 struct NextValue;
 
-impl Part for NextValue {
+impl Production for NextValue {
     type Item = Value;
 
     ghost Tree = { ValueTree };
@@ -25,7 +25,7 @@ impl Part for NextValue {
     ghost read_at = { next_value_at };
 
     fn read(alloc: Global, tokens: &[Token], at: usize) -> Result<Option<(Value, usize)>, Memory> {
-        value_after(alloc, tokens, at, Mark::Dot)
+        value_after(alloc, tokens, at, Punctuator::Dot)
     }
 }
 
@@ -37,7 +37,7 @@ fn key_after(
     at: usize,
     first: Value,
 ) -> Result<(Key, usize), Memory>
-    ensures read { IfOk result (λ x. (key_tree x.0, ahead tokens.now x.1) ≡ key_after (value_tree first) (ahead tokens.now at)) }
+    ensures read { IfOk result (λ x. (key_tree x.0, remaining tokens.now x.1) ≡ key_after (value_tree first) (remaining tokens.now at)) }
     ensures within { IfOk result (λ x. (at ≤ x.1) × (at ≤ length tokens.now → x.1 ≤ length tokens.now)) }
 {
     let Some((second, at)) = NextValue::read(alloc, tokens, at)? else {
@@ -55,7 +55,7 @@ fn key_after(
 pub(crate) struct SetElement;
 
 #[tactic(auto, unfolding(crate::specs::Elements::element, crate::specs::Elements::key, crate::specs::Elements::comment, crate::specs::steps::Reading::key_after, crate::specs::steps::Reading::range_after, crate::specs::steps::Reading::one_or_prefix))]
-impl Part for SetElement {
+impl Production for SetElement {
     type Item = Element;
 
     ghost Tree = { ElementTree };
@@ -71,8 +71,8 @@ impl Part for SetElement {
     ) -> Result<Option<(Element, usize)>, Memory> {
         let (first, at) = found!(value(alloc, tokens, at)?);
         // Most elements are a value alone.
-        if after_mark(tokens, at, Mark::Comma).is_some() {
-            let key = Key::Single(Range::One(first));
+        if after_punctuator(tokens, at, Punctuator::Comma).is_some() {
+            let key = Key::Single(ValueRange::One(first));
             return Ok(Some((Element { key, comment: None }, at)));
         }
         let (key, at) = key_after(alloc, tokens, at, first)?;

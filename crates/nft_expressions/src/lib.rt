@@ -5,17 +5,17 @@
 mod any_selector;
 mod between_braces;
 mod elements;
-mod listed_words;
 mod lists;
 mod maps;
 mod references;
 mod selector_words;
+mod type_words;
 mod values;
 mod verdicts;
 
 pub use any_selector::{anysel, selectors};
-pub use listed_words::lists_word;
 pub use lists::{elems, pairs};
 pub use references::{map_ref, set_ref};
+pub use type_words::type_has_word;
 pub use values::{comment, range};
 pub use verdicts::verdict;

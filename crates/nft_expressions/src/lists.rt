@@ -1,8 +1,8 @@
 //! Lists between braces.
 ghost use Rattle.std.specs.Prelude.{◌≡◌, List, IfOk, IfSome, IsSomeAnd, map};
-ghost use Rattle.nft_lexer.specs.Sign.{Sign};
+ghost use Rattle.nft_lexer.specs.Terminal.{Terminal};
 ghost use Rattle.nft_tree.specs.Tree.{ElementTree, PairTree, element_tree, pair_tree};
-ghost use Rattle.token_reader.specs.Readers.{IsAfter, IsRead, ahead};
+ghost use Rattle.token_reader.specs.Readers.{IsAfter, IsRead, remaining};
 ghost use Rattle.nft_expressions.specs.Elements.{SpellsElements, SpellsPairs, elements, pairs};
 
 use crate::between_braces::up_to_brace;
@@ -21,11 +21,11 @@ pub fn elems(
     at: usize,
 ) -> Result<Option<(Vec<Element>, usize)>, Memory>
     // What is read is spelled from here up to the brace.
-    ensures found { IfOk result (λ o. IfSome o (λ x. SpellsElements (map element_tree x.0.items) (ahead tokens.now at) (ahead tokens.now x.1))) }
+    ensures found { IfOk result (λ o. IfSome o (λ x. SpellsElements (map element_tree x.0.items) (remaining tokens.now at) (remaining tokens.now x.1))) }
     // It ends within the tokens.
     ensures within { IfOk result (λ o. IfSome o (λ x. IsAfter tokens.now at x.1)) }
     // What is spelled so is read: there is no other list, and where nothing is read there is none.
-    ensures only { (es : List ElementTree) (to : List Sign) → SpellsElements es (ahead tokens.now at) to → IfOk result (λ o. IsSomeAnd o (λ x. (map element_tree x.0.items ≡ es) × (ahead tokens.now x.1 ≡ to))) }
+    ensures only { (es : List ElementTree) (to : List Terminal) → SpellsElements es (remaining tokens.now at) to → IfOk result (λ o. IsSomeAnd o (λ x. (map element_tree x.0.items ≡ es) × (remaining tokens.now x.1 ≡ to))) }
     // It is what reading from left to right gives.
     ensures read { IfOk result (IsRead (λ found. map element_tree found.items) elements.read tokens.now at) }
 {
@@ -39,9 +39,9 @@ pub fn pairs(
     tokens: &[Token],
     at: usize,
 ) -> Result<Option<(Vec<Pair>, usize)>, Memory>
-    ensures found { IfOk result (λ o. IfSome o (λ x. SpellsPairs (map pair_tree x.0.items) (ahead tokens.now at) (ahead tokens.now x.1))) }
+    ensures found { IfOk result (λ o. IfSome o (λ x. SpellsPairs (map pair_tree x.0.items) (remaining tokens.now at) (remaining tokens.now x.1))) }
     ensures within { IfOk result (λ o. IfSome o (λ x. IsAfter tokens.now at x.1)) }
-    ensures only { (ps : List PairTree) (to : List Sign) → SpellsPairs ps (ahead tokens.now at) to → IfOk result (λ o. IsSomeAnd o (λ x. (map pair_tree x.0.items ≡ ps) × (ahead tokens.now x.1 ≡ to))) }
+    ensures only { (ps : List PairTree) (to : List Terminal) → SpellsPairs ps (remaining tokens.now at) to → IfOk result (λ o. IsSomeAnd o (λ x. (map pair_tree x.0.items ≡ ps) × (remaining tokens.now x.1 ≡ to))) }
     ensures read { IfOk result (IsRead (λ found. map pair_tree found.items) pairs.read tokens.now at) }
 {
     up_to_brace::<MapPair>(alloc, tokens, at)

@@ -1,18 +1,18 @@
 //! Elements of maps.
 ghost use Rattle.std.specs.Prelude.{◌≡◌, option_map, IfOk};
-ghost use Rattle.nft_lexer.specs.declared.token.Mark.TheVariants as marks;
+ghost use Rattle.nft_lexer.specs.declared.token.Punctuator.TheVariants as marks;
 ghost use Rattle.nft_tree.specs.Tree.{PairTree, data_tree, pair_tree, range_tree, value_tree};
-ghost use Rattle.token_reader.specs.Grammar.{sign, ◌⨾◌, ◌◃◌};
+ghost use Rattle.token_reader.specs.Grammar.{punctuation, ◌⨾◌, ◌◃◌};
 ghost use Rattle.token_reader.specs.Readers.{IsRead};
 ghost use Rattle.nft_expressions.specs.Elements.{comment, is_data_value, map_data, pair, range};
 
 use crate::between_braces::InBraces;
 use crate::values::{comment, range_after, value};
-use crate::verdicts::verdict_here;
-use nft_lexer::{Mark, Token};
-use nft_tree::{Data, Memory, Pair, Range, Value};
+use crate::verdicts::read_verdict;
+use nft_lexer::{Punctuator, Token};
+use nft_tree::{Data, Memory, Pair, Value, ValueRange};
 use std::alloc::Global;
-use token_reader::{Part, after_mark, found};
+use token_reader::{Production, after_punctuator, found};
 
 /// Whether the value may be data of a map: no word that a verdict begins with is.
 fn is_data_value(value: &Value) -> bool
@@ -35,7 +35,7 @@ fn is_data_value(value: &Value) -> bool
 fn map_data(alloc: Global, tokens: &[Token], at: usize) -> Result<Option<(Data, usize)>, Memory>
     ensures { IfOk result (IsRead data_tree map_data.read tokens.now at) }
 {
-    if let Some((verdict, at)) = verdict_here(alloc, tokens, at)? {
+    if let Some((verdict, at)) = read_verdict(alloc, tokens, at)? {
         return Ok(Some((Data::Verdict(verdict), at)));
     }
     let (value, at) = found!(value(alloc, tokens, at)?);
@@ -51,24 +51,24 @@ fn map_key(
     alloc: Global,
     tokens: &[Token],
     at: usize,
-) -> Result<Option<((Range, Option<Vec<u8>>), usize)>, Memory>
-    ensures { IfOk result (IsRead (λ k. (range_tree k.0, option_map (λ c. c.items) k.1)) (range ⨾ comment ◃ sign marks.Colon).read tokens.now at) }
+) -> Result<Option<((ValueRange, Option<Vec<u8>>), usize)>, Memory>
+    ensures { IfOk result (IsRead (λ k. (range_tree k.0, option_map (λ c. c.items) k.1)) (range ⨾ comment ◃ punctuation marks.Colon).read tokens.now at) }
 {
     let (first, at) = found!(value(alloc, tokens, at)?);
     // Most keys are a value alone, and have no comment.
-    if let Some(at) = after_mark(tokens, at, Mark::Colon) {
-        return Ok(Some(((Range::One(first), None), at)));
+    if let Some(at) = after_punctuator(tokens, at, Punctuator::Colon) {
+        return Ok(Some(((ValueRange::One(first), None), at)));
     }
     let (key, at) = range_after(alloc, tokens, at, first)?;
     let (comment, at) = comment(alloc, tokens, at)?;
-    let at = found!(after_mark(tokens, at, Mark::Colon));
+    let at = found!(after_punctuator(tokens, at, Punctuator::Colon));
     Ok(Some(((key, comment), at)))
 }
 
 /// pair = one ["comment" STRING] ":" (verdict | value)
 pub(crate) struct MapPair;
 
-impl Part for MapPair {
+impl Production for MapPair {
     type Item = Pair;
 
     ghost Tree = { PairTree };

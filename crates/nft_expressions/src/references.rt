@@ -1,8 +1,8 @@
 //! Sets and maps by name, or by their elements between braces.
 ghost use Rattle.std.specs.Prelude.{map, IfOk};
-ghost use Rattle.nft_lexer.specs.declared.token.Mark.TheVariants as marks;
+ghost use Rattle.nft_lexer.specs.declared.token.Punctuator.TheVariants as marks;
 ghost use Rattle.nft_tree.specs.Tree.{map_ref_tree, set_ref_tree};
-ghost use Rattle.token_reader.specs.Grammar.{a_word, sign, ◌▹◌};
+ghost use Rattle.token_reader.specs.Grammar.{a_word, punctuation, ◌▹◌};
 ghost use Rattle.token_reader.specs.Readers.{Anything, IsRead, Reads};
 ghost use Rattle.nft_expressions.specs.Elements.{map_ref, set_ref};
 ghost use Rattle.nft_expressions.specs.steps.Reading.{braced_at};
@@ -10,16 +10,16 @@ ghost use Rattle.nft_expressions.specs.steps.Reading.{braced_at};
 use crate::between_braces::{InBraces, up_to_brace};
 use crate::elements::SetElement;
 use crate::maps::MapPair;
-use nft_lexer::{Mark, Token};
+use nft_lexer::{Punctuator, Token};
 use nft_tree::{MapRef, Memory, SetRef};
 use std::alloc::Global;
-use token_reader::{after_mark, found, word};
+use token_reader::{after_punctuator, found, word};
 
 /// "@" NAME
 fn name<'t>(tokens: &[Token<'t>], at: usize) -> Option<(&'t [u8], usize)>
-    ensures { IsRead (λ x. x.now) (sign marks.At ▹ a_word).read tokens.now at result }
+    ensures { IsRead (λ x. x.now) (punctuation marks.At ▹ a_word).read tokens.now at result }
 {
-    let at = after_mark(tokens, at, Mark::At)?;
+    let at = after_punctuator(tokens, at, Punctuator::At)?;
     word(tokens, at)
 }
 
@@ -32,9 +32,9 @@ fn braced<P: InBraces>(
 ) -> Result<Option<(Vec<P::Item>, usize)>, Memory>
     ensures { IfOk result (IsRead (λ found. map P.tree found.items) (braced_at P.read_at) tokens.now at) }
 {
-    let at = found!(after_mark(tokens, at, Mark::OpenBrace));
+    let at = found!(after_punctuator(tokens, at, Punctuator::OpenBrace));
     let (found, at) = found!(up_to_brace::<P>(alloc, tokens, at)?);
-    let at = found!(after_mark(tokens, at, Mark::CloseBrace));
+    let at = found!(after_punctuator(tokens, at, Punctuator::CloseBrace));
     Ok(Some((found, at)))
 }
 

@@ -50,7 +50,7 @@ pub(crate) static IN_CT: Named<4> = [
 ];
 
 /// Those that stand without `meta`, too.
-pub(crate) static ALONE: Named<4> = [
+pub(crate) static WITHOUT_META: Named<4> = [
     (b"iifname", Selector::InputName),
     (b"oifname", Selector::OutputName),
     (b"iif", Selector::InputIndex),

@@ -1,15 +1,15 @@
 //! Values, ranges and comments.
 ghost use Rattle.std.specs.Prelude.{◌≡◌, ◌≤◌, Some, length, option_map, IfOk};
 ghost use Rattle.nft_tree.specs.Tree.{range_tree, value_tree};
-ghost use Rattle.token_reader.specs.Grammar.{sign, ◌▹◌};
-ghost use Rattle.token_reader.specs.Readers.{IsRead, Reads, ahead};
+ghost use Rattle.token_reader.specs.Grammar.{punctuation, ◌▹◌};
+ghost use Rattle.token_reader.specs.Readers.{IsRead, Reads, remaining};
 ghost use Rattle.nft_expressions.specs.Elements.{EndsComment, EndsRange, comment, range, value};
 ghost use Rattle.nft_expressions.specs.steps.Reading.{one_or_prefix, range_after};
 
-use nft_lexer::{Kind, Mark, Token};
-use nft_tree::{Memory, Range, Value};
+use nft_lexer::{Punctuator, Token, TokenKind};
+use nft_tree::{Memory, Value, ValueRange};
 use std::alloc::Global;
-use token_reader::{after_mark, found, number_after, string_after};
+use token_reader::{after_punctuator, found, number_after, string_after};
 
 /// The bytes, boxed.
 fn boxed(alloc: Global, bytes: &[u8]) -> Result<Box<Vec<u8>>, Memory>
@@ -28,11 +28,11 @@ pub(crate) fn value(
 {
     let token = found!(tokens.get(at));
     let value = match token.kind {
-        Kind::Number(number) => Value::Number(number),
-        Kind::Address(address) => Value::Address(address),
-        Kind::Word => Value::Word(boxed(alloc, token.text)?),
-        Kind::String => Value::String(boxed(alloc, token.between_quotes())?),
-        Kind::NewLine | Kind::Mark(_) => return Ok(None),
+        TokenKind::Number(number) => Value::Number(number),
+        TokenKind::Address(address) => Value::Address(address),
+        TokenKind::Word => Value::Word(boxed(alloc, token.text)?),
+        TokenKind::String => Value::String(boxed(alloc, token.between_quotes())?),
+        TokenKind::NewLine | TokenKind::Punctuator(_) => return Ok(None),
     };
     Ok(Some((value, at + 1)))
 }
@@ -42,23 +42,26 @@ pub(crate) fn value_after(
     alloc: Global,
     tokens: &[Token],
     at: usize,
-    mark: Mark,
+    punctuator: Punctuator,
 ) -> Result<Option<(Value, usize)>, Memory>
-    ensures { IfOk result (IsRead value_tree (sign mark ▹ value).read tokens.now at) }
+    ensures { IfOk result (IsRead value_tree (punctuation punctuator ▹ value).read tokens.now at) }
 {
-    let at = found!(after_mark(tokens, at, mark));
+    let at = found!(after_punctuator(tokens, at, punctuator));
     value(alloc, tokens, at)
 }
 
 /// The value, or the prefix that begins with it, and the place after it.
 #[tactic(auto, unfolding(crate::specs::steps::Reading::one_or_prefix))]
-fn one_or_prefix(tokens: &[Token], at: usize, first: Value) -> (Range, usize)
-    ensures read { (range_tree result.0, ahead tokens.now result.1) ≡ one_or_prefix (value_tree first) (ahead tokens.now at) }
+fn one_or_prefix(tokens: &[Token], at: usize, first: Value) -> (ValueRange, usize)
+    ensures read { (range_tree result.0, remaining tokens.now result.1) ≡ one_or_prefix (value_tree first) (remaining tokens.now at) }
     ensures within { (at ≤ result.1) × (at ≤ length tokens.now → result.1 ≤ length tokens.now) }
 {
-    match (first, number_after(tokens, at, Mark::Slash)) {
-        (Value::Address(address), Some((length, end))) => (Range::Prefix(address, length), end),
-        (value, _) => (Range::One(value), at),
+    match (first, number_after(tokens, at, Punctuator::Slash)) {
+        (Value::Address(address), Some((length, end))) => (
+            ValueRange::Prefix(address, length),
+            end,
+        ),
+        (value, _) => (ValueRange::One(value), at),
     }
 }
 
@@ -69,12 +72,12 @@ pub(crate) fn range_after(
     tokens: &[Token],
     at: usize,
     first: Value,
-) -> Result<(Range, usize), Memory>
-    ensures read { IfOk result (λ x. (range_tree x.0, ahead tokens.now x.1) ≡ range_after (value_tree first) (ahead tokens.now at)) }
+) -> Result<(ValueRange, usize), Memory>
+    ensures read { IfOk result (λ x. (range_tree x.0, remaining tokens.now x.1) ≡ range_after (value_tree first) (remaining tokens.now at)) }
     ensures within { IfOk result (λ x. (at ≤ x.1) × (at ≤ length tokens.now → x.1 ≤ length tokens.now)) }
 {
-    if let Some((high, end)) = value_after(alloc, tokens, at, Mark::Minus)? {
-        return Ok((Range::Between(first, high), end));
+    if let Some((high, end)) = value_after(alloc, tokens, at, Punctuator::Minus)? {
+        return Ok((ValueRange::Between(first, high), end));
     }
     Ok(one_or_prefix(tokens, at, first))
 }
@@ -82,7 +85,11 @@ pub(crate) fn range_after(
 /// The value, the range of two values or the prefix at this place, and where it ends; none where
 /// no value stands here.
 #[tactic(auto, unfolding(crate::specs::Elements::range))]
-pub fn range(alloc: Global, tokens: &[Token], at: usize) -> Result<Option<(Range, usize)>, Memory>
+pub fn range(
+    alloc: Global,
+    tokens: &[Token],
+    at: usize,
+) -> Result<Option<(ValueRange, usize)>, Memory>
     // What is read is spelled here, and what is spelled here, with nothing after it that goes on with it, is read.
     ensures reads { IfOk result (Reads range EndsRange range_tree tokens.now at) }
     // It is what reading from left to right gives.
@@ -104,7 +111,7 @@ pub fn comment(
     // From a place within the tokens it ends within them.
     ensures within { IfOk result (λ x. (at ≤ x.1) × (at ≤ length tokens.now → x.1 ≤ length tokens.now)) }
     // It is what reading from left to right gives.
-    ensures read { IfOk result (λ x. Some (option_map (λ c. c.items) x.0, ahead tokens.now x.1) ≡ comment.read (ahead tokens.now at)) }
+    ensures read { IfOk result (λ x. Some (option_map (λ c. c.items) x.0, remaining tokens.now x.1) ≡ comment.read (remaining tokens.now at)) }
 {
     match string_after(tokens, at, b"comment") {
         Some((text, after)) => Ok((Some(Vec::from_slice(alloc, text)?), after)),

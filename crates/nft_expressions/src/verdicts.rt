@@ -3,7 +3,7 @@ ghost use Rattle.std.specs.Prelude.{IfOk};
 ghost use Rattle.nft_tree.specs.Tree.{verdict_tree};
 ghost use Rattle.token_reader.specs.Grammar.{a_word, keyword, one_of, ◌▹◌};
 ghost use Rattle.token_reader.specs.Readers.{Anything, IsRead, Reads};
-ghost use Rattle.nft_expressions.specs.Elements.{decisions, verdict};
+ghost use Rattle.nft_expressions.specs.Elements.{verdict_keywords, verdict};
 
 use nft_lexer::Token;
 use nft_tree::{Memory, Verdict};
@@ -11,8 +11,8 @@ use std::alloc::Global;
 use token_reader::{after_word, found, word};
 
 /// "accept" | "drop" | "continue" | "return"
-fn decision(tokens: &[Token], at: usize) -> Option<(Verdict, usize)>
-    ensures { IsRead verdict_tree (one_of decisions).read tokens.now at result }
+fn verdict_keyword(tokens: &[Token], at: usize) -> Option<(Verdict, usize)>
+    ensures { IsRead verdict_tree (one_of verdict_keywords).read tokens.now at result }
 {
     if let Some(at) = after_word(tokens, at, b"accept") {
         return Some((Verdict::Accept, at));
@@ -42,8 +42,8 @@ fn name_after(
 }
 
 /// verdict = "accept" | "drop" | "continue" | "return" | ("jump" | "goto") NAME
-#[tactic(auto, using(crate::specs::steps::Laws::wordless), unfolding(crate::specs::Elements::verdict))]
-pub(crate) fn verdict_here(
+#[tactic(auto, using(crate::specs::steps::Laws::no_verdict_without_word), unfolding(crate::specs::Elements::verdict))]
+pub(crate) fn read_verdict(
     alloc: Global,
     tokens: &[Token],
     at: usize,
@@ -52,8 +52,8 @@ pub(crate) fn verdict_here(
 {
     // Most data of maps are no words, and then no keyword is tried.
     found!(word(tokens, at));
-    if let Some(decided) = decision(tokens, at) {
-        return Ok(Some(decided));
+    if let Some(verdict_data) = verdict_keyword(tokens, at) {
+        return Ok(Some(verdict_data));
     }
     if let Some((name, at)) = name_after(alloc, tokens, at, b"jump")? {
         return Ok(Some((Verdict::Jump(name), at)));
@@ -74,5 +74,5 @@ pub fn verdict(
     // It is what reading from left to right gives.
     ensures read { IfOk result (IsRead verdict_tree verdict.read tokens.now at) }
 {
-    verdict_here(alloc, tokens, at)
+    read_verdict(alloc, tokens, at)
 }

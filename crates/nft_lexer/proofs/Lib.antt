@@ -1,3 +1,3 @@
 pub mod Numbers
-pub mod Pieces
-pub mod Cuttings
+pub mod Lexemes
+pub mod Tokenizations

@@ -12,9 +12,9 @@ use Rattle.std.proofs.Math.Seq.{take-append_seam}
 use Rattle.std.proofs.lemmas.Fmt.{decimal_digit, decimal_is_IsNumeral, decimal-digits_value, first_decimal}
 use Rattle.std.proofs.lemmas.Str.Parse.{IsNumeralModel, numerals_by_value}
 use Rattle.list_laws.specs.Options.{IfSome_weaker}
-use Rattle.nft_lexer.specs.Sign.{Spelled, word, number, address, string}
-use Rattle.nft_lexer.specs.Cut.{Part, name, digits, hexadecimal, dotted, quoted, IsDigits, IsHexadecimal, IsSoundDecimal, AreGroups, SpellsPart, Means}
-use Rattle.nft_lexer.specs.steps.Reading.{◌>>=◌, leads_with_zero, below, value_after, decimal_at, group_at, address_of, address_at, number_piece, address_piece, tokens_of, meaning, one}
+use Rattle.nft_lexer.specs.Terminal.{LexedToken, word, number, address, string}
+use Rattle.nft_lexer.specs.Lexing.{Lexeme, name, digits, hexadecimal, dotted_quad, quoted, IsDigits, IsHexadecimal, IsValidDecimal, AreOctets, SpellsLexeme, HasTokens}
+use Rattle.nft_lexer.specs.steps.Reading.{◌>>=◌, has_leading_zero, below, value_after, decimal_at, octet_at, address_of, address_at, number_kind, address_kind, tokens_of, meaning, one}
 
 -- ---- options
 
@@ -64,8 +64,8 @@ hexadecimal_value b e = grind (arith, nat_tests)
 all_hexadecimal : (ds : List ℕ) → list_all is_ascii_hexdigit ds ≡ true → AllDigits 16 ds
 all_hexadecimal [] all = tt
 all_hexadecimal (b ∷ bs) all =
-    let parts = and_parts (is_ascii_hexdigit b) (list_all is_ascii_hexdigit bs) all in
-    (hexadecimal_value b parts.0, all_hexadecimal bs parts.1)
+    let lexemes = and_parts (is_ascii_hexdigit b) (list_all is_ascii_hexdigit bs) all in
+    (hexadecimal_value b lexemes.0, all_hexadecimal bs lexemes.1)
 
 hexadecimal_is : (ds : List ℕ) → IsHexadecimal ds → value_after 16 0 ds ≡ below (2 ^ 64) (digits_value 16 ds)
 hexadecimal_is ds s = value_is 16 0 ds (omega arith) (all_hexadecimal ds s.1) (omega arith)
@@ -91,42 +91,42 @@ not_leading n first h = grind (arith, nat_tests)
 one_digit : (n first : ℕ) → 0 < n → (1 < n → first ≢ 48) → first ≡ 48 → n ≡ 1
 one_digit n first some h e = grind (arith, nat_tests)
 
-decimal_found : (ds : List ℕ) → IsDigits ds → IfSome (decimal_at ds) (λ n. IsSoundDecimal ds × (n ≡ digits_value 10 ds))
+decimal_found : (ds : List ℕ) → IsDigits ds → IfSome (decimal_at ds) (λ n. IsValidDecimal ds × (n ≡ digits_value 10 ds))
 unfolding decimal_at
 decimal_found ds s =
-    by_test (λ o. IfSome o (λ n. IsSoundDecimal ds × (n ≡ digits_value 10 ds))) (leads_with_zero ds) None (value_after 10 0 ds) (λ _. tt) (λ plain.
+    by_test (λ o. IfSome o (λ n. IsValidDecimal ds × (n ≡ digits_value 10 ds))) (has_leading_zero ds) None (value_after 10 0 ds) (λ _. tt) (λ plain.
     rw (decimal_is ds s) (IfSome_weaker (below (2 ^ 64) (digits_value 10 ds)) _ _ (λ n h.
     let less : n < 2 ^ 64 = h.1 in
     ((no_leading (length ds) (get_or ds 0 0) plain, rw h.0 at less), h.0)) (below_found (2 ^ 64) (digits_value 10 ds))))
 
-decimal_only : (ds : List ℕ) → IsDigits ds → IsSoundDecimal ds → decimal_at ds ≡ Some (digits_value 10 ds)
+decimal_only : (ds : List ℕ) → IsDigits ds → IsValidDecimal ds → decimal_at ds ≡ Some (digits_value 10 ds)
 unfolding decimal_at
 decimal_only ds s m =
-    let plain : leads_with_zero ds ≡ false = not_leading (length ds) (get_or ds 0 0) m.0 in
+    let plain : has_leading_zero ds ≡ false = not_leading (length ds) (get_or ds 0 0) m.0 in
     rw (plain, decimal_is ds s, below_only (2 ^ 64) (digits_value 10 ds) m.1) refl
 
 -- ---- groups
 
-group_found : (ds : List ℕ) → IsDigits ds → IfSome (group_at ds) (λ n. (n < 256) × (ds ≡ decimal n))
-unfolding group_at
-group_found ds s =
+octet_found : (ds : List ℕ) → IsDigits ds → IfSome (octet_at ds) (λ n. (n < 256) × (ds ≡ decimal n))
+unfolding octet_at
+octet_found ds s =
     bind_found _ (decimal_at ds) _ (decimal_found ds s) (λ n h.
     IfSome_weaker (below 256 n) _ _ (λ m g.
     let many = some_length ds s.0 in
     (g.1, sym (ap decimal (g.0 ∙ h.1) ∙ decimal-digits_value own ds s.1 many (one_digit (length ds) (get_or ds 0 0) many h.0.0) h.0.1))) (below_found 256 n))
 
-sound_decimal : (n : ℕ) → n < 256 → IsSoundDecimal (decimal n)
-sound_decimal zero less =
+valid_decimal : (n : ℕ) → n < 256 → IsValidDecimal (decimal n)
+valid_decimal zero less =
     let one : length (decimal 0) ≡ 1 = rw (decimal_digit 0 (omega arith)) refl in
     (λ many. absurd (omega (arith, one)), omega (arith, (decimal_is_IsNumeral 0 (omega arith)).1))
-sound_decimal (suc k) less =
+valid_decimal (suc k) less =
     let first : 48 < get_or (decimal (suc k)) 0 0 = first_decimal (suc k) (omega arith) (omega arith) in
     (λ _. omega arith, omega (arith, (decimal_is_IsNumeral (suc k) (omega arith)).1))
 
-group_only : (ds : List ℕ) (n : ℕ) → IsDigits ds → n < 256 → ds ≡ decimal n → group_at ds ≡ Some n
-unfolding group_at
-group_only ds n s less e =
-    let sound : IsSoundDecimal ds = rw e (sound_decimal n less) in
+octet_only : (ds : List ℕ) (n : ℕ) → IsDigits ds → n < 256 → ds ≡ decimal n → octet_at ds ≡ Some n
+unfolding octet_at
+octet_only ds n s less e =
+    let sound : IsValidDecimal ds = rw e (valid_decimal n less) in
     let value : digits_value 10 ds ≡ n = rw e (decimal_is_IsNumeral n (omega arith)).1 in
     rw (decimal_only ds s sound, value, below_only 256 n less) refl
 
@@ -136,22 +136,22 @@ group_only ds n s less e =
 joined : (a b c d : ℕ) → a < 256 → b < 256 → c < 256 → d < 256 → (let n = a * 16777216 + b * 65536 + c * 256 + d in (n < 2 ^ 32) × (n / 16777216 ≡ a) × (n / 65536 % 256 ≡ b) × (n / 256 % 256 ≡ c) × (n % 256 ≡ d))
 joined a b c d la lb lc ld = (omega arith, omega arith, omega arith, omega arith, omega arith)
 
-address_found : (a b c d : List ℕ) → IsDigits a → IsDigits b → IsDigits c → IsDigits d → IfSome (address_at a b c d) (AreGroups a b c d)
-unfolding address_of group_at
+address_found : (a b c d : List ℕ) → IsDigits a → IsDigits b → IsDigits c → IsDigits d → IfSome (address_at a b c d) (AreOctets a b c d)
+unfolding address_of octet_at
 address_found a b c d sa sb sc sd =
-    bind_found _ (group_at a) _ (group_found a sa) (λ w hw.
-    bind_found _ (group_at b) _ (group_found b sb) (λ x hx.
-    bind_found _ (group_at c) _ (group_found c sc) (λ y hy.
-    bind_found _ (group_at d) _ (group_found d sd) (λ z hz.
+    bind_found _ (octet_at a) _ (octet_found a sa) (λ w hw.
+    bind_found _ (octet_at b) _ (octet_found b sb) (λ x hx.
+    bind_found _ (octet_at c) _ (octet_found c sc) (λ y hy.
+    bind_found _ (octet_at d) _ (octet_found d sd) (λ z hz.
     let all = joined w x y z hw.0 hx.0 hy.0 hz.0 in
     (all.0, hw.1 ∙ ap decimal (sym all.1), hx.1 ∙ ap decimal (sym all.2), hy.1 ∙ ap decimal (sym all.3), hz.1 ∙ ap decimal (sym all.4))))))
 
-address_only : (a b c d : List ℕ) (n : ℕ) → IsDigits a → IsDigits b → IsDigits c → IsDigits d → AreGroups a b c d n → address_at a b c d ≡ Some n
-unfolding address_of group_at
+address_only : (a b c d : List ℕ) (n : ℕ) → IsDigits a → IsDigits b → IsDigits c → IsDigits d → AreOctets a b c d n → address_at a b c d ≡ Some n
+unfolding address_of octet_at
 address_only a b c d n sa sb sc sd m =
     let small : n < 2 ^ 32 = m.0 in
     let whole : n / 16777216 * 16777216 + n / 65536 % 256 * 65536 + n / 256 % 256 * 256 + n % 256 ≡ n = omega arith in
-    rw (group_only a (n / 16777216) sa (omega arith) m.1, group_only b (n / 65536 % 256) sb (omega arith) m.2, group_only c (n / 256 % 256) sc (omega arith) m.3, group_only d (n % 256) sd (omega arith) m.4) (ap (λ (k : ℕ). Some k) whole)
+    rw (octet_only a (n / 16777216) sa (omega arith) m.1, octet_only b (n / 65536 % 256) sb (omega arith) m.2, octet_only c (n / 256 % 256) sc (omega arith) m.3, octet_only d (n % 256) sd (omega arith) m.4) (ap (λ (k : ℕ). Some k) whole)
 
 -- ---- the tokens of pieces
 
@@ -161,32 +161,32 @@ between s bytes e =
     let long : length (34 ∷ s ++ 34 ∷ []) - 2 ≡ length s = omega (arith, length-append s (34 ∷ [])) in
     rw (e, long) (take-append_seam s (34 ∷ []))
 
-as_number : (o : Option ℕ) (bytes : List ℕ) → tokens_of (number_piece o) bytes ≡ option_map (λ v. one (number v) bytes) o
+as_number : (o : Option ℕ) (bytes : List ℕ) → tokens_of (number_kind o) bytes ≡ option_map (λ v. one (number v) bytes) o
 as_number None bytes = refl
 as_number (Some n) bytes = refl
 
-as_address : (o : Option ℕ) (bytes : List ℕ) → tokens_of (address_piece o) bytes ≡ option_map (λ v. one (address v) bytes) o
+as_address : (o : Option ℕ) (bytes : List ℕ) → tokens_of (address_kind o) bytes ≡ option_map (λ v. one (address v) bytes) o
 as_address None bytes = refl
 as_address (Some a) bytes = refl
 
-pub meaning_found : (p : Part) (bytes : List ℕ) → SpellsPart p bytes → IfSome (meaning p bytes) (λ tokens. Means p bytes tokens)
+pub meaning_found : (p : Lexeme) (bytes : List ℕ) → SpellsLexeme p bytes → IfSome (meaning p bytes) (λ tokens. HasTokens p bytes tokens)
 meaning_found (name w) bytes s = ap (λ (t : List ℕ). one (word t) bytes) s.0
 meaning_found (digits n) bytes s = rw (as_number (decimal_at n) bytes) (view_found _ (decimal_at n) (λ v. one (number v) bytes) (decimal_found n s.1) (λ v h. (h.0, ap (λ (k : ℕ). one (number k) bytes) h.1)))
 meaning_found (hexadecimal n) bytes s =
     rw (as_number (value_after 16 0 n) bytes, hexadecimal_is n s.1) (view_found _ (below (2 ^ 64) (digits_value 16 n)) (λ v. one (number v) bytes) (below_found (2 ^ 64) (digits_value 16 n)) (λ v h.
     let less : v < 2 ^ 64 = h.1 in
     (rw h.0 at less, ap (λ (k : ℕ). one (number k) bytes) h.0)))
-meaning_found (dotted a b c d) bytes s = rw (as_address (address_at a b c d) bytes) (view_found _ (address_at a b c d) (λ v. one (address v) bytes) (address_found a b c d s.1 s.2 s.3 s.4) (λ n h. (n, h, refl)))
+meaning_found (dotted_quad a b c d) bytes s = rw (as_address (address_at a b c d) bytes) (view_found _ (address_at a b c d) (λ v. one (address v) bytes) (address_found a b c d s.1 s.2 s.3 s.4) (λ n h. (n, h, refl)))
 meaning_found (quoted q) bytes s = ap (λ (t : List ℕ). one (string t) bytes) (between q bytes s.0)
 meaning_found p bytes s = refl
 
 some_of : {A : Type 0} (x y : A) → x ≡ y → ◌≡◌ {A = Option A} (Some y) (Some x)
 some_of x y e = ap (λ z. Some z) (sym e)
 
-pub meaning_only : (p : Part) (bytes : List ℕ) (tokens : List Spelled) → SpellsPart p bytes → Means p bytes tokens → meaning p bytes ≡ Some tokens
+pub meaning_only : (p : Lexeme) (bytes : List ℕ) (tokens : List LexedToken) → SpellsLexeme p bytes → HasTokens p bytes tokens → meaning p bytes ≡ Some tokens
 meaning_only (name w) bytes tokens s m = some_of tokens _ (m ∙ ap (λ (t : List ℕ). one (word t) bytes) (sym s.0))
 meaning_only (digits n) bytes tokens s m = rw (as_number (decimal_at n) bytes, decimal_only n s.1 m.0) (some_of tokens _ m.1)
 meaning_only (hexadecimal n) bytes tokens s m = rw (as_number (value_after 16 0 n) bytes, hexadecimal_is n s.1, below_only (2 ^ 64) (digits_value 16 n) m.0) (some_of tokens _ m.1)
-meaning_only (dotted a b c d) bytes tokens s m = rw (as_address (address_at a b c d) bytes, address_only a b c d m.0 s.1 s.2 s.3 s.4 m.1) (some_of tokens _ m.2)
+meaning_only (dotted_quad a b c d) bytes tokens s m = rw (as_address (address_at a b c d) bytes, address_only a b c d m.0 s.1 s.2 s.3 s.4 m.1) (some_of tokens _ m.2)
 meaning_only (quoted q) bytes tokens s m = some_of tokens _ (m ∙ ap (λ (t : List ℕ). one (string t) bytes) (sym (between q bytes s.0)))
 meaning_only p bytes tokens s m = some_of tokens _ m

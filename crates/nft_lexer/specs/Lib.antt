@@ -1,3 +1,3 @@
-pub mod Sign
-pub mod Cut
+pub mod Terminal
+pub mod Lexing
 pub mod steps

@@ -1,13 +1,13 @@
 //! Laws of the tokens, each as the contract of a function that does nothing.
 ghost use Rattle.std.specs.Prelude.{◌≡◌, ◌⊎◌, ℕ, List};
 ghost use Rattle.nft_lexer.specs.declared.fault.LexFault.{LexFault};
-ghost use Rattle.nft_lexer.specs.Sign.{Spelled};
-ghost use Rattle.nft_lexer.specs.Cut.{IsCut, HasLexFault};
+ghost use Rattle.nft_lexer.specs.Terminal.{LexedToken};
+ghost use Rattle.nft_lexer.specs.Lexing.{TokenizesTo, HasLexFault};
 
 /// A text has at most one cutting, and none where it has a fault.
-pub fn one_cutting()
-    ensures one { (text : List ℕ) (xs ys : List Spelled) → IsCut text xs → IsCut text ys → xs ≡ ys }
-    ensures faultless { (text : List ℕ) (xs : List Spelled) (fault : LexFault) → IsCut text xs → HasLexFault text fault → ⊥ }
+pub fn one_tokenization()
+    ensures one { (text : List ℕ) (xs ys : List LexedToken) → TokenizesTo text xs → TokenizesTo text ys → xs ≡ ys }
+    ensures faultless { (text : List ℕ) (xs : List LexedToken) (fault : LexFault) → TokenizesTo text xs → HasLexFault text fault → ⊥ }
 {}
 
 /// A text has at most one first fault.
@@ -16,6 +16,6 @@ pub fn one_fault()
 {}
 
 /// A text has a cutting or a first fault.
-pub fn some_cutting()
-    ensures { (text : List ℕ) → ((tokens : List Spelled) × IsCut text tokens) ⊎ ((fault : LexFault) × HasLexFault text fault) }
+pub fn some_tokenization()
+    ensures { (text : List ℕ) → ((tokens : List LexedToken) × TokenizesTo text tokens) ⊎ ((fault : LexFault) × HasLexFault text fault) }
 {}

@@ -1,14 +1,14 @@
 //! Cuts the text of a ruleset into tokens (nft(8), "Lexical conventions").
 #![tactic(auto)]
 
-mod cutting;
 mod fault;
 mod laws;
+mod lexeme;
+mod lexing;
 mod number;
-mod piece;
 mod token;
 
-pub use cutting::lex;
 pub use fault::{LexError, LexFault};
-pub use laws::{one_cutting, one_fault, some_cutting};
-pub use token::{Kind, Mark, Token};
+pub use laws::{one_fault, one_tokenization, some_tokenization};
+pub use lexing::lex;
+pub use token::{Punctuator, Token, TokenKind};

@@ -2,7 +2,7 @@
 ghost use Rattle.std.specs.Prelude.{◌≡◌, ◌≤◌, ◌<◌, ◌^◌, length, option_map};
 ghost use Rattle.std.specs.Char.{is_ascii_digit};
 ghost use Rattle.std.specs.List.{prefix_len};
-ghost use Rattle.nft_lexer.specs.steps.Reading.{address_of, byte_of, digit_at, digits_at, front, leads_with_zero, value_after, with_digit};
+ghost use Rattle.nft_lexer.specs.steps.Reading.{address_of, byte_of, digit_at, digits_at, front, has_leading_zero, value_after, with_digit};
 
 /// Decimal digits, and the number below 2^64 that they say with no leading zero.
 #[derive(Clone, Copy)]
@@ -38,8 +38,8 @@ pub(crate) fn value(digits: &[u8], radix: u32) -> Option<u64>
 }
 
 /// Whether more than one digit stands there and the first is a zero.
-fn leads_with_zero(digits: &[u8]) -> bool
-    ensures { result ≡ leads_with_zero digits.now }
+fn has_leading_zero(digits: &[u8]) -> bool
+    ensures { result ≡ has_leading_zero digits.now }
 {
     digits.len() > 1 && digits[0] == b'0'
 }
@@ -83,7 +83,7 @@ fn digits_in_front(text: &[u8]) -> (usize, Option<u64>)
 
 /// All the digits in front, one at least, and what follows them.
 #[tactic(auto, using(crate::specs::steps::Values::run_is), unfolding(crate::specs::steps::Reading::digits_at, crate::specs::steps::Reading::decimal_at))]
-pub(crate) fn some_digits<'t>(text: &'t [u8]) -> Option<(Digits<'t>, &'t [u8])>
+pub(crate) fn leading_digits<'t>(text: &'t [u8]) -> Option<(Digits<'t>, &'t [u8])>
     ensures { option_map (λ x. (x.0.text.now, x.0.number, x.1.now)) result ≡ digits_at text.entry.now }
 {
     let (count, number) = digits_in_front(text);
@@ -91,7 +91,7 @@ pub(crate) fn some_digits<'t>(text: &'t [u8]) -> Option<(Digits<'t>, &'t [u8])>
         return None;
     }
     let (digits, rest) = text.split_at(count);
-    let number = if leads_with_zero(digits) {
+    let number = if has_leading_zero(digits) {
         None
     } else {
         number
@@ -106,7 +106,7 @@ pub(crate) fn some_digits<'t>(text: &'t [u8]) -> Option<(Digits<'t>, &'t [u8])>
 }
 
 /// The number as one from 0 to 255.
-fn group(number: Option<u64>) -> Option<u8>
+fn octet(number: Option<u64>) -> Option<u8>
     ensures { result ≡ byte_of number }
 {
     u8::try_from(number?).ok()
@@ -122,5 +122,5 @@ pub(crate) fn address(
 ) -> Option<u32>
     ensures { result ≡ address_of first second third fourth }
 {
-    Some(u32::from_be_bytes([group(first)?, group(second)?, group(third)?, group(fourth)?]))
+    Some(u32::from_be_bytes([octet(first)?, octet(second)?, octet(third)?, octet(fourth)?]))
 }

@@ -3,7 +3,7 @@ ghost use Rattle.std.specs.Prelude.{◌≡◌, ◌-◌, drop, length, take};
 
 /// A mark of one byte or two.
 #[derive(Clone, Copy, PartialEq)]
-pub enum Mark {
+pub enum Punctuator {
     /// `{`
     OpenBrace,
     /// `}`
@@ -50,9 +50,9 @@ pub enum Mark {
 
 /// What a token is.
 #[derive(Clone, Copy)]
-pub enum Kind {
+pub enum TokenKind {
     NewLine,
-    Mark(Mark),
+    Punctuator(Punctuator),
     /// The bytes are the token's text.
     Word,
     /// Its value, written in decimal digits or, after `0x`, in hexadecimal ones.
@@ -67,7 +67,7 @@ pub enum Kind {
 #[derive(Clone, Copy)]
 pub struct Token<'t> {
     pub text: &'t [u8],
-    pub kind: Kind,
+    pub kind: TokenKind,
 }
 
 impl<'t> Token<'t> {

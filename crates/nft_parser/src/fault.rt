@@ -8,13 +8,13 @@ use thiserror::Error;
 pub enum TextFault {
     /// It isn't cut into tokens.
     #[error("{0}")]
-    Cutting(LexFault),
+    Lexical(LexFault),
     /// No tree is spelled by the tokens.
     #[error("E05")]
     Syntax,
     /// No tree is spelled by the tokens, and one of them is a word of nft(8) that is left out.
     #[error("E06")]
-    LeftOut,
+    Unsupported,
 }
 
 /// Why `parse` gives no tree.
@@ -41,13 +41,13 @@ impl From<Memory> for ParseError {
 
 impl From<LexError> for ParseError {
     ghost use Rattle.std.specs.Prelude.{◌≡◌};
-    ghost use Rattle.nft_parser.specs.steps.Faults.{of_cutting};
+    ghost use Rattle.nft_parser.specs.steps.Faults.{of_lex_error};
 
-    ghost from_gives = { λ error e. e ≡ of_cutting error };
+    ghost from_gives = { λ error e. e ≡ of_lex_error error };
 
     fn from(error: LexError) -> ParseError {
         match error {
-            LexError::Refused(fault) => ParseError::Refused(TextFault::Cutting(fault)),
+            LexError::Refused(fault) => ParseError::Refused(TextFault::Lexical(fault)),
             LexError::Memory => ParseError::Memory,
         }
     }

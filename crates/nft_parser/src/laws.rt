@@ -9,14 +9,14 @@ pub fn one_tree()
     ensures one { (text : List ℕ) (first second : List TableTree) → Spells first text → Spells second text → first ≡ second }
     ensures faultless { (text : List ℕ) (tree : List TableTree) (fault : TextFault) → Spells tree text → HasTextFault text fault → ⊥ }
 {
-    nft_lexer::one_cutting();
+    nft_lexer::one_tokenization();
 }
 
 /// A text has at most one fault.
 pub fn one_fault()
     ensures { (text : List ℕ) (first second : TextFault) → HasTextFault text first → HasTextFault text second → first ≡ second }
 {
-    nft_lexer::one_cutting();
+    nft_lexer::one_tokenization();
     nft_lexer::one_fault();
 }
 
@@ -24,5 +24,5 @@ pub fn one_fault()
 pub fn some_answer()
     ensures { (text : List ℕ) → ((tree : List TableTree) × Spells tree text) ⊎ ((fault : TextFault) × HasTextFault text fault) }
 {
-    nft_lexer::some_cutting();
+    nft_lexer::some_tokenization();
 }

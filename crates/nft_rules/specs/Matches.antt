@@ -2,8 +2,8 @@
 use Rattle.std.specs.Prelude.{List, [], ◌∷◌, ◌++◌, Bool, true, false, cond, ◌&&◌, Option, Some, None, option_map}
 use Rattle.std.specs.List.{list_all}
 use Rattle.std.specs.Option.{unwrap_or}
-use Rattle.nft_lexer.specs.declared.token.Mark.TheVariants as marks
-use Rattle.nft_lexer.specs.Sign.{Sign}
+use Rattle.nft_lexer.specs.declared.token.Punctuator.TheVariants as marks
+use Rattle.nft_lexer.specs.Terminal.{Terminal}
 use Rattle.nft_tree.specs.declared.selector.Selector.{Selector}
 use Rattle.nft_tree.specs.declared.selector.Selector.TheVariants.{TcpFlags, CtState, CtStatus}
 use Rattle.nft_tree.specs.declared.statement.Operator.{Operator}
@@ -14,7 +14,7 @@ use Rattle.nft_tree.specs.declared.statement.BitTest.TheVariants as tests
 use Rattle.nft_tree.specs.Tree as tree
 use Rattle.nft_tree.specs.Tree.{Text, ValueTree, RangeTree, FlagTree, flag_word, flag_number, MatchTree}
 use Rattle.token_reader.specs.Grammar.{Grammar, ◌⨾◌, ◌▹◌, ◌◃◌, ◌∣◌, a_number, a_word, made, maybe, named, one_of}
-use Rattle.token_reader.specs.Grammar.{passing, separated, sign}
+use Rattle.token_reader.specs.Grammar.{passing, separated, punctuation}
 use Rattle.list_laws.specs.Options.{◌>>=◌}
 use Rattle.token_reader.specs.steps.Reading.{all_at, with_front}
 use Rattle.nft_expressions.specs.Selectors.{is_word_for, selector, selectors}
@@ -22,13 +22,13 @@ use Rattle.nft_expressions.specs.Elements.{range, set_ref}
 
 -- "==" | "!=": whether it is `==`
 unfoldable pub equality : Grammar Bool
-equality = made (λ u. true) (sign marks.EqualTo) ∣ made (λ u. false) (sign marks.NotEqualTo)
+equality = made (λ u. true) (punctuation marks.EqualTo) ∣ made (λ u. false) (punctuation marks.NotEqualTo)
 
 -- "<" | ">" | "<=" | ">="
 unfoldable pub inequality : Grammar Operator
 inequality =
-    made (λ u. operators.Below) (sign marks.Below) ∣ made (λ u. operators.Above) (sign marks.Above)
-    ∣ made (λ u. operators.AtMost) (sign marks.AtMost) ∣ made (λ u. operators.AtLeast) (sign marks.AtLeast)
+    made (λ u. operators.Below) (punctuation marks.Below) ∣ made (λ u. operators.Above) (punctuation marks.Above)
+    ∣ made (λ u. operators.AtMost) (punctuation marks.AtMost) ∣ made (λ u. operators.AtLeast) (punctuation marks.AtLeast)
 
 -- op
 unfoldable pub operator : Grammar Operator
@@ -53,7 +53,7 @@ comparison s =
 
 -- WORD {"," WORD}
 unfoldable pub words : Grammar (List Text)
-words = separated (sign marks.Comma) a_word
+words = separated (punctuation marks.Comma) a_word
 
 -- bits = ["==" | "!="] WORD {"," WORD}
 unfoldable pub bits : BitField → Selector → Grammar MatchTree
@@ -71,28 +71,28 @@ flag = made flag_word a_word ∣ made flag_number a_number
 
 -- flags = (WORD | NUM) {("," | "|") (WORD | NUM)}
 unfoldable pub flags : Grammar (List FlagTree)
-flags = passing (list_all is_flag) (separated (sign marks.Comma ∣ sign marks.Bar) flag)
+flags = passing (list_all is_flag) (separated (punctuation marks.Comma ∣ punctuation marks.Bar) flag)
 
 -- pflags = flags | "(" flags ")"
 unfoldable pub flag_group : Grammar (List FlagTree)
-flag_group = flags ∣ sign marks.OpenParenthesis ▹ flags ◃ sign marks.CloseParenthesis
+flag_group = flags ∣ punctuation marks.OpenParenthesis ▹ flags ◃ punctuation marks.CloseParenthesis
 
 abbrev pub masked_by : (equal : Bool) (mask wanted : List FlagTree) → MatchTree
 masked_by equal mask wanted = cond equal (tree.masked_flags wanted mask) (tree.masked_flags_unequal wanted mask)
 
 -- `!=` asks for a mask
-abbrev pub listed : Option Bool → List FlagTree → Option (List FlagTree) → Option MatchTree
-listed equal wanted (Some mask) = Some (masked_by (unwrap_or equal true) mask wanted)
-listed None wanted None = Some (tree.any_flag wanted)
-listed (Some equal) wanted None = cond equal (Some (tree.exact_flags wanted)) None
+abbrev pub flag_match : Option Bool → List FlagTree → Option (List FlagTree) → Option MatchTree
+flag_match equal wanted (Some mask) = Some (masked_by (unwrap_or equal true) mask wanted)
+flag_match None wanted None = Some (tree.any_flag wanted)
+flag_match (Some equal) wanted None = cond equal (Some (tree.exact_flags wanted)) None
 
 -- ["==" | "!="] flags ["/" flags]
 unfoldable pub flag_list : Grammar MatchTree
-flag_list = named (λ x. listed x.0 x.1.0 x.1.1) (maybe equality ⨾ flags ⨾ maybe (sign marks.Slash ▹ flags))
+flag_list = named (λ x. flag_match x.0 x.1.0 x.1.1) (maybe equality ⨾ flags ⨾ maybe (punctuation marks.Slash ▹ flags))
 
 -- "&" pflags ("==" | "!=") pflags
 unfoldable pub masked : Grammar MatchTree
-masked = made (λ x. masked_by x.1.0 x.0 x.1.1) (sign marks.Ampersand ▹ flag_group ⨾ equality ⨾ flag_group)
+masked = made (λ x. masked_by x.1.0 x.0 x.1.1) (punctuation marks.Ampersand ▹ flag_group ⨾ equality ⨾ flag_group)
 
 -- what tests one selector
 unfoldable pub one_test : Selector → Grammar MatchTree
@@ -115,10 +115,10 @@ set_test ss = made (λ x. cond (unwrap_or x.0 true) (tree.is_in ss x.1) (tree.no
 unfoldable pub matching : Grammar MatchTree
 matching = record {
   spells =
-      λ m from to. (ss : List Selector) × (mid : List Sign) × selectors.spells ss from mid
+      λ m from to. (ss : List Selector) × (mid : List Terminal) × selectors.spells ss from mid
       × (set_test ss ∣ direct ss).spells m mid to;
   read = λ ts. selector.read ts >>= λ s.
-      let keys = with_front (s.0 ∷ []) (all_at (sign marks.Dot ▹ selector).read s.1) in
+      let keys = with_front (s.0 ∷ []) (all_at (punctuation marks.Dot ▹ selector).read s.1) in
       (set_test keys.0 ∣ direct keys.0).read keys.1;
   first = selectors.first;
   follow = words.follow ++ ((flag_list ∣ masked).follow ++ (range.follow ++ set_ref.first));

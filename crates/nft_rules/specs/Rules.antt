@@ -1,8 +1,8 @@
 -- What spells a rule (nft(8), "Rules", "Statements").
 use Rattle.std.specs.Prelude.{ℕ, List, ◌∷◌, Option, Some, None, option_map, codes, IsTrue, [], false, cond}
 use Rattle.std.specs.Option.{unwrap_or}
-use Rattle.nft_lexer.specs.declared.token.Mark.TheVariants.{Colon, Minus}
-use Rattle.nft_lexer.specs.Sign.{Sign}
+use Rattle.nft_lexer.specs.declared.token.Punctuator.TheVariants.{Colon, Minus}
+use Rattle.nft_lexer.specs.Terminal.{Terminal}
 use Rattle.nft_tree.specs.declared.selector.Selector.{Selector}
 use Rattle.nft_tree.specs.declared.selector.Selector.TheVariants.{MetaMark, CtMark}
 use Rattle.nft_tree.specs.declared.statement.MarkField.{MarkField}
@@ -10,9 +10,9 @@ use Rattle.nft_tree.specs.declared.statement.MarkField.TheVariants.{Meta, Ct}
 use Rattle.nft_tree.specs.declared.nat.PortRange.{PortRange}
 use Rattle.nft_tree.specs.declared.nat.PortRange.TheVariants.{One, Between}
 use Rattle.nft_tree.specs.Tree as tree
-use Rattle.nft_tree.specs.Tree.{LookTree, OperandTree, NatTree, Statement, RuleTree}
-use Rattle.token_reader.specs.Repeats.{stops}
-use Rattle.token_reader.specs.Grammar.{Grammar, keyword, sign, a_number, an_address, a_string, maybe, many, made}
+use Rattle.nft_tree.specs.Tree.{MapLookupTree, OperandTree, NatTree, Statement, RuleTree}
+use Rattle.token_reader.specs.Repeats.{is_rule_end}
+use Rattle.token_reader.specs.Grammar.{Grammar, keyword, punctuation, a_number, an_address, a_string, maybe, many, made}
 use Rattle.token_reader.specs.Grammar.{named, ◌⨾◌, ◌▹◌, ◌∣◌}
 use Rattle.list_laws.specs.Options.{◌>>=◌}
 use Rattle.nft_expressions.specs.Selectors.{selector}
@@ -20,8 +20,8 @@ use Rattle.nft_expressions.specs.Elements.{comment, verdict, map_ref}
 use Rattle.nft_rules.specs.Matches.{matching}
 
 -- look = anysel "map" mapref
-unfoldable pub look : Grammar LookTree
-look = made (λ x. record { selector = x.0; map = x.1 }) (selector ⨾ keyword (codes "map") ▹ map_ref)
+unfoldable pub map_lookup : Grammar MapLookupTree
+map_lookup = made (λ x. record { selector = x.0; map = x.1 }) (selector ⨾ keyword (codes "map") ▹ map_ref)
 
 -- "meta" "mark" | "ct" "mark"
 abbrev pub mark_field : Selector → Option MarkField
@@ -38,24 +38,24 @@ operand =
 
 -- ports = NUM ["-" NUM]
 unfoldable pub ports : Grammar PortRange
-ports = made (λ x. unwrap_or (option_map (Between x.0) x.1) (One x.0)) (a_number ⨾ maybe (sign Minus ▹ a_number))
+ports = made (λ x. unwrap_or (option_map (Between x.0) x.1) (One x.0)) (a_number ⨾ maybe (punctuation Minus ▹ a_number))
 
 -- ["ip"] "to"
 unfoldable pub to_word : Grammar Unit
 to_word = keyword (codes "to") ∣ keyword (codes "ip") ▹ keyword (codes "to")
 
 -- ADDR [":" port] | look
-abbrev pub target : {A B : Type 0} → (ℕ → Option A → B) → (LookTree → B) → Grammar A → Grammar B
-target at_address looked port =
-    made (λ x. at_address x.0 x.1) (an_address ⨾ maybe (sign Colon ▹ port)) ∣ made looked look
+abbrev pub target : {A B : Type 0} → (ℕ → Option A → B) → (MapLookupTree → B) → Grammar A → Grammar B
+target at_address map_looked_up port =
+    made (λ x. at_address x.0 x.1) (an_address ⨾ maybe (punctuation Colon ▹ port)) ∣ made map_looked_up map_lookup
 
 unfoldable pub nat : Grammar NatTree
 nat =
-    made tree.source (keyword (codes "snat") ▹ to_word ▹ target tree.source_address tree.source_look ports)
-    ∣ made tree.destination (keyword (codes "dnat") ▹ to_word ▹ target tree.destination_address tree.destination_look
+    made tree.source (keyword (codes "snat") ▹ to_word ▹ target tree.source_address tree.source_lookup ports)
+    ∣ made tree.destination (keyword (codes "dnat") ▹ to_word ▹ target tree.destination_address tree.destination_lookup
     a_number)
-    ∣ made tree.masquerade (keyword (codes "masquerade") ▹ maybe (keyword (codes "to") ▹ sign Colon ▹ ports))
-    ∣ made tree.redirect (keyword (codes "redirect") ▹ maybe (keyword (codes "to") ▹ sign Colon ▹ a_number))
+    ∣ made tree.masquerade (keyword (codes "masquerade") ▹ maybe (keyword (codes "to") ▹ punctuation Colon ▹ ports))
+    ∣ made tree.redirect (keyword (codes "redirect") ▹ maybe (keyword (codes "to") ▹ punctuation Colon ▹ a_number))
 
 -- "counter" ["packets" NUM "bytes" NUM]
 unfoldable pub counter : Grammar Statement
@@ -90,22 +90,22 @@ statement =
 unfoldable pub rule : Grammar RuleTree
 rule = made (λ x. record { statements = x.0 ∷ x.1.0; comment = x.1.1 }) (statement ⨾ many statement ⨾ comment)
 
-abbrev pub SpellsRule : RuleTree → List Sign → List Sign → Type 0
+abbrev pub SpellsRule : RuleTree → List Terminal → List Terminal → Type 0
 SpellsRule = rule.spells
 
 -- a newline, a semicolon or a closing brace stands in front
-abbrev pub Stops : List Sign → Type 0
-Stops ts = IsTrue (stops ts)
+abbrev pub IsRuleEnd : List Terminal → Type 0
+IsRuleEnd ts = IsTrue (is_rule_end ts)
 
 -- a rule with its end after it
-abbrev pub SpellsEndedRule : RuleTree → List Sign → List Sign → Type 0
-SpellsEndedRule r from to = SpellsRule r from to × Stops to
+abbrev pub SpellsEndedRule : RuleTree → List Terminal → List Terminal → Type 0
+SpellsEndedRule r from to = SpellsRule r from to × IsRuleEnd to
 
 unfoldable pub ended_rule : Grammar RuleTree
 ended_rule =
     record {
       spells = SpellsEndedRule;
-      read = λ ts. rule.read ts >>= λ r. cond (stops r.1) (Some r) None;
+      read = λ ts. rule.read ts >>= λ r. cond (is_rule_end r.1) (Some r) None;
       first = rule.first;
       follow = [];
       empty = false;

@@ -7,16 +7,16 @@ ghost use Rattle.token_reader.specs.Readers.{IsRead};
 ghost use Rattle.nft_expressions.specs.Selectors.{is_word_for};
 ghost use Rattle.nft_rules.specs.Matches.{bits, words};
 
-use crate::signs::equality_if;
-use nft_expressions::lists_word;
+use crate::operators::equality_if;
+use nft_expressions::type_has_word;
 use nft_lexer::Token;
 use nft_tree::{BitField, BitTest, Match, Memory, Selector};
 use std::alloc::Global;
-use token_reader::{Comma, Part, found, separated, word};
+use token_reader::{Comma, Production, found, separated, word};
 
 struct Word {}
 
-impl Part for Word {
+impl Production for Word {
     type Item = Vec<u8>;
 
     ghost Tree = { List ℕ };
@@ -47,7 +47,7 @@ fn words(
 {
     let (words, at) = found!(separated::<Comma, Word>(alloc, tokens, at, 1)?);
     for word in &words {
-        if !lists_word(selector, word) {
+        if !type_has_word(selector, word) {
             return Ok(None);
         }
     }
@@ -67,10 +67,10 @@ pub(crate) fn bits(
 {
     let (equal, at) = equality_if(tokens, at);
     let (words, at) = found!(words(alloc, tokens, at, selector)?);
-    let asked = match equal {
+    let test = match equal {
         Some(true) => BitTest::Exactly,
         Some(false) => BitTest::None,
         None => BitTest::Any,
     };
-    Ok(Some((Match::Bits(field, asked, words), at)))
+    Ok(Some((Match::Bits(field, test, words), at)))
 }

@@ -4,10 +4,10 @@ ghost use Rattle.nft_tree.specs.Tree.{match_tree, value_tree};
 ghost use Rattle.token_reader.specs.Readers.{IsRead};
 ghost use Rattle.nft_rules.specs.Matches.{comparison, is_value_for};
 
-use crate::signs::operator;
-use nft_expressions::{lists_word, range};
+use crate::operators::operator;
+use nft_expressions::{range, type_has_word};
 use nft_lexer::Token;
-use nft_tree::{Match, Memory, Operator, Range, Selector, Value};
+use nft_tree::{Match, Memory, Operator, Selector, Value, ValueRange};
 use std::alloc::Global;
 use token_reader::found;
 
@@ -16,7 +16,7 @@ fn is_value_for(selector: Selector, value: &Value) -> bool
     ensures { result ≡ is_value_for selector (value_tree value.now) }
 {
     match value {
-        Value::Word(word) => lists_word(selector, word),
+        Value::Word(word) => type_has_word(selector, word),
         Value::Number(_) | Value::Address(_) | Value::String(_) => true,
     }
 }
@@ -34,9 +34,10 @@ pub(crate) fn comparison(
     let (operator, at) = operator(tokens, at).unwrap_or((Operator::Equal, at));
     let (range, at) = found!(range(alloc, tokens, at)?);
     let fits = match &range {
-        Range::One(value) => is_value_for(selector, value),
-        Range::Between(low, high) => is_value_for(selector, low) && is_value_for(selector, high),
-        Range::Prefix(..) => true,
+        ValueRange::One(value) => is_value_for(selector, value),
+        ValueRange::Between(low, high) => is_value_for(selector, low)
+            && is_value_for(selector, high),
+        ValueRange::Prefix(..) => true,
     };
     if !fits {
         return Ok(None);

@@ -1,18 +1,18 @@
 //! The flags of TCP.
 ghost use Rattle.std.specs.Prelude.{◌≡◌, IfOk, map};
 ghost use Rattle.std.specs.List.{list_all};
-ghost use Rattle.nft_lexer.specs.declared.token.Mark.TheVariants.{Bar, Comma};
+ghost use Rattle.nft_lexer.specs.declared.token.Punctuator.TheVariants.{Bar, Comma};
 ghost use Rattle.nft_tree.specs.Tree.{FlagTree, flag_tree, match_tree};
-ghost use Rattle.token_reader.specs.Grammar.{sign, ◌∣◌, ◌▹◌};
+ghost use Rattle.token_reader.specs.Grammar.{punctuation, ◌∣◌, ◌▹◌};
 ghost use Rattle.token_reader.specs.Readers.{IsRead};
 ghost use Rattle.nft_rules.specs.Matches.{flag, flag_group, flag_list, flags, is_flag, masked, masked_by};
 
-use crate::signs::equality_if;
-use nft_expressions::lists_word;
-use nft_lexer::{Mark, Token};
+use crate::operators::equality_if;
+use nft_expressions::type_has_word;
+use nft_lexer::{Punctuator, Token};
 use nft_tree::{Flag, Masked, Match, Memory, Selector};
 use std::alloc::Global;
-use token_reader::{Part, after_mark, found, more, number, word};
+use token_reader::{Production, after_punctuator, found, more, number, word};
 
 /// WORD | NUM
 #[tactic(auto, unfolding(crate::specs::Matches::flag))]
@@ -29,19 +29,19 @@ fn flag(alloc: Global, tokens: &[Token], at: usize) -> Result<Option<(Flag, usiz
 /// A flag with the separator before it.
 struct NextFlag {}
 
-impl Part for NextFlag {
+impl Production for NextFlag {
     type Item = Flag;
 
     ghost Tree = { FlagTree };
 
     ghost tree = { flag_tree };
 
-    ghost read_at = { ((sign Comma ∣ sign Bar) ▹ flag).read };
+    ghost read_at = { ((punctuation Comma ∣ punctuation Bar) ▹ flag).read };
 
     fn read(alloc: Global, tokens: &[Token], at: usize) -> Result<Option<(Flag, usize)>, Memory> {
-        let at = match after_mark(tokens, at, Mark::Comma) {
+        let at = match after_punctuator(tokens, at, Punctuator::Comma) {
             Some(at) => at,
-            None => found!(after_mark(tokens, at, Mark::Bar)),
+            None => found!(after_punctuator(tokens, at, Punctuator::Bar)),
         };
         flag(alloc, tokens, at)
     }
@@ -53,7 +53,7 @@ fn are_flags(flags: &[Flag]) -> bool
 {
     for flag in flags {
         if let Flag::Word(word) = flag
-            && !lists_word(Selector::TcpFlags, word)
+            && !type_has_word(Selector::TcpFlags, word)
         {
             return false;
         }
@@ -89,9 +89,9 @@ fn flag_group(
     if let Some(found) = flags(alloc, tokens, at)? {
         return Ok(Some(found));
     }
-    let at = found!(after_mark(tokens, at, Mark::OpenParenthesis));
+    let at = found!(after_punctuator(tokens, at, Punctuator::OpenParenthesis));
     let (flags, at) = found!(flags(alloc, tokens, at)?);
-    let at = found!(after_mark(tokens, at, Mark::CloseParenthesis));
+    let at = found!(after_punctuator(tokens, at, Punctuator::CloseParenthesis));
     Ok(Some((flags, at)))
 }
 
@@ -114,7 +114,7 @@ fn flag_list(alloc: Global, tokens: &[Token], at: usize) -> Result<Option<(Match
 {
     let (equal, at) = equality_if(tokens, at);
     let (wanted, at) = found!(flags(alloc, tokens, at)?);
-    if let Some(after) = after_mark(tokens, at, Mark::Slash)
+    if let Some(after) = after_punctuator(tokens, at, Punctuator::Slash)
         && let Some((mask, end)) = flags(alloc, tokens, after)?
     {
         return Ok(Some((masked_by(equal.unwrap_or(true), mask, wanted), end)));
@@ -131,7 +131,7 @@ fn flag_list(alloc: Global, tokens: &[Token], at: usize) -> Result<Option<(Match
 fn masked(alloc: Global, tokens: &[Token], at: usize) -> Result<Option<(Match, usize)>, Memory>
     ensures { IfOk result (IsRead match_tree masked.read tokens.now at) }
 {
-    let at = found!(after_mark(tokens, at, Mark::Ampersand));
+    let at = found!(after_punctuator(tokens, at, Punctuator::Ampersand));
     let (mask, at) = found!(flag_group(alloc, tokens, at)?);
     let (equal, at) = equality_if(tokens, at);
     let equal = found!(equal);

@@ -12,8 +12,8 @@ mod flags;
 mod marks;
 mod matches;
 mod nat;
+mod operators;
 mod rules;
-mod signs;
 mod statements;
 
 pub use nft_expressions::{anysel, elems, pairs};

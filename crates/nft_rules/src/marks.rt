@@ -1,29 +1,29 @@
 //! What is looked up in maps, and what marks are set to.
-#![tactic(auto, unfolding(crate::specs::Rules::look, crate::specs::Rules::operand))]
+#![tactic(auto, unfolding(crate::specs::Rules::map_lookup, crate::specs::Rules::operand))]
 
 ghost use Rattle.std.specs.Prelude.{◌≡◌, IfOk};
-ghost use Rattle.nft_tree.specs.Tree.{look_tree, operand_tree};
+ghost use Rattle.nft_tree.specs.Tree.{map_lookup_tree, operand_tree};
 ghost use Rattle.token_reader.specs.Readers.{IsRead};
-ghost use Rattle.nft_rules.specs.Rules.{look, mark_field, operand};
+ghost use Rattle.nft_rules.specs.Rules.{map_lookup, mark_field, operand};
 
 use nft_expressions::{anysel, map_ref};
 use nft_lexer::Token;
-use nft_tree::{Look, MarkField, Memory, Operand, Selector};
+use nft_tree::{MapLookup, MarkField, Memory, Operand, Selector};
 use std::alloc::Global;
 use token_reader::{after_word, found, number};
 
 /// anysel "map" mapref
-pub(crate) fn look(
+pub(crate) fn map_lookup(
     alloc: Global,
     tokens: &[Token],
     at: usize,
-) -> Result<Option<(Look, usize)>, Memory>
-    ensures { IfOk result (IsRead look_tree look.read tokens.now at) }
+) -> Result<Option<(MapLookup, usize)>, Memory>
+    ensures { IfOk result (IsRead map_lookup_tree map_lookup.read tokens.now at) }
 {
     let (selector, at) = found!(anysel(tokens, at));
     let at = found!(after_word(tokens, at, b"map"));
     let (map, at) = found!(map_ref(alloc, tokens, at)?);
-    Ok(Some((Look { selector, map }, at)))
+    Ok(Some((MapLookup { selector, map }, at)))
 }
 
 /// The mark that the selector reads.
@@ -52,7 +52,7 @@ pub(crate) fn operand(
     if let Some(after) = after_word(tokens, at, b"map")
         && let Some((map, end)) = map_ref(alloc, tokens, after)?
     {
-        return Ok(Some((Operand::Look(Look { selector, map }), end)));
+        return Ok(Some((Operand::MapLookup(MapLookup { selector, map }), end)));
     }
     let mark = found!(mark_field(selector));
     Ok(Some((Operand::Mark(mark), at)))

@@ -1,9 +1,9 @@
 //! Matches.
 ghost use Rattle.std.specs.Prelude.{◌≡◌, ◌∷◌, IfOk};
-ghost use Rattle.nft_lexer.specs.declared.token.Mark.TheVariants.{Dot};
+ghost use Rattle.nft_lexer.specs.declared.token.Punctuator.TheVariants.{Dot};
 ghost use Rattle.nft_tree.specs.declared.selector.Selector.{Selector};
 ghost use Rattle.nft_tree.specs.Tree.{match_tree};
-ghost use Rattle.token_reader.specs.Grammar.{sign, ◌▹◌};
+ghost use Rattle.token_reader.specs.Grammar.{punctuation, ◌▹◌};
 ghost use Rattle.token_reader.specs.Readers.{IsRead};
 ghost use Rattle.nft_expressions.specs.Selectors.{selector};
 ghost use Rattle.nft_rules.specs.steps.Reading.{match_after};
@@ -12,37 +12,41 @@ ghost use Rattle.nft_rules.specs.Matches.{one_test, set_test};
 use crate::bits::bits;
 use crate::comparisons::comparison;
 use crate::flags::flag_test;
-use crate::signs::equality_if;
+use crate::operators::equality_if;
 use nft_expressions::{anysel, set_ref};
-use nft_lexer::{Mark, Token};
+use nft_lexer::{Punctuator, Token};
 use nft_tree::{BitField, Match, Memory, Selector};
 use std::alloc::Global;
-use token_reader::{Part, after_mark, found, repeated};
+use token_reader::{Production, after_punctuator, found, repeated};
 
 /// A selector with the dot before it.
 struct NextSelector {}
 
-impl Part for NextSelector {
+impl Production for NextSelector {
     type Item = Selector;
 
     ghost Tree = { Selector };
 
     ghost tree = { λ s. s };
 
-    ghost read_at = { (sign Dot ▹ selector).read };
+    ghost read_at = { (punctuation Dot ▹ selector).read };
 
     fn read(
         _alloc: Global,
         tokens: &[Token],
         at: usize,
     ) -> Result<Option<(Selector, usize)>, Memory> {
-        let at = found!(after_mark(tokens, at, Mark::Dot));
+        let at = found!(after_punctuator(tokens, at, Punctuator::Dot));
         Ok(anysel(tokens, at))
     }
 }
 
 /// The first selector, and those that are joined to it.
-fn joined(alloc: Global, first: Selector, others: &[Selector]) -> Result<Vec<Selector>, Memory>
+fn concatenation(
+    alloc: Global,
+    first: Selector,
+    others: &[Selector],
+) -> Result<Vec<Selector>, Memory>
     ensures { IfOk result (λ keys. keys.items ≡ first ∷ others.now) }
 {
     let mut selectors = Vec::new(alloc);
@@ -64,7 +68,7 @@ fn set_test(
 {
     let (equal, at) = equality_if(tokens, at);
     let (set, at) = found!(set_ref(alloc, tokens, at)?);
-    let selectors = joined(alloc, first, others)?;
+    let selectors = concatenation(alloc, first, others)?;
     let test = if equal.unwrap_or(true) {
         Match::In(selectors, set)
     } else {

@@ -2,24 +2,24 @@
 #![tactic(auto, unfolding(crate::specs::Rules::ports, crate::specs::Rules::to_word, crate::specs::Rules::nat))]
 
 ghost use Rattle.std.specs.Prelude.{codes, option_map, IfOk};
-ghost use Rattle.nft_lexer.specs.declared.token.Mark.TheVariants.{Colon};
-ghost use Rattle.nft_tree.specs.Tree.{source_address, source_look, source_tree, destination_address, destination_look, destination_tree, nat_tree};
-ghost use Rattle.token_reader.specs.Grammar.{keyword, sign, a_number, ◌▹◌};
+ghost use Rattle.nft_lexer.specs.declared.token.Punctuator.TheVariants.{Colon};
+ghost use Rattle.nft_tree.specs.Tree.{source_address, source_lookup, source_tree, destination_address, destination_lookup, destination_tree, nat_tree};
+ghost use Rattle.token_reader.specs.Grammar.{keyword, punctuation, a_number, ◌▹◌};
 ghost use Rattle.token_reader.specs.Readers.{IsRead};
 ghost use Rattle.nft_rules.specs.Rules.{ports, to_word, target, nat};
 
-use crate::marks::look;
-use nft_lexer::{Mark, Token};
+use crate::marks::map_lookup;
+use nft_lexer::{Punctuator, Token};
 use nft_tree::{DestinationTarget, Memory, Nat, PortRange, SourceTarget};
 use std::alloc::Global;
 use token_reader::{address, after_word, found, number, number_after};
 
 /// ":" NUM ["-" NUM]
 fn colon_ports(tokens: &[Token], at: usize) -> Option<(PortRange, usize)>
-    ensures { IsRead (λ r. r) (sign Colon ▹ ports).read tokens.now at result }
+    ensures { IsRead (λ r. r) (punctuation Colon ▹ ports).read tokens.now at result }
 {
-    let (low, at) = number_after(tokens, at, Mark::Colon)?;
-    match number_after(tokens, at, Mark::Minus) {
+    let (low, at) = number_after(tokens, at, Punctuator::Colon)?;
+    match number_after(tokens, at, Punctuator::Minus) {
         Some((high, at)) => Some((PortRange::Between(low, high), at)),
         None => Some((PortRange::One(low), at)),
     }
@@ -39,7 +39,7 @@ fn after_to(tokens: &[Token], at: usize, word: &[u8]) -> Option<usize>
 
 /// "snat" ["ip"] "to" (ADDR [":" ports] | look)
 fn snat(alloc: Global, tokens: &[Token], at: usize) -> Result<Option<(SourceTarget, usize)>, Memory>
-    ensures { IfOk result (IsRead source_tree (keyword (codes "snat") ▹ to_word ▹ target source_address source_look ports).read tokens.now at) }
+    ensures { IfOk result (IsRead source_tree (keyword (codes "snat") ▹ to_word ▹ target source_address source_lookup ports).read tokens.now at) }
 {
     let at = found!(after_to(tokens, at, b"snat"));
     if let Some((address, end)) = address(tokens, at) {
@@ -48,8 +48,8 @@ fn snat(alloc: Global, tokens: &[Token], at: usize) -> Result<Option<(SourceTarg
             None => Ok(Some((SourceTarget::Address(address, None), end))),
         };
     }
-    let (look, end) = found!(look(alloc, tokens, at)?);
-    Ok(Some((SourceTarget::Look(look), end)))
+    let (map_lookup, end) = found!(map_lookup(alloc, tokens, at)?);
+    Ok(Some((SourceTarget::MapLookup(map_lookup), end)))
 }
 
 /// "dnat" ["ip"] "to" (ADDR [":" NUM] | look)
@@ -58,17 +58,17 @@ fn dnat(
     tokens: &[Token],
     at: usize,
 ) -> Result<Option<(DestinationTarget, usize)>, Memory>
-    ensures { IfOk result (IsRead destination_tree (keyword (codes "dnat") ▹ to_word ▹ target destination_address destination_look a_number).read tokens.now at) }
+    ensures { IfOk result (IsRead destination_tree (keyword (codes "dnat") ▹ to_word ▹ target destination_address destination_lookup a_number).read tokens.now at) }
 {
     let at = found!(after_to(tokens, at, b"dnat"));
     if let Some((address, end)) = address(tokens, at) {
-        return match number_after(tokens, end, Mark::Colon) {
+        return match number_after(tokens, end, Punctuator::Colon) {
             Some((port, end)) => Ok(Some((DestinationTarget::Address(address, Some(port)), end))),
             None => Ok(Some((DestinationTarget::Address(address, None), end))),
         };
     }
-    let (look, end) = found!(look(alloc, tokens, at)?);
-    Ok(Some((DestinationTarget::Look(look), end)))
+    let (map_lookup, end) = found!(map_lookup(alloc, tokens, at)?);
+    Ok(Some((DestinationTarget::MapLookup(map_lookup), end)))
 }
 
 /// nat = snat | dnat | "masquerade" ["to" ":" ports] | "redirect" ["to" ":" NUM]
@@ -95,7 +95,7 @@ pub(crate) fn nat(
     }
     let at = found!(after_word(tokens, at, b"redirect"));
     if let Some(after) = after_word(tokens, at, b"to")
-        && let Some((port, end)) = number_after(tokens, after, Mark::Colon)
+        && let Some((port, end)) = number_after(tokens, after, Punctuator::Colon)
     {
         return Ok(Some((Nat::Redirect(Some(port)), end)));
     }

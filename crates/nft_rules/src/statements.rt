@@ -14,13 +14,17 @@ use nft_expressions::{anysel, map_ref, verdict};
 use nft_lexer::Token;
 use nft_tree::{Memory, Stmt};
 use std::alloc::Global;
-use token_reader::{Part, after_word, found, word};
+use token_reader::{Production, after_word, found, word};
 
 /// ("meta" | "ct") "mark" "set" operand | anysel "vmap" mapref | match
 ///
 /// The selector is read once: what stands behind it tells the rest.
 #[tactic(auto, unfolding(crate::specs::Rules::set_mark, crate::specs::Rules::verdict_map, crate::specs::Matches::matching, crate::specs::steps::Reading::match_after))]
-fn selected(alloc: Global, tokens: &[Token], at: usize) -> Result<Option<(Stmt, usize)>, Memory>
+fn selector_statement(
+    alloc: Global,
+    tokens: &[Token],
+    at: usize,
+) -> Result<Option<(Stmt, usize)>, Memory>
     ensures { IfOk result (IsRead statement (rules.set_mark ∣ rules.verdict_map ∣ made matching matches.matching).read tokens.now at) }
 {
     let (selector, at) = found!(anysel(tokens, at));
@@ -42,7 +46,7 @@ fn selected(alloc: Global, tokens: &[Token], at: usize) -> Result<Option<(Stmt, 
 /// stmt = counter | log | notrack | verdict | nat | setmark | vmap | match
 pub(crate) struct AnyStatement;
 
-impl Part for AnyStatement {
+impl Production for AnyStatement {
     type Item = Stmt;
 
     ghost Tree = { Statement };
@@ -70,6 +74,6 @@ impl Part for AnyStatement {
         if let Some((found, end)) = nat(alloc, tokens, at)? {
             return Ok(Some((Stmt::Nat(found), end)));
         }
-        selected(alloc, tokens, at)
+        selector_statement(alloc, tokens, at)
     }
 }

@@ -1,7 +1,7 @@
 -- What spells a chain (nft(8), "Chains").
 use Rattle.std.specs.Prelude.{ℕ, List, [], ◌∷◌, Option, Some, None, codes}
 use Rattle.std.specs.Option.{unwrap_or}
-use Rattle.nft_lexer.specs.declared.token.Mark.TheVariants as marks
+use Rattle.nft_lexer.specs.declared.token.Punctuator.TheVariants as marks
 use Rattle.nft_tree.specs.declared.chain.Hook.{Hook}
 use Rattle.nft_tree.specs.declared.chain.Priority.{Priority}
 use Rattle.nft_tree.specs.declared.chain.PriorityName.{PriorityName}
@@ -14,7 +14,7 @@ use Rattle.nft_tree.specs.declared.chain.PriorityName.TheVariants as priority_na
 use Rattle.nft_tree.specs.declared.chain.OffsetSign.TheVariants.{Plus, Minus}
 use Rattle.nft_tree.specs.declared.chain.Policy.TheVariants as policies
 use Rattle.nft_tree.specs.Tree.{Text, RuleTree, HeadTree, ChainTree}
-use Rattle.token_reader.specs.Grammar.{Grammar, keyword, sign, a_word, a_number, a_string, ends, some_ends, maybe}
+use Rattle.token_reader.specs.Grammar.{Grammar, keyword, punctuation, a_word, a_number, a_string, ends, some_ends, maybe}
 use Rattle.token_reader.specs.Grammar.{many, made, one_of, lines, ◌⨾◌, ◌▹◌, ◌◃◌, ◌∣◌}
 use Rattle.nft_rules.specs.Rules.{ended_rule}
 
@@ -32,15 +32,15 @@ hook_names =
     (codes "output", hooks.Output)
     ∷ (codes "postrouting", hooks.Postrouting) ∷ []
 
-abbrev pub places : List (Text × PriorityName)
-places =
+abbrev pub priority_words : List (Text × PriorityName)
+priority_words =
     (codes "raw", priority_names.Raw) ∷ (codes "mangle", priority_names.Mangle) ∷
     (codes "dstnat", priority_names.DstNat) ∷ (codes "filter", priority_names.Filter)
     ∷ (codes "security", priority_names.Security) ∷ (codes "srcnat", priority_names.SrcNat) ∷ []
 
 -- ("+" | "-") NUM
 unfoldable pub offset : Grammar (OffsetSign × ℕ)
-offset = (made (λ u. Plus) (sign marks.Plus) ∣ made (λ u. Minus) (sign marks.Minus)) ⨾ a_number
+offset = (made (λ u. Plus) (punctuation marks.Plus) ∣ made (λ u. Minus) (punctuation marks.Minus)) ⨾ a_number
 
 abbrev pub named_priority : PriorityName × Option (OffsetSign × ℕ) → Priority
 named_priority (name, None) = Named name
@@ -49,8 +49,8 @@ named_priority (name, Some by) = Offset name by.0 by.1
 -- prio = ["-"] NUM | pname [("+" | "-") NUM]
 unfoldable pub priority : Grammar Priority
 priority =
-    made (Number Plus) a_number ∣ made (Number Minus) (sign marks.Minus ▹ a_number) ∣ made named_priority
-    (one_of places ⨾ maybe offset)
+    made (Number Plus) a_number ∣ made (Number Minus) (punctuation marks.Minus ▹ a_number) ∣ made named_priority
+    (one_of priority_words ⨾ maybe offset)
 
 -- "policy" ("accept" | "drop") end {end}
 unfoldable pub policy : Grammar Policy
@@ -73,5 +73,5 @@ rules = made (λ rs. unwrap_or rs []) (maybe (lines ended_rule))
 unfoldable pub chain : Grammar ChainTree
 chain =
     made (λ x. record { name = x.0; notes = x.1.0; head = x.1.1.0; rules = x.1.1.1 })
-    (keyword (codes "chain") ▹ a_word ⨾ sign marks.OpenBrace ▹ ends ▹ many note ⨾ maybe head
-    ⨾ rules ◃ sign marks.CloseBrace)
+    (keyword (codes "chain") ▹ a_word ⨾ punctuation marks.OpenBrace ▹ ends ▹ many note ⨾ maybe head
+    ⨾ rules ◃ punctuation marks.CloseBrace)

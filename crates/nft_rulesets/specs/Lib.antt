@@ -1,5 +1,5 @@
 pub mod Chains
-pub mod LeftOut
+pub mod UnsupportedWords
 pub mod Rulesets
 pub mod Sets
 pub mod steps

@@ -1,13 +1,13 @@
 -- What spells a ruleset (nft(8), "Ruleset", "Tables").
 use Rattle.std.specs.Prelude.{List, [], ◌∷◌, ◌++◌, false, codes}
 use Rattle.std.specs.Option.{unwrap_or}
-use Rattle.nft_lexer.specs.declared.token.Mark.TheVariants as marks
-use Rattle.nft_lexer.specs.Sign.{Sign}
+use Rattle.nft_lexer.specs.declared.token.Punctuator.TheVariants as marks
+use Rattle.nft_lexer.specs.Terminal.{Terminal}
 use Rattle.nft_tree.specs.declared.ruleset.Family.{Family}
 use Rattle.nft_tree.specs.declared.ruleset.Family.TheVariants.{Ip, Inet}
 use Rattle.nft_tree.specs.Tree as tree
 use Rattle.nft_tree.specs.Tree.{Text, ItemTree, TableTree}
-use Rattle.token_reader.specs.Grammar.{Grammar, keyword, sign, a_word, any_word, ends, some_ends, maybe, many, made}
+use Rattle.token_reader.specs.Grammar.{Grammar, keyword, punctuation, a_word, any_word, ends, some_ends, maybe, many, made}
 use Rattle.token_reader.specs.Grammar.{one_of, ◌⨾◌, ◌▹◌, ◌◃◌, ◌∣◌}
 use Rattle.nft_rulesets.specs.Sets.{named_set, named_map}
 use Rattle.nft_rulesets.specs.Chains.{comment, chain}
@@ -33,7 +33,7 @@ table_name = record {
 unfoldable pub table : Grammar TableTree
 table =
     made (λ x. record { family = x.0.0; name = x.0.1; items = x.1 })
-    (keyword (codes "table") ▹ table_name ⨾ sign marks.OpenBrace ▹ ends ▹ many (item ◃ ends) ◃ sign marks.CloseBrace)
+    (keyword (codes "table") ▹ table_name ⨾ punctuation marks.OpenBrace ▹ ends ▹ many (item ◃ ends) ◃ punctuation marks.CloseBrace)
 
 -- "flush" "ruleset" end {end}
 unfoldable pub flush : Grammar Unit
@@ -44,5 +44,5 @@ unfoldable pub whole_ruleset : Grammar (List TableTree)
 whole_ruleset = ends ▹ made (λ o. tt) (maybe flush) ▹ many (table ◃ ends)
 
 -- all of the tokens
-abbrev pub SpellsRuleset : List TableTree → List Sign → Type 0
+abbrev pub SpellsRuleset : List TableTree → List Terminal → Type 0
 SpellsRuleset tables tokens = whole_ruleset.spells tables tokens []

@@ -2,7 +2,7 @@
 use Rattle.std.specs.Prelude.{ℕ, List, [], ◌∷◌, Option, Some, None, option_map, option_and_then, Bool, true, false}
 use Rattle.std.specs.Prelude.{cond, codes}
 use Rattle.std.specs.Str.{bytes_eq}
-use Rattle.nft_lexer.specs.declared.token.Mark.TheVariants.{Dot, Comma, Colon, Equals, OpenBrace, CloseBrace}
+use Rattle.nft_lexer.specs.declared.token.Punctuator.TheVariants.{Dot, Comma, Colon, Equals, OpenBrace, CloseBrace}
 use Rattle.nft_tree.specs.declared.selector.ValueType.{ValueType}
 use Rattle.nft_tree.specs.declared.set.SetFlag.{SetFlag}
 use Rattle.nft_tree.specs.declared.set.MapType.{MapType}
@@ -14,8 +14,8 @@ use Rattle.nft_tree.specs.declared.set.TypeOrVerdict.TheVariants as types_or_ver
 use Rattle.nft_tree.specs.declared.set.SelectorOrVerdict.TheVariants as selectors_or_verdicts
 use Rattle.nft_tree.specs.Tree as tree
 use Rattle.nft_tree.specs.Tree.{Text, SetTypeTree, SetTree, MapTree}
-use Rattle.nft_tree.specs.Words.{type_named}
-use Rattle.token_reader.specs.Grammar.{Grammar, keyword, sign, a_word, a_number, a_string, ends, made, named, one_of}
+use Rattle.nft_tree.specs.ValueTypes.{type_named}
+use Rattle.token_reader.specs.Grammar.{Grammar, keyword, punctuation, a_word, a_number, a_string, ends, made, named, one_of}
 use Rattle.token_reader.specs.Grammar.{separated, lines, ◌⨾◌, ◌▹◌, ◌◃◌, ◌∣◌}
 use Rattle.nft_expressions.specs.Selectors.{selector, selectors}
 use Rattle.nft_expressions.specs.Elements as lists
@@ -30,11 +30,11 @@ pub data Field (K E : Type 0) : Type 0 where
   elements : E → Field K E
 
 -- what stands in fields: key, flags, size, whether they merge, comment, elements
-abbrev pub Gathered : Type 0 → Type 0 → Type 0
-Gathered K E = Option K × Option (List SetFlag) × Option ℕ × Bool × Option Text × Option E
+abbrev pub FieldValues : Type 0 → Type 0 → Type 0
+FieldValues K E = Option K × Option (List SetFlag) × Option ℕ × Bool × Option Text × Option E
 
 -- one field more, unless one of its kind is there
-abbrev pub with_field : {K E : Type 0} → Field K E → Gathered K E → Option (Gathered K E)
+abbrev pub with_field : {K E : Type 0} → Field K E → FieldValues K E → Option (FieldValues K E)
 with_field (key k) (None, fs, n, merge, text, es) = Some (Some k, fs, n, merge, text, es)
 with_field (flags fs) (k, None, n, merge, text, es) = Some (k, Some fs, n, merge, text, es)
 with_field (size n) (k, fs, None, merge, text, es) = Some (k, fs, Some n, merge, text, es)
@@ -43,13 +43,13 @@ with_field (comment text) (k, fs, n, merge, None, es) = Some (k, fs, n, merge, S
 with_field (elements es) (k, fs, n, merge, text, None) = Some (k, fs, n, merge, text, Some es)
 with_field f all = None
 
-abbrev pub with_fields : {K E : Type 0} → List (Field K E) → Gathered K E → Option (Gathered K E)
+abbrev pub with_fields : {K E : Type 0} → List (Field K E) → FieldValues K E → Option (FieldValues K E)
 with_fields [] all = Some all
 with_fields (f ∷ fs) all = option_and_then (with_fields fs) (with_field f all)
 
 -- the fields in any order, none twice
-abbrev pub gathered : {K E : Type 0} → List (Field K E) → Option (Gathered K E)
-gathered fs = with_fields fs (None, None, None, false, None, None)
+abbrev pub collect_fields : {K E : Type 0} → List (Field K E) → Option (FieldValues K E)
+collect_fields fs = with_fields fs (None, None, None, false, None, None)
 
 -- the name of a type
 unfoldable pub value_type : Grammar ValueType
@@ -57,7 +57,7 @@ value_type = named type_named a_word
 
 -- TYPE {"." TYPE}
 unfoldable pub value_types : Grammar (List ValueType)
-value_types = separated (sign Dot) value_type
+value_types = separated (punctuation Dot) value_type
 
 -- "type" TYPE {"." TYPE} | "typeof" keys
 unfoldable pub set_type : Grammar SetTypeTree
@@ -79,13 +79,13 @@ data_selector =
 -- "type" TYPE ":" (TYPE | "verdict") | "typeof" anysel ":" (anysel | "verdict")
 unfoldable pub map_type : Grammar MapType
 map_type =
-    made (λ x. map_types.Types x.0 x.1) (keyword (codes "type") ▹ value_type ⨾ sign Colon ▹ data_type)
-    ∣ made (λ x. map_types.Selectors x.0 x.1) (keyword (codes "typeof") ▹ selector ⨾ sign Colon ▹ data_selector)
+    made (λ x. map_types.Types x.0 x.1) (keyword (codes "type") ▹ value_type ⨾ punctuation Colon ▹ data_type)
+    ∣ made (λ x. map_types.Selectors x.0 x.1) (keyword (codes "typeof") ▹ selector ⨾ punctuation Colon ▹ data_selector)
 
 -- "flags" sflag {"," sflag}
 unfoldable pub set_flags : Grammar (List SetFlag)
 set_flags =
-    keyword (codes "flags") ▹ separated (sign Comma)
+    keyword (codes "flags") ▹ separated (punctuation Comma)
     (one_of ((codes "constant", Constant) ∷ (codes "interval", Interval) ∷ []))
 
 -- a field but the key
@@ -95,23 +95,23 @@ other_field e =
     ∣ made size (keyword (codes "size") ▹ a_number)
     ∣ made (λ u. auto_merge) (keyword (codes "auto-merge"))
     ∣ made comment (keyword (codes "comment") ▹ a_string)
-    ∣ made elements (keyword (codes "elements") ▹ sign Equals ▹ sign OpenBrace ▹ e ◃ sign CloseBrace)
+    ∣ made elements (keyword (codes "elements") ▹ punctuation Equals ▹ punctuation OpenBrace ▹ e ◃ punctuation CloseBrace)
 
 -- a field, with such a key and such elements
 unfoldable pub any_field : {K E : Type 0} → Grammar K → Grammar E → Grammar (Field K E)
 any_field k e = made key k ∣ other_field e
 
 -- NAME "{" {end} field {end {end} field} {end} "}"
-unfoldable pub block : {K E : Type 0} → Grammar K → Grammar E → Grammar (Text × Gathered K E)
-block k e = a_word ⨾ named gathered (sign OpenBrace ▹ ends ▹ lines (any_field k e) ◃ sign CloseBrace)
+unfoldable pub block : {K E : Type 0} → Grammar K → Grammar E → Grammar (Text × FieldValues K E)
+block k e = a_word ⨾ named collect_fields (punctuation OpenBrace ▹ ends ▹ lines (any_field k e) ◃ punctuation CloseBrace)
 
 -- what they make, where a key is among them
-abbrev pub set_of : Text × Gathered SetTypeTree (List tree.ElementTree) → Option SetTree
+abbrev pub set_of : Text × FieldValues SetTypeTree (List tree.ElementTree) → Option SetTree
 set_of (name, (Some k, fs, n, merge, text, es)) =
     Some (record { name = name; key = k; flags = fs; size = n; auto_merge = merge; comment = text; elements = es })
 set_of _ = None
 
-abbrev pub map_of : Text × Gathered MapType (List tree.PairTree) → Option MapTree
+abbrev pub map_of : Text × FieldValues MapType (List tree.PairTree) → Option MapTree
 map_of (name, (Some k, fs, n, merge, text, es)) =
     Some (record { name = name; types = k; flags = fs; size = n; auto_merge = merge; comment = text; elements = es })
 map_of _ = None

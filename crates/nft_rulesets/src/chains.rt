@@ -7,15 +7,17 @@ ghost use Rattle.nft_rulesets.specs.Chains.{chain};
 
 use crate::heads::head;
 use crate::notes::Note;
-use nft_lexer::{Mark, Token};
+use nft_lexer::{Punctuator, Token};
 use nft_rules::rule;
 use nft_tree::{Chain, Memory, Rule};
 use std::alloc::Global;
-use token_reader::{Part, after_mark, after_word, found, lines, repeated, skip_ends, word};
+use token_reader::{
+    Production, after_punctuator, after_word, found, lines, repeated, skip_ends, word,
+};
 
 struct EndedRule;
 
-impl Part for EndedRule {
+impl Production for EndedRule {
     type Item = Rule;
 
     ghost Tree = { RuleTree };
@@ -40,7 +42,7 @@ pub(crate) fn chain(
 {
     let at = found!(after_word(tokens, at, b"chain"));
     let (name, at) = found!(word(tokens, at));
-    let at = found!(after_mark(tokens, at, Mark::OpenBrace));
+    let at = found!(after_punctuator(tokens, at, Punctuator::OpenBrace));
     let at = skip_ends(tokens, at);
     let (notes, at) = repeated::<Note>(alloc, tokens, at)?;
     let (head, at) = match head(alloc, tokens, at)? {
@@ -51,7 +53,7 @@ pub(crate) fn chain(
         Some(found) => found,
         None => (Vec::new(alloc), at),
     };
-    let at = found!(after_mark(tokens, at, Mark::CloseBrace));
+    let at = found!(after_punctuator(tokens, at, Punctuator::CloseBrace));
     let name = Vec::from_slice(alloc, name)?;
     let chain = Chain {
         name,

@@ -1,23 +1,23 @@
 //! The fields of sets and maps, which stand in any order.
 ghost use Rattle.std.specs.Prelude.{◌≡◌, Some, None, IfOk, codes, if◌then◌else◌, map, option_map};
 ghost use Rattle.std.specs.Option.{is_none};
-ghost use Rattle.token_reader.specs.Grammar.{keyword, sign, ◌▹◌, ◌◃◌};
+ghost use Rattle.token_reader.specs.Grammar.{keyword, punctuation, ◌▹◌, ◌◃◌};
 ghost use Rattle.token_reader.specs.Readers.{IsRead};
-ghost use Rattle.nft_lexer.specs.declared.token.Mark.TheVariants.{CloseBrace, Equals, OpenBrace};
+ghost use Rattle.nft_lexer.specs.declared.token.Punctuator.TheVariants.{CloseBrace, Equals, OpenBrace};
 ghost use Rattle.nft_rulesets.specs.Sets as trees;
-ghost use Rattle.nft_rulesets.specs.Sets.{any_field, block, gathered, set_flags, with_field};
+ghost use Rattle.nft_rulesets.specs.Sets.{any_field, block, collect_fields, set_flags, with_field};
 ghost use Rattle.nft_rulesets.specs.steps.Reading.{read_by};
 ghost use Rattle.nft_rulesets.specs.steps.Views.{field_tree, fields_tree};
 
 use crate::flags::Flag;
-use nft_lexer::{Mark, Token};
+use nft_lexer::{Punctuator, Token};
 use nft_tree::{Memory, SetFlag};
 use std::alloc::Global;
 use std::marker::PhantomData;
 use std::mem;
 use token_reader::{
-    Comma, Part, after_mark, after_word, found, lines, number, separated, skip_ends, string_after,
-    word,
+    Comma, Production, after_punctuator, after_word, found, lines, number, separated, skip_ends,
+    string_after, word,
 };
 
 /// A field of a set or a map.
@@ -43,7 +43,7 @@ pub(crate) struct Fields<K, E> {
 }
 
 /// Puts the value in its place, and says whether the place was empty.
-fn fill<T: Drop>(place: &mut Option<T>, value: T) -> bool
+fn set_once<T: Drop>(place: &mut Option<T>, value: T) -> bool
     ensures after { place.new ≡ Some value }
     ensures first { result ≡ is_none place.old }
 {
@@ -51,16 +51,19 @@ fn fill<T: Drop>(place: &mut Option<T>, value: T) -> bool
 }
 
 /// Puts the field to the others, and says whether it is the first of its kind.
-fn put<K: Part, E: Part>(all: &mut Fields<K::Item, E::Item>, field: Field<K::Item, E::Item>) -> bool
+fn set_field<K: Production, E: Production>(
+    all: &mut Fields<K::Item, E::Item>,
+    field: Field<K::Item, E::Item>,
+) -> bool
     ensures { (if result then Some (fields_tree K.tree E.tree all.new) else None) ≡ with_field (field_tree K.tree E.tree field) (fields_tree K.tree E.tree all.old) }
 {
     match field {
-        Field::Key(key) => fill(&mut all.key, key),
-        Field::Flags(flags) => fill(&mut all.flags, flags),
-        Field::Size(size) => fill(&mut all.size, size),
+        Field::Key(key) => set_once(&mut all.key, key),
+        Field::Flags(flags) => set_once(&mut all.flags, flags),
+        Field::Size(size) => set_once(&mut all.size, size),
         Field::AutoMerge => !mem::replace(&mut all.auto_merge, true),
-        Field::Comment(text) => fill(&mut all.comment, text),
-        Field::Elements(elements) => fill(&mut all.elements, elements),
+        Field::Comment(text) => set_once(&mut all.comment, text),
+        Field::Elements(elements) => set_once(&mut all.elements, elements),
     }
 }
 
@@ -78,18 +81,18 @@ fn set_flags(
 }
 
 /// "elements" "=" "{" elements "}"
-fn elements_field<E: Part>(
+fn elements_field<E: Production>(
     alloc: Global,
     tokens: &[Token],
     at: usize,
 ) -> Result<Option<(E::Item, usize)>, Memory>
-    ensures { IfOk result (IsRead E.tree (keyword (codes "elements") ▹ sign Equals ▹ sign OpenBrace ▹ read_by E.read_at ◃ sign CloseBrace).read tokens.now at) }
+    ensures { IfOk result (IsRead E.tree (keyword (codes "elements") ▹ punctuation Equals ▹ punctuation OpenBrace ▹ read_by E.read_at ◃ punctuation CloseBrace).read tokens.now at) }
 {
     let at = found!(after_word(tokens, at, b"elements"));
-    let at = found!(after_mark(tokens, at, Mark::Equals));
-    let at = found!(after_mark(tokens, at, Mark::OpenBrace));
+    let at = found!(after_punctuator(tokens, at, Punctuator::Equals));
+    let at = found!(after_punctuator(tokens, at, Punctuator::OpenBrace));
     let (elements, at) = found!(E::read(alloc, tokens, at)?);
-    let at = found!(after_mark(tokens, at, Mark::CloseBrace));
+    let at = found!(after_punctuator(tokens, at, Punctuator::CloseBrace));
     Ok(Some((elements, at)))
 }
 
@@ -99,7 +102,7 @@ struct AnyField<K, E> {
     parts: PhantomData<(K, E)>,
 }
 
-impl<K: Part, E: Part> Part for AnyField<K, E> {
+impl<K: Production, E: Production> Production for AnyField<K, E> {
     type Item = Field<K::Item, E::Item>;
 
     ghost Tree = { trees.Field K.Tree E.Tree };
@@ -136,10 +139,10 @@ impl<K: Part, E: Part> Part for AnyField<K, E> {
 }
 
 /// What the fields say together, where no two are of one kind.
-fn gathered<K: Part, E: Part>(
+fn collect_fields<K: Production, E: Production>(
     fields: Vec<Field<K::Item, E::Item>>,
 ) -> Option<Fields<K::Item, E::Item>>
-    ensures { option_map (fields_tree K.tree E.tree) result ≡ gathered (map (field_tree K.tree E.tree) fields.items) }
+    ensures { option_map (fields_tree K.tree E.tree) result ≡ collect_fields (map (field_tree K.tree E.tree) fields.items) }
 {
     let mut all = Fields {
         key: None,
@@ -150,7 +153,7 @@ fn gathered<K: Part, E: Part>(
         elements: None,
     };
     for field in fields {
-        if !put::<K, E>(&mut all, field) {
+        if !set_field::<K, E>(&mut all, field) {
             return None;
         }
     }
@@ -159,7 +162,7 @@ fn gathered<K: Part, E: Part>(
 
 /// kind NAME "{" {end} field {end {end} field} {end} "}"
 #[tactic(auto, unfolding(crate::specs::Sets::block))]
-pub(crate) fn block<K: Part, E: Part>(
+pub(crate) fn block<K: Production, E: Production>(
     alloc: Global,
     tokens: &[Token],
     at: usize,
@@ -169,10 +172,10 @@ pub(crate) fn block<K: Part, E: Part>(
 {
     let at = found!(after_word(tokens, at, kind));
     let (name, at) = found!(word(tokens, at));
-    let at = found!(after_mark(tokens, at, Mark::OpenBrace));
+    let at = found!(after_punctuator(tokens, at, Punctuator::OpenBrace));
     let at = skip_ends(tokens, at);
     let (fields, at) = found!(lines::<AnyField<K, E>>(alloc, tokens, at)?);
-    let at = found!(after_mark(tokens, at, Mark::CloseBrace));
-    let all = found!(gathered::<K, E>(fields));
+    let at = found!(after_punctuator(tokens, at, Punctuator::CloseBrace));
+    let all = found!(collect_fields::<K, E>(fields));
     Ok(Some(((Vec::from_slice(alloc, name)?, all), at)))
 }

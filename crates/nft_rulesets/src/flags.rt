@@ -7,7 +7,7 @@ ghost use Rattle.token_reader.specs.Grammar.{one_of};
 use nft_lexer::Token;
 use nft_tree::{Memory, SetFlag};
 use std::alloc::Global;
-use token_reader::{Part, one_of};
+use token_reader::{Production, one_of};
 
 static FLAGS: [(&[u8], SetFlag); 2] = [
     (b"constant", SetFlag::Constant),
@@ -17,7 +17,7 @@ static FLAGS: [(&[u8], SetFlag); 2] = [
 /// "constant" | "interval"
 pub(crate) struct Flag;
 
-impl Part for Flag {
+impl Production for Flag {
     type Item = SetFlag;
 
     ghost Tree = { SetFlag };

@@ -5,12 +5,15 @@ ghost use Rattle.token_reader.specs.Readers.{IsRead};
 ghost use Rattle.nft_rulesets.specs.Chains.{head, offset, priority};
 
 use crate::notes::Note;
-use nft_lexer::{Mark, Token};
+use nft_lexer::{Punctuator, Token};
 use nft_tree::{ChainKind, Head, Hook, Memory, OffsetSign, Policy, Priority, PriorityName};
 use std::alloc::Global;
 use token_reader::{after_ends, after_word, found, number, number_after, one_of, repeated};
 
-static KINDS: [(&[u8], ChainKind); 2] = [(b"filter", ChainKind::Filter), (b"nat", ChainKind::Nat)];
+static CHAIN_TYPES: [(&[u8], ChainKind); 2] = [
+    (b"filter", ChainKind::Filter),
+    (b"nat", ChainKind::Nat),
+];
 
 static HOOK_NAMES: [(&[u8], Hook); 5] = [
     (b"prerouting", Hook::Prerouting),
@@ -20,7 +23,7 @@ static HOOK_NAMES: [(&[u8], Hook); 5] = [
     (b"postrouting", Hook::Postrouting),
 ];
 
-static PLACES: [(&[u8], PriorityName); 6] = [
+static PRIORITIES: [(&[u8], PriorityName); 6] = [
     (b"raw", PriorityName::Raw),
     (b"mangle", PriorityName::Mangle),
     (b"dstnat", PriorityName::DstNat),
@@ -29,17 +32,17 @@ static PLACES: [(&[u8], PriorityName); 6] = [
     (b"srcnat", PriorityName::SrcNat),
 ];
 
-static DECISIONS: [(&[u8], Policy); 2] = [(b"accept", Policy::Accept), (b"drop", Policy::Drop)];
+static POLICIES: [(&[u8], Policy); 2] = [(b"accept", Policy::Accept), (b"drop", Policy::Drop)];
 
 /// ("+" | "-") NUM
 #[tactic(auto, unfolding(crate::specs::Chains::offset))]
 fn offset(tokens: &[Token], at: usize) -> Option<((OffsetSign, u64), usize)>
     ensures { IsRead (λ by. by) offset.read tokens.now at result }
 {
-    if let Some((above, at)) = number_after(tokens, at, Mark::Plus) {
+    if let Some((above, at)) = number_after(tokens, at, Punctuator::Plus) {
         return Some(((OffsetSign::Plus, above), at));
     }
-    let (below, at) = number_after(tokens, at, Mark::Minus)?;
+    let (below, at) = number_after(tokens, at, Punctuator::Minus)?;
     Some(((OffsetSign::Minus, below), at))
 }
 
@@ -51,12 +54,12 @@ fn priority(tokens: &[Token], at: usize) -> Option<(Priority, usize)>
     if let Some((positive, at)) = number(tokens, at) {
         return Some((Priority::Number(OffsetSign::Plus, positive), at));
     }
-    if let Some((negative, at)) = number_after(tokens, at, Mark::Minus) {
+    if let Some((negative, at)) = number_after(tokens, at, Punctuator::Minus) {
         return Some((Priority::Number(OffsetSign::Minus, negative), at));
     }
-    let (name, at) = one_of(tokens, at, &PLACES)?;
+    let (name, at) = one_of(tokens, at, &PRIORITIES)?;
     match offset(tokens, at) {
-        Some(((sign, by), at)) => Some((Priority::Offset(name, sign, by), at)),
+        Some(((punctuation, by), at)) => Some((Priority::Offset(name, punctuation, by), at)),
         None => Some((Priority::Named(name), at)),
     }
 }
@@ -72,14 +75,14 @@ pub(crate) fn head(
     ensures { IfOk result (IsRead head_tree head.read tokens.now at) }
 {
     let at = found!(after_word(tokens, at, b"type"));
-    let (kind, at) = found!(one_of(tokens, at, &KINDS));
+    let (kind, at) = found!(one_of(tokens, at, &CHAIN_TYPES));
     let at = found!(after_word(tokens, at, b"hook"));
     let (hook, at) = found!(one_of(tokens, at, &HOOK_NAMES));
     let at = found!(after_word(tokens, at, b"priority"));
     let (priority, at) = found!(priority(tokens, at));
     let at = found!(after_ends(tokens, at));
     let (policy, at) = if let Some(after) = after_word(tokens, at, b"policy")
-        && let Some((policy, after)) = one_of(tokens, after, &DECISIONS)
+        && let Some((policy, after)) = one_of(tokens, after, &POLICIES)
         && let Some(end) = after_ends(tokens, after)
     {
         (Some(policy), end)

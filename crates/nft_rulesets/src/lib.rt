@@ -3,15 +3,15 @@
 #![tactic(auto)]
 
 mod chains;
+mod element_lists;
 mod fields;
 mod flags;
 mod heads;
-mod left_out;
 mod notes;
-mod parts;
 mod sets;
 mod tables;
 mod types;
+mod unsupported_words;
 
-pub use left_out::has_left_out;
 pub use tables::ruleset;
+pub use unsupported_words::has_unsupported;

@@ -5,12 +5,12 @@ ghost use Rattle.nft_rulesets.specs.Chains.{note};
 use nft_lexer::Token;
 use nft_tree::Memory;
 use std::alloc::Global;
-use token_reader::{Part, after_ends, found, string_after};
+use token_reader::{Production, after_ends, found, string_after};
 
 /// "comment" STRING end {end}
 pub(crate) struct Note;
 
-impl Part for Note {
+impl Production for Note {
     type Item = Vec<u8>;
 
     ghost Tree = { Text };

@@ -4,8 +4,8 @@ ghost use Rattle.nft_tree.specs.Tree.{map_tree, set_tree};
 ghost use Rattle.token_reader.specs.Readers.{IsRead};
 ghost use Rattle.nft_rulesets.specs.Sets.{named_map, named_set};
 
+use crate::element_lists::{Elements, Pairs};
 use crate::fields::block;
-use crate::parts::{Elements, Pairs};
 use crate::types::{MapTypes, SetTypes};
 use nft_lexer::Token;
 use nft_tree::{MapDecl, Memory, SetDecl};

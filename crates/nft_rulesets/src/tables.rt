@@ -1,7 +1,7 @@
 //! Tables and what they hold, and rulesets.
 ghost use Rattle.std.specs.Prelude.{◌≡◌, List, IfOk, IfSome, IsSomeAnd};
 ghost use Rattle.std.specs.Option.{option_map};
-ghost use Rattle.nft_lexer.specs.Sign.{signs};
+ghost use Rattle.nft_lexer.specs.Terminal.{terminals};
 ghost use Rattle.nft_tree.specs.Tree.{ItemTree, TableTree, item_tree, table_tree, tables_of};
 ghost use Rattle.token_reader.specs.Readers.{IsRead};
 ghost use Rattle.token_reader.specs.Grammar.{ends, ◌◃◌};
@@ -10,12 +10,12 @@ ghost use Rattle.nft_rulesets.specs.steps.Laws.{ruleset_at};
 
 use crate::chains::chain;
 use crate::sets::{map_decl, set_decl};
-use nft_lexer::{Mark, Token};
+use nft_lexer::{Punctuator, Token};
 use nft_tree::{Family, Item, Memory, Ruleset, Table};
 use std::alloc::Global;
 use token_reader::{
-    Part, after_ends, after_mark, after_word, found, one_of, repeated, skip_ends, string_after,
-    word,
+    Production, after_ends, after_punctuator, after_word, found, one_of, repeated, skip_ends,
+    string_after, word,
 };
 
 static FAMILIES: [(&[u8], Family); 2] = [(b"ip", Family::Ip), (b"inet", Family::Inet)];
@@ -23,7 +23,7 @@ static FAMILIES: [(&[u8], Family); 2] = [(b"ip", Family::Ip), (b"inet", Family::
 /// ("comment" STRING | chain | set | map) {end}
 struct NextItem;
 
-impl Part for NextItem {
+impl Production for NextItem {
     type Item = Item;
 
     ghost Tree = { ItemTree };
@@ -66,7 +66,7 @@ fn table_name<'t>(tokens: &[Token<'t>], at: usize) -> Option<((Family, &'t [u8])
 /// "table" ["ip" | "inet"] NAME "{" {end} {item {end}} "}" {end}
 struct NextTable;
 
-impl Part for NextTable {
+impl Production for NextTable {
     type Item = Table;
 
     ghost Tree = { TableTree };
@@ -79,10 +79,10 @@ impl Part for NextTable {
     fn read(alloc: Global, tokens: &[Token], at: usize) -> Result<Option<(Table, usize)>, Memory> {
         let at = found!(after_word(tokens, at, b"table"));
         let ((family, name), at) = found!(table_name(tokens, at));
-        let at = found!(after_mark(tokens, at, Mark::OpenBrace));
+        let at = found!(after_punctuator(tokens, at, Punctuator::OpenBrace));
         let at = skip_ends(tokens, at);
         let (items, at) = repeated::<NextItem>(alloc, tokens, at)?;
-        let at = found!(after_mark(tokens, at, Mark::CloseBrace));
+        let at = found!(after_punctuator(tokens, at, Punctuator::CloseBrace));
         let name = Vec::from_slice(alloc, name)?;
         let table = Table {
             family,
@@ -96,7 +96,7 @@ impl Part for NextTable {
 /// {end} ["flush" "ruleset" end {end}] {table {end}}, all of the tokens.
 #[tactic(auto, unfolding(crate::specs::steps::Laws::ruleset_at, crate::specs::Rulesets::whole_ruleset, crate::specs::Rulesets::flush))]
 fn whole(alloc: Global, tokens: &[Token]) -> Result<Option<Ruleset>, Memory>
-    ensures { IfOk result (λ o. option_map tables_of o ≡ ruleset_at (signs tokens.now)) }
+    ensures { IfOk result (λ o. option_map tables_of o ≡ ruleset_at (terminals tokens.now)) }
 {
     let start = skip_ends(tokens, 0);
     let at = if let Some(after) = after_word(tokens, start, b"flush")
@@ -117,11 +117,11 @@ fn whole(alloc: Global, tokens: &[Token]) -> Result<Option<Ruleset>, Memory>
 /// The one ruleset that the tokens spell, all of them; none where they spell none.
 pub fn ruleset(alloc: Global, tokens: &[Token]) -> Result<Option<Ruleset>, Memory>
     // What is read is spelled by the tokens.
-    ensures found { IfOk result (λ o. IfSome o (λ read. SpellsRuleset (tables_of read) (signs tokens.now))) }
+    ensures found { IfOk result (λ o. IfSome o (λ read. SpellsRuleset (tables_of read) (terminals tokens.now))) }
     // What they spell is read: there is no other ruleset, and where nothing is read there is none.
-    ensures only { (tables : List TableTree) → SpellsRuleset tables (signs tokens.now) → IfOk result (λ o. IsSomeAnd o (λ read. tables_of read ≡ tables)) }
+    ensures only { (tables : List TableTree) → SpellsRuleset tables (terminals tokens.now) → IfOk result (λ o. IsSomeAnd o (λ read. tables_of read ≡ tables)) }
     // It is what a reading from left to right gives.
-    ensures read { IfOk result (λ o. option_map tables_of o ≡ ruleset_at (signs tokens.now)) }
+    ensures read { IfOk result (λ o. option_map tables_of o ≡ ruleset_at (terminals tokens.now)) }
 {
     whole(alloc, tokens)
 }

@@ -6,15 +6,15 @@ ghost use Rattle.token_reader.specs.Readers.{IsRead};
 ghost use Rattle.nft_rulesets.specs.Sets.{data_selector, data_type, map_type, set_type, value_type};
 
 use nft_expressions::{anysel, selectors};
-use nft_lexer::{Mark, Token};
+use nft_lexer::{Punctuator, Token};
 use nft_tree::{MapType, Memory, SelectorOrVerdict, SetType, TypeOrVerdict, ValueType};
 use std::alloc::Global;
-use token_reader::{Dot, Part, after_mark, after_word, found, separated, word};
+use token_reader::{Dot, Production, after_punctuator, after_word, found, separated, word};
 
 /// TYPE
 struct TypeName;
 
-impl Part for TypeName {
+impl Production for TypeName {
     type Item = ValueType;
 
     ghost Tree = { ValueType };
@@ -37,7 +37,7 @@ impl Part for TypeName {
 /// "type" TYPE {"." TYPE} | "typeof" keys
 pub(crate) struct SetTypes;
 
-impl Part for SetTypes {
+impl Production for SetTypes {
     type Item = SetType;
 
     ghost Tree = { SetTypeTree };
@@ -89,7 +89,7 @@ fn data_selector(tokens: &[Token], at: usize) -> Option<(SelectorOrVerdict, usiz
 /// "type" TYPE ":" (TYPE | "verdict") | "typeof" anysel ":" (anysel | "verdict")
 pub(crate) struct MapTypes;
 
-impl Part for MapTypes {
+impl Production for MapTypes {
     type Item = MapType;
 
     ghost Tree = { MapType };
@@ -106,13 +106,13 @@ impl Part for MapTypes {
     ) -> Result<Option<(MapType, usize)>, Memory> {
         if let Some(at) = after_word(tokens, at, b"type") {
             let (key, at) = found!(TypeName::read(alloc, tokens, at)?);
-            let at = found!(after_mark(tokens, at, Mark::Colon));
+            let at = found!(after_punctuator(tokens, at, Punctuator::Colon));
             let (value, at) = found!(data_type(tokens, at));
             return Ok(Some((MapType::Types(key, value), at)));
         }
         let at = found!(after_word(tokens, at, b"typeof"));
         let (key, at) = found!(anysel(tokens, at));
-        let at = found!(after_mark(tokens, at, Mark::Colon));
+        let at = found!(after_punctuator(tokens, at, Punctuator::Colon));
         let (value, at) = found!(data_selector(tokens, at));
         Ok(Some((MapType::Selectors(key, value), at)))
     }

@@ -6,7 +6,7 @@ use Rattle.std.proofs.Math.Seq.{drop-cons}
 use Rattle.std.specs.List.{filter_map, cons_option}
 use Rattle.nft_tree.specs.declared.ruleset.Item.{Item}
 use Rattle.nft_tree.specs.Tree.{ChainTree, item_tree}
-use Rattle.nft_tree.specs.Parts.{chain_in, numbered_from_one}
+use Rattle.nft_tree.specs.TableItems.{chain_in, numbered_from_one}
 
 -- the chains among some items
 abbrev pub chains_among : List Item → List ChainTree
@@ -20,12 +20,12 @@ from_one_on items i item h is =
     ap chains_among e
 
 -- the rule of a number stands one place before it
-pub numbered_so : {A : Type 0} (xs : List A) (n : ℕ) → 0 < n → numbered_from_one xs n ≡ slice_get xs (n - 1)
-numbered_so xs zero h = absurd (omega (arith, h))
-numbered_so xs (suc n) h = ap (slice_get xs) (omega arith)
+pub numbered_is_get : {A : Type 0} (xs : List A) (n : ℕ) → 0 < n → numbered_from_one xs n ≡ slice_get xs (n - 1)
+numbered_is_get xs zero h = absurd (omega (arith, h))
+numbered_is_get xs (suc n) h = ap (slice_get xs) (omega arith)
 
 -- what is got at a place is what stands there
-pub got : {A B : Type 0} (f : A → B) (P : Bor A → Type 0) (xs : List A) (i : ℕ) (o : Option (Bor A)) → IfSome o (λ x. x.now ≡ get_or xs i x.now) → MatchOption o (length xs ≤ i) (λ x. (i < length xs) × P x)
+pub mapped_get : {A B : Type 0} (f : A → B) (P : Bor A → Type 0) (xs : List A) (i : ℕ) (o : Option (Bor A)) → IfSome o (λ x. x.now ≡ get_or xs i x.now) → MatchOption o (length xs ≤ i) (λ x. (i < length xs) × P x)
     → option_map (λ x. f x.now) o ≡ option_map f (slice_get xs i)
-got f P xs i None is past = ap (option_map f) (sym (slice_get_past xs i past))
-got f P xs i (Some x) is within = ap (option_map f) (sym (slice_get_read xs (length xs) i x.now refl within.0 is))
+mapped_get f P xs i None is past = ap (option_map f) (sym (slice_get_past xs i past))
+mapped_get f P xs i (Some x) is within = ap (option_map f) (sym (slice_get_read xs (length xs) i x.now refl within.0 is))

@@ -1,7 +1,7 @@
 use Rattle.std.proofs.Common.{◌≡◌, ℕ, ◌+◌, ◌<◌, List, ◌∷◌, length, get_or, drop, map, cond, Some, add-one, ap, Bor}
 use Rattle.std.proofs.Math.Seq.{drop-cons}
 use Rattle.std.specs.Str.{bytes_eq}
-use Rattle.nft_tree.specs.Words.{entry_in, entry_of}
+use Rattle.nft_tree.specs.ValueTypes.{entry_in, entry_of}
 
 -- what the entries from one on say is what this one says, or else those after it
 pub from_one_on : {A : Type 0} (entries : List (Bor (List ℕ) × A)) (i : ℕ) (entry : Bor (List ℕ) × A) (name : List ℕ)

@@ -1,5 +1,5 @@
 pub mod Tree
-pub mod Words
-pub mod Kinds
+pub mod ValueTypes
+pub mod ComparedTypes
 pub mod Priorities
-pub mod Parts
+pub mod TableItems

@@ -15,10 +15,10 @@ use Rattle.nft_tree.specs.declared.chain.Policy.{Policy}
 use Rattle.nft_tree.specs.declared.chain.Rule.{Rule}
 use Rattle.nft_tree.specs.declared.selector.Selector.{Selector}
 use Rattle.nft_tree.specs.declared.selector.ValueType.{ValueType}
-use Rattle.nft_tree.specs.declared.word.Value.{Value}
-use Rattle.nft_tree.specs.declared.word.Value.TheVariants as values
-use Rattle.nft_tree.specs.declared.word.Range.{Range}
-use Rattle.nft_tree.specs.declared.word.Range.TheVariants as ranges
+use Rattle.nft_tree.specs.declared.values.Value.{Value}
+use Rattle.nft_tree.specs.declared.values.Value.TheVariants as values
+use Rattle.nft_tree.specs.declared.values.ValueRange.{ValueRange}
+use Rattle.nft_tree.specs.declared.values.ValueRange.TheVariants as ranges
 use Rattle.nft_tree.specs.declared.set.SetDecl.{SetDecl}
 use Rattle.nft_tree.specs.declared.set.MapDecl.{MapDecl}
 use Rattle.nft_tree.specs.declared.set.SetType.{SetType}
@@ -44,7 +44,7 @@ use Rattle.nft_tree.specs.declared.statement.CounterStart.{CounterStart}
 use Rattle.nft_tree.specs.declared.statement.MarkField.{MarkField}
 use Rattle.nft_tree.specs.declared.statement.Operand.{Operand}
 use Rattle.nft_tree.specs.declared.statement.Operand.TheVariants as operands
-use Rattle.nft_tree.specs.declared.statement.Look.{Look}
+use Rattle.nft_tree.specs.declared.statement.MapLookup.{MapLookup}
 use Rattle.nft_tree.specs.declared.statement.MapRef.{MapRef}
 use Rattle.nft_tree.specs.declared.statement.MapRef.TheVariants as map_refs
 use Rattle.nft_tree.specs.declared.statement.SetRef.{SetRef}
@@ -109,14 +109,14 @@ pub data MapRefTree : Type 0 where
   named_map : Text → MapRefTree
   pairs : List PairTree → MapRefTree
 
-pub record LookTree : Type 0 where
+pub record MapLookupTree : Type 0 where
   pub selector : Selector
   pub map : MapRefTree
 
 pub data OperandTree : Type 0 where
   constant : ℕ → OperandTree
   mark_of : MarkField → OperandTree
-  looked_up : LookTree → OperandTree
+  looked_up : MapLookupTree → OperandTree
 
 pub data FlagTree : Type 0 where
   flag_word : Text → FlagTree
@@ -134,11 +134,11 @@ pub data MatchTree : Type 0 where
 
 pub data SourceTree : Type 0 where
   source_address : ℕ → Option PortRange → SourceTree
-  source_look : LookTree → SourceTree
+  source_lookup : MapLookupTree → SourceTree
 
 pub data DestinationTree : Type 0 where
   destination_address : ℕ → Option ℕ → DestinationTree
-  destination_look : LookTree → DestinationTree
+  destination_lookup : MapLookupTree → DestinationTree
 
 pub data NatTree : Type 0 where
   source : SourceTree → NatTree
@@ -214,7 +214,7 @@ value_tree (values.Address a) = address a
 value_tree (values.Word w) = word w.value.items
 value_tree (values.String s) = string s.value.items
 
-abbrev pub range_tree : Range → RangeTree
+abbrev pub range_tree : ValueRange → RangeTree
 range_tree (ranges.One v) = one (value_tree v)
 range_tree (ranges.Between low high) = between (value_tree low) (value_tree high)
 range_tree (ranges.Prefix a n) = prefix a n
@@ -250,13 +250,13 @@ abbrev pub map_ref_tree : MapRef → MapRefTree
 map_ref_tree (map_refs.Named name) = named_map name.items
 map_ref_tree (map_refs.Anonymous ps) = pairs (map pair_tree ps.items)
 
-abbrev pub look_tree : Look → LookTree
-look_tree l = record { selector = l.selector; map = map_ref_tree l.map }
+abbrev pub map_lookup_tree : MapLookup → MapLookupTree
+map_lookup_tree l = record { selector = l.selector; map = map_ref_tree l.map }
 
 abbrev pub operand_tree : Operand → OperandTree
 operand_tree (operands.Number n) = constant n
 operand_tree (operands.Mark m) = mark_of m
-operand_tree (operands.Look l) = looked_up (look_tree l)
+operand_tree (operands.MapLookup l) = looked_up (map_lookup_tree l)
 
 abbrev pub flag_tree : Flag → FlagTree
 flag_tree (flag_kinds.Word w) = flag_word w.items
@@ -275,11 +275,11 @@ match_tree (matches.MaskedFlagsUnequal m) =
 
 abbrev pub source_tree : SourceTarget → SourceTree
 source_tree (sources.Address a ports) = source_address a ports
-source_tree (sources.Look l) = source_look (look_tree l)
+source_tree (sources.MapLookup l) = source_lookup (map_lookup_tree l)
 
 abbrev pub destination_tree : DestinationTarget → DestinationTree
 destination_tree (destinations.Address a port) = destination_address a port
-destination_tree (destinations.Look l) = destination_look (look_tree l)
+destination_tree (destinations.MapLookup l) = destination_lookup (map_lookup_tree l)
 
 abbrev pub nat_tree : Nat → NatTree
 nat_tree (nats.Source s) = source (source_tree s)

@@ -2,22 +2,22 @@
 ghost use Rattle.std.specs.Prelude.{◌≡◌, ℕ, Bool, map, min, sum_by};
 ghost use Rattle.std.specs.List.{list_any};
 
-use crate::lists::Listed;
+use crate::tree_nodes::TreeNode;
 
 /// Whether some of the items passes the test.
-pub fn any<T: Listed, F: Fn(&T) -> bool>(items: &[T], test: F) -> bool
+pub fn any<T: TreeNode, F: Fn(&T) -> bool>(items: &[T], test: F) -> bool
     requires { F.IsAlwaysCallable test }
-    ensures { (passes : T.Shown → Bool) → ((x : _) (b : Bool) → F.post test x b → b ≡ passes (T.shown x.now))
-        → result ≡ list_any passes (map T.shown items.now) }
+    ensures { (passes : T.Tree → Bool) → ((x : _) (b : Bool) → F.post test x b → b ≡ passes (T.tree x.now))
+        → result ≡ list_any passes (map T.tree items.now) }
 {
     items.iter().any(test)
 }
 
 /// The sum of what the items weigh, which stops at `usize::MAX`.
-pub fn sum<T: Listed, F: Fn(&T) -> usize>(items: &[T], weight: F) -> usize
+pub fn sum<T: TreeNode, F: Fn(&T) -> usize>(items: &[T], weight: F) -> usize
     requires { F.IsAlwaysCallable weight }
-    ensures { (weighs : T.Shown → ℕ) → ((x : _) (n : ℕ) → F.post weight x n → n ≡ min (weighs (T.shown x.now)) usize.MAX)
-        → result ≡ min (sum_by weighs (map T.shown items.now)) usize.MAX }
+    ensures { (weight_of : T.Tree → ℕ) → ((x : _) (n : ℕ) → F.post weight x n → n ≡ min (weight_of (T.tree x.now)) usize.MAX)
+        → result ≡ min (sum_by weight_of (map T.tree items.now)) usize.MAX }
 {
     let mut sum = 0usize;
     for item in items {

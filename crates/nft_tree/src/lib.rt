@@ -6,25 +6,24 @@
 #![tactic(auto)]
 
 mod chain;
-mod copies;
+mod cloning;
+mod compared_types;
 mod folds;
-mod kind;
-mod lists;
 mod memory;
 mod nat;
-mod parts;
 mod priority;
 mod ruleset;
 mod selector;
 mod set;
 mod statement;
-mod tables;
-mod word;
+mod table_items;
+mod tree_nodes;
+mod value_types;
+mod values;
 
 pub use chain::{Chain, ChainKind, Head, Hook, OffsetSign, Policy, Priority, PriorityName, Rule};
+pub use compared_types::ComparedType;
 pub use folds::{any, sum};
-pub use kind::Kind;
-pub use lists::Listed;
 pub use memory::Memory;
 pub use nat::{DestinationTarget, Nat, PortRange, SourceTarget};
 pub use ruleset::{Family, Item, RuleNo, Ruleset, Table};
@@ -34,7 +33,8 @@ pub use set::{
     TypeOrVerdict,
 };
 pub use statement::{
-    BitField, BitTest, CounterStart, Flag, Look, MapRef, MarkField, Masked, Match, Operand,
+    BitField, BitTest, CounterStart, Flag, MapLookup, MapRef, MarkField, Masked, Match, Operand,
     Operator, SetRef, Stmt, Verdict,
 };
-pub use word::{Range, Value};
+pub use tree_nodes::TreeNode;
+pub use values::{Value, ValueRange};

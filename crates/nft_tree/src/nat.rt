@@ -1,5 +1,5 @@
 //! Translation of addresses.
-use crate::statement::Look;
+use crate::statement::MapLookup;
 
 /// A statement that translates.
 #[derive(Drop)]
@@ -18,14 +18,14 @@ pub enum Nat {
 #[derive(Drop)]
 pub enum SourceTarget {
     Address(u32, Option<PortRange>),
-    Look(Look),
+    MapLookup(MapLookup),
 }
 
 /// What a destination becomes.
 #[derive(Drop)]
 pub enum DestinationTarget {
     Address(u32, Option<u64>),
-    Look(Look),
+    MapLookup(MapLookup),
 }
 
 /// A port, or the ports from one to another.

@@ -1,7 +1,7 @@
 //! Sets, maps and their elements.
 use crate::selector::{Selector, ValueType};
 use crate::statement::Verdict;
-use crate::word::{Range, Value};
+use crate::values::{Value, ValueRange};
 
 /// A named set: `set NAME { .. }`. Its fields may stand in any order.
 #[derive(Drop)]
@@ -78,14 +78,14 @@ impl Drop for Element {
 /// What an element holds: a value, a range or a prefix, or values joined.
 #[derive(Drop)]
 pub enum Key {
-    Single(Range),
+    Single(ValueRange),
     /// `VALUE . VALUE`, two or more.
     Joined(Vec<Value>),
 }
 
 /// An element of a map: a key, its comment, and the data.
 pub struct Pair {
-    pub key: Range,
+    pub key: ValueRange,
     pub comment: Option<Vec<u8>>,
     pub value: Data,
 }

@@ -2,7 +2,7 @@
 use crate::nat::Nat;
 use crate::selector::Selector;
 use crate::set::{Element, Pair};
-use crate::word::Range;
+use crate::values::ValueRange;
 
 /// One statement of a rule.
 pub enum Stmt {
@@ -57,12 +57,12 @@ pub enum MarkField {
 pub enum Operand {
     Number(u64),
     Mark(MarkField),
-    Look(Look),
+    MapLookup(MapLookup),
 }
 
 /// A look-up: `SELECTOR map MAP`.
 #[derive(Drop)]
-pub struct Look {
+pub struct MapLookup {
     pub selector: Selector,
     pub map: MapRef,
 }
@@ -113,7 +113,7 @@ pub enum Operator {
 #[derive(Drop)]
 pub enum Match {
     /// A selector against a value, a range or a prefix.
-    Compare(Selector, Operator, Range),
+    Compare(Selector, Operator, ValueRange),
     /// Selectors, joined, in a set.
     In(Vec<Selector>, SetRef),
     /// Selectors, joined, in no element of a set.

@@ -9,7 +9,7 @@ use Rattle.std.proofs.lemmas.Nat.{pow-add}
 use Rattle.std.proofs.lemmas.List.{take_more, get_or_past, get_or-replicate, get_or-append_right, length-replicate}
 use Rattle.std.proofs.Math.ListN.{get_or-append}
 use Rattle.std.proofs.Math.Pow.{pow_mono}
-use Rattle.nft_values.specs.Values.{before_star, bytes_number, filled}
+use Rattle.nft_values.specs.Values.{wildcard_prefix, bytes_number, padded}
 
 -- ---- the star
 
@@ -17,15 +17,15 @@ under : (b : ℕ) (v : Bool) (rest : List ℕ) → option_map (λ (ns : List ℕ
 under b true rest = refl
 under b false rest = refl
 
-star-append : (rest : List ℕ) (last : ℕ) → before_star (rest ++ last ∷ []) ≡ cond (last == 42) (Some rest) None
+star-append : (rest : List ℕ) (last : ℕ) → wildcard_prefix (rest ++ last ∷ []) ≡ cond (last == 42) (Some rest) None
 star-append [] last = refl
 star-append (b ∷ []) last = under b (last == 42) []
 star-append (b ∷ c ∷ cs) last = ap (option_map (λ (ns : List ℕ). b ∷ ns)) (star-append (c ∷ cs) last) ∙ under b (last == 42) (c ∷ cs)
 
-pub star-there : (n rest : List ℕ) (last : ℕ) → n ≡ rest ++ last ∷ [] → last ≡ 42 → Some rest ≡ before_star n
+pub star-there : (n rest : List ℕ) (last : ℕ) → n ≡ rest ++ last ∷ [] → last ≡ 42 → Some rest ≡ wildcard_prefix n
 star-there n rest last e star = let test : (last == 42) ≡ true = grind (arith, nat_tests) in sym (rw (e, star-append rest last, test) refl)
 
-pub star-absent : (n rest : List ℕ) (last : ℕ) → n ≡ rest ++ last ∷ [] → (last ≡ 42 → ⊥) → None ≡ before_star n
+pub star-absent : (n rest : List ℕ) (last : ℕ) → n ≡ rest ++ last ∷ [] → (last ≡ 42 → ⊥) → None ≡ wildcard_prefix n
 star-absent n rest last e other = let test : (last == 42) ≡ false = grind (arith, nat_tests) in sym (rw (e, star-append rest last, test) refl)
 
 -- ---- bytes as a number
@@ -35,8 +35,8 @@ bytes-append so_far [] b = refl
 bytes-append so_far (x ∷ bs) b = bytes-append (so_far * 256 + x) bs b
 
 -- the first bytes, the other byte for those wanting
-unfoldable pub filled_to : ℕ → ℕ → List ℕ → ℕ
-filled_to count fill n = bytes_number 0 (take count (n ++ replicate 16 fill))
+unfoldable pub padded_to : ℕ → ℕ → List ℕ → ℕ
+padded_to count fill n = bytes_number 0 (take count (n ++ replicate 16 fill))
 
 byte_of : (m at fill : ℕ) (n : List ℕ) → at < m → get_or (n ++ replicate m fill) at 0 ≡ get_or n at fill
 byte_of m at fill n lt =
@@ -53,17 +53,17 @@ bytes-more xs at lt = sym (ap (bytes_number 0) (take_more xs at 0 lt) ∙ bytes-
 long_enough : (m at fill : ℕ) (n : List ℕ) → at < m → at < length (n ++ replicate m fill)
 long_enough m at fill n lt = omega (arith, length-append n (replicate m fill), length-replicate m fill)
 
-pub filled-none : (fill : ℕ) (n : List ℕ) → 0 ≡ filled_to 0 fill n
-unfolding filled_to
-filled-none fill n = refl
+pub padded-none : (fill : ℕ) (n : List ℕ) → 0 ≡ padded_to 0 fill n
+unfolding padded_to
+padded-none fill n = refl
 
-pub filled-all : (fill : ℕ) (n : List ℕ) → filled_to 16 fill n ≡ filled fill n
-unfolding filled_to
-filled-all fill n = refl
+pub padded-all : (fill : ℕ) (n : List ℕ) → padded_to 16 fill n ≡ padded fill n
+unfolding padded_to
+padded-all fill n = refl
 
-pub filled-next : (at fill : ℕ) (n : List ℕ) → at < 16 → filled_to at fill n * 256 + get_or n at fill ≡ filled_to (at + 1) fill n
-unfolding filled_to
-filled-next at fill n lt = rw (← byte_of 16 at fill n lt) (bytes-more (n ++ replicate 16 fill) at (long_enough 16 at fill n lt))
+pub padded-next : (at fill : ℕ) (n : List ℕ) → at < 16 → padded_to at fill n * 256 + get_or n at fill ≡ padded_to (at + 1) fill n
+unfolding padded_to
+padded-next at fill n lt = rw (← byte_of 16 at fill n lt) (bytes-more (n ++ replicate 16 fill) at (long_enough 16 at fill n lt))
 
 -- one more byte has eight more bits
 pub room : (number byte at : ℕ) → number < 2 ^ (8 * at) → byte < 256 → at < 16 → (number * 256 + byte < 2 ^ (8 * (at + 1))) × (number * 256 + byte < 2 ^ 128)
@@ -88,5 +88,5 @@ filling-le low high count m [] le = replicated-le low high count m le
 filling-le low high zero m (b ∷ bs) le = le
 filling-le low high (suc count) m (b ∷ bs) le = filling-le (low * 256 + b) (high * 256 + b) count m bs (omega arith)
 
-pub filled-le : (n : List ℕ) → filled 0 n ≤ filled 255 n
-filled-le n = filling-le 0 0 16 16 n (omega arith)
+pub padded-le : (n : List ℕ) → padded 0 n ≤ padded 255 n
+padded-le n = filling-le 0 0 16 16 n (omega arith)

@@ -7,24 +7,24 @@ use Rattle.std.proofs.Math.Pow.{pow_pos}
 use Rattle.nft_tree.specs.Tree as tree
 use Rattle.nft_tree.specs.Tree.{Text, ValueTree, RangeTree}
 use Rattle.nft_tree.specs.declared.selector.ValueType.TheVariants as types
-use Rattle.nft_tree.specs.declared.kind.Kind.{Kind}
-use Rattle.nft_tree.specs.declared.kind.Kind.TheVariants.{Named, Unnamed}
+use Rattle.nft_tree.specs.declared.compared_types.ComparedType.{ComparedType}
+use Rattle.nft_tree.specs.declared.compared_types.ComparedType.TheVariants.{Named, Unnamed}
 use Rattle.box_file.specs.Box.{PlantTree}
 use Rattle.set_intervals.specs.declared.range.Range.{Range}
-use Rattle.nft_values.specs.Values.{Span, span_of, before_star, is_range, has_numbers, name_span, text_span, value_span, range_span, numbers_of}
-use Rattle.nft_values.proofs.NameLaws.{filled-le}
+use Rattle.nft_values.specs.Values.{Span, span_of, wildcard_prefix, is_range, has_numbers, name_span, text_span, value_span, range_span, numbers_of}
+use Rattle.nft_values.proofs.NameLaws.{padded-le}
 
 name-rises : (n : Text) (beginning : Option Text) → (name_span n beginning).low ≤ (name_span n beginning).high
 name-rises n None = omega arith
-name-rises n (Some beginning) = filled-le beginning
+name-rises n (Some beginning) = padded-le beginning
 
-text-rises : (plant : PlantTree) (k : Kind) (n : Text) → (text_span plant k n).low ≤ (text_span plant k n).high
-text-rises plant (Named types.InterfaceName) n = name-rises n (before_star n)
+text-rises : (plant : PlantTree) (k : ComparedType) (n : Text) → (text_span plant k n).low ≤ (text_span plant k n).high
+text-rises plant (Named types.InterfaceName) n = name-rises n (wildcard_prefix n)
 text-rises plant (Named types.InterfaceIndex) n = omega arith
 text-rises plant (Named t) n = omega arith
 text-rises plant (Unnamed width) n = omega arith
 
-value-rises : (plant : PlantTree) (k : Kind) (v : ValueTree) → (value_span plant k v).low ≤ (value_span plant k v).high
+value-rises : (plant : PlantTree) (k : ComparedType) (v : ValueTree) → (value_span plant k v).low ≤ (value_span plant k v).high
 value-rises plant k (tree.number n) = omega arith
 value-rises plant k (tree.address a) = omega arith
 value-rises plant k (tree.word w) = text-rises plant k w
@@ -33,7 +33,7 @@ value-rises plant k (tree.string s) = text-rises plant k s
 prefix-rises : (low size : ℕ) → 0 < size → low ≤ low + size - 1
 prefix-rises low size some = omega arith
 
-range-rises : (plant : PlantTree) (k : Kind) (r : RangeTree) → is_range plant k r ≡ true → (range_span plant k r).low ≤ (range_span plant k r).high
+range-rises : (plant : PlantTree) (k : ComparedType) (r : RangeTree) → is_range plant k r ≡ true → (range_span plant k r).low ≤ (range_span plant k r).high
 range-rises plant k (tree.one v) e = value-rises plant k v
 range-rises plant k (tree.between low high) e = leb-true _ _ (and_parts _ _ e).1
 range-rises plant k (tree.prefix a n) e = prefix-rises (a / 2 ^ (32 - n) * 2 ^ (32 - n)) (2 ^ (32 - n)) (pow_pos (32 - n))
@@ -53,7 +53,7 @@ guarded true true s t e f same = ap Some same
 guarded true false s t e f same = absurd cc
 guarded false b s t e f same = absurd cc
 
-pub range_made : (plant : PlantTree) (k : Kind) (range : RangeTree) (s : Span) (r : Option Range) → is_range plant k range ≡ true → has_numbers plant k range ≡ true → s ≡ range_span plant k range → MatchOption r (s.high < s.low) (λ r. (r.low ≡ s.low) × (r.high ≡ s.high)) → option_map span_of r ≡ numbers_of plant k range
+pub range_made : (plant : PlantTree) (k : ComparedType) (range : RangeTree) (s : Span) (r : Option Range) → is_range plant k range ≡ true → has_numbers plant k range ≡ true → s ≡ range_span plant k range → MatchOption r (s.high < s.low) (λ r. (r.low ≡ s.low) × (r.high ≡ s.high)) → option_map span_of r ≡ numbers_of plant k range
 range_made plant k range s r good here e h =
     let Rises : Span → Type 0 = λ t. t.low ≤ t.high in
     made s r (subst Rises (sym e) (range-rises plant k range good)) h ∙ guarded _ _ s _ good here e

@@ -6,7 +6,7 @@ use Rattle.std.specs.Str.{bytes_eq}
 use Rattle.std.proofs.lemmas.Bool.{ltb-true, and_parts}
 use Rattle.nft_tree.specs.declared.selector.ValueType.{ValueType}
 use Rattle.nft_tree.specs.declared.selector.ValueType.TheVariants as types
-use Rattle.nft_tree.specs.Words.{entry_in, number_in, words_of, type_width}
+use Rattle.nft_tree.specs.ValueTypes.{entry_in, number_in, words_of, type_width}
 
 first-fits : (most n : ℕ) (here : Bool) (rest : Option ℕ) → n < most → unwrap_or rest 0 < most → unwrap_or (cond here (Some n) rest) 0 < most
 first-fits most n true rest fits others = fits

@@ -6,29 +6,29 @@ use Rattle.std.specs.List.{list_all}
 use Rattle.std.specs.Option.{option_map}
 use Rattle.nft_tree.specs.Tree as tree
 use Rattle.nft_tree.specs.Tree.{Text, ValueTree, RangeTree}
-use Rattle.nft_tree.specs.Words.{type_width, words_of, number_in}
+use Rattle.nft_tree.specs.ValueTypes.{type_width, words_of, number_in}
 use Rattle.nft_tree.specs.declared.selector.ValueType.TheVariants as types
-use Rattle.nft_tree.specs.declared.kind.Kind.{Kind}
-use Rattle.nft_tree.specs.declared.kind.Kind.TheVariants.{Named, Unnamed}
+use Rattle.nft_tree.specs.declared.compared_types.ComparedType.{ComparedType}
+use Rattle.nft_tree.specs.declared.compared_types.ComparedType.TheVariants.{Named, Unnamed}
 use Rattle.box_file.specs.Box.{PlantTree, named, name_of}
 use Rattle.set_intervals.specs.declared.range.Range.{Range}
 
 -- ---- types
 
 -- the width in bits
-abbrev pub kind_width : Kind → ℕ
-kind_width (Named t) = type_width t
-kind_width (Unnamed width) = width
+abbrev pub compared_type_width : ComparedType → ℕ
+compared_type_width (Named t) = type_width t
+compared_type_width (Unnamed width) = width
 
 -- numbers are values of every type but ipv4_addr, ifname, ct_state and ct_status
-abbrev pub takes_numbers : Kind → Bool
+abbrev pub takes_numbers : ComparedType → Bool
 takes_numbers (Named types.Address) = false
 takes_numbers (Named types.InterfaceName) = false
 takes_numbers (Named types.CtState) = false
 takes_numbers (Named types.CtStatus) = false
 takes_numbers _ = true
 
-abbrev pub is_address : Kind → Bool
+abbrev pub is_address : ComparedType → Bool
 is_address (Named types.Address) = true
 is_address _ = false
 
@@ -39,36 +39,36 @@ abbrev pub is_plain_name : Text → Bool
 is_plain_name n = nat_lt 0 (length n) && nat_lt (length n) 16 && list_all (λ b. not (b == 92)) n
 
 -- what stands before a last `*`, if there is one
-abbrev pub before_star : Text → Option Text
-before_star [] = None
-before_star (b ∷ []) = cond (b == 42) (Some []) None
-before_star (b ∷ c ∷ cs) = option_map (λ rest. b ∷ rest) (before_star (c ∷ cs))
+abbrev pub wildcard_prefix : Text → Option Text
+wildcard_prefix [] = None
+wildcard_prefix (b ∷ []) = cond (b == 42) (Some []) None
+wildcard_prefix (b ∷ c ∷ cs) = option_map (λ rest. b ∷ rest) (wildcard_prefix (c ∷ cs))
 
 -- a name, or the beginning of names with a `*` behind it
 abbrev pub is_interface_name : Text → Bool
-is_interface_name n = is_plain_name (unwrap_or (before_star n) n)
+is_interface_name n = is_plain_name (unwrap_or (wildcard_prefix n) n)
 
 -- ---- values of a type
 
 -- a word or a string as the name of an interface, whether or not there is one: any name is a value of iface_index
-abbrev pub is_name_of : Kind → Text → Bool
+abbrev pub is_name_of : ComparedType → Text → Bool
 is_name_of (Named types.InterfaceName) n = is_interface_name n
 is_name_of (Named types.InterfaceIndex) n = true
 is_name_of _ n = false
 
 -- the type lists the word
-abbrev pub lists_word : Kind → Text → Bool
+abbrev pub lists_word : ComparedType → Text → Bool
 lists_word (Named t) w = is_some (number_in (words_of t) w)
 lists_word (Unnamed width) w = false
 
-abbrev pub is_value : Kind → ValueTree → Bool
-is_value k (tree.number n) = takes_numbers k && nat_lt n (2 ^ kind_width k)
+abbrev pub is_value : ComparedType → ValueTree → Bool
+is_value k (tree.number n) = takes_numbers k && nat_lt n (2 ^ compared_type_width k)
 is_value k (tree.address a) = is_address k
 is_value k (tree.word w) = is_name_of k w || lists_word k w
 is_value k (tree.string s) = is_name_of k s
 
 -- the interface of an index or a name is on the box; an index has 32 bits
-abbrev pub is_on_box : PlantTree → Kind → ValueTree → Bool
+abbrev pub is_on_box : PlantTree → ComparedType → ValueTree → Bool
 is_on_box plant (Named types.InterfaceIndex) (tree.number n) = nat_lt n (2 ^ 32) && is_some (name_of plant n)
 is_on_box plant (Named types.InterfaceIndex) (tree.word w) = is_some (named plant w)
 is_on_box plant (Named types.InterfaceIndex) (tree.string s) = is_some (named plant s)
@@ -93,22 +93,22 @@ bytes_number so_far [] = so_far
 bytes_number so_far (b ∷ bs) = bytes_number (so_far * 256 + b) bs
 
 -- 16 bytes: those of the text, and as many of the other as are wanting
-abbrev pub filled : ℕ → Text → ℕ
-filled fill n = bytes_number 0 (take 16 (n ++ replicate 16 fill))
+abbrev pub padded : ℕ → Text → ℕ
+padded fill n = bytes_number 0 (take 16 (n ++ replicate 16 fill))
 
 -- a name is 16 bytes, filled with zeros; with a `*` it is all names that begin so
 abbrev pub name_span : Text → Option Text → Span
-name_span n None = one_number (filled 0 n)
-name_span n (Some beginning) = record { low = filled 0 beginning; high = filled 255 beginning }
+name_span n None = one_number (padded 0 n)
+name_span n (Some beginning) = record { low = padded 0 beginning; high = padded 255 beginning }
 
 -- the number of a word or a string: of an interface by its name or its index, of another type by the type's list
-abbrev pub text_span : PlantTree → Kind → Text → Span
-text_span plant (Named types.InterfaceName) n = name_span n (before_star n)
+abbrev pub text_span : PlantTree → ComparedType → Text → Span
+text_span plant (Named types.InterfaceName) n = name_span n (wildcard_prefix n)
 text_span plant (Named types.InterfaceIndex) n = one_number (unwrap_or (named plant n) 0)
 text_span plant (Named t) n = one_number (unwrap_or (number_in (words_of t) n) 0)
 text_span plant (Unnamed width) n = one_number 0
 
-abbrev pub value_span : PlantTree → Kind → ValueTree → Span
+abbrev pub value_span : PlantTree → ComparedType → ValueTree → Span
 value_span plant k (tree.number n) = one_number n
 value_span plant k (tree.address a) = one_number a
 value_span plant k (tree.word w) = text_span plant k w
@@ -121,35 +121,35 @@ abbrev pub prefix_span : ℕ → ℕ → Span
 prefix_span a n =
     record { low = a / 2 ^ (32 - n) * 2 ^ (32 - n); high = a / 2 ^ (32 - n) * 2 ^ (32 - n) + 2 ^ (32 - n) - 1 }
 
-abbrev pub range_span : PlantTree → Kind → RangeTree → Span
+abbrev pub range_span : PlantTree → ComparedType → RangeTree → Span
 range_span plant k (tree.one v) = value_span plant k v
 range_span plant k (tree.between low high) =
     record { low = (value_span plant k low).low; high = (value_span plant k high).high }
 range_span plant k (tree.prefix a n) = prefix_span a n
 
 -- a value; two values of which the second isn't the lower one; a prefix of at most 32 bits of an address
-abbrev pub is_range : PlantTree → Kind → RangeTree → Bool
+abbrev pub is_range : PlantTree → ComparedType → RangeTree → Bool
 is_range plant k (tree.one v) = is_value k v
 is_range plant k (tree.between low high) =
     is_value k low && is_value k high && nat_le (value_span plant k low).low (value_span plant k high).high
 is_range plant k (tree.prefix a n) = is_address k && nat_le n 32
 
-abbrev pub is_range_on_box : PlantTree → Kind → RangeTree → Bool
+abbrev pub is_range_on_box : PlantTree → ComparedType → RangeTree → Bool
 is_range_on_box plant k (tree.one v) = is_on_box plant k v
 is_range_on_box plant k (tree.between low high) = is_on_box plant k low && is_on_box plant k high
 is_range_on_box plant k (tree.prefix a n) = true
 
 -- the value stands for a number: a name of iface_index does so where an interface of the box has it
-abbrev pub has_number : PlantTree → Kind → ValueTree → Bool
+abbrev pub has_number : PlantTree → ComparedType → ValueTree → Bool
 has_number plant (Named types.InterfaceIndex) (tree.word w) = is_some (named plant w)
 has_number plant (Named types.InterfaceIndex) (tree.string s) = is_some (named plant s)
 has_number plant _ v = true
 
-abbrev pub has_numbers : PlantTree → Kind → RangeTree → Bool
+abbrev pub has_numbers : PlantTree → ComparedType → RangeTree → Bool
 has_numbers plant k (tree.one v) = has_number plant k v
 has_numbers plant k (tree.between low high) = has_number plant k low && has_number plant k high
 has_numbers plant k (tree.prefix a n) = true
 
 -- the numbers that a range stands for, if it is one of the type and stands for any
-abbrev pub numbers_of : PlantTree → Kind → RangeTree → Option Span
+abbrev pub numbers_of : PlantTree → ComparedType → RangeTree → Option Span
 numbers_of plant k r = cond (is_range plant k r && has_numbers plant k r) (Some (range_span plant k r)) None

@@ -5,12 +5,12 @@
 #![tactic(auto)]
 
 mod bounds;
-mod kinds;
+mod compared_types;
 mod names;
 mod ranges;
 mod values;
 
-pub use kinds::width;
+pub use compared_types::width;
 pub use names::name_number;
 pub use ranges::{is_range, is_range_on_box, numbers_of, value_numbers};
 pub use values::{is_on_box, is_value};

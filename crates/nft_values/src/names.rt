@@ -2,7 +2,7 @@
 ghost use Rattle.std.specs.Prelude.{◌≡◌, ◌==◌, not, slice_index_or};
 ghost use Rattle.std.specs.List.{list_all};
 ghost use Rattle.std.specs.Option.{option_map};
-ghost use Rattle.nft_values.specs.Values.{before_star, filled, is_interface_name, is_plain_name, name_span};
+ghost use Rattle.nft_values.specs.Values.{wildcard_prefix, padded, is_interface_name, is_plain_name, name_span};
 ghost use Rattle.nft_values.specs.steps.Bounds.{bounds_span};
 
 use crate::bounds::{Bounds, one_number};
@@ -25,8 +25,8 @@ fn is_plain_name(name: &[u8]) -> bool
 }
 
 /// What stands before a last `*`, if there is one.
-fn before_star(name: &[u8]) -> Option<&[u8]>
-    ensures { option_map (λ n. n.now) result ≡ before_star name.now }
+fn wildcard_prefix(name: &[u8]) -> Option<&[u8]>
+    ensures { option_map (λ n. n.now) result ≡ wildcard_prefix name.now }
 {
     let (last, before) = name.split_last()?;
     if *last == b'*' { Some(before) } else { None }
@@ -36,7 +36,7 @@ fn before_star(name: &[u8]) -> Option<&[u8]>
 pub fn is_interface_name(name: &[u8]) -> bool
     ensures { result ≡ is_interface_name name.now }
 {
-    is_plain_name(before_star(name).unwrap_or(name))
+    is_plain_name(wildcard_prefix(name).unwrap_or(name))
 }
 
 /// The byte at that place, or the other one past the last.
@@ -47,8 +47,8 @@ fn byte_at(name: &[u8], at: usize, fill: u8) -> u8
 }
 
 /// The first 16 bytes as a number, the first one highest; the other byte stands for those wanting.
-fn filled(fill: u8, name: &[u8]) -> u128
-    ensures { result ≡ filled fill name.now }
+fn padded(fill: u8, name: &[u8]) -> u128
+    ensures { result ≡ padded fill name.now }
 {
     let mut number = 0;
     for at in 0..NAME_BYTES {
@@ -60,20 +60,20 @@ fn filled(fill: u8, name: &[u8]) -> u128
 /// The number that the name of an interface is: its bytes, the first one highest, and zeros behind
 /// them to 16.
 pub fn name_number(name: &[u8]) -> u128
-    ensures { result ≡ filled 0 name.now }
+    ensures { result ≡ padded 0 name.now }
 {
-    filled(0, name)
+    padded(0, name)
 }
 
 /// The number of the name, or those of all names that begin so where a `*` is its last byte.
 pub fn name_bounds(name: &[u8]) -> Bounds
-    ensures { bounds_span result ≡ name_span name.now (before_star name.now) }
+    ensures { bounds_span result ≡ name_span name.now (wildcard_prefix name.now) }
 {
-    match before_star(name) {
+    match wildcard_prefix(name) {
         Some(beginning) => Bounds {
-            low: filled(0, beginning),
-            high: filled(255, beginning),
+            low: padded(0, beginning),
+            high: padded(255, beginning),
         },
-        None => one_number(filled(0, name)),
+        None => one_number(padded(0, name)),
     }
 }

@@ -2,29 +2,29 @@
 ghost use Rattle.std.specs.Prelude.{◌≡◌, ◌<◌, ◌&&◌, ◌^◌, nat_lt, true, is_some};
 ghost use Rattle.box_file.specs.Box.{name_of};
 ghost use Rattle.nft_tree.specs.Tree.{value_tree};
-ghost use Rattle.nft_values.specs.Values.{has_number, is_name_of, is_on_box, is_value, kind_width, text_span, value_span};
+ghost use Rattle.nft_values.specs.Values.{has_number, is_name_of, is_on_box, is_value, compared_type_width, text_span, value_span};
 ghost use Rattle.nft_values.specs.steps.Bounds.{bounds_span};
 
 use crate::bounds::{Bounds, one_number};
-use crate::kinds::{is_address, is_number_of, lists_word};
+use crate::compared_types::{is_address, is_number_of, lists_word};
 use crate::names::{is_interface_name, name_bounds};
 use box_file::Plant;
-use nft_tree::{Kind, Value, ValueType};
+use nft_tree::{ComparedType, Value, ValueType};
 
 /// Whether the text is a name of an interface, and the type one of interfaces. Any name is a value
 /// of iface_index, whether or not there is an interface of that name.
-fn is_name_of(kind: Kind, name: &[u8]) -> bool
+fn is_name_of(kind: ComparedType, name: &[u8]) -> bool
     ensures { result ≡ is_name_of kind name.now }
 {
     match kind {
-        Kind::Named(ValueType::InterfaceName) => is_interface_name(name),
-        Kind::Named(ValueType::InterfaceIndex) => true,
+        ComparedType::Named(ValueType::InterfaceName) => is_interface_name(name),
+        ComparedType::Named(ValueType::InterfaceIndex) => true,
         _ => false,
     }
 }
 
 /// Whether the value is one of its type: not too wide, listed, well formed.
-pub fn is_value(kind: Kind, value: &Value) -> bool
+pub fn is_value(kind: ComparedType, value: &Value) -> bool
     ensures { result ≡ is_value kind (value_tree value.now) }
 {
     match value {
@@ -46,11 +46,11 @@ fn has_index(plant: &Plant, number: u64) -> bool
 }
 
 /// Whether the interface that a value of iface_index names is on the box; true of every other type.
-pub fn is_on_box(plant: &Plant, kind: Kind, value: &Value) -> bool
+pub fn is_on_box(plant: &Plant, kind: ComparedType, value: &Value) -> bool
     ensures { result ≡ is_on_box plant.now kind (value_tree value.now) }
 {
     match (kind, value) {
-        (Kind::Named(ValueType::InterfaceIndex), Value::Number(number)) => {
+        (ComparedType::Named(ValueType::InterfaceIndex), Value::Number(number)) => {
             has_index(plant, *number)
         }
         _ => has_number(plant, kind, value),
@@ -59,36 +59,35 @@ pub fn is_on_box(plant: &Plant, kind: Kind, value: &Value) -> bool
 
 /// Whether a value of its type stands for a number: a name of iface_index does so where an interface
 /// of the box has it, and all else does.
-pub fn has_number(plant: &Plant, kind: Kind, value: &Value) -> bool
+pub fn has_number(plant: &Plant, kind: ComparedType, value: &Value) -> bool
     ensures { result ≡ has_number plant.now kind (value_tree value.now) }
 {
     match (kind, value) {
-        (Kind::Named(ValueType::InterfaceIndex), Value::Word(name) | Value::String(name)) => {
-            plant.named(name).is_some()
-        }
+        (ComparedType::Named(ValueType::InterfaceIndex), Value::Word(name) | Value::String(name)) =>
+            { plant.named(name).is_some() }
         _ => true,
     }
 }
 
 /// The numbers of a word or a string: of an interface by its name or its index, of another type by
 /// the type's list. Of what is no value of the type it is 0.
-fn text_bounds(plant: &Plant, kind: Kind, text: &[u8]) -> Bounds
+fn text_bounds(plant: &Plant, kind: ComparedType, text: &[u8]) -> Bounds
     ensures span { bounds_span result ≡ text_span plant.now kind text.now }
-    ensures fits { result.high < 2 ^ kind_width kind }
+    ensures fits { result.high < 2 ^ compared_type_width kind }
 {
     let number = match kind {
-        Kind::Named(ValueType::InterfaceName) => return name_bounds(text),
-        Kind::Named(ValueType::InterfaceIndex) => plant.named(text),
-        Kind::Named(value_type) => value_type.number_of(text),
-        Kind::Unnamed(_) => None,
+        ComparedType::Named(ValueType::InterfaceName) => return name_bounds(text),
+        ComparedType::Named(ValueType::InterfaceIndex) => plant.named(text),
+        ComparedType::Named(value_type) => value_type.number_of(text),
+        ComparedType::Unnamed(_) => None,
     };
     one_number(u128::from(number.unwrap_or(0)))
 }
 
 /// The numbers of a value; a name that no interface of the box has stands for 0.
-pub fn value_bounds(plant: &Plant, kind: Kind, value: &Value) -> Bounds
+pub fn value_bounds(plant: &Plant, kind: ComparedType, value: &Value) -> Bounds
     ensures span { bounds_span result ≡ value_span plant.now kind (value_tree value.now) }
-    ensures fits { is_value kind (value_tree value.now) ≡ true → result.high < 2 ^ kind_width kind }
+    ensures fits { is_value kind (value_tree value.now) ≡ true → result.high < 2 ^ compared_type_width kind }
 {
     match value {
         Value::Number(number) => one_number(u128::from(*number)),

@@ -5,10 +5,10 @@ use Rattle.std.proofs.Math.Seq.{take-add, take-append-add, paste}
 use Rattle.std.proofs.lemmas.List.{length-take, length-take-le, take-take, take-append-le, drop-drop, drop-take, drop-append-le}
 use Rattle.std.proofs.lemmas.List.Edits.{take-paste}
 use Rattle.std.proofs.lemmas.Slice.{between_is}
-use Rattle.pcap_io.specs.steps.Ahead.{Ahead}
+use Rattle.pcap_io.specs.steps.ReadAhead.{BufferState}
 
 -- the bytes before a place were taken, and those up to another are held
-abbrev pub ahead_at : List ℕ → ℕ → ℕ → Bool → Ahead
+abbrev pub ahead_at : List ℕ → ℕ → ℕ → Bool → BufferState
 ahead_at bytes start end ended = record { taken = take start bytes; held = slice_range bytes start end; ended = ended }
 
 -- as many bytes are held as stand between the places
@@ -19,7 +19,7 @@ held_length bytes start end h k = grind (arith, length-take, length-drop)
 pub taken_more : (bytes : List ℕ) (start end count : ℕ) (ended : Bool) → start + count ≤ end
     → ahead_at bytes (start + count) end ended ≡ record { taken = take start bytes ++ take count (slice_range bytes start end); held = drop count (slice_range bytes start end); ended = ended }
 taken_more bytes start end count ended fits =
-    let made : List ℕ → List ℕ → Ahead = λ t h. record { taken = t; held = h; ended = ended } in
+    let made : List ℕ → List ℕ → BufferState = λ t h. record { taken = t; held = h; ended = ended } in
     let front : take (start + count) bytes ≡ take start bytes ++ take count (slice_range bytes start end) =
     take-add start count bytes ∙ ap (λ ys. take start bytes ++ ys) (sym (take-take count (end - start) (drop start bytes) (omega arith))) in
     let room : end - start ≡ count + (end - (start + count)) = omega arith in

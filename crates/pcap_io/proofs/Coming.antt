@@ -7,8 +7,8 @@ use Rattle.pcap_io.specs.declared.fault.CaptureError.{CaptureError}
 use Rattle.pcap_io.specs.declared.fault.CaptureError.TheVariants.{Refused, Device, Memory}
 use Rattle.pcap_io.specs.declared.format.Format.{Format}
 use Rattle.pcap_io.specs.Pcap.{IsRecord, Ends, Whole, Torn, Malformed as AtMalformed, Over, own_moment}
-use Rattle.pcap_io.specs.Seen.{Seen, Says}
-use Rattle.pcap_io.specs.steps.Ahead.{Ahead, Fills}
+use Rattle.pcap_io.specs.CaptureStates.{CaptureState, NextAnswers}
+use Rattle.pcap_io.specs.steps.ReadAhead.{BufferState, FillsBuffer}
 
 -- some more were read
 read_more : (before after : Option (List ℕ)) (held next more : List ℕ) → next ≡ held ++ more → Consumes before after more → Keeps (prepend_known held before) (prepend_known next after)
@@ -23,7 +23,7 @@ read_all (Some x) None held next more is read none end = absurd read
 read_all (Some x) (Some y) held next more is read none end = is ∙ ap (λ l. held ++ l) (none ∙ sym (read ∙ ap (λ l. l ++ y) none ∙ end))
 
 -- the same bytes are to come after a read as before it
-pub filled : (old new : Ahead) (before after : Option (List ℕ)) → old.ended ≡ false → Fills old new before after
+pub filled : (old new : BufferState) (before after : Option (List ℕ)) → old.ended ≡ false → FillsBuffer old new before after
     → Keeps (cond old.ended (Some old.held) (prepend_known old.held before)) (cond new.ended (Some new.held) (prepend_known new.held after))
 filled old new before after going fills = rw going (elim fills.progress [
   | inl (on, some) ↦ rw on (read_more before after old.held new.held fills.more fills.held fills.consumed)
@@ -31,7 +31,7 @@ filled old new before after going fills = rw going (elim fills.progress [
 ])
 
 -- and there is less room, or the reader came to its end
-pub less_room : (old new : Ahead) (before after : Option (List ℕ)) → old.ended ≡ false → length old.held < 262160 → Fills old new before after
+pub less_room : (old new : BufferState) (before after : Option (List ℕ)) → old.ended ≡ false → length old.held < 262160 → FillsBuffer old new before after
     → cond new.ended 0 (262161 - length new.held) < cond old.ended 0 (262161 - length old.held)
 less_room old new before after going room fills = rw going (elim fills.progress [
   | inl (on, some) ↦ rw on (let long : length new.held ≡ length old.held + length fills.more = ap length fills.held ∙ length-append old.held fills.more in omega arith)
@@ -39,7 +39,7 @@ less_room old new before after going room fills = rw going (elim fills.progress 
 ])
 
 -- a reader that came to its end has none left
-pub ended_only_at_end : (old new : Ahead) (before after : Option (List ℕ)) → Fills old new before after → new.ended ≡ true → IsAtEnd after
+pub ended_only_at_end : (old new : BufferState) (before after : Option (List ℕ)) → FillsBuffer old new before after → new.ended ≡ true → IsAtEnd after
 ended_only_at_end old new before after fills ended = elim fills.progress [
   | inl (on, some) ↦ absurd (false≢true (sym on ∙ ended))
   | inr (at, none, end) ↦ end
@@ -51,7 +51,7 @@ none_read None after held next is kept = tt
 none_read (Some x) None held next is kept = absurd kept
 none_read (Some x) (Some y) held next is kept = ap (λ l. l ++ y) is ∙ ap (λ l. held ++ l) kept
 
-pub failed : (old new : Ahead) (before after : Option (List ℕ)) → old.ended ≡ false → new.ended ≡ false → new.held ≡ old.held → Keeps before after
+pub failed : (old new : BufferState) (before after : Option (List ℕ)) → old.ended ≡ false → new.ended ≡ false → new.held ≡ old.held → Keeps before after
     → Keeps (cond old.ended (Some old.held) (prepend_known old.held before)) (cond new.ended (Some new.held) (prepend_known new.held after))
 failed old new before after going on is kept = rw (going, on) (none_read before after old.held new.held is kept)
 
@@ -83,24 +83,24 @@ behind false held (Some y) bytes is = record { more = y; joined = cc; none = λ 
 moved : (P : Format → ℕ → Type 0) (f g : Format) (n m : ℕ) → f ≡ g → n ≡ m → P f n → P g m
 moved P f g n m e k h = subst (λ (x : ℕ). P g x) k (subst (λ (x : Format). P x n) e h)
 
-pub says_from : (bytes : List ℕ) (after : Option (List ℕ)) (a b new : Seen) (r : Result Bool CaptureError) → a.format ≡ b.format → a.count ≡ b.count → a.latest ≡ b.latest → Says bytes after a new r → Says bytes after b new r
-says_from bytes after a b new (Ok true) f n l says = record {
-  captured = says.captured;
-  rest = says.rest;
-  left = says.left;
-  joined = says.joined;
-  is_record = subst (λ (x : Format). IsRecord x says.captured) f says.is_record;
-  fewer = rw (← n) says.fewer;
-  counted = says.counted ∙ ap (λ x. x + 1) n;
-  latest_is = says.latest_is ∙ ap (λ x. max x (own_moment a.format says.captured)) l ∙ ap (λ x. max b.latest (own_moment x says.captured)) f;
-  last_is = says.last_is ∙ ap (λ (x : Format). Some (record { moment = new.latest; link = x.link; bytes = says.captured.bytes })) f;
+pub next_from : (bytes : List ℕ) (after : Option (List ℕ)) (a b new : CaptureState) (r : Result Bool CaptureError) → a.format ≡ b.format → a.count ≡ b.count → a.latest ≡ b.latest → NextAnswers bytes after a new r → NextAnswers bytes after b new r
+next_from bytes after a b new (Ok true) f n l next_answers = record {
+  captured = next_answers.captured;
+  rest = next_answers.rest;
+  left = next_answers.left;
+  joined = next_answers.joined;
+  is_record = subst (λ (x : Format). IsRecord x next_answers.captured) f next_answers.is_record;
+  fewer = rw (← n) next_answers.fewer;
+  counted = next_answers.counted ∙ ap (λ x. x + 1) n;
+  latest_is = next_answers.latest_is ∙ ap (λ x. max x (own_moment a.format next_answers.captured)) l ∙ ap (λ x. max b.latest (own_moment x next_answers.captured)) f;
+  last_is = next_answers.last_is ∙ ap (λ (x : Format). Some (record { moment = new.latest; link = x.link; bytes = next_answers.captured.bytes })) f;
 }
-says_from bytes after a b new (Ok false) f n l says = (moved (λ x k. Ends x Whole k bytes) a.format b.format a.count b.count f n says.0, says.1)
-says_from bytes after a b new (Err (Refused TornEnd)) f n l says = (moved (λ x k. Ends x Torn k bytes) a.format b.format a.count b.count f n says.0, says.1)
-says_from bytes after a b new (Err (Refused Malformed)) f n l says = (moved (λ x k. Ends x AtMalformed k bytes) a.format b.format a.count b.count f n says.0, says.1)
-says_from bytes after a b new (Err (Refused TooMany)) f n l says = (moved (λ x k. Ends x Over k bytes) a.format b.format a.count b.count f n says.0, says.1)
-says_from bytes after a b new (Err (Refused Magic)) f n l says = says
-says_from bytes after a b new (Err (Refused Version)) f n l says = says
-says_from bytes after a b new (Err (Refused LinkType)) f n l says = says
-says_from bytes after a b new (Err Device) f n l says = says
-says_from bytes after a b new (Err Memory) f n l says = says
+next_from bytes after a b new (Ok false) f n l next_answers = (moved (λ x k. Ends x Whole k bytes) a.format b.format a.count b.count f n next_answers.0, next_answers.1)
+next_from bytes after a b new (Err (Refused TornEnd)) f n l next_answers = (moved (λ x k. Ends x Torn k bytes) a.format b.format a.count b.count f n next_answers.0, next_answers.1)
+next_from bytes after a b new (Err (Refused Malformed)) f n l next_answers = (moved (λ x k. Ends x AtMalformed k bytes) a.format b.format a.count b.count f n next_answers.0, next_answers.1)
+next_from bytes after a b new (Err (Refused TooMany)) f n l next_answers = (moved (λ x k. Ends x Over k bytes) a.format b.format a.count b.count f n next_answers.0, next_answers.1)
+next_from bytes after a b new (Err (Refused Magic)) f n l next_answers = next_answers
+next_from bytes after a b new (Err (Refused Version)) f n l next_answers = next_answers
+next_from bytes after a b new (Err (Refused LinkType)) f n l next_answers = next_answers
+next_from bytes after a b new (Err Device) f n l next_answers = next_answers
+next_from bytes after a b new (Err Memory) f n l next_answers = next_answers

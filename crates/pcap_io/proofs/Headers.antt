@@ -5,28 +5,28 @@ use Rattle.std.proofs.lemmas.List.{drop-append-le}
 use Rattle.std.specs.Io.KnownBytes.{Consumes, IsAtEnd, prepend_known}
 use Rattle.std.specs.Result.{result_err}
 use Rattle.pcap_io.specs.declared.fault.CaptureFault.{CaptureFault}
-use Rattle.pcap_io.specs.declared.format.Order.{Order}
-use Rattle.pcap_io.specs.declared.format.Order.TheVariants.{LowestFirst, HighestFirst}
-use Rattle.pcap_io.specs.declared.format.Fractions.{Fractions}
+use Rattle.pcap_io.specs.declared.format.Endianness.{Endianness}
+use Rattle.pcap_io.specs.declared.format.Endianness.TheVariants.{Little, Big}
+use Rattle.pcap_io.specs.declared.format.Resolution.{Resolution}
 use Rattle.pcap_io.specs.declared.format.Format.{Format}
-use Rattle.pcap_io.specs.Pcap.{format_of, header_fault, versioned, units_of, units_by, fractions_of, number_in}
+use Rattle.pcap_io.specs.Pcap.{format_of, header_fault, format_with_version, encoding_of, encoding_by, resolution_of, number_in}
 use Rattle.pcap_io.proofs.Steps.{number_in-append}
 
-units_kept : (xs ys : List ℕ) → 24 ≤ length xs → units_of (xs ++ ys) ≡ units_of xs
-units_kept xs ys long =
-    let lowest = ap fractions_of (number_in-append LowestFirst 0 4 24 xs ys (omega arith) long) in
-    let highest = ap fractions_of (number_in-append HighestFirst 0 4 24 xs ys (omega arith) long) in
-    ap (λ f. units_by f (fractions_of (number_in HighestFirst 0 4 (xs ++ ys)))) lowest ∙ ap (λ f. units_by (fractions_of (number_in LowestFirst 0 4 xs)) f) highest
+encoding_kept : (xs ys : List ℕ) → 24 ≤ length xs → encoding_of (xs ++ ys) ≡ encoding_of xs
+encoding_kept xs ys long =
+    let lowest = ap resolution_of (number_in-append Little 0 4 24 xs ys (omega arith) long) in
+    let highest = ap resolution_of (number_in-append Big 0 4 24 xs ys (omega arith) long) in
+    ap (λ f. encoding_by f (resolution_of (number_in Big 0 4 (xs ++ ys)))) lowest ∙ ap (λ f. encoding_by (resolution_of (number_in Little 0 4 xs)) f) highest
 
-versioned_kept : (xs ys : List ℕ) (units : Option (Order × Fractions)) → 24 ≤ length xs → versioned (xs ++ ys) units ≡ versioned xs units
-versioned_kept xs ys None long = refl
-versioned_kept xs ys (Some units) long =
-    rw (number_in-append units.0 4 2 24 xs ys (omega arith) long, number_in-append units.0 6 2 24 xs ys (omega arith) long, number_in-append units.0 20 4 24 xs ys (omega arith) long) refl
+version_kept : (xs ys : List ℕ) (encoding : Option (Endianness × Resolution)) → 24 ≤ length xs → format_with_version (xs ++ ys) encoding ≡ format_with_version xs encoding
+version_kept xs ys None long = refl
+version_kept xs ys (Some encoding) long =
+    rw (number_in-append encoding.0 4 2 24 xs ys (omega arith) long, number_in-append encoding.0 6 2 24 xs ys (omega arith) long, number_in-append encoding.0 20 4 24 xs ys (omega arith) long) refl
 
 -- the header alone tells the format
 pub format_kept : (xs ys : List ℕ) → 24 ≤ length xs → format_of (xs ++ ys) ≡ format_of xs
 format_kept xs ys long =
-    rw (le-ltb (length (xs ++ ys)) 24 (omega (arith, length-append xs ys)), le-ltb (length xs) 24 long) (versioned_kept xs ys (units_of (xs ++ ys)) long ∙ ap (versioned xs) (units_kept xs ys long))
+    rw (le-ltb (length (xs ++ ys)) 24 (omega (arith, length-append xs ys)), le-ltb (length xs) 24 long) (version_kept xs ys (encoding_of (xs ++ ys)) long ∙ ap (format_with_version xs) (encoding_kept xs ys long))
 
 -- what follows the header is to come
 pub opened : (before after : Option (List ℕ)) (held : List ℕ) (ended : Bool) (format : Format) → Consumes before after held → (ended ≡ true → IsAtEnd after) → format_of held ≡ Ok format → 24 ≤ length held

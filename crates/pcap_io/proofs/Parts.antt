@@ -5,7 +5,7 @@ use Rattle.std.proofs.Math.Seq.{take-length}
 use Rattle.std.specs.declared.option.Option.{Option}
 use Rattle.std.specs.Io.KnownBytes.{Appends}
 use Rattle.std.proofs.KnownBytes.{Appends-nil, Keeps-refl, Keeps-trans}
-use Rattle.pcap_io.specs.Waiting.{Gets}
+use Rattle.pcap_io.specs.Buffering.{AppendsBuffered}
 
 -- what a write took moves from the rest to what is done
 pub moved_on : (bytes done rest : List ℕ) (n : ℕ) → bytes ≡ done ++ rest → bytes ≡ (done ++ take n rest) ++ take (length rest - n) (drop n rest)
@@ -22,16 +22,16 @@ took_some n b x y some = grind arith
 -- ---- bytes that wait
 
 -- what waited is written, and nothing waits
-pub drained : (a b : Option (List ℕ)) (old wrote mid : List ℕ) → Appends a b wrote → wrote ≡ old → mid ≡ [] → Gets old a b mid []
+pub drained : (a b : Option (List ℕ)) (old wrote mid : List ℕ) → Appends a b wrote → wrote ≡ old → mid ≡ [] → AppendsBuffered old a b mid []
 drained a b old wrote mid w is none = (old, ap (λ ys. old ++ ys) (sym none), subst (Appends a b) is w)
 
 -- nothing is written, and the same waits
-pub left_waiting : (a : Option (List ℕ)) (old mid : List ℕ) → mid ≡ old → Gets old a a mid []
-left_waiting a old mid is = ([], append-nil old ∙ sym is, Appends-nil a)
+pub left_buffered : (a : Option (List ℕ)) (old mid : List ℕ) → mid ≡ old → AppendsBuffered old a a mid []
+left_buffered a old mid is = ([], append-nil old ∙ sym is, Appends-nil a)
 
 -- more waits behind
-pub waits_more : (a b : Option (List ℕ)) (old mid head tail waits bytes : List ℕ) → Gets old a b mid [] → waits ≡ (mid ++ head) ++ tail → head ++ tail ≡ bytes → Gets old a b waits bytes
-waits_more a b old mid head tail waits bytes (part, e, w) is whole =
+pub buffers_more : (a b : Option (List ℕ)) (old mid head tail waits bytes : List ℕ) → AppendsBuffered old a b mid [] → waits ≡ (mid ++ head) ++ tail → head ++ tail ≡ bytes → AppendsBuffered old a b waits bytes
+buffers_more a b old mid head tail waits bytes (part, e, w) is whole =
     let front : old ≡ part ++ mid = sym (append-nil old) ∙ e in
     let back : mid ++ bytes ≡ waits = ap (λ ys. mid ++ ys) (sym whole) ∙ sym (append_assoc mid head tail) ∙ sym is in
     (part, ap (λ ys. ys ++ bytes) front ∙ append_assoc part mid bytes ∙ ap (λ ys. part ++ ys) back, w)

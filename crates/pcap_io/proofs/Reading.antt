@@ -6,7 +6,7 @@ use Rattle.std.proofs.lemmas.Bool.{cases_lt}
 use Rattle.std.specs.Result.{result_err}
 use Rattle.pcap_io.specs.declared.fault.CaptureFault.{CaptureFault}
 use Rattle.pcap_io.specs.declared.format.Format.{Format}
-use Rattle.pcap_io.specs.Pcap.{Captured, frame, IsRecord, IsGood, format_of, header_fault, in_second, captured_length_in, fraction_in, stream_of, Ending, Whole, Torn, Malformed, Over, Ends, Pcap, HEADER_BYTES, MOST_CAPTURED, MOST_RECORDS}
+use Rattle.pcap_io.specs.Pcap.{Captured, frame, IsRecord, IsGood, format_of, header_fault, per_second, captured_length_in, fraction_in, stream_of, Ending, Whole, Torn, Malformed, Over, Ends, Pcap, HEADER_BYTES, MOST_CAPTURED, MOST_RECORDS}
 use Rattle.pcap_io.proofs.Steps.{captured_length_kept, fraction_kept, captured_of, joined_of, is_record_of}
 
 all_head : (format : Format) (x : Captured) (xs : List Captured) → All (IsRecord format) (x ∷ xs) → IsRecord format x
@@ -30,7 +30,7 @@ not_ended : (format : Format) (e : Ending) (count : ℕ) (r : Captured) (more : 
 not_ended format e count r more is few =
     let first : take 16 (frame r ++ more) ≡ r.head = header_first format r more is in
     let lengths : captured_length_in format (frame r ++ more) ≡ length r.bytes = sym (captured_length_kept format (frame r ++ more)) ∙ ap (captured_length_in format) first ∙ is.captured in
-    let fractions : fraction_in format (frame r ++ more) ≡ fraction_in format r.head = sym (fraction_kept format (frame r ++ more)) ∙ ap (fraction_in format) first in
+    let resolution : fraction_in format (frame r ++ more) ≡ fraction_in format r.head = sym (fraction_kept format (frame r ++ more)) ∙ ap (fraction_in format) first in
     let long : length (frame r ++ more) ≡ 16 + length r.bytes + length more = length-append (frame r) more ∙ ap (λ n. n + length more) (length-append r.head r.bytes ∙ ap (λ n. n + length r.bytes) is.head_length) in
     elim e as (λ e. Ends format e count (frame r ++ more) → ⊥) [
       | Whole ↦ λ h. let none : length (frame r ++ more) ≡ 0 = ap length h in omega (arith, none, long)
@@ -40,7 +40,7 @@ not_ended format e count r more is few =
       ]
       | Malformed ↦ λ (_, _, h). elim h [
         | inl over ↦ let good = is.good.0 in omega (arith, over, lengths, is.captured, good)
-        | inr over ↦ let good = is.good.1 in omega (arith, over, fractions, good)
+        | inr over ↦ let good = is.good.1 in omega (arith, over, resolution, good)
       ]
       | Over ↦ λ (_, h). omega (arith, h, few)
     ]
@@ -179,7 +179,7 @@ reading_from format (suc room) count (x ∷ xs) is =
       | inl short ↦ from_nil format count bytes Torn (omega arith) (some, few, inl short)
       | inr long ↦ elim (cases_lt MOST_CAPTURED (captured_length_in format bytes)) [
         | inl over ↦ from_nil format count bytes Malformed (omega arith) (few, long, inl over)
-        | inr small ↦ elim (cases_lt (fraction_in format bytes) (in_second format.fractions)) [
+        | inr small ↦ elim (cases_lt (fraction_in format bytes) (per_second format.resolution)) [
           | inr over ↦ from_nil format count bytes Malformed (omega arith) (few, long, inr over)
           | inl within ↦ elim (cases_lt (length bytes) (16 + captured_length_in format bytes)) [
             | inl short ↦ from_nil format count bytes Torn (omega arith) (some, few, inr ((small, within), short))

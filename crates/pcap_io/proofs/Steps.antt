@@ -4,41 +4,41 @@ use Rattle.std.proofs.Math.Seq.{drop-append_seam}
 use Rattle.std.proofs.lemmas.List.{length-take-le, take-append-drop, take-append-le, drop-take, drop-drop}
 use Rattle.byteorder.specs.Numbers.{little_from-take, big_from-take}
 use Rattle.pcap_io.specs.declared.fault.CaptureError.{CaptureError}
-use Rattle.pcap_io.specs.declared.format.Order.{Order}
-use Rattle.pcap_io.specs.declared.format.Order.TheVariants.{LowestFirst, HighestFirst}
+use Rattle.pcap_io.specs.declared.format.Endianness.{Endianness}
+use Rattle.pcap_io.specs.declared.format.Endianness.TheVariants.{Little, Big}
 use Rattle.pcap_io.specs.declared.format.Format.{Format}
 use Rattle.pcap_io.specs.Pcap.{Captured, IsRecord, IsGood, frame, own_moment, number_in, nanoseconds, captured_length_in, seconds_in, fraction_in, MOST_RECORDS}
-use Rattle.pcap_io.specs.Seen.{Reads}
-use Rattle.pcap_io.specs.steps.Ahead.{Ahead, last_of}
+use Rattle.pcap_io.specs.CaptureStates.{ReadsRecord}
+use Rattle.pcap_io.specs.steps.ReadAhead.{BufferState, last_of}
 use Rattle.pcap_io.specs.declared.format.LinkType.{LinkType}
-use Rattle.pcap_io.specs.steps.Placed.{seen_in, last_in}
+use Rattle.pcap_io.specs.steps.CaptureInvariant.{capture_state_of, last_in}
 
 -- a number reads no byte past its end
-pub number_in-take : (order : Order) (i n m : ℕ) (xs : List ℕ) → i + n ≤ m → number_in order i n (take m xs) ≡ number_in order i n xs
-number_in-take LowestFirst i n m xs h = little_from-take i n m xs h
-number_in-take HighestFirst i n m xs h = big_from-take i n m xs h
+pub number_in-take : (endianness : Endianness) (i n m : ℕ) (xs : List ℕ) → i + n ≤ m → number_in endianness i n (take m xs) ≡ number_in endianness i n xs
+number_in-take Little i n m xs h = little_from-take i n m xs h
+number_in-take Big i n m xs h = big_from-take i n m xs h
 
 -- nor do the bytes behind change it
-pub number_in-append : (order : Order) (i n m : ℕ) (xs ys : List ℕ) → i + n ≤ m → m ≤ length xs → number_in order i n (xs ++ ys) ≡ number_in order i n xs
-number_in-append order i n m xs ys h long =
-    sym (number_in-take order i n m (xs ++ ys) h) ∙ ap (number_in order i n) (take-append-le m xs ys long) ∙ number_in-take order i n m xs h
+pub number_in-append : (endianness : Endianness) (i n m : ℕ) (xs ys : List ℕ) → i + n ≤ m → m ≤ length xs → number_in endianness i n (xs ++ ys) ≡ number_in endianness i n xs
+number_in-append endianness i n m xs ys h long =
+    sym (number_in-take endianness i n m (xs ++ ys) h) ∙ ap (number_in endianness i n) (take-append-le m xs ys long) ∙ number_in-take endianness i n m xs h
 
 -- the numbers of a header are those of its 16 bytes
 pub captured_length_kept : (format : Format) (xs : List ℕ) → captured_length_in format (take 16 xs) ≡ captured_length_in format xs
-captured_length_kept format xs = number_in-take format.order 8 4 16 xs (omega arith)
+captured_length_kept format xs = number_in-take format.endianness 8 4 16 xs (omega arith)
 
 pub fraction_kept : (format : Format) (xs : List ℕ) → fraction_in format (take 16 xs) ≡ fraction_in format xs
-fraction_kept format xs = number_in-take format.order 4 4 16 xs (omega arith)
+fraction_kept format xs = number_in-take format.endianness 4 4 16 xs (omega arith)
 
 pub seconds_kept : (format : Format) (xs : List ℕ) → seconds_in format (take 16 xs) ≡ seconds_in format xs
-seconds_kept format xs = number_in-take format.order 0 4 16 xs (omega arith)
+seconds_kept format xs = number_in-take format.endianness 0 4 16 xs (omega arith)
 
 -- and stay where more bytes follow
 pub captured_length_before : (format : Format) (xs ys : List ℕ) → 16 ≤ length xs → captured_length_in format (xs ++ ys) ≡ captured_length_in format xs
-captured_length_before format xs ys long = number_in-append format.order 8 4 16 xs ys (omega arith) long
+captured_length_before format xs ys long = number_in-append format.endianness 8 4 16 xs ys (omega arith) long
 
 pub fraction_before : (format : Format) (xs ys : List ℕ) → 16 ≤ length xs → fraction_in format (xs ++ ys) ≡ fraction_in format xs
-fraction_before format xs ys long = number_in-append format.order 4 4 16 xs ys (omega arith) long
+fraction_before format xs ys long = number_in-append format.endianness 4 4 16 xs ys (omega arith) long
 
 -- the record that some bytes begin with
 abbrev pub captured_of : ℕ → List ℕ → Captured
@@ -55,11 +55,11 @@ joined_of n bytes =
 pub is_record_of : (format : Format) (n : ℕ) (bytes : List ℕ) → 16 + n ≤ length bytes → n ≡ captured_length_in format bytes → IsGood format bytes → IsRecord format (captured_of n bytes)
 is_record_of format n bytes fits is good =
     let lengths : captured_length_in format (take 16 bytes) ≡ captured_length_in format bytes = captured_length_kept format bytes in
-    let fractions : fraction_in format (take 16 bytes) ≡ fraction_in format bytes = fraction_kept format bytes in
+    let resolution : fraction_in format (take 16 bytes) ≡ fraction_in format bytes = fraction_kept format bytes in
     let long : length (take n (drop 16 bytes)) ≡ n = length-take-le n (drop 16 bytes) (omega (arith, length-drop 16 bytes)) in
     record {
       head_length = length-take-le 16 bytes (omega arith);
-      good = (rw lengths good.0, rw fractions good.1);
+      good = (rw lengths good.0, rw resolution good.1);
       captured = lengths ∙ sym is ∙ sym long;
     }
 
@@ -72,18 +72,18 @@ last_taken n taken bytes fits =
     ap (λ k. drop k (taken ++ front)) from ∙ sym (drop-drop 16 (length taken) (taken ++ front)) ∙ ap (drop 16) (drop-append_seam taken front) ∙ drop-take 16 n bytes
 
 -- one more record is read
-pub reads_one : (format : Format) (a : Ahead) (more : List ℕ) (n seconds fraction count next_count latest moment : ℕ) (fault fault' : Option CaptureError) (last : Option ℕ)
+pub reads_one : (format : Format) (a : BufferState) (more : List ℕ) (n seconds fraction count next_count latest moment : ℕ) (fault fault' : Option CaptureError) (last : Option ℕ)
     → 16 + n ≤ length a.held
     → n ≡ captured_length_in format a.held → seconds ≡ seconds_in format a.held → fraction ≡ fraction_in format a.held → IsGood format a.held
-    → count < MOST_RECORDS → next_count ≡ count + 1 → moment ≡ max latest (seconds * 1000000000 + fraction * nanoseconds format.fractions)
-    → Reads (a.held ++ more) (Some (drop (16 + n) a.held ++ more)) (seen_in format a count latest fault last)
-    (seen_in format (record { taken = a.taken ++ take (16 + n) a.held; held = drop (16 + n) a.held; ended = a.ended }) next_count moment fault' (Some n))
+    → count < MOST_RECORDS → next_count ≡ count + 1 → moment ≡ max latest (seconds * 1000000000 + fraction * nanoseconds format.resolution)
+    → ReadsRecord (a.held ++ more) (Some (drop (16 + n) a.held ++ more)) (capture_state_of format a count latest fault last)
+    (capture_state_of format (record { taken = a.taken ++ take (16 + n) a.held; held = drop (16 + n) a.held; ended = a.ended }) next_count moment fault' (Some n))
 reads_one format a more n seconds fraction count next_count latest moment fault fault' last fits is_n is_seconds is_fraction good few one_more is_moment =
     let held : List ℕ = a.held in
     let s : seconds ≡ seconds_in format (take 16 held) = is_seconds ∙ sym (seconds_kept format held) in
     let f : fraction ≡ fraction_in format (take 16 held) = is_fraction ∙ sym (fraction_kept format held) in
-    let own : seconds * 1000000000 + fraction * nanoseconds format.fractions ≡ own_moment format (captured_of n held) =
-    ap (λ k. k * 1000000000 + fraction * nanoseconds format.fractions) s ∙ ap (λ k. seconds_in format (take 16 held) * 1000000000 + k * nanoseconds format.fractions) f in
+    let own : seconds * 1000000000 + fraction * nanoseconds format.resolution ≡ own_moment format (captured_of n held) =
+    ap (λ k. k * 1000000000 + fraction * nanoseconds format.resolution) s ∙ ap (λ k. seconds_in format (take 16 held) * 1000000000 + k * nanoseconds format.resolution) f in
     record {
       captured = captured_of n held;
       rest = drop (16 + n) held ++ more;

@@ -22,5 +22,5 @@ abbrev pub CountsFlush : {A E : Type 0} → ℕ → ℕ → Result A E → Type 
 CountsFlush before after r = MatchResult r (λ _. after ≡ before) (λ _. after ≡ one_more before)
 
 -- known bytes grow by a beginning of these
-abbrev pub AppendsPart : Option (List ℕ) → Option (List ℕ) → List ℕ → Type 0
-AppendsPart old new bytes = (part : List ℕ) × (rest : List ℕ) × (bytes ≡ part ++ rest) × Appends old new part
+abbrev pub AppendsPrefix : Option (List ℕ) → Option (List ℕ) → List ℕ → Type 0
+AppendsPrefix old new bytes = (part : List ℕ) × (rest : List ℕ) × (bytes ≡ part ++ rest) × Appends old new part

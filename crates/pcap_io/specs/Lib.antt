@@ -1,7 +1,7 @@
 pub mod Counting
 pub mod Links
 pub mod Pcap
-pub mod Seen
+pub mod CaptureStates
 pub mod Sll2
-pub mod Waiting
+pub mod Buffering
 pub mod steps

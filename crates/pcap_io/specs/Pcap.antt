@@ -6,10 +6,10 @@ use Rattle.std.specs.Result.{result_err}
 use Rattle.byteorder.specs.Endian.{little_from, big_from}
 use Rattle.pcap_io.specs.declared.fault.CaptureFault.{CaptureFault}
 use Rattle.pcap_io.specs.declared.fault.CaptureFault.TheVariants as faults
-use Rattle.pcap_io.specs.declared.format.Order.{Order}
-use Rattle.pcap_io.specs.declared.format.Order.TheVariants.{LowestFirst, HighestFirst}
-use Rattle.pcap_io.specs.declared.format.Fractions.{Fractions}
-use Rattle.pcap_io.specs.declared.format.Fractions.TheVariants.{Microseconds, Nanoseconds}
+use Rattle.pcap_io.specs.declared.format.Endianness.{Endianness}
+use Rattle.pcap_io.specs.declared.format.Endianness.TheVariants.{Little, Big}
+use Rattle.pcap_io.specs.declared.format.Resolution.{Resolution}
+use Rattle.pcap_io.specs.declared.format.Resolution.TheVariants.{Microseconds, Nanoseconds}
 use Rattle.pcap_io.specs.declared.format.LinkType.{LinkType}
 use Rattle.pcap_io.specs.declared.format.LinkType.TheVariants.{Ethernet, Raw, Sll2}
 use Rattle.pcap_io.specs.declared.format.Format.{Format}
@@ -17,17 +17,17 @@ use Rattle.pcap_io.specs.declared.format.Format.{Format}
 -- ---- the header of a file, which tells its format
 
 -- the number in so many bytes from a place on
-abbrev pub number_in : Order → ℕ → ℕ → List ℕ → ℕ
-number_in LowestFirst place count bytes = little_from place count bytes
-number_in HighestFirst place count bytes = big_from place count bytes
+abbrev pub number_in : Endianness → ℕ → ℕ → List ℕ → ℕ
+number_in Little place count bytes = little_from place count bytes
+number_in Big place count bytes = big_from place count bytes
 
 -- how many of these fractions a second has
-abbrev pub in_second : Fractions → ℕ
-in_second Microseconds = 1000000
-in_second Nanoseconds = 1000000000
+abbrev pub per_second : Resolution → ℕ
+per_second Microseconds = 1000000
+per_second Nanoseconds = 1000000000
 
 -- how many nanoseconds such a fraction is
-abbrev pub nanoseconds : Fractions → ℕ
+abbrev pub nanoseconds : Resolution → ℕ
 nanoseconds Microseconds = 1000
 nanoseconds Nanoseconds = 1
 
@@ -43,20 +43,20 @@ abbrev pub NANOSECOND_MAGIC : ℕ
 NANOSECOND_MAGIC = 2712812621
 
 -- the fractions that a magic number tells
-abbrev pub fractions_of : ℕ → Option Fractions
-fractions_of number =
+abbrev pub resolution_of : ℕ → Option Resolution
+resolution_of number =
     if number == MICROSECOND_MAGIC then Some Microseconds
     else (if number == NANOSECOND_MAGIC then Some Nanoseconds else None)
 
 -- the order of the file's numbers, by which the magic number is one, and its fractions
-abbrev pub units_by : Option Fractions → Option Fractions → Option (Order × Fractions)
-units_by (Some fractions) highest = Some (LowestFirst, fractions)
-units_by None (Some fractions) = Some (HighestFirst, fractions)
-units_by None None = None
+abbrev pub encoding_by : Option Resolution → Option Resolution → Option (Endianness × Resolution)
+encoding_by (Some resolution) highest = Some (Little, resolution)
+encoding_by None (Some resolution) = Some (Big, resolution)
+encoding_by None None = None
 
-abbrev pub units_of : List ℕ → Option (Order × Fractions)
-units_of bytes =
-    units_by (fractions_of (number_in LowestFirst 0 4 bytes)) (fractions_of (number_in HighestFirst 0 4 bytes))
+abbrev pub encoding_of : List ℕ → Option (Endianness × Resolution)
+encoding_of bytes =
+    encoding_by (resolution_of (number_in Little 0 4 bytes)) (resolution_of (number_in Big 0 4 bytes))
 
 -- LINKTYPE_ETHERNET, LINKTYPE_RAW, LINKTYPE_LINUX_SLL2
 abbrev pub link_type_of : ℕ → Option LinkType
@@ -66,25 +66,25 @@ link_type_of number =
     else (if number == 276 then Some Sll2 else None))
 
 -- the link type's field has 32 bits, of which the low 16 decide
-abbrev pub link_type_in : Order → List ℕ → Option LinkType
-link_type_in order bytes = link_type_of (number_in order 20 4 bytes % 65536)
+abbrev pub link_type_in : Endianness → List ℕ → Option LinkType
+link_type_in endianness bytes = link_type_of (number_in endianness 20 4 bytes % 65536)
 
-abbrev pub linked : Order → Fractions → Option LinkType → Result Format CaptureFault
-linked order fractions None = Err faults.LinkType
-linked order fractions (Some link) = Ok (record { order = order; fractions = fractions; link = link })
+abbrev pub format_with_link : Endianness → Resolution → Option LinkType → Result Format CaptureFault
+format_with_link endianness resolution None = Err faults.LinkType
+format_with_link endianness resolution (Some link) = Ok (record { endianness = endianness; resolution = resolution; link = link })
 
 -- the version is 2.4
-abbrev pub versioned : List ℕ → Option (Order × Fractions) → Result Format CaptureFault
-versioned bytes None = Err faults.Magic
-versioned bytes (Some units) =
-    if not (number_in units.0 4 2 bytes == 2) then Err faults.Version
-    else (if not (number_in units.0 6 2 bytes == 4) then Err faults.Version
-    else linked units.0 units.1 (link_type_in units.0 bytes))
+abbrev pub format_with_version : List ℕ → Option (Endianness × Resolution) → Result Format CaptureFault
+format_with_version bytes None = Err faults.Magic
+format_with_version bytes (Some encoding) =
+    if not (number_in encoding.0 4 2 bytes == 2) then Err faults.Version
+    else (if not (number_in encoding.0 6 2 bytes == 4) then Err faults.Version
+    else format_with_link encoding.0 encoding.1 (link_type_in encoding.0 bytes))
 
 -- Magic, version, zone, sigfigs, snaplen, link type; zone, sigfigs and snaplen aren't used.
 -- The tests in their order: length, magic, version, link type. The first that fails is the fault.
 abbrev pub format_of : List ℕ → Result Format CaptureFault
-format_of bytes = if nat_lt (length bytes) HEADER_BYTES then Err faults.TornEnd else versioned bytes (units_of bytes)
+format_of bytes = if nat_lt (length bytes) HEADER_BYTES then Err faults.TornEnd else format_with_version bytes (encoding_of bytes)
 
 abbrev pub header_fault : List ℕ → Option CaptureFault
 header_fault bytes = result_err (format_of bytes)
@@ -98,13 +98,13 @@ pub record Captured : Type 0 where
 
 -- the header's fields: seconds, fraction, captured length; the original length, last, isn't used
 abbrev pub seconds_in : Format → List ℕ → ℕ
-seconds_in format head = number_in format.order 0 4 head
+seconds_in format head = number_in format.endianness 0 4 head
 
 abbrev pub fraction_in : Format → List ℕ → ℕ
-fraction_in format head = number_in format.order 4 4 head
+fraction_in format head = number_in format.endianness 4 4 head
 
 abbrev pub captured_length_in : Format → List ℕ → ℕ
-captured_length_in format head = number_in format.order 8 4 head
+captured_length_in format head = number_in format.endianness 8 4 head
 
 abbrev pub RECORD_HEADER_BYTES : ℕ
 RECORD_HEADER_BYTES = 16
@@ -115,7 +115,7 @@ MOST_CAPTURED = 262144
 -- the header is one that a record may have: it isn't over the greatest length, and its fraction is within a second
 abbrev pub IsGood : Format → List ℕ → Type 0
 IsGood format head =
-    (captured_length_in format head ≤ MOST_CAPTURED) × (fraction_in format head < in_second format.fractions)
+    (captured_length_in format head ≤ MOST_CAPTURED) × (fraction_in format head < per_second format.resolution)
 
 pub record IsRecord (format : Format) (r : Captured) : Type 0 where
   pub head_length : length r.head ≡ RECORD_HEADER_BYTES
@@ -152,7 +152,7 @@ Ends format Torn count rest = (rest ≢ []) × (count < MOST_RECORDS)
     × ((length rest < RECORD_HEADER_BYTES)
     ⊎ (IsGood format rest × (length rest < RECORD_HEADER_BYTES + captured_length_in format rest)))
 Ends format Malformed count rest = (count < MOST_RECORDS) × (RECORD_HEADER_BYTES ≤ length rest)
-    × ((MOST_CAPTURED < captured_length_in format rest) ⊎ (in_second format.fractions ≤ fraction_in format rest))
+    × ((MOST_CAPTURED < captured_length_in format rest) ⊎ (per_second format.resolution ≤ fraction_in format rest))
 
 -- these bytes are a header without fault and these records, and stop so
 pub record Pcap (bytes : List ℕ) (records : List Captured) (ending : Ending) : Type 0 where
@@ -178,14 +178,14 @@ pub record Recorded : Type 0 where
 
 -- the moment that a record's own header tells
 abbrev pub own_moment : Format → Captured → ℕ
-own_moment format r = seconds_in format r.head * 1000000000 + fraction_in format r.head * nanoseconds format.fractions
+own_moment format r = seconds_in format r.head * 1000000000 + fraction_in format r.head * nanoseconds format.resolution
 
 -- the moment of a record is the greatest of its own and all earlier ones
-abbrev pub told_after : Format → ℕ → List Captured → List Recorded
-told_after format latest [] = []
-told_after format latest (r ∷ rs) =
+abbrev pub decoded_after : Format → ℕ → List Captured → List Recorded
+decoded_after format latest [] = []
+decoded_after format latest (r ∷ rs) =
     let moment = max latest (own_moment format r) in
-    record { moment = moment; link = format.link; bytes = r.bytes } ∷ told_after format moment rs
+    record { moment = moment; link = format.link; bytes = r.bytes } ∷ decoded_after format moment rs
 
-abbrev pub told : Format → List Captured → List Recorded
-told format records = told_after format 0 records
+abbrev pub decoded_records : Format → List Captured → List Recorded
+decoded_records format records = decoded_after format 0 records

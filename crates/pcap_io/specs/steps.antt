@@ -1,3 +1,3 @@
-pub mod Ahead
-pub mod Placed
+pub mod ReadAhead
+pub mod CaptureInvariant
 pub mod Written

@@ -67,18 +67,18 @@ impl RecordHeader {
         ensures good { OnOk result (IsGood format bytes.now) }
         ensures there { IfOk result (λ h. pcap.RECORD_HEADER_BYTES + h.captured ≤ length bytes.now) }
         ensures torn { IsErrOf result CaptureFault.TornEnd → (length bytes.now < pcap.RECORD_HEADER_BYTES) ⊎ (IsGood format bytes.now × (length bytes.now < pcap.RECORD_HEADER_BYTES + captured_length_in format bytes.now)) }
-        ensures malformed { IsErrOf result CaptureFault.Malformed → (pcap.RECORD_HEADER_BYTES ≤ length bytes.now) × ((pcap.MOST_CAPTURED < captured_length_in format bytes.now) ⊎ (pcap.in_second format.fractions ≤ fraction_in format bytes.now)) }
+        ensures malformed { IsErrOf result CaptureFault.Malformed → (pcap.RECORD_HEADER_BYTES ≤ length bytes.now) × ((pcap.MOST_CAPTURED < captured_length_in format bytes.now) ⊎ (pcap.per_second format.resolution ≤ fraction_in format bytes.now)) }
         ensures errors { OnErr result (IsErrOf result CaptureFault.TornEnd ⊎ IsErrOf result CaptureFault.Malformed) }
     {
         if bytes.len() < RECORD_HEADER_BYTES {
             return Err(CaptureFault::TornEnd);
         }
         let header = RecordHeader {
-            seconds: format.order.read_u32(bytes, 0),
-            fraction: format.order.read_u32(bytes, 4),
-            captured: format.order.read_u32(bytes, 8),
+            seconds: format.endianness.read_u32(bytes, 0),
+            fraction: format.endianness.read_u32(bytes, 4),
+            captured: format.endianness.read_u32(bytes, 8),
         };
-        if header.captured > MOST_CAPTURED || header.fraction >= format.fractions.in_second() {
+        if header.captured > MOST_CAPTURED || header.fraction >= format.resolution.per_second() {
             return Err(CaptureFault::Malformed);
         }
         if bytes.len() - RECORD_HEADER_BYTES < header.captured as usize {
@@ -102,14 +102,14 @@ pub struct Capture {
 }
 
 impl Model for Capture {
-    ghost use Rattle.pcap_io.specs.Seen.{Seen};
-    ghost use Rattle.pcap_io.specs.steps.Placed.{seen_in, IsPlaced};
+    ghost use Rattle.pcap_io.specs.CaptureStates.{CaptureState};
+    ghost use Rattle.pcap_io.specs.steps.CaptureInvariant.{capture_state_of, IsConsistent};
 
-    ghost Value = { Seen };
+    ghost Value = { CaptureState };
 
-    ghost view = { λ c. seen_in c.format c.buffer c.count c.latest c.fault c.last };
+    ghost view = { λ c. capture_state_of c.format c.buffer c.count c.latest c.fault c.last };
 
-    ghost invariant = { λ c. IsPlaced c.buffer c.count c.latest c.last };
+    ghost invariant = { λ c. IsConsistent c.buffer c.count c.latest c.last };
 }
 
 impl Capture {
@@ -118,7 +118,7 @@ impl Capture {
     ghost use Rattle.pcap_io.specs.Counting.{one_more};
     ghost use Rattle.pcap_io.specs.Pcap.{format_of, MOMENTS_END};
     ghost use Rattle.pcap_io.specs.Pcap as pcap;
-    ghost use Rattle.pcap_io.specs.Seen.{Seen, READ_AHEAD, IsDone, ahead, is_ready, settles, IsPart, Says, RefusedBy, IsOfHeader, IsOfRecords, recorded};
+    ghost use Rattle.pcap_io.specs.CaptureStates.{CaptureState, READ_AHEAD, IsDone, ahead, is_ready, decides_next, IsPartialRecord, NextAnswers, RefusedBy, IsOfHeader, IsOfRecords, recorded};
 
     /// Reserves the buffer and reads the header.
     ///
@@ -137,7 +137,7 @@ impl Capture {
         ensures drained { IfOk result (λ c. c.ended ≡ true → IsAtEnd (R.remaining reader.new.inner)) }
         // Whatever the answer, no more was read than the buffer holds.
         ensures read { (part : List ℕ) × Consumes (R.remaining reader.old.inner) (R.remaining reader.new.inner) part × (length part ≤ READ_AHEAD) }
-        ensures calm { result ≢ Err CaptureError.Device → reader.new.failures ≡ reader.old.failures }
+        ensures no_failure { result ≢ Err CaptureError.Device → reader.new.failures ≡ reader.old.failures }
         ensures device { IsErrOf result CaptureError.Device → reader.new.failures ≡ one_more reader.old.failures }
     {
         let Ok(mut buffer) = ReadBuffer::new(alloc) else {
@@ -166,13 +166,13 @@ impl Capture {
     pub fn is_ready(&self) -> bool
         ensures { result ≡ is_ready self.now }
     {
-        self.fault.is_some() || self.buffer.is_ended() || self.settles()
+        self.fault.is_some() || self.buffer.is_ended() || self.decides_next()
     }
 
     /// Whether what is held settles the next answer, whatever follows it.
     #[inline(always)]
-    fn settles(&self) -> bool
-        ensures { result ≡ settles self.now.format self.now.count self.now.held }
+    fn decides_next(&self) -> bool
+        ensures { result ≡ decides_next self.now.format self.now.count self.now.held }
     {
         let held = self.buffer.held();
         if self.count == MOST_RECORDS {
@@ -190,7 +190,7 @@ impl Capture {
         ensures again { IfSome self.old.fault (λ fault. IsErrOf result fault × (self.new ≡ self.old)) }
         // No call is made while what is held settles the answer, after the end, or after a fault.
         ensures unread { is_ready self.old ≡ true → reader.new ≡ reader.old }
-        ensures says { IsNone self.old.fault → IfSome (ahead self.old (R.remaining reader.old.inner)) (λ bytes. Says bytes (ahead self.new (R.remaining reader.new.inner)) self.old self.new result) }
+        ensures next_answers { IsNone self.old.fault → IfSome (ahead self.old (R.remaining reader.old.inner)) (λ bytes. NextAnswers bytes (ahead self.new (R.remaining reader.new.inner)) self.old self.new result) }
         ensures fault { IfErr result (λ fault. self.new.fault ≡ Some fault) }
         ensures going { OnOk result (self.new.fault ≡ None) }
         // The end and a fault leave the records and their moments as they were.
@@ -198,7 +198,7 @@ impl Capture {
         ensures format { self.new.format ≡ self.old.format }
         // These hold whatever the reader tells of its bytes.
         ensures counted { result ≡ Ok true → (self.old.count < 4294967296) × (self.new.count ≡ self.old.count + 1) }
-        ensures broken { IsNone self.old.fault → IsErrOf result CaptureError.Device → (self.new.ended ≡ false) × IsPart self.new.format self.new.count self.new.held }
+        ensures broken { IsNone self.old.fault → IsErrOf result CaptureError.Device → (self.new.ended ≡ false) × IsPartialRecord self.new.format self.new.count self.new.held }
         ensures held { IsNone self.old.fault → is_ready self.old ≡ true → result ≢ Err CaptureError.Device }
         ensures ended { self.old.ended ≡ true → self.new.ended ≡ true }
         // After the end nothing is read again, and the answer is the same.
@@ -208,7 +208,7 @@ impl Capture {
         ensures read { (part : List ℕ) × Consumes (R.remaining reader.old.inner) (R.remaining reader.new.inner) part }
         ensures room { length self.new.held ≤ READ_AHEAD }
         ensures drained { (self.old.ended ≡ true → IsAtEnd (R.remaining reader.old.inner)) → self.new.ended ≡ true → IsAtEnd (R.remaining reader.new.inner) }
-        ensures calm { IsNone self.old.fault → result ≢ Err CaptureError.Device → reader.new.failures ≡ reader.old.failures }
+        ensures no_failure { IsNone self.old.fault → result ≢ Err CaptureError.Device → reader.new.failures ≡ reader.old.failures }
         ensures device { IsNone self.old.fault → IsErrOf result CaptureError.Device → reader.new.failures ≡ one_more reader.old.failures }
         // A record's moment has seconds of 32 bits, and its bytes are at most 262,144.
         ensures record { IfOk result (λ more. more ≡ true → IfSome self.new.last (λ r. (r.moment < MOMENTS_END) × (length r.bytes < 262145))) }
@@ -235,7 +235,7 @@ impl Capture {
         requires ready { is_ready self.old ≡ true }
         requires none { self.old.last ≡ None }
         // Where the reader isn't at its end, more bytes may come behind those that are held.
-        ensures says { (more : List ℕ) → (self.old.ended ≡ true → more ≡ []) → Says (self.old.held ++ more) (Some (self.new.held ++ more)) self.old self.new result }
+        ensures next_answers { (more : List ℕ) → (self.old.ended ≡ true → more ≡ []) → NextAnswers (self.old.held ++ more) (Some (self.new.held ++ more)) self.old self.new result }
         ensures stopped { result ≢ Ok true → (self.new.count ≡ self.old.count) × (self.new.latest ≡ self.old.latest) × (self.new.last ≡ None) }
         ensures format { self.new.format ≡ self.old.format }
         ensures counted { result ≡ Ok true → (self.old.count < 4294967296) × (self.new.count ≡ self.old.count + 1) }
@@ -265,7 +265,7 @@ impl Capture {
         self.count += 1;
         let moment = self
             .format
-            .fractions
+            .resolution
             .moment(header.seconds, header.fraction);
         self.latest = self.latest.max(moment);
         self.buffer

@@ -18,14 +18,14 @@ const NANOSECONDS_IN_SECOND: u64 = 1_000_000_000;
 
 /// In which order the bytes of a number stand.
 #[derive(Clone, Copy)]
-pub enum Order {
-    LowestFirst,
-    HighestFirst,
+pub enum Endianness {
+    Little,
+    Big,
 }
 
 /// What the fractions of a second are.
 #[derive(Clone, Copy)]
-pub enum Fractions {
+pub enum Resolution {
     Microseconds,
     Nanoseconds,
 }
@@ -44,8 +44,8 @@ pub enum LinkType {
 /// How a file tells its records.
 #[derive(Clone, Copy)]
 pub struct Format {
-    pub order: Order,
-    pub fractions: Fractions,
+    pub endianness: Endianness,
+    pub resolution: Resolution,
     pub link: LinkType,
 }
 
@@ -58,52 +58,52 @@ impl Format {
         if bytes.len() < HEADER_BYTES {
             return Err(CaptureFault::TornEnd);
         }
-        let Some((order, fractions)) = read_units(bytes) else {
+        let Some((endianness, resolution)) = read_encoding(bytes) else {
             return Err(CaptureFault::Magic);
         };
-        if order.read_u16(bytes, 4) != 2 || order.read_u16(bytes, 6) != 4 {
+        if endianness.read_u16(bytes, 4) != 2 || endianness.read_u16(bytes, 6) != 4 {
             return Err(CaptureFault::Version);
         }
-        let Some(link) = read_link_type(order, bytes) else {
+        let Some(link) = read_link_type(endianness, bytes) else {
             return Err(CaptureFault::LinkType);
         };
         Ok(Format {
-            order,
-            fractions,
+            endianness,
+            resolution,
             link,
         })
     }
 }
 
 /// The order of the file's numbers and its fractions, which the magic number tells.
-fn read_units(bytes: &[u8]) -> Option<(Order, Fractions)>
+fn read_encoding(bytes: &[u8]) -> Option<(Endianness, Resolution)>
     requires { 24 ≤ length bytes.now }
-    ensures { result ≡ pcap.units_of bytes.now }
+    ensures { result ≡ pcap.encoding_of bytes.now }
 {
-    if let Some(fractions) = fractions_of(LittleEndian::read_u32(bytes)) {
-        return Some((Order::LowestFirst, fractions));
+    if let Some(resolution) = resolution_of(LittleEndian::read_u32(bytes)) {
+        return Some((Endianness::Little, resolution));
     }
-    let fractions = fractions_of(BigEndian::read_u32(bytes))?;
-    Some((Order::HighestFirst, fractions))
+    let resolution = resolution_of(BigEndian::read_u32(bytes))?;
+    Some((Endianness::Big, resolution))
 }
 
 /// The fractions that a magic number tells.
-fn fractions_of(magic: u32) -> Option<Fractions>
-    ensures { result ≡ pcap.fractions_of magic }
+fn resolution_of(magic: u32) -> Option<Resolution>
+    ensures { result ≡ pcap.resolution_of magic }
 {
     match magic {
-        MICROSECOND_MAGIC => Some(Fractions::Microseconds),
-        NANOSECOND_MAGIC => Some(Fractions::Nanoseconds),
+        MICROSECOND_MAGIC => Some(Resolution::Microseconds),
+        NANOSECOND_MAGIC => Some(Resolution::Nanoseconds),
         _ => None,
     }
 }
 
 /// The link type. The high 16 bits of its field tell of a frame check sequence.
-fn read_link_type(order: Order, bytes: &[u8]) -> Option<LinkType>
+fn read_link_type(endianness: Endianness, bytes: &[u8]) -> Option<LinkType>
     requires { 24 ≤ length bytes.now }
-    ensures { result ≡ pcap.link_type_in order bytes.now }
+    ensures { result ≡ pcap.link_type_in endianness bytes.now }
 {
-    match order.read_u32(bytes, 20) % 65_536 {
+    match endianness.read_u32(bytes, 20) % 65_536 {
         1 => Some(LinkType::Ethernet),
         101 => Some(LinkType::Raw),
         276 => Some(LinkType::Sll2),
@@ -111,15 +111,15 @@ fn read_link_type(order: Order, bytes: &[u8]) -> Option<LinkType>
     }
 }
 
-impl Order {
+impl Endianness {
     /// The number in the two bytes from a place on.
     pub fn read_u16(self, bytes: &[u8], place: usize) -> u16
         requires { place + 2 ≤ length bytes.now }
         ensures { result ≡ pcap.number_in self place 2 bytes.now }
     {
         match self {
-            Order::LowestFirst => LittleEndian::read_u16(&bytes[place..]),
-            Order::HighestFirst => BigEndian::read_u16(&bytes[place..]),
+            Endianness::Little => LittleEndian::read_u16(&bytes[place..]),
+            Endianness::Big => BigEndian::read_u16(&bytes[place..]),
         }
     }
 
@@ -130,34 +130,34 @@ impl Order {
         ensures { result ≡ pcap.number_in self place 4 bytes.now }
     {
         match self {
-            Order::LowestFirst => LittleEndian::read_u32(&bytes[place..]),
-            Order::HighestFirst => BigEndian::read_u32(&bytes[place..]),
+            Endianness::Little => LittleEndian::read_u32(&bytes[place..]),
+            Endianness::Big => BigEndian::read_u32(&bytes[place..]),
         }
     }
 }
 
-impl Fractions {
+impl Resolution {
     /// How many a second has.
     #[inline(always)]
-    pub fn in_second(self) -> u32
-        ensures { result ≡ pcap.in_second self }
+    pub fn per_second(self) -> u32
+        ensures { result ≡ pcap.per_second self }
     {
         match self {
-            Fractions::Microseconds => 1_000_000,
-            Fractions::Nanoseconds => 1_000_000_000,
+            Resolution::Microseconds => 1_000_000,
+            Resolution::Nanoseconds => 1_000_000_000,
         }
     }
 
     /// In nanoseconds: so many seconds, and so many fractions, which are less than a second.
     #[inline(always)]
     pub fn moment(self, seconds: u32, fraction: u32) -> u64
-        requires { fraction < pcap.in_second self }
+        requires { fraction < pcap.per_second self }
         ensures value { result ≡ seconds * 1000000000 + fraction * pcap.nanoseconds self }
         ensures early { result < pcap.MOMENTS_END }
     {
         let nanoseconds = match self {
-            Fractions::Microseconds => u64::from(fraction) * 1_000,
-            Fractions::Nanoseconds => u64::from(fraction),
+            Resolution::Microseconds => u64::from(fraction) * 1_000,
+            Resolution::Nanoseconds => u64::from(fraction),
         };
         u64::from(seconds) * NANOSECONDS_IN_SECOND + nanoseconds
     }

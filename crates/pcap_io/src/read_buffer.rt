@@ -2,9 +2,9 @@
 ghost use Rattle.std.specs.Prelude.{◌≡◌, ◌<◌, ◌≤◌, ◌+◌, ◌++◌, [], length, take, drop, true, false, IfOk, OnOk, OnErr};
 ghost use Rattle.std.specs.Io.KnownBytes.{Keeps};
 ghost use Rattle.pcap_io.specs.Counting.{one_more};
-ghost use Rattle.pcap_io.specs.Seen.{READ_AHEAD};
-ghost use Rattle.pcap_io.specs.steps.Ahead as ahead;
-ghost use Rattle.pcap_io.specs.steps.Ahead.{Ahead, Fills};
+ghost use Rattle.pcap_io.specs.CaptureStates.{READ_AHEAD};
+ghost use Rattle.pcap_io.specs.steps.ReadAhead as ahead;
+ghost use Rattle.pcap_io.specs.steps.ReadAhead.{BufferState, FillsBuffer};
 
 use crate::counted::Counted;
 use crate::whole::DeviceFailed;
@@ -30,10 +30,10 @@ pub struct ReadBuffer {
 
 impl Model for ReadBuffer {
     ghost use Rattle.std.specs.Prelude.{◌≡◌, ◌≤◌, take, slice_range, length};
-    ghost use Rattle.pcap_io.specs.Seen.{READ_AHEAD};
-    ghost use Rattle.pcap_io.specs.steps.Ahead.{Ahead};
+    ghost use Rattle.pcap_io.specs.CaptureStates.{READ_AHEAD};
+    ghost use Rattle.pcap_io.specs.steps.ReadAhead.{BufferState};
 
-    ghost Value = { Ahead };
+    ghost Value = { BufferState };
 
     ghost view = { λ b. record { taken = take b.start b.bytes.items; held = slice_range b.bytes.items b.start b.end; ended = b.is_ended } };
 
@@ -73,8 +73,8 @@ impl ReadBuffer {
     pub fn fill<R: Read>(&mut self, reader: &mut Counted<R>) -> Result<(), DeviceFailed>
         requires room { length self.old.held < READ_AHEAD }
         requires going { self.old.ended ≡ false }
-        ensures ok { OnOk result (Fills self.old self.new (R.remaining reader.old.inner) (R.remaining reader.new.inner)) }
-        ensures calm { OnOk result (reader.new.failures ≡ reader.old.failures) }
+        ensures ok { OnOk result (FillsBuffer self.old self.new (R.remaining reader.old.inner) (R.remaining reader.new.inner)) }
+        ensures no_failure { OnOk result (reader.new.failures ≡ reader.old.failures) }
         ensures err { OnErr result ((self.new.held ≡ self.old.held) × (self.new.ended ≡ false) × Keeps (R.remaining reader.old.inner) (R.remaining reader.new.inner)) }
         ensures device { OnErr result (reader.new.failures ≡ one_more reader.old.failures) }
         ensures short { length self.new.held ≤ READ_AHEAD }

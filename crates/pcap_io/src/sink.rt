@@ -1,9 +1,9 @@
 //! Packets written one after another, through one buffer.
 ghost use Rattle.std.specs.Prelude.{◌≡◌, ◌++◌, ◌+◌, ◌<◌, ◌≤◌, [], true, IfOk, OnOk, OnErr, IsErrOf, length, Err, vec_capacity};
 ghost use Rattle.std.specs.Io.KnownBytes.{Appends};
-ghost use Rattle.pcap_io.specs.Counting.{one_more, AppendsPart};
-ghost use Rattle.pcap_io.specs.Waiting.{Gets};
-ghost use Rattle.pcap_io.specs.Waiting as buffer;
+ghost use Rattle.pcap_io.specs.Counting.{one_more, AppendsPrefix};
+ghost use Rattle.pcap_io.specs.Buffering.{AppendsBuffered};
+ghost use Rattle.pcap_io.specs.Buffering as buffer;
 ghost use Rattle.pcap_io.specs.Sll2.{sll2_header, sll2_record, sent, IsSent};
 ghost use Rattle.pcap_io.specs.Sll2 as Sll2;
 
@@ -81,33 +81,33 @@ impl From<AllocError> for SinkError {
 /// before writes nothing more.
 #[derive(Drop)]
 pub struct Sink {
-    waiting: Vec<u8>,
+    buffered: Vec<u8>,
 }
 
 impl Model for Sink {
     ghost use Rattle.std.specs.Prelude.{◌≤◌, vec_len, vec_capacity};
-    ghost use Rattle.pcap_io.specs.Waiting.{Waiting, BUFFER_BYTES};
+    ghost use Rattle.pcap_io.specs.Buffering.{SinkState, BUFFER_BYTES};
 
-    ghost Value = { Waiting };
+    ghost Value = { SinkState };
 
-    ghost view = { λ s. record { waiting = s.waiting.items } };
+    ghost view = { λ s. record { buffered = s.buffered.items } };
 
-    ghost invariant = { λ s. (vec_len s.waiting ≤ BUFFER_BYTES) × (BUFFER_BYTES ≤ vec_capacity s.waiting) };
+    ghost invariant = { λ s. (vec_len s.buffered ≤ BUFFER_BYTES) × (BUFFER_BYTES ≤ vec_capacity s.buffered) };
 }
 
 impl Sink {
     /// Reserves the buffer and writes the header of the file. Where there is no room for the buffer
     /// nothing is written; after a device fault the writer holds a beginning of the header.
     pub fn open<W: Write>(alloc: Global, writer: &mut Counted<W>) -> Result<Self, SinkError>
-        ensures ok { IfOk result (λ sink. Gets [] (W.contents writer.old.inner) (W.contents writer.new.inner) sink.waiting sll2_header) }
-        ensures part { OnErr result (AppendsPart (W.contents writer.old.inner) (W.contents writer.new.inner) sll2_header) }
+        ensures ok { IfOk result (λ sink. AppendsBuffered [] (W.contents writer.old.inner) (W.contents writer.new.inner) sink.buffered sll2_header) }
+        ensures part { OnErr result (AppendsPrefix (W.contents writer.old.inner) (W.contents writer.new.inner) sll2_header) }
         ensures memory { IsErrOf result SinkError.Memory → writer.new ≡ writer.old }
-        ensures calm { OnOk result (writer.new.failures ≡ writer.old.failures) }
+        ensures no_failure { OnOk result (writer.new.failures ≡ writer.old.failures) }
         ensures device { IsErrOf result SinkError.Device → writer.new.failures ≡ one_more writer.old.failures }
     {
-        let waiting = Vec::with_capacity(alloc, BUFFER_BYTES)?;
+        let buffered = Vec::with_capacity(alloc, BUFFER_BYTES)?;
         write_whole(writer, &HEADER)?;
-        Ok(Sink { waiting })
+        Ok(Sink { buffered })
     }
 
     /// Puts one record. The writer is called only where the record has no room beside what waits.
@@ -118,69 +118,69 @@ impl Sink {
         leaving: &Leaving,
     ) -> Result<(), DeviceFailed>
         requires { IsSent (sent leaving.now) }
-        ensures ok { OnOk result (Gets self.old.waiting (W.contents writer.old.inner) (W.contents writer.new.inner) self.new.waiting (sll2_record (sent leaving.now))) }
-        ensures part { OnErr result (AppendsPart (W.contents writer.old.inner) (W.contents writer.new.inner) (self.old.waiting ++ sll2_record (sent leaving.now))) }
+        ensures ok { OnOk result (AppendsBuffered self.old.buffered (W.contents writer.old.inner) (W.contents writer.new.inner) self.new.buffered (sll2_record (sent leaving.now))) }
+        ensures part { OnErr result (AppendsPrefix (W.contents writer.old.inner) (W.contents writer.new.inner) (self.old.buffered ++ sll2_record (sent leaving.now))) }
         ensures err { OnErr result (self.new ≡ self.old) }
-        ensures room { length self.old.waiting + length (sll2_record (sent leaving.now)) ≤ buffer.BUFFER_BYTES → writer.new ≡ writer.old }
-        ensures calm { OnOk result (writer.new.failures ≡ writer.old.failures) }
+        ensures room { length self.old.buffered + length (sll2_record (sent leaving.now)) ≤ buffer.BUFFER_BYTES → writer.new ≡ writer.old }
+        ensures no_failure { OnOk result (writer.new.failures ≡ writer.old.failures) }
         ensures device { OnErr result (writer.new.failures ≡ one_more writer.old.failures) }
     {
         let length = RECORD_HEADER_BYTES + LINK_HEADER_BYTES + leaving.packet.len();
-        if BUFFER_BYTES - self.waiting.len() < length {
-            write_whole(writer, &self.waiting)?;
-            self.waiting.clear();
+        if BUFFER_BYTES - self.buffered.len() < length {
+            write_whole(writer, &self.buffered)?;
+            self.buffered.clear();
         }
-        append(&mut self.waiting, &headers(leaving));
-        append(&mut self.waiting, leaving.packet);
+        append(&mut self.buffered, &headers(leaving));
+        append(&mut self.buffered, leaving.packet);
         Ok(())
     }
 
     /// Writes what waits; no call is made where nothing does. After an `Err` the writer holds a
     /// beginning of it, and the sink is unchanged.
     pub fn send<W: Write>(&mut self, writer: &mut Counted<W>) -> Result<(), DeviceFailed>
-        ensures ok { OnOk result (Appends (W.contents writer.old.inner) (W.contents writer.new.inner) self.old.waiting) }
-        ensures empty { OnOk result (self.new.waiting ≡ []) }
-        ensures none { self.old.waiting ≡ [] → writer.new ≡ writer.old }
-        ensures part { OnErr result (AppendsPart (W.contents writer.old.inner) (W.contents writer.new.inner) self.old.waiting) }
+        ensures ok { OnOk result (Appends (W.contents writer.old.inner) (W.contents writer.new.inner) self.old.buffered) }
+        ensures empty { OnOk result (self.new.buffered ≡ []) }
+        ensures none { self.old.buffered ≡ [] → writer.new ≡ writer.old }
+        ensures part { OnErr result (AppendsPrefix (W.contents writer.old.inner) (W.contents writer.new.inner) self.old.buffered) }
         ensures err { OnErr result (self.new ≡ self.old) }
-        ensures calm { OnOk result (writer.new.failures ≡ writer.old.failures) }
+        ensures no_failure { OnOk result (writer.new.failures ≡ writer.old.failures) }
         ensures device { OnErr result (writer.new.failures ≡ one_more writer.old.failures) }
     {
-        if self.waiting.is_empty() {
+        if self.buffered.is_empty() {
             return Ok(());
         }
-        write_whole(writer, &self.waiting)?;
-        self.waiting.clear();
+        write_whole(writer, &self.buffered)?;
+        self.buffered.clear();
         Ok(())
     }
 
     /// Writes what waits, and flushes the writer once. After an `Err` the writer holds a beginning of
     /// what waited, and the sink is unchanged.
     pub fn finish<W: Write>(&mut self, writer: &mut Counted<W>) -> Result<(), DeviceFailed>
-        ensures ok { OnOk result (Appends (W.contents writer.old.inner) (W.contents writer.new.inner) self.old.waiting) }
-        ensures empty { OnOk result (self.new.waiting ≡ []) }
+        ensures ok { OnOk result (Appends (W.contents writer.old.inner) (W.contents writer.new.inner) self.old.buffered) }
+        ensures empty { OnOk result (self.new.buffered ≡ []) }
         ensures flushed { OnOk result (writer.new.is_flushed ≡ true) }
-        ensures part { OnErr result (AppendsPart (W.contents writer.old.inner) (W.contents writer.new.inner) self.old.waiting) }
+        ensures part { OnErr result (AppendsPrefix (W.contents writer.old.inner) (W.contents writer.new.inner) self.old.buffered) }
         ensures err { OnErr result (self.new ≡ self.old) }
-        ensures calm { OnOk result (writer.new.failures ≡ writer.old.failures) }
+        ensures no_failure { OnOk result (writer.new.failures ≡ writer.old.failures) }
         ensures device { OnErr result (writer.new.failures ≡ one_more writer.old.failures) }
     {
-        write_whole(writer, &self.waiting)?;
+        write_whole(writer, &self.buffered)?;
         if writer.flush().is_err() {
             return Err(DeviceFailed);
         }
-        self.waiting.clear();
+        self.buffered.clear();
         Ok(())
     }
 }
 
 /// Appends where there is room, so that nothing is allocated.
-fn append(waiting: &mut Vec<u8>, bytes: &[u8])
-    requires { length waiting.old.items + length bytes.now ≤ vec_capacity waiting.old }
-    ensures items { waiting.new.items ≡ waiting.old.items ++ bytes.now }
-    ensures capacity { vec_capacity waiting.old ≤ vec_capacity waiting.new }
+fn append(buffered: &mut Vec<u8>, bytes: &[u8])
+    requires { length buffered.old.items + length bytes.now ≤ vec_capacity buffered.old }
+    ensures items { buffered.new.items ≡ buffered.old.items ++ bytes.now }
+    ensures capacity { vec_capacity buffered.old ≤ vec_capacity buffered.new }
 {
-    waiting.extend_from_slice(bytes).unwrap();
+    buffered.extend_from_slice(bytes).unwrap();
 }
 
 /// The record's header and the link header, which stand before the packet.

@@ -95,7 +95,7 @@ impl<T> Failing<T> {
     /// Whether this call is the one that fails.
     fn fails(&mut self) -> bool
         ensures inner { self.new.inner ≡ self.old.inner }
-        ensures told { result ≡ (not self.old.is_done && (self.old.calls == 0)) }
+        ensures fails_now { result ≡ (not self.old.is_done && (self.old.calls == 0)) }
         ensures calls { self.new.calls ≡ cond self.old.is_done self.old.calls (self.old.calls - 1) }
         ensures done { self.new.is_done ≡ (self.old.is_done || (self.old.calls == 0)) }
     {

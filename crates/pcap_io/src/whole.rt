@@ -1,7 +1,7 @@
 //! All the bytes of a text, written by as many calls as it takes.
 ghost use Rattle.std.specs.Prelude.{◌≡◌, OnOk, OnErr};
 ghost use Rattle.std.specs.Io.KnownBytes.{Appends};
-ghost use Rattle.pcap_io.specs.Counting.{one_more, AppendsPart};
+ghost use Rattle.pcap_io.specs.Counting.{one_more, AppendsPrefix};
 
 use crate::counted::Counted;
 use std::io::Write;
@@ -16,8 +16,8 @@ pub struct DeviceFailed;
 /// nothing. After an `Err` the writer holds a beginning of it.
 pub fn write_whole<W: Write>(writer: &mut Counted<W>, bytes: &[u8]) -> Result<(), DeviceFailed>
     ensures ok { OnOk result (Appends (W.contents writer.old.inner) (W.contents writer.new.inner) bytes.now) }
-    ensures calm { OnOk result (writer.new.failures ≡ writer.old.failures) }
-    ensures part { OnErr result (AppendsPart (W.contents writer.old.inner) (W.contents writer.new.inner) bytes.now) }
+    ensures no_failure { OnOk result (writer.new.failures ≡ writer.old.failures) }
+    ensures part { OnErr result (AppendsPrefix (W.contents writer.old.inner) (W.contents writer.new.inner) bytes.now) }
     ensures device { OnErr result (writer.new.failures ≡ one_more writer.old.failures) }
 {
     let mut rest = bytes;

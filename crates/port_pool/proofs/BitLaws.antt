@@ -14,11 +14,11 @@ bit-write ws at q w v inside here others =
     ⊎_elim
     (λ (same : q ≡ at). rw (same, eq-eqb at at refl, get_or-set_same ws (at / 64) w 0 inside) here)
     (λ (other : q ≡ at → ⊥). rw (ne_eqb q at other) (⊎_elim
-    (λ (row : q / 64 ≡ at / 64).
+    (λ (bitmap : q / 64 ≡ at / 64).
     let apart : q % 64 ≢ at % 64 = λ e. other (omega arith) in
     let small : q % 64 < 64 = omega arith in
-    rw (row, get_or-set_same ws (at / 64) w 0 inside) (ap (λ n. n == 1) (others (q % 64) small apart)))
-    (λ (row : q / 64 ≡ at / 64 → ⊥). rw (get_or-set_other ws (at / 64) (q / 64) w 0 row) refl)
+    rw (bitmap, get_or-set_same ws (at / 64) w 0 inside) (ap (λ n. n == 1) (others (q % 64) small apart)))
+    (λ (bitmap : q / 64 ≡ at / 64 → ⊥). rw (get_or-set_other ws (at / 64) (q / 64) w 0 bitmap) refl)
     (cases_eq (q / 64) (at / 64))))
     (cases_eq q at)
 

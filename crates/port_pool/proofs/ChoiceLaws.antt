@@ -10,10 +10,10 @@ use Rattle.std.proofs.lemmas.List.FromFn.{length-range_with_len, get_or-range_wi
 use Rattle.list_laws.specs.Lists.{find-filter}
 use Rattle.port_pool.specs.declared.order.Order.{Order}
 use Rattle.port_pool.specs.declared.order.Order.TheVariants.{Ports, Identifiers, Zero}
-use Rattle.port_pool.specs.declared.range.Range.{Range}
-use Rattle.port_pool.specs.Candidates.{numbers, ports_of, class_of, same_parity, alike, or_these, suited, from_on, candidates}
+use Rattle.port_pool.specs.declared.range.CandidateRange.{CandidateRange}
+use Rattle.port_pool.specs.Candidates.{numbers, ports_of, class_of, same_parity, same_class_and_parity, or_these, preferred, starting_at, candidates}
 use Rattle.port_pool.proofs.FindLaws.{find-numbers, or_these-left}
-use Rattle.port_pool.proofs.SpanLaws.{from_on-find}
+use Rattle.port_pool.proofs.SpanLaws.{starting_at-find}
 
 -- what is found passes
 found_passes : (p : ℕ → Bool) (xs : List ℕ) → IfSome (find p xs) (λ x. p x ≡ true)
@@ -56,24 +56,24 @@ within low high s has =
     (omega (arith, here, has.2), omega (arith, here, has.2))
 
 -- a number of the stretch that passes comes first
-first_itself : (p : ℕ → Bool) (s low high : ℕ) → Contains (numbers low high) s → p s ≡ true → find p (from_on s (suited s (numbers low high))) ≡ Some s
+first_itself : (p : ℕ → Bool) (s low high : ℕ) → Contains (numbers low high) s → p s ≡ true → find p (starting_at s (preferred s (numbers low high))) ≡ Some s
 first_itself p s low high has passes =
     let ends = within low high s has in
-    let same : alike s s ≡ true = and_from (class_of s == class_of s) (same_parity s s) (eq-eqb (class_of s) (class_of s) refl) (eq-eqb (s % 2) (s % 2) refl) in
-    let here : (alike s s && (nat_le s s && p s)) ≡ true = and_from (alike s s) (nat_le s s && p s) same (and_from (nat_le s s) (p s) (le-leb s s (omega arith)) passes) in
-    let up = find-filter (λ k. nat_le s k && p k) (alike s) (numbers low high)
-    ∙ find-numbers (λ k. alike s k && (nat_le s k && p k)) low high (Some s) record {
+    let same : same_class_and_parity s s ≡ true = and_from (class_of s == class_of s) (same_parity s s) (eq-eqb (class_of s) (class_of s) refl) (eq-eqb (s % 2) (s % 2) refl) in
+    let here : (same_class_and_parity s s && (nat_le s s && p s)) ≡ true = and_from (same_class_and_parity s s) (nat_le s s && p s) same (and_from (nat_le s s) (p s) (le-leb s s (omega arith)) passes) in
+    let up = find-filter (λ k. nat_le s k && p k) (same_class_and_parity s) (numbers low high)
+    ∙ find-numbers (λ k. same_class_and_parity s k && (nat_le s k && p k)) low high (Some s) record {
       above = ends.0;
       below = omega (arith, ends.1);
       passes = here;
-      before = λ k after less. and_right (alike s k) (nat_le s k && p k) (and_left (nat_le s k) (p k) (lt-leb s k less));
+      before = λ k after less. and_right (same_class_and_parity s k) (nat_le s k && p k) (and_left (nat_le s k) (p k) (lt-leb s k less));
     } in
-    ap (λ l. find p (from_on s l)) (or_these-left (alike s) (or_these (filter (same_parity s) (numbers low high)) (numbers low high)) low high s ends.0 ends.1 same)
-    ∙ from_on-find s p (filter (alike s) (numbers low high))
-    ∙ ap (λ o. option_or o (find (λ k. nat_lt k s && p k) (filter (alike s) (numbers low high)))) up
+    ap (λ l. find p (starting_at s l)) (or_these-left (same_class_and_parity s) (or_these (filter (same_parity s) (numbers low high)) (numbers low high)) low high s ends.0 ends.1 same)
+    ∙ starting_at-find s p (filter (same_class_and_parity s) (numbers low high))
+    ∙ ap (λ o. option_or o (find (λ k. nat_lt k s && p k) (filter (same_class_and_parity s) (numbers low high)))) up
 
 -- a port of the range stands for itself
-pub port_itself : (p : ℕ → Bool) (order : Order) (s : ℕ) (range : Option Range) → order ≡ Ports → Contains (ports_of range) s → p s ≡ true → find p (candidates order s range) ≡ Some s
+pub port_itself : (p : ℕ → Bool) (order : Order) (s : ℕ) (range : Option CandidateRange) → order ≡ Ports → Contains (ports_of range) s → p s ≡ true → find p (candidates order s range) ≡ Some s
 unfolding candidates
 port_itself p Ports s None is has passes = first_itself p s 1 65535 has passes
 port_itself p Ports s (Some r) is has passes = first_itself p s (max 1 r.low) r.high has passes
@@ -81,11 +81,11 @@ port_itself p Identifiers s range is has passes = cc
 port_itself p Zero s range is has passes = cc
 
 -- an identifier stands for itself
-pub identifier_itself : (p : ℕ → Bool) (order : Order) (s : ℕ) (range : Option Range) → order ≡ Identifiers → s ≤ 65535 → p s ≡ true → find p (candidates order s range) ≡ Some s
+pub identifier_itself : (p : ℕ → Bool) (order : Order) (s : ℕ) (range : Option CandidateRange) → order ≡ Identifiers → s ≤ 65535 → p s ≡ true → find p (candidates order s range) ≡ Some s
 unfolding candidates
 identifier_itself p Ports s range is small passes = cc
 identifier_itself p Identifiers s range is small passes =
-    from_on-find s p (numbers 0 65535)
+    starting_at-find s p (numbers 0 65535)
     ∙ ap (λ o. option_or o (find (λ k. nat_lt k s && p k) (numbers 0 65535))) (find-numbers (λ k. nat_le s k && p k) 0 65535 (Some s) record {
       above = omega arith;
       below = omega arith;
@@ -95,7 +95,7 @@ identifier_itself p Identifiers s range is small passes =
 identifier_itself p Zero s range is small passes = cc
 
 -- a protocol without ports has 0 alone
-pub zero_alone : (p : ℕ → Bool) (order : Order) (s : ℕ) (range : Option Range) (r : Option ℕ) → r ≡ find p (candidates order s range) → IfSome r (λ k. order ≡ Zero → k ≡ 0)
+pub zero_alone : (p : ℕ → Bool) (order : Order) (s : ℕ) (range : Option CandidateRange) (r : Option ℕ) → r ≡ find p (candidates order s range) → IfSome r (λ k. order ≡ Zero → k ≡ 0)
 unfolding candidates
 zero_alone p order s range None e = tt
 zero_alone p Ports s range (Some k) e = λ is. cc

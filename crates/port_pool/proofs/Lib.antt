@@ -1,10 +1,10 @@
 pub mod BitLaws
 pub mod CountLaws
-pub mod RowLaws
+pub mod BitmapLaws
 pub mod WordLaws
 pub mod FindLaws
 pub mod MaskLaws
 pub mod SpanLaws
 pub mod ChoiceLaws
-pub mod SuitLaws
+pub mod PreferenceLaws
 pub mod UnusedLaws

@@ -7,14 +7,14 @@ use Rattle.std.specs.Prelude.{List, [], ◌∷◌, ◌++◌, filter, Option, Som
 use Rattle.std.specs.List.{range_with_len}
 use Rattle.port_pool.specs.declared.order.Order.{Order}
 use Rattle.port_pool.specs.declared.order.Order.TheVariants.{Ports, Identifiers, Zero}
-use Rattle.port_pool.specs.declared.range.Range.{Range}
+use Rattle.port_pool.specs.declared.range.CandidateRange.{CandidateRange}
 
 -- the numbers from low to high, rising: none where high is the lesser
 unfoldable pub numbers : ℕ → ℕ → List ℕ
 numbers low high = range_with_len low (high + 1 - low)
 
 -- the ports that may be chosen: those of the range that is named, or all; 0 is no port
-abbrev pub ports_of : Option Range → List ℕ
+abbrev pub ports_of : Option CandidateRange → List ℕ
 ports_of None = numbers 1 65535
 ports_of (Some r) = numbers (max 1 r.low) r.high
 
@@ -27,8 +27,8 @@ abbrev pub same_parity : ℕ → ℕ → Bool
 same_parity s p = p % 2 == s % 2
 
 -- both are of one class and one parity
-abbrev pub alike : ℕ → ℕ → Bool
-alike s p = (class_of p == class_of s) && same_parity s p
+abbrev pub same_class_and_parity : ℕ → ℕ → Bool
+same_class_and_parity s p = (class_of p == class_of s) && same_parity s p
 
 -- the first of two lists that isn't empty
 abbrev pub or_these : List ℕ → List ℕ → List ℕ
@@ -36,15 +36,15 @@ or_these [] ys = ys
 or_these (x ∷ xs) ys = x ∷ xs
 
 -- of these ports, those of the class and parity of s; where there are none, those of its parity; else all of them
-abbrev pub suited : ℕ → List ℕ → List ℕ
-suited s ps = or_these (filter (alike s) ps) (or_these (filter (same_parity s) ps) ps)
+abbrev pub preferred : ℕ → List ℕ → List ℕ
+preferred s ps = or_these (filter (same_class_and_parity s) ps) (or_these (filter (same_parity s) ps) ps)
 
 -- those from s upward, and then the others from the least
-abbrev pub from_on : ℕ → List ℕ → List ℕ
-from_on s ps = filter (λ p. nat_le s p) ps ++ filter (λ p. nat_lt p s) ps
+abbrev pub starting_at : ℕ → List ℕ → List ℕ
+starting_at s ps = filter (λ p. nat_le s p) ps ++ filter (λ p. nat_lt p s) ps
 
 -- what may stand for s, the best first. A range speaks of ports alone
-unfoldable pub candidates : Order → ℕ → Option Range → List ℕ
-candidates Ports s range = from_on s (suited s (ports_of range))
-candidates Identifiers s range = from_on s (numbers 0 65535)
+unfoldable pub candidates : Order → ℕ → Option CandidateRange → List ℕ
+candidates Ports s range = starting_at s (preferred s (ports_of range))
+candidates Identifiers s range = starting_at s (numbers 0 65535)
 candidates Zero s range = 0 ∷ []

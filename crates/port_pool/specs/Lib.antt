@@ -1,4 +1,4 @@
 pub mod Candidates
 pub mod Taken
-pub mod Trials
+pub mod Examples
 pub mod steps

@@ -4,16 +4,16 @@
 //! but `Pool::new` allocates. A choice goes at most twice through 1,024 words.
 #![tactic(auto)]
 
+mod bitmap;
+pub mod examples;
 pub mod laws;
 mod order;
 mod pool;
 mod range;
-mod row;
 mod span;
-pub mod trials;
 mod unused;
 
 pub use order::Order;
 pub use pool::Pool;
-pub use range::Range;
+pub use range::CandidateRange;
 pub use unused::first;

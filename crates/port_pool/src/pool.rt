@@ -5,23 +5,23 @@ ghost use Rattle.std.specs.Prelude.{◌≡◌, ◌≢◌, ◌↔◌, ℕ, All, B
 ghost use Rattle.std.specs.Bool.{OnTrue, OnFalse};
 ghost use Rattle.port_pool.specs.Candidates.{candidates, ports_of};
 
+use crate::bitmap::Bitmap;
 use crate::order::Order;
-use crate::range::Range;
-use crate::row::Row;
+use crate::range::CandidateRange;
 use crate::span::{Span, ports_span};
 use std::alloc::{AllocError, Global};
 
 /// The numbers of one external address, for one kind of traffic.
 #[derive(Drop)]
 pub struct Pool {
-    numbers: Numbers,
+    numbers: TakenNumbers,
 }
 
 /// What the numbers are, and which are taken.
 #[derive(Drop)]
-enum Numbers {
-    Ports(Row),
-    Identifiers(Row),
+enum TakenNumbers {
+    Ports(Bitmap),
+    Identifiers(Bitmap),
     /// Whether 0 is taken, which is the only one.
     Zero(bool),
 }
@@ -40,9 +40,9 @@ impl Pool {
         ensures zero { order ≡ Order.Zero → IsOk result }
     {
         let numbers = match order {
-            Order::Ports => Numbers::Ports(Row::new(alloc)?),
-            Order::Identifiers => Numbers::Identifiers(Row::new(alloc)?),
-            Order::Zero => Numbers::Zero(false),
+            Order::Ports => TakenNumbers::Ports(Bitmap::new(alloc)?),
+            Order::Identifiers => TakenNumbers::Identifiers(Bitmap::new(alloc)?),
+            Order::Zero => TakenNumbers::Zero(false),
         };
         Ok(Pool { numbers })
     }
@@ -52,9 +52,9 @@ impl Pool {
         ensures { result ≡ is_taken self.now p }
     {
         match &self.numbers {
-            Numbers::Ports(row) => row.has(p),
-            Numbers::Identifiers(row) => row.has(p),
-            Numbers::Zero(taken) => *taken && p == 0,
+            TakenNumbers::Ports(bitmap) => bitmap.has(p),
+            TakenNumbers::Identifiers(bitmap) => bitmap.has(p),
+            TakenNumbers::Zero(taken) => *taken && p == 0,
         }
     }
 
@@ -64,15 +64,15 @@ impl Pool {
         ensures used { OnFalse result ((p : ℕ) × (is_taken self.now p ≡ true)) }
     {
         match &self.numbers {
-            Numbers::Ports(row) => row.is_clear(),
-            Numbers::Identifiers(row) => row.is_clear(),
-            Numbers::Zero(taken) => !*taken,
+            TakenNumbers::Ports(bitmap) => bitmap.is_clear(),
+            TakenNumbers::Identifiers(bitmap) => bitmap.is_clear(),
+            TakenNumbers::Zero(taken) => !*taken,
         }
     }
 
     /// The number that stands for `s`: the first of its candidates that isn't taken. `None` where
     /// all of them are. It takes nothing.
-    pub fn choose(&self, s: u16, range: Option<Range>) -> Option<u16>
+    pub fn choose(&self, s: u16, range: Option<CandidateRange>) -> Option<u16>
         ensures first { result ≡ find (λ p. not (is_taken self.now p))
             (candidates (order_of self.now) s range) }
 
@@ -94,14 +94,14 @@ impl Pool {
     }
 
     /// The first of the candidates for `s` that isn't taken.
-    fn first_candidate(&self, s: u16, range: Option<Range>) -> Option<u16>
+    fn first_candidate(&self, s: u16, range: Option<CandidateRange>) -> Option<u16>
         ensures { result ≡ find (λ p. not (is_taken self.now p))
             (candidates (order_of self.now) s range) }
     {
         match &self.numbers {
-            Numbers::Ports(row) => row.first_from(s, ports_span(s, range)),
-            Numbers::Identifiers(row) => row.first_from(s, Span::ALL),
-            Numbers::Zero(taken) => (!*taken).then_some(0),
+            TakenNumbers::Ports(bitmap) => bitmap.first_from(s, ports_span(s, range)),
+            TakenNumbers::Identifiers(bitmap) => bitmap.first_from(s, Span::ALL),
+            TakenNumbers::Zero(taken) => (!*taken).then_some(0),
         }
     }
 
@@ -114,9 +114,9 @@ impl Pool {
             ≡ (if q == p then true else is_taken self.old q) }
     {
         match &mut self.numbers {
-            Numbers::Ports(row) => row.set(p),
-            Numbers::Identifiers(row) => row.set(p),
-            Numbers::Zero(taken) => *taken = true,
+            TakenNumbers::Ports(bitmap) => bitmap.set(p),
+            TakenNumbers::Identifiers(bitmap) => bitmap.set(p),
+            TakenNumbers::Zero(taken) => *taken = true,
         }
     }
 
@@ -128,27 +128,27 @@ impl Pool {
             ≡ (if q == p then false else is_taken self.old q) }
     {
         match &mut self.numbers {
-            Numbers::Ports(row) => row.clear(p),
-            Numbers::Identifiers(row) => row.clear(p),
-            Numbers::Zero(taken) => *taken = false,
+            TakenNumbers::Ports(bitmap) => bitmap.clear(p),
+            TakenNumbers::Identifiers(bitmap) => bitmap.clear(p),
+            TakenNumbers::Zero(taken) => *taken = false,
         }
     }
 
     /// The same row, with what is taken of it, for numbers of another order.
     pub fn with_order(self, order: Order) -> Pool
-        requires row { order_of self ≢ Order.Zero }
+        requires bitmap { order_of self ≢ Order.Zero }
         requires order { order ≢ Order.Zero }
         ensures order { order_of result ≡ order }
         ensures taken { (p : ℕ) → is_taken result p ≡ is_taken self p }
     {
         let Pool { numbers } = self;
-        let row = match numbers {
-            Numbers::Ports(row) | Numbers::Identifiers(row) => row,
-            Numbers::Zero(_) => unreachable!(),
+        let bitmap = match numbers {
+            TakenNumbers::Ports(bitmap) | TakenNumbers::Identifiers(bitmap) => bitmap,
+            TakenNumbers::Zero(_) => unreachable!(),
         };
         let numbers = match order {
-            Order::Ports => Numbers::Ports(row),
-            Order::Identifiers => Numbers::Identifiers(row),
+            Order::Ports => TakenNumbers::Ports(bitmap),
+            Order::Identifiers => TakenNumbers::Identifiers(bitmap),
             Order::Zero => unreachable!(),
         };
         Pool { numbers }

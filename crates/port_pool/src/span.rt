@@ -2,14 +2,14 @@
 ghost use Rattle.std.specs.Prelude.{◌≡◌, ◌≤◌, ◌<◌, ℕ, if◌then◌else◌};
 ghost use Rattle.std.specs.Bool.{OnTrue, OnFalse};
 ghost use Rattle.std.specs.Int.{bit_at};
-ghost use Rattle.port_pool.specs.Candidates.{numbers, ports_of, same_parity, suited};
-ghost use Rattle.port_pool.specs.steps.Spans.{fits, members, HasParity, NoParity, IsClassPart, SameFinds};
+ghost use Rattle.port_pool.specs.Candidates.{numbers, ports_of, same_parity, preferred};
+ghost use Rattle.port_pool.specs.steps.Spans.{matches_parity, members, HasParity, NoParity, IsClassPart, SameFinds};
 
-use crate::range::Range;
+use crate::range::CandidateRange;
 
 /// Which numbers of a stretch count.
 #[derive(Clone, Copy, Debug)]
-pub(crate) enum Kept {
+pub(crate) enum Parity {
     All,
     Even,
     Odd,
@@ -20,7 +20,7 @@ pub(crate) enum Kept {
 pub(crate) struct Span {
     pub(crate) low: u16,
     pub(crate) high: u16,
-    pub(crate) kept: Kept,
+    pub(crate) parity: Parity,
 }
 
 impl Span {
@@ -28,26 +28,30 @@ impl Span {
     pub(crate) const ALL: Span = Span {
         low: 0,
         high: u16::MAX,
-        kept: Kept::All,
+        parity: Parity::All,
     };
 }
 
-impl Kept {
+impl Parity {
     /// Those of the parity of `s`.
-    fn like(s: u16) -> Kept
-        ensures { (k : ℕ) → fits result k ≡ same_parity s k }
+    fn like(s: u16) -> Parity
+        ensures { (k : ℕ) → matches_parity result k ≡ same_parity s k }
     {
-        if s % 2 == 0 { Kept::Even } else { Kept::Odd }
+        if s % 2 == 0 {
+            Parity::Even
+        } else {
+            Parity::Odd
+        }
     }
 
     /// A word with the bits of those that count.
     pub(crate) fn mask(self) -> u64
-        ensures { (b : ℕ) → b < 64 → bit_at result b ≡ (if fits self b then 1 else 0) }
+        ensures { (b : ℕ) → b < 64 → bit_at result b ≡ (if matches_parity self b then 1 else 0) }
     {
         match self {
-            Kept::All => u64::MAX,
-            Kept::Even => 0x5555_5555_5555_5555,
-            Kept::Odd => 0xaaaa_aaaa_aaaa_aaaa,
+            Parity::All => u64::MAX,
+            Parity::Even => 0x5555_5555_5555_5555,
+            Parity::Odd => 0xaaaa_aaaa_aaaa_aaaa,
         }
     }
 }
@@ -73,34 +77,34 @@ fn class_part(s: u16, low: u16, high: u16) -> (u16, u16)
 }
 
 /// Those from `low` to `high` that suit `s`.
-fn suited_span(s: u16, low: u16, high: u16) -> Span
-    ensures { SameFinds (members result) (suited s (numbers low high)) }
+fn preferred_span(s: u16, low: u16, high: u16) -> Span
+    ensures { SameFinds (members result) (preferred s (numbers low high)) }
 {
-    let kept = Kept::like(s);
+    let parity = Parity::like(s);
     let part = class_part(s, low, high);
     if has_parity(s, part.0, part.1) {
         Span {
             low: part.0,
             high: part.1,
-            kept,
+            parity,
         }
     } else if has_parity(s, low, high) {
-        Span { low, high, kept }
+        Span { low, high, parity }
     } else {
         Span {
             low,
             high,
-            kept: Kept::All,
+            parity: Parity::All,
         }
     }
 }
 
 /// The ports that suit `s`.
-pub(crate) fn ports_span(s: u16, range: Option<Range>) -> Span
-    ensures { SameFinds (members result) (suited s (ports_of range)) }
+pub(crate) fn ports_span(s: u16, range: Option<CandidateRange>) -> Span
+    ensures { SameFinds (members result) (preferred s (ports_of range)) }
 {
     match range {
-        Some(range) => suited_span(s, range.low.max(1), range.high),
-        None => suited_span(s, 1, u16::MAX),
+        Some(range) => preferred_span(s, range.low.max(1), range.high),
+        None => preferred_span(s, 1, u16::MAX),
     }
 }

@@ -1,16 +1,16 @@
 //! The choice where no number is taken, which needs no row.
 ghost use Rattle.std.specs.Prelude.{◌≡◌, ◌≤◌, ◌<◌, true, find};
-ghost use Rattle.port_pool.specs.Candidates.{candidates, from_on};
+ghost use Rattle.port_pool.specs.Candidates.{candidates, starting_at};
 ghost use Rattle.port_pool.specs.steps.First.{IsFirst};
-ghost use Rattle.port_pool.specs.steps.Spans.{fits, members};
+ghost use Rattle.port_pool.specs.steps.Spans.{matches_parity, members};
 
 use crate::order::Order;
-use crate::range::Range;
-use crate::span::{Kept, Span, ports_span};
+use crate::range::CandidateRange;
+use crate::span::{Parity, Span, ports_span};
 
 /// The number that stands for `s` where none is taken: the first of its candidates. `None` where the
 /// range has no port.
-pub fn first(order: Order, s: u16, range: Option<Range>) -> Option<u16>
+pub fn first(order: Order, s: u16, range: Option<CandidateRange>) -> Option<u16>
     ensures { result ≡ find (λ p. true) (candidates order s range) }
 {
     match order {
@@ -22,27 +22,27 @@ pub fn first(order: Order, s: u16, range: Option<Range>) -> Option<u16>
 
 /// The first number that counts, from `s` on, and then from the least.
 fn first_member(s: u16, span: Span) -> Option<u16>
-    ensures { result ≡ find (λ p. true) (from_on s (members span)) }
+    ensures { result ≡ find (λ p. true) (starting_at s (members span)) }
 {
     let low = usize::from(span.low);
     let end = usize::from(span.high) + 1;
     let at = usize::from(s);
-    match first_within(span.kept, low.max(at), end) {
-        Some(place) => Some(place),
-        None => first_within(span.kept, low, end.min(at)),
+    match first_within(span.parity, low.max(at), end) {
+        Some(found) => Some(found),
+        None => first_within(span.parity, low, end.min(at)),
     }
 }
 
 /// The first number from `from` on, before `to`, that counts.
-fn first_within(kept: Kept, from: usize, to: usize) -> Option<u16>
+fn first_within(parity: Parity, from: usize, to: usize) -> Option<u16>
     requires from { from < 65536 }
     requires to { to ≤ 65536 }
-    ensures { IsFirst (fits kept) from to result }
+    ensures { IsFirst (matches_parity parity) from to result }
 {
     if to <= from {
         return None;
     }
-    if counts(kept, from) {
+    if matches_parity(parity, from) {
         return Some(from as u16);
     }
     // Of two neighbours one has the parity.
@@ -51,12 +51,12 @@ fn first_within(kept: Kept, from: usize, to: usize) -> Option<u16>
 }
 
 /// Whether a number counts.
-fn counts(kept: Kept, k: usize) -> bool
-    ensures { result ≡ fits kept k }
+fn matches_parity(parity: Parity, k: usize) -> bool
+    ensures { result ≡ matches_parity parity k }
 {
-    match kept {
-        Kept::All => true,
-        Kept::Even => k % 2 == 0,
-        Kept::Odd => k % 2 == 1,
+    match parity {
+        Parity::All => true,
+        Parity::Even => k % 2 == 0,
+        Parity::Odd => k % 2 == 1,
     }
 }

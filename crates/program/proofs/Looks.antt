@@ -8,8 +8,8 @@ use Rattle.std.specs.Borrow.{Bor}
 use Rattle.std.specs.declared.io.Error.{Error}
 use Rattle.program.specs.Calls.{Call, Text, identify}
 use Rattle.command_line.specs.CommandLine.{name_of_file}
-use Rattle.command_line.specs.declared.task.Paths.{Paths}
-use Rattle.program.specs.Replaying.{Compares, Continues, CreatesFile, CreatesReport, Guards, compared}
+use Rattle.command_line.specs.declared.task.ReplayPaths.{ReplayPaths}
+use Rattle.program.specs.Replaying.{Compares, Continues, CreatesFile, CreatesReport, ChecksOutputPath, compared}
 use Rattle.program.specs.declared.identity.FileIdentity.{FileIdentity}
 use Rattle.program.specs.declared.status.Status.{Status}
 use Rattle.program.specs.declared.status.Status.TheVariants.{SameReport}
@@ -23,6 +23,6 @@ looks-at {A = A} text same file items n d answer found later verdict within is n
     subst Left (sym (drop-cons items n d within)) (refl, subst Rest (sym (suc-eq-add-one n)) (subst Goes is next))
 
 -- the file for the report is created, or not, after the looks
-pub made-by : {I O : Type 0} (report : Option (Bor Text)) (file : Bor Text) (paths : Paths) (looks : List (Call I O)) (verdict : Result ⊤ Status) (later : List (Call I O)) (answer : Result (Option O) Status) → report ≡ Some file → Guards SameReport file.now (paths.output.now ∷ []) looks verdict → CreatesFile file.now verdict later answer → CreatesReport (name_of_file report) paths (looks ++ later) answer
+pub made-by : {I O : Type 0} (report : Option (Bor Text)) (file : Bor Text) (paths : ReplayPaths) (looks : List (Call I O)) (verdict : Result ⊤ Status) (later : List (Call I O)) (answer : Result (Option O) Status) → report ≡ Some file → ChecksOutputPath SameReport file.now (paths.output.now ∷ []) looks verdict → CreatesFile file.now verdict later answer → CreatesReport (name_of_file report) paths (looks ++ later) answer
 made-by {O = O} report file paths looks verdict later answer is looked made =
     subst (λ (r : Option (Bor Text)). CreatesReport {O = O} (name_of_file r) paths (looks ++ later) answer) (sym is) (looks, verdict, later, looked, refl, made)

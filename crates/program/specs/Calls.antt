@@ -35,11 +35,11 @@ pub data Call (Input Output : Type 0) : Type 0 where
   -- a ruleset's text and a box file's text: how many tables, chains and rules it has
   judge : Text → Text → Result Counts RunFault → Call Input Output
   -- the line of a ruleset that is accepted
-  announce : Counts → Result ⊤ Error → Call Input Output
+  print_accepted : Counts → Result ⊤ Error → Call Input Output
   -- the line of a status
-  tell : Status → Call Input Output
+  print_status : Status → Call Input Output
   -- what a status of a task means, and where its fault is
-  clarify : Status → Task → Call Input Output
+  explain_status : Status → Task → Call Input Output
   -- all faults of a task's ruleset and box
   list_faults : Task → Call Input Output
   -- what a code means
@@ -48,9 +48,9 @@ pub data Call (Input Output : Type 0) : Type 0 where
   explain : ErrorKind → Result ⊤ Error → Call Input Output
 
 -- the bytes of the words that are answered
-abbrev pub texts_of : {Y Z : Type 0} → Result (Vec (String Y) Z) Error → Result (List Text) Error
-texts_of (Ok v) = Ok (map string_bytes v.items)
-texts_of (Err error) = Err error
+abbrev pub word_texts : {Y Z : Type 0} → Result (Vec (String Y) Z) Error → Result (List Text) Error
+word_texts (Ok v) = Ok (map string_bytes v.items)
+word_texts (Err error) = Err error
 
 -- the bytes that a read answers
 abbrev pub bytes_of : {Z : Type 0} → Result (Vec ℕ Z) Error → Result (List ℕ) Error
@@ -58,6 +58,6 @@ bytes_of (Ok v) = Ok v.items
 bytes_of (Err error) = Err error
 
 -- these calls, one after another, lead from one moment to another
-abbrev pub Leads : {S C : Type 0} → (S → C → S → Type 0) → S → List C → S → Type 0
-Leads happens s [] t = s ≡ t
-Leads {S = S} happens s (call ∷ calls) t = (u : S) × happens s call u × Leads happens u calls t
+abbrev pub HappenInOrder : {S C : Type 0} → (S → C → S → Type 0) → S → List C → S → Type 0
+HappenInOrder happens s [] t = s ≡ t
+HappenInOrder {S = S} happens s (call ∷ calls) t = (u : S) × happens s call u × HappenInOrder happens u calls t

@@ -1,16 +1,16 @@
 -- The judgement of a ruleset in a file: the calls in their order, and the status that it ends with.
 use Rattle.std.specs.Prelude.{◌≡◌, List, [], ◌∷◌, Ok, Err}
-use Rattle.command_line.specs.declared.task.Texts.{Texts}
+use Rattle.command_line.specs.declared.task.CheckPaths.{CheckPaths}
 use Rattle.engine.specs.declared.judging.Counts.{Counts}
-use Rattle.program.specs.Calls.{Call, Text, read, judge, announce}
+use Rattle.program.specs.Calls.{Call, Text, read, judge, print_accepted}
 use Rattle.program.specs.Status.{of_fault, of_error}
 use Rattle.program.specs.declared.status.Status.{Status}
 use Rattle.program.specs.declared.status.Status.TheVariants.{Success}
 
 -- the line is printed of what was counted
 abbrev pub Announces : {I O : Type 0} → Counts → List (Call I O) → Status → Type 0
-Announces counts (announce c (Err error) ∷ []) status = (c ≡ counts) × (status ≡ of_error error)
-Announces counts (announce c (Ok _) ∷ []) status = (c ≡ counts) × (status ≡ Success)
+Announces counts (print_accepted c (Err error) ∷ []) status = (c ≡ counts) × (status ≡ of_error error)
+Announces counts (print_accepted c (Ok _) ∷ []) status = (c ≡ counts) × (status ≡ Success)
 Announces _ _ _ = ⊥
 
 -- the ruleset's text is judged as rules, the box file's as box; where they are refused nothing is called after it
@@ -20,13 +20,13 @@ Judges rules box (judge r b (Ok counts) ∷ calls) status = (r ≡ rules) × (b 
 Judges _ _ _ _ = ⊥
 
 -- BOX is read whole
-abbrev pub ExaminesOn : {I O : Type 0} → Texts → Text → List (Call I O) → Status → Type 0
+abbrev pub ExaminesOn : {I O : Type 0} → CheckPaths → Text → List (Call I O) → Status → Type 0
 ExaminesOn t rules (read path (Err error) ∷ []) status = (path ≡ t.plant.now) × (status ≡ of_error error)
 ExaminesOn t rules (read path (Ok box) ∷ calls) status = (path ≡ t.plant.now) × Judges rules box calls status
 ExaminesOn _ _ _ _ = ⊥
 
 -- RULES is read whole
-abbrev pub Examines : {I O : Type 0} → Texts → List (Call I O) → Status → Type 0
+abbrev pub Examines : {I O : Type 0} → CheckPaths → List (Call I O) → Status → Type 0
 Examines t (read path (Err error) ∷ []) status = (path ≡ t.rules.now) × (status ≡ of_error error)
 Examines t (read path (Ok rules) ∷ calls) status = (path ≡ t.rules.now) × ExaminesOn t rules calls status
 Examines _ _ _ = ⊥

@@ -6,7 +6,7 @@ use Rattle.std.specs.declared.io.ErrorKind.{ErrorKind}
 use Rattle.std.specs.declared.io.ErrorKind.TheVariants.{NotFound}
 use Rattle.std.specs.declared.random_state.RandomState.{RandomState}
 use Rattle.command_line.specs.CommandLine.{name_of_file}
-use Rattle.command_line.specs.declared.task.Paths.{Paths}
+use Rattle.command_line.specs.declared.task.ReplayPaths.{ReplayPaths}
 use Rattle.command_line.specs.declared.task.ReplayTask.{ReplayTask}
 use Rattle.program.specs.Calls.{Call, Text, read, open_input, identify, draw_keys, create, run}
 use Rattle.program.specs.Identity.{is_same_file}
@@ -16,15 +16,15 @@ use Rattle.program.specs.declared.status.Status.{Status}
 use Rattle.program.specs.declared.status.Status.TheVariants.{SameFile, SameReport}
 
 -- with what these calls answered the next go on; where that is a status no call follows
-abbrev pub GoesOn : {C A : Type 0} → Result A Status → (A → List C → Status → Type 0) → List C → Status → Type 0
-GoesOn (Ok answer) Next calls status = Next answer calls status
-GoesOn (Err end) Next calls status = (calls ≡ []) × (status ≡ end)
+abbrev pub ProceedsWith : {C A : Type 0} → Result A Status → (A → List C → Status → Type 0) → List C → Status → Type 0
+ProceedsWith (Ok answer) Next calls status = Next answer calls status
+ProceedsWith (Err end) Next calls status = (calls ≡ []) × (status ≡ end)
 
 -- the first calls, and then those that go on with their answer
 abbrev pub Then : {C A : Type 0} → (List C → Result A Status → Type 0) → (A → List C → Status → Type 0)
     → List C → Status → Type 0
 Then {C = C} {A = A} First Next calls status = (first : List C) × (answer : Result A Status) × (later : List C)
-    × First first answer × (calls ≡ first ++ later) × GoesOn answer Next later status
+    × First first answer × (calls ≡ first ++ later) × ProceedsWith answer Next later status
 
 -- the run gets the keys that were drawn, the ruleset's text as rules, the box file's as box, the files that were opened,
 -- that for the report among them where there is one, and the flag that was asked for, and nothing is called after it;
@@ -40,14 +40,14 @@ Runs traced keys rules box input output report (run k r b i i' o o' file t (Ok t
 Runs _ _ _ _ _ _ _ _ _ = ⊥
 
 -- a path that leads nowhere yet is no fault, another error of a look at it is
-abbrev pub unless_absent : ErrorKind → Status → Result ⊤ Status
-unless_absent NotFound _ = Ok tt
-unless_absent _ end = Err end
+abbrev pub unless_not_found : ErrorKind → Status → Result ⊤ Status
+unless_not_found NotFound _ = Ok tt
+unless_not_found _ end = Err end
 
 -- a file to write and what a look at another path told: nothing stands against it unless both are one file
 abbrev pub compared : Status → FileIdentity → Result FileIdentity Error → Result ⊤ Status
 compared same file (Ok other) = if is_same_file file other then Err same else Ok tt
-compared same file (Err error) = unless_absent (error_kind error) (of_error error)
+compared same file (Err error) = unless_not_found (error_kind error) (of_error error)
 
 -- the paths that are left are looked at, unless one stood in the way
 abbrev pub Continues : {C : Type 0} → Result ⊤ Status → (List C → Result ⊤ Status → Type 0) → List C
@@ -64,29 +64,29 @@ Compares _ _ _ _ _ = ⊥
 
 -- a path to write is looked at, and where it is there compared with the files that it may not be: there is a status for
 -- one that it is
-abbrev pub Guards : {I O : Type 0} → Status → Text → List Text → List (Call I O) → Result ⊤ Status → Type 0
-Guards same path others (identify p (Ok file) ∷ calls) verdict = (p ≡ path) × Compares same file others calls verdict
-Guards same path others (identify p (Err error) ∷ []) verdict =
-    (p ≡ path) × (verdict ≡ unless_absent (error_kind error) (of_error error))
-Guards _ _ _ _ _ = ⊥
+abbrev pub ChecksOutputPath : {I O : Type 0} → Status → Text → List Text → List (Call I O) → Result ⊤ Status → Type 0
+ChecksOutputPath same path others (identify p (Ok file) ∷ calls) verdict = (p ≡ path) × Compares same file others calls verdict
+ChecksOutputPath same path others (identify p (Err error) ∷ []) verdict =
+    (p ≡ path) × (verdict ≡ unless_not_found (error_kind error) (of_error error))
+ChecksOutputPath _ _ _ _ _ = ⊥
 
 -- Linux's name of the file that standard output goes to (proc(5): a link to /proc/self/fd/1)
 abbrev pub standard_output : Text
 standard_output = codes "/dev/stdout"
 
-abbrev pub inputs_of : Paths → List Text
+abbrev pub inputs_of : ReplayPaths → List Text
 inputs_of paths = paths.rules.now ∷ paths.plant.now ∷ paths.input.now ∷ []
 
 -- the paths whose files OUT may not be: standard output is one where it gets the report
-abbrev pub others_of : Option Text → Paths → List Text
+abbrev pub others_of : Option Text → ReplayPaths → List Text
 others_of None paths = inputs_of paths ++ standard_output ∷ []
 others_of (Some file) paths = inputs_of paths
 
 -- the file for the report, where there is one, may be none of those that are read, nor OUT
-abbrev pub GuardsReport : {I O : Type 0} → Option Text → Paths → List (Call I O) → Result ⊤ Status → Type 0
-GuardsReport None paths calls verdict = (calls ≡ []) × (verdict ≡ Ok tt)
-GuardsReport (Some file) paths calls verdict =
-    Guards SameReport file (inputs_of paths ++ paths.output.now ∷ []) calls verdict
+abbrev pub ChecksReportPath : {I O : Type 0} → Option Text → ReplayPaths → List (Call I O) → Result ⊤ Status → Type 0
+ChecksReportPath None paths calls verdict = (calls ≡ []) × (verdict ≡ Ok tt)
+ChecksReportPath (Some file) paths calls verdict =
+    ChecksOutputPath SameReport file (inputs_of paths ++ paths.output.now ∷ []) calls verdict
 
 -- the file for the report is created, where nothing stands against it
 abbrev pub CreatesFile : {I O : Type 0} → Text → Result ⊤ Status → List (Call I O) → Result (Option O) Status → Type 0
@@ -96,11 +96,11 @@ CreatesFile path (Ok _) (create p (Ok file) ∷ []) answer = (p ≡ path) × (an
 CreatesFile _ _ _ _ = ⊥
 
 -- where there is a file for the report, OUT is looked at again: it may not have been there before
-abbrev pub CreatesReport : {I O : Type 0} → Option Text → Paths → List (Call I O) → Result (Option O) Status → Type 0
+abbrev pub CreatesReport : {I O : Type 0} → Option Text → ReplayPaths → List (Call I O) → Result (Option O) Status → Type 0
 CreatesReport None paths calls answer = (calls ≡ []) × (answer ≡ Ok None)
 CreatesReport {I = I} {O = O} (Some file) paths calls answer =
     (looks : List (Call I O)) × (verdict : Result ⊤ Status) × (later : List (Call I O))
-    × Guards SameReport file (paths.output.now ∷ []) looks verdict × (calls ≡ looks ++ later)
+    × ChecksOutputPath SameReport file (paths.output.now ∷ []) looks verdict × (calls ≡ looks ++ later)
     × CreatesFile file verdict later answer
 
 -- OUT is created, then the file for the report, where there is one
@@ -123,8 +123,8 @@ abbrev pub Opens : {I O : Type 0} → ReplayTask → Text → Text → List (Cal
 Opens task rules box (open_input path (Err error) ∷ []) status =
     (path ≡ task.paths.input.now) × (status ≡ of_error error)
 Opens task rules box (open_input path (Ok input) ∷ calls) status = (path ≡ task.paths.input.now)
-    × Then (Guards SameFile task.paths.output.now (others_of (name_of_file task.report) task.paths))
-    (λ _. Then (GuardsReport (name_of_file task.report) task.paths) (λ _. Draws task rules box input)) calls status
+    × Then (ChecksOutputPath SameFile task.paths.output.now (others_of (name_of_file task.report) task.paths))
+    (λ _. Then (ChecksReportPath (name_of_file task.report) task.paths) (λ _. Draws task rules box input)) calls status
 Opens _ _ _ _ _ = ⊥
 
 -- BOX is read whole

@@ -7,7 +7,7 @@ use Rattle.std.specs.declared.io.ErrorKind.TheVariants.{OutOfMemory, InvalidData
 use Rattle.engine.specs.declared.fault.RunFault.{RunFault}
 use Rattle.engine.specs.declared.fault.RunFault.TheVariants as faults
 use Rattle.program.specs.declared.status.Status.{Status}
-use Rattle.program.specs.declared.status.Status.TheVariants.{Success, Rules, Usage, NotText, SameFile, SameReport, NoCode, Box, Capture}
+use Rattle.program.specs.declared.status.Status.TheVariants.{Success, Rules, Usage, NotUtf8, SameFile, SameReport, UnknownCode, Box, Capture}
 use Rattle.program.specs.declared.status.Status.TheVariants.{Device, Memory, Torn}
 
 abbrev pub of_fault : RunFault → Status
@@ -32,7 +32,7 @@ of_error e = of_kind (error_kind e)
 
 -- the words can't be had: one isn't UTF-8, or the call of the system that gives them fails
 abbrev pub of_words_kind : ErrorKind → Status
-of_words_kind InvalidData = NotText
+of_words_kind InvalidData = NotUtf8
 of_words_kind kind = of_kind kind
 
 abbrev pub of_words_error : Error → Status
@@ -48,10 +48,10 @@ abbrev pub code_of : Status → ℕ
 code_of Success = 0
 code_of (Rules fault) = 1
 code_of Usage = 2
-code_of NotText = 2
+code_of NotUtf8 = 2
 code_of SameFile = 2
 code_of SameReport = 2
-code_of NoCode = 2
+code_of UnknownCode = 2
 code_of (Box fault) = 3
 code_of (Capture fault) = 4
 code_of Device = 5

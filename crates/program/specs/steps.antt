@@ -1,4 +1,4 @@
 -- What only the contracts of private functions cite.
-pub mod Settled
+pub mod AnswerStatus
 pub mod Promised
-pub mod Ending
+pub mod Finishing

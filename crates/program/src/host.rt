@@ -19,7 +19,7 @@ pub trait Host {
     ghost use Rattle.std.specs.Prelude.{◌≡◌, None, Some};
     ghost use Rattle.std.specs.Result.{result_map_both};
     ghost use Rattle.clap.specs.Values.{kind_of};
-    ghost use Rattle.program.specs.Calls.{Call, words, read, open_input, identify, draw_keys, create, run, judge, announce, tell, clarify, list_faults, show, explain, texts_of, bytes_of};
+    ghost use Rattle.program.specs.Calls.{Call, words, read, open_input, identify, draw_keys, create, run, judge, print_accepted, print_status, explain_status, list_faults, show, explain, word_texts, bytes_of};
 
     /// A capture open for reading.
     type Input: Drop;
@@ -35,7 +35,7 @@ pub trait Host {
     /// # Errors
     /// `InvalidData` where one isn't UTF-8.
     fn words(&mut self) -> io::Result<Vec<String>>
-        ensures { happens self.old (words (texts_of result)) self.new };
+        ensures { happens self.old (words (word_texts result)) self.new };
 
     /// All bytes of a file.
     fn read(&mut self, path: &str) -> io::Result<Vec<u8>>
@@ -92,17 +92,17 @@ pub trait Host {
         ensures { happens self.old (judge rules.now plant.now result) self.new };
 
     /// Prints the line of a ruleset that is accepted to standard output.
-    fn announce(&mut self, counts: Counts) -> io::Result<()>
-        ensures { happens self.old (announce counts result) self.new };
+    fn print_accepted(&mut self, counts: Counts) -> io::Result<()>
+        ensures { happens self.old (print_accepted counts result) self.new };
 
     /// Prints the status's line to standard error. Where it can't, the exit status still tells.
-    fn tell(&mut self, status: Status)
-        ensures { happens self.old (tell status) self.new };
+    fn print_status(&mut self, status: Status)
+        ensures { happens self.old (print_status status) self.new };
 
     /// Prints what the status of a task means to standard error, and where its fault is, as far as
     /// another look at the task's files shows. A place is a help and no promise.
-    fn clarify(&mut self, status: Status, task: &Task<'_>)
-        ensures { happens self.old (clarify status task.now) self.new };
+    fn explain_status(&mut self, status: Status, task: &Task<'_>)
+        ensures { happens self.old (explain_status status task.now) self.new };
 
     /// Prints all faults of a task's ruleset and box to standard error, as far as another look at
     /// its files shows them.

@@ -1,15 +1,15 @@
 //! What the program does with its words, its files and its two outputs.
 #![tactic(auto)]
 
-mod clarifying;
+mod diagnosis;
 mod examining;
 mod host;
 mod identity;
 mod performing;
+mod progress_reader;
 mod replaying;
 mod status;
 mod system;
-mod watched;
 
 pub use examining::examine;
 pub use host::Host;

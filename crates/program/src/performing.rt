@@ -1,10 +1,10 @@
 //! What the program does.
 ghost use Rattle.std.specs.Prelude.{◌≡◌, List, IfOk, map, string_bytes};
 ghost use Rattle.program.specs.Status.{code_of};
-ghost use Rattle.program.specs.steps.Ending.{Ends};
+ghost use Rattle.program.specs.steps.Finishing.{ParsesRunsAndPrints};
 ghost use Rattle.clap.specs.Values.{kind_of};
-ghost use Rattle.program.specs.Calls.{Call, Leads};
-ghost use Rattle.program.specs.Performing.{Explains, Performs, Serves, Shows, added, asks_all, clarified, lines_of, listed, shown};
+ghost use Rattle.program.specs.Calls.{Call, HappenInOrder};
+ghost use Rattle.program.specs.Performing.{Explains, Performs, RunsTask, Shows, detail_calls, asks_all, explanation_calls, status_line_calls, all_faults_calls, usage_status};
 
 use crate::examining::examine;
 use crate::host::Host;
@@ -20,7 +20,7 @@ use std::alloc::{AllocError, Global};
 /// status.
 pub fn perform<H: Host>(alloc: Global, host: &mut H) -> u8
     // These are all calls, in their order, the line and what is added to it last.
-    ensures { (calls : List (Call H.Input H.Output)) × Leads H.happens host.old calls host.new × Performs calls result }
+    ensures { (calls : List (Call H.Input H.Output)) × HappenInOrder H.happens host.old calls host.new × Performs calls result }
 {
     let words = match host.words() {
         Ok(words) => words,
@@ -29,7 +29,7 @@ pub fn perform<H: Host>(alloc: Global, host: &mut H) -> u8
     match slices_of(alloc, &words) {
         Ok(mut slices) => {
             let explained = take_explain(&mut slices);
-            act(alloc, host, &slices, explained)
+            parse_and_run(alloc, host, &slices, explained)
         }
         Err(_) => end(host, Status::Memory),
     }
@@ -47,22 +47,22 @@ fn slices_of<'a>(alloc: Global, words: &'a [String]) -> Result<Vec<&'a str>, All
 
 /// Prints the line of a status that has one, and answers its exit status.
 fn end<H: Host>(host: &mut H, status: Status) -> u8
-    ensures { Leads H.happens host.old (lines_of status) host.new × (result ≡ code_of status) }
+    ensures { HappenInOrder H.happens host.old (status_line_calls status) host.new × (result ≡ code_of status) }
 {
     if status.has_line() {
-        host.tell(status);
+        host.print_status(status);
     }
     status.code()
 }
 
-fn act<H: Host>(alloc: Global, host: &mut H, words: &[&str], explained: bool) -> u8
-    ensures { (calls : List (Call H.Input H.Output)) × Leads H.happens host.old calls host.new × Ends explained (map (λ w. w.now) words.entry.now) calls result }
+fn parse_and_run<H: Host>(alloc: Global, host: &mut H, words: &[&str], explained: bool) -> u8
+    ensures { (calls : List (Call H.Input H.Output)) × HappenInOrder H.happens host.old calls host.new × ParsesRunsAndPrints explained (map (λ w. w.now) words.entry.now) calls result }
 {
     match read_task(alloc, words) {
         Ok(task) => {
-            let status = serve(host, &task);
+            let status = run_task(host, &task);
             let code = end(host, status);
-            clarify(host, explained, status, &task);
+            explain_status(host, explained, status, &task);
             code
         }
         Err(error) => {
@@ -73,8 +73,8 @@ fn act<H: Host>(alloc: Global, host: &mut H, words: &[&str], explained: bool) ->
 }
 
 /// Does what a task asks for.
-fn serve<H: Host>(host: &mut H, task: &Task<'_>) -> Status
-    ensures { (calls : List (Call H.Input H.Output)) × Leads H.happens host.old calls host.new × Serves task.now calls result }
+fn run_task<H: Host>(host: &mut H, task: &Task<'_>) -> Status
+    ensures { (calls : List (Call H.Input H.Output)) × HappenInOrder H.happens host.old calls host.new × RunsTask task.now calls result }
 {
     match task {
         Task::Run(task) => replay(host, task),
@@ -84,25 +84,25 @@ fn serve<H: Host>(host: &mut H, task: &Task<'_>) -> Status
 }
 
 /// Says more where that was asked for and there is a line.
-fn clarify<H: Host>(host: &mut H, explained: bool, status: Status, task: &Task<'_>)
-    ensures { Leads H.happens host.old (added explained task.now status) host.new }
+fn explain_status<H: Host>(host: &mut H, explained: bool, status: Status, task: &Task<'_>)
+    ensures { HappenInOrder H.happens host.old (detail_calls explained task.now status) host.new }
 {
-    tell_meaning(host, explained, status, task);
+    explain_if_asked(host, explained, status, task);
     list_faults(host, status, task);
 }
 
 /// Says what the status means.
-fn tell_meaning<H: Host>(host: &mut H, explained: bool, status: Status, task: &Task<'_>)
-    ensures { Leads H.happens host.old (clarified explained task.now status) host.new }
+fn explain_if_asked<H: Host>(host: &mut H, explained: bool, status: Status, task: &Task<'_>)
+    ensures { HappenInOrder H.happens host.old (explanation_calls explained task.now status) host.new }
 {
     if explained && status.has_line() {
-        host.clarify(status, task);
+        host.explain_status(status, task);
     }
 }
 
 /// Lists all faults.
 fn list_faults<H: Host>(host: &mut H, status: Status, task: &Task<'_>)
-    ensures { Leads H.happens host.old (listed task.now status) host.new }
+    ensures { HappenInOrder H.happens host.old (all_faults_calls task.now status) host.new }
 {
     if asks_all(task) && status.has_line() {
         host.list_faults(task);
@@ -121,10 +121,10 @@ fn asks_all(task: &Task<'_>) -> bool
 
 /// Shows what a code means.
 fn show<H: Host>(host: &mut H, code: &str) -> Status
-    ensures { (calls : List (Call H.Input H.Output)) × Leads H.happens host.old calls host.new × Shows code.now calls result }
+    ensures { (calls : List (Call H.Input H.Output)) × HappenInOrder H.happens host.old calls host.new × Shows code.now calls result }
 {
     let Some(explanation) = explanations::explain(code) else {
-        return Status::NoCode;
+        return Status::UnknownCode;
     };
     match host.show(&explanation) {
         Ok(()) => Status::Success,
@@ -134,20 +134,20 @@ fn show<H: Host>(host: &mut H, code: &str) -> Status
 
 /// Prints the usage or the help that was asked for.
 fn explain<H: Host>(host: &mut H, error: &Error) -> Status
-    ensures { (calls : List (Call H.Input H.Output)) × Leads H.happens host.old calls host.new × Explains (kind_of error.now) calls result }
+    ensures { (calls : List (Call H.Input H.Output)) × HappenInOrder H.happens host.old calls host.new × Explains (kind_of error.now) calls result }
 {
     if error.kind() == ErrorKind::OutOfMemory {
         return Status::Memory;
     }
     match host.explain(error) {
-        Ok(()) => shown(error.kind()),
+        Ok(()) => usage_status(error.kind()),
         Err(failed) => Status::of_io(&failed),
     }
 }
 
 /// Help that was asked for is no mistake in the words.
-fn shown(kind: ErrorKind) -> Status
-    ensures { result ≡ shown kind }
+fn usage_status(kind: ErrorKind) -> Status
+    ensures { result ≡ usage_status kind }
 {
     match kind {
         ErrorKind::DisplayHelp | ErrorKind::DisplayVersion => Status::Success,

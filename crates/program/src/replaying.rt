@@ -3,11 +3,11 @@ ghost use Rattle.std.specs.Prelude.{◌≡◌, List, Option, Result, map};
 ghost use Rattle.std.specs.IoError.{error_kind};
 ghost use Rattle.std.specs.declared.io.Error.{Error};
 ghost use Rattle.command_line.specs.CommandLine.{name_of_file};
-ghost use Rattle.program.specs.Calls.{Call, Leads, identify};
-ghost use Rattle.program.specs.Replaying.{CreatesReport, Guards, GuardsReport, Replays, Runs, compared, others_of, unless_absent};
+ghost use Rattle.program.specs.Calls.{Call, HappenInOrder, identify};
+ghost use Rattle.program.specs.Replaying.{CreatesReport, ChecksOutputPath, ChecksReportPath, Replays, Runs, compared, others_of, unless_not_found};
 ghost use Rattle.program.specs.Status.{of_error};
 ghost use Rattle.program.specs.declared.status.Status.TheVariants.{SameFile};
-ghost use Rattle.program.specs.steps.Settled.{settled};
+ghost use Rattle.program.specs.steps.AnswerStatus.{replay_status};
 
 use crate::host::Host;
 use crate::identity::FileIdentity;
@@ -29,7 +29,7 @@ const STANDARD_OUTPUT: &str = "/dev/stdout";
 /// run tells each decision where the task says so.
 pub fn replay<H: Host>(host: &mut H, task: &ReplayTask<'_>) -> Status
     // These are all calls, in their order, and the status is that of the one that failed, or the run's.
-    ensures { (calls : List (Call H.Input H.Output)) × Leads H.happens host.old calls host.new × Replays task.now calls result }
+    ensures { (calls : List (Call H.Input H.Output)) × HappenInOrder H.happens host.old calls host.new × Replays task.now calls result }
 {
     match try_replay(host, task) {
         Ok(torn) => Status::of(Ok(torn)),
@@ -38,14 +38,14 @@ pub fn replay<H: Host>(host: &mut H, task: &ReplayTask<'_>) -> Status
 }
 
 fn try_replay<H: Host>(host: &mut H, task: &ReplayTask<'_>) -> Result<bool, Status>
-    ensures { (calls : List (Call H.Input H.Output)) × Leads H.happens host.old calls host.new × Replays task.now calls (settled result) }
+    ensures { (calls : List (Call H.Input H.Output)) × HappenInOrder H.happens host.old calls host.new × Replays task.now calls (replay_status result) }
 {
     let paths = &task.paths;
     let rules = host.read(paths.rules)?;
     let plant = host.read(paths.plant)?;
     let mut input = host.open(paths.input)?;
-    guard_output(host, task)?;
-    guard_report(host, task)?;
+    check_output(host, task)?;
+    check_report(host, task)?;
     let hasher = host.draw_keys()?;
     let mut output = host.create(paths.output)?;
     let report = create_report(host, task)?;
@@ -72,8 +72,8 @@ fn play<H: Host>(
     report: Option<H::Output>,
     trace: bool,
 ) -> Result<bool, Status>
-    ensures { (calls : List (Call H.Input H.Output)) × Leads H.happens host.old calls host.new
-        × Runs trace hasher rules.now plant.now input.old output.old report calls (settled result) }
+    ensures { (calls : List (Call H.Input H.Output)) × HappenInOrder H.happens host.old calls host.new
+        × Runs trace hasher rules.now plant.now input.old output.old report calls (replay_status result) }
 {
     let torn = match report {
         Some(mut file) => {
@@ -85,54 +85,59 @@ fn play<H: Host>(
 }
 
 /// Writing OUT must not overwrite what is read, nor the report.
-fn guard_output<H: Host>(host: &mut H, task: &ReplayTask<'_>) -> Result<(), Status>
-    ensures { (calls : List (Call H.Input H.Output)) × Leads H.happens host.old calls host.new
-        × Guards SameFile task.now.paths.output.now (others_of (name_of_file task.now.report) task.now.paths) calls result }
+fn check_output<H: Host>(host: &mut H, task: &ReplayTask<'_>) -> Result<(), Status>
+    ensures { (calls : List (Call H.Input H.Output)) × HappenInOrder H.happens host.old calls host.new
+        × ChecksOutputPath SameFile task.now.paths.output.now (others_of (name_of_file task.now.report) task.now.paths) calls result }
 {
     let paths = &task.paths;
     let inputs = [paths.rules, paths.plant, paths.input];
     match task.report {
-        Some(_) => guard(host, Status::SameFile, paths.output, &inputs),
+        Some(_) => check_output_path(host, Status::SameFile, paths.output, &inputs),
         None => {
             let others = [paths.rules, paths.plant, paths.input, STANDARD_OUTPUT];
-            guard(host, Status::SameFile, paths.output, &others)
+            check_output_path(host, Status::SameFile, paths.output, &others)
         }
     }
 }
 
 /// Writing the report must not overwrite what is read, nor OUT.
-fn guard_report<H: Host>(host: &mut H, task: &ReplayTask<'_>) -> Result<(), Status>
-    ensures { (calls : List (Call H.Input H.Output)) × Leads H.happens host.old calls host.new
-        × GuardsReport (name_of_file task.now.report) task.now.paths calls result }
+fn check_report<H: Host>(host: &mut H, task: &ReplayTask<'_>) -> Result<(), Status>
+    ensures { (calls : List (Call H.Input H.Output)) × HappenInOrder H.happens host.old calls host.new
+        × ChecksReportPath (name_of_file task.now.report) task.now.paths calls result }
 {
     let Some(file) = task.report else {
         return Ok(());
     };
     let paths = &task.paths;
     let others = [paths.rules, paths.plant, paths.input, paths.output];
-    guard(host, Status::SameReport, file, &others)
+    check_output_path(host, Status::SameReport, file, &others)
 }
 
 /// Creates the file for the report, where there is one. OUT is there by now.
 fn create_report<H: Host>(host: &mut H, task: &ReplayTask<'_>) -> Result<Option<H::Output>, Status>
-    ensures { (calls : List (Call H.Input H.Output)) × Leads H.happens host.old calls host.new
+    ensures { (calls : List (Call H.Input H.Output)) × HappenInOrder H.happens host.old calls host.new
         × CreatesReport (name_of_file task.now.report) task.now.paths calls result }
 {
     let Some(file) = task.report else {
         return Ok(None);
     };
-    guard(host, Status::SameReport, file, &[task.paths.output])?;
+    check_output_path(host, Status::SameReport, file, &[task.paths.output])?;
     Ok(Some(host.create(file)?))
 }
 
 /// A file that is written must be none of the others: there is a status for one that is.
-fn guard<H: Host>(host: &mut H, same: Status, path: &str, others: &[&str]) -> Result<(), Status>
-    ensures { (calls : List (Call H.Input H.Output)) × Leads H.happens host.old calls host.new
-        × Guards same path.now (map (λ other. other.now) others.entry.now) calls result }
+fn check_output_path<H: Host>(
+    host: &mut H,
+    same: Status,
+    path: &str,
+    others: &[&str],
+) -> Result<(), Status>
+    ensures { (calls : List (Call H.Input H.Output)) × HappenInOrder H.happens host.old calls host.new
+        × ChecksOutputPath same path.now (map (λ other. other.now) others.entry.now) calls result }
 {
     let file = match host.identify(path) {
         Ok(file) => file,
-        Err(error) => return pass_absent(&error),
+        Err(error) => return ignore_not_found(&error),
     };
     for other in others {
         compare(host, same, file, other)?;
@@ -151,12 +156,12 @@ fn compare<H: Host>(
     match host.identify(path) {
         Ok(other) if file.is_same_file(other) => Err(same),
         Ok(_) => Ok(()),
-        Err(error) => pass_absent(&error),
+        Err(error) => ignore_not_found(&error),
     }
 }
 
-fn pass_absent(error: &io::Error) -> Result<(), Status>
-    ensures { result ≡ unless_absent (error_kind error.now) (of_error error.now) }
+fn ignore_not_found(error: &io::Error) -> Result<(), Status>
+    ensures { result ≡ unless_not_found (error_kind error.now) (of_error error.now) }
 {
     match error.kind() {
         io::ErrorKind::NotFound => Ok(()),

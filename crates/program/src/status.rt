@@ -16,13 +16,13 @@ pub enum Status {
     /// The words aren't understood; `clap` tells why.
     Usage,
     /// A word isn't UTF-8.
-    NotText,
+    NotUtf8,
     /// OUT leads to the same regular file as RULES, BOX, IN or, without `--report`, standard output.
     SameFile,
     /// FILE leads to the same regular file as RULES, BOX, IN or OUT.
     SameReport,
     /// The word behind `explain` is no code.
-    NoCode,
+    UnknownCode,
     Box(BoxFault),
     Capture(CaptureFault),
     Device,
@@ -62,7 +62,7 @@ impl Status {
         ensures { result ≡ of_words_error error.now }
     {
         match error.kind() {
-            io::ErrorKind::InvalidData => Status::NotText,
+            io::ErrorKind::InvalidData => Status::NotUtf8,
             _ => Status::of_io(error),
         }
     }
@@ -82,10 +82,10 @@ impl Status {
             Status::Success => 0,
             Status::Rules(_) => 1,
             Status::Usage
-            | Status::NotText
+            | Status::NotUtf8
             | Status::SameFile
             | Status::SameReport
-            | Status::NoCode => 2,
+            | Status::UnknownCode => 2,
             Status::Box(_) => 3,
             Status::Capture(_) => 4,
             Status::Device => 5,
@@ -124,14 +124,14 @@ impl fmt::Display for Status {
             Status::Success => f.write_str("nftrun: done"),
             Status::Rules(fault) => write!(f, "nftrun: rules {fault}"),
             Status::Usage => f.write_str("nftrun: usage"),
-            Status::NotText => f.write_str("nftrun: usage: a word isn't UTF-8"),
+            Status::NotUtf8 => f.write_str("nftrun: usage: a word isn't UTF-8"),
             Status::SameFile => f.write_str(
                 "nftrun: usage: OUT is the same file as RULES, BOX, IN or standard output",
             ),
             Status::SameReport => f.write_str(
                 "nftrun: usage: FILE is the same file as RULES, BOX, IN or OUT",
             ),
-            Status::NoCode => f.write_str(
+            Status::UnknownCode => f.write_str(
                 "nftrun: usage: CODE is one of E01 to E06, B1 to B5, N01 to N15, P1 to P5 and P7",
             ),
             Status::Box(fault) => write!(f, "nftrun: box {fault}"),

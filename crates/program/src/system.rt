@@ -1,14 +1,14 @@
 //! The system's own files and outputs, and the run and the judgement over them.
 ghost use Rattle.std.specs.Prelude.{None, Some};
 ghost use Rattle.program.specs.Calls.{run};
-ghost use Rattle.program.specs.steps.Promised.{Promised};
+ghost use Rattle.program.specs.steps.Promised.{IsGuaranteed};
 
-use crate::clarifying::{clarify, list_faults};
+use crate::diagnosis::{explain_status, list_faults};
 use crate::host::Host;
 use crate::identity::FileIdentity;
 use crate::performing::perform;
+use crate::progress_reader::{Progress, ProgressLine, ProgressReader};
 use crate::status::Status;
-use crate::watched::{Place, Progress, Watched};
 use clap::Error;
 use command_line::Task;
 use engine::{Counts, RunFault};
@@ -71,9 +71,9 @@ impl<R: AllocGlobal> System<'_, R> {
     /// Keeps what the system said of a call that failed.
     fn keep<T>(&mut self, subject: &str, answer: io::Result<T>) -> io::Result<T> {
         if let Err(error) = &answer {
-            let said = format!(in self.rt.alloc(); "{subject}: {error}");
-            self.failed = match said {
-                Ok(said) => Some(Failed::Call(said)),
+            let message = format!(in self.rt.alloc(); "{subject}: {error}");
+            self.failed = match message {
+                Ok(message) => Some(Failed::Call(message)),
                 Err(_) => None,
             };
         }
@@ -83,11 +83,11 @@ impl<R: AllocGlobal> System<'_, R> {
 
 impl<'a, R: Clock + Eprint> System<'a, R> {
     /// What tells how far a run is: nothing does where standard error is no terminal.
-    fn progress(&self, place: Place) -> Option<Progress<'a, R>> {
+    fn progress(&self, line: ProgressLine) -> Option<Progress<'a, R>> {
         if !self.terminals.errors {
             return None;
         }
-        Progress::new(self.rt, place, self.size)
+        Progress::new(self.rt, line, self.size)
     }
 }
 
@@ -103,10 +103,10 @@ fn size_of(file: &impl OpenFile) -> Option<u64> {
 
 impl<R: Eprint + AllocGlobal> System<'_, R> {
     /// Prints which call failed.
-    fn tell_failed(&self, task: &Task<'_>) -> io::Result<()> {
+    fn print_failure(&self, task: &Task<'_>) -> io::Result<()> {
         let rt = self.rt;
         match (&self.failed, task) {
-            (Some(Failed::Call(said)), _) => eprintln!(rt; "{}", said.as_str()),
+            (Some(Failed::Call(message)), _) => eprintln!(rt; "{}", message.as_str()),
             (Some(Failed::Read), Task::Run(run)) => {
                 eprintln!(rt; "{}: a read failed", run.paths.input)
             }
@@ -133,21 +133,21 @@ fn run_to_output<R: Clock + Files + Print + Eprint + AllocGlobal>(
     trace: bool,
     progress: Option<Progress<'_, R>>,
 ) -> Result<bool, RunFault>
-    ensures { Promised (λ c. R.File.remaining c.inner) (λ c. R.File.contents c.inner) (run hasher rules.now plant.now input.old input.new output.old output.new None trace result) }
+    ensures { IsGuaranteed (λ c. R.File.remaining c.inner) (λ c. R.File.contents c.inner) (run hasher rules.now plant.now input.old input.new output.old output.new None trace result) }
 {
-    let mut watched = Counted::new(Watched::new(input, progress));
+    let mut reader = Counted::new(ProgressReader::new(input, progress));
     let mut report = Counted::new(io::writer(rt));
     let outcome = engine::run(
         rt.alloc(),
         hasher,
         rules,
         plant,
-        &mut watched,
+        &mut reader,
         output,
         &mut report,
         trace,
     );
-    watched.into_inner().end();
+    reader.into_inner().end();
     Ok(outcome?.torn)
 }
 
@@ -163,20 +163,20 @@ fn run_to_file<R: Clock + Files + Eprint + AllocGlobal>(
     trace: bool,
     progress: Option<Progress<'_, R>>,
 ) -> Result<bool, RunFault>
-    ensures { Promised (λ c. R.File.remaining c.inner) (λ c. R.File.contents c.inner) (run hasher rules.now plant.now input.old input.new output.old output.new (Some (report.old, report.new)) trace result) }
+    ensures { IsGuaranteed (λ c. R.File.remaining c.inner) (λ c. R.File.contents c.inner) (run hasher rules.now plant.now input.old input.new output.old output.new (Some (report.old, report.new)) trace result) }
 {
-    let mut watched = Counted::new(Watched::new(input, progress));
+    let mut reader = Counted::new(ProgressReader::new(input, progress));
     let outcome = engine::run(
         rt.alloc(),
         hasher,
         rules,
         plant,
-        &mut watched,
+        &mut reader,
         output,
         report,
         trace,
     );
-    watched.into_inner().end();
+    reader.into_inner().end();
     Ok(outcome?.torn)
 }
 
@@ -187,7 +187,7 @@ impl<R: Clock + Env + Files + Print + Eprint + RandomSource + AllocGlobal> Host 
 
     // What files hold can't be said. What a run gives for its texts and its
     // capture can, and what a judgement gives for its texts.
-    ghost happens = { λ _ call _. Promised (λ c. R.File.remaining c.inner) (λ c. R.File.contents c.inner) call };
+    ghost happens = { λ _ call _. IsGuaranteed (λ c. R.File.remaining c.inner) (λ c. R.File.contents c.inner) call };
 
     fn words(&mut self) -> io::Result<Vec<String>> {
         Ok(env::args(self.rt)?.collect(self.rt.alloc())?)
@@ -237,12 +237,12 @@ impl<R: Clock + Env + Files + Print + Eprint + RandomSource + AllocGlobal> Host 
         output: &mut Self::Output,
         trace: bool,
     ) -> Result<bool, RunFault> {
-        let place = if self.terminals.output {
-            Place::Shared
+        let line = if self.terminals.output {
+            ProgressLine::Appended
         } else {
-            Place::Alone
+            ProgressLine::Overwritten
         };
-        let progress = self.progress(place);
+        let progress = self.progress(line);
         let outcome = run_to_output(
             self.rt, hasher, rules, plant, input, output, trace, progress,
         );
@@ -260,7 +260,7 @@ impl<R: Clock + Env + Files + Print + Eprint + RandomSource + AllocGlobal> Host 
         report: &mut Self::Output,
         trace: bool,
     ) -> Result<bool, RunFault> {
-        let progress = self.progress(Place::Alone);
+        let progress = self.progress(ProgressLine::Overwritten);
         let outcome = run_to_file(
             self.rt, hasher, rules, plant, input, output, report, trace, progress,
         );
@@ -272,7 +272,7 @@ impl<R: Clock + Env + Files + Print + Eprint + RandomSource + AllocGlobal> Host 
         engine::judge(self.rt.alloc(), rules, plant)
     }
 
-    fn announce(&mut self, counts: Counts) -> io::Result<()> {
+    fn print_accepted(&mut self, counts: Counts) -> io::Result<()> {
         let rt = self.rt;
         let answer = println!(rt;
             "accepted tables {} chains {} rules {}",
@@ -281,15 +281,15 @@ impl<R: Clock + Env + Files + Print + Eprint + RandomSource + AllocGlobal> Host 
         self.keep("standard output", answer)
     }
 
-    fn tell(&mut self, status: Status) {
+    fn print_status(&mut self, status: Status) {
         let rt = self.rt;
         let _ = eprintln!(rt; "{status}");
     }
 
-    fn clarify(&mut self, status: Status, task: &Task<'_>) {
-        clarify(self.rt, status, task);
+    fn explain_status(&mut self, status: Status, task: &Task<'_>) {
+        explain_status(self.rt, status, task);
         if matches!(status, Status::Device) {
-            let _ = self.tell_failed(task);
+            let _ = self.print_failure(task);
         }
     }
 

@@ -3,31 +3,31 @@ use Rattle.std.proofs.Common.{◌≡◌, ◌≢◌, ◌<◌, ◌≤◌, ◌+◌,
 use mir.Val.{bool_byte}
 use Rattle.std.proofs.lemmas.Bool.Decides.{Decides-eqb}
 use Rattle.std.proofs.lemmas.List.Sums.{sum_by-cons}
-use Rattle.conntrack.specs.Stories.{does_begin}
-use Rattle.story.specs.declared.outcome.Cause.{Cause}
-use Rattle.story.specs.declared.outcome.Outcome.{Outcome}
-use Rattle.story.specs.declared.outcome.Outcome.TheVariants.{Dropped}
-use Rattle.story.specs.Outcomes.{place, is_passed, is_local, is_dropped_for}
-use Rattle.story.specs.Story.{Entry}
+use Rattle.conntrack.specs.Histories.{is_creation}
+use Rattle.history.specs.declared.outcome.Cause.{Cause}
+use Rattle.history.specs.declared.outcome.Outcome.{Outcome}
+use Rattle.history.specs.declared.outcome.Outcome.TheVariants.{Dropped}
+use Rattle.history.specs.Outcomes.{report_index, is_passed, is_local, is_dropped_for}
+use Rattle.history.specs.History.{Entry}
 use Rattle.report.specs.Report.{passed, local, dropped, begun}
 
 -- one more where a record ended so
 abbrev pub more_if : Bool → ℕ → ℕ
 more_if so n = cond so 1 0 + n
 
-pub passed_more : (story : List Entry) (e : Entry) (o : Outcome) (n : ℕ) → o ≡ e.outcome → n ≡ passed story → more_if (is_passed o) n ≡ passed (e ∷ story)
-passed_more story e o n is were = ap (λ (p : Outcome). more_if (is_passed p) n) is ∙ ap (more_if (is_passed e.outcome)) were ∙ sym (sum_by-cons (λ (x : Entry). cond (is_passed x.outcome) 1 0) e story)
+pub passed_more : (history : List Entry) (e : Entry) (o : Outcome) (n : ℕ) → o ≡ e.outcome → n ≡ passed history → more_if (is_passed o) n ≡ passed (e ∷ history)
+passed_more history e o n is were = ap (λ (p : Outcome). more_if (is_passed p) n) is ∙ ap (more_if (is_passed e.outcome)) were ∙ sym (sum_by-cons (λ (x : Entry). cond (is_passed x.outcome) 1 0) e history)
 
-pub local_more : (story : List Entry) (e : Entry) (o : Outcome) (n : ℕ) → o ≡ e.outcome → n ≡ local story → more_if (is_local o) n ≡ local (e ∷ story)
-local_more story e o n is were = ap (λ (p : Outcome). more_if (is_local p) n) is ∙ ap (more_if (is_local e.outcome)) were ∙ sym (sum_by-cons (λ (x : Entry). cond (is_local x.outcome) 1 0) e story)
+pub local_more : (history : List Entry) (e : Entry) (o : Outcome) (n : ℕ) → o ≡ e.outcome → n ≡ local history → more_if (is_local o) n ≡ local (e ∷ history)
+local_more history e o n is were = ap (λ (p : Outcome). more_if (is_local p) n) is ∙ ap (more_if (is_local e.outcome)) were ∙ sym (sum_by-cons (λ (x : Entry). cond (is_local x.outcome) 1 0) e history)
 
-pub dropped_more : (k : Cause) (story : List Entry) (e : Entry) (o : Outcome) (n : ℕ) → o ≡ e.outcome → n ≡ dropped k story → more_if (is_dropped_for k o) n ≡ dropped k (e ∷ story)
-dropped_more k story e o n is were =
-    ap (λ (p : Outcome). more_if (is_dropped_for k p) n) is ∙ ap (more_if (is_dropped_for k e.outcome)) were ∙ sym (sum_by-cons (λ (x : Entry). cond (is_dropped_for k x.outcome) 1 0) e story)
+pub dropped_more : (k : Cause) (history : List Entry) (e : Entry) (o : Outcome) (n : ℕ) → o ≡ e.outcome → n ≡ dropped k history → more_if (is_dropped_for k o) n ≡ dropped k (e ∷ history)
+dropped_more k history e o n is were =
+    ap (λ (p : Outcome). more_if (is_dropped_for k p) n) is ∙ ap (more_if (is_dropped_for k e.outcome)) were ∙ sym (sum_by-cons (λ (x : Entry). cond (is_dropped_for k x.outcome) 1 0) e history)
 
 -- one more where a record began a connection
-pub begun_more : (story : List Entry) (e : Entry) (begins : Bool) (n : ℕ) → begins ≡ does_begin e.tracked.what → n ≡ begun story → more_if begins n ≡ begun (e ∷ story)
-begun_more story e begins n is were = ap (λ (b : Bool). more_if b n) is ∙ ap (more_if (does_begin e.tracked.what)) were ∙ sym (sum_by-cons (λ (x : Entry). cond (does_begin x.tracked.what) 1 0) e story)
+pub begun_more : (history : List Entry) (e : Entry) (begins : Bool) (n : ℕ) → begins ≡ is_creation e.tracked.what → n ≡ begun history → more_if begins n ≡ begun (e ∷ history)
+begun_more history e begins n is were = ap (λ (b : Bool). more_if b n) is ∙ ap (more_if (is_creation e.tracked.what)) were ∙ sym (sum_by-cons (λ (x : Entry). cond (is_creation x.tracked.what) 1 0) e history)
 
 -- what is added for a test is one where it holds
 pub more_by_test : (b : Bool) (n : ℕ) → n + bool_byte b ≡ more_if b n
@@ -52,5 +52,5 @@ raised ns i j false e lt =
     not_same same = let yes : (i == j) ≡ true = (Decides-eqb i j).1 (sym same) in cc
 
 -- the number at the cause's place is raised by one
-pub drop_more : (ns : List ℕ) (cause : Cause) (at : ℕ) → at ≡ place cause → at < length ns → (k : Cause) → slice_index (set ns at (slice_index ns at + 1)) (place k) ≡ more_if (is_dropped_for k (Dropped cause)) (slice_index ns (place k))
-drop_more ns cause at is lt k = raised ns at (place k) (at == place k) refl lt ∙ ap (λ i. more_if (i == place k) (slice_index ns (place k))) is
+pub drop_more : (ns : List ℕ) (cause : Cause) (at : ℕ) → at ≡ report_index cause → at < length ns → (k : Cause) → slice_index (set ns at (slice_index ns at + 1)) (report_index k) ≡ more_if (is_dropped_for k (Dropped cause)) (slice_index ns (report_index k))
+drop_more ns cause at is lt k = raised ns at (report_index k) (at == report_index k) refl lt ∙ ap (λ i. more_if (i == report_index k) (slice_index ns (report_index k))) is

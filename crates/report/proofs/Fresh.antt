@@ -5,11 +5,11 @@ use Rattle.std.specs.Option.{option_map, option_and_then}
 use Rattle.std.proofs.lemmas.Option.{slice_get-map, slice_get_within, get_or_from_slice_get}
 use Rattle.nft_tree.specs.declared.statement.CounterStart.{CounterStart}
 use Rattle.nft_tree.specs.Tree.{Statement, RuleTree, TableTree}
-use Rattle.nft_tree.specs.Parts.{chains_of, counter_in, numbered_from_one, rule_numbered}
-use Rattle.rule_meaning.specs.declared.event.Place.{Place}
+use Rattle.nft_tree.specs.TableItems.{chains_of, counter_in, numbered_from_one, rule_numbered}
+use Rattle.rule_meaning.specs.declared.event.StatementPosition.{StatementPosition}
 use Rattle.report.specs.declared.tallies.Tally.{Tally}
 use Rattle.report.specs.Report.{packets, bytes}
-use Rattle.report.specs.Standing.{Tallies, tally_at, tally_of, counter_at}
+use Rattle.report.specs.Representing.{Tallies, tally_at, tally_of, counter_at}
 use Rattle.report.specs.steps.Bounds.{AllWithin}
 use Rattle.report.specs.steps.Tallying.{started, fresh_statement, fresh_rule, fresh_chain, fresh_table, fresh}
 
@@ -24,10 +24,10 @@ found_in-map : {A B C D : Type 0} (f : A → B) (g : C → D) (find : A → Opti
 found_in-map f g find find' None same = refl
 found_in-map f g find find' (Some a) same = same a
 
-abbrev statement_there : List TableTree → Place → Option Statement
+abbrev statement_there : List TableTree → StatementPosition → Option Statement
 statement_there rules at = option_and_then (λ r. numbered_from_one r.statements at.statement) (rule_numbered rules at.rule)
 
-fresh_there : (rules : List TableTree) (at : Place) → tally_at (fresh rules) at ≡ option_map fresh_statement (statement_there rules at)
+fresh_there : (rules : List TableTree) (at : StatementPosition) → tally_at (fresh rules) at ≡ option_map fresh_statement (statement_there rules at)
 fresh_there rules at =
     let tables : slice_get (fresh rules) at.rule.table ≡ option_map fresh_table (slice_get rules at.rule.table) = slice_get-map fresh_table rules at.rule.table in
     let chain = option_and_then (λ (t : TableTree). slice_get (chains_of t) at.rule.chain) (slice_get rules at.rule.table) in
@@ -43,7 +43,7 @@ fresh_there rules at =
     ∙ more
 
 -- what a counter starts at is what it stands at after no entry
-no_entry : (start : CounterStart) (at : Place) → started (Some start) ≡ tally_of start at []
+no_entry : (start : CounterStart) (at : StatementPosition) → started (Some start) ≡ tally_of start at []
 no_entry start at =
     let more_packets : start.packets ≡ start.packets + packets at [] = omega arith in
     let more_bytes : start.bytes ≡ start.bytes + bytes at [] = omega arith in
@@ -60,7 +60,7 @@ counter_of : (o : Option RuleTree) (n : ℕ) → option_and_then (λ r. option_a
 counter_of None n = refl
 counter_of (Some r) n = refl
 
-pub fresh_starts : (rules : List TableTree) (at : Place) (start : CounterStart) → counter_at rules at ≡ Some start → tally_at (fresh rules) at ≡ Some (tally_of start at [])
+pub fresh_starts : (rules : List TableTree) (at : StatementPosition) (start : CounterStart) → counter_at rules at ≡ Some start → tally_at (fresh rules) at ≡ Some (tally_of start at [])
 fresh_starts rules at start is =
     fresh_there rules at
     ∙ starts_so (statement_there rules at) start (sym (counter_of (rule_numbered rules at.rule) at.statement) ∙ is)

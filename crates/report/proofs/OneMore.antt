@@ -6,13 +6,13 @@ use Rattle.std.proofs.lemmas.List.{set_past}
 use Rattle.std.specs.List.{flat_map}
 use Rattle.nft_tree.specs.Tree.{Text, TableTree}
 use Rattle.rule_meaning.specs.declared.event.Event.{Event}
-use Rattle.story.specs.declared.entry.Entry as lent
-use Rattle.story.specs.declared.outcome.Cause.{Cause}
-use Rattle.story.specs.declared.outcome.Outcome.{Outcome}
-use Rattle.story.specs.Outcomes.{place, is_passed, is_local, is_dropped_for}
-use Rattle.story.specs.Story.{Entry, IsEntry}
+use Rattle.history.specs.declared.entry.Entry as lent
+use Rattle.history.specs.declared.outcome.Cause.{Cause}
+use Rattle.history.specs.declared.outcome.Outcome.{Outcome}
+use Rattle.history.specs.Outcomes.{report_index, is_passed, is_local, is_dropped_for}
+use Rattle.history.specs.History.{Entry, IsEntry}
 use Rattle.report.specs.declared.notes.Note.{Note}
-use Rattle.report.specs.Standing.{Tallies, Known, Reports, drops_of, tally_at, note_line}
+use Rattle.report.specs.Representing.{Tallies, ReportState, IsReportOf, drops_of, tally_at, note_line}
 use Rattle.report.specs.steps.Bounds.{AllWithin}
 use Rattle.report.specs.steps.Noting.{noted}
 use Rattle.report.specs.steps.Tallying.{counted_all}
@@ -53,29 +53,29 @@ same_counts : (size size' : ℕ) (es es' : List Event) (ts : Tallies) → size �
 same_counts size size' es es' ts hs he = rw (hs, he)
 
 -- a report that knows this of a story, and of one entry more as much as is told of it
-pub reports_more : (old known : Known) (rules : List TableTree) (trace : Bool) (story : List Entry) (told : Text) (e : Entry) (entry : lent.Entry) (sent kept : ℕ) (lost : List ℕ) (begins : ℕ) (ts : Tallies) (notes : List Note) (room : ℕ)
-    → old ≡ known → Reports known rules trace story told → IsEntry e story entry
+pub reports_more : (old known : ReportState) (rules : List TableTree) (trace : Bool) (history : List Entry) (written : Text) (e : Entry) (entry : lent.Entry) (sent kept : ℕ) (lost : List ℕ) (begins : ℕ) (ts : Tallies) (notes : List Note) (room : ℕ)
+    → old ≡ known → IsReportOf known rules trace history written → IsEntry e history entry
     → AllWithin ((old.records + 1) * 2 ^ 64) ((old.records + 1) * 2 ^ 80) old.tallies → known.records < 2 ^ 32 → length entry.events.now < 2 ^ 64 → entry.length < 2 ^ 16
-    → sent ≡ more_if (is_passed entry.outcome) old.passed → kept ≡ more_if (is_local entry.outcome) old.local → ((cause : Cause) → slice_index lost (place cause) ≡ more_if (is_dropped_for cause entry.outcome) (drops_of old cause))
+    → sent ≡ more_if (is_passed entry.outcome) old.passed → kept ≡ more_if (is_local entry.outcome) old.local → ((cause : Cause) → slice_index lost (report_index cause) ≡ more_if (is_dropped_for cause entry.outcome) (drops_of old cause))
     → begins ≡ more_if entry.begun old.begun → ts ≡ counted_all entry.length entry.events.now old.tallies → notes ≡ old.notes ++ noted old.traces entry.number entry.events.now entry.outcome
-    → Reports (record { records = old.records + 1; passed = sent; local = kept; dropped = lost; begun = begins; tallies = ts; traces = old.traces; notes = notes; room = room }) rules trace (e ∷ story) told
-reports_more old known rules trace story told e entry sent kept lost begins ts notes room same stood is within known_few events_few small sent_is kept_is lost_is begins_is ts_is notes_is =
-    let r : Reports old rules trace story told = subst (λ k. Reports k rules trace story told) (sym same) stood in
-    let few : old.records < 2 ^ 32 = omega (arith, known_few, ap (λ (k : Known). k.records) same) in
+    → IsReportOf (record { records = old.records + 1; passed = sent; local = kept; dropped = lost; begun = begins; tallies = ts; traces = old.traces; notes = notes; room = room }) rules trace (e ∷ history) written
+reports_more old known rules trace history written e entry sent kept lost begins ts notes room same stood is within known_few events_few small sent_is kept_is lost_is begins_is ts_is notes_is =
+    let r : IsReportOf old rules trace history written = subst (λ k. IsReportOf k rules trace history written) (sym same) stood in
+    let few : old.records < 2 ^ 32 = omega (arith, known_few, ap (λ (k : ReportState). k.records) same) in
     let several : length e.events < 2 ^ 64 = rw (← is.events) events_few in
     let short : e.length < 2 ^ 16 = rw (← is.bytes) small in
     let bytes : length e.events * e.length ≤ 2 ^ 80 = bytes_below (length e.events) e.length several short in
     let counts : ts ≡ counted_all e.length e.events old.tallies = ts_is ∙ same_counts entry.length e.length entry.events.now e.events old.tallies is.bytes is.events in
-    let noted_is : notes ≡ old.notes ++ noted trace (length (e ∷ story)) e.events e.outcome =
-    notes_is ∙ same_notes old.notes old.traces trace entry.number (length (e ∷ story)) entry.events.now e.events entry.outcome e.outcome r.traces_so is.number is.events is.outcome in
+    let noted_is : notes ≡ old.notes ++ noted trace (length (e ∷ history)) e.events e.outcome =
+    notes_is ∙ same_notes old.notes old.traces trace entry.number (length (e ∷ history)) entry.events.now e.events entry.outcome e.outcome r.traces_so is.number is.events is.outcome in
     record {
       records = omega (arith, r.records);
-      passed_are = sent_is ∙ passed_more story e entry.outcome old.passed is.outcome r.passed_are;
-      local_are = kept_is ∙ local_more story e entry.outcome old.local is.outcome r.local_are;
-      dropped_are = λ cause. lost_is cause ∙ dropped_more cause story e entry.outcome (drops_of old cause) is.outcome (r.dropped_are cause);
-      begun_are = begins_is ∙ begun_more story e entry.begun old.begun is.begun r.begun_are;
+      passed_are = sent_is ∙ passed_more history e entry.outcome old.passed is.outcome r.passed_are;
+      local_are = kept_is ∙ local_more history e entry.outcome old.local is.outcome r.local_are;
+      dropped_are = λ cause. lost_is cause ∙ dropped_more cause history e entry.outcome (drops_of old cause) is.outcome (r.dropped_are cause);
+      begun_are = begins_is ∙ begun_more history e entry.begun old.begun is.begun r.begun_are;
       tallies_are = λ at start h. ap (λ xs. tally_at xs at) counts
-          ∙ tallies_more rules story e old.tallies ((old.records + 1) * 2 ^ 64) ((old.records + 1) * 2 ^ 80) within (omega (arith, few, several)) (omega (arith, few, bytes)) r.tallies_are at start h;
+          ∙ tallies_more rules history e old.tallies ((old.records + 1) * 2 ^ 64) ((old.records + 1) * 2 ^ 80) within (omega (arith, few, several)) (omega (arith, few, bytes)) r.tallies_are at start h;
       traces_so = r.traces_so;
-      rest = ap (λ ns. told ++ flat_map (note_line rules) ns) noted_is ∙ rest_more rules trace story told old.notes e r.rest;
+      rest = ap (λ ns. written ++ flat_map (note_line rules) ns) noted_is ∙ rest_more rules trace history written old.notes e r.rest;
     }

@@ -4,8 +4,8 @@ use mir.Val.{bool_byte}
 use Rattle.std.specs.Prelude.{codes}
 use Rattle.std.specs.List.{flat_map}
 use Rattle.std.specs.Fmt.{decimal}
-use Rattle.story.specs.declared.outcome.Cause.{Cause}
-use Rattle.story.specs.Outcomes.{causes}
+use Rattle.history.specs.declared.outcome.Cause.{Cause}
+use Rattle.history.specs.Outcomes.{causes}
 use Rattle.report.specs.Report.{line, bit, drop_line, number_lines}
 
 -- the lines before those of the causes, and those after
@@ -25,13 +25,13 @@ totals_split records sent kept lost begun live torn =
 heads : (r n p m q k : List ℕ) → r ++ (n ++ (10 ∷ (p ++ (m ++ (10 ∷ (q ++ (k ++ (10 ∷ [])))))))) ≡ (((r ++ n) ++ (10 ∷ [])) ++ ((p ++ m) ++ (10 ∷ []))) ++ ((q ++ k) ++ (10 ∷ []))
 heads r n p m q k = simp append_assoc
 
-pub head_told : (records records' sent sent' kept kept' : ℕ) → records' ≡ records → sent' ≡ sent → kept' ≡ kept
+pub head_written : (records records' sent sent' kept kept' : ℕ) → records' ≡ records → sent' ≡ sent → kept' ≡ kept
     → codes "records" ++ ((32 ∷ decimal records') ++ (codes "\npassed" ++ ((32 ∷ decimal sent') ++ (codes "\nlocal" ++ ((32 ∷ decimal kept') ++ ((10 ∷ []) ++ [])))))) ≡ head_lines records sent kept
-head_told records records' sent sent' kept kept' hr hs hk = heads (codes "records") (32 ∷ decimal records') (codes "passed") (32 ∷ decimal sent') (codes "local") (32 ∷ decimal kept') ∙ rw (hr, hs, hk)
+head_written records records' sent sent' kept kept' hr hs hk = heads (codes "records") (32 ∷ decimal records') (codes "passed") (32 ∷ decimal sent') (codes "local") (32 ∷ decimal kept') ∙ rw (hr, hs, hk)
 
-pub tail_told : (begun begun' live live' n : ℕ) (torn : Bool) → begun' ≡ begun → live' ≡ live → n ≡ bit torn
+pub tail_written : (begun begun' live live' n : ℕ) (torn : Bool) → begun' ≡ begun → live' ≡ live → n ≡ bit torn
     → codes "begun" ++ ((32 ∷ decimal begun') ++ (codes "\nlive" ++ ((32 ∷ decimal live') ++ (codes "\ntorn" ++ ((32 ∷ decimal n) ++ ((10 ∷ []) ++ [])))))) ≡ tail_lines begun live torn
-tail_told begun begun' live live' n torn hb hl hn = heads (codes "begun") (32 ∷ decimal begun') (codes "live") (32 ∷ decimal live') (codes "torn") (32 ∷ decimal n) ∙ rw (hb, hl, hn)
+tail_written begun begun' live live' n torn hb hl hn = heads (codes "begun") (32 ∷ decimal begun') (codes "live") (32 ∷ decimal live') (codes "torn") (32 ∷ decimal n) ∙ rw (hb, hl, hn)
 
 pub bit_is : (b : Bool) → bool_byte b ≡ bit b
 bit_is true = refl

@@ -7,14 +7,14 @@ use Rattle.std.proofs.lemmas.Option.{none-some, same_Some}
 use Rattle.std.proofs.lemmas.List.Sums.{sum_by-cons}
 use Rattle.nft_tree.specs.declared.statement.CounterStart.{CounterStart}
 use Rattle.nft_tree.specs.Tree.{TableTree}
-use Rattle.nft_tree.specs.Parts.{numbered_from_one}
-use Rattle.rule_meaning.specs.declared.event.Place.{Place}
+use Rattle.nft_tree.specs.TableItems.{numbered_from_one}
+use Rattle.rule_meaning.specs.declared.event.StatementPosition.{StatementPosition}
 use Rattle.rule_meaning.specs.declared.event.Event.{Event}
 use Rattle.rule_meaning.specs.declared.event.Event.TheVariants as events
-use Rattle.story.specs.Story.{Entry}
+use Rattle.history.specs.History.{Entry}
 use Rattle.report.specs.declared.tallies.Tally.{Tally}
-use Rattle.report.specs.Report.{same_place, is_counted_at, counts_at, packets, bytes}
-use Rattle.report.specs.Standing.{Tallies, tally_at, tally_of, counter_at}
+use Rattle.report.specs.Report.{same_position, is_counted_at, counts_at, packets, bytes}
+use Rattle.report.specs.Representing.{Tallies, tally_at, tally_of, counter_at}
 use Rattle.report.specs.steps.Bounds.{AllWithin}
 use Rattle.report.specs.steps.Tallying.{changed, changed_from_one, GREATEST, raised, rule_counted, chain_counted, table_counted, counted, counted_event, counted_all}
 
@@ -68,7 +68,7 @@ grouped : (a b c : Bool) → ((a && b) && c) ≡ (a && (b && c))
 grouped true b c = refl
 grouped false b c = refl
 
-pub counted_at : (size : ℕ) (p at : Place) (ts : Tallies) → tally_at (counted size p ts) at ≡ changed_if (same_place p at) (raised size) (tally_at ts at)
+pub counted_at : (size : ℕ) (p at : StatementPosition) (ts : Tallies) → tally_at (counted size p ts) at ≡ changed_if (same_position p at) (raised size) (tally_at ts at)
 counted_at size p at ts =
     let rule : List Tally → List Tally = rule_counted size p.statement in
     let chain : List (List Tally) → List (List Tally) = chain_counted size p.statement p.rule.rule in
@@ -111,13 +111,13 @@ changed_grown : (size : ℕ) (same : Bool) (o : Option Tally) (t : Tally) → o 
 changed_grown size true o t is p q = ap (option_map (raised size)) is ∙ ap Some (once_grown size t p q)
 changed_grown size false o t is p q = is ∙ ap Some (not_grown size t)
 
-event_at : (size : ℕ) (e : Event) (at : Place) (ts : Tallies) (t : Tally) → tally_at ts at ≡ Some t → t.packets + 1 ≤ GREATEST → t.bytes + size ≤ GREATEST → tally_at (counted_event size e ts) at ≡ Some (grown size (times (is_counted_at at e)) t)
-event_at size (events.Counted p) at ts t is a b = counted_at size p at ts ∙ changed_grown size (same_place p at) (tally_at ts at) t is a b
+event_at : (size : ℕ) (e : Event) (at : StatementPosition) (ts : Tallies) (t : Tally) → tally_at ts at ≡ Some t → t.packets + 1 ≤ GREATEST → t.bytes + size ≤ GREATEST → tally_at (counted_event size e ts) at ≡ Some (grown size (times (is_counted_at at e)) t)
+event_at size (events.Counted p) at ts t is a b = counted_at size p at ts ∙ changed_grown size (same_position p at) (tally_at ts at) t is a b
 event_at size (events.Logged p) at ts t is a b = is ∙ ap Some (not_grown size t)
 event_at size (events.Marked field value) at ts t is a b = is ∙ ap Some (not_grown size t)
 event_at size events.Untracked at ts t is a b = is ∙ ap Some (not_grown size t)
-event_at size (events.Took rule decision) at ts t is a b = is ∙ ap Some (not_grown size t)
-event_at size (events.Closed chain policy) at ts t is a b = is ∙ ap Some (not_grown size t)
+event_at size (events.TookVerdict rule verdict) at ts t is a b = is ∙ ap Some (not_grown size t)
+event_at size (events.TookPolicy chain policy) at ts t is a b = is ∙ ap Some (not_grown size t)
 
 times_most : (same : Bool) → times same ≤ 1
 times_most true = omega arith
@@ -130,7 +130,7 @@ product_most false size = omega arith
 more_products : (n size : ℕ) → suc n * size ≡ size + n * size
 more_products n size = grind arith
 
-all_at : (size : ℕ) (es : List Event) (at : Place) (ts : Tallies) (t : Tally) → tally_at ts at ≡ Some t → t.packets + length es ≤ GREATEST → t.bytes + length es * size ≤ GREATEST → tally_at (counted_all size es ts) at ≡ Some (grown size (count_by (is_counted_at at) es) t)
+all_at : (size : ℕ) (es : List Event) (at : StatementPosition) (ts : Tallies) (t : Tally) → tally_at ts at ≡ Some t → t.packets + length es ≤ GREATEST → t.bytes + length es * size ≤ GREATEST → tally_at (counted_all size es ts) at ≡ Some (grown size (count_by (is_counted_at at) es) t)
 all_at size [] at ts t is a b = is ∙ ap Some (not_grown size t)
 all_at size (e ∷ es) at ts t is a b =
     let k : ℕ = times (is_counted_at at e) in
@@ -156,12 +156,12 @@ pub wider : (p b p' b' : ℕ) (ts : Tallies) → p ≤ p' → b ≤ b' → AllWi
 wider p b p' b' ts pp bb were = λ at t is. let h = were at t is in (omega (arith, h.0, pp), omega (arith, h.1, bb))
 
 within_event : (size p b : ℕ) (e : Event) (ts : Tallies) → AllWithin p b ts → AllWithin (p + 1) (b + size) (counted_event size e ts)
-within_event size p b (events.Counted place) ts were = λ at t is. changed_within size p b (same_place place at) (tally_at ts at) t (were at) (sym (counted_at size place at ts) ∙ is)
-within_event size p b (events.Logged place) ts were = wider p b (p + 1) (b + size) ts (omega arith) (omega arith) were
+within_event size p b (events.Counted position) ts were = λ at t is. changed_within size p b (same_position position at) (tally_at ts at) t (were at) (sym (counted_at size position at ts) ∙ is)
+within_event size p b (events.Logged position) ts were = wider p b (p + 1) (b + size) ts (omega arith) (omega arith) were
 within_event size p b (events.Marked field value) ts were = wider p b (p + 1) (b + size) ts (omega arith) (omega arith) were
 within_event size p b events.Untracked ts were = wider p b (p + 1) (b + size) ts (omega arith) (omega arith) were
-within_event size p b (events.Took rule decision) ts were = wider p b (p + 1) (b + size) ts (omega arith) (omega arith) were
-within_event size p b (events.Closed chain policy) ts were = wider p b (p + 1) (b + size) ts (omega arith) (omega arith) were
+within_event size p b (events.TookVerdict rule verdict) ts were = wider p b (p + 1) (b + size) ts (omega arith) (omega arith) were
+within_event size p b (events.TookPolicy chain policy) ts were = wider p b (p + 1) (b + size) ts (omega arith) (omega arith) were
 
 pub within_all : (size p b : ℕ) (es : List Event) (ts : Tallies) → AllWithin p b ts → AllWithin (p + length es) (b + length es * size) (counted_all size es ts)
 within_all size p b [] ts were = wider p b (p + 0) (b + 0 * size) ts (omega arith) (omega arith) were
@@ -172,14 +172,14 @@ within_all size p b (e ∷ es) ts were =
 
 -- ---- a story with one entry more
 
-pub tallies_more : (rules : List TableTree) (story : List Entry) (e : Entry) (ts : Tallies) (p b : ℕ) → AllWithin p b ts → p + length e.events ≤ GREATEST → b + length e.events * e.length ≤ GREATEST
-    → ((at : Place) (start : CounterStart) → counter_at rules at ≡ Some start → tally_at ts at ≡ Some (tally_of start at story))
-    → (at : Place) (start : CounterStart) → counter_at rules at ≡ Some start → tally_at (counted_all e.length e.events ts) at ≡ Some (tally_of start at (e ∷ story))
-tallies_more rules story e ts p b within few small were at start is =
-    let old : tally_at ts at ≡ Some (tally_of start at story) = were at start is in
-    let bound : ((start.packets + packets at story) ≤ p) × ((start.bytes + bytes at story) ≤ b) = within at (tally_of start at story) old in
-    let packets_are : packets at (e ∷ story) ≡ counts_at at e + packets at story = sum_by-cons (counts_at at) e story in
-    let bytes_are : bytes at (e ∷ story) ≡ counts_at at e * e.length + bytes at story = sum_by-cons (λ (x : Entry). counts_at at x * x.length) e story in
-    all_at e.length e.events at ts (tally_of start at story) old (omega (arith, bound.0, few)) (omega (arith, bound.1, small))
-    ∙ ap Some (same_tally ((start.packets + packets at story) + counts_at at e) ((start.bytes + bytes at story) + counts_at at e * e.length) (start.packets + packets at (e ∷ story)) (start.bytes + bytes at (e ∷ story))
+pub tallies_more : (rules : List TableTree) (history : List Entry) (e : Entry) (ts : Tallies) (p b : ℕ) → AllWithin p b ts → p + length e.events ≤ GREATEST → b + length e.events * e.length ≤ GREATEST
+    → ((at : StatementPosition) (start : CounterStart) → counter_at rules at ≡ Some start → tally_at ts at ≡ Some (tally_of start at history))
+    → (at : StatementPosition) (start : CounterStart) → counter_at rules at ≡ Some start → tally_at (counted_all e.length e.events ts) at ≡ Some (tally_of start at (e ∷ history))
+tallies_more rules history e ts p b within few small were at start is =
+    let old : tally_at ts at ≡ Some (tally_of start at history) = were at start is in
+    let bound : ((start.packets + packets at history) ≤ p) × ((start.bytes + bytes at history) ≤ b) = within at (tally_of start at history) old in
+    let packets_are : packets at (e ∷ history) ≡ counts_at at e + packets at history = sum_by-cons (counts_at at) e history in
+    let bytes_are : bytes at (e ∷ history) ≡ counts_at at e * e.length + bytes at history = sum_by-cons (λ (x : Entry). counts_at at x * x.length) e history in
+    all_at e.length e.events at ts (tally_of start at history) old (omega (arith, bound.0, few)) (omega (arith, bound.1, small))
+    ∙ ap Some (same_tally ((start.packets + packets at history) + counts_at at e) ((start.bytes + bytes at history) + counts_at at e * e.length) (start.packets + packets at (e ∷ history)) (start.bytes + bytes at (e ∷ history))
     (omega (arith, packets_are)) (omega (arith, bytes_are)))

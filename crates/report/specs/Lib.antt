@@ -1,3 +1,3 @@
 pub mod Report
-pub mod Standing
+pub mod Representing
 pub mod steps

@@ -1,6 +1,6 @@
 pub mod Tallying
 pub mod Noting
-pub mod Telling
-pub mod Standings
+pub mod Paging
+pub mod TallyLines
 pub mod Totals
 pub mod Bounds

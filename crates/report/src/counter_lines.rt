@@ -1,11 +1,11 @@
 //! The lines of counters.
 ghost use Rattle.std.specs.Prelude.{◌≡◌};
 ghost use Rattle.nft_tree.specs.Tree.{chain_tree, rule_tree, table_tree, tables_of};
-ghost use Rattle.nft_tree.specs.Parts.{chains_of};
-ghost use Rattle.report.specs.steps.Telling.{CountsFailure, Puts};
-ghost use Rattle.report.specs.steps.Standings.{place_of, standing, tally_line, told_chains, told_rules, told_statements, told_tables};
+ghost use Rattle.nft_tree.specs.TableItems.{chains_of};
+ghost use Rattle.report.specs.steps.Paging.{CountsFailure, Puts};
+ghost use Rattle.report.specs.steps.TallyLines.{position_of, tally_or_zero, tally_line, chains_text, rules_text, statements_text, tables_text};
 
-use crate::named::{Named, family_word};
+use crate::names::{ChainInTable, family_word};
 use crate::page::Page;
 use crate::piece::Piece;
 use crate::tallies::{Location, RulesetTallies, Tally};
@@ -20,7 +20,7 @@ pub fn put_counters<W: Write>(
     rules: &Ruleset,
     tallies: &RulesetTallies,
 ) -> Result<(), DeviceFailed>
-    ensures puts { Puts result page.old.text.items (W.contents writer.old.inner) page.new.text.items (W.contents writer.new.inner) (told_tables tallies.now 0 (tables_of rules.now)) }
+    ensures puts { Puts result page.old.text.items (W.contents writer.old.inner) page.new.text.items (W.contents writer.new.inner) (tables_text tallies.now 0 (tables_of rules.now)) }
     ensures counts { CountsFailure result writer.old.failures writer.new.failures }
 {
     for (number, table) in rules.tables.iter().enumerate() {
@@ -37,14 +37,14 @@ fn put_table<W: Write>(
     number: usize,
     table: &Table,
 ) -> Result<(), DeviceFailed>
-    ensures puts { Puts result page.old.text.items (W.contents writer.old.inner) page.new.text.items (W.contents writer.new.inner) (told_chains tallies.now (table_tree table.now) number 0 (chains_of (table_tree table.now))) }
+    ensures puts { Puts result page.old.text.items (W.contents writer.old.inner) page.new.text.items (W.contents writer.new.inner) (chains_text tallies.now (table_tree table.now) number 0 (chains_of (table_tree table.now))) }
     ensures counts { CountsFailure result writer.old.failures writer.new.failures }
 {
     let mut chain_number = 0;
     for item in &table.items {
         if let Some(chain) = item.chain() {
-            let named = Named { table, chain };
-            put_chain(page, writer, tallies, named, number, chain_number)?;
+            let found = ChainInTable { table, chain };
+            put_chain(page, writer, tallies, found, number, chain_number)?;
             chain_number += 1;
         }
     }
@@ -56,21 +56,21 @@ fn put_chain<W: Write>(
     page: &mut Page,
     writer: &mut Counted<W>,
     tallies: &RulesetTallies,
-    named: Named,
+    found: ChainInTable,
     table: usize,
     chain: usize,
 ) -> Result<(), DeviceFailed>
-    ensures puts { Puts result page.old.text.items (W.contents writer.old.inner) page.new.text.items (W.contents writer.new.inner) (told_rules tallies.now (table_tree named.entry.table.now) (chain_tree named.entry.chain.now) table chain 1 (chain_tree named.entry.chain.now).rules) }
+    ensures puts { Puts result page.old.text.items (W.contents writer.old.inner) page.new.text.items (W.contents writer.new.inner) (rules_text tallies.now (table_tree found.entry.table.now) (chain_tree found.entry.chain.now) table chain 1 (chain_tree found.entry.chain.now).rules) }
     ensures counts { CountsFailure result writer.old.failures writer.new.failures }
 {
-    for (before, rule) in named.chain.rules.iter().enumerate() {
+    for (before, rule) in found.chain.rules.iter().enumerate() {
         let first = Location {
             table,
             chain,
             rule: before + 1,
             statement: 1,
         };
-        put_rule(page, writer, tallies, named, first, rule)?;
+        put_rule(page, writer, tallies, found, first, rule)?;
     }
     Ok(())
 }
@@ -80,22 +80,22 @@ fn put_rule<W: Write>(
     page: &mut Page,
     writer: &mut Counted<W>,
     tallies: &RulesetTallies,
-    named: Named,
+    found: ChainInTable,
     first: Location,
     rule: &Rule,
 ) -> Result<(), DeviceFailed>
     requires { first.statement ≡ 1 }
-    ensures puts { Puts result page.old.text.items (W.contents writer.old.inner) page.new.text.items (W.contents writer.new.inner) (told_statements tallies.now (table_tree named.entry.table.now) (chain_tree named.entry.chain.now) (place_of first) 1 (rule_tree rule.now).statements) }
+    ensures puts { Puts result page.old.text.items (W.contents writer.old.inner) page.new.text.items (W.contents writer.new.inner) (statements_text tallies.now (table_tree found.entry.table.now) (chain_tree found.entry.chain.now) (position_of first) 1 (rule_tree rule.now).statements) }
     ensures counts { CountsFailure result writer.old.failures writer.new.failures }
 {
     let mut number = 1;
     for (before, statement) in rule.statements.iter().enumerate() {
         if statement.counter().is_some() {
-            let place = Location {
+            let position = Location {
                 statement: before + 1,
                 ..first
             };
-            put_counter(page, writer, tallies, named, place, number)?;
+            put_counter(page, writer, tallies, found, position, number)?;
             number += 1;
         }
     }
@@ -107,26 +107,26 @@ fn put_counter<W: Write>(
     page: &mut Page,
     writer: &mut Counted<W>,
     tallies: &RulesetTallies,
-    named: Named,
-    place: Location,
+    found: ChainInTable,
+    position: Location,
     number: u128,
 ) -> Result<(), DeviceFailed>
-    ensures puts { Puts result page.old.text.items (W.contents writer.old.inner) page.new.text.items (W.contents writer.new.inner) (tally_line (table_tree named.entry.table.now) (chain_tree named.entry.chain.now) place.rule number (standing tallies.now (place_of place))) }
+    ensures puts { Puts result page.old.text.items (W.contents writer.old.inner) page.new.text.items (W.contents writer.new.inner) (tally_line (table_tree found.entry.table.now) (chain_tree found.entry.chain.now) position.rule number (tally_or_zero tallies.now (position_of position))) }
     ensures counts { CountsFailure result writer.old.failures writer.new.failures }
 {
-    let tally = tallies.at(place).unwrap_or(Tally {
+    let tally = tallies.at(position).unwrap_or(Tally {
         packets: 0,
         bytes: 0,
     });
-    let family = family_word(named.table.family);
+    let family = family_word(found.table.family);
     page.put_all(
         writer,
         &[
             Piece::Text(b"counter"),
             Piece::Word(family),
-            Piece::Word(&named.table.name),
-            Piece::Word(&named.chain.name),
-            Piece::Number(place.rule as u128),
+            Piece::Word(&found.table.name),
+            Piece::Word(&found.chain.name),
+            Piece::Number(position.rule as u128),
             Piece::Number(number),
             Piece::Text(b" packets"),
             Piece::Number(tally.packets),

@@ -2,7 +2,7 @@
 #![tactic(auto)]
 
 mod counter_lines;
-mod named;
+mod names;
 mod note_lines;
 mod notes;
 mod page;
@@ -11,4 +11,4 @@ mod report;
 mod tallies;
 mod total_lines;
 
-pub use report::{FIRST_ROOM, MOST_NOTES, Report};
+pub use report::{INITIAL_NOTES, MOST_NOTES, Report};

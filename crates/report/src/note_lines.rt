@@ -2,19 +2,19 @@
 ghost use Rattle.std.specs.Prelude.{◌≡◌, true};
 ghost use Rattle.std.specs.List.{flat_map};
 ghost use Rattle.nft_tree.specs.Tree.{tables_of};
-ghost use Rattle.report.specs.Report.{decision_line, log_line, on_chain, outcome_line, policy_line};
-ghost use Rattle.report.specs.Standing.{note_line};
-ghost use Rattle.report.specs.steps.Telling.{CountsFailure, Puts};
+ghost use Rattle.report.specs.Report.{verdict_line, log_line, on_chain, outcome_line, policy_line};
+ghost use Rattle.report.specs.Representing.{note_line};
+ghost use Rattle.report.specs.steps.Paging.{CountsFailure, Puts};
 
-use crate::named::{decision_pieces, family_word, find, outcome_word, policy_word, prefix};
+use crate::names::{family_word, find, outcome_word, policy_word, prefix, verdict_pieces};
 use crate::notes::Note;
 use crate::page::Page;
 use crate::piece::Piece;
+use history::Outcome;
 use nft_tree::{Policy, RuleNo, Ruleset};
 use pcap_io::{Counted, DeviceFailed};
-use rule_meaning::{ChainNo, Decision, Place};
+use rule_meaning::{ChainNo, RuleVerdict, StatementPosition};
 use std::io::Write;
-use story::Outcome;
 
 /// Puts the lines of these notes, in their order.
 pub fn put_notes<W: Write>(
@@ -42,11 +42,11 @@ fn put_note<W: Write>(
     ensures counts { CountsFailure result writer.old.failures writer.new.failures }
 {
     match note {
-        Note::Logged(number, place) => put_log(page, writer, rules, number, place),
-        Note::Took(number, rule, decision) => put_decision(
-            page, writer, rules, number, rule, decision,
+        Note::Logged(number, position) => put_log(page, writer, rules, number, position),
+        Note::TookVerdict(number, rule, verdict) => put_verdict(
+            page, writer, rules, number, rule, verdict,
         ),
-        Note::Closed(number, chain, policy) => put_policy(
+        Note::TookPolicy(number, chain, policy) => put_policy(
             page, writer, rules, number, chain, policy,
         ),
         Note::Ended(number, outcome) => put_outcome(page, writer, number, outcome),
@@ -58,55 +58,55 @@ fn put_log<W: Write>(
     writer: &mut Counted<W>,
     rules: &Ruleset,
     number: u64,
-    place: Place,
+    position: StatementPosition,
 ) -> Result<(), DeviceFailed>
-    ensures puts { Puts result page.old.text.items (W.contents writer.old.inner) page.new.text.items (W.contents writer.new.inner) (on_chain (tables_of rules.now) place.rule.table place.rule.chain (log_line number place)) }
+    ensures puts { Puts result page.old.text.items (W.contents writer.old.inner) page.new.text.items (W.contents writer.new.inner) (on_chain (tables_of rules.now) position.rule.table position.rule.chain (log_line number position)) }
     ensures counts { CountsFailure result writer.old.failures writer.new.failures }
 {
-    let Some(named) = find(rules, place.rule.table, place.rule.chain) else {
+    let Some(found) = find(rules, position.rule.table, position.rule.chain) else {
         return Ok(());
     };
-    let family = family_word(named.table.family);
-    let before = prefix(named.chain, place);
+    let family = family_word(found.table.family);
+    let before = prefix(found.chain, position);
     page.put_all(
         writer,
         &[
             Piece::Text(b"log"),
             Piece::Number(u128::from(number)),
             Piece::Word(family),
-            Piece::Word(&named.table.name),
-            Piece::Word(&named.chain.name),
-            Piece::Number(u128::from(place.rule.rule)),
+            Piece::Word(&found.table.name),
+            Piece::Word(&found.chain.name),
+            Piece::Number(u128::from(position.rule.rule)),
             before,
             Piece::Text(b"\n"),
         ],
     )
 }
 
-fn put_decision<W: Write>(
+fn put_verdict<W: Write>(
     page: &mut Page,
     writer: &mut Counted<W>,
     rules: &Ruleset,
     number: u64,
     rule: RuleNo,
-    decision: Decision,
+    verdict: RuleVerdict,
 ) -> Result<(), DeviceFailed>
-    ensures puts { Puts result page.old.text.items (W.contents writer.old.inner) page.new.text.items (W.contents writer.new.inner) (on_chain (tables_of rules.now) rule.table rule.chain (decision_line number rule.rule decision)) }
+    ensures puts { Puts result page.old.text.items (W.contents writer.old.inner) page.new.text.items (W.contents writer.new.inner) (on_chain (tables_of rules.now) rule.table rule.chain (verdict_line number rule.rule verdict)) }
     ensures counts { CountsFailure result writer.old.failures writer.new.failures }
 {
-    let Some(named) = find(rules, rule.table, rule.chain) else {
+    let Some(found) = find(rules, rule.table, rule.chain) else {
         return Ok(());
     };
-    let family = family_word(named.table.family);
-    let (word, target) = decision_pieces(named.table, decision);
+    let family = family_word(found.table.family);
+    let (word, target) = verdict_pieces(found.table, verdict);
     page.put_all(
         writer,
         &[
             Piece::Text(b"trace"),
             Piece::Number(u128::from(number)),
             Piece::Word(family),
-            Piece::Word(&named.table.name),
-            Piece::Word(&named.chain.name),
+            Piece::Word(&found.table.name),
+            Piece::Word(&found.chain.name),
             Piece::Number(u128::from(rule.rule)),
             word,
             target,
@@ -126,10 +126,10 @@ fn put_policy<W: Write>(
     ensures puts { Puts result page.old.text.items (W.contents writer.old.inner) page.new.text.items (W.contents writer.new.inner) (on_chain (tables_of rules.now) chain.table chain.chain (policy_line number policy)) }
     ensures counts { CountsFailure result writer.old.failures writer.new.failures }
 {
-    let Some(named) = find(rules, chain.table, chain.chain) else {
+    let Some(found) = find(rules, chain.table, chain.chain) else {
         return Ok(());
     };
-    let family = family_word(named.table.family);
+    let family = family_word(found.table.family);
     let word = policy_word(policy);
     page.put_all(
         writer,
@@ -137,8 +137,8 @@ fn put_policy<W: Write>(
             Piece::Text(b"trace"),
             Piece::Number(u128::from(number)),
             Piece::Word(family),
-            Piece::Word(&named.table.name),
-            Piece::Word(&named.chain.name),
+            Piece::Word(&found.table.name),
+            Piece::Word(&found.chain.name),
             Piece::Text(b" policy"),
             Piece::Word(word),
             Piece::Text(b"\n"),

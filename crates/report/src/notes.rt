@@ -2,19 +2,19 @@
 ghost use Rattle.std.specs.Prelude.{◌≡◌, ◌≤◌, ◌+◌, ◌++◌, length, vec_len, vec_capacity};
 ghost use Rattle.report.specs.steps.Noting.{noted, noted_event};
 
+use history::{Entry, Outcome};
 use nft_tree::{Policy, RuleNo};
-use rule_meaning::{ChainNo, Decision, Event, Place};
-use story::{Entry, Outcome};
+use rule_meaning::{ChainNo, Event, RuleVerdict, StatementPosition};
 
 /// What one line tells of the record of a number.
 #[derive(Clone, Copy)]
 pub enum Note {
     /// A `log` statement told of it.
-    Logged(u64, Place),
+    Logged(u64, StatementPosition),
     /// A rule decided.
-    Took(u64, RuleNo, Decision),
+    TookVerdict(u64, RuleNo, RuleVerdict),
     /// A base chain came to its end, and its policy was taken.
-    Closed(u64, ChainNo, Policy),
+    TookPolicy(u64, ChainNo, Policy),
     /// It ended so.
     Ended(u64, Outcome),
 }
@@ -25,9 +25,13 @@ impl Note {
         ensures { result ≡ noted_event trace number event }
     {
         match event {
-            Event::Logged(place) => Some(Note::Logged(number, place)),
-            Event::Took(rule, decision) if trace => Some(Note::Took(number, rule, decision)),
-            Event::Closed(chain, policy) if trace => Some(Note::Closed(number, chain, policy)),
+            Event::Logged(position) => Some(Note::Logged(number, position)),
+            Event::TookVerdict(rule, verdict) if trace => Some(Note::TookVerdict(
+                number, rule, verdict,
+            )),
+            Event::TookPolicy(chain, policy) if trace => Some(Note::TookPolicy(
+                number, chain, policy,
+            )),
             _ => None,
         }
     }

@@ -1,8 +1,8 @@
 //! A text that goes to its writer by whole pages.
 ghost use Rattle.std.specs.Prelude.{◌≡◌, [], OnOk, OnErr};
 ghost use Rattle.std.specs.Io.KnownBytes.{Appends};
-ghost use Rattle.pcap_io.specs.Counting.{AppendsPart};
-ghost use Rattle.report.specs.steps.Telling.{CountsFailure, Puts, piece_text, pieces_text};
+ghost use Rattle.pcap_io.specs.Counting.{AppendsPrefix};
+ghost use Rattle.report.specs.steps.Paging.{CountsFailure, Puts, piece_text, pieces_text};
 
 use crate::piece::Piece;
 use arrayvec::ArrayVec;
@@ -88,7 +88,7 @@ impl Page {
     pub fn send<W: Write>(&mut self, writer: &mut Counted<W>) -> Result<(), DeviceFailed>
         ensures ok { OnOk result (Appends (W.contents writer.old.inner) (W.contents writer.new.inner) self.old.text.items) }
         ensures empty { OnOk result (self.new.text.items ≡ []) }
-        ensures part { OnErr result (AppendsPart (W.contents writer.old.inner) (W.contents writer.new.inner) self.old.text.items) }
+        ensures part { OnErr result (AppendsPrefix (W.contents writer.old.inner) (W.contents writer.new.inner) self.old.text.items) }
         ensures counts { CountsFailure result writer.old.failures writer.new.failures }
     {
         write_whole(writer, self.text.as_slice())?;

@@ -2,11 +2,11 @@
 ghost use Rattle.std.specs.Prelude.{◌≡◌, ◌<◌, ◌≤◌, ◌+◌, ◌++◌, [], ◌∷◌, Bool, List, length, true, IfOk, IsOk, OnErr, OnOk};
 ghost use Rattle.pcap_io.specs.Counting.{one_more};
 ghost use Rattle.nft_tree.specs.Tree.{Text, TableTree, tables_of};
-ghost use Rattle.story.specs.Story.{Entry, IsEntry};
+ghost use Rattle.history.specs.History.{Entry, IsEntry};
 ghost use Rattle.report.specs.Report.{closing_lines, entry_lines};
 ghost use Rattle.std.specs.List.{flat_map};
-ghost use Rattle.report.specs.Standing.{Reports, Tells, TellsPart, note_line};
-ghost use Rattle.report.specs.steps.Telling.{CountsFailure, Wrote};
+ghost use Rattle.report.specs.Representing.{IsReportOf, AppendsRest, AppendsRestPrefix, note_line};
+ghost use Rattle.report.specs.steps.Paging.{CountsFailure, WroteText};
 ghost use Rattle.report.specs.steps.Totals.{rest_text};
 
 use crate::counter_lines::put_counters;
@@ -15,19 +15,19 @@ use crate::notes::{Note, note_entry};
 use crate::page::Page;
 use crate::tallies::RulesetTallies;
 use crate::total_lines::{Totals, put_totals};
+use history::Outcome;
 use nft_tree::Ruleset;
 use pcap_io::{Counted, DeviceFailed};
 use std::alloc::{AllocError, Global};
 use std::io::Write;
 use std::marker::Model;
-use story::Outcome;
 
 /// How many notes one record may give: one for each of 65,536 events, and one of how it ended.
 pub const MOST_NOTES: usize = 65_537;
 
 /// How many notes have room from the start: those of one record beside what waits for a caller that
 /// drains now and then.
-pub const FIRST_ROOM: usize = 70_000;
+pub const INITIAL_NOTES: usize = 70_000;
 
 /// What became of the records so far: numbers, and what isn't written yet of what was noted. It
 /// doesn't grow with the records that were written.
@@ -61,10 +61,10 @@ impl Drop for Report {
 
 impl Model for Report {
     ghost use Rattle.std.specs.Prelude.{◌-◌, vec_capacity, vec_len};
-    ghost use Rattle.report.specs.Standing.{Known};
+    ghost use Rattle.report.specs.Representing.{ReportState};
     ghost use Rattle.report.specs.steps.Bounds.{IsBounded};
 
-    ghost Value = { Known };
+    ghost Value = { ReportState };
 
     ghost view = { λ r. record { records = r.records; passed = r.passed; local = r.local; dropped = r.dropped; begun = r.begun; tallies = r.tallies; traces = r.traces; notes = r.notes.items; room = vec_capacity r.notes - vec_len r.notes } };
 
@@ -75,11 +75,11 @@ impl Report {
     /// Before the first record, over these rules: each counter stands where it starts. With `trace`
     /// each decision and how each record ends is told too.
     pub fn new(alloc: Global, rules: &Ruleset, trace: bool) -> Result<Self, AllocError>
-        ensures fresh { IfOk result (λ report. Reports report (tables_of rules.now) trace [] []) }
-        ensures room { IfOk result (λ report. report.room ≡ FIRST_ROOM) }
+        ensures fresh { IfOk result (λ report. IsReportOf report (tables_of rules.now) trace [] []) }
+        ensures room { IfOk result (λ report. report.room ≡ INITIAL_NOTES) }
     {
         let tallies = RulesetTallies::new(alloc, rules)?;
-        let notes = Vec::with_capacity(alloc, FIRST_ROOM)?;
+        let notes = Vec::with_capacity(alloc, INITIAL_NOTES)?;
         Ok(Report {
             records: 0,
             passed: 0,
@@ -106,13 +106,13 @@ impl Report {
 
     /// Notes how one more record ended, and what happened on the way; the rules are those of `new`.
     /// On `Err`, which comes only for want of memory where room is short, the report is as it was.
-    pub fn note(&mut self, entry: &story::Entry) -> Result<(), AllocError>
+    pub fn note(&mut self, entry: &history::Entry) -> Result<(), AllocError>
         requires few { self.old.records < 4294967296 }
         // Whatever story it stands for, it then stands for that story with the entry.
-        ensures noted { (rules : List TableTree) (trace : Bool) (story : List Entry) (told : Text) (e : Entry) → Reports self.old rules trace story told → IsEntry e story entry.now → OnOk result (Reports self.new rules trace (e ∷ story) told) }
+        ensures noted { (rules : List TableTree) (trace : Bool) (history : List Entry) (written : Text) (e : Entry) → IsReportOf self.old rules trace history written → IsEntry e history entry.now → OnOk result (IsReportOf self.new rules trace (e ∷ history) written) }
         ensures records { OnOk result (self.new.records ≡ self.old.records + 1) }
         ensures room { length entry.now.events.now + 1 ≤ self.old.room → IsOk result }
-        ensures waits { length self.new.notes ≤ length self.old.notes + length entry.now.events.now + 1 }
+        ensures pending { length self.new.notes ≤ length self.old.notes + length entry.now.events.now + 1 }
         ensures left { self.old.room + length self.old.notes ≤ self.new.room + length self.new.notes }
         ensures err { OnErr result (self.new ≡ self.old) }
     {
@@ -124,7 +124,7 @@ impl Report {
         match entry.outcome {
             Outcome::Passed(_) => self.passed += 1,
             Outcome::Local => self.local += 1,
-            Outcome::Dropped(cause) => self.dropped[cause.place()] += 1,
+            Outcome::Dropped(cause) => self.dropped[cause.report_index()] += 1,
         }
         Ok(())
     }
@@ -137,7 +137,7 @@ impl Report {
     }
 
     /// How many notes aren't written yet.
-    pub fn waits(&self) -> usize
+    pub fn pending(&self) -> usize
         ensures { result ≡ length self.now.notes }
     {
         self.notes.len()
@@ -151,16 +151,16 @@ impl Report {
         rules: &Ruleset,
         writer: &mut Counted<W>,
     ) -> Result<(), DeviceFailed>
-        ensures ok { (trace : Bool) (story : List Entry) (told : Text) → Reports self.old (tables_of rules.now) trace story told
-            → OnOk result (Tells (W.contents writer.old.inner) (W.contents writer.new.inner) told (entry_lines (tables_of rules.now) trace story) × Reports self.new (tables_of rules.now) trace story (entry_lines (tables_of rules.now) trace story)) }
-        ensures part { (trace : Bool) (story : List Entry) (told : Text) → Reports self.old (tables_of rules.now) trace story told
-            → OnErr result (TellsPart (W.contents writer.old.inner) (W.contents writer.new.inner) told (entry_lines (tables_of rules.now) trace story)) }
+        ensures ok { (trace : Bool) (history : List Entry) (written : Text) → IsReportOf self.old (tables_of rules.now) trace history written
+            → OnOk result (AppendsRest (W.contents writer.old.inner) (W.contents writer.new.inner) written (entry_lines (tables_of rules.now) trace history) × IsReportOf self.new (tables_of rules.now) trace history (entry_lines (tables_of rules.now) trace history)) }
+        ensures part { (trace : Bool) (history : List Entry) (written : Text) → IsReportOf self.old (tables_of rules.now) trace history written
+            → OnErr result (AppendsRestPrefix (W.contents writer.old.inner) (W.contents writer.new.inner) written (entry_lines (tables_of rules.now) trace history)) }
         ensures none { self.old.notes ≡ [] → writer.new ≡ writer.old }
         ensures empty { OnOk result (self.new.notes ≡ []) }
         ensures room { OnOk result (self.new.room ≡ self.old.room + length self.old.notes) }
         ensures records { self.new.records ≡ self.old.records }
         ensures err { OnErr result (self.new ≡ self.old) }
-        ensures calm { OnOk result (writer.new.failures ≡ writer.old.failures) }
+        ensures no_failure { OnOk result (writer.new.failures ≡ writer.old.failures) }
         ensures device { OnErr result (writer.new.failures ≡ one_more writer.old.failures) }
     {
         if self.notes.is_empty() {
@@ -184,12 +184,12 @@ impl Report {
         torn: bool,
         writer: &mut Counted<W>,
     ) -> Result<(), DeviceFailed>
-        ensures ok { (trace : Bool) (story : List Entry) (told : Text) → Reports self.now (tables_of rules.now) trace story told
-            → OnOk result (Tells (W.contents writer.old.inner) (W.contents writer.new.inner) told (entry_lines (tables_of rules.now) trace story ++ closing_lines (tables_of rules.now) story live torn)) }
+        ensures ok { (trace : Bool) (history : List Entry) (written : Text) → IsReportOf self.now (tables_of rules.now) trace history written
+            → OnOk result (AppendsRest (W.contents writer.old.inner) (W.contents writer.new.inner) written (entry_lines (tables_of rules.now) trace history ++ closing_lines (tables_of rules.now) history live torn)) }
         ensures flushed { OnOk result (writer.new.is_flushed ≡ true) }
-        ensures part { (trace : Bool) (story : List Entry) (told : Text) → Reports self.now (tables_of rules.now) trace story told
-            → OnErr result (TellsPart (W.contents writer.old.inner) (W.contents writer.new.inner) told (entry_lines (tables_of rules.now) trace story ++ closing_lines (tables_of rules.now) story live torn)) }
-        ensures calm { OnOk result (writer.new.failures ≡ writer.old.failures) }
+        ensures part { (trace : Bool) (history : List Entry) (written : Text) → IsReportOf self.now (tables_of rules.now) trace history written
+            → OnErr result (AppendsRestPrefix (W.contents writer.old.inner) (W.contents writer.new.inner) written (entry_lines (tables_of rules.now) trace history ++ closing_lines (tables_of rules.now) history live torn)) }
+        ensures no_failure { OnOk result (writer.new.failures ≡ writer.old.failures) }
         ensures device { OnErr result (writer.new.failures ≡ one_more writer.old.failures) }
     {
         let totals = Totals {
@@ -215,7 +215,7 @@ fn write_notes<W: Write>(
     notes: &[Note],
     writer: &mut Counted<W>,
 ) -> Result<(), DeviceFailed>
-    ensures wrote { Wrote result (W.contents writer.old.inner) (W.contents writer.new.inner) (flat_map (note_line (tables_of rules.now)) notes.now) }
+    ensures wrote_text { WroteText result (W.contents writer.old.inner) (W.contents writer.new.inner) (flat_map (note_line (tables_of rules.now)) notes.now) }
     ensures counts { CountsFailure result writer.old.failures writer.new.failures }
 {
     let mut page = Page::new();
@@ -231,7 +231,7 @@ fn write_rest<W: Write>(
     totals: &Totals,
     writer: &mut Counted<W>,
 ) -> Result<(), DeviceFailed>
-    ensures wrote { Wrote result (W.contents writer.old.inner) (W.contents writer.new.inner) (rest_text (tables_of rules.now) notes.now tallies.now totals.now.records totals.now.passed totals.now.local totals.now.dropped.now totals.now.begun totals.now.live totals.now.torn) }
+    ensures wrote_text { WroteText result (W.contents writer.old.inner) (W.contents writer.new.inner) (rest_text (tables_of rules.now) notes.now tallies.now totals.now.records totals.now.passed totals.now.local totals.now.dropped.now totals.now.begun totals.now.live totals.now.torn) }
     ensures counts { CountsFailure result writer.old.failures writer.new.failures }
 {
     let mut page = Page::new();

@@ -3,7 +3,7 @@
 //! Each statement has a tally, whether it counts or not, so that the place of a counter leads to its
 //! tally without a search.
 use nft_tree::{Chain, CounterStart, Rule, Ruleset, Table};
-use rule_meaning::{Event, Place};
+use rule_meaning::{Event, StatementPosition};
 use std::alloc::{AllocError, Global};
 use std::marker::Model;
 
@@ -71,7 +71,7 @@ impl Model for RuleTallies {
 impl RuleTallies {
     ghost use Rattle.std.specs.Prelude.{◌≡◌, ◌<◌, ◌^◌, All, IfOk};
     ghost use Rattle.nft_tree.specs.Tree.{rule_tree};
-    ghost use Rattle.nft_tree.specs.Parts.{numbered_from_one};
+    ghost use Rattle.nft_tree.specs.TableItems.{numbered_from_one};
     ghost use Rattle.report.specs.steps.Tallying.{fresh_rule, rule_counted};
 
     fn new(alloc: Global, rule: &Rule) -> Result<Self, AllocError>
@@ -124,7 +124,7 @@ impl ChainTallies {
     ghost use Rattle.std.specs.Prelude.{◌≡◌, ◌<◌, ◌^◌, All, IfOk};
     ghost use Rattle.std.specs.Option.{option_and_then};
     ghost use Rattle.nft_tree.specs.Tree.{chain_tree};
-    ghost use Rattle.nft_tree.specs.Parts.{numbered_from_one};
+    ghost use Rattle.nft_tree.specs.TableItems.{numbered_from_one};
     ghost use Rattle.report.specs.steps.Tallying.{fresh_chain, chain_counted};
 
     fn new(alloc: Global, chain: &Chain) -> Result<Self, AllocError>
@@ -177,7 +177,7 @@ impl TableTallies {
     ghost use Rattle.std.specs.Prelude.{◌≡◌, ◌<◌, ◌^◌, All, IfOk, slice_get};
     ghost use Rattle.std.specs.Option.{option_and_then};
     ghost use Rattle.nft_tree.specs.Tree.{table_tree};
-    ghost use Rattle.nft_tree.specs.Parts.{numbered_from_one};
+    ghost use Rattle.nft_tree.specs.TableItems.{numbered_from_one};
     ghost use Rattle.report.specs.steps.Tallying.{fresh_table, table_counted};
 
     fn new(alloc: Global, table: &Table) -> Result<Self, AllocError>
@@ -217,7 +217,7 @@ pub struct RulesetTallies {
 }
 
 impl Model for RulesetTallies {
-    ghost use Rattle.report.specs.Standing.{Tallies};
+    ghost use Rattle.report.specs.Representing.{Tallies};
 
     ghost Value = { Tallies };
 
@@ -227,8 +227,8 @@ impl Model for RulesetTallies {
 impl RulesetTallies {
     ghost use Rattle.std.specs.Prelude.{◌≡◌, ◌<◌, ◌^◌, All, IfOk};
     ghost use Rattle.nft_tree.specs.Tree.{tables_of};
-    ghost use Rattle.report.specs.Standing.{tally_at};
-    ghost use Rattle.report.specs.steps.Standings.{place_of};
+    ghost use Rattle.report.specs.Representing.{tally_at};
+    ghost use Rattle.report.specs.steps.TallyLines.{position_of};
     ghost use Rattle.report.specs.steps.Tallying.{fresh, counted, counted_all};
 
     /// Each counter stands where it starts.
@@ -244,13 +244,18 @@ impl RulesetTallies {
     }
 
     /// Counts one more packet of this length at a place, if it is one of the rules'.
-    pub fn count(&mut self, place: Place, length: u16)
-        ensures { self.new ≡ counted length place self.old }
+    pub fn count(&mut self, position: StatementPosition, length: u16)
+        ensures { self.new ≡ counted length position self.old }
     {
-        let number = place.rule.table as usize;
+        let number = position.rule.table as usize;
         if number < self.tables.len() {
             let tallies = &mut self.tables[number];
-            tallies.count(place.rule.chain, place.rule.rule, place.statement, length);
+            tallies.count(
+                position.rule.chain,
+                position.rule.rule,
+                position.statement,
+                length,
+            );
         }
     }
 
@@ -259,18 +264,18 @@ impl RulesetTallies {
         ensures { self.new ≡ counted_all length events.now self.old }
     {
         for event in events {
-            if let Event::Counted(place) = event {
-                self.count(*place, length);
+            if let Event::Counted(position) = event {
+                self.count(*position, length);
             }
         }
     }
 
     /// Where the statement of that place stands, if the rules have one there.
-    pub fn at(&self, place: Location) -> Option<Tally>
-        ensures { result ≡ tally_at self.now (place_of place) }
+    pub fn at(&self, position: Location) -> Option<Tally>
+        ensures { result ≡ tally_at self.now (position_of position) }
     {
         self.tables
-            .get(place.table)?
-            .at(place.chain, place.rule, place.statement)
+            .get(position.table)?
+            .at(position.chain, position.rule, position.statement)
     }
 }

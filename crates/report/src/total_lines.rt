@@ -2,14 +2,14 @@
 ghost use Rattle.std.specs.Prelude.{◌≡◌};
 ghost use Rattle.std.specs.List.{flat_map};
 ghost use Rattle.report.specs.Report.{drop_line, number_lines};
-ghost use Rattle.report.specs.steps.Telling.{CountsFailure, Puts};
+ghost use Rattle.report.specs.steps.Paging.{CountsFailure, Puts};
 ghost use Rattle.report.specs.steps.Totals.{drops_in};
 
 use crate::page::Page;
 use crate::piece::Piece;
+use history::Cause;
 use pcap_io::{Counted, DeviceFailed};
 use std::io::Write;
-use story::Cause;
 
 /// How many records there were, and what became of them.
 #[derive(Clone, Copy)]
@@ -74,7 +74,7 @@ fn put_drops<W: Write>(
     ensures counts { CountsFailure result writer.old.failures writer.new.failures }
 {
     for cause in causes {
-        put_drop(page, writer, *cause, dropped[cause.place()])?;
+        put_drop(page, writer, *cause, dropped[cause.report_index()])?;
     }
     Ok(())
 }
@@ -89,12 +89,12 @@ fn put_drop<W: Write>(
     ensures puts { Puts result page.old.text.items (W.contents writer.old.inner) page.new.text.items (W.contents writer.new.inner) (drop_line (λ _. lost) cause) }
     ensures counts { CountsFailure result writer.old.failures writer.new.failures }
 {
-    let word = cause.word().as_bytes();
+    let report_word = cause.report_word().as_bytes();
     page.put_all(
         writer,
         &[
             Piece::Text(b"drop"),
-            Piece::Word(word),
+            Piece::Word(report_word),
             Piece::Number(u128::from(lost)),
             Piece::Text(b"\n"),
         ],

@@ -4,10 +4,10 @@ use Rattle.std.specs.Prelude.{◌==◌, ◌||◌, if◌then◌else◌}
 use Rattle.std.proofs.lemmas.Bool.{eqb-true, eq-eqb, and_parts}
 use Rattle.list_laws.specs.Tests.{same-tests}
 use Rattle.ip_headers.specs.Sum.{words_sum}
-use Rattle.ip_headers.specs.Bytes.{word_at, with_word}
-use Rattle.rewrite.specs.declared.checksum.Words.{Words}
-use Rattle.rewrite.specs.Rewritten.{corrected, or_all_ones, put_right, put_right_if_made, same_bytes}
-use Rattle.rewrite.specs.steps.Fields.{renewed, renewed_if_made}
+use Rattle.ip_headers.specs.Bytes.{u16_at, with_u16}
+use Rattle.rewrite.specs.declared.checksum.ChecksumDelta.{ChecksumDelta}
+use Rattle.rewrite.specs.Rewritten.{corrected, or_all_ones, update_checksum, update_udp_checksum, same_bytes}
+use Rattle.rewrite.specs.steps.Fields.{updated_checksum, updated_udp_checksum}
 
 -- ---- equal bytes
 
@@ -34,26 +34,26 @@ corrected-by : (checksum before after old new : ℕ) → after + old ≡ before 
 corrected-by checksum before after old new e = omega (arith, e)
 
 -- what the words that change under a checksum are to the bytes that it is made over
-pub record Covers (words : Words) (before after : List ℕ) : Type 0 where
+pub record Covers (words : ChecksumDelta) (before after : List ℕ) : Type 0 where
   pub same : words.is_same ≡ true → before ≡ after
   pub other : before ≡ after → words.is_same ≡ true
   pub sum : words_sum after + words.old ≡ words_sum before + words.new
 
-same_is : (words : Words) (before after : List ℕ) → Covers words before after → same_bytes before after ≡ words.is_same
+same_is : (words : ChecksumDelta) (before after : List ℕ) → Covers words before after → same_bytes before after ≡ words.is_same
 same_is words before after c = same-tests (same_bytes before after) words.is_same (λ h. c.other (same_bytes-true before after h)) (λ h. same_bytes-from before after (c.same h))
 
-chosen : (b : Bool) (bytes : List ℕ) (place checksum x y : ℕ) → with_word bytes place checksum ≡ bytes → x ≡ y → (if b then bytes else with_word bytes place x) ≡ with_word bytes place (if b then checksum else y)
-chosen true bytes place checksum x y kept e = sym kept
-chosen false bytes place checksum x y kept e = ap (λ w. with_word bytes place w) e
+chosen : (b : Bool) (bytes : List ℕ) (offset checksum x y : ℕ) → with_u16 bytes offset checksum ≡ bytes → x ≡ y → (if b then bytes else with_u16 bytes offset x) ≡ with_u16 bytes offset (if b then checksum else y)
+chosen true bytes offset checksum x y kept e = sym kept
+chosen false bytes offset checksum x y kept e = ap (λ w. with_u16 bytes offset w) e
 
-pub put_right-is : (over : List ℕ → List ℕ) (place : ℕ) (old now : List ℕ) (words : Words) → Covers words (over old) (over now) → with_word now place (word_at old place) ≡ now
-    → put_right over place old now ≡ with_word now place (renewed words (word_at old place))
-put_right-is over place old now words c kept =
+pub update_checksum-is : (over : List ℕ → List ℕ) (offset : ℕ) (old now : List ℕ) (words : ChecksumDelta) → Covers words (over old) (over now) → with_u16 now offset (u16_at old offset) ≡ now
+    → update_checksum over offset old now ≡ with_u16 now offset (updated_checksum words (u16_at old offset))
+update_checksum-is over offset old now words c kept =
     rw (same_is words (over old) (over now) c)
-    (chosen words.is_same now place (word_at old place) _ _ kept (corrected-by (word_at old place) (words_sum (over old)) (words_sum (over now)) words.old words.new c.sum))
+    (chosen words.is_same now offset (u16_at old offset) _ _ kept (corrected-by (u16_at old offset) (words_sum (over old)) (words_sum (over now)) words.old words.new c.sum))
 
-pub put_right_if_made-is : (over : List ℕ → List ℕ) (place : ℕ) (old now : List ℕ) (words : Words) → Covers words (over old) (over now) → with_word now place (word_at old place) ≡ now
-    → put_right_if_made over place old now ≡ with_word now place (renewed_if_made words (word_at old place))
-put_right_if_made-is over place old now words c kept =
+pub update_udp_checksum-is : (over : List ℕ → List ℕ) (offset : ℕ) (old now : List ℕ) (words : ChecksumDelta) → Covers words (over old) (over now) → with_u16 now offset (u16_at old offset) ≡ now
+    → update_udp_checksum over offset old now ≡ with_u16 now offset (updated_udp_checksum words (u16_at old offset))
+update_udp_checksum-is over offset old now words c kept =
     rw (same_is words (over old) (over now) c)
-    (chosen (words.is_same || word_at old place == 0) now place (word_at old place) _ _ kept (ap or_all_ones (corrected-by (word_at old place) (words_sum (over old)) (words_sum (over now)) words.old words.new c.sum)))
+    (chosen (words.is_same || u16_at old offset == 0) now offset (u16_at old offset) _ _ kept (ap or_all_ones (corrected-by (u16_at old offset) (words_sum (over old)) (words_sum (over now)) words.old words.new c.sum)))

@@ -4,11 +4,11 @@ use Rattle.std.proofs.lemmas.Bool.{eqb-true, eq-eqb, and_parts, and_from, cases_
 use Rattle.std.proofs.lemmas.List.{length-set, get_or-take, get_or-drop, get_or_past, get_or-set_other, take_at, drop_at, drop-set-lt}
 use Rattle.std.proofs.lemmas.Grind.{common_steps}
 use Rattle.ip_headers.specs.Sum.{words_sum}
-use Rattle.ip_headers.specs.Bytes.{byte_at, word_at, number_at, with_word, with_number}
+use Rattle.ip_headers.specs.Bytes.{byte_at, u16_at, u32_at, with_u16, with_u32}
 use Rattle.ip_headers.specs.Header.{header_len, payload_at}
-use Rattle.rewrite.specs.declared.checksum.Words.{Words}
-use Rattle.rewrite.specs.Rewritten.{header_in, carried_in, pseudo_in, with_ports}
-use Rattle.rewrite.specs.steps.Fields.{both, number_change, word_change}
+use Rattle.rewrite.specs.declared.checksum.ChecksumDelta.{ChecksumDelta}
+use Rattle.rewrite.specs.Rewritten.{header_in, payload_in, pseudo_header_and_payload, with_ports}
+use Rattle.rewrite.specs.steps.Fields.{combined, u32_change, u16_change}
 use Rattle.rewrite.proofs.Sums.{words_sum-append, words_sum-word}
 use Rattle.rewrite.proofs.Places.{word_written, byte_apart, length-number, number_byte_apart, word_kept, byte_in, byte_before, word_after, number_in, rest_in, number_rest_before, byte_of_part, number_of_part, word_of_rest}
 use Rattle.rewrite.proofs.Parts.{head_with, IsHead, head_sum, head_kept, head_reads, pair_with, IsPair, length-pair, pair_sum, pair_kept, pair_reads, ports_sum, ports_read, ports_kept}
@@ -17,7 +17,7 @@ use Rattle.rewrite.proofs.Corrected.{Covers}
 -- ---- the datagram with another header
 
 abbrev pub timed : ℕ → List ℕ → ℕ → ℕ → ℕ → List ℕ
-timed start p from to ttl = set (with_number (with_number p (start + 12) from) (start + 16) to) (start + 8) ttl
+timed start p from to ttl = set (with_u32 (with_u32 p (start + 12) from) (start + 16) to) (start + 8) ttl
 
 abbrev pub head_of : ℕ → ℕ → List ℕ → List ℕ
 head_of start n p = take n (drop start p)
@@ -30,23 +30,23 @@ pub record IsDatagram (start : ℕ) (p : List ℕ) : Type 0 where
 
 pub timed_head : (start n : ℕ) (p : List ℕ) (from to ttl : ℕ) → 20 ≤ n → head_of start n (timed start p from to ttl) ≡ head_with (head_of start n p) from to ttl
 timed_head start n p from to ttl long =
-    let one = with_number p (start + 12) from in
-    let two = with_number one (start + 16) to in
+    let one = with_u32 p (start + 12) from in
+    let two = with_u32 one (start + 16) to in
     byte_in two start n 8 (start + 8) ttl refl (omega (arith, long))
-    ∙ ap (λ l. set l 8 ttl) (number_in one start n 16 (start + 16) to refl (omega (arith, long)) ∙ ap (λ l. with_number l 16 to) (number_in p start n 12 (start + 12) from refl (omega (arith, long))))
+    ∙ ap (λ l. set l 8 ttl) (number_in one start n 16 (start + 16) to refl (omega (arith, long)) ∙ ap (λ l. with_u32 l 16 to) (number_in p start n 12 (start + 12) from refl (omega (arith, long))))
 
 pub timed_pair : (start : ℕ) (p : List ℕ) (from to ttl : ℕ) → take 8 (drop (start + 12) (timed start p from to ttl)) ≡ pair_with (take 8 (drop (start + 12) p)) from to
 timed_pair start p from to ttl =
-    let one = with_number p (start + 12) from in
-    let two = with_number one (start + 16) to in
+    let one = with_u32 p (start + 12) from in
+    let two = with_u32 one (start + 16) to in
     byte_before two (start + 12) 8 (start + 8) ttl (omega arith)
     ∙ number_in one (start + 12) 8 4 (start + 16) to (omega arith) (omega arith)
-    ∙ ap (λ l. with_number l 4 to) (number_in p (start + 12) 8 0 (start + 12) from (omega arith) (omega arith))
+    ∙ ap (λ l. with_u32 l 4 to) (number_in p (start + 12) 8 0 (start + 12) from (omega arith) (omega arith))
 
 pub timed_rest : (start a : ℕ) (p : List ℕ) (from to ttl : ℕ) → start + 20 ≤ a → drop a (timed start p from to ttl) ≡ drop a p
 timed_rest start a p from to ttl past =
-    let one = with_number p (start + 12) from in
-    let two = with_number one (start + 16) to in
+    let one = with_u32 p (start + 12) from in
+    let two = with_u32 one (start + 16) to in
     drop-set-lt a two (start + 8) ttl (omega (arith, past))
     ∙ number_rest_before one a (start + 16) to (omega (arith, past))
     ∙ number_rest_before p a (start + 12) from (omega (arith, past))
@@ -54,16 +54,16 @@ timed_rest start a p from to ttl past =
 -- a byte beside the fields
 pub timed_byte : (start : ℕ) (p : List ℕ) (from to ttl k : ℕ) → (k < start + 8) ⊎ (start + 8 < k) → (k < start + 12) ⊎ (start + 19 < k) → get_or (timed start p from to ttl) k 0 ≡ get_or p k 0
 timed_byte start p from to ttl k apart past =
-    let one = with_number p (start + 12) from in
-    let two = with_number one (start + 16) to in
+    let one = with_u32 p (start + 12) from in
+    let two = with_u32 one (start + 16) to in
     get_or-set_other two (start + 8) k ttl 0 (grind arith)
     ∙ number_byte_apart one (start + 16) to k (grind arith)
     ∙ number_byte_apart p (start + 12) from k (grind arith)
 
 pub length-timed : (start : ℕ) (p : List ℕ) (from to ttl : ℕ) → length (timed start p from to ttl) ≡ length p
 length-timed start p from to ttl =
-    let one = with_number p (start + 12) from in
-    length-set (with_number one (start + 16) to) (start + 8) ttl ∙ length-number one (start + 16) to ∙ length-number p (start + 12) from
+    let one = with_u32 p (start + 12) from in
+    length-set (with_u32 one (start + 16) to) (start + 8) ttl ∙ length-number one (start + 16) to ∙ length-number p (start + 12) from
 
 -- where what is carried begins stays, whatever is written behind the first byte
 first_of_rest : (xs : List ℕ) (start : ℕ) → get_or (drop start xs) 0 0 ≡ get_or xs start 0
@@ -98,7 +98,7 @@ is_pair start p d = record {
 
 -- ---- the words of a part
 
-pub covers_to : (words : Words) (before after later : List ℕ) → later ≡ after → Covers words before after → Covers words before later
+pub covers_to : (words : ChecksumDelta) (before after later : List ℕ) → later ≡ after → Covers words before after → Covers words before later
 covers_to words before after later e c = record {
   same = λ h. c.same h ∙ sym e;
   other = λ same. c.other (same ∙ e);
@@ -108,8 +108,8 @@ covers_to words before after later e c = record {
 pub scaled : (a b : ℕ) → a * 256 ≡ b * 256 → a ≡ b
 scaled a b e = omega (arith, e)
 
-head_covered : (head : List ℕ) (source destination left from to ttl : ℕ) → IsHead head → source ≡ number_at head 12 → destination ≡ number_at head 16 → left ≡ get_or head 8 0
-    → Covers (both (word_change (left * 256) (ttl * 256)) (both (number_change source from) (number_change destination to))) head (head_with head from to ttl)
+head_covered : (head : List ℕ) (source destination left from to ttl : ℕ) → IsHead head → source ≡ u32_at head 12 → destination ≡ u32_at head 16 → left ≡ get_or head 8 0
+    → Covers (combined (u16_change (left * 256) (ttl * 256)) (combined (u32_change source from) (u32_change destination to))) head (head_with head from to ttl)
 head_covered head source destination left from to ttl is a b c = record {
   same = λ h.
       let one = and_parts _ _ h in
@@ -121,12 +121,12 @@ head_covered head source destination left from to ttl is a b c = record {
   other = λ e.
       let reads = head_reads head from to ttl is.long in
       and_from _ _ (eq-eqb _ _ (ap (λ n. n * 256) (c ∙ ap (λ l. get_or l 8 0) e ∙ reads.left)))
-      (and_from _ _ (eq-eqb _ _ (a ∙ ap (λ l. number_at l 12) e ∙ reads.source)) (eq-eqb _ _ (b ∙ ap (λ l. number_at l 16) e ∙ reads.destination)));
+      (and_from _ _ (eq-eqb _ _ (a ∙ ap (λ l. u32_at l 12) e ∙ reads.source)) (eq-eqb _ _ (b ∙ ap (λ l. u32_at l 16) e ∙ reads.destination)));
   sum = rw (a, b, c) (head_sum head from to ttl is);
 }
 
-pair_covered : (pair : List ℕ) (source destination from to : ℕ) → IsPair pair → source ≡ number_at pair 0 → destination ≡ number_at pair 4
-    → Covers (both (number_change source from) (number_change destination to)) pair (pair_with pair from to)
+pair_covered : (pair : List ℕ) (source destination from to : ℕ) → IsPair pair → source ≡ u32_at pair 0 → destination ≡ u32_at pair 4
+    → Covers (combined (u32_change source from) (u32_change destination to)) pair (pair_with pair from to)
 pair_covered pair source destination from to is a b = record {
   same = λ h.
       let parts = and_parts _ _ h in
@@ -135,12 +135,12 @@ pair_covered pair source destination from to is a b = record {
       sym (pair_kept pair from to is (sym first ∙ a) (sym second ∙ b));
   other = λ e.
       let reads = pair_reads pair from to is.long in
-      and_from _ _ (eq-eqb _ _ (a ∙ ap (λ l. number_at l 0) e ∙ reads.source)) (eq-eqb _ _ (b ∙ ap (λ l. number_at l 4) e ∙ reads.destination));
+      and_from _ _ (eq-eqb _ _ (a ∙ ap (λ l. u32_at l 0) e ∙ reads.source)) (eq-eqb _ _ (b ∙ ap (λ l. u32_at l 4) e ∙ reads.destination));
   sum = rw (a, b) (pair_sum pair from to is);
 }
 
-ports_covered : (rest : List ℕ) (source destination from to : ℕ) → 4 ≤ length rest → ((i : ℕ) → get_or rest i 0 < 256) → source ≡ word_at rest 0 → destination ≡ word_at rest 2
-    → Covers (both (word_change source from) (word_change destination to)) rest (with_ports 0 rest from to)
+ports_covered : (rest : List ℕ) (source destination from to : ℕ) → 4 ≤ length rest → ((i : ℕ) → get_or rest i 0 < 256) → source ≡ u16_at rest 0 → destination ≡ u16_at rest 2
+    → Covers (combined (u16_change source from) (u16_change destination to)) rest (with_ports 0 rest from to)
 ports_covered rest source destination from to long small a b = record {
   same = λ h.
       let parts = and_parts _ _ h in
@@ -149,19 +149,19 @@ ports_covered rest source destination from to long small a b = record {
       sym (ports_kept rest 0 from to (λ i le. small i) (sym first ∙ a) (sym second ∙ b));
   other = λ e.
       let reads = ports_read rest from to long in
-      and_from _ _ (eq-eqb _ _ (a ∙ ap (λ l. word_at l 0) e ∙ reads.source)) (eq-eqb _ _ (b ∙ ap (λ l. word_at l 2) e ∙ reads.destination));
+      and_from _ _ (eq-eqb _ _ (a ∙ ap (λ l. u16_at l 0) e ∙ reads.source)) (eq-eqb _ _ (b ∙ ap (λ l. u16_at l 2) e ∙ reads.destination));
   sum = rw (a, b) (ports_sum rest from to long);
 }
 
-word_covered : (rest : List ℕ) (old new : ℕ) → 6 ≤ length rest → ((i : ℕ) → get_or rest i 0 < 256) → old ≡ word_at rest 4 → Covers (word_change old new) rest (with_word rest 4 new)
+word_covered : (rest : List ℕ) (old new : ℕ) → 6 ≤ length rest → ((i : ℕ) → get_or rest i 0 < 256) → old ≡ u16_at rest 4 → Covers (u16_change old new) rest (with_u16 rest 4 new)
 word_covered rest old new long small a = record {
   same = λ h. sym (word_kept rest 4 new (small 4) (small 5) (sym (eqb-true old new h) ∙ a));
-  other = λ e. eq-eqb _ _ (a ∙ ap (λ l. word_at l 4) e ∙ word_written rest 4 new (omega (arith, long)));
+  other = λ e. eq-eqb _ _ (a ∙ ap (λ l. u16_at l 4) e ∙ word_written rest 4 new (omega (arith, long)));
   sum = rw a (words_sum-word rest 4 new (omega (arith, long)) refl refl);
 }
 
 -- words of two parts, the first of whole words
-joined_covered : (one other : Words) (x y x' y' : List ℕ) → length x ≡ 8 → length x' ≡ 8 → Covers one x x' → Covers other y y' → Covers (both one other) (x ++ y) (x' ++ y')
+joined_covered : (one other : ChecksumDelta) (x y x' y' : List ℕ) → length x ≡ 8 → length x' ≡ 8 → Covers one x x' → Covers other y y' → Covers (combined one other) (x ++ y) (x' ++ y')
 joined_covered one other x y x' y' len len' c d = record {
   same = λ h.
       let parts = and_parts _ _ h in
@@ -175,9 +175,9 @@ joined_covered one other x y x' y' len len' c d = record {
 
 -- ---- under the header's checksum
 
-abbrev pub header_words : ℕ → List ℕ → ℕ → ℕ → ℕ → Words
+abbrev pub header_words : ℕ → List ℕ → ℕ → ℕ → ℕ → ChecksumDelta
 header_words start p from to ttl =
-    both (word_change (byte_at p (start + 8) * 256) (ttl * 256)) (both (number_change (number_at p (start + 12)) from) (number_change (number_at p (start + 16)) to))
+    combined (u16_change (byte_at p (start + 8) * 256) (ttl * 256)) (combined (u32_change (u32_at p (start + 12)) from) (u32_change (u32_at p (start + 16)) to))
 
 -- the header is as in the datagram with another header
 pub header_covered : (start : ℕ) (p now : List ℕ) (from to ttl : ℕ) → IsDatagram start p → header_len (drop start now) ≡ header_len (drop start p)
@@ -188,56 +188,56 @@ header_covered start p now from to ttl d same_len same =
     let head = head_of start n p in
     covers_to (header_words start p from to ttl) head (head_with head from to ttl) (header_in start now)
     (ap (λ k. take k (drop start now)) same_len ∙ same ∙ timed_head start n p from to ttl d.long)
-    (head_covered head (number_at p (start + 12)) (number_at p (start + 16)) (byte_at p (start + 8)) from to ttl (is_head start p d)
+    (head_covered head (u32_at p (start + 12)) (u32_at p (start + 16)) (byte_at p (start + 8)) from to ttl (is_head start p d)
     (sym (number_of_part p start n 12 (start + 12) refl (omega (arith, d.long)))) (sym (number_of_part p start n 16 (start + 16) refl (omega (arith, d.long))))
     (sym (byte_of_part p start n 8 (start + 8) refl (omega (arith, d.long)))))
 
 -- ---- under the checksum of what is carried
 
-abbrev pub pair_words : ℕ → List ℕ → ℕ → ℕ → Words
-pair_words start p from to = both (number_change (number_at p (start + 12)) from) (number_change (number_at p (start + 16)) to)
+abbrev pub pair_words : ℕ → List ℕ → ℕ → ℕ → ChecksumDelta
+pair_words start p from to = combined (u32_change (u32_at p (start + 12)) from) (u32_change (u32_at p (start + 16)) to)
 
-abbrev pub port_words : ℕ → List ℕ → ℕ → ℕ → Words
-port_words place p from to = both (word_change (word_at p place) from) (word_change (word_at p (place + 2)) to)
+abbrev pub port_words : ℕ → List ℕ → ℕ → ℕ → ChecksumDelta
+port_words offset p from to = combined (u16_change (u16_at p offset) from) (u16_change (u16_at p (offset + 2)) to)
 
 -- with other ports
 pub pseudo_covered : (start : ℕ) (p : List ℕ) (source destination ttl from to : ℕ) → IsDatagram start p → payload_at start p + 4 ≤ length p
-    → Covers (both (pair_words start p source destination) (port_words (payload_at start p) p from to)) (pseudo_in start p) (pseudo_in start (with_ports (payload_at start p) (timed start p source destination ttl) from to))
+    → Covers (combined (pair_words start p source destination) (port_words (payload_at start p) p from to)) (pseudo_header_and_payload start p) (pseudo_header_and_payload start (with_ports (payload_at start p) (timed start p source destination ttl) from to))
 pseudo_covered start p source destination ttl from to d room =
-    let place = payload_at start p in
+    let offset = payload_at start p in
     let t = timed start p source destination ttl in
-    let one = with_word t place from in
-    let now = with_ports place t from to in
+    let one = with_u16 t offset from in
+    let now = with_ports offset t from to in
     let pair = take 8 (drop (start + 12) p) in
-    let rest = drop place p in
-    let past : start + 20 ≤ place = omega (arith, d.long) in
-    let first : get_or now start 0 ≡ get_or p start 0 = byte_apart one (place + 2) to start (inl (omega (arith, past))) ∙ byte_apart t place from start (inl (omega (arith, past))) ∙ timed_byte start p source destination ttl start (inl (omega arith)) (inl (omega arith)) in
+    let rest = drop offset p in
+    let past : start + 20 ≤ offset = omega (arith, d.long) in
+    let first : get_or now start 0 ≡ get_or p start 0 = byte_apart one (offset + 2) to start (inl (omega (arith, past))) ∙ byte_apart t offset from start (inl (omega (arith, past))) ∙ timed_byte start p source destination ttl start (inl (omega arith)) (inl (omega arith)) in
     let len = same_byte-len start p now first in
     let pair_now : take 8 (drop (start + 12) now) ≡ pair_with pair source destination =
-    word_after one (start + 12) 8 (place + 2) to (omega (arith, past)) ∙ word_after t (start + 12) 8 place from (omega (arith, past)) ∙ timed_pair start p source destination ttl in
-    let rest_now : drop place now ≡ with_ports 0 rest from to =
-    rest_in one place 2 (place + 2) to refl ∙ ap (λ l. with_word l 2 to) (rest_in t place 0 place from (omega arith) ∙ ap (λ l. with_word l 0 from) (timed_rest start place p source destination ttl past)) in
-    covers_to _ (pair ++ rest) (pair_with pair source destination ++ with_ports 0 rest from to) (pseudo_in start now)
+    word_after one (start + 12) 8 (offset + 2) to (omega (arith, past)) ∙ word_after t (start + 12) 8 offset from (omega (arith, past)) ∙ timed_pair start p source destination ttl in
+    let rest_now : drop offset now ≡ with_ports 0 rest from to =
+    rest_in one offset 2 (offset + 2) to refl ∙ ap (λ l. with_u16 l 2 to) (rest_in t offset 0 offset from (omega arith) ∙ ap (λ l. with_u16 l 0 from) (timed_rest start offset p source destination ttl past)) in
+    covers_to _ (pair ++ rest) (pair_with pair source destination ++ with_ports 0 rest from to) (pseudo_header_and_payload start now)
     (ap (λ n. take 8 (drop (start + 12) now) ++ drop (start + n) now) len ∙ rw (pair_now, rest_now) refl)
-    (joined_covered (pair_words start p source destination) (port_words place p from to) pair rest _ _ (is_pair start p d).long (length-pair pair source destination ∙ (is_pair start p d).long)
-    (pair_covered pair (number_at p (start + 12)) (number_at p (start + 16)) source destination (is_pair start p d)
+    (joined_covered (pair_words start p source destination) (port_words offset p from to) pair rest _ _ (is_pair start p d).long (length-pair pair source destination ∙ (is_pair start p d).long)
+    (pair_covered pair (u32_at p (start + 12)) (u32_at p (start + 16)) source destination (is_pair start p d)
     (sym (number_of_part p (start + 12) 8 0 (start + 12) (omega arith) (omega arith))) (sym (number_of_part p (start + 12) 8 4 (start + 16) (omega arith) (omega arith))))
-    (ports_covered rest (word_at p place) (word_at p (place + 2)) from to (grind (arith, common_steps, room)) (λ i. small_rest p place i d.small)
-    (sym (word_of_rest p place 0 place (omega arith))) (sym (word_of_rest p place 2 (place + 2) refl))))
+    (ports_covered rest (u16_at p offset) (u16_at p (offset + 2)) from to (grind (arith, common_steps, room)) (λ i. small_rest p offset i d.small)
+    (sym (word_of_rest p offset 0 offset (omega arith))) (sym (word_of_rest p offset 2 (offset + 2) refl))))
 
 -- with another identifier
 pub carried_covered : (start : ℕ) (p : List ℕ) (source destination ttl number : ℕ) → IsDatagram start p → payload_at start p + 6 ≤ length p
-    → Covers (word_change (word_at p (payload_at start p + 4)) number) (carried_in start p) (carried_in start (with_word (timed start p source destination ttl) (payload_at start p + 4) number))
+    → Covers (u16_change (u16_at p (payload_at start p + 4)) number) (payload_in start p) (payload_in start (with_u16 (timed start p source destination ttl) (payload_at start p + 4) number))
 carried_covered start p source destination ttl number d room =
-    let place = payload_at start p in
+    let offset = payload_at start p in
     let t = timed start p source destination ttl in
-    let now = with_word t (place + 4) number in
-    let rest = drop place p in
-    let past : start + 20 ≤ place = omega (arith, d.long) in
-    let first : get_or now start 0 ≡ get_or p start 0 = byte_apart t (place + 4) number start (inl (omega (arith, past))) ∙ timed_byte start p source destination ttl start (inl (omega arith)) (inl (omega arith)) in
+    let now = with_u16 t (offset + 4) number in
+    let rest = drop offset p in
+    let past : start + 20 ≤ offset = omega (arith, d.long) in
+    let first : get_or now start 0 ≡ get_or p start 0 = byte_apart t (offset + 4) number start (inl (omega (arith, past))) ∙ timed_byte start p source destination ttl start (inl (omega arith)) (inl (omega arith)) in
     let len = same_byte-len start p now first in
-    let rest_now : drop place now ≡ with_word rest 4 number =
-    rest_in t place 4 (place + 4) number refl ∙ ap (λ l. with_word l 4 number) (timed_rest start place p source destination ttl past) in
-    covers_to _ rest (with_word rest 4 number) (carried_in start now)
+    let rest_now : drop offset now ≡ with_u16 rest 4 number =
+    rest_in t offset 4 (offset + 4) number refl ∙ ap (λ l. with_u16 l 4 number) (timed_rest start offset p source destination ttl past) in
+    covers_to _ rest (with_u16 rest 4 number) (payload_in start now)
     (ap (λ n. drop (start + n) now) len ∙ rest_now)
-    (word_covered rest (word_at p (place + 4)) number (grind (arith, common_steps, room)) (λ i. small_rest p place i d.small) (sym (word_of_rest p place 4 (place + 4) refl)))
+    (word_covered rest (u16_at p (offset + 4)) number (grind (arith, common_steps, room)) (λ i. small_rest p offset i d.small) (sym (word_of_rest p offset 4 (offset + 4) refl)))

@@ -6,46 +6,46 @@ use Rattle.std.proofs.lemmas.Bool.{eqb-true, and_parts, leb-true}
 use Rattle.std.proofs.lemmas.List.{ext_get_or, get_or-take, get_or-drop, get_or-set_other}
 use Rattle.ip_headers.specs.declared.tuple.Tuple.{Tuple}
 use Rattle.ip_headers.specs.Sum.{ones_sum_of, words_sum}
-use Rattle.ip_headers.specs.Bytes.{word_at, with_word}
+use Rattle.ip_headers.specs.Bytes.{u16_at, with_u16}
 use Rattle.ip_headers.specs.Header.{header, header_len, payload_at, payload_of, protocol, total_len}
 use Rattle.ip_headers.specs.Passing.{Passes}
-use Rattle.ip_headers.specs.Transport.{icmp_type, transport_is_wrong}
+use Rattle.ip_headers.specs.Transport.{icmp_type, transport_is_malformed}
 use Rattle.ip_headers.specs.Tuple.{inner_of, inner_tuple, inner_tuple_of, is_error, is_error_type, is_readable, tuple_in}
 use Rattle.rewrite.specs.declared.change.Change.{Change}
-use Rattle.rewrite.specs.Ends.{between}
-use Rattle.rewrite.specs.Rewritten.{carried_in, header_in, if_named, inner_at, put_right, replaced, rewritten, right_carried, with_destination, with_ends, with_inner, with_numbers, with_source, with_ttl}
-use Rattle.rewrite.specs.steps.Fields.{HasFields, changed_fields, fields_at, fields_change, len_of, renewed, with_fields}
+use Rattle.rewrite.specs.Endpoints.{between}
+use Rattle.rewrite.specs.Rewritten.{payload_in, header_in, write_if_some, inner_start, update_checksum, replaced, rewritten, update_transport_checksum, with_destination, with_endpoints, with_inner, with_numbers, with_source, with_ttl}
+use Rattle.rewrite.specs.steps.Fields.{HasFields, changed_fields, fields_at, fields_change, len_of, updated_checksum, with_fields}
 use Rattle.rewrite.proofs.Places.{number_byte_apart, word_kept}
-use Rattle.rewrite.proofs.Corrected.{put_right-is}
+use Rattle.rewrite.proofs.Corrected.{update_checksum-is}
 use Rattle.rewrite.proofs.Covered.{IsDatagram, covers_to}
 use Rattle.rewrite.proofs.Whole.{whole_is}
 use Rattle.rewrite.proofs.Exchanged.{byte_of_rest, carried_at, fields_exchanged, fields_room}
-use Rattle.rewrite.proofs.Kept.{put_keeps}
+use Rattle.rewrite.proofs.Kept.{update_keeps_sum}
 use Rattle.rewrite.proofs.Lengths.{length-datagram, length-either, length-named, length-put, length-replaced}
-use Rattle.rewrite.proofs.Sent.{carried_byte, named_byte, numbers_byte, put_byte, sent}
+use Rattle.rewrite.proofs.Sent.{carried_byte, named_byte, numbers_byte, update_byte, sent}
 use Rattle.rewrite.proofs.Passed.{length-sent, payload_byte, sent_passes, within}
 use Rattle.rewrite.proofs.Between.{icmp_long}
-use Rattle.rewrite.proofs.Weighed.{carried_stands, icmp_weighs, payload_same}
+use Rattle.rewrite.proofs.TransportSums.{payload_checksum_word, icmp_sum_kept, payload_same}
 
 -- ---- the datagram between other ends: what stands before it stays
 
 replaced_byte : (start : ℕ) (p : List ℕ) (change : Change) (k : ℕ) → k < start → get_or (replaced start p change) k 0 ≡ get_or p k 0
 replaced_byte start p change k lt =
-    let from = if_named (with_source start) p change.source in
-    let to = if_named (with_destination start) from change.destination in
-    let timed = if_named (with_ttl start) to change.ttl in
+    let from = write_if_some (with_source start) p change.source in
+    let to = write_if_some (with_destination start) from change.destination in
+    let timed = write_if_some (with_ttl start) to change.ttl in
     named_byte (with_numbers start) timed change.numbers k (λ n. numbers_byte start timed n k (omega (arith, lt)))
     ∙ named_byte (with_ttl start) to change.ttl k (λ n. get_or-set_other to (start + 8) k n 0 (omega (arith, lt)))
     ∙ named_byte (with_destination start) from change.destination k (λ n. number_byte_apart from (start + 16) n k (inl (omega (arith, lt))))
     ∙ named_byte (with_source start) p change.source k (λ n. number_byte_apart p (start + 12) n k (inl (omega (arith, lt))))
 
-ends_byte : (start : ℕ) (p : List ℕ) (t : Tuple) (k : ℕ) → k < start → get_or (with_ends start p t) k 0 ≡ get_or p k 0
+ends_byte : (start : ℕ) (p : List ℕ) (t : Tuple) (k : ℕ) → k < start → get_or (with_endpoints start p t) k 0 ≡ get_or p k 0
 ends_byte start p t k lt =
     let r = replaced start p (between t None) in
-    put_byte (header_in start) (start + 10) p (right_carried start p r) k (inl (omega (arith, lt)))
+    update_byte (header_in start) (start + 10) p (update_transport_checksum start p r) k (inl (omega (arith, lt)))
     ∙ carried_byte start p r k (omega (arith, lt)) ∙ replaced_byte start p (between t None) k lt
 
-pub length-ends : (start : ℕ) (p : List ℕ) (t : Tuple) → length (with_ends start p t) ≡ length p
+pub length-ends : (start : ℕ) (p : List ℕ) (t : Tuple) → length (with_endpoints start p t) ≡ length p
 length-ends start p t = length-datagram start p (replaced start p (between t None)) ∙ length-replaced start p (between t None)
 
 -- ---- what is said of a packet that is about another datagram and of one that isn't
@@ -54,16 +54,16 @@ either_is : (P : List ℕ → Type 0) (b : Bool) (xs ys : List ℕ) → (b ≡ t
 either_is P true xs ys there gone = there refl
 either_is P false xs ys there gone = gone
 
-named_is : {A : Type 0} (P : List ℕ → Type 0) (write : List ℕ → A → List ℕ) (bytes : List ℕ) (o : Option A) → ((x : A) → P (write bytes x)) → P bytes → P (if_named write bytes o)
+named_is : {A : Type 0} (P : List ℕ → Type 0) (write : List ℕ → A → List ℕ) (bytes : List ℕ) (o : Option A) → ((x : A) → P (write bytes x)) → P bytes → P (write_if_some write bytes o)
 named_is P write bytes None some none = none
 named_is P write bytes (Some x) some none = some x
 
 abbrev pub inward : List ℕ → Change → List ℕ
-inward p change = if_named with_inner p change.inner
+inward p change = write_if_some with_inner p change.inner
 
 -- the error about a datagram between other ends
 abbrev pub about : List ℕ → Tuple → List ℕ
-about p t = put_right (carried_in 0) (payload_at 0 p + 2) p (with_ends (inner_at p) p t)
+about p t = update_checksum (payload_in 0) (payload_at 0 p + 2) p (with_endpoints (inner_start p) p t)
 
 some_by : (b : Bool) (o : Option Tuple) → is_some (if b then o else None) ≡ true → (b ≡ true) × (is_some o ≡ true)
 some_by true o h = (refl, h)
@@ -75,10 +75,10 @@ is_icmp p h = eqb-true (protocol p) 1 (and_parts (protocol p == 1) (is_error_typ
 -- ---- what it passes
 
 about_byte : (p : List ℕ) (t : Tuple) (k : ℕ) → k < payload_at 0 p + 2 → get_or (about p t) k 0 ≡ get_or p k 0
-about_byte p t k lt = put_byte (carried_in 0) (payload_at 0 p + 2) p (with_ends (inner_at p) p t) k (inl lt) ∙ ends_byte (inner_at p) p t k (omega (arith, lt))
+about_byte p t k lt = update_byte (payload_in 0) (payload_at 0 p + 2) p (with_endpoints (inner_start p) p t) k (inl lt) ∙ ends_byte (inner_start p) p t k (omega (arith, lt))
 
 length-about : (p : List ℕ) (t : Tuple) → length (about p t) ≡ length p
-length-about p t = length-put (carried_in 0) (payload_at 0 p + 2) p (with_ends (inner_at p) p t) ∙ length-ends (inner_at p) p t
+length-about p t = length-put (payload_in 0) (payload_at 0 p + 2) p (with_endpoints (inner_start p) p t) ∙ length-ends (inner_start p) p t
 
 same_part : (n : ℕ) (xs ys : List ℕ) → length xs ≡ length ys → ((k : ℕ) → k < n → get_or xs k 0 ≡ get_or ys k 0) → take n xs ≡ take n ys
 same_part n xs ys len same =
@@ -86,7 +86,7 @@ same_part n xs ys len same =
     let below : i < n = omega (arith, lt, length-take n xs) in
     get_or-take n xs i 0 below ∙ same i below ∙ sym (get_or-take n ys i 0 below))
 
-icmp_right : (payload : List ℕ) → 8 ≤ length payload → transport_is_wrong 1 payload ≡ false
+icmp_right : (payload : List ℕ) → 8 ≤ length payload → transport_is_malformed 1 payload ≡ false
 icmp_right payload long = grind (arith, long)
 
 about_passes : (p : List ℕ) (t : Tuple) → Passes p → protocol p ≡ 1 → Passes (about p t)
@@ -143,31 +143,31 @@ length-rewritten p change = length-sent (inward p change) change ∙ length-inwa
 
 -- only a message of ICMP is about another datagram
 abbrev SameBut : ℕ → List ℕ → List ℕ → Type 0
-SameBut number p q = (protocol q ≡ number) × (words_sum (carried_in 0 q) % 65535 ≡ words_sum (carried_in 0 p) % 65535)
+SameBut number p q = (protocol q ≡ number) × (words_sum (payload_in 0 q) % 65535 ≡ words_sum (payload_in 0 p) % 65535)
 
-about_weighs : (p : List ℕ) (t : Tuple) → Passes p → protocol p ≡ 1 → SameBut 1 p (about p t)
-about_weighs p t ok one =
-    let now = with_ends (inner_at p) p t in
-    let place = payload_at 0 p in
-    let long : 20 ≤ place = omega (arith, ok.head.long) in
+inner_sum_kept : (p : List ℕ) (t : Tuple) → Passes p → protocol p ≡ 1 → SameBut 1 p (about p t)
+inner_sum_kept p t ok one =
+    let now = with_endpoints (inner_start p) p t in
+    let offset = payload_at 0 p in
+    let long : 20 ≤ offset = omega (arith, ok.head.long) in
     let enough = icmp_long (payload_of p) (rw one at ok.carried) in
-    let same : (k : ℕ) → k < place + 8 → get_or now k 0 ≡ get_or p k 0 = λ k lt. ends_byte (inner_at p) p t k lt in
-    let high = same (place + 2) (omega arith) in
-    let low = same (place + 2 + 1) (omega arith) in (
+    let same : (k : ℕ) → k < offset + 8 → get_or now k 0 ≡ get_or p k 0 = λ k lt. ends_byte (inner_start p) p t k lt in
+    let high = same (offset + 2) (omega arith) in
+    let low = same (offset + 2 + 1) (omega arith) in (
       about_byte p t 9 (omega (arith, long)) ∙ one,
-      put_keeps (carried_in 0) (place + 2) 2 p now
-          (carried_stands p now (omega (arith, enough, within p ok, ok.head.whole, length-ends (inner_at p) p t)) long (payload_same now p (same 0 (omega (arith, long)))) (rw (high, low) refl)),
+      update_keeps_sum (payload_in 0) (offset + 2) 2 p now
+          (payload_checksum_word p now (omega (arith, enough, within p ok, ok.head.whole, length-ends (inner_start p) p t)) long (payload_same now p (same 0 (omega (arith, long)))) (rw (high, low) refl)),
     )
 
-inward_weighs : (p : List ℕ) (change : Change) → Passes p → protocol p ≡ 1 → SameBut 1 p (inward p change)
-inward_weighs p change ok one =
-    named_is (SameBut 1 p) with_inner p change.inner (λ t. either_is (SameBut 1 p) (is_some (inner_tuple_of p)) (about p t) p (λ h. about_weighs p t ok one) (one, refl)) (one, refl)
+inward_sum_kept : (p : List ℕ) (change : Change) → Passes p → protocol p ≡ 1 → SameBut 1 p (inward p change)
+inward_sum_kept p change ok one =
+    named_is (SameBut 1 p) with_inner p change.inner (λ t. either_is (SameBut 1 p) (is_some (inner_tuple_of p)) (about p t) p (λ h. inner_sum_kept p t ok one) (one, refl)) (one, refl)
 
-pub icmp_weighs_on : (p : List ℕ) (change : Change) → Passes p → protocol p ≡ 1 → words_sum (carried_in 0 (rewritten p change)) % 65535 ≡ words_sum (carried_in 0 p) % 65535
+pub icmp_sum_kept_with_inner : (p : List ℕ) (change : Change) → Passes p → protocol p ≡ 1 → words_sum (payload_in 0 (rewritten p change)) % 65535 ≡ words_sum (payload_in 0 p) % 65535
 unfolding rewritten
-icmp_weighs_on p change ok one =
-    let w = inward_weighs p change ok one in
-    icmp_weighs (inward p change) change (inward_passes p change ok) w.0 ∙ w.1
+icmp_sum_kept_with_inner p change ok one =
+    let w = inward_sum_kept p change ok one in
+    icmp_sum_kept (inward p change) change (inward_passes p change ok) w.0 ∙ w.1
 
 -- a packet of another protocol stays
 inward_other : (p : List ℕ) (change : Change) → protocol p ≢ 1 → inward p change ≡ p
@@ -191,7 +191,7 @@ readable inner h =
     let three = and_parts _ _ two.0 in
     record { long = leb-true _ _ three.1; whole = leb-true _ _ one.1 }
 
-pub inner_fields : (p : List ℕ) → Passes p → is_some (inner_tuple_of p) ≡ true → HasFields (inner_at p) p
+pub inner_fields : (p : List ℕ) → Passes p → is_some (inner_tuple_of p) ≡ true → HasFields (inner_start p) p
 inner_fields p ok h =
     let inner = inner_of p in
     let about_one = (some_by (is_error p) (inner_tuple inner) h).1 in
@@ -199,30 +199,30 @@ inner_fields p ok h =
     let n = total_len p in
     let head = header_len p in
     let room : length inner + (head + 8) ≤ n = omega (arith, is.whole, length-drop 8 (payload_of p), length-drop head (take n p), length-take n p) in
-    let first : get_or inner 0 0 ≡ get_or (drop (inner_at p) p) 0 0 = get_or-drop 8 (payload_of p) 0 0 ∙ payload_byte p head n 8 (omega (arith, is.whole, room)) ∙ sym (byte_of_rest p (inner_at p) 0 (head + 8) (omega arith)) in
-    let same : header_len inner ≡ header_len (drop (inner_at p) p) = ap (λ b. b % 16 * 4) first in
+    let first : get_or inner 0 0 ≡ get_or (drop (inner_start p) p) 0 0 = get_or-drop 8 (payload_of p) 0 0 ∙ payload_byte p head n 8 (omega (arith, is.whole, room)) ∙ sym (byte_of_rest p (inner_start p) 0 (head + 8) (omega arith)) in
+    let same : header_len inner ≡ header_len (drop (inner_start p) p) = ap (λ b. b % 16 * 4) first in
     record {
       long = omega (arith, same, is.long);
-      whole = fields_room (inner_at p) p (omega (arith, same, is.whole, room, ok.head.whole));
+      whole = fields_room (inner_start p) p (omega (arith, same, is.whole, room, ok.head.whole));
     }
 
-pub about_is : (p : List ℕ) (t : Tuple) → 20 ≤ payload_at 0 p → IsDatagram (inner_at p) p → payload_at (inner_at p) p + len_of (carried_at (inner_at p) p) ≤ length p
-    → with_word (with_ends (inner_at p) p t) (payload_at 0 p + 2)
-    (renewed (fields_change (fields_at (inner_at p) p) (changed_fields (between t None) (fields_at (inner_at p) p))) (word_at p (payload_at 0 p + 2)))
+pub about_is : (p : List ℕ) (t : Tuple) → 20 ≤ payload_at 0 p → IsDatagram (inner_start p) p → payload_at (inner_start p) p + len_of (carried_at (inner_start p) p) ≤ length p
+    → with_u16 (with_endpoints (inner_start p) p t) (payload_at 0 p + 2)
+    (updated_checksum (fields_change (fields_at (inner_start p) p) (changed_fields (between t None) (fields_at (inner_start p) p))) (u16_at p (payload_at 0 p + 2)))
     ≡ about p t
 about_is p t long d room =
-    let start = inner_at p in
-    let place = payload_at 0 p in
+    let start = inner_start p in
+    let offset = payload_at 0 p in
     let new = changed_fields (between t None) (fields_at start p) in
     let words = fields_change (fields_at start p) new in
-    let now = with_ends start p t in
+    let now = with_endpoints start p t in
     let is : with_fields start p new ≡ now = whole_is start p (between t None) d room in
     let same : (k : ℕ) → k < start → get_or now k 0 ≡ get_or p k 0 = λ k lt. ends_byte start p t k lt in
-    let high = same (place + 2) (omega arith) in
-    let low = same (place + 2 + 1) (omega arith) in
-    let covers = covers_to words (carried_in 0 p) (drop place (with_fields start p new)) (carried_in 0 now) (ap (λ k. drop k now) (payload_same now p (same 0 (omega (arith, long)))) ∙ ap (λ l. drop place l) (sym is)) (fields_exchanged place start p (between t None) refl d room) in
-    sym (put_right-is (carried_in 0) (place + 2) p now words covers
-    (word_kept now (place + 2) (word_at p (place + 2)) (rw high (d.small (place + 2))) (rw low (d.small (place + 2 + 1))) (rw (high, low) refl)))
+    let high = same (offset + 2) (omega arith) in
+    let low = same (offset + 2 + 1) (omega arith) in
+    let covers = covers_to words (payload_in 0 p) (drop offset (with_fields start p new)) (payload_in 0 now) (ap (λ k. drop k now) (payload_same now p (same 0 (omega (arith, long)))) ∙ ap (λ l. drop offset l) (sym is)) (fields_exchanged offset start p (between t None) refl d room) in
+    sym (update_checksum-is (payload_in 0) (offset + 2) p now words covers
+    (word_kept now (offset + 2) (u16_at p (offset + 2)) (rw high (d.small (offset + 2))) (rw low (d.small (offset + 2 + 1))) (rw (high, low) refl)))
 
 -- ---- what the packet is first
 
@@ -230,7 +230,7 @@ and_some : (o r : Option Tuple) (t : Tuple) → option_and o r ≡ Some t → (i
 and_some None r t e = cc
 and_some (Some x) r t e = (refl, e)
 
-none_named : (o r : Option Tuple) (p : List ℕ) → o ≡ inner_tuple_of p → option_and o r ≡ None → if_named with_inner p r ≡ p
+none_named : (o r : Option Tuple) (p : List ℕ) → o ≡ inner_tuple_of p → option_and o r ≡ None → write_if_some with_inner p r ≡ p
 none_named o None p is e = refl
 none_named None (Some t) p is e = ap (λ o. if is_some o then about p t else p) (sym is)
 none_named (Some x) (Some t) p is e = cc
@@ -240,8 +240,8 @@ read_some p o t e = (and_some (inner_tuple_of p) o t e).0
 
 pub inward_some : (p : List ℕ) (change : Change) (t : Tuple) → option_and (inner_tuple_of p) change.inner ≡ Some t → inward p change ≡ about p t
 inward_some p change t e =
-    let both = and_some (inner_tuple_of p) change.inner t e in
-    ap (λ o. if_named with_inner p o) both.1 ∙ ap (λ b. if b then about p t else p) both.0
+    let combined = and_some (inner_tuple_of p) change.inner t e in
+    ap (λ o. write_if_some with_inner p o) combined.1 ∙ ap (λ b. if b then about p t else p) combined.0
 
 pub inward_none : (p : List ℕ) (change : Change) → option_and (inner_tuple_of p) change.inner ≡ None → inward p change ≡ p
 inward_none p change e = none_named (inner_tuple_of p) change.inner p refl e

@@ -9,6 +9,6 @@ pub mod Sent
 pub mod Kept
 pub mod Passed
 pub mod Between
-pub mod Weighed
+pub mod TransportSums
 pub mod Exchanged
 pub mod Inward

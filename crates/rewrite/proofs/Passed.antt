@@ -3,51 +3,51 @@ use Rattle.std.proofs.Common.{◌≡◌, ℕ, ◌+◌, ◌*◌, ◌/◌, ◌%◌
 use Rattle.std.proofs.lemmas.Bool.{ne_eqb, cases_eq}
 use Rattle.std.proofs.lemmas.List.{get_or-take, get_or-drop}
 use Rattle.ip_headers.specs.Sum.{words_sum}
-use Rattle.ip_headers.specs.Bytes.{word_at, with_word}
+use Rattle.ip_headers.specs.Bytes.{u16_at, with_u16}
 use Rattle.ip_headers.specs.Header.{header, header_len, payload_at, payload_of, protocol, total_len}
 use Rattle.ip_headers.specs.Passing.{Passes}
-use Rattle.ip_headers.specs.Transport.{tcp_is_wrong, transport_is_wrong, udp_is_wrong}
+use Rattle.ip_headers.specs.Transport.{tcp_is_malformed, transport_is_malformed, udp_is_malformed}
 use Rattle.rewrite.specs.declared.change.Change.{Change}
 use Rattle.rewrite.specs.Rewritten.{header_in, replaced}
 use Rattle.rewrite.proofs.Sums.{still_ones}
 use Rattle.rewrite.proofs.Places.{byte_apart, word_in, word_of_part}
-use Rattle.rewrite.proofs.Kept.{StandsAt, put_keeps}
+use Rattle.rewrite.proofs.Kept.{IsChecksumWord, update_keeps_sum}
 use Rattle.rewrite.proofs.Lengths.{length-carried, length-put, length-replaced}
-use Rattle.rewrite.proofs.Sent.{righted, righted_header, sent, sent_byte, sent_tcp_byte, sent_udp_byte, timed, timed_byte}
+use Rattle.rewrite.proofs.Sent.{checksum_updated, checksum_updated_header, sent, sent_byte, sent_tcp_byte, sent_udp_byte, timed, timed_byte}
 
 -- ---- the sum of the header
 
-header_stands : (p : List ℕ) (change : Change) → Passes p → StandsAt (header_in 0) 10 10 p (righted p change)
-header_stands p change ok =
+header_checksum_word : (p : List ℕ) (change : Change) → Passes p → IsChecksumWord (header_in 0) 10 10 p (checksum_updated p change)
+header_checksum_word p change ok =
     let n = header_len p in
-    let now = righted p change in
+    let now = checksum_updated p change in
     let long : 20 ≤ n = ok.head.long in
     let len : length now ≡ length p = length-carried 0 p (replaced 0 p change) ∙ length-replaced 0 p change in
-    let same : (k : ℕ) → k < n → get_or now k 0 ≡ get_or (timed p change) k 0 = λ k lt. righted_header p change k (omega (arith, lt)) in
+    let same : (k : ℕ) → k < n → get_or now k 0 ≡ get_or (timed p change) k 0 = λ k lt. checksum_updated_header p change k (omega (arith, lt)) in
     let first : header_len now ≡ n = ap (λ b. b % 16 * 4) (same 0 (omega (arith, long)) ∙ timed_byte p change 0 (omega arith) (inl (omega arith))) in
     let high : get_or now 10 0 ≡ get_or p 10 0 = same 10 (omega (arith, long)) ∙ timed_byte p change 10 (omega arith) (inl (omega arith)) in
     let low : get_or now 11 0 ≡ get_or p 11 0 = same 11 (omega (arith, long)) ∙ timed_byte p change 11 (omega arith) (inl (omega arith)) in
     record {
       written = λ w.
-          let kept : header_len (with_word now 10 w) ≡ header_len now = ap (λ b. b % 16 * 4) (byte_apart now 10 w 0 (inl (omega arith))) in
-          ap (λ k. take k (with_word now 10 w)) kept ∙ word_in now 0 (header_len now) 10 10 w refl (omega (arith, first, long));
+          let kept : header_len (with_u16 now 10 w) ≡ header_len now = ap (λ b. b % 16 * 4) (byte_apart now 10 w 0 (inl (omega arith))) in
+          ap (λ k. take k (with_u16 now 10 w)) kept ∙ word_in now 0 (header_len now) 10 10 w refl (omega (arith, first, long));
       word = word_of_part now 0 (header_len now) 10 10 refl (omega (arith, first, long)) ∙ rw (high, low) refl;
       room = omega (arith, length-take (header_len now) now, first, len, long, ok.head.head, ok.head.whole);
       even = (refl, refl);
     }
 
 pub header_keeps : (p : List ℕ) (change : Change) → Passes p → words_sum (header (sent p change)) % 65535 ≡ words_sum (header p) % 65535
-header_keeps p change ok = put_keeps (header_in 0) 10 10 p (righted p change) (header_stands p change ok)
+header_keeps p change ok = update_keeps_sum (header_in 0) 10 10 p (checksum_updated p change) (header_checksum_word p change ok)
 
 -- ---- the tests of what is carried
 
-tcp_same : (x y : List ℕ) → length x ≡ length y → get_or x 12 0 ≡ get_or y 12 0 → tcp_is_wrong x ≡ tcp_is_wrong y
-tcp_same x y len offset = rw (len, offset) refl
+tcp_same : (x y : List ℕ) → length x ≡ length y → get_or x 12 0 ≡ get_or y 12 0 → tcp_is_malformed x ≡ tcp_is_malformed y
+tcp_same x y len data_offset_same = rw (len, data_offset_same) refl
 
-udp_same : (x y : List ℕ) → length x ≡ length y → word_at x 4 ≡ word_at y 4 → udp_is_wrong x ≡ udp_is_wrong y
-udp_same x y len told = rw (len, told) refl
+udp_same : (x y : List ℕ) → length x ≡ length y → u16_at x 4 ≡ u16_at y 4 → udp_is_malformed x ≡ udp_is_malformed y
+udp_same x y len length_same = rw (len, length_same) refl
 
-wrong_same : (number : ℕ) (x y : List ℕ) → length x ≡ length y → (number ≡ 6 → get_or x 12 0 ≡ get_or y 12 0) → (number ≡ 17 → word_at x 4 ≡ word_at y 4) → transport_is_wrong number x ≡ transport_is_wrong number y
+wrong_same : (number : ℕ) (x y : List ℕ) → length x ≡ length y → (number ≡ 6 → get_or x 12 0 ≡ get_or y 12 0) → (number ≡ 17 → u16_at x 4 ≡ u16_at y 4) → transport_is_malformed number x ≡ transport_is_malformed number y
 wrong_same number x y len tcp udp =
     ⊎_elim
     (λ six. rw six (tcp_same x y len (tcp six)))
@@ -64,10 +64,10 @@ payload_len : (xs ys : List ℕ) (h n : ℕ) → length xs ≡ length ys → len
 payload_len xs ys h n e = omega (arith, e, length-drop h (take n xs), length-drop h (take n ys), length-take n xs, length-take n ys)
 
 -- bytes 12 of TCP and 4 and 5 of UDP are within
-tcp_long : (payload : List ℕ) → transport_is_wrong 6 payload ≡ false → 20 ≤ length payload
+tcp_long : (payload : List ℕ) → transport_is_malformed 6 payload ≡ false → 20 ≤ length payload
 tcp_long payload right = grind (arith, right)
 
-udp_long : (payload : List ℕ) → transport_is_wrong 17 payload ≡ false → 8 ≤ length payload
+udp_long : (payload : List ℕ) → transport_is_malformed 17 payload ≡ false → 8 ≤ length payload
 udp_long payload right = grind (arith, right)
 
 pub within : (p : List ℕ) → Passes p → length (payload_of p) + header_len p ≤ total_len p
@@ -77,7 +77,7 @@ pub tcp_room : (p : List ℕ) → Passes p → protocol p ≡ 6 → payload_at 0
 tcp_room p ok six = omega (arith, tcp_long (payload_of p) (rw six at ok.carried), within p ok, ok.head.whole)
 
 pub length-sent : (p : List ℕ) (change : Change) → length (sent p change) ≡ length p
-length-sent p change = length-put (header_in 0) 10 p (righted p change) ∙ length-carried 0 p (replaced 0 p change) ∙ length-replaced 0 p change
+length-sent p change = length-put (header_in 0) 10 p (checksum_updated p change) ∙ length-carried 0 p (replaced 0 p change) ∙ length-replaced 0 p change
 
 pub sent_passes : (p : List ℕ) (change : Change) → Passes p → Passes (sent p change)
 sent_passes p change ok =
@@ -98,7 +98,7 @@ sent_passes p change ok =
     let tcp : protocol p ≡ 6 → get_or (drop h (take n q)) 12 0 ≡ get_or (drop h (take n p)) 12 0 = λ six.
     let enough = tcp_long (payload_of p) (rw six at ok.carried) in
     payload_byte q h n 12 (omega (arith, enough, room)) ∙ sent_tcp_byte p change (h + 12) (omega (arith, long)) six (tcp_room p ok six) (omega arith) (inl (omega arith)) ∙ sym (payload_byte p h n 12 (omega (arith, enough, room))) in
-    let udp : protocol p ≡ 17 → word_at (drop h (take n q)) 4 ≡ word_at (drop h (take n p)) 4 = λ seventeen.
+    let udp : protocol p ≡ 17 → u16_at (drop h (take n q)) 4 ≡ u16_at (drop h (take n p)) 4 = λ seventeen.
     let enough = udp_long (payload_of p) (rw seventeen at ok.carried) in
     let high = payload_byte q h n 4 (omega (arith, enough, room)) ∙ sent_udp_byte p change (h + 4) (omega (arith, long)) seventeen (omega arith) (inl (omega arith)) ∙ sym (payload_byte p h n 4 (omega (arith, enough, room))) in
     let low = payload_byte q h n 5 (omega (arith, enough, room)) ∙ sent_udp_byte p change (h + 5) (omega (arith, long)) seventeen (omega arith) (inl (omega arith)) ∙ sym (payload_byte p h n 5 (omega (arith, enough, room))) in

@@ -3,7 +3,7 @@ use Rattle.std.proofs.Common.{◌≡◌, ℕ, zero, suc, ◌+◌, ◌*◌, ◌/�
 use mathlib.Core.Bool.{not}
 use Rattle.std.proofs.lemmas.Grind.{common_steps}
 use Rattle.ip_headers.specs.Sum.{words_sum, ones_sum_of}
-use Rattle.ip_headers.specs.Bytes.{word_at, with_word}
+use Rattle.ip_headers.specs.Bytes.{u16_at, with_u16}
 
 -- the place of one byte in its word
 abbrev pub at_place : Bool → ℕ → ℕ
@@ -37,7 +37,7 @@ pub words_sum-set : (xs : List ℕ) (i v : ℕ) → i < length xs → words_sum 
 words_sum-set xs i v lt = omega (arith, placed-set true xs i v lt, placed_is xs, placed_is (set xs i v))
 
 -- a word in place of another
-pub words_sum-word : (xs : List ℕ) (i w : ℕ) → i + 1 < length xs → high_at true i ≡ true → high_at true (i + 1) ≡ false → words_sum (with_word xs i w) + word_at xs i ≡ words_sum xs + w
+pub words_sum-word : (xs : List ℕ) (i w : ℕ) → i + 1 < length xs → high_at true i ≡ true → high_at true (i + 1) ≡ false → words_sum (with_u16 xs i w) + u16_at xs i ≡ words_sum xs + w
 words_sum-word xs i w lt high low =
     let one = rw high at (words_sum-set xs i (w / 256) (omega arith)) in
     let two = rw low at (words_sum-set (set xs i (w / 256)) (i + 1) (w % 256) (grind (arith, common_steps))) in

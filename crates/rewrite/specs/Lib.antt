@@ -1,4 +1,4 @@
 pub mod Rewritten
-pub mod Ends
-pub mod Trials
+pub mod Endpoints
+pub mod Examples
 pub mod steps

@@ -2,51 +2,51 @@
 -- (RFC 1624), and no other byte changed (RFC 3022, section 4.1).
 use Rattle.std.specs.Prelude.{ℕ, ◌+◌, ◌-◌, ◌%◌, ◌==◌, ◌&&◌, ◌||◌, nat_le, Bool, true, false, List, [], ◌∷◌, ◌++◌}
 use Rattle.std.specs.Prelude.{length, take, drop, slice_set, is_some, Option, Some, None, if◌then◌else◌}
-use Rattle.ip_headers.specs.Bytes.{word_at, with_word, with_number}
+use Rattle.ip_headers.specs.Bytes.{u16_at, with_u16, with_u32}
 use Rattle.ip_headers.specs.Sum.{words_sum}
 use Rattle.ip_headers.specs.Header.{header, protocol_at, payload_at}
 use Rattle.ip_headers.specs.Tuple.{inner_tuple_of}
 use Rattle.ip_headers.specs.declared.tuple.Tuple.{Tuple}
-use Rattle.rewrite.specs.Ends.{between}
+use Rattle.rewrite.specs.Endpoints.{between}
 use Rattle.rewrite.specs.declared.change.Change.{Change}
-use Rattle.rewrite.specs.declared.change.Numbers.{Numbers}
-use Rattle.rewrite.specs.declared.change.Numbers.TheVariants.{Ports, Identifier}
+use Rattle.rewrite.specs.declared.change.PortsOrIdentifier.{PortsOrIdentifier}
+use Rattle.rewrite.specs.declared.change.PortsOrIdentifier.TheVariants.{Ports, Identifier}
 
 -- ---- fields of a datagram that begins at a place: at 0 the packet itself
 
 -- what is written where a value is named; else nothing
-abbrev pub if_named : {A : Type 0} → (List ℕ → A → List ℕ) → List ℕ → Option A → List ℕ
-if_named write bytes None = bytes
-if_named write bytes (Some x) = write bytes x
+abbrev pub write_if_some : {A : Type 0} → (List ℕ → A → List ℕ) → List ℕ → Option A → List ℕ
+write_if_some write bytes None = bytes
+write_if_some write bytes (Some x) = write bytes x
 
 abbrev pub with_source : ℕ → List ℕ → ℕ → List ℕ
-with_source start bytes address = with_number bytes (start + 12) address
+with_source start bytes address = with_u32 bytes (start + 12) address
 
 abbrev pub with_destination : ℕ → List ℕ → ℕ → List ℕ
-with_destination start bytes address = with_number bytes (start + 16) address
+with_destination start bytes address = with_u32 bytes (start + 16) address
 
 abbrev pub with_ttl : ℕ → List ℕ → ℕ → List ℕ
 with_ttl start bytes ttl = slice_set bytes (start + 8) ttl
 
 -- two ports, from the first byte of what is carried on
 abbrev pub with_ports : ℕ → List ℕ → ℕ → ℕ → List ℕ
-with_ports place bytes from to = with_word (with_word bytes place from) (place + 2) to
+with_ports offset bytes from to = with_u16 (with_u16 bytes offset from) (offset + 2) to
 
 -- only TCP and UDP have ports, and only ICMP has an identifier: of a protocol without these numbers nothing is written
-abbrev pub with_numbers : ℕ → List ℕ → Numbers → List ℕ
+abbrev pub with_numbers : ℕ → List ℕ → PortsOrIdentifier → List ℕ
 with_numbers start bytes (Ports from to) =
     if protocol_at start bytes == 6 || protocol_at start bytes == 17
     then with_ports (payload_at start bytes) bytes from to else bytes
 with_numbers start bytes (Identifier number) =
-    if protocol_at start bytes == 1 then with_word bytes (payload_at start bytes + 4) number else bytes
+    if protocol_at start bytes == 1 then with_u16 bytes (payload_at start bytes + 4) number else bytes
 
 -- the named fields replaced, the checksums as they were
 abbrev pub replaced : ℕ → List ℕ → Change → List ℕ
 replaced start bytes change =
-    let from = if_named (with_source start) bytes change.source in
-    let to = if_named (with_destination start) from change.destination in
-    let timed = if_named (with_ttl start) to change.ttl in
-    if_named (with_numbers start) timed change.numbers
+    let from = write_if_some (with_source start) bytes change.source in
+    let to = write_if_some (with_destination start) from change.destination in
+    let timed = write_if_some (with_ttl start) to change.ttl in
+    write_if_some (with_numbers start) timed change.numbers
 
 -- ---- checksums
 
@@ -62,65 +62,65 @@ corrected checksum old new = (checksum + old + (65535 - new % 65535)) % 65535
 
 -- the checksum at a place, which is made over these bytes: it stays where none of them changed, and is else corrected
 -- for all of them, of which those that stayed count for nothing, its own two among them, which are still the old ones
-abbrev pub put_right : (List ℕ → List ℕ) → ℕ → List ℕ → List ℕ → List ℕ
-put_right over place old now =
+abbrev pub update_checksum : (List ℕ → List ℕ) → ℕ → List ℕ → List ℕ → List ℕ
+update_checksum over offset old now =
     if same_bytes (over old) (over now) then now
-    else with_word now place (corrected (word_at old place) (words_sum (over old)) (words_sum (over now)))
+    else with_u16 now offset (corrected (u16_at old offset) (words_sum (over old)) (words_sum (over now)))
 
 -- a checksum of UDP (RFC 768): where 0 is computed ffff is written
 abbrev pub or_all_ones : ℕ → ℕ
 or_all_ones checksum = if checksum == 0 then 65535 else checksum
 
 -- the same of UDP: 0 says that the sender made none, and stays
-abbrev pub put_right_if_made : (List ℕ → List ℕ) → ℕ → List ℕ → List ℕ → List ℕ
-put_right_if_made over place old now =
-    if same_bytes (over old) (over now) || word_at old place == 0 then now
-    else with_word now place
-    (or_all_ones (corrected (word_at old place) (words_sum (over old)) (words_sum (over now))))
+abbrev pub update_udp_checksum : (List ℕ → List ℕ) → ℕ → List ℕ → List ℕ → List ℕ
+update_udp_checksum over offset old now =
+    if same_bytes (over old) (over now) || u16_at old offset == 0 then now
+    else with_u16 now offset
+    (or_all_ones (corrected (u16_at old offset) (words_sum (over old)) (words_sum (over now))))
 
 -- what the checksums of a datagram are made over: its header (RFC 791)
 abbrev pub header_in : ℕ → List ℕ → List ℕ
 header_in start bytes = header (drop start bytes)
 
 -- all that it carries (RFC 792)
-abbrev pub carried_in : ℕ → List ℕ → List ℕ
-carried_in start bytes = drop (payload_at start bytes) bytes
+abbrev pub payload_in : ℕ → List ℕ → List ℕ
+payload_in start bytes = drop (payload_at start bytes) bytes
 
 -- the pseudo header's two addresses before it (RFC 9293, section 3.1; RFC 768): its other words never change
-abbrev pub pseudo_in : ℕ → List ℕ → List ℕ
-pseudo_in start bytes = take 8 (drop (start + 12) bytes) ++ carried_in start bytes
+abbrev pub pseudo_header_and_payload : ℕ → List ℕ → List ℕ
+pseudo_header_and_payload start bytes = take 8 (drop (start + 12) bytes) ++ payload_in start bytes
 
 -- the checksum of what is carried, by the protocol; of TCP where its bytes are there
-abbrev pub right_carried : ℕ → List ℕ → List ℕ → List ℕ
-right_carried start old now =
+abbrev pub update_transport_checksum : ℕ → List ℕ → List ℕ → List ℕ
+update_transport_checksum start old now =
     if protocol_at start old == 6 && nat_le (payload_at start old + 18) (length old)
-    then put_right (pseudo_in start) (payload_at start old + 16) old now
-    else (if protocol_at start old == 17 then put_right_if_made (pseudo_in start) (payload_at start old + 6) old now
-    else (if protocol_at start old == 1 then put_right (carried_in start) (payload_at start old + 2) old now
+    then update_checksum (pseudo_header_and_payload start) (payload_at start old + 16) old now
+    else (if protocol_at start old == 17 then update_udp_checksum (pseudo_header_and_payload start) (payload_at start old + 6) old now
+    else (if protocol_at start old == 1 then update_checksum (payload_in start) (payload_at start old + 2) old now
     else now))
 
-abbrev pub right_header : ℕ → List ℕ → List ℕ → List ℕ
-right_header start old now = put_right (header_in start) (start + 10) old now
+abbrev pub update_header_checksum : ℕ → List ℕ → List ℕ → List ℕ
+update_header_checksum start old now = update_checksum (header_in start) (start + 10) old now
 
 -- both checksums of a datagram
-abbrev pub right_datagram : ℕ → List ℕ → List ℕ → List ℕ
-right_datagram start old now = right_header start old (right_carried start old now)
+abbrev pub update_checksums : ℕ → List ℕ → List ℕ → List ℕ
+update_checksums start old now = update_header_checksum start old (update_transport_checksum start old now)
 
 -- ---- the datagram that an ICMP error is about (RFC 5508, section 4.2)
 
 -- it begins behind the error's 8 bytes (RFC 792)
-abbrev pub inner_at : List ℕ → ℕ
-inner_at packet = payload_at 0 packet + 8
+abbrev pub inner_start : List ℕ → ℕ
+inner_start packet = payload_at 0 packet + 8
 
 -- a datagram between other ends, its own checksums corrected; its TTL stays
-abbrev pub with_ends : ℕ → List ℕ → Tuple → List ℕ
-with_ends start bytes t = right_datagram start bytes (replaced start bytes (between t None))
+abbrev pub with_endpoints : ℕ → List ℕ → Tuple → List ℕ
+with_endpoints start bytes t = update_checksums start bytes (replaced start bytes (between t None))
 
 -- an error about a datagram between other ends: the error's own checksum covers it
 abbrev pub with_inner : List ℕ → Tuple → List ℕ
 with_inner packet t =
     if is_some (inner_tuple_of packet)
-    then put_right (carried_in 0) (payload_at 0 packet + 2) packet (with_ends (inner_at packet) packet t)
+    then update_checksum (payload_in 0) (payload_at 0 packet + 2) packet (with_endpoints (inner_start packet) packet t)
     else packet
 
 -- ---- the packet
@@ -128,5 +128,5 @@ with_inner packet t =
 -- first the datagram that it is about, then its own fields
 unfoldable pub rewritten : List ℕ → Change → List ℕ
 rewritten packet change =
-    let inward = if_named with_inner packet change.inner in
-    right_datagram 0 inward (replaced 0 inward change)
+    let inward = write_if_some with_inner packet change.inner in
+    update_checksums 0 inward (replaced 0 inward change)

@@ -1,12 +1,12 @@
 //! What is to be other in a packet.
 ghost use Rattle.std.specs.Prelude.{◌≡◌};
-ghost use Rattle.rewrite.specs.Ends.{between, numbers_by};
+ghost use Rattle.rewrite.specs.Endpoints.{between, ports_or_identifier};
 
 use ip_headers::{Kind, Tuple};
 
 /// The numbers that tell the ends of a packet apart, besides its addresses.
 #[derive(Clone, Copy, Debug, PartialEq, Eq)]
-pub enum Numbers {
+pub enum PortsOrIdentifier {
     /// Of TCP and UDP: the source port and the destination port.
     Ports(u16, u16),
     /// Of an ICMP query and its answer.
@@ -21,7 +21,7 @@ pub struct Change {
     /// The destination address.
     pub destination: Option<u32>,
     /// Ports or an identifier; where the packet's protocol has no such numbers, nothing of it changes.
-    pub numbers: Option<Numbers>,
+    pub numbers: Option<PortsOrIdentifier>,
     /// The time to live.
     pub ttl: Option<u8>,
     /// Of an ICMP error: the ends between which the datagram goes that it is about; where the packet
@@ -45,14 +45,14 @@ impl Change {
 }
 
 /// The numbers of a tuple: ports, or the identifier at the end that asks.
-fn numbers_of(tuple: &Tuple) -> Option<Numbers>
-    ensures { result ≡ numbers_by tuple.now.kind tuple.now.source.port tuple.now.destination.port }
+fn numbers_of(tuple: &Tuple) -> Option<PortsOrIdentifier>
+    ensures { result ≡ ports_or_identifier tuple.now.kind tuple.now.source.port tuple.now.destination.port }
 {
     let (from, to) = (tuple.source.port, tuple.destination.port);
     match tuple.kind {
-        Kind::Tcp | Kind::Udp => Some(Numbers::Ports(from, to)),
-        Kind::Ask => Some(Numbers::Identifier(from)),
-        Kind::Answer => Some(Numbers::Identifier(to)),
+        Kind::Tcp | Kind::Udp => Some(PortsOrIdentifier::Ports(from, to)),
+        Kind::EchoRequest => Some(PortsOrIdentifier::Identifier(from)),
+        Kind::EchoReply => Some(PortsOrIdentifier::Identifier(to)),
         Kind::Other(_) => None,
     }
 }

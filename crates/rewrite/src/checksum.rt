@@ -1,23 +1,23 @@
 //! Checksums after words under them changed.
 ghost use Rattle.std.specs.Prelude.{◌≡◌, ◌+◌, ◌^◌, ◌<◌};
 ghost use Rattle.rewrite.specs.Rewritten.{corrected, or_all_ones};
-ghost use Rattle.rewrite.specs.steps.Fields.{both, number_change, renewed, renewed_if_made, word_change};
+ghost use Rattle.rewrite.specs.steps.Fields.{combined, u32_change, updated_checksum, updated_udp_checksum, u16_change};
 
 /// The words under a checksum that a change replaces: what they add up to before it and after it, and
 /// whether each of them stays the same.
 #[derive(Clone, Copy)]
-pub(crate) struct Words {
+pub(crate) struct ChecksumDelta {
     pub old: u32,
     pub new: u32,
     pub is_same: bool,
 }
 
-impl Words {
+impl ChecksumDelta {
     /// One word.
-    pub(crate) fn word(old: u16, new: u16) -> Words
-        ensures { result ≡ word_change old new }
+    pub(crate) fn word(old: u16, new: u16) -> ChecksumDelta
+        ensures { result ≡ u16_change old new }
     {
-        Words {
+        ChecksumDelta {
             old: old as u32,
             new: new as u32,
             is_same: old == new,
@@ -25,10 +25,10 @@ impl Words {
     }
 
     /// A number of two words.
-    pub(crate) fn number(old: u32, new: u32) -> Words
-        ensures { result ≡ number_change old new }
+    pub(crate) fn number(old: u32, new: u32) -> ChecksumDelta
+        ensures { result ≡ u32_change old new }
     {
-        Words {
+        ChecksumDelta {
             old: old / 65536 + old % 65536,
             new: new / 65536 + new % 65536,
             is_same: old == new,
@@ -36,12 +36,12 @@ impl Words {
     }
 
     /// These words and others.
-    pub(crate) fn and(self, other: Words) -> Words
+    pub(crate) fn and(self, other: ChecksumDelta) -> ChecksumDelta
         requires old { self.old + other.old < 2 ^ 32 }
         requires new { self.new + other.new < 2 ^ 32 }
-        ensures { result ≡ both self other }
+        ensures { result ≡ combined self other }
     {
-        Words {
+        ChecksumDelta {
             old: self.old + other.old,
             new: self.new + other.new,
             is_same: self.is_same && other.is_same,
@@ -49,24 +49,24 @@ impl Words {
     }
 
     /// The checksum after the change: as it was where no word changed.
-    pub(crate) fn renew(self, checksum: u16) -> u16
-        ensures { result ≡ renewed self checksum }
+    pub(crate) fn update(self, checksum: u16) -> u16
+        ensures { result ≡ updated_checksum self checksum }
     {
         if self.is_same {
             checksum
         } else {
-            self.correct(checksum)
+            self.incremental_update(checksum)
         }
     }
 
     /// The same of UDP, where 0 says that there is none (RFC 768).
-    pub(crate) fn renew_if_made(self, checksum: u16) -> u16
-        ensures { result ≡ renewed_if_made self checksum }
+    pub(crate) fn update_udp(self, checksum: u16) -> u16
+        ensures { result ≡ updated_udp_checksum self checksum }
     {
         if self.is_same || checksum == 0 {
             return checksum;
         }
-        match self.correct(checksum) {
+        match self.incremental_update(checksum) {
             0 => 0xffff,
             other => other,
         }
@@ -74,7 +74,7 @@ impl Words {
 
     /// The number from 0 to 65534 that is congruent to the checksum plus the old words minus the new
     /// ones, modulo 65535 (RFC 1624, section 3).
-    fn correct(self, checksum: u16) -> u16
+    fn incremental_update(self, checksum: u16) -> u16
         ensures { result ≡ corrected checksum self.old self.new }
     {
         let sum = checksum as u64 + self.old as u64 + (65535 - self.new as u64 % 65535);

@@ -1,10 +1,10 @@
 //! The fields of a datagram that a change may replace.
 ghost use Rattle.std.specs.Prelude.{◌≡◌, ◌+◌, ◌<◌, ◌≤◌, ℕ, drop, length, slice_index};
 ghost use Rattle.ip_headers.specs.Header.{payload_at, header_len};
-ghost use Rattle.rewrite.specs.steps.Fields.{address_change, carried_of, carried_words, changed_carried, changed_fields, fields_at, fields_change, identifier_named, len_of, port_change, ports_named, tcp_checksum_of, ttl_change, with_fields, HasFields};
+ghost use Rattle.rewrite.specs.steps.Fields.{address_change, transport_fields_of, transport_words, changed_transport_fields, changed_fields, fields_at, fields_change, identifier_named, len_of, port_change, ports_named, tcp_checksum_of, ttl_change, with_fields, HasFields};
 
-use crate::change::{Change, Numbers};
-use crate::checksum::Words;
+use crate::change::{Change, PortsOrIdentifier};
+use crate::checksum::ChecksumDelta;
 use byteorder::{BigEndian, ByteOrder};
 use ip_headers::PartsMut;
 
@@ -16,12 +16,12 @@ pub(crate) struct Fields {
     pub ttl: u8,
     /// The header's checksum.
     pub checksum: u16,
-    pub carried: Carried,
+    pub carried: TransportFields,
 }
 
 /// Those of what a datagram carries.
 #[derive(Clone, Copy)]
-pub(crate) enum Carried {
+pub(crate) enum TransportFields {
     /// Of a segment that was cut the checksum may be missing.
     Tcp {
         from: u16,
@@ -54,7 +54,7 @@ impl Fields {
             destination: BigEndian::read_u32(&packet[start + 16..]),
             ttl: packet[start + 8],
             checksum: BigEndian::read_u16(&packet[start + 10..]),
-            carried: Carried::read(packet[start + 9], &packet[payload..]),
+            carried: TransportFields::read(packet[start + 9], &packet[payload..]),
         }
     }
 
@@ -65,35 +65,35 @@ impl Fields {
         let source = change.source.unwrap_or(self.source);
         let destination = change.destination.unwrap_or(self.destination);
         let ttl = change.ttl.unwrap_or(self.ttl);
-        let addresses = Words::number(self.source, source).and(Words::number(
+        let addresses = ChecksumDelta::number(self.source, source).and(ChecksumDelta::number(
             self.destination,
             destination,
         ));
         // The TTL is the high byte of its word.
-        let header = Words::word(self.ttl as u16 * 256, ttl as u16 * 256).and(addresses);
+        let header = ChecksumDelta::word(self.ttl as u16 * 256, ttl as u16 * 256).and(addresses);
         Fields {
             source,
             destination,
             ttl,
-            checksum: header.renew(self.checksum),
+            checksum: header.update(self.checksum),
             carried: self.carried.changed(change.numbers, addresses),
         }
     }
 
     /// The words of the datagram that others take the place of.
-    pub(crate) fn words_to(&self, new: &Fields) -> Words
+    pub(crate) fn words_to(&self, new: &Fields) -> ChecksumDelta
         ensures { result ≡ fields_change self.now new.now }
     {
         let (first, second, checksum) = self.carried.words();
         let (new_first, new_second, new_checksum) = new.carried.words();
         // The TTL is the high byte of its word.
-        Words::number(self.source, new.source)
-            .and(Words::number(self.destination, new.destination))
-            .and(Words::word(self.ttl as u16 * 256, new.ttl as u16 * 256))
-            .and(Words::word(first, new_first))
-            .and(Words::word(second, new_second))
-            .and(Words::word(checksum, new_checksum))
-            .and(Words::word(self.checksum, new.checksum))
+        ChecksumDelta::number(self.source, new.source)
+            .and(ChecksumDelta::number(self.destination, new.destination))
+            .and(ChecksumDelta::word(self.ttl as u16 * 256, new.ttl as u16 * 256))
+            .and(ChecksumDelta::word(first, new_first))
+            .and(ChecksumDelta::word(second, new_second))
+            .and(ChecksumDelta::word(checksum, new_checksum))
+            .and(ChecksumDelta::word(self.checksum, new.checksum))
     }
 
     /// Writes them into the datagram that begins at a place.
@@ -107,108 +107,112 @@ impl Fields {
         parts.set_destination(self.destination);
         parts.set_ttl(self.ttl);
         match self.carried {
-            Carried::Tcp { from, to, checksum } => {
+            TransportFields::Tcp { from, to, checksum } => {
                 parts.set_source_port(from);
                 parts.set_destination_port(to);
                 if let Some(checksum) = checksum {
                     parts.set_tcp_checksum(checksum);
                 }
             }
-            Carried::Udp { from, to, checksum } => {
+            TransportFields::Udp { from, to, checksum } => {
                 parts.set_source_port(from);
                 parts.set_destination_port(to);
                 parts.set_udp_checksum(checksum);
             }
-            Carried::Icmp {
+            TransportFields::Icmp {
                 identifier,
                 checksum,
             } => {
                 parts.set_identifier(identifier);
                 parts.set_icmp_checksum(checksum);
             }
-            Carried::Other => {}
+            TransportFields::Other => {}
         }
         parts.set_header_checksum(self.checksum);
     }
 }
 
-impl Carried {
+impl TransportFields {
     /// Those of a payload of the protocol with this number.
-    fn read(protocol: u8, payload: &[u8]) -> Carried
-        requires { len_of (carried_of protocol payload.now) ≤ length payload.now }
-        ensures { result ≡ carried_of protocol payload.now }
+    fn read(protocol: u8, payload: &[u8]) -> TransportFields
+        requires { len_of (transport_fields_of protocol payload.now) ≤ length payload.now }
+        ensures { result ≡ transport_fields_of protocol payload.now }
     {
         match protocol {
-            6 => Carried::Tcp {
+            6 => TransportFields::Tcp {
                 from: BigEndian::read_u16(payload),
                 to: BigEndian::read_u16(&payload[2..]),
                 checksum: tcp_checksum(payload),
             },
-            17 => Carried::Udp {
+            17 => TransportFields::Udp {
                 from: BigEndian::read_u16(payload),
                 to: BigEndian::read_u16(&payload[2..]),
                 checksum: BigEndian::read_u16(&payload[6..]),
             },
-            1 => Carried::Icmp {
+            1 => TransportFields::Icmp {
                 identifier: BigEndian::read_u16(&payload[4..]),
                 checksum: BigEndian::read_u16(&payload[2..]),
             },
-            _ => Carried::Other,
+            _ => TransportFields::Other,
         }
     }
 
     /// Their words, 0 where there are fewer than three.
     fn words(&self) -> (u16, u16, u16)
-        ensures { result ≡ carried_words self.now }
+        ensures { result ≡ transport_words self.now }
     {
         match *self {
-            Carried::Tcp { from, to, checksum } => (from, to, checksum.unwrap_or(0)),
-            Carried::Udp { from, to, checksum } => (from, to, checksum),
-            Carried::Icmp {
+            TransportFields::Tcp { from, to, checksum } => (from, to, checksum.unwrap_or(0)),
+            TransportFields::Udp { from, to, checksum } => (from, to, checksum),
+            TransportFields::Icmp {
                 identifier,
                 checksum,
             } => (identifier, 0, checksum),
-            Carried::Other => (0, 0, 0),
+            TransportFields::Other => (0, 0, 0),
         }
     }
 
     /// As they are sent on, where the words of the addresses change so: TCP and UDP sum the addresses
     /// too, in the pseudo header.
-    fn changed(&self, numbers: Option<Numbers>, addresses: Words) -> Carried
+    fn changed(
+        &self,
+        numbers: Option<PortsOrIdentifier>,
+        addresses: ChecksumDelta,
+    ) -> TransportFields
         requires old { addresses.old ≤ 262140 }
         requires new { addresses.new ≤ 262140 }
-        ensures { result ≡ changed_carried numbers addresses self.now }
+        ensures { result ≡ changed_transport_fields numbers addresses self.now }
     {
         match *self {
-            Carried::Tcp { from, to, checksum } => {
+            TransportFields::Tcp { from, to, checksum } => {
                 let ports = named_ports(numbers, from, to);
                 let words = addresses.and(port_words((from, to), ports));
-                Carried::Tcp {
+                TransportFields::Tcp {
                     from: ports.0,
                     to: ports.1,
-                    checksum: checksum.map(|checksum| words.renew(checksum)),
+                    checksum: checksum.map(|checksum| words.update(checksum)),
                 }
             }
-            Carried::Udp { from, to, checksum } => {
+            TransportFields::Udp { from, to, checksum } => {
                 let ports = named_ports(numbers, from, to);
                 let words = addresses.and(port_words((from, to), ports));
-                Carried::Udp {
+                TransportFields::Udp {
                     from: ports.0,
                     to: ports.1,
-                    checksum: words.renew_if_made(checksum),
+                    checksum: words.update_udp(checksum),
                 }
             }
-            Carried::Icmp {
+            TransportFields::Icmp {
                 identifier,
                 checksum,
             } => {
                 let other = named_identifier(numbers, identifier);
-                Carried::Icmp {
+                TransportFields::Icmp {
                     identifier: other,
-                    checksum: Words::word(identifier, other).renew(checksum),
+                    checksum: ChecksumDelta::word(identifier, other).update(checksum),
                 }
             }
-            Carried::Other => Carried::Other,
+            TransportFields::Other => TransportFields::Other,
         }
     }
 }
@@ -224,28 +228,28 @@ fn tcp_checksum(segment: &[u8]) -> Option<u16>
 }
 
 /// The ports that are named, or else these.
-fn named_ports(numbers: Option<Numbers>, from: u16, to: u16) -> (u16, u16)
+fn named_ports(numbers: Option<PortsOrIdentifier>, from: u16, to: u16) -> (u16, u16)
     ensures { result ≡ ports_named numbers from to }
 {
     match numbers {
-        Some(Numbers::Ports(one, other)) => (one, other),
+        Some(PortsOrIdentifier::Ports(one, other)) => (one, other),
         _ => (from, to),
     }
 }
 
 /// The identifier that is named, or else this one.
-fn named_identifier(numbers: Option<Numbers>, identifier: u16) -> u16
+fn named_identifier(numbers: Option<PortsOrIdentifier>, identifier: u16) -> u16
     ensures { result ≡ identifier_named numbers identifier }
 {
     match numbers {
-        Some(Numbers::Identifier(other)) => other,
+        Some(PortsOrIdentifier::Identifier(other)) => other,
         _ => identifier,
     }
 }
 
 /// The words of two ports.
-fn port_words(old: (u16, u16), new: (u16, u16)) -> Words
+fn port_words(old: (u16, u16), new: (u16, u16)) -> ChecksumDelta
     ensures { result ≡ port_change old new }
 {
-    Words::word(old.0, new.0).and(Words::word(old.1, new.1))
+    ChecksumDelta::word(old.0, new.0).and(ChecksumDelta::word(old.1, new.1))
 }

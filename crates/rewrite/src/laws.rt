@@ -2,26 +2,26 @@
 ghost use Rattle.std.specs.Prelude.{◌≡◌, ◌≢◌, ◌+◌, ◌%◌, ℕ, List, None, Option, Some};
 ghost use Rattle.ip_headers.specs.declared.tuple.Tuple.{Tuple};
 ghost use Rattle.ip_headers.specs.Header.{fault_of, payload_at, payload_of, protocol};
-ghost use Rattle.ip_headers.specs.Bytes.{word_at};
+ghost use Rattle.ip_headers.specs.Bytes.{u16_at};
 ghost use Rattle.ip_headers.specs.Sum.{words_sum};
 ghost use Rattle.ip_headers.specs.Tuple.{kind_of, tuple_of};
 ghost use Rattle.rewrite.specs.declared.change.Change.{Change};
-ghost use Rattle.rewrite.specs.Ends.{between, PortsSuit};
-ghost use Rattle.rewrite.specs.Rewritten.{carried_in, pseudo_in, rewritten};
+ghost use Rattle.rewrite.specs.Endpoints.{between, PortsMatchKind};
+ghost use Rattle.rewrite.specs.Rewritten.{payload_in, pseudo_header_and_payload, rewritten};
 
 use ip_headers::laws::no_fault;
 
 /// What leaves passes the tests of its headers again, as what came did: its header's checksum is right
 /// again.
-pub fn still_faultless()
+pub fn rewritten_is_faultless()
     ensures { (packet : List ℕ) (change : Change) → fault_of packet ≡ None → fault_of (rewritten packet change) ≡ None }
 {
     no_fault();
 }
 
 /// A packet that is sent on between the ends of a tuple of its own kind carries that tuple.
-pub fn goes_between()
-    ensures { (packet : List ℕ) (t : Tuple) (ttl : Option ℕ) → fault_of packet ≡ None → kind_of (protocol packet) (payload_of packet) ≡ Some t.kind → PortsSuit t.kind t.source.port t.destination.port
+pub fn rewritten_has_tuple()
+    ensures { (packet : List ℕ) (t : Tuple) (ttl : Option ℕ) → fault_of packet ≡ None → kind_of (protocol packet) (payload_of packet) ≡ Some t.kind → PortsMatchKind t.kind t.source.port t.destination.port
         → tuple_of (rewritten packet (between t ttl)) ≡ Some t }
 {
     no_fault();
@@ -29,14 +29,14 @@ pub fn goes_between()
 
 /// A checksum of what is carried stays as right or as wrong as it was: modulo 65535 the words that it is
 /// made over add up to what they did. Those of the pseudo header that aren't addresses never change.
-pub fn still_as_wrong()
+pub fn checksum_error_is_kept()
     ensures tcp { (packet : List ℕ) (change : Change) → fault_of packet ≡ None → protocol packet ≡ 6
-        → words_sum (pseudo_in 0 (rewritten packet change)) % 65535 ≡ words_sum (pseudo_in 0 packet) % 65535 }
+        → words_sum (pseudo_header_and_payload 0 (rewritten packet change)) % 65535 ≡ words_sum (pseudo_header_and_payload 0 packet) % 65535 }
     // Of UDP where the sender made one.
-    ensures udp { (packet : List ℕ) (change : Change) → fault_of packet ≡ None → protocol packet ≡ 17 → word_at packet (payload_at 0 packet + 6) ≢ 0
-        → words_sum (pseudo_in 0 (rewritten packet change)) % 65535 ≡ words_sum (pseudo_in 0 packet) % 65535 }
+    ensures udp { (packet : List ℕ) (change : Change) → fault_of packet ≡ None → protocol packet ≡ 17 → u16_at packet (payload_at 0 packet + 6) ≢ 0
+        → words_sum (pseudo_header_and_payload 0 (rewritten packet change)) % 65535 ≡ words_sum (pseudo_header_and_payload 0 packet) % 65535 }
     ensures icmp { (packet : List ℕ) (change : Change) → fault_of packet ≡ None → protocol packet ≡ 1
-        → words_sum (carried_in 0 (rewritten packet change)) % 65535 ≡ words_sum (carried_in 0 packet) % 65535 }
+        → words_sum (payload_in 0 (rewritten packet change)) % 65535 ≡ words_sum (payload_in 0 packet) % 65535 }
 {
     no_fault();
 }

@@ -3,10 +3,10 @@
 
 mod change;
 mod checksum;
+pub mod examples;
 mod fields;
 pub mod laws;
 mod sending;
-pub mod trials;
 
-pub use change::{Change, Numbers};
+pub use change::{Change, PortsOrIdentifier};
 pub use sending::emit;

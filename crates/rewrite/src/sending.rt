@@ -1,7 +1,7 @@
 //! Packets as they are sent on.
 ghost use Rattle.std.specs.Prelude.{◌≡◌, ◌+◌, ◌<◌, ◌≤◌, ◌++◌, length, OnOk, OnErr, vec_len, vec_capacity};
 ghost use Rattle.ip_headers.specs.Header.{payload_at};
-ghost use Rattle.rewrite.specs.Rewritten.{carried_in, inner_at, put_right, replaced, rewritten, right_datagram, with_ends};
+ghost use Rattle.rewrite.specs.Rewritten.{payload_in, inner_start, update_checksum, replaced, rewritten, update_checksums, with_endpoints};
 ghost use Rattle.rewrite.specs.steps.Fields.{HasFields};
 
 use crate::change::Change;
@@ -51,8 +51,8 @@ fn rewrite_packet(packet: &mut [u8], view: &View, change: &Change)
 fn rewrite_inner(packet: &mut [u8], payload: usize, tuple: Tuple)
     requires payload { payload ≡ payload_at 0 packet.old }
     requires long { 20 ≤ payload }
-    requires fields { HasFields (inner_at packet.old) packet.old }
-    ensures { packet.new ≡ put_right (carried_in 0) (payload_at 0 packet.old + 2) packet.old (with_ends (inner_at packet.old) packet.old tuple) }
+    requires fields { HasFields (inner_start packet.old) packet.old }
+    ensures { packet.new ≡ update_checksum (payload_in 0) (payload_at 0 packet.old + 2) packet.old (with_endpoints (inner_start packet.old) packet.old tuple) }
 {
     // The datagram follows the 8 bytes that begin every error.
     let start = payload + 8;
@@ -61,13 +61,13 @@ fn rewrite_inner(packet: &mut [u8], payload: usize, tuple: Tuple)
     let checksum = BigEndian::read_u16(&packet[payload + 2..]);
     new.write(packet, start);
     let mut parts = PartsMut::new(packet, 0);
-    parts.set_icmp_checksum(old.words_to(&new).renew(checksum));
+    parts.set_icmp_checksum(old.words_to(&new).update(checksum));
 }
 
 /// Changes the datagram that begins at a place of a packet, its checksums with it.
 fn rewrite(packet: &mut [u8], start: usize, change: &Change)
     requires { HasFields start packet.old }
-    ensures { packet.new ≡ right_datagram start packet.old (replaced start packet.old change.now) }
+    ensures { packet.new ≡ update_checksums start packet.old (replaced start packet.old change.now) }
 {
     Fields::read(packet, start)
         .changed(change)

@@ -4,15 +4,15 @@ use Rattle.std.specs.List.{list_any}
 use Rattle.nft_tree.specs.Tree.{TableTree}
 use Rattle.box_file.specs.Box.{PlantTree}
 use Rattle.rule_limits.specs.Limits.{too_large}
-use Rattle.rule_names.specs.Names.{NameTwice, jumps_nowhere, refers_nowhere, jumps_to_base}
+use Rattle.rule_names.specs.Names.{DuplicateName, jumps_to_unknown_chain, refers_to_unknown_set, jumps_to_base_chain}
 use Rattle.rule_paths.specs.Paths.{Cycles, TooDeep, TooCostly, MisplacedNat}
-use Rattle.rule_types.specs.Types.{table_misfits}
-use Rattle.rule_values.specs.Faults.{has_wrong_value, has_contradiction, names_no_interface}
-use Rattle.rule_check.specs.Chains.{has_misplaced_chain, has_late_statement}
+use Rattle.rule_types.specs.Types.{table_mismatches}
+use Rattle.rule_values.specs.Faults.{has_wrong_value, has_contradiction, names_unknown_interface}
+use Rattle.rule_check.specs.Chains.{has_misplaced_chain, has_unreachable_statement}
 use Rattle.rule_check.specs.declared.fault.CheckFault.{CheckFault}
 use Rattle.rule_check.specs.declared.fault.CheckFault.TheVariants as faults
-use Rattle.rule_check.specs.WellFormed.{Wrong, Least, WellFormed, number}
-use Rattle.rule_check.specs.steps.Judging.{HasNone}
+use Rattle.rule_check.specs.WellFormed.{Wrong, LeastFault, WellFormed, number}
+use Rattle.rule_check.specs.steps.FaultRanges.{HasNone}
 use Rattle.rule_check.proofs.Lesser.{and_then, least, well_formed, without}
 
 abbrev Decided : Type 0 → Type 0
@@ -20,7 +20,7 @@ Decided P = P ⊎ (P → ⊥)
 
 -- what the laws of names and paths say
 pub record Laws : Type 0 where
-  pub names : (tables : List TableTree) → Decided (NameTwice tables)
+  pub names : (tables : List TableTree) → Decided (DuplicateName tables)
   pub cycles : (tables : List TableTree) → Decided (Cycles tables)
   pub deep : (tables : List TableTree) → (Cycles tables → ⊥) → Decided (TooDeep tables)
   pub costly : (tables : List TableTree) → (Cycles tables → ⊥) → Decided (TooCostly tables)
@@ -32,7 +32,7 @@ test false = inr (λ e. cc)
 
 module _ (tables : List TableTree) (plant : PlantTree) where
   abbrev Found : Type 0
-  Found = (fault : CheckFault) × Least fault tables plant
+  Found = (fault : CheckFault) × LeastFault fault tables plant
 
   -- a least fault, or none of those below a number
   abbrev SoFar : ℕ → Type 0
@@ -62,25 +62,25 @@ module _ (tables : List TableTree) (plant : PlantTree) where
 
   first_three : Laws → SoFar 4
   first_three laws =
-      step faults.NoSuchSet (test (list_any refers_nowhere tables)) (step faults.NoSuchChain (test (list_any jumps_nowhere tables)) (step faults.NameTwice (laws.names tables) start))
+      step faults.NoSuchSet (test (list_any refers_to_unknown_set tables)) (step faults.NoSuchChain (test (list_any jumps_to_unknown_chain tables)) (step faults.DuplicateName (laws.names tables) start))
 
   up_to_values : Laws → SoFar 10
   up_to_values laws =
       step faults.WrongValue (test (list_any (has_wrong_value plant) tables))
-      (step faults.TypeMismatch (test (list_any table_misfits tables)) (step faults.BaseChainCalled (test (list_any jumps_to_base tables)) (paths laws (first_three laws))))
+      (step faults.TypeMismatch (test (list_any table_mismatches tables)) (step faults.BaseChainCalled (test (list_any jumps_to_base_chain tables)) (paths laws (first_three laws))))
 
   all : Laws → SoFar 16
   all laws =
       step faults.TooLarge (test (too_large tables))
-      (step faults.AfterTheEnd (test (list_any has_late_statement tables))
-      (step faults.NoSuchInterface (test (list_any (names_no_interface plant) tables))
+      (step faults.StatementAfterVerdict (test (list_any has_unreachable_statement tables))
+      (step faults.NoSuchInterface (test (list_any (names_unknown_interface plant) tables))
       (step faults.Contradiction (test (list_any (has_contradiction plant) tables))
       (step faults.MisplacedNatChain (test (list_any has_misplaced_chain tables)) (places laws (up_to_values laws))))))
 
 -- well formed, or with a least fault
-pub judged : Laws → (tables : List TableTree) (plant : PlantTree) → WellFormed tables plant ⊎ ((fault : CheckFault) × Least fault tables plant)
+pub judged : Laws → (tables : List TableTree) (plant : PlantTree) → WellFormed tables plant ⊎ ((fault : CheckFault) × LeastFault fault tables plant)
 judged laws tables plant = by_all (all tables plant laws)
   where
-    by_all : SoFar tables plant 16 → WellFormed tables plant ⊎ ((fault : CheckFault) × Least fault tables plant)
+    by_all : SoFar tables plant 16 → WellFormed tables plant ⊎ ((fault : CheckFault) × LeastFault fault tables plant)
     by_all (inl found) = inr found
     by_all (inr none) = inl (well_formed tables plant none)

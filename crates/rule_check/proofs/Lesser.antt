@@ -5,8 +5,8 @@ use Rattle.std.proofs.lemmas.Bool.{cases_lt}
 use Rattle.nft_tree.specs.Tree.{TableTree}
 use Rattle.box_file.specs.Box.{PlantTree}
 use Rattle.rule_check.specs.declared.fault.CheckFault.{CheckFault}
-use Rattle.rule_check.specs.WellFormed.{Wrong, Least, WellFormed, number}
-use Rattle.rule_check.specs.steps.Judging.{HasNone, Tells}
+use Rattle.rule_check.specs.WellFormed.{Wrong, LeastFault, WellFormed, number}
+use Rattle.rule_check.specs.steps.FaultRanges.{HasNone, IsLeastFaultIn}
 use Rattle.rule_check.proofs.Numbers.{below_16, from_one, same_number}
 
 -- a test that fails doesn't hold
@@ -37,11 +37,11 @@ module _ (tables : List TableTree) (plant : PlantTree) where
   none_yet from fault low high wrong = omega (arith, low, high)
 
   -- the fault after faults that the ruleset hasn't
-  pub told : (from : ℕ) (fault : CheckFault) (to : ℕ) → from ≤ number fault → number fault < to → HasNone from (number fault) tables plant → Wrong fault tables plant → Tells from to tables plant (Some fault)
-  told from fault to low high none wrong = (low, high, wrong, none)
+  pub reported : (from : ℕ) (fault : CheckFault) (to : ℕ) → from ≤ number fault → number fault < to → HasNone from (number fault) tables plant → Wrong fault tables plant → IsLeastFaultIn from to tables plant (Some fault)
+  reported from fault to low high none wrong = (low, high, wrong, none)
 
   -- the least of all
-  pub least : (fault : CheckFault) → HasNone 1 (number fault) tables plant → Wrong fault tables plant → Least fault tables plant
+  pub least : (fault : CheckFault) → HasNone 1 (number fault) tables plant → Wrong fault tables plant → LeastFault fault tables plant
   least fault none wrong = record { wrong = wrong; least = λ other has. by_number other has (cases_lt (number other) (number fault)) }
     where
       by_number : (other : CheckFault) → Wrong other tables plant → (number other < number fault) ⊎ (number fault ≤ number other) → number fault ≤ number other
@@ -49,17 +49,17 @@ module _ (tables : List TableTree) (plant : PlantTree) where
       by_number other has (inr high) = high
 
   -- behind faults that the ruleset hasn't the one that is told is the least
-  pub least_told : (from to : ℕ) (fault : CheckFault) (answer : Option CheckFault) → HasNone 1 from tables plant → answer ≡ Some fault → Tells from to tables plant answer → Least fault tables plant
-  least_told from to fault answer none is tells =
-      let t : Tells from to tables plant (Some fault) = subst (λ (o : Option CheckFault). Tells from to tables plant o) is tells in
+  pub least_reported : (from to : ℕ) (fault : CheckFault) (answer : Option CheckFault) → HasNone 1 from tables plant → answer ≡ Some fault → IsLeastFaultIn from to tables plant answer → LeastFault fault tables plant
+  least_reported from to fault answer none is is_least =
+      let t : IsLeastFaultIn from to tables plant (Some fault) = subst (λ (o : Option CheckFault). IsLeastFaultIn from to tables plant o) is is_least in
       least fault (and_then 1 from (number fault) none t.3) t.2
 
-  pub none_told : (from to : ℕ) (answer : Option CheckFault) → HasNone 1 from tables plant → answer ≡ None → Tells from to tables plant answer → HasNone 1 to tables plant
-  none_told from to answer none is tells = and_then 1 from to none (subst (λ (o : Option CheckFault). Tells from to tables plant o) is tells)
+  pub none_reported : (from to : ℕ) (answer : Option CheckFault) → HasNone 1 from tables plant → answer ≡ None → IsLeastFaultIn from to tables plant answer → HasNone 1 to tables plant
+  none_reported from to answer none is is_least = and_then 1 from to none (subst (λ (o : Option CheckFault). IsLeastFaultIn from to tables plant o) is is_least)
 
   pub well_formed : HasNone 1 16 tables plant → WellFormed tables plant
   well_formed none fault wrong = none fault (from_one fault) (below_16 fault) wrong
 
 -- at most one fault is the least
-pub one_least : (tables : List TableTree) (plant : PlantTree) (fault other : CheckFault) → Least fault tables plant → Least other tables plant → fault ≡ other
+pub one_least : (tables : List TableTree) (plant : PlantTree) (fault other : CheckFault) → LeastFault fault tables plant → LeastFault other tables plant → fault ≡ other
 one_least tables plant fault other a b = same_number fault other (omega (arith, a.least other b.wrong, b.least fault a.wrong))

@@ -9,12 +9,12 @@ use Rattle.std.proofs.lemmas.List.{get_or_past, length-map}
 use Rattle.std.proofs.lemmas.List.Elements.{Contains-get_or}
 use Rattle.std.proofs.lemmas.List.Sums.{sum_by-cons, get_or-le-sum_by}
 use Rattle.nft_tree.specs.Tree.{Text, ChainTree, HeadTree, TableTree}
-use Rattle.nft_tree.specs.Parts.{chains_of}
+use Rattle.nft_tree.specs.TableItems.{chains_of}
 use Rattle.box_file.specs.Box.{PlantTree}
 use Rattle.rule_names.specs.Names.{chain_names}
-use Rattle.rule_paths.specs.Paths.{Caller, a_chain, AreCosts, AreAllCosts, MOST_COST, MOST_JUMPS, base_cost, table_cost, ruleset_cost}
+use Rattle.rule_paths.specs.Paths.{Caller, a_chain, AreCosts, AreAllCosts, MAX_COST, MAX_JUMPS, base_cost, table_cost, ruleset_cost}
 use Rattle.rule_paths.specs.Findings.{AreChainCosts, AreChainDepths, AreFindings, HasDepth, numbers_at}
-use Rattle.rule_paths.specs.declared.judging.Findings.{Findings}
+use Rattle.rule_paths.specs.declared.analysis.Findings.{Findings}
 use Rattle.rule_check.specs.declared.fault.CheckFault.TheVariants as faults
 use Rattle.rule_check.specs.WellFormed.{WellFormed}
 use Rattle.rule_check.specs.Checked.{AreRulesetCosts, IsChecked, base_part, base_sum, ruleset_sum, rows}
@@ -89,14 +89,14 @@ module _ (tables : List TableTree) (plant : PlantTree) (costs depths : List (Vec
   are_costs : AreAllCosts tables cost
   are_costs = let has = k.has_costs in has.1
 
-  whole_cost : ruleset_cost cost tables ≤ MOST_COST
-  whole_cost = by_size (cases_lt MOST_COST (ruleset_cost cost tables))
+  whole_cost : ruleset_cost cost tables ≤ MAX_COST
+  whole_cost = by_size (cases_lt MAX_COST (ruleset_cost cost tables))
     where
-      by_size : (MOST_COST < ruleset_cost cost tables) ⊎ (ruleset_cost cost tables ≤ MOST_COST) → ruleset_cost cost tables ≤ MOST_COST
+      by_size : (MAX_COST < ruleset_cost cost tables) ⊎ (ruleset_cost cost tables ≤ MAX_COST) → ruleset_cost cost tables ≤ MAX_COST
       by_size (inl over) = absurd (k.fine faults.TooCostly (record { cost = cost; are = are_costs; over = over }))
       by_size (inr low) = low
 
-  one_table : (i : ℕ) (t : TableTree) → slice_get tables i ≡ Some t → table_cost (cost t) t ≤ MOST_COST
+  one_table : (i : ℕ) (t : TableTree) → slice_get tables i ≡ Some t → table_cost (cost t) t ≤ MAX_COST
   one_table i t at =
       let within : i < length tables = slice_get_within tables i t at in
       let part = get_or-le-sum_by (λ u. table_cost (cost u) u) tables i t within in
@@ -106,16 +106,16 @@ module _ (tables : List TableTree) (plant : PlantTree) (costs depths : List (Vec
   pub costs_of : (i : ℕ) (t : TableTree) → slice_get tables i ≡ Some t → AreChainCosts t (numbers_at costs i)
   costs_of i t at = k.costs.are i t at
 
-  pub base : (i : ℕ) (t : TableTree) (j : ℕ) (c : ChainTree) (head : HeadTree) → slice_get tables i ≡ Some t → slice_get (chains_of t) j ≡ Some c → c.head ≡ Some head → slice_index (numbers_at costs i) j < MOST_COST
+  pub base : (i : ℕ) (t : TableTree) (j : ℕ) (c : ChainTree) (head : HeadTree) → slice_get tables i ≡ Some t → slice_get (chains_of t) j ≡ Some c → c.head ≡ Some head → slice_index (numbers_at costs i) j < MAX_COST
   base i t j c head at chain_at is =
       let within : j < length (chains_of t) = slice_get_within (chains_of t) j c chain_at in
       let part = get_or-le-sum_by (λ (d : ChainTree). base_cost (cost t) d.name d.head) (chains_of t) j c within in
       let same : get_or (chains_of t) j c ≡ c = get_or_from_slice_get (chains_of t) j c c chain_at in
       let there : base_cost (cost t) (get_or (chains_of t) j c).name (get_or (chains_of t) j c).head ≡ 1 + cost t (a_chain c.name) = ap (λ (d : ChainTree). base_cost (cost t) d.name d.head) same ∙ ap (base_cost (cost t) c.name) is in
-      let told = cost_at t (numbers_at costs i) (cost t) j c ((costs_of i t at).are (cost t) (are_costs t (stands tables i t at))) chain_at in
-      omega (arith, one_table i t at, part, there, told)
+      let reported = cost_at t (numbers_at costs i) (cost t) j c ((costs_of i t at).are (cost t) (are_costs t (stands tables i t at))) chain_at in
+      omega (arith, one_table i t at, part, there, reported)
 
-  pub total : (others : List (List ℕ)) → AreRulesetCosts tables others → ruleset_sum tables others ≤ MOST_COST
+  pub total : (others : List (List ℕ)) → AreRulesetCosts tables others → ruleset_sum tables others ≤ MAX_COST
   total others are =
       omega (arith, whole_cost, tables_le (λ t. table_cost (cost t) t) tables others (λ i t at. table_le t (get_or others i []) (cost t) (are.are i t at) (are_costs t (stands tables i t at))))
 
@@ -124,10 +124,10 @@ module _ (tables : List TableTree) (plant : PlantTree) (costs depths : List (Vec
   pub depths_of : (i : ℕ) (t : TableTree) → slice_get tables i ≡ Some t → AreChainDepths t (numbers_at depths i)
   depths_of i t at = k.depths.are i t at
 
-  not_deep : (t : TableTree) → Contains tables t → (name : Text) (depth : ℕ) → Contains (chain_names t) name → HasDepth t (a_chain name) depth → depth ≤ MOST_JUMPS
-  not_deep t at name depth named has = by_size (cases_lt MOST_JUMPS depth)
+  not_deep : (t : TableTree) → Contains tables t → (name : Text) (depth : ℕ) → Contains (chain_names t) name → HasDepth t (a_chain name) depth → depth ≤ MAX_JUMPS
+  not_deep t at name depth named has = by_size (cases_lt MAX_JUMPS depth)
     where
-      by_size : (MOST_JUMPS < depth) ⊎ (depth ≤ MOST_JUMPS) → depth ≤ MOST_JUMPS
+      by_size : (MAX_JUMPS < depth) ⊎ (depth ≤ MAX_JUMPS) → depth ≤ MAX_JUMPS
       by_size (inl over) =
           let deep = has.deep in
           absurd (k.fine faults.TooDeep (record { table = t; stands = at; deep = record { chain = name; stands = named; path = record { from = a_chain name; to = has.to; along = has.along; path = has.path; over = omega arith }; begins = refl } }))
@@ -153,10 +153,10 @@ module _ (tables : List TableTree) (plant : PlantTree) (costs depths : List (Vec
   pub no_depths : (i : ℕ) → slice_get tables i ≡ None → numbers_at depths i ≡ []
   no_depths i at = past depths i k.depths.long at
 
-  shallow_in : (i : ℕ) (t : TableTree) → slice_get tables i ≡ Some t → (j : ℕ) → slice_index (numbers_at depths i) j ≤ MOST_JUMPS
+  shallow_in : (i : ℕ) (t : TableTree) → slice_get tables i ≡ Some t → (j : ℕ) → slice_index (numbers_at depths i) j ≤ MAX_JUMPS
   shallow_in i t at j = by_size (cases_lt j (length (numbers_at depths i)))
     where
-      by_size : (j < length (numbers_at depths i)) ⊎ (length (numbers_at depths i) ≤ j) → slice_index (numbers_at depths i) j ≤ MOST_JUMPS
+      by_size : (j < length (numbers_at depths i)) ⊎ (length (numbers_at depths i) ≤ j) → slice_index (numbers_at depths i) j ≤ MAX_JUMPS
       by_size (inl within) =
           let long = (depths_of i t at).long in
           let n = length-map (chains_of t) (λ (c : ChainTree). c.name) in
@@ -164,9 +164,9 @@ module _ (tables : List TableTree) (plant : PlantTree) (costs depths : List (Vec
           not_deep t (stands tables i t at) (get_or (chain_names t) j []) _ named ((depths_of i t at).are j within)
       by_size (inr beyond) = omega (arith, get_or_past (numbers_at depths i) j 0 beyond)
 
-  pub shallow : (i j : ℕ) → slice_index (numbers_at depths i) j ≤ MOST_JUMPS
+  pub shallow : (i j : ℕ) → slice_index (numbers_at depths i) j ≤ MAX_JUMPS
   shallow i j = by_place (slice_get tables i) refl
     where
-      by_place : (o : Option TableTree) → slice_get tables i ≡ o → slice_index (numbers_at depths i) j ≤ MOST_JUMPS
-      by_place None at = subst (λ xs. slice_index xs j ≤ MOST_JUMPS) (sym (no_depths i at)) (omega arith)
+      by_place : (o : Option TableTree) → slice_get tables i ≡ o → slice_index (numbers_at depths i) j ≤ MAX_JUMPS
+      by_place None at = subst (λ xs. slice_index xs j ≤ MAX_JUMPS) (sym (no_depths i at)) (omega arith)
       by_place (Some t) at = shallow_in i t at j

@@ -6,7 +6,7 @@ use Rattle.rule_check.specs.WellFormed.{number}
 
 abbrev numbered : ℕ → Option CheckFault
 numbered n =
-    cond (n == 1) (Some faults.NameTwice) (
+    cond (n == 1) (Some faults.DuplicateName) (
     cond (n == 2) (Some faults.NoSuchChain) (
     cond (n == 3) (Some faults.NoSuchSet) (
     cond (n == 4) (Some faults.Cycle) (
@@ -19,11 +19,11 @@ numbered n =
     cond (n == 11) (Some faults.MisplacedNatChain) (
     cond (n == 12) (Some faults.Contradiction) (
     cond (n == 13) (Some faults.NoSuchInterface) (
-    cond (n == 14) (Some faults.AfterTheEnd) (
+    cond (n == 14) (Some faults.StatementAfterVerdict) (
     cond (n == 15) (Some faults.TooLarge) None))))))))))))))
 
 numbered_number : (fault : CheckFault) → numbered (number fault) ≡ Some fault
-numbered_number faults.NameTwice = refl
+numbered_number faults.DuplicateName = refl
 numbered_number faults.NoSuchChain = refl
 numbered_number faults.NoSuchSet = refl
 numbered_number faults.Cycle = refl
@@ -36,7 +36,7 @@ numbered_number faults.MisplacedNat = refl
 numbered_number faults.MisplacedNatChain = refl
 numbered_number faults.Contradiction = refl
 numbered_number faults.NoSuchInterface = refl
-numbered_number faults.AfterTheEnd = refl
+numbered_number faults.StatementAfterVerdict = refl
 numbered_number faults.TooLarge = refl
 
 some_same : (a b : CheckFault) → Some a ≡ Some b → a ≡ b
@@ -47,7 +47,7 @@ pub same_number : (a b : CheckFault) → number a ≡ number b → a ≡ b
 same_number a b e = some_same a b (sym (numbered_number a) ∙ ap numbered e ∙ numbered_number b)
 
 pub from_one : (fault : CheckFault) → 1 ≤ number fault
-from_one faults.NameTwice = omega arith
+from_one faults.DuplicateName = omega arith
 from_one faults.NoSuchChain = omega arith
 from_one faults.NoSuchSet = omega arith
 from_one faults.Cycle = omega arith
@@ -60,11 +60,11 @@ from_one faults.MisplacedNat = omega arith
 from_one faults.MisplacedNatChain = omega arith
 from_one faults.Contradiction = omega arith
 from_one faults.NoSuchInterface = omega arith
-from_one faults.AfterTheEnd = omega arith
+from_one faults.StatementAfterVerdict = omega arith
 from_one faults.TooLarge = omega arith
 
 pub below_16 : (fault : CheckFault) → number fault < 16
-below_16 faults.NameTwice = omega arith
+below_16 faults.DuplicateName = omega arith
 below_16 faults.NoSuchChain = omega arith
 below_16 faults.NoSuchSet = omega arith
 below_16 faults.Cycle = omega arith
@@ -77,5 +77,5 @@ below_16 faults.MisplacedNat = omega arith
 below_16 faults.MisplacedNatChain = omega arith
 below_16 faults.Contradiction = omega arith
 below_16 faults.NoSuchInterface = omega arith
-below_16 faults.AfterTheEnd = omega arith
+below_16 faults.StatementAfterVerdict = omega arith
 below_16 faults.TooLarge = omega arith

@@ -4,15 +4,15 @@ use Rattle.std.specs.Prelude.{MatchOption}
 use Rattle.std.specs.List.{list_any}
 use Rattle.nft_tree.specs.Tree.{TableTree}
 use Rattle.box_file.specs.Box.{PlantTree}
-use Rattle.rule_names.specs.Names.{NameTwice}
+use Rattle.rule_names.specs.Names.{DuplicateName}
 use Rattle.rule_paths.specs.Findings.{AreFindings}
-use Rattle.rule_paths.specs.declared.judging.Findings.{Findings}
+use Rattle.rule_paths.specs.declared.analysis.Findings.{Findings}
 use Rattle.rule_values.specs.Faults.{has_contradiction}
 use Rattle.rule_check.specs.declared.fault.CheckFault.{CheckFault}
 use Rattle.rule_check.specs.declared.fault.CheckFault.TheVariants as faults
 use Rattle.rule_check.specs.WellFormed.{WellFormed}
-use Rattle.rule_check.specs.steps.Judging.{HasNone, Tells}
-use Rattle.rule_check.proofs.Lesser.{more, none_told, not_true, well_formed, without}
+use Rattle.rule_check.specs.steps.FaultRanges.{HasNone, IsLeastFaultIn}
+use Rattle.rule_check.proofs.Lesser.{more, none_reported, not_true, well_formed, without}
 
 -- ---- what an option says, where it is known
 
@@ -25,9 +25,9 @@ at_some {A = A} o P Q x is h = subst (λ (p : Option A). MatchOption p P Q) is h
 -- ---- the stages
 
 module _ (tables : List TableTree) (plant : PlantTree) where
-  pub after_names : (names : List TableTree) (answer : Option CheckFault) → (NameTwice tables → ⊥) → names ≡ tables → answer ≡ None → Tells 2 4 names plant answer → HasNone 1 4 tables plant
-  after_names names answer apart same is tells =
-      none_told tables plant 2 4 answer (without tables plant faults.NameTwice apart) is (subst (λ (ts : List TableTree). Tells 2 4 ts plant answer) same tells)
+  pub after_names : (names : List TableTree) (answer : Option CheckFault) → (DuplicateName tables → ⊥) → names ≡ tables → answer ≡ None → IsLeastFaultIn 2 4 names plant answer → HasNone 1 4 tables plant
+  after_names names answer apart same is is_least =
+      none_reported tables plant 2 4 answer (without tables plant faults.DuplicateName apart) is (subst (λ (ts : List TableTree). IsLeastFaultIn 2 4 ts plant answer) same is_least)
 
   pub findings_of : (names : List TableTree) (found : Findings) → names ≡ tables → AreFindings names found → AreFindings tables found
   findings_of names found same h = subst (λ (ts : List TableTree). AreFindings ts found) same h
@@ -35,11 +35,11 @@ module _ (tables : List TableTree) (plant : PlantTree) where
   pub after_cycles : (found : Findings) → HasNone 1 4 tables plant → AreFindings tables found → HasNone 1 5 tables plant
   after_cycles found none known = more tables plant 1 faults.Cycle none known.acyclic
 
-  pub after_chains : (answer : Option CheckFault) → HasNone 1 5 tables plant → answer ≡ None → Tells 5 12 tables plant answer → HasNone 1 12 tables plant
-  after_chains answer none is tells = none_told tables plant 5 12 answer none is tells
+  pub after_chains : (answer : Option CheckFault) → HasNone 1 5 tables plant → answer ≡ None → IsLeastFaultIn 5 12 tables plant answer → HasNone 1 12 tables plant
+  after_chains answer none is is_least = none_reported tables plant 5 12 answer none is is_least
 
   pub after_maps : HasNone 1 12 tables plant → list_any (has_contradiction plant) tables ≡ false → HasNone 1 13 tables plant
   after_maps none agree = more tables plant 1 faults.Contradiction none (not_true _ agree)
 
-  pub after_all : (answer : Option CheckFault) → HasNone 1 13 tables plant → answer ≡ None → Tells 13 16 tables plant answer → WellFormed tables plant
-  after_all answer none is tells = well_formed tables plant (none_told tables plant 13 16 answer none is tells)
+  pub after_all : (answer : Option CheckFault) → HasNone 1 13 tables plant → answer ≡ None → IsLeastFaultIn 13 16 tables plant answer → WellFormed tables plant
+  after_all answer none is is_least = well_formed tables plant (none_reported tables plant 13 16 answer none is is_least)

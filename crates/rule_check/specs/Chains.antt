@@ -39,24 +39,24 @@ has_misplaced_chain t = list_any item_is_misplaced t.items
 -- ---- N14
 
 -- a verdict, a verdict map or a NAT statement ends its rule
-abbrev pub ends_rule : Statement → Bool
-ends_rule (tree.verdict v) = true
-ends_rule (tree.verdict_map s m) = true
-ends_rule (tree.nat n) = true
-ends_rule _ = false
+abbrev pub is_terminal : Statement → Bool
+is_terminal (tree.verdict v) = true
+is_terminal (tree.verdict_map s m) = true
+is_terminal (tree.nat n) = true
+is_terminal _ = false
 
 -- some statement that ends the rule isn't the last
-abbrev pub goes_on : List Statement → Bool
-goes_on [] = false
-goes_on (s ∷ []) = false
-goes_on (s ∷ t ∷ rest) = ends_rule s || goes_on (t ∷ rest)
+abbrev pub has_statement_after_terminal : List Statement → Bool
+has_statement_after_terminal [] = false
+has_statement_after_terminal (s ∷ []) = false
+has_statement_after_terminal (s ∷ t ∷ rest) = is_terminal s || has_statement_after_terminal (t ∷ rest)
 
-abbrev pub rule_goes_on : RuleTree → Bool
-rule_goes_on r = goes_on r.statements
+abbrev pub rule_has_unreachable : RuleTree → Bool
+rule_has_unreachable r = has_statement_after_terminal r.statements
 
-abbrev pub item_goes_on : ItemTree → Bool
-item_goes_on (tree.chain c) = list_any rule_goes_on c.rules
-item_goes_on _ = false
+abbrev pub item_has_unreachable : ItemTree → Bool
+item_has_unreachable (tree.chain c) = list_any rule_has_unreachable c.rules
+item_has_unreachable _ = false
 
-abbrev pub has_late_statement : TableTree → Bool
-has_late_statement t = list_any item_goes_on t.items
+abbrev pub has_unreachable_statement : TableTree → Bool
+has_unreachable_statement t = list_any item_has_unreachable t.items

@@ -3,11 +3,11 @@ use Rattle.std.specs.Prelude.{◌≡◌, ℕ, ◌+◌, List, [], length, get_or,
 use Rattle.std.specs.List.{zip}
 use Rattle.std.specs.declared.alloc.Global.{Global}
 use Rattle.nft_tree.specs.Tree.{HeadTree, TableTree}
-use Rattle.nft_tree.specs.Parts.{chains_of}
+use Rattle.nft_tree.specs.TableItems.{chains_of}
 use Rattle.box_file.specs.Box.{PlantTree}
 use Rattle.rule_paths.specs.Paths.{Caller, AreAllCosts}
 use Rattle.rule_paths.specs.Findings.{AreChainCosts, AreChainDepths}
-use Rattle.rule_check.specs.WellFormed.{Least, WellFormed}
+use Rattle.rule_check.specs.WellFormed.{LeastFault, WellFormed}
 use Rattle.rule_check.specs.declared.fault.CheckError.{CheckError}
 use Rattle.rule_check.specs.declared.fault.CheckError.TheVariants.{Refused, Memory}
 
@@ -18,7 +18,7 @@ pub record CheckedTree : Type 0 where
 
 -- an error is the least that is wrong with the ruleset, or none of the ruleset's
 abbrev pub IsCheckRefusal : List TableTree → PlantTree → CheckError → Type 0
-IsCheckRefusal tables plant (Refused fault) = Least fault tables plant
+IsCheckRefusal tables plant (Refused fault) = LeastFault fault tables plant
 IsCheckRefusal tables plant Memory = Unit {0}
 
 -- ---- costs and depths

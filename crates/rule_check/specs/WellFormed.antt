@@ -4,35 +4,35 @@ use Rattle.std.specs.List.{list_any}
 use Rattle.nft_tree.specs.Tree.{TableTree}
 use Rattle.box_file.specs.Box.{PlantTree}
 use Rattle.rule_limits.specs.Limits.{too_large}
-use Rattle.rule_names.specs.Names.{NameTwice, jumps_nowhere, refers_nowhere, jumps_to_base}
+use Rattle.rule_names.specs.Names.{DuplicateName, jumps_to_unknown_chain, refers_to_unknown_set, jumps_to_base_chain}
 use Rattle.rule_paths.specs.Paths.{Cycles, TooDeep, TooCostly, MisplacedNat}
-use Rattle.rule_types.specs.Types.{table_misfits}
-use Rattle.rule_values.specs.Faults.{has_wrong_value, has_contradiction, names_no_interface}
-use Rattle.rule_check.specs.Chains.{has_misplaced_chain, has_late_statement}
+use Rattle.rule_types.specs.Types.{table_mismatches}
+use Rattle.rule_values.specs.Faults.{has_wrong_value, has_contradiction, names_unknown_interface}
+use Rattle.rule_check.specs.Chains.{has_misplaced_chain, has_unreachable_statement}
 use Rattle.rule_check.specs.declared.fault.CheckFault.{CheckFault}
 use Rattle.rule_check.specs.declared.fault.CheckFault.TheVariants as faults
 
 -- the ruleset has this fault on the box
 abbrev pub Wrong : CheckFault → List TableTree → PlantTree → Type 0
-Wrong faults.NameTwice tables plant = NameTwice tables
-Wrong faults.NoSuchChain tables plant = list_any jumps_nowhere tables ≡ true
-Wrong faults.NoSuchSet tables plant = list_any refers_nowhere tables ≡ true
+Wrong faults.DuplicateName tables plant = DuplicateName tables
+Wrong faults.NoSuchChain tables plant = list_any jumps_to_unknown_chain tables ≡ true
+Wrong faults.NoSuchSet tables plant = list_any refers_to_unknown_set tables ≡ true
 Wrong faults.Cycle tables plant = Cycles tables
 Wrong faults.TooDeep tables plant = TooDeep tables
 Wrong faults.TooCostly tables plant = TooCostly tables
-Wrong faults.BaseChainCalled tables plant = list_any jumps_to_base tables ≡ true
-Wrong faults.TypeMismatch tables plant = list_any table_misfits tables ≡ true
+Wrong faults.BaseChainCalled tables plant = list_any jumps_to_base_chain tables ≡ true
+Wrong faults.TypeMismatch tables plant = list_any table_mismatches tables ≡ true
 Wrong faults.WrongValue tables plant = list_any (has_wrong_value plant) tables ≡ true
 Wrong faults.MisplacedNat tables plant = MisplacedNat tables
 Wrong faults.MisplacedNatChain tables plant = list_any has_misplaced_chain tables ≡ true
 Wrong faults.Contradiction tables plant = list_any (has_contradiction plant) tables ≡ true
-Wrong faults.NoSuchInterface tables plant = list_any (names_no_interface plant) tables ≡ true
-Wrong faults.AfterTheEnd tables plant = list_any has_late_statement tables ≡ true
+Wrong faults.NoSuchInterface tables plant = list_any (names_unknown_interface plant) tables ≡ true
+Wrong faults.StatementAfterVerdict tables plant = list_any has_unreachable_statement tables ≡ true
 Wrong faults.TooLarge tables plant = too_large tables ≡ true
 
 -- N01 to N15
 abbrev pub number : CheckFault → ℕ
-number faults.NameTwice = 1
+number faults.DuplicateName = 1
 number faults.NoSuchChain = 2
 number faults.NoSuchSet = 3
 number faults.Cycle = 4
@@ -45,11 +45,11 @@ number faults.MisplacedNat = 10
 number faults.MisplacedNatChain = 11
 number faults.Contradiction = 12
 number faults.NoSuchInterface = 13
-number faults.AfterTheEnd = 14
+number faults.StatementAfterVerdict = 14
 number faults.TooLarge = 15
 
 -- the least of its faults
-pub record Least (fault : CheckFault) (tables : List TableTree) (plant : PlantTree) : Type 0 where
+pub record LeastFault (fault : CheckFault) (tables : List TableTree) (plant : PlantTree) : Type 0 where
   pub wrong : Wrong fault tables plant
   pub least : (other : CheckFault) → Wrong other tables plant → number fault ≤ number other
 

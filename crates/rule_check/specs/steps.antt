@@ -1,2 +1,2 @@
 -- What private functions give on the way: nothing that a public contract cites.
-pub mod Judging
+pub mod FaultRanges

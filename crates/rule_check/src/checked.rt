@@ -1,14 +1,14 @@
 //! Rulesets in which nothing is wrong.
 ghost use Rattle.std.specs.Prelude.{◌≡◌, ◌<◌, ◌≤◌, ℕ, List, [], IfOk, IfErr, get_or, slice_get, slice_index};
 ghost use Rattle.nft_tree.specs.Tree.{ChainTree, HeadTree, TableTree, tables_of};
-ghost use Rattle.nft_tree.specs.Parts.{chains_of};
-ghost use Rattle.rule_paths.specs.Paths.{MOST_COST, MOST_JUMPS};
+ghost use Rattle.nft_tree.specs.TableItems.{chains_of};
+ghost use Rattle.rule_paths.specs.Paths.{MAX_COST, MAX_JUMPS};
 ghost use Rattle.rule_paths.specs.Findings.{AreChainCosts, AreChainDepths, numbers_at};
 ghost use Rattle.rule_check.specs.Checked.{AreRulesetCosts, AreRulesetDepths, CheckedTree, IsCheckRefusal, ruleset_sum};
 ghost use Rattle.rule_check.specs.WellFormed.{WellFormed};
 
+use crate::analysis::analyze;
 use crate::fault::CheckError;
-use crate::judging::judge;
 use box_file::Plant;
 use nft_tree::Ruleset;
 use std::alloc::Global;
@@ -56,7 +56,7 @@ pub fn check(alloc: Global, tree: Ruleset, plant: Plant) -> Result<Checked, Chec
     ensures fine { IfOk result (λ checked. WellFormed (tables_of tree) plant) }
     ensures refused { IfErr result (λ error. IsCheckRefusal (tables_of tree) plant error) }
 {
-    let found = judge(alloc, &tree, &plant)?;
+    let found = analyze(alloc, &tree, &plant)?;
     Ok(Checked {
         tree,
         plant,
@@ -86,8 +86,8 @@ impl Checked {
     pub fn costs(&self, table: usize) -> &[u64]
         ensures costs { (t : TableTree) → slice_get self.now.rules table ≡ Some t → AreChainCosts t result.now }
         ensures base { (t : TableTree) (j : ℕ) (c : ChainTree) (head : HeadTree) → slice_get self.now.rules table ≡ Some t
-            → slice_get (chains_of t) j ≡ Some c → c.head ≡ Some head → slice_index result.now j < MOST_COST }
-        // These are the table's costs in any lists of all costs, as `measured` has them.
+            → slice_get (chains_of t) j ≡ Some c → c.head ≡ Some head → slice_index result.now j < MAX_COST }
+        // These are the table's costs in any lists of all costs, as `known_bounds` has them.
         ensures same { (costs : List (List ℕ)) → AreRulesetCosts self.now.rules costs → result.now ≡ get_or costs table [] }
         ensures none { slice_get self.now.rules table ≡ None → result.now ≡ [] }
     {
@@ -98,7 +98,7 @@ impl Checked {
     /// there is no such table.
     pub fn depths(&self, table: usize) -> &[u64]
         ensures depths { (t : TableTree) → slice_get self.now.rules table ≡ Some t → AreChainDepths t result.now }
-        ensures shallow { (j : ℕ) → slice_index result.now j ≤ MOST_JUMPS }
+        ensures shallow { (j : ℕ) → slice_index result.now j ≤ MAX_JUMPS }
         ensures none { slice_get self.now.rules table ≡ None → result.now ≡ [] }
     {
         row(&self.depths, table)
@@ -107,11 +107,11 @@ impl Checked {
     /// What is known of a ruleset by its being checked: nothing is wrong with it, its chains have
     /// costs, all base chains with 1 more each cost at most 65,536 together, and no path from a
     /// chain has more than 16 jumps. It does nothing.
-    pub fn measured(&self)
+    pub fn known_bounds(&self)
         ensures fine { WellFormed self.now.rules self.now.plant }
         ensures some { (costs : List (List ℕ)) × AreRulesetCosts self.now.rules costs }
-        ensures total { (costs : List (List ℕ)) → AreRulesetCosts self.now.rules costs → ruleset_sum self.now.rules costs ≤ MOST_COST }
-        ensures deep { (depths : List (List ℕ)) × AreRulesetDepths self.now.rules depths × ((i j : ℕ) → slice_index (get_or depths i []) j ≤ MOST_JUMPS) }
+        ensures total { (costs : List (List ℕ)) → AreRulesetCosts self.now.rules costs → ruleset_sum self.now.rules costs ≤ MAX_COST }
+        ensures deep { (depths : List (List ℕ)) × AreRulesetDepths self.now.rules depths × ((i j : ℕ) → slice_index (get_or depths i []) j ≤ MAX_JUMPS) }
     {
         let _ = &self.costs;
     }

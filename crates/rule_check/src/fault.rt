@@ -7,7 +7,7 @@ use thiserror::Error;
 pub enum CheckFault {
     /// Two tables of one family, two chains of a table, or two sets or maps of a table have one name.
     #[error("N01")]
-    NameTwice,
+    DuplicateName,
     /// A jump or a goto to a name that is no chain of the table.
     #[error("N02")]
     NoSuchChain,
@@ -46,7 +46,7 @@ pub enum CheckFault {
     NoSuchInterface,
     /// A statement behind one that ends the rule.
     #[error("N14")]
-    AfterTheEnd,
+    StatementAfterVerdict,
     /// More than 16,384 rules, more than 65,536 elements, or a counter that starts over 2^62.
     #[error("N15")]
     TooLarge,

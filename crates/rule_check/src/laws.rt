@@ -2,22 +2,22 @@
 ghost use Rattle.std.specs.Prelude.{◌≡◌, ◌⊎◌, List};
 ghost use Rattle.nft_tree.specs.Tree.{TableTree};
 ghost use Rattle.box_file.specs.Box.{PlantTree};
-ghost use Rattle.rule_check.specs.WellFormed.{Least, WellFormed};
+ghost use Rattle.rule_check.specs.WellFormed.{LeastFault, WellFormed};
 ghost use Rattle.rule_check.specs.declared.fault.CheckFault.{CheckFault};
 
-use rule_names::decided_names;
-use rule_paths::decided_paths;
+use rule_names::duplicate_names_decidable;
+use rule_paths::path_faults_decidable;
 
 /// A ruleset on a box has at most one least fault, and none where nothing is wrong with it.
-pub fn one_judgement()
-    ensures one { (tables : List TableTree) (plant : PlantTree) (fault other : CheckFault) → Least fault tables plant → Least other tables plant → fault ≡ other }
-    ensures faultless { (tables : List TableTree) (plant : PlantTree) (fault : CheckFault) → WellFormed tables plant → Least fault tables plant → ⊥ }
+pub fn least_fault_unique()
+    ensures one { (tables : List TableTree) (plant : PlantTree) (fault other : CheckFault) → LeastFault fault tables plant → LeastFault other tables plant → fault ≡ other }
+    ensures faultless { (tables : List TableTree) (plant : PlantTree) (fault : CheckFault) → WellFormed tables plant → LeastFault fault tables plant → ⊥ }
 {}
 
 /// Any ruleset on any box is well formed, or has a least fault.
-pub fn some_judgement()
-    ensures { (tables : List TableTree) (plant : PlantTree) → WellFormed tables plant ⊎ ((fault : CheckFault) × Least fault tables plant) }
+pub fn well_formed_or_least_fault()
+    ensures { (tables : List TableTree) (plant : PlantTree) → WellFormed tables plant ⊎ ((fault : CheckFault) × LeastFault fault tables plant) }
 {
-    decided_names();
-    decided_paths();
+    duplicate_names_decidable();
+    path_faults_decidable();
 }

@@ -1,13 +1,13 @@
 //! Judges rulesets before they are loaded.
 #![tactic(auto)]
 
+mod analysis;
 mod checked;
-mod endings;
 mod fault;
 mod heads;
-mod judging;
 mod laws;
+mod terminal_statements;
 
 pub use checked::{Checked, check};
 pub use fault::{CheckError, CheckFault};
-pub use laws::{one_judgement, some_judgement};
+pub use laws::{least_fault_unique, well_formed_or_least_fault};

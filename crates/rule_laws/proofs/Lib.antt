@@ -4,5 +4,5 @@ mod Verdicts
 mod Tables
 mod WellTables
 pub mod Sorting
-mod Outcomes
+mod TerminationLaws
 mod Ranks

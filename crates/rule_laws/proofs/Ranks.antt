@@ -9,19 +9,19 @@ use Rattle.std.proofs.lemmas.Slice.Eq.{bytes_eq-Decides}
 use Rattle.list_laws.specs.Lists.{Contains-head}
 use Rattle.nft_tree.specs.Tree as tree
 use Rattle.nft_tree.specs.Tree.{Text, VerdictTree, PairTree, Statement, RuleTree, ChainTree, TableTree}
-use Rattle.nft_tree.specs.Parts.{chains_of}
+use Rattle.nft_tree.specs.TableItems.{chains_of}
 use Rattle.box_file.specs.Box.{PlantTree}
-use Rattle.chain_graph.specs.Graph.{Call, itself, calls_in, IsPath, jumps, node_cost}
-use Rattle.rule_names.specs.Names.{Repeats, chain_named, chain_names, rule_targets, some_of, targets_of}
+use Rattle.chain_graph.specs.Graph.{Call, identity, calls_in, IsPath, jumps, node_cost}
+use Rattle.rule_names.specs.Names.{HasDuplicate, chain_named, chain_names, rule_targets, some_of, targets_of}
 use Rattle.list_laws.specs.Decisions.{Contains-none, Contains-there, Contains-cases}
-use Rattle.rule_paths.specs.Paths.{Caller, a_chain, a_map, verdict_calls, data_calls, pair_calls, statement_calls, statements_of, chain_node, map_node, CallsOf, AreCosts, MOST_JUMPS, HasDeepPath}
+use Rattle.rule_paths.specs.Paths.{Caller, a_chain, a_map, verdict_calls, data_calls, pair_calls, statement_calls, statements_of, chain_node, map_node, CallsOf, AreCosts, MAX_JUMPS, HasDeepPath}
 use Rattle.rule_paths.specs.Findings.{HasDepth, AreChainDepths}
 use Rattle.rule_meaning.specs.declared.facts.Facts.{Facts}
-use Rattle.rule_meaning.specs.declared.event.Place.{Place}
-use Rattle.rule_meaning.specs.declared.event.Decision.TheVariants.{Jump, Goto}
+use Rattle.rule_meaning.specs.declared.event.StatementPosition.{StatementPosition}
+use Rattle.rule_meaning.specs.declared.event.RuleVerdict.TheVariants.{Jump, Goto}
 use Rattle.rule_meaning.specs.Statements.{give, chain_number}
-use Rattle.rule_meaning.specs.Runs.{Program, named}
-use Rattle.rule_laws.specs.Ranked.{StandsIn, IsRanked, weight_by, cost_of, chain_cost_by}
+use Rattle.rule_meaning.specs.Runs.{Program, table_program}
+use Rattle.rule_laws.specs.Ranking.{IsStatementOf, IsRanking, weight_by, cost_of, chain_cost_by}
 use Rattle.rule_laws.proofs.Lists.{every_got}
 use Rattle.rule_laws.proofs.Running.{rule_weight, rules_weight, GoodRule, GoodRules}
 use Rattle.rule_laws.proofs.Verdicts as verdicts
@@ -47,10 +47,10 @@ name_stands [] i c e = absurd cc
 name_stands (x ∷ xs) zero c e = let same : x.name ≡ c.name = ap (λ o. (unwrap_or o x).name) e in subst (λ n. Contains (n ∷ map (λ y. y.name) xs) c.name) (sym same) (Contains-head c.name (map (λ y. y.name) xs))
 name_stands (x ∷ xs) (suc i) c e = Contains-there x.name c.name (map (λ y. y.name) xs) (name_stands xs i c e)
 
-twice_behind : (n : Text) (ns : List Text) → Repeats ns → Repeats (n ∷ ns)
+twice_behind : (n : Text) (ns : List Text) → HasDuplicate ns → HasDuplicate (n ∷ ns)
 twice_behind n ns r = record { first = suc r.first; second = suc r.second; apart = omega (arith, r.apart); within = omega (arith, r.within); same = r.same }
 
-own_name : (cs : List ChainTree) (i : ℕ) (c : ChainTree) → slice_get cs i ≡ Some c → (Repeats (map (λ x. x.name) cs) → ⊥) → find (λ x. bytes_eq x.name c.name) cs ≡ Some c
+own_name : (cs : List ChainTree) (i : ℕ) (c : ChainTree) → slice_get cs i ≡ Some c → (HasDuplicate (map (λ x. x.name) cs) → ⊥) → find (λ x. bytes_eq x.name c.name) cs ≡ Some c
 own_name [] i c e once = absurd cc
 own_name (x ∷ xs) zero c e once =
     let same : x ≡ c = ap (λ o. unwrap_or o x) e in
@@ -87,18 +87,18 @@ in_statements [] rule s has in_rule = absurd (Contains-none _ has)
 in_statements (r ∷ rs) rule s has in_rule =
     elim (Contains-cases r.statements rule (map (λ x. x.statements) rs) has) [ inl is ↦ Contains-append_left r.statements (flat_map (λ x. x.statements) rs) s (subst (λ l. Contains l s) (sym is) in_rule) | inr later ↦ Contains-append_right r.statements (flat_map (λ x. x.statements) rs) s (in_statements rs rule s later in_rule) ]
 
-in_calls : (ss : List Statement) (s : Statement) (e : Call Caller) → Contains ss s → Contains (statement_calls s) e → Contains (flat_map itself (map statement_calls ss)) e
+in_calls : (ss : List Statement) (s : Statement) (e : Call Caller) → Contains ss s → Contains (statement_calls s) e → Contains (flat_map identity (map statement_calls ss)) e
 in_calls [] s e has called = absurd (Contains-none _ has)
 in_calls (x ∷ xs) s e has called =
-    elim (Contains-cases x s xs has) [ inl is ↦ Contains-append_left (statement_calls x) (flat_map itself (map statement_calls xs)) e (subst (λ y. Contains (statement_calls y) e) (sym is) called) | inr later ↦ Contains-append_right (statement_calls x) (flat_map itself (map statement_calls xs)) e (in_calls xs s e later called) ]
+    elim (Contains-cases x s xs has) [ inl is ↦ Contains-append_left (statement_calls x) (flat_map identity (map statement_calls xs)) e (subst (λ y. Contains (statement_calls y) e) (sym is) called) | inr later ↦ Contains-append_right (statement_calls x) (flat_map identity (map statement_calls xs)) e (in_calls xs s e later called) ]
 
 module _ (plant : PlantTree) (number : ℕ) (t : TableTree) where
   abbrev p : Program Statement
-  p = named plant number t
+  p = table_program plant number t
 
   -- ---- the way to the chain of a verdict
 
-  record Way (a : Caller) (e : Call Caller) : Type 0 where
+  record CallPath (a : Caller) (e : Call Caller) : Type 0 where
     along : List (Call Caller)
     path : IsPath (CallsOf t) a along e.to
     as_deep : jumps along ≡ (if e.is_jump then 1 else 0)
@@ -107,15 +107,15 @@ module _ (plant : PlantTree) (number : ℕ) (t : TableTree) where
   no_more true = refl
   no_more false = refl
 
-  way : (a : Caller) (s : Statement) (v : VerdictTree) (e : Call Caller) → ((x : Call Caller) → Contains (statement_calls s) x → CallsOf t a x) → Chooses t s v → Contains (verdict_calls v) e → Way a e
-  way a s v e calls verdicts.itself called = record { along = e ∷ []; path = (calls e called, refl); as_deep = no_more e.is_jump }
-  way a s v e calls (verdicts.of_pairs {ps = ps} has) called = record { along = e ∷ []; path = (calls e (in_pairs ps v e has called), refl); as_deep = no_more e.is_jump }
-  way a s v e calls (verdicts.of_map {name = name} m found has) called =
+  call_path : (a : Caller) (s : Statement) (v : VerdictTree) (e : Call Caller) → ((x : Call Caller) → Contains (statement_calls s) x → CallsOf t a x) → Chooses t s v → Contains (verdict_calls v) e → CallPath a e
+  call_path a s v e calls verdicts.identity called = record { along = e ∷ []; path = (calls e called, refl); as_deep = no_more e.is_jump }
+  call_path a s v e calls (verdicts.of_pairs {ps = ps} has) called = record { along = e ∷ []; path = (calls e (in_pairs ps v e has called), refl); as_deep = no_more e.is_jump }
+  call_path a s v e calls (verdicts.of_map {name = name} m found has) called =
       let to_map : Call Caller = record { to = a_map name; is_jump = false } in
       let on : CallsOf t (a_map name) e = subst (λ o. Contains (calls_in (map_node o)) e) (sym found) (in_pairs (some_of m.elements) v e has called) in
       record { along = to_map ∷ e ∷ []; path = (calls to_map (Contains-head to_map []), (on, refl)); as_deep = omega (arith, no_more e.is_jump) }
 
-  module _ (once : Repeats (chain_names t) → ⊥) (whole : There t (targets_of t)) (cost : Caller → ℕ) (are : AreCosts t cost) where
+  module _ (once : HasDuplicate (chain_names t) → ⊥) (whole : There t (targets_of t)) (cost : Caller → ℕ) (are : AreCosts t cost) where
     -- ---- costs
 
     sum_is : (ss : List Statement) → sum_by (weight_by cost) ss ≡ rule_weight p (weight_by cost) (Good cost plant number t) ss
@@ -143,10 +143,10 @@ module _ (plant : PlantTree) (number : ℕ) (t : TableTree) where
       depth_at i c at =
           subst (λ n. HasDepth t (a_chain n) (slice_index depths i)) (name_at (chains_of t) i c at) (depths_are.are i (omega (arith, depths_are.long, got_within (chains_of t) i c at)))
 
-      bounded : (i : ℕ) (c : ChainTree) → slice_get (chains_of t) i ≡ Some c → (b : Caller) (es : List (Call Caller)) → IsPath (CallsOf t) (a_chain c.name) es b → jumps es ≤ MOST_JUMPS
-      bounded i c at b es path = by_test (cases_lt MOST_JUMPS (jumps es))
+      bounded : (i : ℕ) (c : ChainTree) → slice_get (chains_of t) i ≡ Some c → (b : Caller) (es : List (Call Caller)) → IsPath (CallsOf t) (a_chain c.name) es b → jumps es ≤ MAX_JUMPS
+      bounded i c at b es path = by_test (cases_lt MAX_JUMPS (jumps es))
         where
-          by_test : (MOST_JUMPS < jumps es) ⊎ (jumps es ≤ MOST_JUMPS) → jumps es ≤ MOST_JUMPS
+          by_test : (MAX_JUMPS < jumps es) ⊎ (jumps es ≤ MAX_JUMPS) → jumps es ≤ MAX_JUMPS
           by_test (inl over) =
               absurd (deep (record { chain = c.name; stands = name_stands (chains_of t) i c at; path = record { from = a_chain c.name; to = b; along = es; path = path; over = omega (arith, over) }; begins = refl }))
           by_test (inr within) = within
@@ -155,10 +155,10 @@ module _ (plant : PlantTree) (number : ℕ) (t : TableTree) where
       deeper i j c d es at_i at_j path =
           let from = depth_at i c at_i in
           let on = depth_at j d at_j in
-          let whole_way = path_append (CallsOf t) (a_chain c.name) (a_chain d.name) on.to es on.along path on.path in
+          let whole_path = path_append (CallsOf t) (a_chain c.name) (a_chain d.name) on.to es on.along path on.path in
           let n = jumps_append es on.along in
-          let few = bounded i c at_i on.to (es ++ on.along) whole_way in
-          let most = from.most on.to (es ++ on.along) whole_way in
+          let few = bounded i c at_i on.to (es ++ on.along) whole_path in
+          let most = from.most on.to (es ++ on.along) whole_path in
           let least = on.deep in
           omega arith
 
@@ -196,7 +196,7 @@ module _ (plant : PlantTree) (number : ℕ) (t : TableTree) where
             let good : Good cost plant number t s = good_in (map (λ r. r.statements) x.rules) rule s (rules_good cost plant number t x.rules (every_got (λ y. There t (flat_map rule_targets y.rules)) (chains_of t) c x at (chains_there t t.items whole))) in_chain in_rule in
             let goal = target name d is (chain_named t name) refl (there good) in
             let calls = in_calls (statements_of x) s in
-            let on : Way (a_chain x.name) e = way (a_chain x.name) s v e (λ y has. subst (λ o. Contains (calls_in (chain_node o)) y) (sym (own_name (chains_of t) c x at once)) (calls y (in_statements x.rules rule s in_chain in_rule) has)) chosen called in
+            let on : CallPath (a_chain x.name) e = call_path (a_chain x.name) s v e (λ y has. subst (λ o. Contains (calls_in (chain_node o)) y) (sym (own_name (chains_of t) c x at once)) (calls y (in_statements x.rules rule s in_chain in_rule) has)) chosen called in
             let path = subst (IsPath (CallsOf t) (a_chain x.name) on.along) (to ∙ ap a_chain (sym goal.same_name)) on.path in
             let costs : chain_cost_by t cost d ≡ cost (a_chain name) = ap (cost_of cost) goal.stands ∙ ap (λ n. cost (a_chain n)) goal.same_name in
             (omega (arith, costs, less), omega (arith, deeper c d x goal.chain on.along at goal.stands path, on.as_deep))
@@ -207,24 +207,24 @@ module _ (plant : PlantTree) (number : ℕ) (t : TableTree) where
             let same : map (λ r. r.statements) x.rules ≡ rules = ap (λ o. unwrap_or o rules) has in
             falls_from x at rule (subst (λ l. Contains l rule) (sym same) in_chain) in_rule
 
-      falls_jump : (c d : ℕ) (s : Statement) (at : Place) (f : Facts) → StandsIn p c s → p.said at s f ≡ give (Jump d) → Falls c d s 1
-      falls_jump c d s at f stands said =
-          let q = decides t plant s at f (Jump d) said in
+      falls_jump : (c d : ℕ) (s : Statement) (at : StatementPosition) (f : Facts) → IsStatementOf p c s → p.effect_of at s f ≡ give (Jump d) → Falls c d s 1
+      falls_jump c d s at f stands effect_of =
+          let q = decides t plant s at f (Jump d) effect_of in
           let e : Call Caller = record { to = a_chain q.0; is_jump = true } in
           let less = less_chosen cost plant number t are whole s (tree.jump q.0) q.2 in
           falls_by c d s q.0 (tree.jump q.0) e refl (Contains-head e []) q.1 q.2 (λ good. (there_chosen cost plant number t are whole s (tree.jump q.0) good q.2).0) (omega (arith, less)) (slice_get (chains_of t) c) refl stands.rules stands.has stands.rule stands.in_chain stands.in_rule
 
-      falls_goto : (c d : ℕ) (s : Statement) (at : Place) (f : Facts) → StandsIn p c s → p.said at s f ≡ give (Goto d) → Falls c d s 0
-      falls_goto c d s at f stands said =
-          let q = decides t plant s at f (Goto d) said in
+      falls_goto : (c d : ℕ) (s : Statement) (at : StatementPosition) (f : Facts) → IsStatementOf p c s → p.effect_of at s f ≡ give (Goto d) → Falls c d s 0
+      falls_goto c d s at f stands effect_of =
+          let q = decides t plant s at f (Goto d) effect_of in
           let e : Call Caller = record { to = a_chain q.0; is_jump = false } in
           let less = less_chosen cost plant number t are whole s (tree.goto q.0) q.2 in
           falls_by c d s q.0 (tree.goto q.0) e refl (Contains-head e []) q.1 q.2 (λ good. (there_chosen cost plant number t are whole s (tree.goto q.0) good q.2).0) (omega (arith, less)) (slice_get (chains_of t) c) refl stands.rules stands.has stands.rule stands.in_chain stands.in_rule
 
-      pub ranked : IsRanked p (weight_by cost) (chain_cost_by t cost) (λ c. slice_index depths c)
-      ranked = record {
+      pub costs_rank_chains : IsRanking p (weight_by cost) (chain_cost_by t cost) (λ c. slice_index depths c)
+      costs_rank_chains = record {
         some = λ s. omega arith;
         sums = λ c rules has. sums_at c rules (slice_get (chains_of t) c) refl has;
         jumps = falls_jump;
-        gotos = λ c d s at f stands said. let q = falls_goto c d s at f stands said in (q.0, omega (arith, q.1));
+        gotos = λ c d s at f stands effect_of. let q = falls_goto c d s at f stands effect_of in (q.0, omega (arith, q.1));
       }

@@ -1,14 +1,14 @@
 -- A program whose jumps and gotos lead to lighter chains comes to something from wherever a packet stands in it.
 use Rattle.std.proofs.Common.{◌≡◌, ℕ, zero, suc, ◌+◌, ◌<◌, ◌≤◌, List, [], ◌∷◌, ◌++◌, Some, refl, arith}
 use Rattle.rule_meaning.specs.declared.facts.Facts.{Facts}
-use Rattle.rule_meaning.specs.declared.event.Place.{Place}
-use Rattle.rule_meaning.specs.declared.event.Decision.{Decision}
-use Rattle.rule_meaning.specs.declared.event.Decision.TheVariants.{Accept, Drop, Continue, Return, Jump, Goto, Translate}
+use Rattle.rule_meaning.specs.declared.event.StatementPosition.{StatementPosition}
+use Rattle.rule_meaning.specs.declared.event.RuleVerdict.{RuleVerdict}
+use Rattle.rule_meaning.specs.declared.event.RuleVerdict.TheVariants.{Accept, Drop, Continue, Return, Jump, Goto, Translate}
 use Rattle.rule_meaning.specs.declared.event.Event.{Event}
-use Rattle.rule_meaning.specs.declared.event.Ending.TheVariants.{Accepted, Dropped, Translated}
-use Rattle.rule_meaning.specs.Statements.{Saying, pass, fail, note, give}
+use Rattle.rule_meaning.specs.declared.event.HookVerdict.TheVariants.{Accepted, Dropped, Translated}
+use Rattle.rule_meaning.specs.Statements.{StatementEffect, pass, fail, note, give}
 use Rattle.rule_meaning.specs.Runs as runs
-use Rattle.rule_meaning.specs.Runs.{Program, Left, at_rule, in_rule, After, at_end, over, Runs, place, taking}
+use Rattle.rule_meaning.specs.Runs.{Program, Remainder, at_rule, in_rule, RunResult, at_end, over, Runs, statement_position, with_verdict}
 
 module _ {S : Type 0} (p : Program S) (weight : S → ℕ) (Good : S → Type 0) where
   abbrev pub rule_weight : List S → ℕ
@@ -34,7 +34,7 @@ module _ {S : Type 0} (p : Program S) (weight : S → ℕ) (Good : S → Type 0)
     pub good : GoodRules chain
     pub less : rules_weight chain < weight s
 
-  abbrev pub Leads : S → Decision → Type 0
+  abbrev pub Leads : S → RuleVerdict → Type 0
   Leads s (Jump i) = Lighter s i
   Leads s (Goto i) = Lighter s i
   Leads s Accept = Unit {0}
@@ -44,11 +44,11 @@ module _ {S : Type 0} (p : Program S) (weight : S → ℕ) (Good : S → Type 0)
   Leads s (Translate t) = Unit {0}
 
   abbrev pub Falls : Type 0
-  Falls = (s : S) → Good s → (at : Place) (f : Facts) (d : Decision) → p.said at s f ≡ give d → Leads s d
+  Falls = (s : S) → Good s → (at : StatementPosition) (f : Facts) (d : RuleVerdict) → p.effect_of at s f ≡ give d → Leads s d
 
   -- it comes to something
-  abbrev Comes : ℕ → ℕ → Left S → Facts → List Event → Type 0
-  Comes c n l f es = (o : After) × Runs p c n l f es o
+  abbrev Comes : ℕ → ℕ → Remainder S → Facts → List Event → Type 0
+  Comes c n l f es = (o : RunResult) × Runs p c n l f es o
 
   abbrev Next : ℕ → ℕ → List (List S) → Type 0
   Next c n rs = (f : Facts) (es : List Event) → Comes c (n + 1) (at_rule rs) f es
@@ -59,34 +59,34 @@ module _ {S : Type 0} (p : Program S) (weight : S → ℕ) (Good : S → Type 0)
 
   module _ (falls : Falls) where
     module _ (c n k : ℕ) (s : S) (ss : List S) (rs : List (List S)) (f : Facts) (es : List Event) where
-      after_jump : (i : ℕ) (chain : List (List S)) → p.said (place p c n k) s f ≡ give (Jump i) → p.rules_at i ≡ Some chain → (o : After) → Runs p i 1 (at_rule chain) f (taking p es c n (Jump i)) o → Next c n rs → Comes c n (in_rule k (s ∷ ss) rs) f es
+      after_jump : (i : ℕ) (chain : List (List S)) → p.effect_of (statement_position p c n k) s f ≡ give (Jump i) → p.rules_at i ≡ Some chain → (o : RunResult) → Runs p i 1 (at_rule chain) f (with_verdict p es c n (Jump i)) o → Next c n rs → Comes c n (in_rule k (s ∷ ss) rs) f es
       after_jump i chain is at (at_end g later) r next = let q = next g later in (q.0, runs.jumps i g later chain is at r q.1)
       after_jump i chain is at (over e g later) r next = (over e g later, runs.jumps_away i chain is at r tt)
 
-      decided : (most : ℕ) → Calls most → weight s ≤ most → (d : Decision) → p.said (place p c n k) s f ≡ give d → Leads s d → Next c n rs → Comes c n (in_rule k (s ∷ ss) rs) f es
-      decided most call le Accept is leads next = (over Accepted f (taking p es c n Accept), runs.accepts is)
-      decided most call le Drop is leads next = (over Dropped f (taking p es c n Drop), runs.drops is)
-      decided most call le (Translate t) is leads next = (over (Translated t) f (taking p es c n (Translate t)), runs.translates t is)
-      decided most call le Continue is leads next = let q = next f (taking p es c n Continue) in (q.0, runs.continues is q.1)
-      decided most call le Return is leads next = (at_end f (taking p es c n Return), runs.returns is)
+      decided : (most : ℕ) → Calls most → weight s ≤ most → (d : RuleVerdict) → p.effect_of (statement_position p c n k) s f ≡ give d → Leads s d → Next c n rs → Comes c n (in_rule k (s ∷ ss) rs) f es
+      decided most call le Accept is leads next = (over Accepted f (with_verdict p es c n Accept), runs.accepts is)
+      decided most call le Drop is leads next = (over Dropped f (with_verdict p es c n Drop), runs.drops is)
+      decided most call le (Translate t) is leads next = (over (Translated t) f (with_verdict p es c n (Translate t)), runs.translates t is)
+      decided most call le Continue is leads next = let q = next f (with_verdict p es c n Continue) in (q.0, runs.continues is q.1)
+      decided most call le Return is leads next = (at_end f (with_verdict p es c n Return), runs.returns is)
       decided most call le (Jump i) is leads next =
-          let q = call i leads.chain leads.stands leads.good (omega (arith, le, leads.less)) f (taking p es c n (Jump i)) in
+          let q = call i leads.chain leads.stands leads.good (omega (arith, le, leads.less)) f (with_verdict p es c n (Jump i)) in
           after_jump i leads.chain is leads.stands q.0 q.1 next
       decided most call le (Goto i) is leads next =
-          let q = call i leads.chain leads.stands leads.good (omega (arith, le, leads.less)) f (taking p es c n (Goto i)) in
+          let q = call i leads.chain leads.stands leads.good (omega (arith, le, leads.less)) f (with_verdict p es c n (Goto i)) in
           (q.0, runs.goes i leads.chain is leads.stands q.1)
 
-      said : (most : ℕ) → Calls most → weight s ≤ most → Good s → (w : Saying) → p.said (place p c n k) s f ≡ w → ((g : Facts) (later : List Event) → Comes c n (in_rule (k + 1) ss rs) g later) → Next c n rs → Comes c n (in_rule k (s ∷ ss) rs) f es
-      said most call le good pass is rest next = let q = rest f es in (q.0, runs.passes is q.1)
-      said most call le good fail is rest next = let q = next f es in (q.0, runs.fails is q.1)
-      said most call le good (note e g) is rest next = let q = rest g (es ++ e ∷ []) in (q.0, runs.notes e g is q.1)
-      said most call le good (give d) is rest next = decided most call le d is (falls s good (place p c n k) f d is) next
+      effect_of : (most : ℕ) → Calls most → weight s ≤ most → Good s → (w : StatementEffect) → p.effect_of (statement_position p c n k) s f ≡ w → ((g : Facts) (later : List Event) → Comes c n (in_rule (k + 1) ss rs) g later) → Next c n rs → Comes c n (in_rule k (s ∷ ss) rs) f es
+      effect_of most call le good pass is rest next = let q = rest f es in (q.0, runs.passes is q.1)
+      effect_of most call le good fail is rest next = let q = next f es in (q.0, runs.fails is q.1)
+      effect_of most call le good (note e g) is rest next = let q = rest g (es ++ e ∷ []) in (q.0, runs.notes e g is q.1)
+      effect_of most call le good (give d) is rest next = decided most call le d is (falls s good (statement_position p c n k) f d is) next
 
     module _ (most : ℕ) (call : Calls most) where
       in_turn : (c n k : ℕ) (ss : List S) (rs : List (List S)) → GoodRule ss → rule_weight ss ≤ most → Next c n rs → (f : Facts) (es : List Event) → Comes c n (in_rule k ss rs) f es
       in_turn c n k [] rs good le next f es = let q = next f es in (q.0, runs.rule_ends q.1)
       in_turn c n k (s ∷ ss) rs good le next f es =
-          said c n k s ss rs f es most call (omega (arith, le)) good.0 (p.said (place p c n k) s f) refl (in_turn c n (k + 1) ss rs good.1 (omega (arith, le)) next) next
+          effect_of c n k s ss rs f es most call (omega (arith, le)) good.0 (p.effect_of (statement_position p c n k) s f) refl (in_turn c n (k + 1) ss rs good.1 (omega (arith, le)) next) next
 
       from_rule : (c n : ℕ) (rs : List (List S)) → GoodRules rs → rules_weight rs ≤ most → (f : Facts) (es : List Event) → Comes c n (at_rule rs) f es
       from_rule c n [] good le f es = (at_end f es, runs.chain_ends)

@@ -6,17 +6,17 @@ use Rattle.std.proofs.lemmas.List.{map-append}
 use Rattle.std.proofs.lemmas.Slice.Eq.{bytes_eq-Decides}
 use Rattle.nft_tree.specs.Tree as tree
 use Rattle.nft_tree.specs.Tree.{Text, VerdictTree, DataTree, PairTree, Statement, RuleTree, ChainTree, ItemTree, TableTree}
-use Rattle.nft_tree.specs.Parts.{chain_in, map_in, chains_of, maps_of}
+use Rattle.nft_tree.specs.TableItems.{chain_in, map_in, chains_of, maps_of}
 use Rattle.box_file.specs.Box.{PlantTree}
 use Rattle.chain_graph.specs.Graph.{Call, greatest, chain_cost, node_cost}
-use Rattle.rule_names.specs.Names.{place_in, chain_named, target_of, data_target, pair_targets, one_or_none, statement_targets, rule_targets, some_of, item_targets, targets_of}
+use Rattle.rule_names.specs.Names.{index_in, chain_named, target_of, data_target, pair_targets, one_or_none, statement_targets, rule_targets, some_of, item_targets, targets_of}
 use Rattle.list_laws.specs.Decisions.{Contains-none, Contains-cases}
 use Rattle.rule_paths.specs.Paths.{Caller, a_chain, a_map, verdict_calls, data_calls, pair_calls, statement_calls, chain_node, map_node, AreCosts}
-use Rattle.rule_meaning.specs.declared.event.Decision.{Decision}
-use Rattle.rule_meaning.specs.declared.event.Decision.TheVariants as decisions
+use Rattle.rule_meaning.specs.declared.event.RuleVerdict.{RuleVerdict}
+use Rattle.rule_meaning.specs.declared.event.RuleVerdict.TheVariants as decisions
 use Rattle.rule_meaning.specs.Statements.{chain_number}
-use Rattle.rule_meaning.specs.Runs.{Program, named}
-use Rattle.rule_laws.specs.Ranked.{weight_by}
+use Rattle.rule_meaning.specs.Runs.{Program, table_program}
+use Rattle.rule_laws.specs.Ranking.{weight_by}
 use Rattle.rule_laws.proofs.Lists.{Every, every_found}
 use Rattle.rule_laws.proofs.Running as running
 use Rattle.rule_laws.proofs.Running.{rules_weight, GoodRule, GoodRules, Lighter, Leads, Falls}
@@ -28,7 +28,7 @@ use Rattle.rule_laws.proofs.Verdicts.{Among, Chooses, Decides, decides}
 -- the place of the first of a name
 pub record Placed (cs : List ChainTree) (name : Text) (c : ChainTree) : Type 0 where
   pub place : ℕ
-  pub is : place_in name (map (λ x. x.name) cs) ≡ Some place
+  pub is : index_in name (map (λ x. x.name) cs) ≡ Some place
   pub stands : slice_get cs place ≡ Some c
   pub same_name : c.name ≡ name
 
@@ -39,10 +39,10 @@ placed (x ∷ xs) name c found = by_test (bytes_eq x.name name) refl found (plac
     by_test : (b : Bool) → bytes_eq x.name name ≡ b → cond b (Some x) (find (λ y. bytes_eq y.name name) xs) ≡ Some c → (find (λ y. bytes_eq y.name name) xs ≡ Some c → Placed xs name c) → Placed (x ∷ xs) name c
     by_test true e here later =
         let same : x ≡ c = ap (λ o. unwrap_or o x) here in
-        record { place = 0; is = ap (λ v. cond v (Some 0) (option_map suc (place_in name (map (λ y. y.name) xs)))) e; stands = here; same_name = ap (λ y. y.name) (sym same) ∙ (bytes_eq-Decides x.name name).0 e }
+        record { place = 0; is = ap (λ v. cond v (Some 0) (option_map suc (index_in name (map (λ y. y.name) xs)))) e; stands = here; same_name = ap (λ y. y.name) (sym same) ∙ (bytes_eq-Decides x.name name).0 e }
     by_test false e there later =
         let q = later there in
-        record { place = suc q.place; is = ap (λ v. cond v (Some 0) (option_map suc (place_in name (map (λ y. y.name) xs)))) e ∙ ap (option_map suc) q.is; stands = q.stands; same_name = q.same_name }
+        record { place = suc q.place; is = ap (λ v. cond v (Some 0) (option_map suc (index_in name (map (λ y. y.name) xs)))) e ∙ ap (option_map suc) q.is; stands = q.stands; same_name = q.same_name }
 
 -- ---- names
 
@@ -103,7 +103,7 @@ module _ (cost : Caller → ℕ) where
     Good s = There t (statement_targets s)
 
     abbrev p : Program Statement
-    p = named plant number t
+    p = table_program plant number t
 
     rule_good : (ss : List Statement) → There t (flat_map statement_targets ss) → GoodRule p (weight_by cost) Good ss
     rule_good [] h = tt
@@ -168,7 +168,7 @@ module _ (cost : Caller → ℕ) where
       lighter : (s : Statement) (i : ℕ) (name : Text) → chain_number t name ≡ i → is_some (chain_named t name) ≡ true → cost (a_chain name) < weight_by cost s → Lighter p (weight_by cost) Good s i
       lighter s i name is h less = subst (Lighter p (weight_by cost) Good s) is (lighter_at s name (chain_named t name) refl h less)
 
-      leads : (s : Statement) → Good s → (d : Decision) → Decides t s d → Leads p (weight_by cost) Good s d
+      leads : (s : Statement) → Good s → (d : RuleVerdict) → Decides t s d → Leads p (weight_by cost) Good s d
       leads s h decisions.Accept q = tt
       leads s h decisions.Drop q = tt
       leads s h decisions.Continue q = tt

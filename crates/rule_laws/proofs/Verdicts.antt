@@ -2,28 +2,28 @@
 use Rattle.std.proofs.Common.{◌≡◌, ℕ, Bool, true, false, cond, List, [], ◌∷◌, map, Contains, Option, Some, None, option_and_then, refl, sym, subst}
 use Rattle.std.specs.Option.{option_or}
 use Rattle.list_laws.specs.Lists.{Contains-head}
-use Rattle.nft_tree.specs.declared.kind.Kind.{Kind}
+use Rattle.nft_tree.specs.declared.compared_types.ComparedType.{ComparedType}
 use Rattle.nft_tree.specs.declared.selector.Selector.{Selector}
 use Rattle.nft_tree.specs.declared.statement.MarkField.{MarkField}
 use Rattle.nft_tree.specs.declared.statement.MarkField.TheVariants as marks
 use Rattle.nft_tree.specs.Tree as tree
 use Rattle.nft_tree.specs.Tree.{Text, VerdictTree, DataTree, PairTree, MapRefTree, Statement, MapTree, TableTree}
-use Rattle.nft_tree.specs.Kinds.{selector_kind, map_key_kind}
+use Rattle.nft_tree.specs.ComparedTypes.{selector_compared_type, map_key_compared_type}
 use Rattle.nft_values.specs.Values.{numbers_of}
 use Rattle.box_file.specs.Box.{PlantTree}
 use Rattle.rule_names.specs.Names.{map_named, some_of}
 use Rattle.list_laws.specs.Decisions.{Contains-there}
 use Rattle.rule_meaning.specs.declared.facts.Facts.{Facts}
-use Rattle.rule_meaning.specs.declared.facts.Tracking.{Tracking}
-use Rattle.rule_meaning.specs.declared.facts.Tracking.TheVariants as tracking
-use Rattle.rule_meaning.specs.declared.event.Place.{Place}
-use Rattle.rule_meaning.specs.declared.event.Decision.{Decision}
-use Rattle.rule_meaning.specs.declared.event.Decision.TheVariants as decisions
-use Rattle.rule_meaning.specs.declared.event.Translation.{Translation}
+use Rattle.rule_meaning.specs.declared.facts.CtFacts.{CtFacts}
+use Rattle.rule_meaning.specs.declared.facts.CtFacts.TheVariants as ct
+use Rattle.rule_meaning.specs.declared.event.StatementPosition.{StatementPosition}
+use Rattle.rule_meaning.specs.declared.event.RuleVerdict.{RuleVerdict}
+use Rattle.rule_meaning.specs.declared.event.RuleVerdict.TheVariants as decisions
+use Rattle.rule_meaning.specs.declared.event.NatAction.{NatAction}
 use Rattle.rule_meaning.specs.Selectors.{value}
 use Rattle.rule_meaning.specs.Sets.{Scope, spans, data_verdict, pair_gives, pairs_give, declared_gives, map_gives, looked_up}
 use Rattle.rule_meaning.specs.Matches.{holds}
-use Rattle.rule_meaning.specs.Statements.{Saying, pass, fail, note, give, passes_if, with_value, chain_number, decision_of, operand_number, skips_tracking, writes, writes_connection, translation_of, says}
+use Rattle.rule_meaning.specs.Statements.{StatementEffect, pass, fail, note, give, passes_if, with_value, chain_number, rule_verdict_of, operand_number, sets_notrack, writes, writes_connection, nat_action_of, statement_effect}
 
 -- an element has the verdict
 abbrev pub Among : List PairTree → VerdictTree → Type 0
@@ -37,7 +37,7 @@ module _ (t : TableTree) where
     of_map : {x : Selector} {name : Text} (m : MapTree) {v : VerdictTree} → map_named t name ≡ Some m → Among (some_of m.elements) v → Chooses (tree.verdict_map x (tree.named_map name)) v
 
   -- the chain that is jumped or gone to is one that the statement names
-  abbrev pub Decides : Statement → Decision → Type 0
+  abbrev pub Decides : Statement → RuleVerdict → Type 0
   Decides s (decisions.Jump i) = (name : Text) × (chain_number t name ≡ i) × Chooses s (tree.jump name)
   Decides s (decisions.Goto i) = (name : Text) × (chain_number t name ≡ i) × Chooses s (tree.goto name)
   Decides s decisions.Accept = Unit {0}
@@ -46,13 +46,13 @@ module _ (t : TableTree) where
   Decides s decisions.Return = Unit {0}
   Decides s (decisions.Translate x) = Unit {0}
 
-  abbrev Says : Statement → Saying → Type 0
+  abbrev Says : Statement → StatementEffect → Type 0
   Says s pass = Unit {0}
   Says s fail = Unit {0}
   Says s (note e g) = Unit {0}
   Says s (give d) = Decides s d
 
-  chosen : (s : Statement) (v : VerdictTree) → Chooses s v → Decides s (decision_of t v)
+  chosen : (s : Statement) (v : VerdictTree) → Chooses s v → Decides s (rule_verdict_of t v)
   chosen s tree.accept h = tt
   chosen s tree.drop h = tt
   chosen s tree.continue h = tt
@@ -83,7 +83,7 @@ module _ (t : TableTree) where
   either ps None b x y = y
   either ps (Some v) b x y = x
 
-  from_list : (plant : PlantTree) (kind : Kind) (ps : List PairTree) (n : ℕ) → FromList ps (pairs_give data_verdict plant kind ps n)
+  from_list : (plant : PlantTree) (kind : ComparedType) (ps : List PairTree) (n : ℕ) → FromList ps (pairs_give data_verdict plant kind ps n)
   from_list plant kind [] n = tt
   from_list plant kind (p ∷ ps) n =
       either (p ∷ ps) (pair_gives data_verdict plant kind n p) (pairs_give data_verdict plant kind ps n) (if_spans (spans (numbers_of plant kind p.key) n) p ps) (later p ps (pairs_give data_verdict plant kind ps n) (from_list plant kind ps n))
@@ -103,11 +103,11 @@ module _ (t : TableTree) where
   of_declared : (plant : PlantTree) (x : Selector) (name : Text) (n : ℕ) (o : Option MapTree) → map_named t name ≡ o → Chosen (tree.verdict_map x (tree.named_map name)) (declared_gives data_verdict plant o n)
   of_declared plant x name n None is = tt
   of_declared plant x name n (Some m) is =
-      of_named x name m (pairs_give data_verdict plant (map_key_kind m.types) (some_of m.elements) n) is (from_list plant (map_key_kind m.types) (some_of m.elements) n)
+      of_named x name m (pairs_give data_verdict plant (map_key_compared_type m.types) (some_of m.elements) n) is (from_list plant (map_key_compared_type m.types) (some_of m.elements) n)
 
   -- ---- statements
 
-  verdict_said : (s : Statement) (o : Option VerdictTree) → Chosen s o → Says s (with_value (λ v. give (decision_of t v)) o)
+  verdict_said : (s : Statement) (o : Option VerdictTree) → Chosen s o → Says s (with_value (λ v. give (rule_verdict_of t v)) o)
   verdict_said s None h = tt
   verdict_said s (Some v) h = chosen s v h
 
@@ -115,26 +115,26 @@ module _ (t : TableTree) where
   matched s true = tt
   matched s false = tt
 
-  connection_marked : (s : Statement) (f : Facts) (x : Tracking) (n : ℕ) → Says s (writes_connection f x n)
-  connection_marked s f tracking.Unknown n = tt
-  connection_marked s f tracking.Skipped n = tt
-  connection_marked s f tracking.Untracked n = tt
-  connection_marked s f tracking.Invalid n = tt
-  connection_marked s f (tracking.Known c) n = tt
+  connection_marked : (s : Statement) (f : Facts) (x : CtFacts) (n : ℕ) → Says s (writes_connection f x n)
+  connection_marked s f ct.NotLookedUp n = tt
+  connection_marked s f ct.Notrack n = tt
+  connection_marked s f ct.Untracked n = tt
+  connection_marked s f ct.Invalid n = tt
+  connection_marked s f (ct.Known c) n = tt
 
-  passed_untracked : (f : Facts) (known : Tracking) → Says tree.notrack (skips_tracking f known)
-  passed_untracked f tracking.Unknown = tt
-  passed_untracked f tracking.Skipped = tt
-  passed_untracked f tracking.Untracked = tt
-  passed_untracked f tracking.Invalid = tt
-  passed_untracked f (tracking.Known c) = tt
+  passed_untracked : (f : Facts) (known : CtFacts) → Says tree.notrack (sets_notrack f known)
+  passed_untracked f ct.NotLookedUp = tt
+  passed_untracked f ct.Notrack = tt
+  passed_untracked f ct.Untracked = tt
+  passed_untracked f ct.Invalid = tt
+  passed_untracked f (ct.Known c) = tt
 
   marked : (s : Statement) (field : MarkField) (f : Facts) (o : Option ℕ) → Says s (with_value (writes field f) o)
   marked s field f None = tt
   marked s marks.Meta f (Some n) = tt
-  marked s marks.Ct f (Some n) = connection_marked s f f.tracking n
+  marked s marks.Ct f (Some n) = connection_marked s f f.ct n
 
-  translated : (s : Statement) (o : Option Translation) → Says s (with_value (λ x. give (decisions.Translate x)) o)
+  translated : (s : Statement) (o : Option NatAction) → Says s (with_value (λ x. give (decisions.Translate x)) o)
   translated s None = tt
   translated s (Some x) = tt
 
@@ -145,17 +145,17 @@ module _ (t : TableTree) where
     by_map : (x : Selector) (m : MapRefTree) (o : Option ℕ) → Chosen (tree.verdict_map x m) (option_and_then (map_gives data_verdict scope x m) o)
     by_map x m None = tt
     by_map x (tree.named_map name) (Some n) = of_declared plant x name n (map_named t name) refl
-    by_map x (tree.pairs ps) (Some n) = of_list x ps (pairs_give data_verdict plant (selector_kind x) ps n) (from_list plant (selector_kind x) ps n)
+    by_map x (tree.pairs ps) (Some n) = of_list x ps (pairs_give data_verdict plant (selector_compared_type x) ps n) (from_list plant (selector_compared_type x) ps n)
 
-    said : (s : Statement) (at : Place) (f : Facts) → Says s (says scope at s f)
-    said (tree.matching m) at f = matched (tree.matching m) (holds scope m f)
-    said (tree.counter start) at f = tt
-    said (tree.log text) at f = tt
-    said tree.notrack at f = passed_untracked f f.tracking
-    said (tree.set_mark field operand) at f = marked (tree.set_mark field operand) field f (operand_number scope operand f)
-    said (tree.verdict_map x m) at f = verdict_said (tree.verdict_map x m) (looked_up data_verdict scope x m f) (by_map x m (value x f))
-    said (tree.verdict v) at f = chosen (tree.verdict v) v itself
-    said (tree.nat n) at f = translated (tree.nat n) (translation_of scope n f)
+    effect_of : (s : Statement) (at : StatementPosition) (f : Facts) → Says s (statement_effect scope at s f)
+    effect_of (tree.matching m) at f = matched (tree.matching m) (holds scope m f)
+    effect_of (tree.counter start) at f = tt
+    effect_of (tree.log text) at f = tt
+    effect_of tree.notrack at f = passed_untracked f f.ct
+    effect_of (tree.set_mark field operand) at f = marked (tree.set_mark field operand) field f (operand_number scope operand f)
+    effect_of (tree.verdict_map x m) at f = verdict_said (tree.verdict_map x m) (looked_up data_verdict scope x m f) (by_map x m (value x f))
+    effect_of (tree.verdict v) at f = chosen (tree.verdict v) v itself
+    effect_of (tree.nat n) at f = translated (tree.nat n) (nat_action_of scope n f)
 
-    pub decides : (s : Statement) (at : Place) (f : Facts) (d : Decision) → says scope at s f ≡ give d → Decides s d
-    decides s at f d is = subst (Says s) is (said s at f)
+    pub decides : (s : Statement) (at : StatementPosition) (f : Facts) (d : RuleVerdict) → statement_effect scope at s f ≡ give d → Decides s d
+    decides s at f d is = subst (Says s) is (effect_of s at f)

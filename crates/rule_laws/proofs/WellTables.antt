@@ -5,7 +5,7 @@ use Rattle.std.proofs.lemmas.Bool.{false_from_ne_true}
 use Rattle.nft_tree.specs.Tree.{TableTree}
 use Rattle.box_file.specs.Box.{PlantTree}
 use Rattle.rule_names.specs.Names as names
-use Rattle.rule_names.specs.Names.{Repeats, chain_names, targets_of, jumps_nowhere}
+use Rattle.rule_names.specs.Names.{HasDuplicate, chain_names, targets_of, jumps_to_unknown_chain}
 use Rattle.rule_paths.specs.Paths.{HasDeepPath}
 use Rattle.rule_check.specs.declared.fault.CheckFault.TheVariants as faults
 use Rattle.rule_check.specs.WellFormed.{WellFormed}
@@ -31,11 +31,11 @@ module _ (tables : List TableTree) (plant : PlantTree) (well : WellFormed tables
 
   -- all chains that it names are there
   pub whole : There t (targets_of t)
-  whole = there t (targets_of t) (false_from_ne_true (jumps_nowhere t) (λ bad. well faults.NoSuchChain (got_passes jumps_nowhere tables number t at bad)))
+  whole = there t (targets_of t) (false_from_ne_true (jumps_to_unknown_chain t) (λ bad. well faults.NoSuchChain (got_passes jumps_to_unknown_chain tables number t at bad)))
 
   -- no two of its chains have one name
-  pub once : Repeats (chain_names t) → ⊥
-  once r = well faults.NameTwice (names.two_chains t contained r)
+  pub once : HasDuplicate (chain_names t) → ⊥
+  once r = well faults.DuplicateName (names.two_chains t contained r)
 
   pub shallow : HasDeepPath t → ⊥
   shallow deep = well faults.TooDeep (record { table = t; stands = contained; deep = deep })

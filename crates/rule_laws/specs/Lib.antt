@@ -1,2 +1,2 @@
-pub mod Ends
-pub mod Ranked
+pub mod Terminates
+pub mod Ranking

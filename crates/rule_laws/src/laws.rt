@@ -8,47 +8,47 @@ ghost use Rattle.rule_paths.specs.Findings.{AreChainDepths};
 ghost use Rattle.rule_check.specs.WellFormed.{WellFormed};
 ghost use Rattle.rule_meaning.specs.declared.facts.Facts.{Facts};
 ghost use Rattle.rule_meaning.specs.declared.event.Event.{Event};
-ghost use Rattle.rule_meaning.specs.Runs.{named};
-ghost use Rattle.rule_meaning.specs.Hooks.{Base, bases_of, End, RunsBase, Nothing, Chains, Early, Prerouting, Input, Forward, Postrouting, Translating};
-ghost use Rattle.rule_laws.specs.Ends.{Ends, step_to};
-ghost use Rattle.rule_laws.specs.Ranked.{IsRanked, weight_by, chain_cost_by};
+ghost use Rattle.rule_meaning.specs.Runs.{table_program};
+ghost use Rattle.rule_meaning.specs.Hooks.{BaseChain, base_chains_of, HookResult, RunsBaseChain, NoChain, Chains, PreroutingRaw, Prerouting, Input, Forward, Postrouting, Translating};
+ghost use Rattle.rule_laws.specs.Terminates.{Terminates, step_to};
+ghost use Rattle.rule_laws.specs.Ranking.{IsRanking, weight_by, chain_cost_by};
 
-use rule_paths::some_costs;
+use rule_paths::costs_exist;
 
 /// In a well-formed ruleset each base chain and each hook ends, whatever rules may read of a packet
 /// and whatever happened before; a hook with a translation step, where that ends always.
-pub fn some_outcome()
+pub fn hooks_terminate()
     ensures base { (tables : List TableTree) (plant : PlantTree) → WellFormed tables plant
-        → (b : Base) → Contains (bases_of tables) b → Ends (RunsBase plant tables b) }
+        → (b : BaseChain) → Contains (base_chains_of tables) b → Terminates (RunsBaseChain plant tables b) }
     ensures chains { (tables : List TableTree) (plant : PlantTree) → WellFormed tables plant
-        → (test : Base → Bool) → Ends (Chains plant tables test) }
+        → (test : BaseChain → Bool) → Terminates (Chains plant tables test) }
     ensures early { (tables : List TableTree) (plant : PlantTree) → WellFormed tables plant
-        → Ends (Early plant tables) }
+        → Terminates (PreroutingRaw plant tables) }
     ensures prerouting { (tables : List TableTree) (plant : PlantTree) → WellFormed tables plant
-        → Ends (Prerouting plant tables Nothing) }
+        → Terminates (Prerouting plant tables NoChain) }
     ensures input { (tables : List TableTree) (plant : PlantTree) → WellFormed tables plant
-        → Ends (Input plant tables) }
+        → Terminates (Input plant tables) }
     ensures forward { (tables : List TableTree) (plant : PlantTree) → WellFormed tables plant
-        → Ends (Forward plant tables) }
+        → Terminates (Forward plant tables) }
     ensures postrouting { (tables : List TableTree) (plant : PlantTree) → WellFormed tables plant
-        → Ends (Postrouting plant tables Nothing) }
+        → Terminates (Postrouting plant tables NoChain) }
     ensures stepped_prerouting { (tables : List TableTree) (plant : PlantTree)
-        → WellFormed tables plant → (step : Facts → List Event → End)
-        → Ends (Prerouting plant tables (step_to step)) }
+        → WellFormed tables plant → (step : Facts → List Event → HookResult)
+        → Terminates (Prerouting plant tables (step_to step)) }
     ensures stepped_postrouting { (tables : List TableTree) (plant : PlantTree)
-        → WellFormed tables plant → (step : Facts → List Event → End)
-        → Ends (Postrouting plant tables (step_to step)) }
+        → WellFormed tables plant → (step : Facts → List Event → HookResult)
+        → Terminates (Postrouting plant tables (step_to step)) }
     ensures translating { (tables : List TableTree) (plant : PlantTree) → WellFormed tables plant
-        → (hook : Hook) → Ends (Translating hook plant tables) }
+        → (hook : Hook) → Terminates (Translating hook plant tables) }
 {
-    some_costs();
+    costs_exist();
 }
 
 /// In a well-formed ruleset the costs and depths of chains rank the program of each table: a
 /// statement weighs more than what it leads to costs, and a jump leads to a chain that is less deep.
-pub fn ranked()
+pub fn costs_rank_chains()
     ensures { (tables : List TableTree) (plant : PlantTree) → WellFormed tables plant
         → (number : ℕ) (t : TableTree) → slice_get tables number ≡ Some t
         → (cost : Caller → ℕ) → AreCosts t cost → (depths : List ℕ) → AreChainDepths t depths
-        → IsRanked (named plant number t) (weight_by cost) (chain_cost_by t cost) (λ c. slice_index depths c) }
+        → IsRanking (table_program plant number t) (weight_by cost) (chain_cost_by t cost) (λ c. slice_index depths c) }
 {}

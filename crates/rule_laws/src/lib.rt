@@ -4,4 +4,4 @@
 
 mod laws;
 
-pub use laws::{ranked, some_outcome};
+pub use laws::{costs_rank_chains, hooks_terminate};

@@ -2,7 +2,7 @@
 use Rattle.std.specs.Prelude.{ℕ, ◌^◌, nat_lt, List, length, sum_by, Option, Some, None, Bool, false, ◌||◌}
 use Rattle.std.specs.List.{list_any}
 use Rattle.nft_tree.specs.Tree as tree
-use Rattle.nft_tree.specs.Tree.{SetRefTree, MapRefTree, LookTree, Statement, RuleTree, ItemTree, TableTree}
+use Rattle.nft_tree.specs.Tree.{SetRefTree, MapRefTree, MapLookupTree, Statement, RuleTree, ItemTree, TableTree}
 
 -- ---- elements
 
@@ -20,8 +20,8 @@ statement_elements (tree.matching (tree.is_in ss set)) = set_ref_elements set
 statement_elements (tree.matching (tree.not_in ss set)) = set_ref_elements set
 statement_elements (tree.set_mark m (tree.looked_up l)) = map_ref_elements l.map
 statement_elements (tree.verdict_map s map) = map_ref_elements map
-statement_elements (tree.nat (tree.source (tree.source_look l))) = map_ref_elements l.map
-statement_elements (tree.nat (tree.destination (tree.destination_look l))) = map_ref_elements l.map
+statement_elements (tree.nat (tree.source (tree.source_lookup l))) = map_ref_elements l.map
+statement_elements (tree.nat (tree.destination (tree.destination_lookup l))) = map_ref_elements l.map
 statement_elements _ = 0
 
 abbrev pub rule_elements : RuleTree → ℕ

@@ -5,7 +5,7 @@ ghost use Rattle.nft_tree.specs.Tree.{item_tree, map_ref_tree, set_ref_tree, sta
 ghost use Rattle.rule_limits.specs.Limits.{element_count, item_elements, map_ref_elements, set_ref_elements, statement_elements};
 
 use nft_tree::{
-    DestinationTarget, Item, Look, MapRef, Match, Nat, Operand, Ruleset, SetRef, SourceTarget,
+    DestinationTarget, Item, MapLookup, MapRef, Match, Nat, Operand, Ruleset, SetRef, SourceTarget,
     Stmt, sum,
 };
 
@@ -38,10 +38,10 @@ fn statement_elements(stmt: &Stmt) -> usize
     match stmt {
         Stmt::Match(Match::In(_, set) | Match::NotIn(_, set)) => set_ref_elements(set),
         Stmt::VerdictMap(_, map)
-        | Stmt::SetMark(_, Operand::Look(Look { map, .. }))
+        | Stmt::SetMark(_, Operand::MapLookup(MapLookup { map, .. }))
         | Stmt::Nat(
-            Nat::Source(SourceTarget::Look(Look { map, .. }))
-            | Nat::Destination(DestinationTarget::Look(Look { map, .. })),
+            Nat::Source(SourceTarget::MapLookup(MapLookup { map, .. }))
+            | Nat::Destination(DestinationTarget::MapLookup(MapLookup { map, .. })),
         ) => map_ref_elements(map),
         _ => 0,
     }

@@ -2,6 +2,6 @@ mod Opening
 mod OneRun
 mod Orders
 pub mod Priorities
-mod Ends
+mod HookResults
 mod Values
 mod Alike

@@ -5,7 +5,7 @@ use Rattle.nft_tree.specs.declared.selector.Selector.{Selector}
 use Rattle.nft_tree.specs.declared.selector.Selector.TheVariants as selectors
 use Rattle.nft_tree.specs.Tree as tree
 use Rattle.nft_tree.specs.Tree.{MatchTree}
-use Rattle.nft_tree.specs.Words.{selector_width}
+use Rattle.nft_tree.specs.ValueTypes.{selector_width}
 use Rattle.rule_meaning.specs.declared.facts.Facts.{Facts}
 use Rattle.rule_meaning.specs.Selectors.{value, join, joined_value}
 use Rattle.rule_meaning.specs.Sets.{Scope}

@@ -9,26 +9,26 @@ use Rattle.box_file.specs.Box.{PlantTree}
 use Rattle.rule_meaning.specs.declared.facts.Facts.{Facts}
 use Rattle.rule_meaning.specs.declared.event.Event.{Event}
 use Rattle.rule_meaning.specs.declared.event.Event.TheVariants.{Counted}
-use Rattle.rule_meaning.specs.declared.event.Decision.TheVariants.{Jump}
+use Rattle.rule_meaning.specs.declared.event.RuleVerdict.TheVariants.{Jump}
 use Rattle.rule_meaning.specs.Matches.{bit_selector}
-use Rattle.rule_meaning.specs.Statements.{Saying, pass, fail, note, give}
-use Rattle.rule_meaning.specs.Runs.{Program, named, Left, in_rule, at_rule, After, Runs, place, taking}
-use Rattle.rule_meaning.specs.Hooks.{End, Passage}
+use Rattle.rule_meaning.specs.Statements.{StatementEffect, pass, fail, note, give}
+use Rattle.rule_meaning.specs.Runs.{Program, table_program, Remainder, in_rule, at_rule, RunResult, Runs, statement_position, with_verdict}
+use Rattle.rule_meaning.specs.Hooks.{HookResult, Traversal}
 
 -- ---- at most one
 
 abbrev pub AtMostOneRun : {S : Type 0} → Program S → Type 0
 AtMostOneRun {S} p =
-    (c n : ℕ) (l : Left S) (f : Facts) (es : List Event) (o other : After) → Runs p c n l f es o
+    (c n : ℕ) (l : Remainder S) (f : Facts) (es : List Event) (o other : RunResult) → Runs p c n l f es o
     → Runs p c n l f es other → o ≡ other
 
-abbrev pub AtMostOneEnd : Passage → Type 0
-AtMostOneEnd passage =
-    (f : Facts) (es : List Event) (end other : End) → passage f es end → passage f es other → end ≡ other
+abbrev pub AtMostOneResult : Traversal → Type 0
+AtMostOneResult traversal =
+    (f : Facts) (es : List Event) (hook_result other : HookResult) → traversal f es hook_result → traversal f es other → hook_result ≡ other
 
 -- a step that ends in one way, or doesn't
-abbrev pub step_of : (Facts → List Event → Option End) → Passage
-step_of gives f es end = gives f es ≡ Some end
+abbrev pub step_of : (Facts → List Event → Option HookResult) → Traversal
+step_of gives f es hook_result = gives f es ≡ Some hook_result
 
 -- ---- matches
 
@@ -45,47 +45,47 @@ selectors_of (tree.masked_flags_unequal wanted mask) = selectors.TcpFlags ∷ []
 
 -- ---- what a packet passes
 
-abbrev pub Reached : Type 0
-Reached = Option (Facts × List Event)
+abbrev pub ReachedState : Type 0
+ReachedState = Option (Facts × List Event)
 
-abbrev pub reached_behind : (Facts → List Event → Reached) → Facts → List Event → Saying → Reached
-reached_behind rest f es pass = rest f es
-reached_behind rest f es (note e g) = rest g (es ++ e ∷ [])
-reached_behind rest f es fail = None
-reached_behind rest f es (give d) = None
+abbrev pub state_behind : (Facts → List Event → ReachedState) → Facts → List Event → StatementEffect → ReachedState
+state_behind rest f es pass = rest f es
+state_behind rest f es (note e g) = rest g (es ++ e ∷ [])
+state_behind rest f es fail = None
+state_behind rest f es (give d) = None
 
 -- what rules may read and all events behind statements of rule n of chain c, the first of them of this number; nothing
 -- where one of them fails or decides
-abbrev pub through : {S : Type 0} → Program S → ℕ → ℕ → ℕ → List S → Facts → List Event → Reached
-through p c n k [] f es = Some (f, es)
-through p c n k (s ∷ ss) f es = reached_behind (through p c n (k + 1) ss) f es (p.said (place p c n k) s f)
+abbrev pub state_after : {S : Type 0} → Program S → ℕ → ℕ → ℕ → List S → Facts → List Event → ReachedState
+state_after p c n k [] f es = Some (f, es)
+state_after p c n k (s ∷ ss) f es = state_behind (state_after p c n (k + 1) ss) f es (p.effect_of (statement_position p c n k) s f)
 
 -- ---- runs that come to the same
 
 -- what is left of chains leads to the same, from facts and events of its own each
-abbrev pub LeadsAlike : {S : Type 0} (p : Program S) → (c n : ℕ) → Left S → Facts → List Event → (m : ℕ) → Left S
+abbrev pub RunsAlike : {S : Type 0} (p : Program S) → (c n : ℕ) → Remainder S → Facts → List Event → (m : ℕ) → Remainder S
     → Facts → List Event → Type 0
-LeadsAlike p c n l f es m k g later = (o : After) → Runs p c n l f es o ↔ Runs p c m k g later o
+RunsAlike p c n l f es m k g later = (o : RunResult) → Runs p c n l f es o ↔ Runs p c m k g later o
 
 -- a jump to a chain without rules leaves nothing but its event
 abbrev pub EmptyJump : Program Statement → Type 0
 EmptyJump p =
     (c n k t : ℕ) (s : Statement) (ss : List Statement) (rs : List (List Statement)) (f : Facts) (es : List Event)
-    → p.said (place p c n k) s f ≡ give (Jump t) → p.rules_at t ≡ Some []
-    → LeadsAlike p c n (in_rule k (s ∷ ss) rs) f es (n + 1) (at_rule rs) f (taking p es c n (Jump t))
+    → p.effect_of (statement_position p c n k) s f ≡ give (Jump t) → p.rules_at t ≡ Some []
+    → RunsAlike p c n (in_rule k (s ∷ ss) rs) f es (n + 1) (at_rule rs) f (with_verdict p es c n (Jump t))
 
 -- a counter behind statements through which a packet comes counts it, at its place, behind all that they noted
-abbrev pub CounterSees : PlantTree → ℕ → TableTree → Type 0
-CounterSees plant number t =
+abbrev pub CounterCounts : PlantTree → ℕ → TableTree → Type 0
+CounterCounts plant number t =
     (c n k : ℕ) (before after : List Statement) (start : Option CounterStart) (rs : List (List Statement))
-    (f g : Facts) (es later : List Event) → through (named plant number t) c n k before f es ≡ Some (g, later)
-    → LeadsAlike (named plant number t) c n (in_rule k (before ++ tree.counter start ∷ after) rs) f es n
+    (f g : Facts) (es later : List Event) → state_after (table_program plant number t) c n k before f es ≡ Some (g, later)
+    → RunsAlike (table_program plant number t) c n (in_rule k (before ++ tree.counter start ∷ after) rs) f es n
     (in_rule (k + length before + 1) after rs) g
-    (later ++ Counted (place (named plant number t) c n (k + length before)) ∷ [])
+    (later ++ Counted (statement_position (table_program plant number t) c n (k + length before)) ∷ [])
 
 -- behind statements through which it doesn't come nothing is seen of it
-abbrev pub NothingBehind : PlantTree → ℕ → TableTree → Type 0
-NothingBehind plant number t =
+abbrev pub UnreachedHasNoEffect : PlantTree → ℕ → TableTree → Type 0
+UnreachedHasNoEffect plant number t =
     (c n k : ℕ) (before after : List Statement) (rs : List (List Statement)) (f : Facts) (es : List Event)
-    → through (named plant number t) c n k before f es ≡ None
-    → LeadsAlike (named plant number t) c n (in_rule k (before ++ after) rs) f es n (in_rule k before rs) f es
+    → state_after (table_program plant number t) c n k before f es ≡ None
+    → RunsAlike (table_program plant number t) c n (in_rule k (before ++ after) rs) f es n (in_rule k before rs) f es

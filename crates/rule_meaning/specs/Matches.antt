@@ -14,8 +14,8 @@ use Rattle.nft_tree.specs.declared.statement.BitTest.{BitTest}
 use Rattle.nft_tree.specs.declared.statement.BitTest.TheVariants as bit_tests
 use Rattle.nft_tree.specs.Tree as tree
 use Rattle.nft_tree.specs.Tree.{Text, FlagTree, MatchTree}
-use Rattle.nft_tree.specs.Words.{words_of, number_in}
-use Rattle.nft_tree.specs.Kinds.{selector_kind}
+use Rattle.nft_tree.specs.ValueTypes.{words_of, number_in}
+use Rattle.nft_tree.specs.ComparedTypes.{selector_compared_type}
 use Rattle.nft_values.specs.Values.{Span, numbers_of}
 use Rattle.rule_meaning.specs.declared.facts.Facts.{Facts}
 use Rattle.rule_meaning.specs.Selectors.{value, joined_value}
@@ -79,7 +79,7 @@ flags_of fs = union (map flag_number fs)
 -- ---- matches
 
 abbrev pub holds : Scope → MatchTree → Facts → Bool
-holds scope (tree.compare s o r) f = tests (value s f) (compares_with o (numbers_of scope.plant (selector_kind s) r))
+holds scope (tree.compare s o r) f = tests (value s f) (compares_with o (numbers_of scope.plant (selector_compared_type s) r))
 holds scope (tree.is_in ss set) f = tests (joined_value ss f) (set_has scope ss set)
 holds scope (tree.not_in ss set) f = tests (joined_value ss f) (λ n. not (set_has scope ss set n))
 holds scope (tree.bits field test words) f =

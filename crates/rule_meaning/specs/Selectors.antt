@@ -3,20 +3,20 @@ use Rattle.std.specs.Prelude.{ℕ, ◌+◌, ◌*◌, ◌^◌, List, [], ◌∷�
 use Rattle.std.specs.Option.{option_map, option_and_then}
 use Rattle.nft_tree.specs.declared.selector.Selector.{Selector}
 use Rattle.nft_tree.specs.declared.selector.Selector.TheVariants as selectors
-use Rattle.nft_tree.specs.Words.{selector_width, STATE_INVALID, STATE_ESTABLISHED, STATE_RELATED, STATE_NEW}
-use Rattle.nft_tree.specs.Words.{STATE_UNTRACKED}
-use Rattle.nft_tree.specs.Words.{STATUS_SEEN_REPLY, STATUS_SNAT, STATUS_DNAT}
+use Rattle.nft_tree.specs.ValueTypes.{selector_width, STATE_INVALID, STATE_ESTABLISHED, STATE_RELATED, STATE_NEW}
+use Rattle.nft_tree.specs.ValueTypes.{STATE_UNTRACKED}
+use Rattle.nft_tree.specs.ValueTypes.{STATUS_SEEN_REPLY, STATUS_SNAT, STATUS_DNAT}
 use Rattle.ip_headers.specs.declared.transport.Transport.{Transport}
 use Rattle.ip_headers.specs.declared.transport.Transport.TheVariants as transports
 use Rattle.ip_headers.specs.Transport.{source_port_of, destination_port_of, tcp_flags_of, icmp_type_of}
 use Rattle.rule_meaning.specs.declared.facts.Facts.{Facts}
-use Rattle.rule_meaning.specs.declared.facts.Tracking.{Tracking}
-use Rattle.rule_meaning.specs.declared.facts.Tracking.TheVariants as tracking
-use Rattle.rule_meaning.specs.declared.facts.Connection.{Connection}
-use Rattle.rule_meaning.specs.declared.facts.ConnectionState.{ConnectionState}
-use Rattle.rule_meaning.specs.declared.facts.ConnectionState.TheVariants as states
-use Rattle.rule_meaning.specs.declared.facts.Direction.{Direction}
-use Rattle.rule_meaning.specs.declared.facts.Direction.TheVariants as directions
+use Rattle.rule_meaning.specs.declared.facts.CtFacts.{CtFacts}
+use Rattle.rule_meaning.specs.declared.facts.CtFacts.TheVariants as ct
+use Rattle.rule_meaning.specs.declared.facts.ConnectionFacts.{ConnectionFacts}
+use Rattle.rule_meaning.specs.declared.facts.CtState.{CtState}
+use Rattle.rule_meaning.specs.declared.facts.CtState.TheVariants as states
+use Rattle.rule_meaning.specs.declared.facts.CtDirection.{CtDirection}
+use Rattle.rule_meaning.specs.declared.facts.CtDirection.TheVariants as directions
 
 -- ---- ports: nothing for another protocol
 
@@ -39,28 +39,28 @@ udp_destination _ = None
 -- ---- the connection: an invalid or an untracked packet has a state and nothing else; before the place at which one is
 -- looked for there is nothing
 
-abbrev pub state_bit : ConnectionState → ℕ
+abbrev pub state_bit : CtState → ℕ
 state_bit states.Established = STATE_ESTABLISHED
 state_bit states.Related = STATE_RELATED
 state_bit states.New = STATE_NEW
 
-abbrev pub ct_state : Tracking → Option ℕ
-ct_state tracking.Unknown = None
-ct_state tracking.Skipped = None
-ct_state tracking.Untracked = Some STATE_UNTRACKED
-ct_state tracking.Invalid = Some STATE_INVALID
-ct_state (tracking.Known c) = Some (state_bit c.state)
+abbrev pub ct_state : CtFacts → Option ℕ
+ct_state ct.NotLookedUp = None
+ct_state ct.Notrack = None
+ct_state ct.Untracked = Some STATE_UNTRACKED
+ct_state ct.Invalid = Some STATE_INVALID
+ct_state (ct.Known c) = Some (state_bit c.state)
 
-abbrev pub direction_number : Direction → ℕ
+abbrev pub direction_number : CtDirection → ℕ
 direction_number directions.Original = 0
 direction_number directions.Reply = 1
 
 -- what is read of a connection, where there is one
-abbrev pub of_connection : (Connection → ℕ) → Tracking → Option ℕ
-of_connection field (tracking.Known c) = Some (field c)
+abbrev pub of_connection : (ConnectionFacts → ℕ) → CtFacts → Option ℕ
+of_connection field (ct.Known c) = Some (field c)
 of_connection field _ = None
 
-abbrev pub status_bits : Connection → ℕ
+abbrev pub status_bits : ConnectionFacts → ℕ
 status_bits c =
     cond c.seen_reply STATUS_SEEN_REPLY 0
     + cond c.source_translated STATUS_SNAT 0
@@ -90,12 +90,12 @@ value selectors.OutputName f = option_map (λ i. i.name) f.output
 value selectors.InputIndex f = Some f.input.index
 value selectors.OutputIndex f = option_map (λ i. i.index) f.output
 value selectors.MetaMark f = Some f.mark
-value selectors.CtMark f = of_connection (λ c. c.mark) f.tracking
+value selectors.CtMark f = of_connection (λ c. c.mark) f.ct
 -- NFPROTO_IPV4
 value selectors.MetaFamily f = Some 2
-value selectors.CtState f = ct_state f.tracking
-value selectors.CtDirection f = of_connection (λ c. direction_number c.direction) f.tracking
-value selectors.CtStatus f = of_connection status_bits f.tracking
+value selectors.CtState f = ct_state f.ct
+value selectors.CtDirection f = of_connection (λ c. direction_number c.direction) f.ct
+value selectors.CtStatus f = of_connection status_bits f.ct
 
 -- ---- joined selectors
 

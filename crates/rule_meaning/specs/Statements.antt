@@ -5,25 +5,25 @@ use Rattle.nft_tree.specs.declared.selector.Selector.{Selector}
 use Rattle.nft_tree.specs.declared.selector.Selector.TheVariants as selectors
 use Rattle.nft_tree.specs.declared.selector.ValueType.{ValueType}
 use Rattle.nft_tree.specs.declared.selector.ValueType.TheVariants as types
-use Rattle.nft_tree.specs.declared.kind.Kind.TheVariants.{Named}
+use Rattle.nft_tree.specs.declared.compared_types.ComparedType.TheVariants.{Named}
 use Rattle.nft_tree.specs.declared.statement.MarkField.{MarkField}
 use Rattle.nft_tree.specs.declared.statement.MarkField.TheVariants as marks
 use Rattle.nft_tree.specs.declared.nat.PortRange.{PortRange}
 use Rattle.nft_tree.specs.declared.nat.PortRange.TheVariants as port_ranges
 use Rattle.nft_tree.specs.Tree as tree
-use Rattle.nft_tree.specs.Tree.{Text, VerdictTree, LookTree, OperandTree, SourceTree, DestinationTree, NatTree}
+use Rattle.nft_tree.specs.Tree.{Text, VerdictTree, MapLookupTree, OperandTree, SourceTree, DestinationTree, NatTree}
 use Rattle.nft_tree.specs.Tree.{MatchTree, Statement, TableTree}
-use Rattle.nft_tree.specs.Parts.{chains_of}
-use Rattle.rule_names.specs.Names.{place_in, chain_names}
+use Rattle.nft_tree.specs.TableItems.{chains_of}
+use Rattle.rule_names.specs.Names.{index_in, chain_names}
 use Rattle.rule_meaning.specs.declared.facts.Facts.{Facts}
-use Rattle.rule_meaning.specs.declared.facts.Tracking.{Tracking}
-use Rattle.rule_meaning.specs.declared.facts.Tracking.TheVariants as tracking
-use Rattle.rule_meaning.specs.declared.event.Place.{Place}
-use Rattle.rule_meaning.specs.declared.event.Ports.{Ports}
-use Rattle.rule_meaning.specs.declared.event.Decision.{Decision}
-use Rattle.rule_meaning.specs.declared.event.Decision.TheVariants as decisions
-use Rattle.rule_meaning.specs.declared.event.Translation.{Translation}
-use Rattle.rule_meaning.specs.declared.event.Translation.TheVariants as translations
+use Rattle.rule_meaning.specs.declared.facts.CtFacts.{CtFacts}
+use Rattle.rule_meaning.specs.declared.facts.CtFacts.TheVariants as ct
+use Rattle.rule_meaning.specs.declared.event.StatementPosition.{StatementPosition}
+use Rattle.rule_meaning.specs.declared.event.PortInterval.{PortInterval}
+use Rattle.rule_meaning.specs.declared.event.RuleVerdict.{RuleVerdict}
+use Rattle.rule_meaning.specs.declared.event.RuleVerdict.TheVariants as rule_verdicts
+use Rattle.rule_meaning.specs.declared.event.NatAction.{NatAction}
+use Rattle.rule_meaning.specs.declared.event.NatAction.TheVariants as nat_actions
 use Rattle.rule_meaning.specs.declared.event.Event.{Event}
 use Rattle.rule_meaning.specs.declared.event.Event.TheVariants as events
 use Rattle.rule_meaning.specs.Selectors.{value}
@@ -31,38 +31,38 @@ use Rattle.rule_meaning.specs.Sets.{Scope, looked_up, data_verdict, data_number}
 use Rattle.rule_meaning.specs.Matches.{holds}
 
 -- what a statement says
-pub data Saying : Type 0 where
+pub data StatementEffect : Type 0 where
   -- the next statement follows
-  pass : Saying
+  pass : StatementEffect
   -- the rule is over, the next one follows
-  fail : Saying
+  fail : StatementEffect
   -- something happens, and what rules may read is this from now on; the next statement follows
-  note : (event : Event) (facts : Facts) → Saying
+  note : (event : Event) (facts : Facts) → StatementEffect
   -- the rule decides
-  give : (decision : Decision) → Saying
+  give : (verdict : RuleVerdict) → StatementEffect
 
-abbrev pub passes_if : Bool → Saying
+abbrev pub passes_if : Bool → StatementEffect
 passes_if true = pass
 passes_if false = fail
 
 -- a statement without the value that it asks for fails
-abbrev pub with_value : {A : Type 0} → (A → Saying) → Option A → Saying
-with_value says None = fail
-with_value says (Some x) = says x
+abbrev pub with_value : {A : Type 0} → (A → StatementEffect) → Option A → StatementEffect
+with_value statement_effect None = fail
+with_value statement_effect (Some x) = statement_effect x
 
 -- ---- verdicts
 
 -- a chain by its number; a name that no chain has is none's
 abbrev pub chain_number : TableTree → Text → ℕ
-chain_number t name = unwrap_or (place_in name (chain_names t)) (length (chains_of t))
+chain_number t name = unwrap_or (index_in name (chain_names t)) (length (chains_of t))
 
-abbrev pub decision_of : TableTree → VerdictTree → Decision
-decision_of t tree.accept = decisions.Accept
-decision_of t tree.drop = decisions.Drop
-decision_of t tree.continue = decisions.Continue
-decision_of t tree.return = decisions.Return
-decision_of t (tree.jump name) = decisions.Jump (chain_number t name)
-decision_of t (tree.goto name) = decisions.Goto (chain_number t name)
+abbrev pub rule_verdict_of : TableTree → VerdictTree → RuleVerdict
+rule_verdict_of t tree.accept = rule_verdicts.Accept
+rule_verdict_of t tree.drop = rule_verdicts.Drop
+rule_verdict_of t tree.continue = rule_verdicts.Continue
+rule_verdict_of t tree.return = rule_verdicts.Return
+rule_verdict_of t (tree.jump name) = rule_verdicts.Jump (chain_number t name)
+rule_verdict_of t (tree.goto name) = rule_verdicts.Goto (chain_number t name)
 
 -- ---- marks
 
@@ -71,7 +71,7 @@ mark_selector marks.Meta = selectors.MetaMark
 mark_selector marks.Ct = selectors.CtMark
 
 -- what a map gives for what a selector reads, as a number of the type
-abbrev pub look_number : Scope → ValueType → LookTree → Facts → Option ℕ
+abbrev pub look_number : Scope → ValueType → MapLookupTree → Facts → Option ℕ
 look_number scope t l f = looked_up (data_number scope.plant (Named t)) scope l.selector l.map f
 
 abbrev pub operand_number : Scope → OperandTree → Facts → Option ℕ
@@ -80,53 +80,53 @@ operand_number scope (tree.mark_of field) f = value (mark_selector field) f
 operand_number scope (tree.looked_up l) f = look_number scope types.Mark l f
 
 -- the connection's mark is written where there is a connection; where there is none nothing is done
-abbrev pub writes_connection : Facts → Tracking → ℕ → Saying
-writes_connection f (tracking.Known c) n =
-    note (events.Marked marks.Ct n) (record f { tracking = tracking.Known (record c { mark = n }) })
+abbrev pub writes_connection : Facts → CtFacts → ℕ → StatementEffect
+writes_connection f (ct.Known c) n =
+    note (events.Marked marks.Ct n) (record f { ct = ct.Known (record c { mark = n }) })
 writes_connection f _ n = pass
 
-abbrev pub writes : MarkField → Facts → ℕ → Saying
+abbrev pub writes : MarkField → Facts → ℕ → StatementEffect
 writes marks.Meta f n = note (events.Marked marks.Meta n) (record f { mark = n })
-writes marks.Ct f n = writes_connection f f.tracking n
+writes marks.Ct f n = writes_connection f f.ct n
 
 -- ---- notrack
 
 -- a packet whose connection hasn't been looked for yet has none looked for; behind that place it is too late
-abbrev pub skips_tracking : Facts → Tracking → Saying
-skips_tracking f tracking.Unknown = note events.Untracked (record f { tracking = tracking.Skipped })
-skips_tracking f _ = pass
+abbrev pub sets_notrack : Facts → CtFacts → StatementEffect
+sets_notrack f ct.NotLookedUp = note events.Untracked (record f { ct = ct.Notrack })
+sets_notrack f _ = pass
 
 -- ---- translation
 
-abbrev pub ports_of : PortRange → Ports
+abbrev pub ports_of : PortRange → PortInterval
 ports_of (port_ranges.One n) = record { low = n; high = n }
 ports_of (port_ranges.Between low high) = record { low = low; high = high }
 
-abbrev pub source_of : Scope → SourceTree → Facts → Option Translation
-source_of scope (tree.source_address a ports) f = Some (translations.Source a (option_map ports_of ports))
-source_of scope (tree.source_look l) f =
-    option_map (λ a. translations.Source a None) (look_number scope types.Address l f)
+abbrev pub source_of : Scope → SourceTree → Facts → Option NatAction
+source_of scope (tree.source_address a ports) f = Some (nat_actions.Source a (option_map ports_of ports))
+source_of scope (tree.source_lookup l) f =
+    option_map (λ a. nat_actions.Source a None) (look_number scope types.Address l f)
 
-abbrev pub destination_of : Scope → DestinationTree → Facts → Option Translation
-destination_of scope (tree.destination_address a port) f = Some (translations.Destination a port)
-destination_of scope (tree.destination_look l) f =
-    option_map (λ a. translations.Destination a None) (look_number scope types.Address l f)
+abbrev pub destination_of : Scope → DestinationTree → Facts → Option NatAction
+destination_of scope (tree.destination_address a port) f = Some (nat_actions.Destination a port)
+destination_of scope (tree.destination_lookup l) f =
+    option_map (λ a. nat_actions.Destination a None) (look_number scope types.Address l f)
 
-abbrev pub translation_of : Scope → NatTree → Facts → Option Translation
-translation_of scope (tree.source s) f = source_of scope s f
-translation_of scope (tree.destination d) f = destination_of scope d f
-translation_of scope (tree.masquerade ports) f = Some (translations.Masquerade (option_map ports_of ports))
-translation_of scope (tree.redirect port) f = Some (translations.Redirect port)
+abbrev pub nat_action_of : Scope → NatTree → Facts → Option NatAction
+nat_action_of scope (tree.source s) f = source_of scope s f
+nat_action_of scope (tree.destination d) f = destination_of scope d f
+nat_action_of scope (tree.masquerade ports) f = Some (nat_actions.Masquerade (option_map ports_of ports))
+nat_action_of scope (tree.redirect port) f = Some (nat_actions.Redirect port)
 
 -- ---- statements
 
-abbrev pub says : Scope → Place → Statement → Facts → Saying
-says scope place (tree.matching m) f = passes_if (holds scope m f)
-says scope place (tree.counter start) f = note (events.Counted place) f
-says scope place (tree.log text) f = note (events.Logged place) f
-says scope place tree.notrack f = skips_tracking f f.tracking
-says scope place (tree.set_mark field operand) f = with_value (writes field f) (operand_number scope operand f)
-says scope place (tree.verdict_map s m) f =
-    with_value (λ v. give (decision_of scope.table v)) (looked_up data_verdict scope s m f)
-says scope place (tree.verdict v) f = give (decision_of scope.table v)
-says scope place (tree.nat n) f = with_value (λ t. give (decisions.Translate t)) (translation_of scope n f)
+abbrev pub statement_effect : Scope → StatementPosition → Statement → Facts → StatementEffect
+statement_effect scope statement_position (tree.matching m) f = passes_if (holds scope m f)
+statement_effect scope statement_position (tree.counter start) f = note (events.Counted statement_position) f
+statement_effect scope statement_position (tree.log text) f = note (events.Logged statement_position) f
+statement_effect scope statement_position tree.notrack f = sets_notrack f f.ct
+statement_effect scope statement_position (tree.set_mark field operand) f = with_value (writes field f) (operand_number scope operand f)
+statement_effect scope statement_position (tree.verdict_map s m) f =
+    with_value (λ v. give (rule_verdict_of scope.table v)) (looked_up data_verdict scope s m f)
+statement_effect scope statement_position (tree.verdict v) f = give (rule_verdict_of scope.table v)
+statement_effect scope statement_position (tree.nat n) f = with_value (λ t. give (rule_verdicts.Translate t)) (nat_action_of scope n f)

@@ -11,7 +11,7 @@ pub struct Facts {
     pub output: Option<Interface>,
     /// The packet's mark.
     pub mark: u32,
-    pub tracking: Tracking,
+    pub ct: CtFacts,
 }
 
 /// The fields of a packet's headers, as translated so far.
@@ -41,24 +41,24 @@ pub struct Interface {
 
 /// What is known of a packet's connection.
 #[derive(Clone, Copy)]
-pub enum Tracking {
+pub enum CtFacts {
     /// Nothing: it hasn't been looked for yet.
-    Unknown,
+    NotLookedUp,
     /// Nothing: it isn't to be looked for.
-    Skipped,
+    Notrack,
     /// Nothing: it wasn't looked for.
     Untracked,
     /// The packet belongs to none and begins none.
     Invalid,
     /// The packet belongs to one, begins one, or tells of an error of one.
-    Known(Connection),
+    Known(ConnectionFacts),
 }
 
 /// A packet's connection.
 #[derive(Clone, Copy)]
-pub struct Connection {
-    pub state: ConnectionState,
-    pub direction: Direction,
+pub struct ConnectionFacts {
+    pub state: CtState,
+    pub direction: CtDirection,
     /// The connection's mark.
     pub mark: u32,
     /// A packet of the direction reply has been seen.
@@ -71,7 +71,7 @@ pub struct Connection {
 
 /// How a packet stands to its connection.
 #[derive(Clone, Copy)]
-pub enum ConnectionState {
+pub enum CtState {
     /// Packets have been seen in both directions.
     Established,
     /// It tells of an error of the connection.
@@ -82,7 +82,7 @@ pub enum ConnectionState {
 
 /// The directions of a connection.
 #[derive(Clone, Copy)]
-pub enum Direction {
+pub enum CtDirection {
     /// That of the packet that began it.
     Original,
     Reply,

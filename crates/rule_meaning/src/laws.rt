@@ -10,78 +10,78 @@ ghost use Rattle.rule_meaning.specs.Selectors.{value};
 ghost use Rattle.rule_meaning.specs.Sets.{Scope};
 ghost use Rattle.rule_meaning.specs.Matches.{holds};
 ghost use Rattle.rule_meaning.specs.Runs.{Program};
-ghost use Rattle.rule_meaning.specs.Hooks.{Base, InOrder, End, RunsBase, GoesOn, Stops, Nothing, InTurn, Chains, Early, Prerouting, Input, Forward, Postrouting, Translating};
-ghost use Rattle.rule_meaning.specs.Laws.{AtMostOneRun, AtMostOneEnd, step_of, selectors_of, EmptyJump, CounterSees, NothingBehind};
+ghost use Rattle.rule_meaning.specs.Hooks.{BaseChain, InOrder, HookResult, RunsBaseChain, Continues, Stops, NoChain, InTurn, Chains, PreroutingRaw, Prerouting, Input, Forward, Postrouting, Translating};
+ghost use Rattle.rule_meaning.specs.Laws.{AtMostOneRun, AtMostOneResult, step_of, selectors_of, EmptyJump, CounterCounts, UnreachedHasNoEffect};
 
 /// What is left of a chain leads to one thing at most, whatever the program.
-pub fn one_run()
+pub fn run_unique()
     ensures { (p : Program Statement) → AtMostOneRun p }
 {}
 
 /// The same of programs of any other statements.
-pub fn one_run_of<S>()
+pub fn run_unique_for<S>()
     ensures { (p : Program S) → AtMostOneRun p }
 {}
 
 /// Base chains have one order at most, and each of them, base chains in turn and hooks have one end
 /// at most; hooks with a translation step that has one at most have so too.
-pub fn one_end()
-    ensures order { (text order other : List Base) → InOrder text order → InOrder text other
+pub fn hook_result_unique()
+    ensures order { (text order other : List BaseChain) → InOrder text order → InOrder text other
         → order ≡ other }
-    ensures base { (plant : PlantTree) (tables : List TableTree) (b : Base)
-        → AtMostOneEnd (RunsBase plant tables b) }
-    ensures in_turn { (plant : PlantTree) (tables : List TableTree) (bs : List Base)
-        → AtMostOneEnd (InTurn plant tables bs) }
-    ensures chains { (plant : PlantTree) (tables : List TableTree) (test : Base → Bool)
-        → AtMostOneEnd (Chains plant tables test) }
+    ensures base { (plant : PlantTree) (tables : List TableTree) (b : BaseChain)
+        → AtMostOneResult (RunsBaseChain plant tables b) }
+    ensures in_turn { (plant : PlantTree) (tables : List TableTree) (bs : List BaseChain)
+        → AtMostOneResult (InTurn plant tables bs) }
+    ensures chains { (plant : PlantTree) (tables : List TableTree) (test : BaseChain → Bool)
+        → AtMostOneResult (Chains plant tables test) }
     ensures early { (plant : PlantTree) (tables : List TableTree)
-        → AtMostOneEnd (Early plant tables) }
+        → AtMostOneResult (PreroutingRaw plant tables) }
     ensures prerouting { (plant : PlantTree) (tables : List TableTree)
-        → AtMostOneEnd (Prerouting plant tables Nothing) }
+        → AtMostOneResult (Prerouting plant tables NoChain) }
     ensures input { (plant : PlantTree) (tables : List TableTree)
-        → AtMostOneEnd (Input plant tables) }
+        → AtMostOneResult (Input plant tables) }
     ensures forward { (plant : PlantTree) (tables : List TableTree)
-        → AtMostOneEnd (Forward plant tables) }
+        → AtMostOneResult (Forward plant tables) }
     ensures postrouting { (plant : PlantTree) (tables : List TableTree)
-        → AtMostOneEnd (Postrouting plant tables Nothing) }
+        → AtMostOneResult (Postrouting plant tables NoChain) }
     ensures stepped_prerouting { (plant : PlantTree) (tables : List TableTree)
-        (step : Facts → List Event → Option End)
-        → AtMostOneEnd (Prerouting plant tables (step_of step)) }
+        (step : Facts → List Event → Option HookResult)
+        → AtMostOneResult (Prerouting plant tables (step_of step)) }
     ensures stepped_postrouting { (plant : PlantTree) (tables : List TableTree)
-        (step : Facts → List Event → Option End)
-        → AtMostOneEnd (Postrouting plant tables (step_of step)) }
+        (step : Facts → List Event → Option HookResult)
+        → AtMostOneResult (Postrouting plant tables (step_of step)) }
     ensures translating { (hook : Hook) (plant : PlantTree) (tables : List TableTree)
-        → AtMostOneEnd (Translating hook plant tables) }
+        → AtMostOneResult (Translating hook plant tables) }
 {}
 
 /// A match doesn't hold where one of the selectors that it reads reads nothing.
-pub fn without_value()
+pub fn match_needs_value()
     ensures { (scope : Scope) (m : MatchTree) (s : Selector) (f : Facts) → Contains (selectors_of m) s
         → value s f ≡ None → holds scope m f ≡ false }
 {}
 
 /// A base chain that ends in a drop or in a translation ends all.
-pub fn drop_ends_all()
-    ensures { (plant : PlantTree) (tables : List TableTree) (b : Base) (bs : List Base) (f : Facts)
-        (es : List Event) (between end : End) → RunsBase plant tables b f es between
-        → Stops between.ending → InTurn plant tables (b ∷ bs) f es end ↔ (end ≡ between) }
+pub fn drop_ends_hook()
+    ensures { (plant : PlantTree) (tables : List TableTree) (b : BaseChain) (bs : List BaseChain) (f : Facts)
+        (es : List Event) (between hook_result : HookResult) → RunsBaseChain plant tables b f es between
+        → Stops between.verdict → InTurn plant tables (b ∷ bs) f es hook_result ↔ (hook_result ≡ between) }
 {}
 
 /// A base chain that ends in an accept ends by itself: the others go on from there.
-pub fn accept_ends_one()
-    ensures { (plant : PlantTree) (tables : List TableTree) (b : Base) (bs : List Base) (f : Facts)
-        (es : List Event) (between end : End) → RunsBase plant tables b f es between
-        → GoesOn between.ending → InTurn plant tables (b ∷ bs) f es end
-        ↔ InTurn plant tables bs between.facts between.events end }
+pub fn accept_ends_chain()
+    ensures { (plant : PlantTree) (tables : List TableTree) (b : BaseChain) (bs : List BaseChain) (f : Facts)
+        (es : List Event) (between hook_result : HookResult) → RunsBaseChain plant tables b f es between
+        → Continues between.verdict → InTurn plant tables (b ∷ bs) f es hook_result
+        ↔ InTurn plant tables bs between.facts between.events hook_result }
 {}
 
 /// A jump to a chain without rules leaves nothing but its event.
-pub fn empty_jump()
+pub fn empty_chain_jump()
     ensures { (p : Program Statement) → EmptyJump p }
 {}
 
 /// A counter counts exactly the packets that come through all statements before it in its rule.
-pub fn counters_see()
-    ensures seen { (plant : PlantTree) (number : ℕ) (t : TableTree) → CounterSees plant number t }
-    ensures unseen { (plant : PlantTree) (number : ℕ) (t : TableTree) → NothingBehind plant number t }
+pub fn counters_count()
+    ensures seen { (plant : PlantTree) (number : ℕ) (t : TableTree) → CounterCounts plant number t }
+    ensures unseen { (plant : PlantTree) (number : ℕ) (t : TableTree) → UnreachedHasNoEffect plant number t }
 {}

@@ -7,9 +7,12 @@ mod event;
 mod facts;
 mod laws;
 
-pub use event::{ChainEnd, ChainNo, Decision, Ending, Event, Place, Ports, Translation};
-pub use facts::{Connection, ConnectionState, Direction, Facts, Interface, Packet, Tracking};
+pub use event::{
+    ChainNo, ChainResult, Event, HookVerdict, NatAction, PortInterval, RuleVerdict,
+    StatementPosition,
+};
+pub use facts::{ConnectionFacts, CtDirection, CtFacts, CtState, Facts, Interface, Packet};
 pub use laws::{
-    accept_ends_one, counters_see, drop_ends_all, empty_jump, one_end, one_run, one_run_of,
-    without_value,
+    accept_ends_chain, counters_count, drop_ends_hook, empty_chain_jump, hook_result_unique,
+    match_needs_value, run_unique, run_unique_for,
 };

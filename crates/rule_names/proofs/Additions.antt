@@ -11,18 +11,18 @@ use Rattle.nft_tree.specs.declared.set.MapDecl.{MapDecl}
 use Rattle.nft_tree.specs.declared.ruleset.Item.{Item}
 use Rattle.nft_tree.specs.Tree as tree
 use Rattle.nft_tree.specs.Tree.{Text, ItemTree, chain_tree, set_tree, map_tree, item_tree}
-use Rattle.nft_tree.specs.Parts.{chain_in}
+use Rattle.nft_tree.specs.TableItems.{chain_in}
 use Rattle.rule_names.specs.declared.table.Named.{Named}
 use Rattle.rule_names.specs.declared.table.NamedItems.{NamedItems}
-use Rattle.rule_names.specs.Names.{Repeats, set_or_map_name}
+use Rattle.rule_names.specs.Names.{HasDuplicate, set_or_map_name}
 use Rattle.rule_names.specs.steps.Index.{IsAdded}
-use Rattle.rule_names.specs.steps.Table.{AreNamed, Holds, HoldsOrRepeats, RepeatsIn}
+use Rattle.rule_names.specs.steps.Table.{AreNamed, Represents, RepresentsOrHasDuplicate, HasDuplicateIn}
 use Rattle.rule_names.proofs.Items.{sets-repeat, maps-repeat}
 use Rattle.rule_names.proofs.Lists.{map-around}
-use Rattle.rule_names.proofs.Twice.{repeats-on}
+use Rattle.rule_names.proofs.Duplicates.{repeats-on}
 
 -- what follows names that repeat
-pub repeats-in-on : (items more : List ItemTree) → RepeatsIn items → RepeatsIn (items ++ more)
+pub repeats-in-on : (items more : List ItemTree) → HasDuplicateIn items → HasDuplicateIn (items ++ more)
 repeats-in-on items more = ⊎_elim
     (λ r. inl (simp (filter_map-append, map-append) (repeats-on (map (λ c. c.name) (filter_map chain_in items)) (map (λ c. c.name) (filter_map chain_in more)) r)))
     (λ r. inr (simp filter_map-append (repeats-on (filter_map set_or_map_name items) (filter_map set_or_map_name more) r)))
@@ -36,14 +36,14 @@ module _ {T X : Type 0} (view : T → X) (name_of : X → Text) (xs : List X) (a
   named-more new new_names e added = record {
     are = ap (map (λ x. view x.now)) e ∙ map-append (λ x. view x.now) all (a ∷ []) ∙ ap (λ ys. ys ++ view a.now ∷ []) known.are;
     named = added.0 ∙ names-more;
-    apart = subst (λ ns. Repeats ns → ⊥) (added.0 ∙ names-more) added.1;
+    apart = subst (λ ns. HasDuplicate ns → ⊥) (added.0 ∙ names-more) added.1;
   }
 
-  pub named-twice : Repeats (names ++ name ∷ []) → Repeats (map name_of (xs ++ view a.now ∷ []))
-  named-twice twice = subst Repeats names-more twice
+  pub named-duplicate : HasDuplicate (names ++ name ∷ []) → HasDuplicate (map name_of (xs ++ view a.now ∷ []))
+  named-duplicate duplicate = subst HasDuplicate names-more duplicate
 
-module _ (items : List ItemTree) (old : NamedItems) (held : Holds items old) where
-  pub comment-added : (text : Text) → Holds (items ++ tree.comment text ∷ []) old
+module _ (items : List ItemTree) (old : NamedItems) (held : Represents items old) where
+  pub comment-added : (text : Text) → Represents (items ++ tree.comment text ∷ []) old
   comment-added text = record {
     chains = simp (filter_map-append, append-nil) held.chains;
     sets = simp (filter_map-append, append-nil) held.sets;
@@ -52,7 +52,7 @@ module _ (items : List ItemTree) (old : NamedItems) (held : Holds items old) whe
     both_apart = simp (filter_map-append, append-nil) held.both_apart;
   }
 
-  pub chain-added : (c : Bor Chain) (name : Text) → name ≡ c.now.name.items → (new : Named Chain) (fresh : Bool) → (new.all.items ≡ old.chains.all.items ++ c ∷ []) × IsAdded old.chains.names name new.names fresh → HoldsOrRepeats (items ++ tree.chain (chain_tree c.now) ∷ []) (record old { chains = new }) fresh
+  pub chain-added : (c : Bor Chain) (name : Text) → name ≡ c.now.name.items → (new : Named Chain) (fresh : Bool) → (new.all.items ≡ old.chains.all.items ++ c ∷ []) × IsAdded old.chains.names name new.names fresh → RepresentsOrHasDuplicate (items ++ tree.chain (chain_tree c.now) ∷ []) (record old { chains = new }) fresh
   chain-added c name is new true added = record {
     chains = simp filter_map-append (named-more chain_tree (λ c. c.name) _ _ _ held.chains c name is new.all.items new.names added.0 added.1);
     sets = simp (filter_map-append, append-nil) held.sets;
@@ -60,43 +60,43 @@ module _ (items : List ItemTree) (old : NamedItems) (held : Holds items old) whe
     both = simp (filter_map-append, append-nil) held.both;
     both_apart = simp (filter_map-append, append-nil) held.both_apart;
   }
-  chain-added c name is new false added = inl (simp filter_map-append (named-twice chain_tree (λ c. c.name) _ _ _ held.chains c name is added.1))
+  chain-added c name is new false added = inl (simp filter_map-append (named-duplicate chain_tree (λ c. c.name) _ _ _ held.chains c name is added.1))
 
   -- a name that sets and maps share
   shared-more : (shared name : Text) → shared ≡ name → old.sets_and_maps ++ shared ∷ [] ≡ filter_map set_or_map_name items ++ name ∷ []
   shared-more shared name is = ap₂ (λ ns n. ns ++ n ∷ []) held.both is
 
-  pub shared-twice : (shared name : Text) → shared ≡ name → Repeats (old.sets_and_maps ++ shared ∷ []) → Repeats (filter_map set_or_map_name items ++ name ∷ [])
-  shared-twice shared name is twice = subst Repeats (shared-more shared name is) twice
+  pub shared-duplicate : (shared name : Text) → shared ≡ name → HasDuplicate (old.sets_and_maps ++ shared ∷ []) → HasDuplicate (filter_map set_or_map_name items ++ name ∷ [])
+  shared-duplicate shared name is duplicate = subst HasDuplicate (shared-more shared name is) duplicate
 
-  pub set-added : (s : Bor SetDecl) (shared own : Text) → shared ≡ s.now.name.items → own ≡ s.now.name.items → (both : List Text) → IsAdded old.sets_and_maps shared both true → (new : Named SetDecl) (fresh : Bool) → (new.all.items ≡ old.sets.all.items ++ s ∷ []) × IsAdded old.sets.names own new.names fresh → HoldsOrRepeats (items ++ tree.set (set_tree s.now) ∷ []) (record old { sets = new; sets_and_maps = both }) fresh
+  pub set-added : (s : Bor SetDecl) (shared own : Text) → shared ≡ s.now.name.items → own ≡ s.now.name.items → (both : List Text) → IsAdded old.sets_and_maps shared both true → (new : Named SetDecl) (fresh : Bool) → (new.all.items ≡ old.sets.all.items ++ s ∷ []) × IsAdded old.sets.names own new.names fresh → RepresentsOrHasDuplicate (items ++ tree.set (set_tree s.now) ∷ []) (record old { sets = new; sets_and_maps = both }) fresh
   set-added s shared own is is_own both new_both new true added = record {
     chains = simp (filter_map-append, append-nil) held.chains;
     sets = simp filter_map-append (named-more set_tree (λ s. s.name) _ _ _ held.sets s own is_own new.all.items new.names added.0 added.1);
     maps = simp (filter_map-append, append-nil) held.maps;
     both = simp filter_map-append (new_both.0 ∙ shared-more shared s.now.name.items is);
-    both_apart = simp filter_map-append (subst (λ ns. Repeats ns → ⊥) (new_both.0 ∙ shared-more shared s.now.name.items is) new_both.1);
+    both_apart = simp filter_map-append (subst (λ ns. HasDuplicate ns → ⊥) (new_both.0 ∙ shared-more shared s.now.name.items is) new_both.1);
   }
   set-added s shared own is is_own both new_both new false added =
-      inr (sets-repeat (items ++ tree.set (set_tree s.now) ∷ []) (simp filter_map-append (named-twice set_tree (λ s. s.name) _ _ _ held.sets s own is_own added.1)))
+      inr (sets-repeat (items ++ tree.set (set_tree s.now) ∷ []) (simp filter_map-append (named-duplicate set_tree (λ s. s.name) _ _ _ held.sets s own is_own added.1)))
 
-  pub map-added : (m : Bor MapDecl) (shared own : Text) → shared ≡ m.now.name.items → own ≡ m.now.name.items → (both : List Text) → IsAdded old.sets_and_maps shared both true → (new : Named MapDecl) (fresh : Bool) → (new.all.items ≡ old.maps.all.items ++ m ∷ []) × IsAdded old.maps.names own new.names fresh → HoldsOrRepeats (items ++ tree.map_item (map_tree m.now) ∷ []) (record old { maps = new; sets_and_maps = both }) fresh
+  pub map-added : (m : Bor MapDecl) (shared own : Text) → shared ≡ m.now.name.items → own ≡ m.now.name.items → (both : List Text) → IsAdded old.sets_and_maps shared both true → (new : Named MapDecl) (fresh : Bool) → (new.all.items ≡ old.maps.all.items ++ m ∷ []) × IsAdded old.maps.names own new.names fresh → RepresentsOrHasDuplicate (items ++ tree.map_item (map_tree m.now) ∷ []) (record old { maps = new; sets_and_maps = both }) fresh
   map-added m shared own is is_own both new_both new true added = record {
     chains = simp (filter_map-append, append-nil) held.chains;
     sets = simp (filter_map-append, append-nil) held.sets;
     maps = simp filter_map-append (named-more map_tree (λ m. m.name) _ _ _ held.maps m own is_own new.all.items new.names added.0 added.1);
     both = simp filter_map-append (new_both.0 ∙ shared-more shared m.now.name.items is);
-    both_apart = simp filter_map-append (subst (λ ns. Repeats ns → ⊥) (new_both.0 ∙ shared-more shared m.now.name.items is) new_both.1);
+    both_apart = simp filter_map-append (subst (λ ns. HasDuplicate ns → ⊥) (new_both.0 ∙ shared-more shared m.now.name.items is) new_both.1);
   }
   map-added m shared own is is_own both new_both new false added =
-      inr (maps-repeat (items ++ tree.map_item (map_tree m.now) ∷ []) (simp filter_map-append (named-twice map_tree (λ m. m.name) _ _ _ held.maps m own is_own added.1)))
+      inr (maps-repeat (items ++ tree.map_item (map_tree m.now) ∷ []) (simp filter_map-append (named-duplicate map_tree (λ m. m.name) _ _ _ held.maps m own is_own added.1)))
 
 -- of a table that is read in text order
 module _ (items : List Item) (i : ℕ) (x : Item) (inside : i < length items) (is : x ≡ get_or items i x) (n : NamedItems) (fresh : Bool) where
-  pub item-held : fresh ≡ true → HoldsOrRepeats (map item_tree (take i items) ++ item_tree x ∷ []) n fresh → Holds (map item_tree (take (i + 1) items)) n
-  item-held t h = subst (λ xs. Holds xs n) (sym (map-more item_tree items i x inside is)) (subst (HoldsOrRepeats (map item_tree (take i items) ++ item_tree x ∷ []) n) t h)
+  pub item-held : fresh ≡ true → RepresentsOrHasDuplicate (map item_tree (take i items) ++ item_tree x ∷ []) n fresh → Represents (map item_tree (take (i + 1) items)) n
+  item-held t h = subst (λ xs. Represents xs n) (sym (map-more item_tree items i x inside is)) (subst (RepresentsOrHasDuplicate (map item_tree (take i items) ++ item_tree x ∷ []) n) t h)
 
-  pub item-twice : fresh ≡ false → HoldsOrRepeats (map item_tree (take i items) ++ item_tree x ∷ []) n fresh → RepeatsIn (map item_tree items)
-  item-twice f h =
-      subst RepeatsIn (map-around item_tree items i x inside is)
-      (repeats-in-on (map item_tree (take i items) ++ item_tree x ∷ []) (map item_tree (drop (i + 1) items)) (subst (HoldsOrRepeats (map item_tree (take i items) ++ item_tree x ∷ []) n) f h))
+  pub item-duplicate : fresh ≡ false → RepresentsOrHasDuplicate (map item_tree (take i items) ++ item_tree x ∷ []) n fresh → HasDuplicateIn (map item_tree items)
+  item-duplicate f h =
+      subst HasDuplicateIn (map-around item_tree items i x inside is)
+      (repeats-in-on (map item_tree (take i items) ++ item_tree x ∷ []) (map item_tree (drop (i + 1) items)) (subst (RepresentsOrHasDuplicate (map item_tree (take i items) ++ item_tree x ∷ []) n) f h))

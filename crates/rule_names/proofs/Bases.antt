@@ -8,8 +8,8 @@ use Rattle.std.specs.Cmp.Lexicographic.{same_text}
 use Rattle.std.proofs.lemmas.Bool.{or_cases, false_from_ne_true}
 use Rattle.std.proofs.Math.Bool.{or-false}
 use Rattle.nft_tree.specs.Tree.{Text, ChainTree}
-use Rattle.rule_names.specs.Names.{Repeats}
-use Rattle.rule_names.proofs.Twice.{Among, among-more, repeats-here, repeats-more}
+use Rattle.rule_names.specs.Names.{HasDuplicate}
+use Rattle.rule_names.proofs.Duplicates.{Among, among-more, repeats-here, repeats-more}
 use Rattle.rule_names.proofs.Places.{first_named}
 
 -- the chain is a base chain
@@ -29,7 +29,7 @@ abbrev pub names : List ChainTree → List Text
 names cs = map (λ c. c.name) cs
 
 pub base-among-here : (c : ChainTree) (cs : List ChainTree) (name : Text) → c.name ≡ name → Among (names (c ∷ cs)) name
-base-among-here c cs name e = record { place = 0; within = omega arith; is = e }
+base-among-here c cs name e = record { index = 0; within = omega arith; is = e }
 
 pub base-among : (cs : List ChainTree) (name : Text) → list_any (base_named name) cs ≡ true → Among (names cs) name
 base-among [] name t = cc
@@ -43,7 +43,7 @@ base-step true c rest o e f = ap (λ r. is_some c.head || r) (f refl) ∙ or-fal
 base-step false c rest o e f = e
 
 -- where no name stands twice, a base chain has the name if the chain of that name is one
-pub any-base : (cs : List ChainTree) (name : Text) → (Repeats (names cs) → ⊥) → list_any (base_named name) cs ≡ is_base (first_named (λ c. c.name) name cs)
+pub any-base : (cs : List ChainTree) (name : Text) → (HasDuplicate (names cs) → ⊥) → list_any (base_named name) cs ≡ is_base (first_named (λ c. c.name) name cs)
 any-base [] name apart = refl
 any-base (c ∷ cs) name apart =
     base-step (bytes_eq c.name name) c (list_any (base_named name) cs) (first_named (λ c. c.name) name cs)

@@ -3,9 +3,9 @@ use Rattle.std.proofs.Common.{List, [], ◌∷◌, map, sym, subst, ⊎_elim}
 use Rattle.std.specs.List.{filter_map}
 use Rattle.nft_tree.specs.Tree as tree
 use Rattle.nft_tree.specs.Tree.{Text, ItemTree}
-use Rattle.nft_tree.specs.Parts.{set_in, map_in}
-use Rattle.rule_names.specs.Names.{Repeats, set_or_map_name}
-use Rattle.rule_names.proofs.Twice.{Among, among-here, among-more, among-split, repeats-here, repeats-more, repeats-split}
+use Rattle.nft_tree.specs.TableItems.{set_in, map_in}
+use Rattle.rule_names.specs.Names.{HasDuplicate, set_or_map_name}
+use Rattle.rule_names.proofs.Duplicates.{Among, among-here, among-more, among-split, repeats-here, repeats-more, repeats-split}
 
 -- the names of sets, of maps and of both among these items
 abbrev pub of_sets : List ItemTree → List Text
@@ -23,7 +23,7 @@ among-same n small large name more a = ⊎_elim
     (λ r. among-more n large name (more r))
     (among-split n small name a)
 
-pub repeats-same : (n : Text) (small large : List Text) → (Among small n → Among large n) → (Repeats small → Repeats large) → Repeats (n ∷ small) → Repeats (n ∷ large)
+pub repeats-same : (n : Text) (small large : List Text) → (Among small n → Among large n) → (HasDuplicate small → HasDuplicate large) → HasDuplicate (n ∷ small) → HasDuplicate (n ∷ large)
 repeats-same n small large among more r = ⊎_elim
     (λ a. repeats-here n large (among a))
     (λ s. repeats-more n large (more s))
@@ -43,14 +43,14 @@ maps-among (tree.chain c ∷ rest) name a = maps-among rest name a
 maps-among (tree.set s ∷ rest) name a = among-more s.name (of_both rest) name (maps-among rest name a)
 maps-among (tree.map_item m ∷ rest) name a = among-same m.name (of_maps rest) (of_both rest) name (maps-among rest name) a
 
-pub sets-repeat : (items : List ItemTree) → Repeats (of_sets items) → Repeats (of_both items)
+pub sets-repeat : (items : List ItemTree) → HasDuplicate (of_sets items) → HasDuplicate (of_both items)
 sets-repeat [] r = r
 sets-repeat (tree.comment text ∷ rest) r = sets-repeat rest r
 sets-repeat (tree.chain c ∷ rest) r = sets-repeat rest r
 sets-repeat (tree.set s ∷ rest) r = repeats-same s.name (of_sets rest) (of_both rest) (sets-among rest s.name) (sets-repeat rest) r
 sets-repeat (tree.map_item m ∷ rest) r = repeats-more m.name (of_both rest) (sets-repeat rest r)
 
-pub maps-repeat : (items : List ItemTree) → Repeats (of_maps items) → Repeats (of_both items)
+pub maps-repeat : (items : List ItemTree) → HasDuplicate (of_maps items) → HasDuplicate (of_both items)
 maps-repeat [] r = r
 maps-repeat (tree.comment text ∷ rest) r = maps-repeat rest r
 maps-repeat (tree.chain c ∷ rest) r = maps-repeat rest r

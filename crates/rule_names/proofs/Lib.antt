@@ -1,5 +1,5 @@
 pub mod Texts
-pub mod Twice
+pub mod Duplicates
 pub mod Lists
 pub mod Places
 pub mod Items
@@ -7,4 +7,4 @@ pub mod Additions
 pub mod Bases
 pub mod Tests
 pub mod Tables
-pub mod DecidedNames
+pub mod DecidableNames

@@ -7,18 +7,18 @@ use Rattle.std.specs.Option.{option_map, option_copied}
 use Rattle.std.specs.Str.{bytes_eq}
 use Rattle.std.proofs.lemmas.Option.{slice_get-map, slice_get_past, slice_get_read}
 use Rattle.nft_tree.specs.Tree.{Text}
-use Rattle.rule_names.specs.Names.{place_in}
-use Rattle.rule_names.specs.steps.Index.{at_place}
+use Rattle.rule_names.specs.Names.{index_in}
+use Rattle.rule_names.specs.steps.Index.{at_index}
 use Rattle.rule_names.proofs.Texts.{text-sym}
 
-pub at-place-more : {X : Type 0} (b : Bool) (x : X) (xs : List X) (o : Option ℕ) → cond b (Some x) (at_place xs o) ≡ at_place (x ∷ xs) (cond b (Some 0) (option_map suc o))
-at-place-more true x xs o = refl
-at-place-more false x xs None = refl
-at-place-more false x xs (Some k) = refl
+pub at-index-more : {X : Type 0} (b : Bool) (x : X) (xs : List X) (o : Option ℕ) → cond b (Some x) (at_index xs o) ≡ at_index (x ∷ xs) (cond b (Some 0) (option_map suc o))
+at-index-more true x xs o = refl
+at-index-more false x xs None = refl
+at-index-more false x xs (Some k) = refl
 
-pub at-place-map : {A X : Type 0} (view : A → X) (found : List A) (o : Option ℕ) → option_map view (at_place found o) ≡ at_place (map view found) o
-at-place-map view found None = refl
-at-place-map view found (Some i) = sym (slice_get-map view found i)
+pub at-index-map : {A X : Type 0} (view : A → X) (found : List A) (o : Option ℕ) → option_map view (at_index found o) ≡ at_index (map view found) o
+at-index-map view found None = refl
+at-index-map view found (Some i) = sym (slice_get-map view found i)
 
 pub is-some-more : {X : Type 0} (b : Bool) (x : X) (o : Option X) → (b || is_some o) ≡ is_some (cond b (Some x) o)
 is-some-more true x o = refl
@@ -29,9 +29,9 @@ module _ {X : Type 0} (name_of : X → Text) (name : Text) where
   abbrev pub first_named : List X → Option X
   first_named xs = find (λ x. bytes_eq (name_of x) name) xs
 
-  pub find-place : (xs : List X) → first_named xs ≡ at_place xs (place_in name (map name_of xs))
-  find-place [] = refl
-  find-place (x ∷ xs) = ap (λ o. cond (bytes_eq (name_of x) name) (Some x) o) (find-place xs) ∙ at-place-more (bytes_eq (name_of x) name) x xs (place_in name (map name_of xs))
+  pub find-index : (xs : List X) → first_named xs ≡ at_index xs (index_in name (map name_of xs))
+  find-index [] = refl
+  find-index (x ∷ xs) = ap (λ o. cond (bytes_eq (name_of x) name) (Some x) o) (find-index xs) ∙ at-index-more (bytes_eq (name_of x) name) x xs (index_in name (map name_of xs))
 
   pub any-found : (xs : List X) → list_any (bytes_eq name) (map name_of xs) ≡ is_some (first_named xs)
   any-found [] = refl
@@ -41,9 +41,9 @@ module _ {X : Type 0} (name_of : X → Text) (name : Text) where
       ∙ is-some-more (bytes_eq (name_of x) name) x (first_named xs)
 
   -- what stands at the place of a name
-  pub looked : {A : Type 0} (view : A → X) (found : List A) (names : List Text) (xs : List X) → map view found ≡ xs → names ≡ map name_of xs → option_map view (at_place found (place_in name names)) ≡ first_named xs
+  pub looked : {A : Type 0} (view : A → X) (found : List A) (names : List Text) (xs : List X) → map view found ≡ xs → names ≡ map name_of xs → option_map view (at_index found (index_in name names)) ≡ first_named xs
   looked view found names xs are named =
-      at-place-map view found (place_in name names) ∙ ap₂ at_place are (ap (place_in name) named) ∙ sym (find-place xs)
+      at-index-map view found (index_in name names) ∙ ap₂ at_index are (ap (index_in name) named) ∙ sym (find-index xs)
 
 -- what `get` gives
 pub read-copied : {A : Type 0} (H : Bor A → Type 0) (xs : List A) (i : ℕ) (r : Option (Bor A)) → IfSome r (λ x. x.now ≡ get_or xs i x.now) → MatchOption r (length xs ≤ i) (λ x. (i < length xs) × H x) → option_copied r ≡ slice_get xs i

@@ -10,10 +10,10 @@ use Rattle.nft_tree.specs.declared.ruleset.Family.{Family}
 use Rattle.nft_tree.specs.declared.ruleset.Family.TheVariants as families
 use Rattle.nft_tree.specs.declared.ruleset.Table.{Table}
 use Rattle.nft_tree.specs.Tree.{TableTree, table_tree}
-use Rattle.rule_names.specs.Names.{NameTwice, two_tables, two_chains, two_sets_or_maps, Repeats, same_family, table_names}
-use Rattle.rule_names.specs.steps.Table.{IsApart, SomeRepeats}
+use Rattle.rule_names.specs.Names.{DuplicateName, two_tables, two_chains, two_sets_or_maps, HasDuplicate, same_family, table_names}
+use Rattle.rule_names.specs.steps.Table.{HasUniqueNames, SomeTableHasDuplicate}
 use Rattle.rule_names.proofs.Lists.{map-around}
-use Rattle.rule_names.proofs.Twice.{repeats-on}
+use Rattle.rule_names.proofs.Duplicates.{repeats-on}
 
 pub is-not-true : (b : Bool) → b ≡ false → IsTrue b → ⊥
 is-not-true b e h = let q : true ≡ false = sym h ∙ e in cc
@@ -40,21 +40,21 @@ module _ (family : Family) (tables : List Table) (i : ℕ) (x : Table) (inside :
   pub names-same : same_family x.family family ≡ false → table_names family (map table_tree (take (i + 1) tables)) ≡ table_names family (map table_tree (take i tables))
   names-same e = more ∙ ap (λ b. table_names family (map table_tree (take i tables)) ++ map (λ t. t.name) (cond b (table_tree x ∷ []) [])) e ∙ append-nil (table_names family (map table_tree (take i tables)))
 
-  pub names-twice : Repeats (table_names family (map table_tree (take (i + 1) tables))) → Repeats (table_names family (map table_tree tables))
-  names-twice r =
-      subst Repeats (sym (names-append family (map table_tree (take (i + 1) tables)) (map table_tree (drop (i + 1) tables))) ∙ ap (table_names family) (ap (λ ts. ts ++ map table_tree (drop (i + 1) tables)) (map-more table_tree tables i x inside is) ∙ map-around table_tree tables i x inside is))
+  pub names-duplicate : HasDuplicate (table_names family (map table_tree (take (i + 1) tables))) → HasDuplicate (table_names family (map table_tree tables))
+  names-duplicate r =
+      subst HasDuplicate (sym (names-append family (map table_tree (take (i + 1) tables)) (map table_tree (drop (i + 1) tables))) ∙ ap (table_names family) (ap (λ ts. ts ++ map table_tree (drop (i + 1) tables)) (map-more table_tree tables i x inside is) ∙ map-around table_tree tables i x inside is))
       (repeats-on (table_names family (map table_tree (take (i + 1) tables))) (table_names family (map table_tree (drop (i + 1) tables))) r)
 
 -- ---- all tables
 
-pub some-twice : (tables : List TableTree) → SomeRepeats tables → NameTwice tables
-some-twice tables s = ⊎_elim (λ r. two_chains s.table s.stands r) (λ r. two_sets_or_maps s.table s.stands r) s.twice
+pub some-duplicate : (tables : List TableTree) → SomeTableHasDuplicate tables → DuplicateName tables
+some-duplicate tables s = ⊎_elim (λ r. two_chains s.table s.stands r) (λ r. two_sets_or_maps s.table s.stands r) s.duplicate
 
-pub none-twice : (tables : List TableTree) → (Repeats (table_names families.Ip tables) → ⊥) → (Repeats (table_names families.Inet tables) → ⊥) → All IsApart tables → NameTwice tables → ⊥
-none-twice tables ip inet all (two_tables families.Ip r) = ip r
-none-twice tables ip inet all (two_tables families.Inet r) = inet r
-none-twice tables ip inet all (two_chains t h r) = (All-contains IsApart tables t all h).chains_apart r
-none-twice tables ip inet all (two_sets_or_maps t h r) = (All-contains IsApart tables t all h).sets_and_maps_apart r
+pub none-duplicate : (tables : List TableTree) → (HasDuplicate (table_names families.Ip tables) → ⊥) → (HasDuplicate (table_names families.Inet tables) → ⊥) → All HasUniqueNames tables → DuplicateName tables → ⊥
+none-duplicate tables ip inet all (two_tables families.Ip r) = ip r
+none-duplicate tables ip inet all (two_tables families.Inet r) = inet r
+none-duplicate tables ip inet all (two_chains t h r) = (All-contains HasUniqueNames tables t all h).chains_apart r
+none-duplicate tables ip inet all (two_sets_or_maps t h r) = (All-contains HasUniqueNames tables t all h).sets_and_maps_apart r
 
 module _ {T E : Type 0} (P : Type 0) (Q : T → Type 0) where
   pub ok-none : (R : Type 0) (r : Result (Option T) E) → (P → R) → IfOk r (λ o. MatchOption o P Q) → IfOk r (λ o. MatchOption o R Q)

@@ -10,7 +10,7 @@ use Rattle.std.proofs.lemmas.Iterator.Adapters.{position_from-zero}
 use Rattle.list_laws.specs.Tests.{same-tests}
 use Rattle.list_laws.specs.Lists.{text-refl}
 use Rattle.nft_tree.specs.Tree.{Text}
-use Rattle.rule_names.specs.Names.{place_in}
+use Rattle.rule_names.specs.Names.{index_in}
 use Rattle.rule_names.specs.steps.Index.{texts}
 
 -- the key has this name
@@ -23,21 +23,21 @@ text-turn a b h = let e = same_text a b (sym h) in ap (λ x. bytes_eq b x) e ∙
 pub text-sym : (a b : Text) → bytes_eq a b ≡ bytes_eq b a
 text-sym a b = same-tests (bytes_eq a b) (bytes_eq b a) (text-turn a b) (text-turn b a)
 
-pub place-more : (b : Bool) (i : ℕ) (o : Option ℕ) → cond b (Some i) (option_map (λ k. k + (i + 1)) o) ≡ option_map (λ k. k + i) (cond b (Some 0) (option_map suc o))
-place-more true i o = ap Some (omega arith)
-place-more false i None = refl
-place-more false i (Some k) = ap Some (omega arith)
+pub index-more : (b : Bool) (i : ℕ) (o : Option ℕ) → cond b (Some i) (option_map (λ k. k + (i + 1)) o) ≡ option_map (λ k. k + i) (cond b (Some 0) (option_map suc o))
+index-more true i o = ap Some (omega arith)
+index-more false i None = refl
+index-more false i (Some k) = ap Some (omega arith)
 
-pub from-place : (name : Text) (keys : List (Bor Text)) (i : ℕ) → position_from (named name) i keys ≡ option_map (λ k. k + i) (place_in name (texts keys))
-from-place name [] i = refl
-from-place name (k ∷ ks) i =
-    ap (λ o. cond (named name k) (Some i) o) (from-place name ks (i + 1))
-    ∙ place-more (named name k) i (place_in name (texts ks))
-    ∙ ap (λ b. option_map (λ k. k + i) (cond b (Some 0) (option_map suc (place_in name (texts ks))))) (text-sym name k.now)
+pub from-index : (name : Text) (keys : List (Bor Text)) (i : ℕ) → position_from (named name) i keys ≡ option_map (λ k. k + i) (index_in name (texts keys))
+from-index name [] i = refl
+from-index name (k ∷ ks) i =
+    ap (λ o. cond (named name k) (Some i) o) (from-index name ks (i + 1))
+    ∙ index-more (named name k) i (index_in name (texts ks))
+    ∙ ap (λ b. option_map (λ k. k + i) (cond b (Some 0) (option_map suc (index_in name (texts ks))))) (text-sym name k.now)
 
 pub plus-none : (o : Option ℕ) → option_map (λ k. k + 0) o ≡ o
 plus-none None = refl
 plus-none (Some k) = ap Some (omega arith)
 
-pub position-place : (name : Text) (keys : List (Bor Text)) → position (named name) keys ≡ place_in name (texts keys)
-position-place name keys = position_from-zero (named name) keys ∙ from-place name keys 0 ∙ plus-none (place_in name (texts keys))
+pub position-index : (name : Text) (keys : List (Bor Text)) → position (named name) keys ≡ index_in name (texts keys)
+position-index name keys = position_from-zero (named name) keys ∙ from-index name keys 0 ∙ plus-none (index_in name (texts keys))

@@ -9,12 +9,12 @@ use Rattle.nft_tree.specs.declared.ruleset.Family.TheVariants as families
 use Rattle.nft_tree.specs.Tree as tree
 use Rattle.nft_tree.specs.Tree.{Text, VerdictTree, DataTree, PairTree, MapRefTree, SetRefTree, MatchTree, OperandTree}
 use Rattle.nft_tree.specs.Tree.{NatTree, Statement, RuleTree, ChainTree, SetTree, MapTree, ItemTree, TableTree}
-use Rattle.nft_tree.specs.Parts.{chains_of, sets_of, maps_of}
+use Rattle.nft_tree.specs.TableItems.{chains_of, sets_of, maps_of}
 
 -- ---- N01: names that stand twice
 
 -- two places of a list hold the same name
-pub record Repeats (names : List Text) : Type 0 where
+pub record HasDuplicate (names : List Text) : Type 0 where
   pub first : ℕ
   pub second : ℕ
   pub apart : first < second
@@ -52,10 +52,10 @@ abbrev pub set_and_map_names : TableTree → List Text
 set_and_map_names t = filter_map set_or_map_name t.items
 
 -- two tables of one family have one name; so have two chains of a table, or two sets or maps of a table
-pub data NameTwice (tables : List TableTree) : Type 0 where
-  two_tables : (family : Family) → Repeats (table_names family tables) → NameTwice tables
-  two_chains : (t : TableTree) → Contains tables t → Repeats (chain_names t) → NameTwice tables
-  two_sets_or_maps : (t : TableTree) → Contains tables t → Repeats (set_and_map_names t) → NameTwice tables
+pub data DuplicateName (tables : List TableTree) : Type 0 where
+  two_tables : (family : Family) → HasDuplicate (table_names family tables) → DuplicateName tables
+  two_chains : (t : TableTree) → Contains tables t → HasDuplicate (chain_names t) → DuplicateName tables
+  two_sets_or_maps : (t : TableTree) → Contains tables t → HasDuplicate (set_and_map_names t) → DuplicateName tables
 
 -- ---- what has a name
 
@@ -63,9 +63,9 @@ abbrev pub chain_named : TableTree → Text → Option ChainTree
 chain_named t name = find (λ c. bytes_eq c.name name) (chains_of t)
 
 -- the first place of a name in a list
-abbrev pub place_in : Text → List Text → Option ℕ
-place_in name [] = None
-place_in name (n ∷ ns) = cond (bytes_eq n name) (Some 0) (option_map suc (place_in name ns))
+abbrev pub index_in : Text → List Text → Option ℕ
+index_in name [] = None
+index_in name (n ∷ ns) = cond (bytes_eq n name) (Some 0) (option_map suc (index_in name ns))
 
 abbrev pub set_named : TableTree → Text → Option SetTree
 set_named t name = find (λ s. bytes_eq s.name name) (sets_of t)
@@ -102,8 +102,8 @@ abbrev pub statement_targets : Statement → List Text
 statement_targets (tree.verdict v) = one_or_none (target_of v)
 statement_targets (tree.verdict_map s m) = map_ref_targets m
 statement_targets (tree.set_mark f (tree.looked_up l)) = map_ref_targets l.map
-statement_targets (tree.nat (tree.source (tree.source_look l))) = map_ref_targets l.map
-statement_targets (tree.nat (tree.destination (tree.destination_look l))) = map_ref_targets l.map
+statement_targets (tree.nat (tree.source (tree.source_lookup l))) = map_ref_targets l.map
+statement_targets (tree.nat (tree.destination (tree.destination_lookup l))) = map_ref_targets l.map
 statement_targets _ = []
 
 abbrev pub rule_targets : RuleTree → List Text
@@ -124,16 +124,16 @@ abbrev pub targets_of : TableTree → List Text
 targets_of t = flat_map item_targets t.items
 
 -- N02: a jump or a goto to a name that is no chain of the table
-abbrev pub jumps_nowhere : TableTree → Bool
-jumps_nowhere t = list_any (λ name. not (is_some (chain_named t name))) (targets_of t)
+abbrev pub jumps_to_unknown_chain : TableTree → Bool
+jumps_to_unknown_chain t = list_any (λ name. not (is_some (chain_named t name))) (targets_of t)
 
 -- the name is that of a base chain
 abbrev pub is_base_chain : TableTree → Text → Bool
 is_base_chain t name = list_any (λ c. bytes_eq c.name name && is_some c.head) (chains_of t)
 
 -- N07: a jump or a goto to a base chain
-abbrev pub jumps_to_base : TableTree → Bool
-jumps_to_base t = list_any (is_base_chain t) (targets_of t)
+abbrev pub jumps_to_base_chain : TableTree → Bool
+jumps_to_base_chain t = list_any (is_base_chain t) (targets_of t)
 
 -- ---- sets and maps by their names
 
@@ -151,8 +151,8 @@ statement_references (tree.matching (tree.is_in ss set)) = set_ref_names set
 statement_references (tree.matching (tree.not_in ss set)) = set_ref_names set
 statement_references (tree.verdict_map s m) = map_ref_names m
 statement_references (tree.set_mark f (tree.looked_up l)) = map_ref_names l.map
-statement_references (tree.nat (tree.source (tree.source_look l))) = map_ref_names l.map
-statement_references (tree.nat (tree.destination (tree.destination_look l))) = map_ref_names l.map
+statement_references (tree.nat (tree.source (tree.source_lookup l))) = map_ref_names l.map
+statement_references (tree.nat (tree.destination (tree.destination_lookup l))) = map_ref_names l.map
 statement_references _ = []
 
 abbrev pub rule_references : RuleTree → List Text
@@ -169,5 +169,5 @@ abbrev pub is_set_or_map : TableTree → Text → Bool
 is_set_or_map t name = list_any (bytes_eq name) (set_and_map_names t)
 
 -- N03: a name behind `@` that is no set or map of the table
-abbrev pub refers_nowhere : TableTree → Bool
-refers_nowhere t = list_any (λ name. not (is_set_or_map t name)) (references_of t)
+abbrev pub refers_to_unknown_set : TableTree → Bool
+refers_to_unknown_set t = list_any (λ name. not (is_set_or_map t name)) (references_of t)

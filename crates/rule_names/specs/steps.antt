@@ -1,4 +1,4 @@
 -- What private functions give on the way: nothing that a public contract cites.
 pub mod Index
 pub mod Table
-pub mod Questions
+pub mod TargetTests

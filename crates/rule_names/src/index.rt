@@ -2,7 +2,7 @@
 ghost use Rattle.std.specs.Prelude.{◌≡◌, [], IfOk};
 ghost use Rattle.std.specs.List.{list_any};
 ghost use Rattle.std.specs.Str.{bytes_eq};
-ghost use Rattle.rule_names.specs.Names.{place_in};
+ghost use Rattle.rule_names.specs.Names.{index_in};
 ghost use Rattle.rule_names.specs.steps.Index.{IsAdded};
 
 use indexmap::IndexSet;
@@ -24,14 +24,14 @@ impl Drop for NameIndex<'_> {
 impl<'t> Model for NameIndex<'t> {
     ghost use Rattle.std.specs.Prelude.{List};
     ghost use Rattle.nft_tree.specs.Tree.{Text};
-    ghost use Rattle.rule_names.specs.Names.{Repeats};
+    ghost use Rattle.rule_names.specs.Names.{HasDuplicate};
     ghost use Rattle.rule_names.specs.steps.Index.{texts};
 
     ghost Value = { List Text };
 
     ghost view = { λ i. texts i.names.keys };
 
-    ghost invariant = { λ i. Repeats (texts i.names.keys) → ⊥ };
+    ghost invariant = { λ i. HasDuplicate (texts i.names.keys) → ⊥ };
 }
 
 impl<'t> NameIndex<'t> {
@@ -52,8 +52,8 @@ impl<'t> NameIndex<'t> {
     }
 
     /// The place of the name.
-    pub(crate) fn place(&self, name: &[u8]) -> Option<usize>
-        ensures { result ≡ place_in name.now self.now }
+    pub(crate) fn index(&self, name: &[u8]) -> Option<usize>
+        ensures { result ≡ index_in name.now self.now }
     {
         self.names.get_index_of(name)
     }

@@ -1,9 +1,9 @@
 //! Laws of names, each as the contract of a function that does nothing.
 ghost use Rattle.std.specs.Prelude.{◌⊎◌, List};
 ghost use Rattle.nft_tree.specs.Tree.{TableTree};
-ghost use Rattle.rule_names.specs.Names.{NameTwice};
+ghost use Rattle.rule_names.specs.Names.{DuplicateName};
 
 /// Of any tables it is decided whether a name stands twice.
-pub fn decided_names()
-    ensures { (tables : List TableTree) → NameTwice tables ⊎ (NameTwice tables → ⊥) }
+pub fn duplicate_names_decidable()
+    ensures { (tables : List TableTree) → DuplicateName tables ⊎ (DuplicateName tables → ⊥) }
 {}

@@ -7,7 +7,7 @@ mod references;
 mod table;
 mod targets;
 
-pub use laws::decided_names;
-pub use references::refers_nowhere;
+pub use laws::duplicate_names_decidable;
+pub use references::refers_to_unknown_set;
 pub use table::{TableNames, names_of};
-pub use targets::{jumps_nowhere, jumps_to_base};
+pub use targets::{jumps_to_base_chain, jumps_to_unknown_chain};

@@ -2,10 +2,10 @@
 ghost use Rattle.std.specs.Prelude.{◌≡◌, ◌↔◌, List, [], ◌∷◌, ◌++◌, All, IsTrue, is_some, map, IfOk, IfSome, MatchOption};
 ghost use Rattle.std.specs.Option.{option_map};
 ghost use Rattle.nft_tree.specs.Tree.{ItemTree, chain_tree, item_tree, map_tree, set_tree, table_tree, tables_of};
-ghost use Rattle.nft_tree.specs.Parts.{chains_of, maps_of, sets_of};
-ghost use Rattle.rule_names.specs.Names.{NameTwice, Repeats, chain_named, chain_names, is_base_chain, is_set_or_map, map_named, map_names, place_in, set_named, set_names, table_names};
-ghost use Rattle.rule_names.specs.steps.Index.{IsAdded, at_place};
-ghost use Rattle.rule_names.specs.steps.Table.{Holds, HoldsOrRepeats, IsApart, SomeRepeats, RepeatsIn};
+ghost use Rattle.nft_tree.specs.TableItems.{chains_of, maps_of, sets_of};
+ghost use Rattle.rule_names.specs.Names.{DuplicateName, HasDuplicate, chain_named, chain_names, is_base_chain, is_set_or_map, map_named, map_names, index_in, set_named, set_names, table_names};
+ghost use Rattle.rule_names.specs.steps.Index.{IsAdded, at_index};
+ghost use Rattle.rule_names.specs.steps.Table.{Represents, RepresentsOrHasDuplicate, HasUniqueNames, SomeTableHasDuplicate, HasDuplicateIn};
 
 use crate::index::NameIndex;
 use nft_tree::{Chain, Family, Item, MapDecl, Ruleset, SetDecl, Table};
@@ -41,10 +41,10 @@ impl<'t, T> Named<'t, T> {
 
     /// The item of that name.
     fn get(&self, name: &[u8]) -> Option<&'t T>
-        ensures { result ≡ at_place self.now.all.items (place_in name.now self.now.names) }
+        ensures { result ≡ at_index self.now.all.items (index_in name.now self.now.names) }
     {
-        let place = self.names.place(name)?;
-        self.all.get(place).copied()
+        let index = self.names.index(name)?;
+        self.all.get(index).copied()
     }
 }
 
@@ -70,7 +70,7 @@ impl Drop for NamedItems<'_> {
 
 impl<'t> NamedItems<'t> {
     fn new(alloc: Global) -> NamedItems<'t>
-        ensures { Holds [] result }
+        ensures { Represents [] result }
     {
         NamedItems {
             chains: Named::new(alloc),
@@ -82,7 +82,7 @@ impl<'t> NamedItems<'t> {
 
     /// Adds the item after the others; false where its name stands already.
     fn add(&mut self, item: &'t Item) -> Result<bool, AllocError>
-        ensures { (items : List ItemTree) → Holds items self.old → IfOk result (HoldsOrRepeats (items ++ item_tree item.now ∷ []) self.new) }
+        ensures { (items : List ItemTree) → Represents items self.old → IfOk result (RepresentsOrHasDuplicate (items ++ item_tree item.now ∷ []) self.new) }
     {
         match item {
             Item::Comment(_) => Ok(true),
@@ -112,20 +112,20 @@ pub struct TableNames<'t> {
 
 impl<'t> Model for TableNames<'t> {
     ghost use Rattle.nft_tree.specs.Tree.{TableTree, table_tree};
-    ghost use Rattle.rule_names.specs.steps.Table.{Holds};
+    ghost use Rattle.rule_names.specs.steps.Table.{Represents};
 
     ghost Value = { TableTree };
 
     ghost view = { λ n. table_tree n.table.now };
 
-    ghost invariant = { λ n. Holds (table_tree n.table.now).items n.items };
+    ghost invariant = { λ n. Represents (table_tree n.table.now).items n.items };
 }
 
 impl<'t> TableNames<'t> {
     /// The names of the table; `None` where one stands twice in it.
     fn new(alloc: Global, table: &'t Table) -> Result<Option<TableNames<'t>>, AllocError>
-        ensures is { IfOk result (λ o. MatchOption o (RepeatsIn (table_tree table.now).items) (λ names. names ≡ table_tree table.now)) }
-        ensures apart { IfOk result (λ o. IfSome o IsApart) }
+        ensures is { IfOk result (λ o. MatchOption o (HasDuplicateIn (table_tree table.now).items) (λ names. names ≡ table_tree table.now)) }
+        ensures apart { IfOk result (λ o. IfSome o HasUniqueNames) }
     {
         let mut items = NamedItems::new(alloc);
         for item in &table.items {
@@ -146,7 +146,7 @@ impl<'t> TableNames<'t> {
     /// The chains of the table, in text order.
     pub fn chains(&self) -> &[&'t Chain]
         ensures all { map (λ c. chain_tree c.now) result.now ≡ chains_of self.now }
-        ensures apart { Repeats (chain_names self.now) → ⊥ }
+        ensures apart { HasDuplicate (chain_names self.now) → ⊥ }
     {
         &self.items.chains.all
     }
@@ -154,7 +154,7 @@ impl<'t> TableNames<'t> {
     /// The sets of the table, in text order.
     pub fn sets(&self) -> &[&'t SetDecl]
         ensures all { map (λ s. set_tree s.now) result.now ≡ sets_of self.now }
-        ensures apart { Repeats (set_names self.now) → ⊥ }
+        ensures apart { HasDuplicate (set_names self.now) → ⊥ }
     {
         &self.items.sets.all
     }
@@ -162,30 +162,30 @@ impl<'t> TableNames<'t> {
     /// The maps of the table, in text order.
     pub fn maps(&self) -> &[&'t MapDecl]
         ensures all { map (λ m. map_tree m.now) result.now ≡ maps_of self.now }
-        ensures apart { Repeats (map_names self.now) → ⊥ }
+        ensures apart { HasDuplicate (map_names self.now) → ⊥ }
     {
         &self.items.maps.all
     }
 
     /// The place of the chain of that name among the table's chains, from 0.
-    pub fn chain_place(&self, name: &[u8]) -> Option<usize>
-        ensures { result ≡ place_in name.now (chain_names self.now) }
+    pub fn chain_index(&self, name: &[u8]) -> Option<usize>
+        ensures { result ≡ index_in name.now (chain_names self.now) }
     {
-        self.items.chains.names.place(name)
+        self.items.chains.names.index(name)
     }
 
     /// The place of the set of that name among the table's sets, from 0.
-    pub fn set_place(&self, name: &[u8]) -> Option<usize>
-        ensures { result ≡ place_in name.now (set_names self.now) }
+    pub fn set_index(&self, name: &[u8]) -> Option<usize>
+        ensures { result ≡ index_in name.now (set_names self.now) }
     {
-        self.items.sets.names.place(name)
+        self.items.sets.names.index(name)
     }
 
     /// The place of the map of that name among the table's maps, from 0.
-    pub fn map_place(&self, name: &[u8]) -> Option<usize>
-        ensures { result ≡ place_in name.now (map_names self.now) }
+    pub fn map_index(&self, name: &[u8]) -> Option<usize>
+        ensures { result ≡ index_in name.now (map_names self.now) }
     {
-        self.items.maps.names.place(name)
+        self.items.maps.names.index(name)
     }
 
     /// The set of that name.
@@ -205,7 +205,7 @@ impl<'t> TableNames<'t> {
     /// The chain of that name.
     fn chain(&self, name: &[u8]) -> Option<&'t Chain>
         ensures found { option_map (λ c. chain_tree c.now) result ≡ chain_named self.now name.now }
-        ensures apart { Repeats (chain_names self.now) → ⊥ }
+        ensures apart { HasDuplicate (chain_names self.now) → ⊥ }
     {
         self.items.chains.get(name)
     }
@@ -236,8 +236,8 @@ impl<'t> TableNames<'t> {
 }
 
 /// Whether two tables of the family have one name.
-fn is_table_twice(alloc: Global, tables: &[Table], family: Family) -> Result<bool, AllocError>
-    ensures { IfOk result (λ twice. IsTrue twice ↔ Repeats (table_names family (map table_tree tables.now))) }
+fn has_duplicate_table(alloc: Global, tables: &[Table], family: Family) -> Result<bool, AllocError>
+    ensures { IfOk result (λ duplicate. IsTrue duplicate ↔ HasDuplicate (table_names family (map table_tree tables.now))) }
 {
     let mut names = NameIndex::new(alloc);
     for table in tables {
@@ -255,8 +255,8 @@ fn names_in_each<'t>(
     alloc: Global,
     tables: &'t [Table],
 ) -> Result<Option<Vec<TableNames<'t>>>, AllocError>
-    ensures is { IfOk result (λ o. MatchOption o (SomeRepeats (map table_tree tables.now)) (λ names. names.items ≡ map table_tree tables.now)) }
-    ensures apart { IfOk result (λ o. IfSome o (λ names. All IsApart names.items)) }
+    ensures is { IfOk result (λ o. MatchOption o (SomeTableHasDuplicate (map table_tree tables.now)) (λ names. names.items ≡ map table_tree tables.now)) }
+    ensures apart { IfOk result (λ o. IfSome o (λ names. All HasUniqueNames names.items)) }
 {
     let mut names = Vec::with_capacity(alloc, tables.len())?;
     for table in tables {
@@ -274,13 +274,13 @@ pub fn names_of<'t>(
     alloc: Global,
     tree: &'t Ruleset,
 ) -> Result<Option<Vec<TableNames<'t>>>, AllocError>
-    ensures names { IfOk result (λ answer. MatchOption answer (NameTwice (tables_of tree.now)) (λ names. names.items ≡ tables_of tree.now)) }
-    ensures apart { IfOk result (λ answer. IfSome answer (λ _. NameTwice (tables_of tree.now) → ⊥)) }
+    ensures names { IfOk result (λ answer. MatchOption answer (DuplicateName (tables_of tree.now)) (λ names. names.items ≡ tables_of tree.now)) }
+    ensures apart { IfOk result (λ answer. IfSome answer (λ _. DuplicateName (tables_of tree.now) → ⊥)) }
 {
-    if is_table_twice(alloc, &tree.tables, Family::Ip)? {
+    if has_duplicate_table(alloc, &tree.tables, Family::Ip)? {
         return Ok(None);
     }
-    if is_table_twice(alloc, &tree.tables, Family::Inet)? {
+    if has_duplicate_table(alloc, &tree.tables, Family::Inet)? {
         return Ok(None);
     }
     names_in_each(alloc, &tree.tables)

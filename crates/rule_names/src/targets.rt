@@ -2,45 +2,45 @@
 ghost use Rattle.std.specs.Prelude.{◌≡◌, flat_map, map};
 ghost use Rattle.std.specs.List.{list_any};
 ghost use Rattle.nft_tree.specs.Tree.{item_tree, map_ref_tree, pair_tree, rule_tree, statement, verdict_tree};
-ghost use Rattle.rule_names.specs.Names.{data_target, item_targets, jumps_nowhere, jumps_to_base, map_ref_targets, one_or_none, pair_targets, rule_targets, statement_targets, target_of, targets_of};
-ghost use Rattle.rule_names.specs.steps.Questions.{answer};
+ghost use Rattle.rule_names.specs.Names.{data_target, item_targets, jumps_to_unknown_chain, jumps_to_base_chain, map_ref_targets, one_or_none, pair_targets, rule_targets, statement_targets, target_of, targets_of};
+ghost use Rattle.rule_names.specs.steps.TargetTests.{passes};
 
 use crate::table::TableNames;
 use nft_tree::{
-    Data, DestinationTarget, Item, Look, MapDecl, MapRef, Nat, Operand, Pair, Rule, SourceTarget,
-    Stmt, Verdict,
+    Data, DestinationTarget, Item, MapDecl, MapLookup, MapRef, Nat, Operand, Pair, Rule,
+    SourceTarget, Stmt, Verdict,
 };
 
 /// What is asked of each name that a table jumps or goes to.
 #[derive(Clone, Copy)]
-enum Question {
+enum TargetTest {
     /// Whether it is the name of no chain of the table.
     IsNoChain,
     /// Whether it is the name of a base chain.
-    IsBase,
+    IsBaseChain,
 }
 
-impl Question {
-    fn answer(self, names: &TableNames, name: &[u8]) -> bool
-        ensures { result ≡ answer self names.now name.now }
+impl TargetTest {
+    fn passes(self, names: &TableNames, name: &[u8]) -> bool
+        ensures { result ≡ passes self names.now name.now }
     {
         match self {
-            Question::IsNoChain => !names.has_chain(name),
-            Question::IsBase => names.has_base_chain(name),
+            TargetTest::IsNoChain => !names.has_chain(name),
+            TargetTest::IsBaseChain => names.has_base_chain(name),
         }
     }
 
     fn of_verdict(self, names: &TableNames, verdict: &Verdict) -> bool
-        ensures { result ≡ list_any (answer self names.now) (one_or_none (target_of (verdict_tree verdict.now))) }
+        ensures { result ≡ list_any (passes self names.now) (one_or_none (target_of (verdict_tree verdict.now))) }
     {
         match verdict {
-            Verdict::Jump(name) | Verdict::Goto(name) => self.answer(names, name),
+            Verdict::Jump(name) | Verdict::Goto(name) => self.passes(names, name),
             _ => false,
         }
     }
 
     fn of_pair(self, names: &TableNames, pair: &Pair) -> bool
-        ensures { result ≡ list_any (answer self names.now) (one_or_none (data_target (pair_tree pair.now).value)) }
+        ensures { result ≡ list_any (passes self names.now) (one_or_none (data_target (pair_tree pair.now).value)) }
     {
         match &pair.value {
             Data::Verdict(verdict) => self.of_verdict(names, verdict),
@@ -49,14 +49,14 @@ impl Question {
     }
 
     fn of_pairs(self, names: &TableNames, pairs: &[Pair]) -> bool
-        ensures { result ≡ list_any (answer self names.now) (pair_targets (map pair_tree pairs.now)) }
+        ensures { result ≡ list_any (passes self names.now) (pair_targets (map pair_tree pairs.now)) }
     {
         pairs.iter().any(|pair| self.of_pair(names, pair))
     }
 
     /// Of the data of a map without a name.
     fn of_map_ref(self, names: &TableNames, map: &MapRef) -> bool
-        ensures { result ≡ list_any (answer self names.now) (map_ref_targets (map_ref_tree map.now)) }
+        ensures { result ≡ list_any (passes self names.now) (map_ref_targets (map_ref_tree map.now)) }
     {
         match map {
             MapRef::Named(_) => false,
@@ -65,22 +65,22 @@ impl Question {
     }
 
     fn of_statement(self, names: &TableNames, stmt: &Stmt) -> bool
-        ensures { result ≡ list_any (answer self names.now) (statement_targets (statement stmt.now)) }
+        ensures { result ≡ list_any (passes self names.now) (statement_targets (statement stmt.now)) }
     {
         match stmt {
             Stmt::Verdict(verdict) => self.of_verdict(names, verdict),
             Stmt::VerdictMap(_, map)
-            | Stmt::SetMark(_, Operand::Look(Look { map, .. }))
+            | Stmt::SetMark(_, Operand::MapLookup(MapLookup { map, .. }))
             | Stmt::Nat(
-                Nat::Source(SourceTarget::Look(Look { map, .. }))
-                | Nat::Destination(DestinationTarget::Look(Look { map, .. })),
+                Nat::Source(SourceTarget::MapLookup(MapLookup { map, .. }))
+                | Nat::Destination(DestinationTarget::MapLookup(MapLookup { map, .. })),
             ) => self.of_map_ref(names, map),
             _ => false,
         }
     }
 
     fn of_rule(self, names: &TableNames, rule: &Rule) -> bool
-        ensures { result ≡ list_any (answer self names.now) (rule_targets (rule_tree rule.now)) }
+        ensures { result ≡ list_any (passes self names.now) (rule_targets (rule_tree rule.now)) }
     {
         rule.statements
             .iter()
@@ -88,14 +88,14 @@ impl Question {
     }
 
     fn of_rules(self, names: &TableNames, rules: &[Rule]) -> bool
-        ensures { result ≡ list_any (answer self names.now) (flat_map rule_targets (map rule_tree rules.now)) }
+        ensures { result ≡ list_any (passes self names.now) (flat_map rule_targets (map rule_tree rules.now)) }
     {
         rules.iter().any(|rule| self.of_rule(names, rule))
     }
 
     /// Of the rules of a chain, or of the data of a map, whether a rule uses it or not.
     fn of_item(self, names: &TableNames, item: &Item) -> bool
-        ensures { result ≡ list_any (answer self names.now) (item_targets (item_tree item.now)) }
+        ensures { result ≡ list_any (passes self names.now) (item_targets (item_tree item.now)) }
     {
         match item {
             Item::Chain(chain) => self.of_rules(names, &chain.rules),
@@ -110,7 +110,7 @@ impl Question {
     }
 
     fn of_table(self, names: &TableNames) -> bool
-        ensures { result ≡ list_any (answer self names.now) (targets_of names.now) }
+        ensures { result ≡ list_any (passes self names.now) (targets_of names.now) }
     {
         names
             .table()
@@ -122,17 +122,19 @@ impl Question {
 
 /// Whether a table jumps or goes to a name that is no chain of it, in a rule or in the data of a
 /// map.
-pub fn jumps_nowhere(names: &[TableNames]) -> bool
-    ensures { result ≡ list_any jumps_nowhere names.now }
+pub fn jumps_to_unknown_chain(names: &[TableNames]) -> bool
+    ensures { result ≡ list_any jumps_to_unknown_chain names.now }
 {
     names
         .iter()
-        .any(|table| Question::IsNoChain.of_table(table))
+        .any(|table| TargetTest::IsNoChain.of_table(table))
 }
 
 /// Whether a table jumps or goes to a base chain, in a rule or in the data of a map.
-pub fn jumps_to_base(names: &[TableNames]) -> bool
-    ensures { result ≡ list_any jumps_to_base names.now }
+pub fn jumps_to_base_chain(names: &[TableNames]) -> bool
+    ensures { result ≡ list_any jumps_to_base_chain names.now }
 {
-    names.iter().any(|table| Question::IsBase.of_table(table))
+    names
+        .iter()
+        .any(|table| TargetTest::IsBaseChain.of_table(table))
 }

@@ -12,13 +12,13 @@ use Rattle.nft_tree.specs.declared.selector.ValueType.TheVariants as value_types
 use Rattle.nft_tree.specs.declared.set.TypeOrVerdict.TheVariants as data_types
 use Rattle.nft_tree.specs.declared.set.MapType.TheVariants as map_types
 use Rattle.nft_tree.specs.Tree.{Text, ChainTree, MapTree, TableTree}
-use Rattle.nft_tree.specs.Parts.{chains_of, maps_of}
-use Rattle.rule_names.specs.Names.{Repeats, place_in, chain_names, map_names}
+use Rattle.nft_tree.specs.TableItems.{chains_of, maps_of}
+use Rattle.rule_names.specs.Names.{HasDuplicate, index_in, chain_names, map_names}
 use Rattle.chain_graph.specs.Graph.{chain}
 use Rattle.chain_graph.specs.Nodes.{node_at}
 use Rattle.rule_paths.specs.Paths.{Caller, a_chain, a_map, chain_node, map_node, node_of}
-use Rattle.rule_paths.specs.steps.Numbers.{numbered, IsEmptyNode, StandsFor}
-use Rattle.rule_paths.specs.steps.Index.{place_or, chain_count, map_count, index_of, chain_at, map_at, nothing_there, index_graph}
+use Rattle.rule_paths.specs.steps.Numbers.{numbered, IsEmptyNode, RepresentsNodes}
+use Rattle.rule_paths.specs.steps.Index.{index_or, chain_count, map_count, index_of, chain_at, map_at, missing_nodes, index_graph}
 
 -- ---- names
 
@@ -29,43 +29,43 @@ bool-cases false = inr refl
 module _ {A : Type 0} (name_of : A → Text) where
   -- what stands first under a name
   pub record Found (xs : List A) (name : Text) : Type 0 where
-    pub place : ℕ
+    pub index : ℕ
     pub item : A
-    pub within : place < length xs
-    pub is : get_or xs place item ≡ item
+    pub within : index < length xs
+    pub is : get_or xs index item ≡ item
     pub named : name_of item ≡ name
-    pub at : place_in name (map name_of xs) ≡ Some place
+    pub at : index_in name (map name_of xs) ≡ Some index
     pub finds : find (λ x. bytes_eq (name_of x) name) xs ≡ Some item
 
   pub record Missing (xs : List A) (name : Text) : Type 0 where
-    pub at : place_in name (map name_of xs) ≡ None
+    pub at : index_in name (map name_of xs) ≡ None
     pub finds : find (λ x. bytes_eq (name_of x) name) xs ≡ None
 
   pub found-first : (x : A) (xs : List A) (name : Text) → bytes_eq (name_of x) name ≡ true → Found (x ∷ xs) name
   found-first x xs name t = record {
-    place = zero;
+    index = zero;
     item = x;
     within = omega arith;
     is = refl;
     named = same_text (name_of x) name (sym t);
-    at = ap (λ b. cond b (Some zero) (option_map suc (place_in name (map name_of xs)))) t;
+    at = ap (λ b. cond b (Some zero) (option_map suc (index_in name (map name_of xs)))) t;
     finds = ap (λ b. cond b (Some x) (find (λ y. bytes_eq (name_of y) name) xs)) t;
   }
 
   pub found-later : (x : A) (xs : List A) (name : Text) → bytes_eq (name_of x) name ≡ false → Found xs name → Found (x ∷ xs) name
   found-later x xs name f r = let l = r.within in record {
-    place = suc r.place;
+    index = suc r.index;
     item = r.item;
     within = omega arith;
     is = r.is;
     named = r.named;
-    at = ap (λ b. cond b (Some zero) (option_map suc (place_in name (map name_of xs)))) f ∙ ap (option_map suc) r.at;
+    at = ap (λ b. cond b (Some zero) (option_map suc (index_in name (map name_of xs)))) f ∙ ap (option_map suc) r.at;
     finds = ap (λ b. cond b (Some x) (find (λ y. bytes_eq (name_of y) name) xs)) f ∙ r.finds;
   }
 
   pub missing-later : (x : A) (xs : List A) (name : Text) → bytes_eq (name_of x) name ≡ false → Missing xs name → Missing (x ∷ xs) name
   missing-later x xs name f r = record {
-    at = ap (λ b. cond b (Some zero) (option_map suc (place_in name (map name_of xs)))) f ∙ ap (option_map suc) r.at;
+    at = ap (λ b. cond b (Some zero) (option_map suc (index_in name (map name_of xs)))) f ∙ ap (option_map suc) r.at;
     finds = ap (λ b. cond b (Some x) (find (λ y. bytes_eq (name_of y) name) xs)) f ∙ r.finds;
   }
 
@@ -92,19 +92,19 @@ module _ {A : Type 0} (name_of : A → Text) where
       (bool-cases (bytes_eq (name_of y) name))
 
   -- where no name stands twice, each is at its own place
-  pub own-place : (xs : List A) → (Repeats (map name_of xs) → ⊥) → (i : ℕ) (x : A) → i < length xs → get_or xs i x ≡ x → place_in (name_of x) (map name_of xs) ≡ Some i
-  own-place xs apart i x h e =
+  pub own-index : (xs : List A) → (HasDuplicate (map name_of xs) → ⊥) → (i : ℕ) (x : A) → i < length xs → get_or xs i x ≡ x → index_in (name_of x) (map name_of xs) ≡ Some i
+  own-index xs apart i x h e =
       let r = found-at xs (name_of x) i x h e refl in
       let n = length-map xs name_of in
       let l = r.within in
-      let same : get_or (map name_of xs) r.place [] ≡ get_or (map name_of xs) i [] = name-at xs r.place r.item r.within r.is ∙ r.named ∙ sym (name-at xs i x h e) in
-      let is : r.place ≡ i = ⊎_elim
-      (λ l. absurd (apart (record { first = r.place; second = i; apart = l; within = omega arith; same = same })))
+      let same : get_or (map name_of xs) r.index [] ≡ get_or (map name_of xs) i [] = name-at xs r.index r.item r.within r.is ∙ r.named ∙ sym (name-at xs i x h e) in
+      let is : r.index ≡ i = ⊎_elim
+      (λ l. absurd (apart (record { first = r.index; second = i; apart = l; within = omega arith; same = same })))
       (λ l. ⊎_elim
-      (λ m. absurd (apart (record { first = i; second = r.place; apart = m; within = omega arith; same = sym same })))
+      (λ m. absurd (apart (record { first = i; second = r.index; apart = m; within = omega arith; same = sym same })))
       (λ m. omega (arith, l, m))
-      (cases_lt i r.place))
-      (cases_lt r.place i) in
+      (cases_lt i r.index))
+      (cases_lt r.index i) in
       r.at ∙ ap Some is
 
 -- ---- the graph
@@ -115,7 +115,7 @@ no-chain = record { name = []; notes = []; head = None; rules = [] }
 pub no-map : MapTree
 no-map = record { name = []; types = map_types.Types value_types.Address data_types.Verdict; flags = None; size = None; auto_merge = false; comment = None; elements = None }
 
-pub nothing-there : (k : ℕ) → IsEmptyNode (get_or nothing_there k (chain []))
+pub nothing-there : (k : ℕ) → IsEmptyNode (get_or missing_nodes k (chain []))
 nothing-there zero = refl
 nothing-there (suc zero) = refl
 nothing-there (suc (suc k)) = refl
@@ -124,35 +124,35 @@ module _ (t : TableTree) where
   pub graph-chain : (i : ℕ) (c : ChainTree) → i < chain_count t → get_or (chains_of t) i c ≡ c → node_at (index_graph t) i ≡ chain_at t c
   graph-chain i c h e =
       let n = length-map (chains_of t) (chain_at t) in
-      get_or_append_left (map (chain_at t) (chains_of t)) (map (map_at t) (maps_of t) ++ nothing_there) (chain []) i (omega arith)
+      get_or_append_left (map (chain_at t) (chains_of t)) (map (map_at t) (maps_of t) ++ missing_nodes) (chain []) i (omega arith)
       ∙ get_or_default (map (chain_at t) (chains_of t)) i (chain []) (chain_at t c) (omega arith)
       ∙ get_or-map (chain_at t) (chains_of t) i c ∙ ap (chain_at t) e
 
-  pub graph-rest : (k : ℕ) → node_at (index_graph t) (chain_count t + k) ≡ get_or (map (map_at t) (maps_of t) ++ nothing_there) k (chain [])
+  pub graph-rest : (k : ℕ) → node_at (index_graph t) (chain_count t + k) ≡ get_or (map (map_at t) (maps_of t) ++ missing_nodes) k (chain [])
   graph-rest k =
       ap (λ n. node_at (index_graph t) (n + k)) (sym (length-map (chains_of t) (chain_at t)))
-      ∙ get_or-append-add (map (chain_at t) (chains_of t)) (map (map_at t) (maps_of t) ++ nothing_there) k (chain [])
+      ∙ get_or-append-add (map (chain_at t) (chains_of t)) (map (map_at t) (maps_of t) ++ missing_nodes) k (chain [])
 
   pub graph-map : (i : ℕ) (m : MapTree) → i < map_count t → get_or (maps_of t) i m ≡ m → node_at (index_graph t) (chain_count t + i) ≡ map_at t m
   graph-map i m h e =
       let n = length-map (maps_of t) (map_at t) in
       graph-rest i
-      ∙ get_or_append_left (map (map_at t) (maps_of t)) nothing_there (chain []) i (omega arith)
+      ∙ get_or_append_left (map (map_at t) (maps_of t)) missing_nodes (chain []) i (omega arith)
       ∙ get_or_default (map (map_at t) (maps_of t)) i (chain []) (map_at t m) (omega arith)
       ∙ get_or-map (map_at t) (maps_of t) i m ∙ ap (map_at t) e
 
-  pub graph-none : (k : ℕ) → node_at (index_graph t) (chain_count t + (map_count t + k)) ≡ get_or nothing_there k (chain [])
+  pub graph-none : (k : ℕ) → node_at (index_graph t) (chain_count t + (map_count t + k)) ≡ get_or missing_nodes k (chain [])
   graph-none k =
       graph-rest (map_count t + k)
-      ∙ ap (λ n. get_or (map (map_at t) (maps_of t) ++ nothing_there) (n + k) (chain [])) (sym (length-map (maps_of t) (map_at t)))
-      ∙ get_or-append-add (map (map_at t) (maps_of t)) nothing_there k (chain [])
+      ∙ ap (λ n. get_or (map (map_at t) (maps_of t) ++ missing_nodes) (n + k) (chain [])) (sym (length-map (maps_of t) (map_at t)))
+      ∙ get_or-append-add (map (map_at t) (maps_of t)) missing_nodes k (chain [])
 
   pub graph-long : length (index_graph t) ≡ chain_count t + map_count t + 2
   graph-long =
       let n = length-map (chains_of t) (chain_at t) in
       let m = length-map (maps_of t) (map_at t) in
-      let l = length-append (map (chain_at t) (chains_of t)) (map (map_at t) (maps_of t) ++ nothing_there) in
-      let k = length-append (map (map_at t) (maps_of t)) nothing_there in
+      let l = length-append (map (chain_at t) (chains_of t)) (map (map_at t) (maps_of t) ++ missing_nodes) in
+      let k = length-append (map (map_at t) (maps_of t)) missing_nodes in
       omega arith
 
   -- ---- names to numbers
@@ -163,17 +163,17 @@ module _ (t : TableTree) where
   abbrev pub FoundMap : Text → Type 0
   FoundMap name = Found (λ (m : MapTree). m.name) (maps_of t) name
 
-  pub chain-found : (name : Text) (r : FoundChain name) → index_of t (a_chain name) ≡ r.place
-  chain-found name r = ap (place_or 0 (chain_count t + map_count t)) r.at ∙ omega arith
+  pub chain-found : (name : Text) (r : FoundChain name) → index_of t (a_chain name) ≡ r.index
+  chain-found name r = ap (index_or 0 (chain_count t + map_count t)) r.at ∙ omega arith
 
-  pub chain-missing : (name : Text) → place_in name (chain_names t) ≡ None → index_of t (a_chain name) ≡ chain_count t + map_count t
-  chain-missing name e = ap (place_or 0 (chain_count t + map_count t)) e
+  pub chain-missing : (name : Text) → index_in name (chain_names t) ≡ None → index_of t (a_chain name) ≡ chain_count t + map_count t
+  chain-missing name e = ap (index_or 0 (chain_count t + map_count t)) e
 
-  pub map-found : (name : Text) (r : FoundMap name) → index_of t (a_map name) ≡ chain_count t + r.place
-  map-found name r = ap (place_or (chain_count t) (chain_count t + map_count t + 1)) r.at
+  pub map-found : (name : Text) (r : FoundMap name) → index_of t (a_map name) ≡ chain_count t + r.index
+  map-found name r = ap (index_or (chain_count t) (chain_count t + map_count t + 1)) r.at
 
-  pub map-missing : (name : Text) → place_in name (map_names t) ≡ None → index_of t (a_map name) ≡ chain_count t + map_count t + 1
-  map-missing name e = ap (place_or (chain_count t) (chain_count t + map_count t + 1)) e
+  pub map-missing : (name : Text) → index_in name (map_names t) ≡ None → index_of t (a_map name) ≡ chain_count t + map_count t + 1
+  map-missing name e = ap (index_or (chain_count t) (chain_count t + map_count t + 1)) e
 
   pub look-chain : (name : Text) → FoundChain name ⊎ Missing (λ (c : ChainTree). c.name) (chains_of t) name
   look-chain name = look (λ (c : ChainTree). c.name) (chains_of t) name
@@ -183,11 +183,11 @@ module _ (t : TableTree) where
 
   pub node-of : (a : Caller) → node_at (index_graph t) (index_of t a) ≡ numbered (index_of t) (node_of t a)
   node-of (a_chain name) = ⊎_elim
-      (λ r. ap (node_at (index_graph t)) (chain-found name r) ∙ graph-chain r.place r.item r.within r.is ∙ ap (λ o. numbered (index_of t) (chain_node o)) (sym r.finds))
+      (λ r. ap (node_at (index_graph t)) (chain-found name r) ∙ graph-chain r.index r.item r.within r.is ∙ ap (λ o. numbered (index_of t) (chain_node o)) (sym r.finds))
       (λ r. ap (node_at (index_graph t)) (chain-missing name r.at ∙ omega arith) ∙ graph-none 0 ∙ ap (λ o. numbered (index_of t) (chain_node o)) (sym r.finds))
       (look-chain name)
   node-of (a_map name) = ⊎_elim
-      (λ r. ap (node_at (index_graph t)) (map-found name r) ∙ graph-map r.place r.item r.within r.is ∙ ap (λ o. numbered (index_of t) (map_node o)) (sym r.finds))
+      (λ r. ap (node_at (index_graph t)) (map-found name r) ∙ graph-map r.index r.item r.within r.is ∙ ap (λ o. numbered (index_of t) (map_node o)) (sym r.finds))
       (λ r. ap (node_at (index_graph t)) (map-missing name r.at ∙ omega arith) ∙ graph-none 1 ∙ ap (λ o. numbered (index_of t) (map_node o)) (sym r.finds))
       (look-map name)
 
@@ -207,8 +207,8 @@ module _ (t : TableTree) where
   pub none-map : (name : Text) → Missing (λ (m : MapTree). m.name) (maps_of t) name → IsEmptyNode (node_of t (a_map name))
   none-map name r = subst (λ o. IsEmptyNode (map_node o)) (sym r.finds) refl
 
-  pub same-name : {A : Type 0} (name_of : A → Text) (xs : List A) (x y : Text) (r : Found name_of xs x) (q : Found name_of xs y) → r.place ≡ q.place → x ≡ y
-  same-name name_of xs x y r q e = sym r.named ∙ sym (name-at name_of xs r.place r.item r.within r.is) ∙ ap (λ k. get_or (map name_of xs) k []) e ∙ name-at name_of xs q.place q.item q.within q.is ∙ q.named
+  pub same-name : {A : Type 0} (name_of : A → Text) (xs : List A) (x y : Text) (r : Found name_of xs x) (q : Found name_of xs y) → r.index ≡ q.index → x ≡ y
+  same-name name_of xs x y r q e = sym r.named ∙ sym (name-at name_of xs r.index r.item r.within r.is) ∙ ap (λ k. get_or (map name_of xs) k []) e ∙ name-at name_of xs q.index q.item q.within q.is ∙ q.named
 
   pub apart : (a b : Caller) → index_of t a ≡ index_of t b → (a ≡ b) ⊎ IsEmptyNode (node_of t a)
   apart (a_chain x) (a_chain y) e = ⊎_elim
@@ -240,13 +240,13 @@ module _ (t : TableTree) where
       (λ r. inr (none-map x r))
       (look-map x)
 
-  module _ (chains_apart : Repeats (chain_names t) → ⊥) (maps_apart : Repeats (map_names t) → ⊥) where
+  module _ (chains_apart : HasDuplicate (chain_names t) → ⊥) (maps_apart : HasDuplicate (map_names t) → ⊥) where
     -- the place of a chain is its number
     pub chain-number : (i : ℕ) (c : ChainTree) → i < chain_count t → get_or (chains_of t) i c ≡ c → index_of t (a_chain c.name) ≡ i
-    chain-number i c h e = ap (place_or 0 (chain_count t + map_count t)) (own-place (λ (c : ChainTree). c.name) (chains_of t) chains_apart i c h e) ∙ omega arith
+    chain-number i c h e = ap (index_or 0 (chain_count t + map_count t)) (own-index (λ (c : ChainTree). c.name) (chains_of t) chains_apart i c h e) ∙ omega arith
 
     pub map-number : (i : ℕ) (m : MapTree) → i < map_count t → get_or (maps_of t) i m ≡ m → index_of t (a_map m.name) ≡ chain_count t + i
-    map-number i m h e = ap (place_or (chain_count t) (chain_count t + map_count t + 1)) (own-place (λ (m : MapTree). m.name) (maps_of t) maps_apart i m h e)
+    map-number i m h e = ap (index_or (chain_count t) (chain_count t + map_count t + 1)) (own-index (λ (m : MapTree). m.name) (maps_of t) maps_apart i m h e)
 
     pub back-rest : (k : ℕ) → ((a : Caller) × (index_of t a ≡ chain_count t + k)) ⊎ IsEmptyNode (node_at (index_graph t) (chain_count t + k))
     back-rest k = ⊎_elim
@@ -264,5 +264,5 @@ module _ (t : TableTree) where
         subst (λ k. ((a : Caller) × (index_of t a ≡ k)) ⊎ IsEmptyNode (node_at (index_graph t) k)) is (back-rest (i - chain_count t)))
         (cases_lt i (chain_count t))
 
-    pub stands : StandsFor (node_of t) (index_of t) (index_graph t)
+    pub stands : RepresentsNodes (node_of t) (index_of t) (index_graph t)
     stands = record { node = node-of; inside = inside; back = back; apart = apart }

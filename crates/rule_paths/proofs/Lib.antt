@@ -3,5 +3,5 @@ pub mod IndexLaws
 pub mod TableLaws
 pub mod ReadLaws
 pub mod RulesetLaws
-pub mod DecidedGraphs
-pub mod DecidedPaths
+pub mod DecidableGraphs
+pub mod DecidablePaths

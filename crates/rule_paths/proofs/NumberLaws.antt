@@ -2,20 +2,20 @@
 use Rattle.std.proofs.Common.{◌≡◌, ◌⊎◌, ℕ, ◌+◌, ◌≤◌, max, List, [], ◌∷◌, ◌++◌, Bool, true, false, length, get_or, map, sym, refl, ap, ap₂, subst, ◌∙◌, inl, inr, ⊎_elim, arith}
 use Rattle.std.specs.Prelude.{Contains, flat_map}
 use Rattle.std.proofs.lemmas.List.{map-append}
-use Rattle.chain_graph.specs.Graph.{Call, NodeTree, chain, verdict_map, itself, calls_in, IsPath, jumps, HasCycle, greatest, chain_cost, node_cost, Reaches}
+use Rattle.chain_graph.specs.Graph.{Call, NodeTree, chain, verdict_map, identity, calls_in, IsPath, jumps, HasCycle, greatest, chain_cost, node_cost, Reaches}
 use Rattle.chain_graph.specs.Nodes.{Graph, Calls, calls_of, node_at, InRange}
-use Rattle.chain_graph.specs.Known.{stopped, IsCost, IsDepth, LeadsOn}
+use Rattle.chain_graph.specs.Measures.{saturated, IsCost, IsDepth, ReachesMarked}
 use Rattle.list_laws.specs.Elements.{Contains-map, Contains-unmap}
-use Rattle.rule_paths.specs.steps.Numbers.{numbered_call, numbered, IsEmptyNode, StandsFor}
+use Rattle.rule_paths.specs.steps.Numbers.{numbered_call, numbered, IsEmptyNode, RepresentsNodes}
 
 -- ---- nodes
 
-pub map-flat : {X Y : Type 0} (f : X → Y) (xss : List (List X)) → map f (flat_map itself xss) ≡ flat_map itself (map (map f) xss)
+pub map-flat : {X Y : Type 0} (f : X → Y) (xss : List (List X)) → map f (flat_map identity xss) ≡ flat_map identity (map (map f) xss)
 map-flat f [] = refl
-map-flat f (xs ∷ xss) = map-append f xs (flat_map itself xss) ∙ ap (λ ys. map f xs ++ ys) (map-flat f xss)
+map-flat f (xs ∷ xss) = map-append f xs (flat_map identity xss) ∙ ap (λ ys. map f xs ++ ys) (map-flat f xss)
 
 pub empty-calls : {K : Type 0} (n : NodeTree K) → IsEmptyNode n → calls_in n ≡ []
-empty-calls (chain ss) e = ap (flat_map itself) e
+empty-calls (chain ss) e = ap (flat_map identity) e
 empty-calls (verdict_map es) e = e
 
 pub empty-cost : {K : Type 0} (f : K → ℕ) (n : NodeTree K) → IsEmptyNode n → node_cost f n ≡ 0
@@ -66,7 +66,7 @@ module _ {K : Type 0} (number : K → ℕ) where
 
 -- ---- paths
 
-module _ {K : Type 0} (nodes : K → NodeTree K) (number : K → ℕ) (g : Graph) (s : StandsFor nodes number g) where
+module _ {K : Type 0} (nodes : K → NodeTree K) (number : K → ℕ) (g : Graph) (s : RepresentsNodes nodes number g) where
   abbrev pub CallsIn : K → Call K → Type 0
   CallsIn a e = Contains (calls_in (nodes a)) e
 
@@ -123,7 +123,7 @@ module _ {K : Type 0} (nodes : K → NodeTree K) (number : K → ℕ) (g : Graph
 
   -- ---- depth
 
-  pub most-up : (a : K) (depth : ℕ) → IsDepth g (number a) depth → (b : K) (es : List (Call K)) → IsPath CallsIn a es b → stopped (jumps es) ≤ depth
+  pub most-up : (a : K) (depth : ℕ) → IsDepth g (number a) depth → (b : K) (es : List (Call K)) → IsPath CallsIn a es b → saturated (jumps es) ≤ depth
   most-up a depth d b es p =
       let most = d.most (number b) (map (numbered_call number) es) (path-down a es b p) in
       let same = jumps-numbered number es in
@@ -190,10 +190,10 @@ module _ {K : Type 0} (nodes : K → NodeTree K) (number : K → ℕ) (g : Graph
   -- ---- marks
 
   module _ (marked : List Bool) (has : K → Bool) (mark : (a : K) → get_or marked (number a) false ≡ has a) where
-    pub leads-down : (a : K) → Reaches CallsIn (λ b. has b ≡ true) a → LeadsOn g marked (number a)
-    leads-down a r = record { to = number r.to; along = map (numbered_call number) r.along; path = path-down a r.along r.to r.path; good = mark r.to ∙ r.good }
+    pub reaching-down : (a : K) → Reaches CallsIn (λ b. has b ≡ true) a → ReachesMarked g marked (number a)
+    reaching-down a r = record { to = number r.to; along = map (numbered_call number) r.along; path = path-down a r.along r.to r.path; good = mark r.to ∙ r.good }
 
-    pub leads-up : (a : K) → LeadsOn g marked (number a) → Reaches CallsIn (λ b. has b ≡ true) a
-    leads-up a l =
+    pub reaching-up : (a : K) → ReachesMarked g marked (number a) → Reaches CallsIn (λ b. has b ≡ true) a
+    reaching-up a l =
         let up = path-up a l.along l.to l.path in
         record { to = up.to; along = up.along; path = up.path; good = sym (mark up.to) ∙ ap (λ k. get_or marked k false) up.ends ∙ l.good }

@@ -12,15 +12,15 @@ use Rattle.std.proofs.lemmas.List.Sums.{sum_by_push}
 use Rattle.nft_tree.specs.Tree.{TableTree}
 use Rattle.chain_graph.specs.Graph.{Call, NodeTree, chain, verdict_map, HasCycle}
 use Rattle.chain_graph.specs.Nodes.{Graph}
-use Rattle.chain_graph.specs.Known.{stopped, IsCost}
-use Rattle.rule_paths.specs.Paths.{Caller, CallsOf, AreCosts, AreAllCosts, MOST_COST, table_cost, ruleset_cost, node_of, Cycles, HasDeepPath, TooDeep, TooCostly, MisplacedNat, misplaced_source, misplaced_destination}
+use Rattle.chain_graph.specs.Measures.{saturated, IsCost}
+use Rattle.rule_paths.specs.Paths.{Caller, CallsOf, AreCosts, AreAllCosts, MAX_COST, table_cost, ruleset_cost, node_of, Cycles, HasDeepPath, TooDeep, TooCostly, MisplacedNat, misplaced_source, misplaced_destination}
 use Rattle.rule_paths.specs.Findings.{AreChainCosts, AreChainDepths, numbers_at, AreFindings}
-use Rattle.rule_paths.specs.declared.judging.Findings.{Findings}
-use Rattle.rule_paths.specs.declared.marks.Translation.TheVariants.{Source, Destination}
+use Rattle.rule_paths.specs.declared.analysis.Findings.{Findings}
+use Rattle.rule_paths.specs.declared.marks.NatKind.TheVariants.{Source, Destination}
 use Rattle.rule_paths.specs.declared.table.TableFindings.{TableFindings}
-use Rattle.rule_paths.specs.steps.Numbers.{StandsFor}
+use Rattle.rule_paths.specs.steps.Numbers.{RepresentsNodes}
 use Rattle.rule_paths.specs.steps.Index.{index_of, index_graph}
-use Rattle.rule_paths.specs.steps.Tables.{MisplacesAs, MisplacesIn, AreTableFindings, HaveCosts, AreFoundSoFar}
+use Rattle.rule_paths.specs.steps.Tables.{MisplacesAs, MisplacesIn, AreTableFindings, HaveCosts, AreFindingsSoFar}
 use Rattle.rule_paths.proofs.NumberLaws.{costs-up}
 use Rattle.rule_paths.proofs.IndexLaws.{bool-cases}
 
@@ -91,7 +91,7 @@ no-costs = record { costs = λ g i. 0; are = λ t h. let l = h.1 in absurd (omeg
 abbrev pub with_graph : (Graph → ℕ → ℕ) → Graph → (ℕ → ℕ) → Graph → ℕ → ℕ
 with_graph costs g cost h = if graph_eq h g then cost else costs h
 
-pub costs-more : (ts : List TableTree) (t : TableTree) → HaveCosts ts → StandsFor (node_of t) (index_of t) (index_graph t) → (cost : ℕ → ℕ) → IsCost (index_graph t) cost → HaveCosts (ts ++ t ∷ [])
+pub costs-more : (ts : List TableTree) (t : TableTree) → HaveCosts ts → RepresentsNodes (node_of t) (index_of t) (index_graph t) → (cost : ℕ → ℕ) → IsCost (index_graph t) cost → HaveCosts (ts ++ t ∷ [])
 costs-more ts t have stands cost is = record {
   costs = with_graph have.costs (index_graph t) cost;
   are = λ u h. ⊎_elim
@@ -101,7 +101,7 @@ costs-more ts t have stands cost is = record {
       (λ e. let q : true ≡ false = sym ((graph-decides (index_graph u) (index_graph t)).1 (ap index_graph (sym e))) ∙ other in cc)
       (Contains-push_cases ts t u h)))
       (bool-cases (graph_eq (index_graph u) (index_graph t)));
-  stand = λ u h. ⊎_elim (λ k. have.stand u k) (λ e. subst (λ v. StandsFor (node_of v) (index_of v) (index_graph v)) e stands) (Contains-push_cases ts t u h);
+  stand = λ u h. ⊎_elim (λ k. have.stand u k) (λ e. subst (λ v. RepresentsNodes (node_of v) (index_of v) (index_graph v)) e stands) (Contains-push_cases ts t u h);
 }
 
 -- what a table costs by name
@@ -177,7 +177,7 @@ pub no-nat : MisplacedNat [] → ⊥
 no-nat (misplaced_source u h m) = let l = h.1 in omega (arith, l)
 no-nat (misplaced_destination u h m) = let l = h.1 in omega (arith, l)
 
-pub none-so-far : AreFoundSoFar [] false false 0 [] []
+pub none-so-far : AreFindingsSoFar [] false false 0 [] []
 none-so-far = record {
   acyclic = λ k. let l = k.stands.1 in absurd (omega arith);
   deep = (λ h. cc, λ d. let l = d.stands.1 in absurd (omega arith));
@@ -190,15 +190,15 @@ none-so-far = record {
   chain_depths = λ i t h e. absurd (omega (arith, h));
 }
 
-module _ (ts : List TableTree) (t : TableTree) (deep misplaced : Bool) (cost : ℕ) (costs depths : List (Vec ℕ Global)) (found : TableFindings) (s : AreFoundSoFar ts deep misplaced cost costs depths) (f : AreTableFindings t found) where
-  pub sum-more : (cost_of : TableTree → Caller → ℕ) → AreAllCosts (ts ++ t ∷ []) cost_of → stopped (cost + found.base_cost) ≡ stopped (ruleset_cost cost_of (ts ++ t ∷ []))
+module _ (ts : List TableTree) (t : TableTree) (deep misplaced : Bool) (cost : ℕ) (costs depths : List (Vec ℕ Global)) (found : TableFindings) (s : AreFindingsSoFar ts deep misplaced cost costs depths) (f : AreTableFindings t found) where
+  pub sum-more : (cost_of : TableTree → Caller → ℕ) → AreAllCosts (ts ++ t ∷ []) cost_of → saturated (cost + found.base_cost) ≡ saturated (ruleset_cost cost_of (ts ++ t ∷ []))
   sum-more cost_of are =
       let before = s.sum cost_of (λ u h. are u (stands-before ts t u h)) in
       let now = f.base_cost (cost_of t) (are t (Contains-push ts t)) in
       let all = sum_by_push (λ u. table_cost (cost_of u) u) ts t in
       omega arith
 
-  pub more-so-far : AreFoundSoFar (ts ++ t ∷ []) (deep || found.is_too_deep) (misplaced || found.misplaces_nat) (stopped (cost + found.base_cost)) (costs ++ found.costs ∷ []) (depths ++ found.depths ∷ [])
+  pub more-so-far : AreFindingsSoFar (ts ++ t ∷ []) (deep || found.is_too_deep) (misplaced || found.misplaces_nat) (saturated (cost + found.base_cost)) (costs ++ found.costs ∷ []) (depths ++ found.depths ∷ [])
   more-so-far = record {
     acyclic = acyclic-more ts t s.acyclic f.acyclic;
     deep = deep-more ts t deep found.is_too_deep s.deep f.deep;
@@ -213,13 +213,13 @@ module _ (ts : List TableTree) (t : TableTree) (deep misplaced : Bool) (cost : �
 
 -- ---- what the sum says
 
-module _ (ts : List TableTree) (have : HaveCosts ts) (cost : ℕ) (sum : (cost_of : TableTree → Caller → ℕ) → AreAllCosts ts cost_of → cost ≡ stopped (ruleset_cost cost_of ts)) where
-  pub too-costly : MOST_COST < cost → TooCostly ts
+module _ (ts : List TableTree) (have : HaveCosts ts) (cost : ℕ) (sum : (cost_of : TableTree → Caller → ℕ) → AreAllCosts ts cost_of → cost ≡ saturated (ruleset_cost cost_of ts)) where
+  pub too-costly : MAX_COST < cost → TooCostly ts
   too-costly over =
       let is = sum (λ t a. have.costs (index_graph t) (index_of t a)) (are-costs ts have) in
       record { cost = λ t a. have.costs (index_graph t) (index_of t a); are = are-costs ts have; over = omega arith }
 
-  pub is-costly : TooCostly ts → MOST_COST < cost
+  pub is-costly : TooCostly ts → MAX_COST < cost
   is-costly k = let is = sum k.cost k.are in let over = k.over in omega arith
 
 -- ---- the end
@@ -227,13 +227,13 @@ module _ (ts : List TableTree) (have : HaveCosts ts) (cost : ℕ) (sum : (cost_o
 pub cycle-found : (tables : List TableTree) (t : TableTree) → Contains tables t → HasCycle (CallsOf t) → Cycles tables
 cycle-found tables t h k = record { table = t; stands = h; cycle = k }
 
-pub all-found : (tables : List TableTree) (cost : ℕ) (found : Findings) → AreFoundSoFar tables found.is_too_deep found.misplaces_nat cost found.costs.items found.depths.items → found.is_too_costly ≡ nat_lt MOST_COST cost → AreFindings tables found
+pub all-found : (tables : List TableTree) (cost : ℕ) (found : Findings) → AreFindingsSoFar tables found.is_too_deep found.misplaces_nat cost found.costs.items found.depths.items → found.is_too_costly ≡ nat_lt MAX_COST cost → AreFindings tables found
 all-found tables cost found s e = record {
   acyclic = s.acyclic;
   deep = s.deep;
   costly = (
-    λ h. too-costly tables s.have_costs cost s.sum (ltb-true MOST_COST cost (sym e ∙ h)),
-    λ k. e ∙ lt-ltb MOST_COST cost (is-costly tables s.have_costs cost s.sum k),
+    λ h. too-costly tables s.have_costs cost s.sum (ltb-true MAX_COST cost (sym e ∙ h)),
+    λ k. e ∙ lt-ltb MAX_COST cost (is-costly tables s.have_costs cost s.sum k),
   );
   nat = s.nat;
   has_costs = (λ t a. s.have_costs.costs (index_graph t) (index_of t a), are-costs tables s.have_costs);
@@ -243,16 +243,16 @@ all-found tables cost found s e = record {
   depths = s.chain_depths;
 }
 
-pub none-at : (costs depths : List (Vec ℕ Global)) → costs ≡ [] → depths ≡ [] → AreFoundSoFar [] false false 0 costs depths
-none-at costs depths e h = subst (λ ds. AreFoundSoFar [] false false 0 costs ds) (sym h) (subst (λ cs. AreFoundSoFar [] false false 0 cs []) (sym e) none-so-far)
+pub none-at : (costs depths : List (Vec ℕ Global)) → costs ≡ [] → depths ≡ [] → AreFindingsSoFar [] false false 0 costs depths
+none-at costs depths e h = subst (λ ds. AreFindingsSoFar [] false false 0 costs ds) (sym h) (subst (λ cs. AreFindingsSoFar [] false false 0 cs []) (sym e) none-so-far)
 
 pub more-at : (tables : List TableTree) (i : ℕ) (t : TableTree) (deep misplaced : Bool) (cost cost' : ℕ) (costs costs' depths depths' : List (Vec ℕ Global)) (found : TableFindings) → i < length tables → t ≡ get_or tables i t
-    → AreFoundSoFar (take i tables) deep misplaced cost costs depths → AreTableFindings t found
-    → cost' ≡ stopped (cost + found.base_cost) → costs' ≡ costs ++ found.costs ∷ [] → depths' ≡ depths ++ found.depths ∷ []
-    → AreFoundSoFar (take (i + 1) tables) (deep || found.is_too_deep) (misplaced || found.misplaces_nat) cost' costs' depths'
+    → AreFindingsSoFar (take i tables) deep misplaced cost costs depths → AreTableFindings t found
+    → cost' ≡ saturated (cost + found.base_cost) → costs' ≡ costs ++ found.costs ∷ [] → depths' ≡ depths ++ found.depths ∷ []
+    → AreFindingsSoFar (take (i + 1) tables) (deep || found.is_too_deep) (misplaced || found.misplaces_nat) cost' costs' depths'
 more-at tables i t deep misplaced cost cost' costs costs' depths depths' found h e s f p q r =
-    subst (λ ts. AreFoundSoFar ts (deep || found.is_too_deep) (misplaced || found.misplaces_nat) cost' costs' depths') (sym (take_more tables i t h ∙ ap (λ x. take i tables ++ x ∷ []) (sym e)))
-    (subst (λ n. AreFoundSoFar (take i tables ++ t ∷ []) (deep || found.is_too_deep) (misplaced || found.misplaces_nat) n costs' depths') (sym p)
-    (subst (λ cs. AreFoundSoFar (take i tables ++ t ∷ []) (deep || found.is_too_deep) (misplaced || found.misplaces_nat) (stopped (cost + found.base_cost)) cs depths') (sym q)
-    (subst (λ ds. AreFoundSoFar (take i tables ++ t ∷ []) (deep || found.is_too_deep) (misplaced || found.misplaces_nat) (stopped (cost + found.base_cost)) (costs ++ found.costs ∷ []) ds) (sym r)
+    subst (λ ts. AreFindingsSoFar ts (deep || found.is_too_deep) (misplaced || found.misplaces_nat) cost' costs' depths') (sym (take_more tables i t h ∙ ap (λ x. take i tables ++ x ∷ []) (sym e)))
+    (subst (λ n. AreFindingsSoFar (take i tables ++ t ∷ []) (deep || found.is_too_deep) (misplaced || found.misplaces_nat) n costs' depths') (sym p)
+    (subst (λ cs. AreFindingsSoFar (take i tables ++ t ∷ []) (deep || found.is_too_deep) (misplaced || found.misplaces_nat) (saturated (cost + found.base_cost)) cs depths') (sym q)
+    (subst (λ ds. AreFindingsSoFar (take i tables ++ t ∷ []) (deep || found.is_too_deep) (misplaced || found.misplaces_nat) (saturated (cost + found.base_cost)) (costs ++ found.costs ∷ []) ds) (sym r)
     (more-so-far (take i tables) t deep misplaced cost costs depths found s f))))

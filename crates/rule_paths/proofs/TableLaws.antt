@@ -7,28 +7,28 @@ use Rattle.std.proofs.lemmas.List.Folds.{list_any_at}
 use Rattle.std.proofs.lemmas.Bool.{cases_lt, or_right, or_cases, not-true}
 use Rattle.std.proofs.Math.ListN.{get_or-map}
 use Rattle.nft_tree.specs.Tree.{Text, Statement, HeadTree, ChainTree, TableTree}
-use Rattle.nft_tree.specs.Parts.{chains_of}
-use Rattle.rule_names.specs.Names.{Repeats, chain_names, map_names}
+use Rattle.nft_tree.specs.TableItems.{chains_of}
+use Rattle.rule_names.specs.Names.{HasDuplicate, chain_names, map_names}
 use Rattle.chain_graph.specs.Graph.{HasCycle}
-use Rattle.chain_graph.specs.declared.judging.Judged.{Judged}
+use Rattle.chain_graph.specs.declared.analysis.GraphAnalysis.{GraphAnalysis}
 use Rattle.chain_graph.specs.Nodes.{Graph, Calls}
-use Rattle.chain_graph.specs.Known.{stopped, IsCost, IsDepth, IsJudged, LeadsOn}
+use Rattle.chain_graph.specs.Measures.{saturated, IsCost, IsDepth, IsAnalysisOf, ReachesMarked}
 use Rattle.list_laws.specs.Elements.{Contains-at}
 use Rattle.rule_paths.specs.Paths.{Caller, a_chain, a_map, CallsOf, AreCosts, table_cost, node_of, HasDeepPath, chain_has, caller_has}
 use Rattle.rule_paths.specs.Findings.{HasDepth, AreChainCosts, AreChainDepths}
-use Rattle.rule_paths.specs.declared.marks.Translation.{Translation}
-use Rattle.rule_paths.specs.declared.marks.Translation.TheVariants.{Source, Destination}
-use Rattle.rule_paths.specs.steps.Numbers.{StandsFor}
-use Rattle.rule_paths.specs.steps.Index.{chain_count, index_of, index_graph, IsTableGraph, translates, may_translate, marks_of, is_barred, LeadsWrong}
+use Rattle.rule_paths.specs.declared.marks.NatKind.{NatKind}
+use Rattle.rule_paths.specs.declared.marks.NatKind.TheVariants.{Source, Destination}
+use Rattle.rule_paths.specs.steps.Numbers.{RepresentsNodes}
+use Rattle.rule_paths.specs.steps.Index.{chain_count, index_of, index_graph, IsTableGraph, translates, may_translate, marks_of, may_not_translate, ReachesMisplaced}
 use Rattle.rule_paths.specs.steps.Tables.{MisplacesAs, MisplacesIn, AreTableFindings}
 use Rattle.rule_paths.specs.declared.table.TableFindings.{TableFindings}
-use Rattle.rule_paths.proofs.NumberLaws.{cycle-down, costs-up, costs-down, cost_by, cost-named, most-up, deep-path, leads-up, leads-down}
+use Rattle.rule_paths.proofs.NumberLaws.{cycle-down, costs-up, costs-down, cost_by, cost-named, most-up, deep-path, reaching-up, reaching-down}
 use Rattle.rule_paths.proofs.IndexLaws.{stands, chain-number, graph-long, name-at, no-chain, look-chain, look-map, chain-found, chain-missing, map-found, map-missing}
 
-pub table-graph : (t : TableTree) (g : Graph) → g ≡ index_graph t → (Repeats (chain_names t) → ⊥) → (Repeats (map_names t) → ⊥) → IsTableGraph t g
+pub table-graph : (t : TableTree) (g : Graph) → g ≡ index_graph t → (HasDuplicate (chain_names t) → ⊥) → (HasDuplicate (map_names t) → ⊥) → IsTableGraph t g
 table-graph t g e chains maps = record {
   is = e;
-  stands = subst (StandsFor (node_of t) (index_of t)) (sym e) (stands t chains maps);
+  stands = subst (RepresentsNodes (node_of t) (index_of t)) (sym e) (stands t chains maps);
   chains_first = λ i h.
       let c : ChainTree = get_or (chains_of t) i no-chain in
       let is : get_or (chains_of t) i c ≡ c = get_or_default (chains_of t) i c no-chain h in
@@ -105,12 +105,12 @@ module _ (t : TableTree) (g : Graph) (s : IsTableGraph t g) where
 
   -- ---- costs
 
-  pub chain-costs : (costs : List ℕ) → length costs ≡ length g → ((cost : ℕ → ℕ) → IsCost g cost → (c : ℕ) → c < length g → get_or costs c 0 ≡ stopped (cost c)) → (cost : ℕ → ℕ) → IsCost g cost → AreChainCosts t (take (chain_count t) costs)
+  pub chain-costs : (costs : List ℕ) → length costs ≡ length g → ((cost : ℕ → ℕ) → IsCost g cost → (c : ℕ) → c < length g → get_or costs c 0 ≡ saturated (cost c)) → (cost : ℕ → ℕ) → IsCost g cost → AreChainCosts t (take (chain_count t) costs)
   chain-costs costs long known cost is =
       let n : length (take (chain_count t) costs) ≡ chain_count t = length-take-le (chain_count t) costs (let l = s.long in omega arith) in
       record {
-        are = λ f are. ext_get_or 0 (take (chain_count t) costs) (map (λ c. stopped (f (a_chain c.name))) (chains_of t))
-            (n ∙ sym (length-map (chains_of t) (λ c. stopped (f (a_chain c.name)))))
+        are = λ f are. ext_get_or 0 (take (chain_count t) costs) (map (λ c. saturated (f (a_chain c.name))) (chains_of t))
+            (n ∙ sym (length-map (chains_of t) (λ c. saturated (f (a_chain c.name)))))
             (λ i h.
             let l : i < chain_count t = omega arith in
             let m = s.long in
@@ -118,9 +118,9 @@ module _ (t : TableTree) (g : Graph) (s : IsTableGraph t g) where
             let name : Text = get_or (chain_names t) i [] in
             get_or-take (chain_count t) costs i 0 l
             ∙ known by (costs-down (node_of t) (index_of t) g s.stands f are) i (omega arith)
-            ∙ ap (λ k. stopped (by k)) (sym (s.chains_first i l))
-            ∙ ap stopped (cost-named (node_of t) (index_of t) g s.stands f are (a_chain name))
-            ∙ sym (named-number (λ x. stopped (f (a_chain x))) (chains_of t) i l));
+            ∙ ap (λ k. saturated (by k)) (sym (s.chains_first i l))
+            ∙ ap saturated (cost-named (node_of t) (index_of t) g s.stands f are (a_chain name))
+            ∙ sym (named-number (λ x. saturated (f (a_chain x))) (chains_of t) i l));
         has_costs = (λ a. cost (index_of t a), costs-up (node_of t) (index_of t) g s.stands cost is);
       }
 
@@ -147,7 +147,7 @@ module _ (test : Statement → Bool) (count : ℕ) (t : TableTree) where
 
   pub mark : (a : Caller) → get_or (marks_of test count t) (index_of t a) false ≡ caller_has test t a
   mark (a_chain name) = ⊎_elim
-      (λ r. ap (λ i. get_or (marks_of test count t) i false) (chain-found t name r) ∙ marked-at r.place r.item r.within r.is ∙ ap (chain_has test) (sym r.finds))
+      (λ r. ap (λ i. get_or (marks_of test count t) i false) (chain-found t name r) ∙ marked-at r.index r.item r.within r.is ∙ ap (chain_has test) (sym r.finds))
       (λ r. unmarked (index_of t (a_chain name)) (let e = chain-missing t name r.at in omega arith) ∙ ap (chain_has test) (sym r.finds))
       (look-chain t name)
   mark (a_map name) = unmarked (index_of t (a_map name)) (⊎_elim
@@ -155,47 +155,47 @@ module _ (test : Statement → Bool) (count : ℕ) (t : TableTree) where
       (λ r. let e = map-missing t name r.at in omega arith)
       (look-map t name))
 
-pub barred-head : (kind : Translation) (o : Option HeadTree) → is_barred kind o ≡ true → (head : HeadTree) × (o ≡ Some head) × (may_translate kind head.kind head.hook ≡ false)
-barred-head kind None h = cc
-barred-head kind (Some head) h = (head, refl, not-true (may_translate kind head.kind head.hook) h)
+pub not_allowed-head : (kind : NatKind) (o : Option HeadTree) → may_not_translate kind o ≡ true → (head : HeadTree) × (o ≡ Some head) × (may_translate kind head.kind head.hook ≡ false)
+not_allowed-head kind None h = cc
+not_allowed-head kind (Some head) h = (head, refl, not-true (may_translate kind head.kind head.hook) h)
 
-module _ (kind : Translation) (t : TableTree) (g : Graph) (s : IsTableGraph t g) (count : ℕ) (leads : List Bool) (long : count ≡ length g) (known : (c : ℕ) → c < count → IsTrue (get_or leads c false) ↔ LeadsOn g (marks_of (translates kind) count t) c) where
+module _ (kind : NatKind) (t : TableTree) (g : Graph) (s : IsTableGraph t g) (count : ℕ) (reaching : List Bool) (long : count ≡ length g) (known : (c : ℕ) → c < count → IsTrue (get_or reaching c false) ↔ ReachesMarked g (marks_of (translates kind) count t) c) where
   pub own : (i : ℕ) (c : ChainTree) → i < chain_count t → get_or (chains_of t) i c ≡ c → index_of t (a_chain c.name) ≡ i
   own i c h e = ap (λ name. index_of t (a_chain name)) (sym (name-at (λ (c : ChainTree). c.name) (chains_of t) i c h e)) ∙ s.chains_first i h
 
-  pub misplaced-found : LeadsWrong kind (chains_of t) leads → MisplacesAs kind t
+  pub misplaced-found : ReachesMisplaced kind (chains_of t) reaching → MisplacesAs kind t
   misplaced-found w =
       let l = s.long in
       let h = w.within in
-      let head = barred-head kind w.base.head w.barred in
-      let on : LeadsOn g (marks_of (translates kind) count t) w.place = (known w.place (omega arith)).0 w.leads_on in
+      let head = not_allowed-head kind w.base.head w.not_allowed in
+      let on : ReachesMarked g (marks_of (translates kind) count t) w.index = (known w.index (omega arith)).0 w.is_reaching in
       record {
         base = w.base;
-        stands = (w.place, w.within, sym w.is);
+        stands = (w.index, w.within, sym w.is);
         head = head.0;
         is_base = head.1;
         may_not = head.2;
-        leads = leads-up (node_of t) (index_of t) g s.stands (marks_of (translates kind) count t) (caller_has (translates kind) t) (mark (translates kind) count t) (a_chain w.base.name)
-            (subst (LeadsOn g (marks_of (translates kind) count t)) (sym (own w.place w.base w.within (sym w.is))) on);
+        reaching = reaching-up (node_of t) (index_of t) g s.stands (marks_of (translates kind) count t) (caller_has (translates kind) t) (mark (translates kind) count t) (a_chain w.base.name)
+            (subst (ReachesMarked g (marks_of (translates kind) count t)) (sym (own w.index w.base w.within (sym w.is))) on);
       }
 
-  pub misplaced-leads : MisplacesAs kind t → LeadsWrong kind (chains_of t) leads
-  misplaced-leads m =
-      let place : ℕ = m.stands.0 in
-      let h : place < chain_count t = m.stands.1 in
+  pub misplaced-reaching : MisplacesAs kind t → ReachesMisplaced kind (chains_of t) reaching
+  misplaced-reaching m =
+      let index : ℕ = m.stands.0 in
+      let h : index < chain_count t = m.stands.1 in
       let l = s.long in
-      let on = leads-down (node_of t) (index_of t) g s.stands (marks_of (translates kind) count t) (caller_has (translates kind) t) (mark (translates kind) count t) (a_chain m.base.name) m.leads in
+      let on = reaching-down (node_of t) (index_of t) g s.stands (marks_of (translates kind) count t) (caller_has (translates kind) t) (mark (translates kind) count t) (a_chain m.base.name) m.reaching in
       record {
-        place = place;
+        index = index;
         base = m.base;
         within = m.stands.1;
         is = sym m.stands.2;
-        barred = ap (is_barred kind) m.is_base ∙ ap not m.may_not;
-        leads_on = (known place (omega arith)).1 (subst (LeadsOn g (marks_of (translates kind) count t)) (own place m.base m.stands.1 m.stands.2) on);
+        not_allowed = ap (may_not_translate kind) m.is_base ∙ ap not m.may_not;
+        is_reaching = (known index (omega arith)).1 (subst (ReachesMarked g (marks_of (translates kind) count t)) (own index m.base m.stands.1 m.stands.2) on);
       }
 
-  pub misplaced : (found : Bool) → (IsTrue found ↔ LeadsWrong kind (chains_of t) leads) → IsTrue found ↔ MisplacesAs kind t
-  misplaced found e = (λ h. misplaced-found (e.0 h), λ m. e.1 (misplaced-leads m))
+  pub misplaced : (found : Bool) → (IsTrue found ↔ ReachesMisplaced kind (chains_of t) reaching) → IsTrue found ↔ MisplacesAs kind t
+  misplaced found e = (λ h. misplaced-found (e.0 h), λ m. e.1 (misplaced-reaching m))
 
 -- one of the two
 pub either-misplaced : (t : TableTree) (a b : Bool) → (IsTrue a ↔ MisplacesAs Source t) → (IsTrue b ↔ MisplacesAs Destination t) → IsTrue (a || b) ↔ MisplacesIn t
@@ -209,27 +209,27 @@ either-misplaced t a b p q = (
 pub table-cycle : (t : TableTree) (g : Graph) → IsTableGraph t g → (HasCycle (Calls g) → ⊥) → HasCycle (CallsOf t) → ⊥
 table-cycle t g s none k = none (cycle-down (node_of t) (index_of t) g s.stands k)
 
-module _ (t : TableTree) (g : Graph) (s : IsTableGraph t g) (judged : Judged) (j : IsJudged g judged) where
-  pub judged-costs : (costs : List ℕ) → costs ≡ take (chain_count t) judged.costs.items → AreChainCosts t costs
-  judged-costs costs e = let cost = j.has_costs in subst (AreChainCosts t) (sym e) (chain-costs t g s judged.costs.items j.costs_long j.costs cost.0 cost.1)
+module _ (t : TableTree) (g : Graph) (s : IsTableGraph t g) (analysis : GraphAnalysis) (j : IsAnalysisOf g analysis) where
+  pub analysis-costs : (costs : List ℕ) → costs ≡ take (chain_count t) analysis.costs.items → AreChainCosts t costs
+  analysis-costs costs e = let cost = j.has_costs in subst (AreChainCosts t) (sym e) (chain-costs t g s analysis.costs.items j.costs_long j.costs cost.0 cost.1)
 
-  pub judged-depths : (depths : List ℕ) → depths ≡ take (chain_count t) judged.depths.items → AreChainDepths t depths
-  judged-depths depths e = subst (AreChainDepths t) (sym e) (chain-depths t g s judged.depths.items j.depths_long j.depths)
+  pub analysis-depths : (depths : List ℕ) → depths ≡ take (chain_count t) analysis.depths.items → AreChainDepths t depths
+  analysis-depths depths e = subst (AreChainDepths t) (sym e) (chain-depths t g s analysis.depths.items j.depths_long j.depths)
 
   pub table-findings : (found : TableFindings)
       → found.is_too_deep ≡ list_any (λ d. nat_lt 16 d) found.depths.items
       → (IsTrue found.misplaces_nat ↔ MisplacesIn t)
-      → ((cost : Caller → ℕ) → AreCosts t cost → found.base_cost ≡ stopped (table_cost cost t))
-      → found.costs.items ≡ take (chain_count t) judged.costs.items
-      → found.depths.items ≡ take (chain_count t) judged.depths.items
+      → ((cost : Caller → ℕ) → AreCosts t cost → found.base_cost ≡ saturated (table_cost cost t))
+      → found.costs.items ≡ take (chain_count t) analysis.costs.items
+      → found.depths.items ≡ take (chain_count t) analysis.depths.items
       → AreTableFindings t found
   table-findings found deep nat base costs depths = record {
-    stands = subst (StandsFor (node_of t) (index_of t)) s.is s.stands;
+    stands = subst (RepresentsNodes (node_of t) (index_of t)) s.is s.stands;
     has_costs = subst (λ h. (cost : ℕ → ℕ) × IsCost h cost) s.is j.has_costs;
     acyclic = table-cycle t g s j.acyclic;
-    deep = too-deep t found.depths.items (judged-depths found.depths.items depths) found.is_too_deep deep;
+    deep = too-deep t found.depths.items (analysis-depths found.depths.items depths) found.is_too_deep deep;
     nat = nat;
     base_cost = base;
-    costs = judged-costs found.costs.items costs;
-    depths = judged-depths found.depths.items depths;
+    costs = analysis-costs found.costs.items costs;
+    depths = analysis-depths found.depths.items depths;
   }

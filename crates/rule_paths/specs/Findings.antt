@@ -2,17 +2,17 @@
 use Rattle.std.specs.Prelude.{◌≡◌, ◌↔◌, ℕ, ◌<◌, ◌≤◌, IsTrue, List, [], length, get_or, map, slice_index, Vec}
 use Rattle.std.specs.declared.alloc.Global.{Global}
 use Rattle.nft_tree.specs.Tree.{TableTree}
-use Rattle.nft_tree.specs.Parts.{chains_of}
+use Rattle.nft_tree.specs.TableItems.{chains_of}
 use Rattle.rule_names.specs.Names.{chain_names}
 use Rattle.chain_graph.specs.Graph.{Call, IsPath, jumps}
-use Rattle.chain_graph.specs.Known.{stopped}
+use Rattle.chain_graph.specs.Measures.{saturated}
 use Rattle.rule_paths.specs.Paths.{Caller, a_chain, CallsOf, AreCosts, AreAllCosts, Cycles, TooDeep, TooCostly}
 use Rattle.rule_paths.specs.Paths.{MisplacedNat}
-use Rattle.rule_paths.specs.declared.judging.Findings.{Findings}
+use Rattle.rule_paths.specs.declared.analysis.Findings.{Findings}
 
 -- no path from the caller has more jumps, as far as 64-bit numbers go, and one has as many
 pub record HasDepth (t : TableTree) (from : Caller) (depth : ℕ) : Type 0 where
-  pub most : (b : Caller) (es : List (Call Caller)) → IsPath (CallsOf t) from es b → stopped (jumps es) ≤ depth
+  pub most : (b : Caller) (es : List (Call Caller)) → IsPath (CallsOf t) from es b → saturated (jumps es) ≤ depth
   pub to : Caller
   pub along : List (Call Caller)
   pub path : IsPath (CallsOf t) from along to
@@ -20,7 +20,7 @@ pub record HasDepth (t : TableTree) (from : Caller) (depth : ℕ) : Type 0 where
 
 -- what the chains of a table cost, in text order, where 2^64 - 1 stands for all that is more; that they have a cost
 pub record AreChainCosts (t : TableTree) (costs : List ℕ) : Type 0 where
-  pub are : (cost : Caller → ℕ) → AreCosts t cost → costs ≡ map (λ c. stopped (cost (a_chain c.name))) (chains_of t)
+  pub are : (cost : Caller → ℕ) → AreCosts t cost → costs ≡ map (λ c. saturated (cost (a_chain c.name))) (chains_of t)
   pub has_costs : (cost : Caller → ℕ) × AreCosts t cost
 
 -- how many jumps the paths from the chains of a table have, in text order

@@ -10,7 +10,7 @@ use Rattle.nft_tree.specs.declared.chain.Hook.TheVariants as hooks
 use Rattle.nft_tree.specs.Tree as tree
 use Rattle.nft_tree.specs.Tree.{Text, VerdictTree, DataTree, PairTree, Statement, RuleTree, HeadTree, ChainTree}
 use Rattle.nft_tree.specs.Tree.{MapTree, TableTree}
-use Rattle.nft_tree.specs.Parts.{chains_of}
+use Rattle.nft_tree.specs.TableItems.{chains_of}
 use Rattle.rule_names.specs.Names.{chain_named, chain_names, map_named, some_of}
 use Rattle.chain_graph.specs.Graph as graph
 use Rattle.chain_graph.specs.Graph.{Call, NodeTree, calls_in, HasCycle, HasPathOver, node_cost, Reaches}
@@ -68,15 +68,15 @@ pub record Cycles (tables : List TableTree) : Type 0 where
   pub stands : Contains tables table
   pub cycle : HasCycle (CallsOf table)
 
-abbrev pub MOST_JUMPS : ℕ
-MOST_JUMPS = 16
+abbrev pub MAX_JUMPS : ℕ
+MAX_JUMPS = 16
 
 -- a path with more than 16 jumps that begins in a chain of the table: a jump is a verdict of a rule, and the verdicts
 -- of a map are those of the rules that look it up (nft(8), "Verdict statement", "Vmap statement")
 pub record HasDeepPath (t : TableTree) : Type 0 where
   pub chain : Text
   pub stands : Contains (chain_names t) chain
-  pub path : HasPathOver MOST_JUMPS (CallsOf t)
+  pub path : HasPathOver MAX_JUMPS (CallsOf t)
   pub begins : path.from ≡ a_chain chain
 
 -- a table with such a path
@@ -100,8 +100,8 @@ base_cost cost name (Some head) = 1 + cost (a_chain name)
 abbrev pub table_cost : (Caller → ℕ) → TableTree → ℕ
 table_cost cost t = sum_by (λ c. base_cost cost c.name c.head) (chains_of t)
 
-abbrev pub MOST_COST : ℕ
-MOST_COST = 65536
+abbrev pub MAX_COST : ℕ
+MAX_COST = 65536
 
 -- the costs of the chains and maps of each table of a ruleset
 abbrev pub AreAllCosts : List TableTree → (TableTree → Caller → ℕ) → Type 0
@@ -115,7 +115,7 @@ ruleset_cost cost tables = sum_by (λ t. table_cost (cost t) t) tables
 pub record TooCostly (tables : List TableTree) : Type 0 where
   pub cost : TableTree → Caller → ℕ
   pub are : AreAllCosts tables cost
-  pub over : MOST_COST < ruleset_cost cost tables
+  pub over : MAX_COST < ruleset_cost cost tables
 
 -- ---- N10
 
@@ -156,7 +156,7 @@ pub record Misplaces (test : Statement → Bool) (may : ChainKind → Hook → B
   pub head : HeadTree
   pub is_base : base.head ≡ Some head
   pub may_not : may head.kind head.hook ≡ false
-  pub leads : Reaches (CallsOf t) (λ caller. caller_has test t caller ≡ true) (a_chain base.name)
+  pub reaching : Reaches (CallsOf t) (λ caller. caller_has test t caller ≡ true) (a_chain base.name)
 
 -- snat or masquerade, dnat or redirect in a chain that is, or is reached from, a base chain where it has no place
 pub data MisplacedNat (tables : List TableTree) : Type 0 where

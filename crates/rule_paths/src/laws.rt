@@ -5,7 +5,7 @@ ghost use Rattle.rule_paths.specs.Paths.{Caller, AreCosts, Cycles, TooDeep, TooC
 
 /// Of any tables it is decided whether jumps and gotos have a cycle, and, where they have none,
 /// whether a path is too deep, the cost too high, or a NAT statement without a place.
-pub fn decided_paths()
+pub fn path_faults_decidable()
     ensures cycles { (tables : List TableTree) → Cycles tables ⊎ (Cycles tables → ⊥) }
     ensures deep { (tables : List TableTree) → (Cycles tables → ⊥) → TooDeep tables ⊎ (TooDeep tables → ⊥) }
     ensures costly { (tables : List TableTree) → (Cycles tables → ⊥) → TooCostly tables ⊎ (TooCostly tables → ⊥) }
@@ -13,6 +13,6 @@ pub fn decided_paths()
 {}
 
 /// Where jumps and gotos have no cycle, the chains and maps of each table have a cost.
-pub fn some_costs()
+pub fn costs_exist()
     ensures { (tables : List TableTree) (t : TableTree) → (Cycles tables → ⊥) → Contains tables t → (cost : Caller → ℕ) × AreCosts t cost }
 {}

@@ -5,7 +5,7 @@
 //! maps that aren't there. The time is in proportion to the ruleset, and nothing recurs.
 #![tactic(auto)]
 
-mod judging;
+mod analysis;
 mod laws;
 mod marks;
 mod misplaced;
@@ -13,5 +13,5 @@ mod nodes;
 mod numbers;
 mod table;
 
-pub use judging::{Findings, judge};
-pub use laws::{decided_paths, some_costs};
+pub use analysis::{Findings, analyze};
+pub use laws::{costs_exist, path_faults_decidable};

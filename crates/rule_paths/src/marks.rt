@@ -2,7 +2,7 @@
 ghost use Rattle.std.specs.Prelude.{◌≡◌, ◌≤◌, length, IfOk, Some};
 ghost use Rattle.std.specs.List.{list_any};
 ghost use Rattle.nft_tree.specs.Tree.{chain_tree, rule_tree, statement};
-ghost use Rattle.nft_tree.specs.Parts.{chains_of};
+ghost use Rattle.nft_tree.specs.TableItems.{chains_of};
 ghost use Rattle.rule_paths.specs.Paths.{chain_has};
 ghost use Rattle.rule_paths.specs.steps.Index.{marks_of, translates};
 
@@ -12,7 +12,7 @@ use std::alloc::{AllocError, Global};
 
 /// What of a packet is translated.
 #[derive(Clone, Copy)]
-pub(crate) enum Translation {
+pub(crate) enum NatKind {
     /// `snat`, `masquerade`
     Source,
     /// `dnat`, `redirect`
@@ -20,18 +20,18 @@ pub(crate) enum Translation {
 }
 
 /// Whether the statement translates so.
-fn translates(stmt: &Stmt, kind: Translation) -> bool
+fn translates(stmt: &Stmt, kind: NatKind) -> bool
     ensures { result ≡ translates kind (statement stmt.now) }
 {
     match (stmt, kind) {
-        (Stmt::Nat(Nat::Source(_) | Nat::Masquerade(_)), Translation::Source) => true,
-        (Stmt::Nat(Nat::Destination(_) | Nat::Redirect(_)), Translation::Destination) => true,
+        (Stmt::Nat(Nat::Source(_) | Nat::Masquerade(_)), NatKind::Source) => true,
+        (Stmt::Nat(Nat::Destination(_) | Nat::Redirect(_)), NatKind::Destination) => true,
         _ => false,
     }
 }
 
 /// Whether a statement of the rule translates so.
-fn rule_translates(rule: &Rule, kind: Translation) -> bool
+fn rule_translates(rule: &Rule, kind: NatKind) -> bool
     ensures { result ≡ list_any (translates kind) (rule_tree rule.now).statements }
 {
     for stmt in &rule.statements {
@@ -43,7 +43,7 @@ fn rule_translates(rule: &Rule, kind: Translation) -> bool
 }
 
 /// Whether a statement of the chain translates so.
-fn chain_translates(chain: &Chain, kind: Translation) -> bool
+fn chain_translates(chain: &Chain, kind: NatKind) -> bool
     ensures { result ≡ chain_has (translates kind) (Some (chain_tree chain.now)) }
 {
     for rule in &chain.rules {
@@ -59,7 +59,7 @@ pub(crate) fn marks(
     alloc: Global,
     names: &TableNames,
     nodes: usize,
-    kind: Translation,
+    kind: NatKind,
 ) -> Result<Vec<bool>, AllocError>
     requires { length (chains_of names.now) ≤ nodes }
     ensures { IfOk result (λ marks. marks.items ≡ marks_of (translates kind) nodes names.now) }

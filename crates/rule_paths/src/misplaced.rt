@@ -2,30 +2,30 @@
 ghost use Rattle.std.specs.Prelude.{◌≡◌, ◌↔◌, ◌≤◌, IsTrue, length, map, IfOk};
 ghost use Rattle.nft_tree.specs.Tree.{chain_tree};
 ghost use Rattle.chain_graph.specs.Nodes.{graph_of, targets_of};
-ghost use Rattle.chain_graph.specs.Order.{IsOrder};
-ghost use Rattle.rule_paths.specs.steps.Index.{is_barred, may_translate, IsTableGraph, LeadsWrong};
+ghost use Rattle.chain_graph.specs.Order.{IsTopologicalOrder};
+ghost use Rattle.rule_paths.specs.steps.Index.{may_not_translate, may_translate, IsTableGraph, ReachesMisplaced};
 ghost use Rattle.rule_paths.specs.steps.Tables.{MisplacesAs};
 
-use crate::marks::{Translation, marks};
-use chain_graph::{Node, leads_to_marked};
+use crate::marks::{NatKind, marks};
+use chain_graph::{Node, reaches_marked};
 use nft_tree::{Chain, ChainKind, Head, Hook};
 use rule_names::TableNames;
 use std::alloc::{AllocError, Global};
 
 /// Whether a base chain with this head may translate so.
-fn may_translate(head: &Head, kind: Translation) -> bool
+fn may_translate(head: &Head, kind: NatKind) -> bool
     ensures { result ≡ may_translate kind head.now.kind head.now.hook }
 {
     match (head.kind, kind, head.hook) {
-        (ChainKind::Nat, Translation::Source, Hook::Postrouting) => true,
-        (ChainKind::Nat, Translation::Destination, Hook::Prerouting | Hook::Output) => true,
+        (ChainKind::Nat, NatKind::Source, Hook::Postrouting) => true,
+        (ChainKind::Nat, NatKind::Destination, Hook::Prerouting | Hook::Output) => true,
         _ => false,
     }
 }
 
 /// Whether the chain is a base chain that may not translate so.
-fn is_barred(chain: &Chain, kind: Translation) -> bool
-    ensures { result ≡ is_barred kind (chain_tree chain.now).head }
+fn may_not_translate(chain: &Chain, kind: NatKind) -> bool
+    ensures { result ≡ may_not_translate kind (chain_tree chain.now).head }
 {
     match &chain.head {
         None => false,
@@ -34,12 +34,12 @@ fn is_barred(chain: &Chain, kind: Translation) -> bool
 }
 
 /// Whether a base chain that may not translate so leads on.
-fn leads_wrong(chains: &[&Chain], leads: &[bool], kind: Translation) -> bool
-    requires { length chains.now ≤ length leads.now }
-    ensures { IsTrue result ↔ LeadsWrong kind (map (λ c. chain_tree c.now) chains.now) leads.now }
+fn reaches_misplaced(chains: &[&Chain], reaching: &[bool], kind: NatKind) -> bool
+    requires { length chains.now ≤ length reaching.now }
+    ensures { IsTrue result ↔ ReachesMisplaced kind (map (λ c. chain_tree c.now) chains.now) reaching.now }
 {
-    for (place, chain) in chains.iter().enumerate() {
-        if leads[place] && is_barred(chain, kind) {
+    for (index, chain) in chains.iter().enumerate() {
+        if reaching[index] && may_not_translate(chain, kind) {
             return true;
         }
     }
@@ -52,14 +52,14 @@ pub(crate) fn misplaces(
     names: &TableNames,
     nodes: &[Node],
     order: &[usize],
-    kind: Translation,
+    kind: NatKind,
 ) -> Result<bool, AllocError>
     requires graph { IsTableGraph names.now (graph_of nodes.now) }
-    requires order { IsOrder (targets_of (graph_of nodes.now)) order.now }
+    requires order { IsTopologicalOrder (targets_of (graph_of nodes.now)) order.now }
     ensures { IfOk result (λ found. IsTrue found ↔ MisplacesAs kind names.now) }
 {
     let chains = names.chains();
     let marks = marks(alloc, names, nodes.len(), kind)?;
-    let leads = leads_to_marked(alloc, nodes, order, &marks)?;
-    Ok(leads_wrong(chains, &leads, kind))
+    let reaching = reaches_marked(alloc, nodes, order, &marks)?;
+    Ok(reaches_misplaced(chains, &reaching, kind))
 }

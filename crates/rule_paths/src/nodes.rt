@@ -2,7 +2,7 @@
 ghost use Rattle.std.specs.Prelude.{◌≡◌, ◌++◌, map, IfOk, Some};
 ghost use Rattle.std.specs.Option.{option_map};
 ghost use Rattle.nft_tree.specs.Tree.{chain_tree, map_tree, pair_tree, rule_tree, statement, verdict_tree};
-ghost use Rattle.chain_graph.specs.Nodes.{call_of, graph_of, node_of as node_shown, statements_of};
+ghost use Rattle.chain_graph.specs.Nodes.{call_of, graph_of, node_of as node_tree, statements_of};
 ghost use Rattle.rule_paths.specs.Paths.{a_chain, pair_calls, statement_calls, verdict_calls};
 ghost use Rattle.rule_paths.specs.steps.Numbers.{numbered_call};
 ghost use Rattle.rule_paths.specs.steps.Index.{call_if, chain_at, index_of, map_at, IsTableGraph};
@@ -105,7 +105,7 @@ fn add_rule(
 
 /// The node of a chain.
 fn chain_node(alloc: Global, names: &TableNames, chain: &Chain) -> Result<Node, AllocError>
-    ensures { IfOk result (λ node. node_shown node ≡ chain_at names.now (chain_tree chain.now)) }
+    ensures { IfOk result (λ node. node_tree node ≡ chain_at names.now (chain_tree chain.now)) }
 {
     let mut statements = Vec::new(alloc);
     for rule in &chain.rules {
@@ -116,7 +116,7 @@ fn chain_node(alloc: Global, names: &TableNames, chain: &Chain) -> Result<Node, 
 
 /// The node of a map.
 fn map_node(alloc: Global, names: &TableNames, map: &MapDecl) -> Result<Node, AllocError>
-    ensures { IfOk result (λ node. node_shown node ≡ map_at names.now (map_tree map.now)) }
+    ensures { IfOk result (λ node. node_tree node ≡ map_at names.now (map_tree map.now)) }
 {
     match &map.elements {
         None => Ok(Node::Map(Vec::new(alloc))),

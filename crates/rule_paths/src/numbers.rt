@@ -9,8 +9,8 @@ use rule_names::TableNames;
 pub(crate) fn chain_number(names: &TableNames, name: &[u8]) -> usize
     ensures { result ≡ index_of names.now (a_chain name.now) }
 {
-    match names.chain_place(name) {
-        Some(place) => place,
+    match names.chain_index(name) {
+        Some(index) => index,
         None => names.chains().len() + names.maps().len(),
     }
 }
@@ -21,8 +21,8 @@ pub(crate) fn map_number(names: &TableNames, name: &[u8]) -> usize
 {
     let chains = names.chains().len();
     let maps = names.maps().len();
-    match names.map_place(name) {
-        Some(place) => chains + place,
+    match names.map_index(name) {
+        Some(index) => chains + index,
         None => chains + maps + 1,
     }
 }

@@ -2,25 +2,25 @@
 ghost use Rattle.std.specs.Prelude.{◌≡◌, ◌≤◌, ℕ, length, map, nat_lt, take, IfOk, MatchOption};
 ghost use Rattle.std.specs.List.{list_any};
 ghost use Rattle.nft_tree.specs.Tree.{chain_tree, head_tree};
-ghost use Rattle.nft_tree.specs.Parts.{chains_of};
+ghost use Rattle.nft_tree.specs.TableItems.{chains_of};
 ghost use Rattle.chain_graph.specs.Graph.{HasCycle};
 ghost use Rattle.chain_graph.specs.Nodes.{graph_of};
-ghost use Rattle.chain_graph.specs.Known.{stopped, IsJudged};
-ghost use Rattle.rule_paths.specs.Paths.{Caller, AreCosts, CallsOf, MOST_JUMPS, table_cost};
+ghost use Rattle.chain_graph.specs.Measures.{saturated, IsAnalysisOf};
+ghost use Rattle.rule_paths.specs.Paths.{Caller, AreCosts, CallsOf, MAX_JUMPS, table_cost};
 ghost use Rattle.rule_paths.specs.Findings.{AreChainCosts};
 ghost use Rattle.rule_paths.specs.steps.Index.{with_base, IsTableGraph};
 ghost use Rattle.rule_paths.specs.steps.Tables.{AreTableFindings};
 
-use crate::marks::Translation;
+use crate::marks::NatKind;
 use crate::misplaced::misplaces;
 use crate::nodes::table_nodes;
-use chain_graph::{Judged, Node, judge};
+use chain_graph::{GraphAnalysis, Node, analyze};
 use nft_tree::Chain;
 use rule_names::TableNames;
 use std::alloc::{AllocError, Global};
 
 /// The most jumps of a path.
-const MOST_JUMPS: u64 = 16;
+const MAX_JUMPS: u64 = 16;
 
 /// What the jumps and gotos of a table without cycles come to.
 #[derive(Drop)]
@@ -39,9 +39,9 @@ pub(crate) struct TableFindings {
 
 /// Whether one of the depths is over 16.
 fn is_too_deep(depths: &[u64]) -> bool
-    ensures { result ≡ list_any (λ depth. nat_lt MOST_JUMPS depth) depths.now }
+    ensures { result ≡ list_any (λ depth. nat_lt MAX_JUMPS depth) depths.now }
 {
-    depths.iter().any(|depth| *depth > MOST_JUMPS)
+    depths.iter().any(|depth| *depth > MAX_JUMPS)
 }
 
 /// The sum with a chain that may be a base chain.
@@ -57,11 +57,11 @@ fn add_base(sum: u64, chain: &Chain, cost: u64) -> u64
 /// What the base chains cost, or the greatest number.
 fn base_cost(names: &TableNames, costs: &[u64]) -> u64
     requires { AreChainCosts names.now costs.now }
-    ensures { (cost : Caller → ℕ) → AreCosts names.now cost → result ≡ stopped (table_cost cost names.now) }
+    ensures { (cost : Caller → ℕ) → AreCosts names.now cost → result ≡ saturated (table_cost cost names.now) }
 {
     let mut sum = 0u64;
-    for (place, chain) in names.chains().iter().enumerate() {
-        sum = add_base(sum, chain, costs[place]);
+    for (index, chain) in names.chains().iter().enumerate() {
+        sum = add_base(sum, chain, costs[index]);
     }
     sum
 }
@@ -79,19 +79,19 @@ fn findings(
     alloc: Global,
     names: &TableNames,
     nodes: &[Node],
-    judged: Judged,
+    analysis: GraphAnalysis,
 ) -> Result<TableFindings, AllocError>
     requires graph { IsTableGraph names.now (graph_of nodes.now) }
-    requires judged { IsJudged (graph_of nodes.now) judged }
+    requires analysis { IsAnalysisOf (graph_of nodes.now) analysis }
     ensures { IfOk result (λ found. AreTableFindings names.now found) }
 {
-    let is_source = misplaces(alloc, names, nodes, &judged.order, Translation::Source)?;
-    let is_destination = misplaces(alloc, names, nodes, &judged.order, Translation::Destination)?;
-    let Judged {
+    let is_source = misplaces(alloc, names, nodes, &analysis.order, NatKind::Source)?;
+    let is_destination = misplaces(alloc, names, nodes, &analysis.order, NatKind::Destination)?;
+    let GraphAnalysis {
         order: _,
         costs,
         depths,
-    } = judged;
+    } = analysis;
     let costs = of_chains(names, costs);
     let depths = of_chains(names, depths);
     let is_too_deep = is_too_deep(&depths);
@@ -106,7 +106,7 @@ fn findings(
 }
 
 /// Judges the jumps and gotos of a table; `None` where there is a cycle.
-pub(crate) fn judge_table(
+pub(crate) fn analyze_table(
     alloc: Global,
     names: &TableNames,
 ) -> Result<Option<TableFindings>, AllocError>
@@ -114,8 +114,8 @@ pub(crate) fn judge_table(
         (λ found. AreTableFindings names.now found)) }
 {
     let nodes = table_nodes(alloc, names)?;
-    let Some(judged) = judge(alloc, &nodes)? else {
+    let Some(analysis) = analyze(alloc, &nodes)? else {
         return Ok(None);
     };
-    Ok(Some(findings(alloc, names, &nodes, judged)?))
+    Ok(Some(findings(alloc, names, &nodes, analysis)?))
 }

@@ -5,40 +5,40 @@ use Rattle.std.proofs.Math.Seq.{drop-nil}
 use Rattle.std.specs.Option.{option_map}
 use Rattle.std.specs.List.{slice_get}
 use Rattle.std.proofs.lemmas.Option.{slice_get-map, slice_get-get_or}
-use Rattle.nft_tree.specs.Kinds.{selector_kind}
+use Rattle.nft_tree.specs.ComparedTypes.{selector_compared_type}
 use Rattle.nft_tree.specs.declared.selector.Selector.{Selector}
-use Rattle.nft_tree.specs.declared.kind.Kind.{Kind}
-use Rattle.rule_types.specs.Types.{same_kinds}
+use Rattle.nft_tree.specs.declared.compared_types.ComparedType.{ComparedType}
+use Rattle.rule_types.specs.Types.{same_compared_types}
 use Rattle.rule_types.specs.steps.Keys.{part_is}
 
 -- from a part on, types are the same where that part is and those after it are
-same_kinds-part : (xs ks : List Kind) (i : ℕ) (k : Kind) → slice_get xs i ≡ Some k → same_kinds (drop i xs) (drop i ks) ≡ part_is (slice_get ks i) k && same_kinds (drop (suc i) xs) (drop (suc i) ks)
-same_kinds-part [] ks i k e = cc
-same_kinds-part (x ∷ xs) [] zero k e = refl
-same_kinds-part (x ∷ xs) (y ∷ ks) zero k e = let same : x ≡ k = cc in rw same refl
-same_kinds-part (x ∷ xs) [] (suc i) k e = ap (same_kinds (drop i xs)) (sym (drop-nil {A = Kind} i)) ∙ same_kinds-part xs [] i k e
-same_kinds-part (x ∷ xs) (y ∷ ks) (suc i) k e = same_kinds-part xs ks i k e
+same_compared_types-part : (xs ks : List ComparedType) (i : ℕ) (k : ComparedType) → slice_get xs i ≡ Some k → same_compared_types (drop i xs) (drop i ks) ≡ part_is (slice_get ks i) k && same_compared_types (drop (suc i) xs) (drop (suc i) ks)
+same_compared_types-part [] ks i k e = cc
+same_compared_types-part (x ∷ xs) [] zero k e = refl
+same_compared_types-part (x ∷ xs) (y ∷ ks) zero k e = let same : x ≡ k = cc in rw same refl
+same_compared_types-part (x ∷ xs) [] (suc i) k e = ap (same_compared_types (drop i xs)) (sym (drop-nil {A = ComparedType} i)) ∙ same_compared_types-part xs [] i k e
+same_compared_types-part (x ∷ xs) (y ∷ ks) (suc i) k e = same_compared_types-part xs ks i k e
 
-pub same_kinds-part-same : (xs ks : List Kind) (i : ℕ) (k : Kind) → slice_get xs i ≡ Some k → part_is (slice_get ks i) k ≡ true → same_kinds (drop i xs) (drop i ks) ≡ same_kinds (drop (suc i) xs) (drop (suc i) ks)
-same_kinds-part-same xs ks i k e same = same_kinds-part xs ks i k e ∙ ap (λ b. b && same_kinds (drop (suc i) xs) (drop (suc i) ks)) same
+pub same_compared_types-part-same : (xs ks : List ComparedType) (i : ℕ) (k : ComparedType) → slice_get xs i ≡ Some k → part_is (slice_get ks i) k ≡ true → same_compared_types (drop i xs) (drop i ks) ≡ same_compared_types (drop (suc i) xs) (drop (suc i) ks)
+same_compared_types-part-same xs ks i k e same = same_compared_types-part xs ks i k e ∙ ap (λ b. b && same_compared_types (drop (suc i) xs) (drop (suc i) ks)) same
 
-pub same_kinds-part-other : (xs ks : List Kind) (i : ℕ) (k : Kind) → slice_get xs i ≡ Some k → part_is (slice_get ks i) k ≡ false → same_kinds (drop i xs) (drop i ks) ≡ false
-same_kinds-part-other xs ks i k e other = same_kinds-part xs ks i k e ∙ ap (λ b. b && same_kinds (drop (suc i) xs) (drop (suc i) ks)) other
+pub same_compared_types-part-other : (xs ks : List ComparedType) (i : ℕ) (k : ComparedType) → slice_get xs i ≡ Some k → part_is (slice_get ks i) k ≡ false → same_compared_types (drop i xs) (drop i ks) ≡ false
+same_compared_types-part-other xs ks i k e other = same_compared_types-part xs ks i k e ∙ ap (λ b. b && same_compared_types (drop (suc i) xs) (drop (suc i) ks)) other
 
-pub part_is-within : (ks : List Kind) (i : ℕ) (k : Kind) → part_is (slice_get ks i) k ≡ true → i < length ks
+pub part_is-within : (ks : List ComparedType) (i : ℕ) (k : ComparedType) → part_is (slice_get ks i) k ≡ true → i < length ks
 part_is-within [] i k e = cc
 part_is-within (y ∷ ks) zero k e = omega arith
 part_is-within (y ∷ ks) (suc i) k e = let within : i < length ks = part_is-within ks i k e in omega arith
 
 -- past the last part of the one list, types are the same where the other has no more
-pub same_kinds-end : (xs ks : List Kind) (n : ℕ) → length xs ≡ n → n ≤ length ks → nat_eq n (length ks) ≡ same_kinds (drop n xs) (drop n ks)
-same_kinds-end [] [] zero e w = refl
-same_kinds-end [] (y ∷ ks) zero e w = eqb-zero-suc (length ks)
-same_kinds-end [] ks (suc n) e w = absurd (omega arith)
-same_kinds-end (x ∷ xs) ks zero e w = absurd (omega arith)
-same_kinds-end (x ∷ xs) [] (suc n) e w = absurd (omega arith)
-same_kinds-end (x ∷ xs) (y ∷ ks) (suc n) e w = eqb-suc-suc n (length ks) ∙ same_kinds-end xs ks n (omega arith) (omega arith)
+pub same_compared_types-end : (xs ks : List ComparedType) (n : ℕ) → length xs ≡ n → n ≤ length ks → nat_eq n (length ks) ≡ same_compared_types (drop n xs) (drop n ks)
+same_compared_types-end [] [] zero e w = refl
+same_compared_types-end [] (y ∷ ks) zero e w = eqb-zero-suc (length ks)
+same_compared_types-end [] ks (suc n) e w = absurd (omega arith)
+same_compared_types-end (x ∷ xs) ks zero e w = absurd (omega arith)
+same_compared_types-end (x ∷ xs) [] (suc n) e w = absurd (omega arith)
+same_compared_types-end (x ∷ xs) (y ∷ ks) (suc n) e w = eqb-suc-suc n (length ks) ∙ same_compared_types-end xs ks n (omega arith) (omega arith)
 
 -- what a selector reads is that part of what the selectors read
-pub selector_kind-part : (ss : List Selector) (i : ℕ) (d : Selector) → i < length ss → slice_get (map selector_kind ss) i ≡ Some (selector_kind (get_or ss i d))
-selector_kind-part ss i d lt = slice_get-map selector_kind ss i ∙ ap (option_map selector_kind) (slice_get-get_or ss i d lt)
+pub selector_compared_type-part : (ss : List Selector) (i : ℕ) (d : Selector) → i < length ss → slice_get (map selector_compared_type ss) i ≡ Some (selector_compared_type (get_or ss i d))
+selector_compared_type-part ss i d lt = slice_get-map selector_compared_type ss i ∙ ap (option_map selector_compared_type) (slice_get-get_or ss i d lt)

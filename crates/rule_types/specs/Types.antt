@@ -6,15 +6,15 @@ use Rattle.std.specs.List.{list_any}
 use Rattle.nft_tree.specs.declared.selector.Selector.{Selector}
 use Rattle.nft_tree.specs.declared.selector.ValueType.{ValueType}
 use Rattle.nft_tree.specs.declared.selector.ValueType.TheVariants as types
-use Rattle.nft_tree.specs.declared.kind.Kind.{Kind}
-use Rattle.nft_tree.specs.declared.kind.Kind.TheVariants.{Named, Unnamed}
+use Rattle.nft_tree.specs.declared.compared_types.ComparedType.{ComparedType}
+use Rattle.nft_tree.specs.declared.compared_types.ComparedType.TheVariants.{Named, Unnamed}
 use Rattle.nft_tree.specs.declared.statement.Operator.{Operator}
 use Rattle.nft_tree.specs.declared.statement.Operator.TheVariants as operators
 use Rattle.nft_tree.specs.Tree as tree
 use Rattle.nft_tree.specs.Tree.{RangeTree, KeyTree, DataTree, PairTree, SetRefTree, MapRefTree, MatchTree, Statement}
 use Rattle.nft_tree.specs.Tree.{RuleTree, SetTree, MapTree, ItemTree, TableTree}
-use Rattle.nft_tree.specs.Words.{type_width}
-use Rattle.nft_tree.specs.Kinds.{selector_kind, key_kinds, map_key_kind, map_data_kind}
+use Rattle.nft_tree.specs.ValueTypes.{type_width}
+use Rattle.nft_tree.specs.ComparedTypes.{selector_compared_type, key_compared_types, map_key_compared_type, map_data_compared_type}
 use Rattle.rule_names.specs.Names.{set_named, map_named, some_of}
 
 -- ---- types
@@ -35,31 +35,31 @@ same_type types.CtDirection types.CtDirection = true
 same_type types.CtStatus types.CtStatus = true
 same_type _ _ = false
 
-abbrev pub same_kind : Kind → Kind → Bool
-same_kind (Named a) (Named b) = same_type a b
-same_kind (Unnamed a) (Unnamed b) = a == b
-same_kind (Named a) (Unnamed b) = false
-same_kind (Unnamed a) (Named b) = false
+abbrev pub same_compared_type : ComparedType → ComparedType → Bool
+same_compared_type (Named a) (Named b) = same_type a b
+same_compared_type (Unnamed a) (Unnamed b) = a == b
+same_compared_type (Named a) (Unnamed b) = false
+same_compared_type (Unnamed a) (Named b) = false
 
-abbrev pub same_kinds : List Kind → List Kind → Bool
-same_kinds [] [] = true
-same_kinds (a ∷ others) (b ∷ bs) = same_kind a b && same_kinds others bs
-same_kinds [] (b ∷ bs) = false
-same_kinds (a ∷ others) [] = false
+abbrev pub same_compared_types : List ComparedType → List ComparedType → Bool
+same_compared_types [] [] = true
+same_compared_types (a ∷ others) (b ∷ bs) = same_compared_type a b && same_compared_types others bs
+same_compared_types [] (b ∷ bs) = false
+same_compared_types (a ∷ others) [] = false
 
-abbrev pub kind_width : Kind → ℕ
-kind_width (Named t) = type_width t
-kind_width (Unnamed width) = width
+abbrev pub compared_type_width : ComparedType → ℕ
+compared_type_width (Named t) = type_width t
+compared_type_width (Unnamed width) = width
 
-abbrev pub MOST_WIDTH : ℕ
-MOST_WIDTH = 128
+abbrev pub MAX_KEY_WIDTH : ℕ
+MAX_KEY_WIDTH = 128
 
 -- types joined are over 128 bits
-abbrev pub is_too_wide : List Kind → Bool
-is_too_wide kinds = nat_lt MOST_WIDTH (sum_by kind_width kinds)
+abbrev pub is_too_wide : List ComparedType → Bool
+is_too_wide kinds = nat_lt MAX_KEY_WIDTH (sum_by compared_type_width kinds)
 
 -- the types whose values are in an order: ipv4_addr, inet_service, mark, and those without a name
-abbrev pub is_ordered : Kind → Bool
+abbrev pub is_ordered : ComparedType → Bool
 is_ordered (Named types.Address) = true
 is_ordered (Named types.Service) = true
 is_ordered (Named types.Mark) = true
@@ -67,16 +67,16 @@ is_ordered (Named t) = false
 is_ordered (Unnamed width) = true
 
 -- the types that have ranges: those, inet_proto and icmp_type
-abbrev pub has_ranges : Kind → Bool
+abbrev pub has_ranges : ComparedType → Bool
 has_ranges (Named types.Protocol) = true
 has_ranges (Named types.IcmpType) = true
 has_ranges k = is_ordered k
 
 -- a range of a type that has none
-abbrev pub range_misfits : Kind → RangeTree → Bool
-range_misfits k (tree.between low high) = not (has_ranges k)
-range_misfits k (tree.one v) = false
-range_misfits k (tree.prefix a n) = false
+abbrev pub range_mismatches : ComparedType → RangeTree → Bool
+range_mismatches k (tree.between low high) = not (has_ranges k)
+range_mismatches k (tree.one v) = false
+range_mismatches k (tree.prefix a n) = false
 
 -- ---- a selector against a value
 
@@ -94,97 +94,97 @@ is_single (tree.between low high) = false
 is_single (tree.prefix a n) = false
 
 -- an order against a range or a prefix, or of a type without order; a range of a type that has none
-abbrev pub compare_misfits : Selector → Operator → RangeTree → Bool
-compare_misfits s o r =
-    (is_order o && not (is_single r && is_ordered (selector_kind s))) || range_misfits (selector_kind s) r
+abbrev pub compare_mismatches : Selector → Operator → RangeTree → Bool
+compare_mismatches s o r =
+    (is_order o && not (is_single r && is_ordered (selector_compared_type s))) || range_mismatches (selector_compared_type s) r
 
 -- ---- elements of sets
 
 -- the key hasn't as many parts as the set, or is a range of a type that has none
-abbrev pub key_misfits : List Kind → KeyTree → Bool
-key_misfits (k ∷ []) (tree.single r) = range_misfits k r
-key_misfits kinds (tree.single r) = true
-key_misfits kinds (tree.joined vs) = not (length vs == length kinds)
+abbrev pub key_mismatches : List ComparedType → KeyTree → Bool
+key_mismatches (k ∷ []) (tree.single r) = range_mismatches k r
+key_mismatches kinds (tree.single r) = true
+key_mismatches kinds (tree.joined vs) = not (length vs == length kinds)
 
-abbrev pub set_misfits : SetTree → Bool
-set_misfits s =
-    is_too_wide (key_kinds s.key) || list_any (λ e. key_misfits (key_kinds s.key) e.key) (some_of s.elements)
+abbrev pub set_mismatches : SetTree → Bool
+set_mismatches s =
+    is_too_wide (key_compared_types s.key) || list_any (λ e. key_mismatches (key_compared_types s.key) e.key) (some_of s.elements)
 
 -- a set of other types than the selectors
-abbrev pub named_set_misfits : List Kind → Option SetTree → Option MapTree → Bool
-named_set_misfits kinds (Some s) m = not (same_kinds kinds (key_kinds s.key))
+abbrev pub named_set_mismatches : List ComparedType → Option SetTree → Option MapTree → Bool
+named_set_mismatches kinds (Some s) m = not (same_compared_types kinds (key_compared_types s.key))
 -- a map where a set is wanted
-named_set_misfits kinds None m = is_some m
+named_set_mismatches kinds None m = is_some m
 
-abbrev pub set_ref_misfits : TableTree → List Kind → SetRefTree → Bool
-set_ref_misfits t kinds (tree.named_set name) = named_set_misfits kinds (set_named t name) (map_named t name)
-set_ref_misfits t kinds (tree.elements es) = list_any (λ e. key_misfits kinds e.key) es
+abbrev pub set_ref_mismatches : TableTree → List ComparedType → SetRefTree → Bool
+set_ref_mismatches t kinds (tree.named_set name) = named_set_mismatches kinds (set_named t name) (map_named t name)
+set_ref_mismatches t kinds (tree.elements es) = list_any (λ e. key_mismatches kinds e.key) es
 
 -- selectors against a set
-abbrev pub lookup_misfits : TableTree → List Selector → SetRefTree → Bool
-lookup_misfits t ss set = is_too_wide (map selector_kind ss) || set_ref_misfits t (map selector_kind ss) set
+abbrev pub lookup_mismatches : TableTree → List Selector → SetRefTree → Bool
+lookup_mismatches t ss set = is_too_wide (map selector_compared_type ss) || set_ref_mismatches t (map selector_compared_type ss) set
 
-abbrev pub match_misfits : TableTree → MatchTree → Bool
-match_misfits t (tree.compare s o r) = compare_misfits s o r
-match_misfits t (tree.is_in ss set) = lookup_misfits t ss set
-match_misfits t (tree.not_in ss set) = lookup_misfits t ss set
-match_misfits t _ = false
+abbrev pub match_mismatches : TableTree → MatchTree → Bool
+match_mismatches t (tree.compare s o r) = compare_mismatches s o r
+match_mismatches t (tree.is_in ss set) = lookup_mismatches t ss set
+match_mismatches t (tree.not_in ss set) = lookup_mismatches t ss set
+match_mismatches t _ = false
 
 -- ---- elements of maps: `None` stands for verdicts, `Some` of a type for its values
 
 -- a verdict where a value is wanted, or the reverse
-abbrev pub data_misfits : Option Kind → DataTree → Bool
-data_misfits None (tree.to_verdict v) = false
-data_misfits None (tree.to_value v) = true
-data_misfits (Some k) (tree.to_verdict v) = true
-data_misfits (Some k) (tree.to_value v) = false
+abbrev pub data_mismatches : Option ComparedType → DataTree → Bool
+data_mismatches None (tree.to_verdict v) = false
+data_mismatches None (tree.to_value v) = true
+data_mismatches (Some k) (tree.to_verdict v) = true
+data_mismatches (Some k) (tree.to_value v) = false
 
-abbrev pub pair_misfits : Kind → Option Kind → PairTree → Bool
-pair_misfits key wanted p = range_misfits key p.key || data_misfits wanted p.value
+abbrev pub pair_mismatches : ComparedType → Option ComparedType → PairTree → Bool
+pair_mismatches key wanted p = range_mismatches key p.key || data_mismatches wanted p.value
 
-abbrev pub map_misfits : MapTree → Bool
-map_misfits m = list_any (pair_misfits (map_key_kind m.types) (map_data_kind m.types)) (some_of m.elements)
+abbrev pub map_mismatches : MapTree → Bool
+map_mismatches m = list_any (pair_mismatches (map_key_compared_type m.types) (map_data_compared_type m.types)) (some_of m.elements)
 
-abbrev pub same_data : Option Kind → Option Kind → Bool
+abbrev pub same_data : Option ComparedType → Option ComparedType → Bool
 same_data None None = true
-same_data (Some a) (Some b) = same_kind a b
+same_data (Some a) (Some b) = same_compared_type a b
 same_data None (Some b) = false
 same_data (Some a) None = false
 
 -- a map of another key type than the selector's, or of other data than is wanted
-abbrev pub named_map_misfits : Kind → Option Kind → Option SetTree → Option MapTree → Bool
-named_map_misfits key wanted s (Some m) =
-    not (same_kind key (map_key_kind m.types) && same_data wanted (map_data_kind m.types))
+abbrev pub named_map_mismatches : ComparedType → Option ComparedType → Option SetTree → Option MapTree → Bool
+named_map_mismatches key wanted s (Some m) =
+    not (same_compared_type key (map_key_compared_type m.types) && same_data wanted (map_data_compared_type m.types))
 -- a set where a map is wanted
-named_map_misfits key wanted s None = is_some s
+named_map_mismatches key wanted s None = is_some s
 
-abbrev pub map_ref_misfits : TableTree → Selector → Option Kind → MapRefTree → Bool
-map_ref_misfits t s wanted (tree.named_map name) =
-    named_map_misfits (selector_kind s) wanted (set_named t name) (map_named t name)
-map_ref_misfits t s wanted (tree.pairs ps) = list_any (pair_misfits (selector_kind s) wanted) ps
+abbrev pub map_ref_mismatches : TableTree → Selector → Option ComparedType → MapRefTree → Bool
+map_ref_mismatches t s wanted (tree.named_map name) =
+    named_map_mismatches (selector_compared_type s) wanted (set_named t name) (map_named t name)
+map_ref_mismatches t s wanted (tree.pairs ps) = list_any (pair_mismatches (selector_compared_type s) wanted) ps
 
 -- ---- statements
 
 -- a verdict map gives verdicts, marks are set to marks, addresses are translated to addresses
-abbrev pub statement_misfits : TableTree → Statement → Bool
-statement_misfits t (tree.matching m) = match_misfits t m
-statement_misfits t (tree.verdict_map s m) = map_ref_misfits t s None m
-statement_misfits t (tree.set_mark f (tree.looked_up l)) = map_ref_misfits t l.selector (Some (Named types.Mark)) l.map
-statement_misfits t (tree.nat (tree.source (tree.source_look l))) =
-    map_ref_misfits t l.selector (Some (Named types.Address)) l.map
-statement_misfits t (tree.nat (tree.destination (tree.destination_look l))) =
-    map_ref_misfits t l.selector (Some (Named types.Address)) l.map
-statement_misfits t _ = false
+abbrev pub statement_mismatches : TableTree → Statement → Bool
+statement_mismatches t (tree.matching m) = match_mismatches t m
+statement_mismatches t (tree.verdict_map s m) = map_ref_mismatches t s None m
+statement_mismatches t (tree.set_mark f (tree.looked_up l)) = map_ref_mismatches t l.selector (Some (Named types.Mark)) l.map
+statement_mismatches t (tree.nat (tree.source (tree.source_lookup l))) =
+    map_ref_mismatches t l.selector (Some (Named types.Address)) l.map
+statement_mismatches t (tree.nat (tree.destination (tree.destination_lookup l))) =
+    map_ref_mismatches t l.selector (Some (Named types.Address)) l.map
+statement_mismatches t _ = false
 
-abbrev pub rule_misfits : TableTree → RuleTree → Bool
-rule_misfits t r = list_any (statement_misfits t) r.statements
+abbrev pub rule_mismatches : TableTree → RuleTree → Bool
+rule_mismatches t r = list_any (statement_mismatches t) r.statements
 
-abbrev pub item_misfits : TableTree → ItemTree → Bool
-item_misfits t (tree.chain c) = list_any (rule_misfits t) c.rules
-item_misfits t (tree.set s) = set_misfits s
-item_misfits t (tree.map_item m) = map_misfits m
-item_misfits t (tree.comment text) = false
+abbrev pub item_mismatches : TableTree → ItemTree → Bool
+item_mismatches t (tree.chain c) = list_any (rule_mismatches t) c.rules
+item_mismatches t (tree.set s) = set_mismatches s
+item_mismatches t (tree.map_item m) = map_mismatches m
+item_mismatches t (tree.comment text) = false
 
 -- N08: types that don't fit
-abbrev pub table_misfits : TableTree → Bool
-table_misfits t = list_any (item_misfits t) t.items
+abbrev pub table_mismatches : TableTree → Bool
+table_mismatches t = list_any (item_mismatches t) t.items

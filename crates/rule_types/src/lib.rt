@@ -1,10 +1,10 @@
 //! Whether types fit: keys selectors, data statements, values orders and ranges.
 #![tactic(auto)]
 
+mod compared_types;
 mod keys;
-mod kinds;
 mod maps;
 mod statements;
 mod tables;
 
-pub use tables::misfits;
+pub use tables::has_type_mismatch;

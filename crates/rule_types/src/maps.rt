@@ -2,18 +2,18 @@
 ghost use Rattle.std.specs.Prelude.{◌≡◌, map};
 ghost use Rattle.std.specs.List.{list_any};
 ghost use Rattle.nft_tree.specs.Tree.{data_tree, map_ref_tree, map_tree, pair_tree};
-ghost use Rattle.nft_tree.specs.Kinds.{selector_kind};
+ghost use Rattle.nft_tree.specs.ComparedTypes.{selector_compared_type};
 ghost use Rattle.rule_names.specs.Names.{map_named, set_named};
-ghost use Rattle.rule_types.specs.Types.{data_misfits, map_misfits, map_ref_misfits, named_map_misfits, pair_misfits, same_data};
+ghost use Rattle.rule_types.specs.Types.{data_mismatches, map_mismatches, map_ref_mismatches, named_map_mismatches, pair_mismatches, same_data};
 
-use crate::kinds::{range_misfits, same_kind};
-use nft_tree::{Data, Kind, MapDecl, MapRef, Pair, Selector, any};
+use crate::compared_types::{range_mismatches, same_compared_type};
+use nft_tree::{ComparedType, Data, MapDecl, MapRef, Pair, Selector, any};
 use rule_names::TableNames;
 
 /// Whether it is a verdict where a value is wanted, or the reverse. `wanted` is the type of the
 /// values; `None` where they are to be verdicts.
-fn data_misfits(wanted: Option<Kind>, given: &Data) -> bool
-    ensures { result ≡ data_misfits wanted (data_tree given.now) }
+fn data_mismatches(wanted: Option<ComparedType>, given: &Data) -> bool
+    ensures { result ≡ data_mismatches wanted (data_tree given.now) }
 {
     match (wanted, given) {
         (None, Data::Verdict(_)) | (Some(_), Data::Value(_)) => false,
@@ -21,60 +21,66 @@ fn data_misfits(wanted: Option<Kind>, given: &Data) -> bool
     }
 }
 
-fn pair_misfits(key: Kind, wanted: Option<Kind>, pair: &Pair) -> bool
-    ensures { result ≡ pair_misfits key wanted (pair_tree pair.now) }
+fn pair_mismatches(key: ComparedType, wanted: Option<ComparedType>, pair: &Pair) -> bool
+    ensures { result ≡ pair_mismatches key wanted (pair_tree pair.now) }
 {
-    range_misfits(key, &pair.key) || data_misfits(wanted, &pair.value)
+    range_mismatches(key, &pair.key) || data_mismatches(wanted, &pair.value)
 }
 
-fn some_pair_misfits(key: Kind, wanted: Option<Kind>, pairs: &[Pair]) -> bool
-    ensures { result ≡ list_any (pair_misfits key wanted) (map pair_tree pairs.now) }
+fn some_pair_mismatches(key: ComparedType, wanted: Option<ComparedType>, pairs: &[Pair]) -> bool
+    ensures { result ≡ list_any (pair_mismatches key wanted) (map pair_tree pairs.now) }
 {
-    any(pairs, |pair| pair_misfits(key, wanted, pair))
+    any(pairs, |pair| pair_mismatches(key, wanted, pair))
 }
 
 /// Whether an element of a declared map doesn't fit the map's types.
-pub(crate) fn map_misfits(map: &MapDecl) -> bool
-    ensures { result ≡ map_misfits (map_tree map.now) }
+pub(crate) fn map_mismatches(map: &MapDecl) -> bool
+    ensures { result ≡ map_mismatches (map_tree map.now) }
 {
     match &map.elements {
-        Some(pairs) => some_pair_misfits(map.types.key(), map.types.data(), pairs),
+        Some(pairs) => some_pair_mismatches(map.types.key(), map.types.data(), pairs),
         None => false,
     }
 }
 
 /// Whether both are verdicts or both values of one type.
-fn same_data(one: Option<Kind>, other: Option<Kind>) -> bool
+fn same_data(one: Option<ComparedType>, other: Option<ComparedType>) -> bool
     ensures { result ≡ same_data one other }
 {
     match (one, other) {
         (None, None) => true,
-        (Some(one), Some(other)) => same_kind(one, other),
+        (Some(one), Some(other)) => same_compared_type(one, other),
         _ => false,
     }
 }
 
 /// Whether the name is that of a map of another key type or other data, or of a set.
-fn named_map_misfits(names: &TableNames, key: Kind, wanted: Option<Kind>, name: &[u8]) -> bool
-    ensures { result ≡ named_map_misfits key wanted (set_named names.now name.now) (map_named names.now name.now) }
+fn named_map_mismatches(
+    names: &TableNames,
+    key: ComparedType,
+    wanted: Option<ComparedType>,
+    name: &[u8],
+) -> bool
+    ensures { result ≡ named_map_mismatches key wanted (set_named names.now name.now) (map_named names.now name.now) }
 {
     match names.map(name) {
-        Some(map) => !(same_kind(key, map.types.key()) && same_data(wanted, map.types.data())),
+        Some(map) => !(same_compared_type(key, map.types.key())
+            && same_data(wanted, map.types.data())),
         None => names.set(name).is_some(),
     }
 }
 
 /// Whether the map doesn't take what the selector reads to what is wanted.
-pub(crate) fn map_ref_misfits(
+pub(crate) fn map_ref_mismatches(
     names: &TableNames,
     selector: Selector,
-    wanted: Option<Kind>,
+    wanted: Option<ComparedType>,
     map: &MapRef,
 ) -> bool
-    ensures { result ≡ map_ref_misfits names.now selector wanted (map_ref_tree map.now) }
+    ensures { result ≡ map_ref_mismatches names.now selector wanted (map_ref_tree map.now) }
 {
     match map {
-        MapRef::Named(name) => named_map_misfits(names, selector.kind(), wanted, name),
-        MapRef::Anonymous(pairs) => some_pair_misfits(selector.kind(), wanted, pairs),
+        MapRef::Named(name) => named_map_mismatches(names, selector.kind(), wanted, name),
+        MapRef::Anonymous(pairs) => some_pair_mismatches(selector.kind(), wanted, pairs),
     }
 }

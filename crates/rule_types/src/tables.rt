@@ -2,11 +2,11 @@
 ghost use Rattle.std.specs.Prelude.{◌≡◌};
 ghost use Rattle.std.specs.List.{list_any};
 ghost use Rattle.nft_tree.specs.Tree.{item_tree, rule_tree};
-ghost use Rattle.rule_types.specs.Types.{item_misfits, rule_misfits, table_misfits};
+ghost use Rattle.rule_types.specs.Types.{item_mismatches, rule_mismatches, table_mismatches};
 
-use crate::keys::set_misfits;
-use crate::maps::map_misfits;
-use crate::statements::statement_misfits;
+use crate::keys::set_mismatches;
+use crate::maps::map_mismatches;
+use crate::statements::statement_mismatches;
 use nft_tree::{Item, Rule, any};
 use rule_names::TableNames;
 
@@ -15,34 +15,34 @@ use rule_names::TableNames;
 /// reverse, a mark is set to what is no mark or an address becomes what is no address, an order
 /// or a range is asked of a type without it, or types joined have more than 128 bits or are not
 /// as many as their set's.
-pub fn misfits(names: &[TableNames]) -> bool
-    ensures { result ≡ list_any table_misfits names.now }
+pub fn has_type_mismatch(names: &[TableNames]) -> bool
+    ensures { result ≡ list_any table_mismatches names.now }
 {
-    names.iter().any(table_misfits)
+    names.iter().any(table_mismatches)
 }
 
-fn table_misfits(names: &TableNames) -> bool
-    ensures { result ≡ table_misfits names.now }
+fn table_mismatches(names: &TableNames) -> bool
+    ensures { result ≡ table_mismatches names.now }
 {
-    any(&names.table().items, |item| item_misfits(names, item))
+    any(&names.table().items, |item| item_mismatches(names, item))
 }
 
-fn item_misfits(names: &TableNames, item: &Item) -> bool
-    ensures { result ≡ item_misfits names.now (item_tree item.now) }
+fn item_mismatches(names: &TableNames, item: &Item) -> bool
+    ensures { result ≡ item_mismatches names.now (item_tree item.now) }
 {
     match item {
-        Item::Chain(chain) => any(&chain.rules, |rule| rule_misfits(names, rule)),
-        Item::Set(set) => set_misfits(set),
-        Item::Map(map) => map_misfits(map),
+        Item::Chain(chain) => any(&chain.rules, |rule| rule_mismatches(names, rule)),
+        Item::Set(set) => set_mismatches(set),
+        Item::Map(map) => map_mismatches(map),
         Item::Comment(_) => false,
     }
 }
 
-fn rule_misfits(names: &TableNames, rule: &Rule) -> bool
-    ensures { result ≡ rule_misfits names.now (rule_tree rule.now) }
+fn rule_mismatches(names: &TableNames, rule: &Rule) -> bool
+    ensures { result ≡ rule_mismatches names.now (rule_tree rule.now) }
 {
     any(
         &rule.statements,
-        |statement| statement_misfits(names, statement),
+        |statement| statement_mismatches(names, statement),
     )
 }

@@ -9,15 +9,15 @@ use Rattle.std.proofs.lemmas.Bool.{eqb-true, leb-true, le-leb, and_parts, and_fr
 use Rattle.list_laws.specs.Lists.{text-refl}
 use Rattle.nft_tree.specs.Tree as tree
 use Rattle.nft_tree.specs.Tree.{Text}
-use Rattle.box_file.specs.Box.{some_two}
+use Rattle.box_file.specs.Box.{any_pair}
 use Rattle.nft_values.specs.Values.{Span}
 use Rattle.set_intervals.specs.declared.range.Range.{Range}
-use Rattle.set_intervals.specs.Pairs.{Covers, Holds, Clashing}
-use Rattle.rule_values.specs.declared.outcome.Outcome.{Outcome}
-use Rattle.rule_values.specs.declared.outcome.Outcome.TheVariants as outcomes
-use Rattle.rule_values.specs.Faults.{Given, a_verdict, a_value, Entry, contradict, same_given, same_span}
-use Rattle.rule_values.specs.steps.Outcomes.{place_of, outcome_of, IsOutcome, IsEntry, AreEntries, Stand}
-use Rattle.rule_values.proofs.Places.{place-one}
+use Rattle.set_intervals.specs.Pairs.{Covers, HasValue, HasClash}
+use Rattle.rule_values.specs.declared.comparable_data.ComparableData.{ComparableData}
+use Rattle.rule_values.specs.declared.comparable_data.ComparableData.TheVariants as comparables
+use Rattle.rule_values.specs.Faults.{ElementData, a_verdict, a_value, MapEntry, contradict, same_element_data, same_span}
+use Rattle.rule_values.specs.steps.MapEntries.{name_index_of, comparable_form, RepresentsData, RepresentsEntry, RepresentEach, RepresentsEntries}
+use Rattle.rule_values.proofs.TypedValues.{name_index-one}
 
 -- ---- tests
 
@@ -36,7 +36,7 @@ same-spans a b h =
     let both = and_parts (nat_eq a.low b.low) (nat_eq a.high b.high) h in
     ap₂ (λ (l h : ℕ). let s : Span = record { low = l; high = h } in s) (eqb-true a.low b.low both.0) (eqb-true a.high b.high both.1)
 
-same-eq : (a b : Given) → same_given a b ≡ true → a ≡ b
+same-eq : (a b : ElementData) → same_element_data a b ≡ true → a ≡ b
 same-eq (a_verdict tree.accept) (a_verdict tree.accept) h = refl
 same-eq (a_verdict tree.drop) (a_verdict tree.drop) h = refl
 same-eq (a_verdict tree.continue) (a_verdict tree.continue) h = refl
@@ -46,7 +46,7 @@ same-eq (a_verdict (tree.goto a)) (a_verdict (tree.goto b)) h = ap (λ t. a_verd
 same-eq (a_value a) (a_value b) h = ap a_value (same-spans a b h)
 same-eq _ _ h = cc
 
-same-refl : (a : Given) → same_given a a ≡ true
+same-refl : (a : ElementData) → same_element_data a a ≡ true
 same-refl (a_verdict tree.accept) = refl
 same-refl (a_verdict tree.drop) = refl
 same-refl (a_verdict tree.continue) = refl
@@ -56,61 +56,61 @@ same-refl (a_verdict (tree.goto t)) = text-refl t
 same-refl (a_value s) = and_from (nat_eq s.low s.low) (nat_eq s.high s.high) (eq-eqb s.low s.low refl) (eq-eqb s.high s.high refl)
 
 -- what an outcome stands for, by the names
-GivenBy : List (Bor Text) → Outcome → Given → Type 0
-GivenBy names outcomes.Accept g = g ≡ a_verdict tree.accept
-GivenBy names outcomes.Drop g = g ≡ a_verdict tree.drop
-GivenBy names outcomes.Continue g = g ≡ a_verdict tree.continue
-GivenBy names outcomes.Return g = g ≡ a_verdict tree.return
-GivenBy names (outcomes.Jump i) g = (t : Text) × (g ≡ a_verdict (tree.jump t)) × (place_of t names ≡ Some i)
-GivenBy names (outcomes.Goto i) g = (t : Text) × (g ≡ a_verdict (tree.goto t)) × (place_of t names ≡ Some i)
-GivenBy names (outcomes.Numbers l h) g = g ≡ a_value (record { low = l; high = h })
+ElementDataOf : List (Bor Text) → ComparableData → ElementData → Type 0
+ElementDataOf names comparables.Accept g = g ≡ a_verdict tree.accept
+ElementDataOf names comparables.Drop g = g ≡ a_verdict tree.drop
+ElementDataOf names comparables.Continue g = g ≡ a_verdict tree.continue
+ElementDataOf names comparables.Return g = g ≡ a_verdict tree.return
+ElementDataOf names (comparables.Jump i) g = (t : Text) × (g ≡ a_verdict (tree.jump t)) × (name_index_of t names ≡ Some i)
+ElementDataOf names (comparables.Goto i) g = (t : Text) × (g ≡ a_verdict (tree.goto t)) × (name_index_of t names ≡ Some i)
+ElementDataOf names (comparables.Numbers l h) g = g ≡ a_value (record { low = l; high = h })
 
-at-name : (f : ℕ → Outcome) (names : List (Bor Text)) (t : Text) (o : Outcome) → option_map f (place_of t names) ≡ Some o → (i : ℕ) × (place_of t names ≡ Some i) × (f i ≡ o)
-at-name f names t o h = by (place_of t names) refl h
+at-name : (f : ℕ → ComparableData) (names : List (Bor Text)) (t : Text) (o : ComparableData) → option_map f (name_index_of t names) ≡ Some o → (i : ℕ) × (name_index_of t names ≡ Some i) × (f i ≡ o)
+at-name f names t o h = by (name_index_of t names) refl h
   where
-    by : (p : Option ℕ) → place_of t names ≡ p → option_map f p ≡ Some o → (i : ℕ) × (place_of t names ≡ Some i) × (f i ≡ o)
+    by : (p : Option ℕ) → name_index_of t names ≡ p → option_map f p ≡ Some o → (i : ℕ) × (name_index_of t names ≡ Some i) × (f i ≡ o)
     by None e h = cc
     by (Some i) e h = (i, e, cc)
 
-given-by : (names : List (Bor Text)) (g : Given) (o : Outcome) → outcome_of names g ≡ Some o → GivenBy names o g
-unfolding GivenBy
-given-by names (a_verdict tree.accept) o h = let e : outcomes.Accept ≡ o = cc in subst (λ (u : Outcome). GivenBy names u (a_verdict tree.accept)) e refl
-given-by names (a_verdict tree.drop) o h = let e : outcomes.Drop ≡ o = cc in subst (λ (u : Outcome). GivenBy names u (a_verdict tree.drop)) e refl
-given-by names (a_verdict tree.continue) o h = let e : outcomes.Continue ≡ o = cc in subst (λ (u : Outcome). GivenBy names u (a_verdict tree.continue)) e refl
-given-by names (a_verdict tree.return) o h = let e : outcomes.Return ≡ o = cc in subst (λ (u : Outcome). GivenBy names u (a_verdict tree.return)) e refl
+given-by : (names : List (Bor Text)) (g : ElementData) (o : ComparableData) → comparable_form names g ≡ Some o → ElementDataOf names o g
+unfolding ElementDataOf
+given-by names (a_verdict tree.accept) o h = let e : comparables.Accept ≡ o = cc in subst (λ (u : ComparableData). ElementDataOf names u (a_verdict tree.accept)) e refl
+given-by names (a_verdict tree.drop) o h = let e : comparables.Drop ≡ o = cc in subst (λ (u : ComparableData). ElementDataOf names u (a_verdict tree.drop)) e refl
+given-by names (a_verdict tree.continue) o h = let e : comparables.Continue ≡ o = cc in subst (λ (u : ComparableData). ElementDataOf names u (a_verdict tree.continue)) e refl
+given-by names (a_verdict tree.return) o h = let e : comparables.Return ≡ o = cc in subst (λ (u : ComparableData). ElementDataOf names u (a_verdict tree.return)) e refl
 given-by names (a_verdict (tree.jump t)) o h =
-    let at = at-name outcomes.Jump names t o h in
-    subst (λ (u : Outcome). GivenBy names u (a_verdict (tree.jump t))) at.2 (t, refl, at.1)
+    let at = at-name comparables.Jump names t o h in
+    subst (λ (u : ComparableData). ElementDataOf names u (a_verdict (tree.jump t))) at.2 (t, refl, at.1)
 given-by names (a_verdict (tree.goto t)) o h =
-    let at = at-name outcomes.Goto names t o h in
-    subst (λ (u : Outcome). GivenBy names u (a_verdict (tree.goto t))) at.2 (t, refl, at.1)
-given-by names (a_value s) o h = let e : outcomes.Numbers s.low s.high ≡ o = cc in subst (λ (u : Outcome). GivenBy names u (a_value s)) e refl
+    let at = at-name comparables.Goto names t o h in
+    subst (λ (u : ComparableData). ElementDataOf names u (a_verdict (tree.goto t))) at.2 (t, refl, at.1)
+given-by names (a_value s) o h = let e : comparables.Numbers s.low s.high ≡ o = cc in subst (λ (u : ComparableData). ElementDataOf names u (a_value s)) e refl
 
-given-one : (names : List (Bor Text)) (o : Outcome) (a b : Given) → GivenBy names o a → GivenBy names o b → a ≡ b
-unfolding GivenBy
-given-one names outcomes.Accept a b h k = h ∙ sym k
-given-one names outcomes.Drop a b h k = h ∙ sym k
-given-one names outcomes.Continue a b h k = h ∙ sym k
-given-one names outcomes.Return a b h k = h ∙ sym k
-given-one names (outcomes.Jump i) a b h k = h.1 ∙ ap (λ t. a_verdict (tree.jump t)) (place-one h.0 k.0 names i h.2 k.2) ∙ sym k.1
-given-one names (outcomes.Goto i) a b h k = h.1 ∙ ap (λ t. a_verdict (tree.goto t)) (place-one h.0 k.0 names i h.2 k.2) ∙ sym k.1
-given-one names (outcomes.Numbers l u) a b h k = h ∙ sym k
+given-one : (names : List (Bor Text)) (o : ComparableData) (a b : ElementData) → ElementDataOf names o a → ElementDataOf names o b → a ≡ b
+unfolding ElementDataOf
+given-one names comparables.Accept a b h k = h ∙ sym k
+given-one names comparables.Drop a b h k = h ∙ sym k
+given-one names comparables.Continue a b h k = h ∙ sym k
+given-one names comparables.Return a b h k = h ∙ sym k
+given-one names (comparables.Jump i) a b h k = h.1 ∙ ap (λ t. a_verdict (tree.jump t)) (name_index-one h.0 k.0 names i h.2 k.2) ∙ sym k.1
+given-one names (comparables.Goto i) a b h k = h.1 ∙ ap (λ t. a_verdict (tree.goto t)) (name_index-one h.0 k.0 names i h.2 k.2) ∙ sym k.1
+given-one names (comparables.Numbers l u) a b h k = h ∙ sym k
 
 -- equal outcomes are of the same thing
-one-given : (names : List (Bor Text)) (a b : Given) (o u : Outcome) → IsOutcome names a o → IsOutcome names b u → o ≡ u → same_given a b ≡ true
+one-given : (names : List (Bor Text)) (a b : ElementData) (o u : ComparableData) → RepresentsData names a o → RepresentsData names b u → o ≡ u → same_element_data a b ≡ true
 one-given names a b o u h k e =
     let same = given-one names u a b (given-by names a u (h.is ∙ ap Some e)) (given-by names b u k.is) in
-    ap (λ g. same_given g b) same ∙ same-refl b
+    ap (λ g. same_element_data g b) same ∙ same-refl b
 
 -- and the same thing has equal outcomes
-one-outcome : (names : List (Bor Text)) (a b : Given) (o u : Outcome) → IsOutcome names a o → IsOutcome names b u → same_given a b ≡ true → o ≡ u
-one-outcome names a b o u h k e =
-    let same : Some o ≡ Some u = sym h.is ∙ ap (outcome_of names) (same-eq a b e) ∙ k.is in
+one-comparable_data : (names : List (Bor Text)) (a b : ElementData) (o u : ComparableData) → RepresentsData names a o → RepresentsData names b u → same_element_data a b ≡ true → o ≡ u
+one-comparable_data names a b o u h k e =
+    let same : Some o ≡ Some u = sym h.is ∙ ap (comparable_form names) (same-eq a b e) ∙ k.is in
     cc
 
 -- ---- two entries
 
-two-contradict : (names : List (Bor Text)) (e f : Entry) (p q : Range × Outcome) (key : ℕ) → IsEntry names e p → IsEntry names f q → Covers p.0 key → Covers q.0 key → (p.1 ≡ q.1 → ⊥) → contradict e f ≡ true
+two-contradict : (names : List (Bor Text)) (e f : MapEntry) (p q : Range × ComparableData) (key : ℕ) → RepresentsEntry names e p → RepresentsEntry names f q → Covers p.0 key → Covers q.0 key → (p.1 ≡ q.1 → ⊥) → contradict e f ≡ true
 two-contradict names e f p q key i j c d differ =
     let el = ap (λ (s : Span). s.low) i.keys in
     let eh = ap (λ (s : Span). s.high) i.keys in
@@ -120,20 +120,20 @@ two-contradict names e f p q key i j c d differ =
     let cb = c.below in
     let da = d.above in
     let db = d.below in
-    and_from (nat_le e.keys.low f.keys.high && nat_le f.keys.low e.keys.high) (not (same_given e.given f.given))
+    and_from (nat_le e.keys.low f.keys.high && nat_le f.keys.low e.keys.high) (not (same_element_data e.given f.given))
     (and_from (nat_le e.keys.low f.keys.high) (nat_le f.keys.low e.keys.high) (le-leb e.keys.low f.keys.high (omega arith)) (le-leb f.keys.low e.keys.high (omega arith)))
-    (true-not (same_given e.given f.given) (λ s. differ (one-outcome names e.given f.given p.1 q.1 i.outcome j.outcome s)))
+    (true-not (same_element_data e.given f.given) (λ s. differ (one-comparable_data names e.given f.given p.1 q.1 i.comparable_data j.comparable_data s)))
 
 -- a number that both have, with two outcomes
-record Shared (p q : Range × Outcome) : Type 0 where
+record Shared (p q : Range × ComparableData) : Type 0 where
   key : ℕ
   first : Covers p.0 key
   second : Covers q.0 key
   differ : p.1 ≡ q.1 → ⊥
 
-contradict-two : (names : List (Bor Text)) (e f : Entry) (p q : Range × Outcome) → IsEntry names e p → IsEntry names f q → contradict e f ≡ true → Shared p q
+contradict-two : (names : List (Bor Text)) (e f : MapEntry) (p q : Range × ComparableData) → RepresentsEntry names e p → RepresentsEntry names f q → contradict e f ≡ true → Shared p q
 contradict-two names e f p q i j h =
-    let parts = and_parts (nat_le e.keys.low f.keys.high && nat_le f.keys.low e.keys.high) (not (same_given e.given f.given)) h in
+    let parts = and_parts (nat_le e.keys.low f.keys.high && nat_le f.keys.low e.keys.high) (not (same_element_data e.given f.given)) h in
     let ends = and_parts (nat_le e.keys.low f.keys.high) (nat_le f.keys.low e.keys.high) parts.0 in
     let one : e.keys.low ≤ f.keys.high = leb-true e.keys.low f.keys.high ends.0 in
     let two : f.keys.low ≤ e.keys.high = leb-true f.keys.low e.keys.high ends.1 in
@@ -147,12 +147,12 @@ contradict-two names e f p q i j h =
       key = max p.0.low q.0.low;
       first = record { above = omega arith; below = omega arith };
       second = record { above = omega arith; below = omega arith };
-      differ = λ same. not-true (same_given e.given f.given) parts.1 (one-given names e.given f.given p.1 q.1 i.outcome j.outcome same);
+      differ = λ same. not-true (same_element_data e.given f.given) parts.1 (one-given names e.given f.given p.1 q.1 i.comparable_data j.comparable_data same);
     }
 
 -- ---- an entry and a list
 
-any-contradict : (names : List (Bor Text)) (e : Entry) (p : Range × Outcome) (es : List Entry) (ps : List (Range × Outcome)) (key : ℕ) (v : Outcome) → IsEntry names e p → AreEntries names es ps → Covers p.0 key → Holds ps key v → (p.1 ≡ v → ⊥) → list_any (contradict e) es ≡ true
+any-contradict : (names : List (Bor Text)) (e : MapEntry) (p : Range × ComparableData) (es : List MapEntry) (ps : List (Range × ComparableData)) (key : ℕ) (v : ComparableData) → RepresentsEntry names e p → RepresentEach names es ps → Covers p.0 key → HasValue ps key v → (p.1 ≡ v → ⊥) → list_any (contradict e) es ≡ true
 any-contradict names e p [] [] key v i are c h differ = absurd h
 any-contradict names e p (f ∷ es) (q ∷ ps) key v i are c (inl h) differ = or_left (contradict e f) (list_any (contradict e) es) (two-contradict names e f p q key i are.0 c h.0 (λ s. differ (s ∙ h.1)))
 any-contradict names e p (f ∷ es) (q ∷ ps) key v i are c (inr h) differ = or_right (contradict e f) (list_any (contradict e) es) (any-contradict names e p es ps key v i are.1 c h differ)
@@ -160,14 +160,14 @@ any-contradict names e p [] (q ∷ ps) key v i are c h differ = absurd are
 any-contradict names e p (f ∷ es) [] key v i are c h differ = absurd are
 
 -- a number that the pair and another have, with another outcome
-record SharedWith (p : Range × Outcome) (ps : List (Range × Outcome)) : Type 0 where
+record SharedWith (p : Range × ComparableData) (ps : List (Range × ComparableData)) : Type 0 where
   key : ℕ
-  value : Outcome
+  value : ComparableData
   first : Covers p.0 key
-  held : Holds ps key value
+  held : HasValue ps key value
   differ : p.1 ≡ value → ⊥
 
-contradict-any : (names : List (Bor Text)) (e : Entry) (p : Range × Outcome) (es : List Entry) (ps : List (Range × Outcome)) → IsEntry names e p → AreEntries names es ps → list_any (contradict e) es ≡ true → SharedWith p ps
+contradict-any : (names : List (Bor Text)) (e : MapEntry) (p : Range × ComparableData) (es : List MapEntry) (ps : List (Range × ComparableData)) → RepresentsEntry names e p → RepresentEach names es ps → list_any (contradict e) es ≡ true → SharedWith p ps
 contradict-any names e p [] [] i are h = cc
 contradict-any names e p (f ∷ es) (q ∷ ps) i are h = ⊎_elim
     (λ t. let s = contradict-two names e f p q i are.0 t in record { key = s.key; value = q.1; first = s.first; held = inl (s.second, refl); differ = s.differ })
@@ -178,34 +178,34 @@ contradict-any names e p (f ∷ es) [] i are h = absurd are
 
 -- ---- two of a list
 
-clash-forth : (names : List (Bor Text)) (es : List Entry) (ps : List (Range × Outcome)) (key : ℕ) (one other : Outcome) → AreEntries names es ps → Holds ps key one → Holds ps key other → (one ≡ other → ⊥) → some_two contradict es ≡ true
+clash-forth : (names : List (Bor Text)) (es : List MapEntry) (ps : List (Range × ComparableData)) (key : ℕ) (one other : ComparableData) → RepresentEach names es ps → HasValue ps key one → HasValue ps key other → (one ≡ other → ⊥) → any_pair contradict es ≡ true
 clash-forth names [] [] key one other are h k differ = absurd h
 clash-forth names (e ∷ es) (p ∷ ps) key one other are (inl h) (inl k) differ = absurd (differ (sym h.1 ∙ k.1))
-clash-forth names (e ∷ es) (p ∷ ps) key one other are (inl h) (inr k) differ = or_left (list_any (contradict e) es) (some_two contradict es) (any-contradict names e p es ps key other are.0 are.1 h.0 k (λ s. differ (sym h.1 ∙ s)))
-clash-forth names (e ∷ es) (p ∷ ps) key one other are (inr h) (inl k) differ = or_left (list_any (contradict e) es) (some_two contradict es) (any-contradict names e p es ps key one are.0 are.1 k.0 h (λ s. differ (sym s ∙ k.1)))
-clash-forth names (e ∷ es) (p ∷ ps) key one other are (inr h) (inr k) differ = or_right (list_any (contradict e) es) (some_two contradict es) (clash-forth names es ps key one other are.1 h k differ)
+clash-forth names (e ∷ es) (p ∷ ps) key one other are (inl h) (inr k) differ = or_left (list_any (contradict e) es) (any_pair contradict es) (any-contradict names e p es ps key other are.0 are.1 h.0 k (λ s. differ (sym h.1 ∙ s)))
+clash-forth names (e ∷ es) (p ∷ ps) key one other are (inr h) (inl k) differ = or_left (list_any (contradict e) es) (any_pair contradict es) (any-contradict names e p es ps key one are.0 are.1 k.0 h (λ s. differ (sym s ∙ k.1)))
+clash-forth names (e ∷ es) (p ∷ ps) key one other are (inr h) (inr k) differ = or_right (list_any (contradict e) es) (any_pair contradict es) (clash-forth names es ps key one other are.1 h k differ)
 clash-forth names [] (p ∷ ps) key one other are h k differ = absurd are
 clash-forth names (e ∷ es) [] key one other are h k differ = absurd are
 
-clash-back : (names : List (Bor Text)) (es : List Entry) (ps : List (Range × Outcome)) → AreEntries names es ps → some_two contradict es ≡ true → Clashing ps
+clash-back : (names : List (Bor Text)) (es : List MapEntry) (ps : List (Range × ComparableData)) → RepresentEach names es ps → any_pair contradict es ≡ true → HasClash ps
 clash-back names [] [] are h = cc
 clash-back names (e ∷ es) (p ∷ ps) are h = ⊎_elim
     (λ t. let s = contradict-any names e p es ps are.0 are.1 t in record { key = s.key; one = p.1; other = s.value; has_one = inl (s.first, refl); has_other = inr s.held; differ = s.differ })
     (λ t. let s = clash-back names es ps are.1 t in record { key = s.key; one = s.one; other = s.other; has_one = inr s.has_one; has_other = inr s.has_other; differ = s.differ })
-    (or_cases (list_any (contradict e) es) (some_two contradict es) h)
+    (or_cases (list_any (contradict e) es) (any_pair contradict es) h)
 clash-back names [] (p ∷ ps) are h = absurd are
 clash-back names (e ∷ es) [] are h = absurd are
 
 -- ---- a map
 
-pub clash-some : (es : List Entry) (ps qs : List (Range × Outcome)) → Stand ps es → qs ≡ ps → Clashing qs → true ≡ some_two contradict es
+pub clash-some : (es : List MapEntry) (ps qs : List (Range × ComparableData)) → RepresentsEntries ps es → qs ≡ ps → HasClash qs → true ≡ any_pair contradict es
 clash-some es ps qs s e c =
-    let d = subst (λ (rs : List (Range × Outcome)). Clashing rs) e c in
+    let d = subst (λ (rs : List (Range × ComparableData)). HasClash rs) e c in
     sym (clash-forth s.names es ps d.key d.one d.other s.each d.has_one d.has_other d.differ)
 
-pub clash-none : (es : List Entry) (ps qs : List (Range × Outcome)) → Stand ps es → qs ≡ ps → (Clashing qs → ⊥) → false ≡ some_two contradict es
-clash-none es ps qs s e none = by (some_two contradict es) refl
+pub clash-none : (es : List MapEntry) (ps qs : List (Range × ComparableData)) → RepresentsEntries ps es → qs ≡ ps → (HasClash qs → ⊥) → false ≡ any_pair contradict es
+clash-none es ps qs s e none = by (any_pair contradict es) refl
   where
-    by : (b : Bool) → some_two contradict es ≡ b → false ≡ some_two contradict es
-    by true h = absurd (none (subst (λ (rs : List (Range × Outcome)). Clashing rs) (sym e) (clash-back s.names es ps s.each h)))
+    by : (b : Bool) → any_pair contradict es ≡ b → false ≡ any_pair contradict es
+    by true h = absurd (none (subst (λ (rs : List (Range × ComparableData)). HasClash rs) (sym e) (clash-back s.names es ps s.each h)))
     by false h = sym h

@@ -5,7 +5,7 @@ use Rattle.std.specs.Prelude.{length, Option, Some, None}
 use Rattle.std.specs.List.{list_any, filter_map}
 use Rattle.std.specs.Option.{option_map}
 use Rattle.std.specs.Str.{bytes_eq}
-use Rattle.nft_tree.specs.declared.kind.Kind.{Kind}
+use Rattle.nft_tree.specs.declared.compared_types.ComparedType.{ComparedType}
 use Rattle.nft_tree.specs.declared.nat.PortRange.{PortRange}
 use Rattle.nft_tree.specs.declared.nat.PortRange.TheVariants as ports
 use Rattle.nft_tree.specs.declared.chain.Priority.{Priority}
@@ -14,9 +14,9 @@ use Rattle.nft_tree.specs.Tree.{Text, ValueTree, VerdictTree, DataTree, PairTree
 use Rattle.nft_tree.specs.Tree.{DestinationTree, NatTree, Statement, RuleTree, HeadTree, ChainTree, ItemTree}
 use Rattle.nft_tree.specs.Tree.{TableTree}
 use Rattle.nft_tree.specs.Priorities.{priority_number}
-use Rattle.box_file.specs.Box.{PlantTree, some_two}
+use Rattle.box_file.specs.Box.{PlantTree, any_pair}
 use Rattle.nft_values.specs.Values.{Span, is_range, is_range_on_box, numbers_of}
-use Rattle.rule_values.specs.Places.{TypedRange, TypedMap, ranges_in, maps_in}
+use Rattle.rule_values.specs.TypedValues.{TypedRange, TypedMap, ranges_in, maps_in}
 
 -- ---- N09: what isn't of its type
 
@@ -35,65 +35,65 @@ abbrev pub if_some : {A : Type 0} → (A → Bool) → Option A → Bool
 if_some test None = false
 if_some test (Some x) = test x
 
-abbrev pub source_is_wrong : SourceTree → Bool
-source_is_wrong (tree.source_address a p) = if_some (λ r. not (are_ports r)) p
-source_is_wrong (tree.source_look l) = false
+abbrev pub source_out_of_range : SourceTree → Bool
+source_out_of_range (tree.source_address a p) = if_some (λ r. not (are_ports r)) p
+source_out_of_range (tree.source_lookup l) = false
 
-abbrev pub destination_is_wrong : DestinationTree → Bool
-destination_is_wrong (tree.destination_address a p) = if_some (λ n. not (is_port n)) p
-destination_is_wrong (tree.destination_look l) = false
+abbrev pub destination_out_of_range : DestinationTree → Bool
+destination_out_of_range (tree.destination_address a p) = if_some (λ n. not (is_port n)) p
+destination_out_of_range (tree.destination_lookup l) = false
 
 -- ports of a translation
-abbrev pub nat_is_wrong : NatTree → Bool
-nat_is_wrong (tree.source target) = source_is_wrong target
-nat_is_wrong (tree.destination target) = destination_is_wrong target
-nat_is_wrong (tree.masquerade p) = if_some (λ r. not (are_ports r)) p
-nat_is_wrong (tree.redirect p) = if_some (λ n. not (is_port n)) p
+abbrev pub nat_out_of_range : NatTree → Bool
+nat_out_of_range (tree.source target) = source_out_of_range target
+nat_out_of_range (tree.destination target) = destination_out_of_range target
+nat_out_of_range (tree.masquerade p) = if_some (λ r. not (are_ports r)) p
+nat_out_of_range (tree.redirect p) = if_some (λ n. not (is_port n)) p
 
 -- flags of TCP are 8 bits
-abbrev pub flag_is_wrong : FlagTree → Bool
-flag_is_wrong (tree.flag_word w) = false
-flag_is_wrong (tree.flag_number n) = not (nat_lt n 256)
+abbrev pub flag_out_of_range : FlagTree → Bool
+flag_out_of_range (tree.flag_word w) = false
+flag_out_of_range (tree.flag_number n) = not (nat_lt n 256)
 
-abbrev pub match_is_wrong : MatchTree → Bool
-match_is_wrong (tree.any_flag fs) = list_any flag_is_wrong fs
-match_is_wrong (tree.exact_flags fs) = list_any flag_is_wrong fs
-match_is_wrong (tree.masked_flags wanted mask) = list_any flag_is_wrong wanted || list_any flag_is_wrong mask
-match_is_wrong (tree.masked_flags_unequal wanted mask) = list_any flag_is_wrong wanted || list_any flag_is_wrong mask
-match_is_wrong _ = false
+abbrev pub match_out_of_range : MatchTree → Bool
+match_out_of_range (tree.any_flag fs) = list_any flag_out_of_range fs
+match_out_of_range (tree.exact_flags fs) = list_any flag_out_of_range fs
+match_out_of_range (tree.masked_flags wanted mask) = list_any flag_out_of_range wanted || list_any flag_out_of_range mask
+match_out_of_range (tree.masked_flags_unequal wanted mask) = list_any flag_out_of_range wanted || list_any flag_out_of_range mask
+match_out_of_range _ = false
 
-abbrev pub MOST_PREFIX : ℕ
-MOST_PREFIX = 127
+abbrev pub MAX_LOG_PREFIX : ℕ
+MAX_LOG_PREFIX = 127
 
 -- flags, a mark of 32 bits, the prefix of a log, ports
-abbrev pub statement_is_wrong : Statement → Bool
-statement_is_wrong (tree.matching m) = match_is_wrong m
-statement_is_wrong (tree.set_mark f (tree.constant n)) = not (nat_lt n (2 ^ 32))
-statement_is_wrong (tree.log text) = if_some (λ t. nat_lt MOST_PREFIX (length t)) text
-statement_is_wrong (tree.nat n) = nat_is_wrong n
-statement_is_wrong _ = false
+abbrev pub statement_out_of_range : Statement → Bool
+statement_out_of_range (tree.matching m) = match_out_of_range m
+statement_out_of_range (tree.set_mark f (tree.constant n)) = not (nat_lt n (2 ^ 32))
+statement_out_of_range (tree.log text) = if_some (λ t. nat_lt MAX_LOG_PREFIX (length t)) text
+statement_out_of_range (tree.nat n) = nat_out_of_range n
+statement_out_of_range _ = false
 
 -- a priority has 32 bits, with a sign: -2147483648 to 2147483647
-abbrev pub priority_is_wrong : Priority → Bool
-priority_is_wrong p = int_lt (priority_number p) (negsuc 2147483647) || int_lt (pos 2147483647) (priority_number p)
+abbrev pub priority_out_of_range : Priority → Bool
+priority_out_of_range p = int_lt (priority_number p) (negsuc 2147483647) || int_lt (pos 2147483647) (priority_number p)
 
-abbrev pub chain_is_wrong : ChainTree → Bool
-chain_is_wrong c =
-    if_some (λ h. priority_is_wrong h.priority) c.head
-    || list_any (λ r. list_any statement_is_wrong r.statements) c.rules
+abbrev pub chain_out_of_range : ChainTree → Bool
+chain_out_of_range c =
+    if_some (λ h. priority_out_of_range h.priority) c.head
+    || list_any (λ r. list_any statement_out_of_range r.statements) c.rules
 
-abbrev pub item_is_wrong : ItemTree → Bool
-item_is_wrong (tree.chain c) = chain_is_wrong c
-item_is_wrong _ = false
+abbrev pub item_out_of_range : ItemTree → Bool
+item_out_of_range (tree.chain c) = chain_out_of_range c
+item_out_of_range _ = false
 
 -- a value that isn't of its type, or a number of a statement or a chain's head out of its bounds
 abbrev pub has_wrong_value : PlantTree → TableTree → Bool
-has_wrong_value plant t = list_any (λ r. not (is_of_type plant r)) (ranges_in t) || list_any item_is_wrong t.items
+has_wrong_value plant t = list_any (λ r. not (is_of_type plant r)) (ranges_in t) || list_any item_out_of_range t.items
 
 -- ---- N13: interfaces that aren't on the box
 
-abbrev pub names_no_interface : PlantTree → TableTree → Bool
-names_no_interface plant t = list_any (λ r. not (is_range_on_box plant r.kind r.range)) (ranges_in t)
+abbrev pub names_unknown_interface : PlantTree → TableTree → Bool
+names_unknown_interface plant t = list_any (λ r. not (is_range_on_box plant r.kind r.range)) (ranges_in t)
 
 -- ---- N12: elements of a map that contradict each other
 
@@ -107,42 +107,42 @@ same_verdict (tree.goto a) (tree.goto b) = bytes_eq a b
 same_verdict _ _ = false
 
 -- what an element gives: a verdict, or the numbers of a value
-pub data Given : Type 0 where
-  a_verdict : VerdictTree → Given
-  a_value : Span → Given
+pub data ElementData : Type 0 where
+  a_verdict : VerdictTree → ElementData
+  a_value : Span → ElementData
 
 abbrev pub same_span : Span → Span → Bool
 same_span a b = a.low == b.low && a.high == b.high
 
-abbrev pub same_given : Given → Given → Bool
-same_given (a_verdict v) (a_verdict w) = same_verdict v w
-same_given (a_value a) (a_value b) = same_span a b
-same_given _ _ = false
+abbrev pub same_element_data : ElementData → ElementData → Bool
+same_element_data (a_verdict v) (a_verdict w) = same_verdict v w
+same_element_data (a_value a) (a_value b) = same_span a b
+same_element_data _ _ = false
 
 -- numbers of keys, and what they give
-pub record Entry : Type 0 where
+pub record MapEntry : Type 0 where
   pub keys : Span
-  pub given : Given
+  pub given : ElementData
 
-abbrev pub given_by : PlantTree → Option Kind → DataTree → Option Given
-given_by plant wanted (tree.to_verdict v) = Some (a_verdict v)
-given_by plant (Some k) (tree.to_value v) = option_map a_value (numbers_of plant k (tree.one v))
-given_by plant None (tree.to_value v) = None
+abbrev pub element_data : PlantTree → Option ComparedType → DataTree → Option ElementData
+element_data plant wanted (tree.to_verdict v) = Some (a_verdict v)
+element_data plant (Some k) (tree.to_value v) = option_map a_value (numbers_of plant k (tree.one v))
+element_data plant None (tree.to_value v) = None
 
-abbrev pub entry_with : Option Span → Option Given → Option Entry
+abbrev pub entry_with : Option Span → Option ElementData → Option MapEntry
 entry_with (Some keys) (Some given) = Some (record { keys = keys; given = given })
 entry_with _ _ = None
 
 -- an element whose key and data stand for numbers, which those of a ruleset without a lesser fault do
-abbrev pub entry_of : PlantTree → TypedMap → PairTree → Option Entry
-entry_of plant m p = entry_with (numbers_of plant m.key p.key) (given_by plant m.value p.value)
+abbrev pub entry_of : PlantTree → TypedMap → PairTree → Option MapEntry
+entry_of plant m p = entry_with (numbers_of plant m.key p.key) (element_data plant m.value p.value)
 
 -- two elements have a number in common and give different things
-abbrev pub contradict : Entry → Entry → Bool
-contradict a b = nat_le a.keys.low b.keys.high && nat_le b.keys.low a.keys.high && not (same_given a.given b.given)
+abbrev pub contradict : MapEntry → MapEntry → Bool
+contradict a b = nat_le a.keys.low b.keys.high && nat_le b.keys.low a.keys.high && not (same_element_data a.given b.given)
 
 abbrev pub map_contradicts : PlantTree → TypedMap → Bool
-map_contradicts plant m = some_two contradict (filter_map (entry_of plant m) m.elements)
+map_contradicts plant m = any_pair contradict (filter_map (entry_of plant m) m.elements)
 
 abbrev pub has_contradiction : PlantTree → TableTree → Bool
 has_contradiction plant t = list_any (map_contradicts plant) (maps_in t)

@@ -1,3 +1,3 @@
-pub mod Places
+pub mod TypedValues
 pub mod Faults
 pub mod steps

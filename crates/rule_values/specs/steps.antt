@@ -1,3 +1,3 @@
-pub mod Asked
-pub mod Seen
-pub mod Outcomes
+pub mod Checks
+pub mod Views
+pub mod MapEntries

@@ -3,8 +3,8 @@ ghost use Rattle.std.specs.Prelude.{◌≡◌, map};
 ghost use Rattle.std.specs.List.{list_any};
 ghost use Rattle.std.specs.Option.{option_map};
 ghost use Rattle.nft_tree.specs.Tree.{chain_tree, flag_tree, head_tree, item_tree, match_tree, nat_tree, rule_tree, statement};
-ghost use Rattle.rule_values.specs.Faults.{are_ports, chain_is_wrong, flag_is_wrong, is_port, item_is_wrong, match_is_wrong, nat_is_wrong, priority_is_wrong, statement_is_wrong};
-ghost use Rattle.rule_values.specs.steps.Asked.{head_is_wrong, rule_is_wrong};
+ghost use Rattle.rule_values.specs.Faults.{are_ports, chain_out_of_range, flag_out_of_range, is_port, item_out_of_range, match_out_of_range, nat_out_of_range, priority_out_of_range, statement_out_of_range};
+ghost use Rattle.rule_values.specs.steps.Checks.{head_out_of_range, rule_out_of_range};
 
 use nft_tree::{
     Chain, DestinationTarget, Flag, Head, Item, Match, Nat, Operand, PortRange, Priority, Rule,
@@ -12,80 +12,80 @@ use nft_tree::{
 };
 
 /// The prefix of a log has at most as many bytes.
-const MOST_PREFIX: usize = 127;
+const MAX_LOG_PREFIX: usize = 127;
 
 /// Whether a number of a chain is out of its bounds.
-pub(crate) fn item_is_wrong(item: &Item) -> bool
-    ensures { result ≡ item_is_wrong (item_tree item.now) }
+pub(crate) fn item_out_of_range(item: &Item) -> bool
+    ensures { result ≡ item_out_of_range (item_tree item.now) }
 {
     match item {
-        Item::Chain(chain) => chain_is_wrong(chain),
+        Item::Chain(chain) => chain_out_of_range(chain),
         _ => false,
     }
 }
 
-fn chain_is_wrong(chain: &Chain) -> bool
-    ensures { result ≡ chain_is_wrong (chain_tree chain.now) }
+fn chain_out_of_range(chain: &Chain) -> bool
+    ensures { result ≡ chain_out_of_range (chain_tree chain.now) }
 {
-    head_is_wrong(&chain.head) || chain.rules.iter().any(rule_is_wrong)
+    head_out_of_range(&chain.head) || chain.rules.iter().any(rule_out_of_range)
 }
 
-fn head_is_wrong(head: &Option<Head>) -> bool
-    ensures { result ≡ head_is_wrong (option_map head_tree head.now) }
+fn head_out_of_range(head: &Option<Head>) -> bool
+    ensures { result ≡ head_out_of_range (option_map head_tree head.now) }
 {
     match head {
         None => false,
-        Some(head) => priority_is_wrong(head.priority),
+        Some(head) => priority_out_of_range(head.priority),
     }
 }
 
 /// Whether the priority isn't a number of 32 bits with a sign.
-fn priority_is_wrong(priority: Priority) -> bool
-    ensures { result ≡ priority_is_wrong priority }
+fn priority_out_of_range(priority: Priority) -> bool
+    ensures { result ≡ priority_out_of_range priority }
 {
     let number = priority.number();
     number < i128::from(i32::MIN) || number > i128::from(i32::MAX)
 }
 
-fn rule_is_wrong(rule: &Rule) -> bool
-    ensures { result ≡ rule_is_wrong (rule_tree rule.now) }
+fn rule_out_of_range(rule: &Rule) -> bool
+    ensures { result ≡ rule_out_of_range (rule_tree rule.now) }
 {
-    rule.statements.iter().any(statement_is_wrong)
+    rule.statements.iter().any(statement_out_of_range)
 }
 
-fn statement_is_wrong(stmt: &Stmt) -> bool
-    ensures { result ≡ statement_is_wrong (statement stmt.now) }
+fn statement_out_of_range(stmt: &Stmt) -> bool
+    ensures { result ≡ statement_out_of_range (statement stmt.now) }
 {
     match stmt {
-        Stmt::Match(test) => match_is_wrong(test),
+        Stmt::Match(test) => match_out_of_range(test),
         Stmt::SetMark(_, Operand::Number(mark)) => *mark > u64::from(u32::MAX),
-        Stmt::Log(Some(prefix)) => prefix.len() > MOST_PREFIX,
-        Stmt::Nat(nat) => nat_is_wrong(nat),
+        Stmt::Log(Some(prefix)) => prefix.len() > MAX_LOG_PREFIX,
+        Stmt::Nat(nat) => nat_out_of_range(nat),
         _ => false,
     }
 }
 
-fn match_is_wrong(test: &Match) -> bool
-    ensures { result ≡ match_is_wrong (match_tree test.now) }
+fn match_out_of_range(test: &Match) -> bool
+    ensures { result ≡ match_out_of_range (match_tree test.now) }
 {
     match test {
-        Match::AnyFlag(flags) | Match::ExactFlags(flags) => flags_are_wrong(flags),
+        Match::AnyFlag(flags) | Match::ExactFlags(flags) => flags_out_of_range(flags),
         Match::MaskedFlags(flags) | Match::MaskedFlagsUnequal(flags) => {
-            flags_are_wrong(&flags.wanted) || flags_are_wrong(&flags.mask)
+            flags_out_of_range(&flags.wanted) || flags_out_of_range(&flags.mask)
         }
         _ => false,
     }
 }
 
-fn flags_are_wrong(flags: &[Flag]) -> bool
-    ensures { result ≡ list_any flag_is_wrong (map flag_tree flags.now) }
+fn flags_out_of_range(flags: &[Flag]) -> bool
+    ensures { result ≡ list_any flag_out_of_range (map flag_tree flags.now) }
 {
-    flags.iter().any(flag_is_wrong)
+    flags.iter().any(flag_out_of_range)
 }
 
 /// Whether the flag is a number of more than 8 bits.
-fn flag_is_wrong(flag: &Flag) -> bool
-    ensures { result ≡ flag_is_wrong (flag_tree flag.now) }
+fn flag_out_of_range(flag: &Flag) -> bool
+    ensures { result ≡ flag_out_of_range (flag_tree flag.now) }
 {
     match flag {
         Flag::Word(_) => false,
@@ -94,8 +94,8 @@ fn flag_is_wrong(flag: &Flag) -> bool
 }
 
 /// Whether a translation is to what are no ports.
-fn nat_is_wrong(nat: &Nat) -> bool
-    ensures { result ≡ nat_is_wrong (nat_tree nat.now) }
+fn nat_out_of_range(nat: &Nat) -> bool
+    ensures { result ≡ nat_out_of_range (nat_tree nat.now) }
 {
     match nat {
         Nat::Source(SourceTarget::Address(_, Some(ports))) | Nat::Masquerade(Some(ports)) => {

@@ -2,13 +2,13 @@
 ghost use Rattle.std.specs.Prelude.{◌≡◌, flat_map, map, IfOk, OnOk};
 ghost use Rattle.std.specs.List.{list_any};
 ghost use Rattle.nft_tree.specs.Tree.{item_tree, pair_tree, rule_tree, statement, table_tree};
-ghost use Rattle.rule_values.specs.Places.{item_maps, rule_maps, statement_maps};
+ghost use Rattle.rule_values.specs.TypedValues.{item_maps, rule_maps, statement_maps};
 ghost use Rattle.rule_values.specs.Faults.{entry_of, has_contradiction, map_contradicts};
-ghost use Rattle.rule_values.specs.steps.Seen.{elements_tree};
-ghost use Rattle.rule_values.specs.steps.Outcomes.{AreEntry, Keeps, Stand, entries_of};
+ghost use Rattle.rule_values.specs.steps.Views.{elements_tree};
+ghost use Rattle.rule_values.specs.steps.MapEntries.{RepresentsOptionalEntry, KeepsIndices, RepresentsEntries, entries_of};
 
+use crate::comparable_data::{ComparableData, comparable_form_of};
 use crate::elements::{Elements, declared_elements, statement_elements};
-use crate::outcome::{Outcome, data_outcome};
 use box_file::Plant;
 use indexmap::IndexSet;
 use nft_tree::{Item, Pair, Rule, Stmt, Table};
@@ -90,8 +90,8 @@ fn gather(
     alloc: Global,
     plant: &Plant,
     elements: &Elements,
-) -> Result<Vec<(Range, Outcome)>, AllocError>
-    ensures { IfOk result (λ pairs. Stand pairs.items (entries_of plant.now (elements_tree elements.now))) }
+) -> Result<Vec<(Range, ComparableData)>, AllocError>
+    ensures { IfOk result (λ pairs. RepresentsEntries pairs.items (entries_of plant.now (elements_tree elements.now))) }
 {
     let mut names = IndexSet::new(alloc);
     let mut pairs = Vec::new(alloc);
@@ -110,11 +110,11 @@ fn entry<'t>(
     plant: &Plant,
     elements: &Elements,
     pair: &'t Pair,
-) -> Result<Option<(Range, Outcome)>, AllocError>
-    ensures keeps { OnOk result (Keeps names.old.keys names.new.keys) }
-    ensures entry { IfOk result (λ e. AreEntry names.new.keys (entry_of plant.now (elements_tree elements.now) (pair_tree pair.now)) e) }
+) -> Result<Option<(Range, ComparableData)>, AllocError>
+    ensures keeps { OnOk result (KeepsIndices names.old.keys names.new.keys) }
+    ensures entry { IfOk result (λ e. RepresentsOptionalEntry names.new.keys (entry_of plant.now (elements_tree elements.now) (pair_tree pair.now)) e) }
 {
-    let given = data_outcome(names, plant, elements.value, &pair.value)?;
+    let given = comparable_form_of(names, plant, elements.value, &pair.value)?;
     match (numbers_of(plant, elements.key, &pair.key), given) {
         (Some(keys), Some(given)) => Ok(Some((keys, given))),
         _ => Ok(None),

@@ -2,20 +2,20 @@
 ghost use Rattle.std.specs.Prelude.{◌≡◌};
 ghost use Rattle.std.specs.Option.{option_map};
 ghost use Rattle.nft_tree.specs.Tree.{map_ref_tree, map_tree, statement};
-ghost use Rattle.rule_values.specs.Places.{anonymous_map, declared_map, statement_maps};
-ghost use Rattle.rule_values.specs.steps.Seen.{elements_tree, listed};
+ghost use Rattle.rule_values.specs.TypedValues.{anonymous_map, declared_map, statement_maps};
+ghost use Rattle.rule_values.specs.steps.Views.{elements_tree, listed};
 
 use nft_tree::{
-    DestinationTarget, Kind, Look, MapDecl, MapRef, Nat, Operand, Pair, Selector, SourceTarget,
-    Stmt, ValueType,
+    ComparedType, DestinationTarget, MapDecl, MapLookup, MapRef, Nat, Operand, Pair, Selector,
+    SourceTarget, Stmt, ValueType,
 };
 
 /// A map's elements with the type of their keys and that of their data.
 #[derive(Clone, Copy)]
 pub(crate) struct Elements<'t> {
-    pub(crate) key: Kind,
+    pub(crate) key: ComparedType,
     /// `None` where the data are verdicts.
-    pub(crate) value: Option<Kind>,
+    pub(crate) value: Option<ComparedType>,
     pub(crate) pairs: &'t [Pair],
 }
 
@@ -34,7 +34,11 @@ pub(crate) fn declared_elements(map: &MapDecl) -> Elements<'_>
 }
 
 /// Those of a map without a name, where the selector is looked up.
-fn anonymous_elements(selector: Selector, value: Option<Kind>, map: &MapRef) -> Option<Elements<'_>>
+fn anonymous_elements(
+    selector: Selector,
+    value: Option<ComparedType>,
+    map: &MapRef,
+) -> Option<Elements<'_>>
     ensures { listed (option_map elements_tree result) ≡ anonymous_map selector value (map_ref_tree map.now) }
 {
     match map {
@@ -53,13 +57,17 @@ pub(crate) fn statement_elements(stmt: &Stmt) -> Option<Elements<'_>>
 {
     match stmt {
         Stmt::VerdictMap(selector, map) => anonymous_elements(*selector, None, map),
-        Stmt::SetMark(_, Operand::Look(Look { selector, map })) => {
-            anonymous_elements(*selector, Some(Kind::Named(ValueType::Mark)), map)
+        Stmt::SetMark(_, Operand::MapLookup(MapLookup { selector, map })) => {
+            anonymous_elements(*selector, Some(ComparedType::Named(ValueType::Mark)), map)
         }
         Stmt::Nat(
-            Nat::Source(SourceTarget::Look(Look { selector, map }))
-            | Nat::Destination(DestinationTarget::Look(Look { selector, map })),
-        ) => anonymous_elements(*selector, Some(Kind::Named(ValueType::Address)), map),
+            Nat::Source(SourceTarget::MapLookup(MapLookup { selector, map }))
+            | Nat::Destination(DestinationTarget::MapLookup(MapLookup { selector, map })),
+        ) => anonymous_elements(
+            *selector,
+            Some(ComparedType::Named(ValueType::Address)),
+            map,
+        ),
         _ => None,
     }
 }

@@ -3,20 +3,20 @@
 #![tactic(auto)]
 
 ghost use Rattle.std.specs.Prelude.{◌<◌, ℕ, Bool, List, Option, IfOk};
-ghost use Rattle.engine.specs.Left.{Devices, SoFar};
-ghost use Rattle.engine.specs.Meaning.{Wrote};
-ghost use Rattle.pcap_io.specs.Pcap.{told};
-ghost use Rattle.run_laws.specs.Lawful.{AtEachBeginning, Steps};
-ghost use Rattle.stepping.specs.Stands.{Stands, told_of};
-ghost use Rattle.story.specs.Story.{Entry, moment_of};
+ghost use Rattle.engine.specs.AfterFault.{Devices, RecordsTaken};
+ghost use Rattle.engine.specs.Meaning.{WroteOutputs};
+ghost use Rattle.pcap_io.specs.Pcap.{decoded_records};
+ghost use Rattle.run_laws.specs.Lawful.{AtEachPrefix, StepKeepsLaws};
+ghost use Rattle.stepping.specs.Representing.{Represents, recorded_of};
+ghost use Rattle.history.specs.History.{Entry, moment_of};
 ghost use Rattle.translation_laws.specs.Laws.{LiveLaws};
-ghost use Rattle.translation_laws.specs.Stories.{IsStory};
+ghost use Rattle.translation_laws.specs.Histories.{IsHistory};
 
 use conntrack::{Connection, Tracker};
+use history::Outcome;
 use pcap_io::Record;
 use std::alloc::{AllocError, Global};
 use stepping::Engine;
-use story::Outcome;
 use translation_laws::translation_laws;
 
 /// What `Engine::connections` answers: just the connections that are alive at the moment of the last
@@ -25,8 +25,8 @@ pub fn connections_keep_the_laws<T: Tracker>(
     engine: &Engine<T>,
     alloc: Global,
 ) -> Result<Vec<Connection>, AllocError>
-    ensures { (story : List Entry) → IsStory engine.now.setup story → Stands engine.now story
-        → IfOk result (λ all. LiveLaws engine.now.setup story (moment_of story) all.items) }
+    ensures { (history : List Entry) → IsHistory engine.now.setup history → Represents engine.now history
+        → IfOk result (λ all. LiveLaws engine.now.setup history (moment_of history) all.items) }
 {
     translation_laws();
     engine.connections(alloc)
@@ -39,8 +39,8 @@ pub fn steps_keep_the_laws<T: Tracker>(
     recorded: &Record,
 ) -> Result<Outcome, AllocError>
     requires few { engine.old.records < 4294967296 }
-    ensures { (story : List Entry) → IsStory engine.old.setup story → Stands engine.old story
-        → IfOk result (λ outcome. Steps engine.old story (told_of recorded.now) engine.new outcome) }
+    ensures { (history : List Entry) → IsHistory engine.old.setup history → Represents engine.old history
+        → IfOk result (λ outcome. StepKeepsLaws engine.old history (recorded_of recorded.now) engine.new outcome) }
 {
     translation_laws();
     engine.step(recorded)
@@ -50,11 +50,11 @@ pub fn steps_keep_the_laws<T: Tracker>(
 /// were taken before a fault.
 pub fn runs_keep_the_laws()
     ensures whole { (rules box capture : List ℕ) (trace : Bool) (count : ℕ) (torn : Bool) (old new old_report new_report : Option (List ℕ))
-        → (wrote : Wrote rules box capture trace count torn old new old_report new_report)
-        → AtEachBeginning wrote.meaning.accepted.setup (told wrote.meaning.read.format wrote.meaning.records) wrote.meaning.story }
-    ensures so_far { (rules box capture : List ℕ) (new : Devices)
-        → (left : SoFar rules box capture new)
-        → AtEachBeginning left.accepted.setup (told left.format left.records) left.story }
+        → (wrote : WroteOutputs rules box capture trace count torn old new old_report new_report)
+        → AtEachPrefix wrote.meaning.accepted.setup (decoded_records wrote.meaning.read.format wrote.meaning.records) wrote.meaning.history }
+    ensures taken_so_far { (rules box capture : List ℕ) (new : Devices)
+        → (left : RecordsTaken rules box capture new)
+        → AtEachPrefix left.accepted.setup (decoded_records left.format left.records) left.history }
 {
     translation_laws();
 }

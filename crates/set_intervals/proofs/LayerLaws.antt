@@ -4,10 +4,10 @@ use Rattle.std.specs.Option.{option_or}
 use Rattle.std.proofs.lemmas.Bool.{cases_lt, and_from, and_left, and_right, or_from, or_left, le-leb, lt-leb}
 use Rattle.std.proofs.lemmas.List.{append-nil, drop_more, take-append-drop}
 use Rattle.set_intervals.specs.declared.range.Range.{Range}
-use Rattle.set_intervals.specs.Pairs.{in_range, look}
+use Rattle.set_intervals.specs.Pairs.{in_range, first_value}
 use Rattle.set_intervals.specs.steps.Pieces.{IsTable, IsSeparate}
-use Rattle.set_intervals.specs.steps.Layers.{SameLooks, EndsBefore, IsRising, Follows, AddsBelow}
-use Rattle.set_intervals.proofs.PieceLaws.{separate_push, joined_push}
+use Rattle.set_intervals.specs.steps.Layers.{SameFirstValues, EndsBefore, IsRising, Follows, AddsBelow}
+use Rattle.set_intervals.proofs.PieceLaws.{separate_push, merged_push}
 
 -- ---- whether a range has a number
 
@@ -38,10 +38,10 @@ same_above r s key high one other =
 
 -- ---- one pair
 
-hit : {V : Type 0} (r : Range) (v : V) (xs : List (Range × V)) (key : ℕ) → in_range r key ≡ true → look ((r, v) ∷ xs) key ≡ Some v
+hit : {V : Type 0} (r : Range) (v : V) (xs : List (Range × V)) (key : ℕ) → in_range r key ≡ true → first_value ((r, v) ∷ xs) key ≡ Some v
 hit r v xs key e = rw e
 
-miss : {V : Type 0} (r : Range) (v : V) (xs : List (Range × V)) (key : ℕ) → in_range r key ≡ false → look ((r, v) ∷ xs) key ≡ look xs key
+miss : {V : Type 0} (r : Range) (v : V) (xs : List (Range × V)) (key : ℕ) → in_range r key ≡ false → first_value ((r, v) ∷ xs) key ≡ first_value xs key
 miss r v xs key e = rw e
 
 -- ---- one list behind another
@@ -50,23 +50,23 @@ choose : {V : Type 0} (b : Bool) (v : V) (o p q : Option V) → o ≡ option_or 
 choose true v o p q e = refl
 choose false v o p q e = e
 
-pub look-append : {V : Type 0} (xs ys : List (Range × V)) (key : ℕ) → look (xs ++ ys) key ≡ option_or (look xs key) (look ys key)
-look-append [] ys key = refl
-look-append (x ∷ xs) ys key = choose (in_range x.0 key) x.1 (look (xs ++ ys) key) (look xs key) (look ys key) (look-append xs ys key)
+pub first_value-append : {V : Type 0} (xs ys : List (Range × V)) (key : ℕ) → first_value (xs ++ ys) key ≡ option_or (first_value xs key) (first_value ys key)
+first_value-append [] ys key = refl
+first_value-append (x ∷ xs) ys key = choose (in_range x.0 key) x.1 (first_value (xs ++ ys) key) (first_value xs key) (first_value ys key) (first_value-append xs ys key)
 
 -- the same front, the same back
-front_at : {V : Type 0} (xs ys zs : List (Range × V)) (key : ℕ) → look xs key ≡ look ys key → look (xs ++ zs) key ≡ look (ys ++ zs) key
-front_at xs ys zs key same = look-append xs zs key ∙ ap (λ o. option_or o (look zs key)) same ∙ sym (look-append ys zs key)
+front_at : {V : Type 0} (xs ys zs : List (Range × V)) (key : ℕ) → first_value xs key ≡ first_value ys key → first_value (xs ++ zs) key ≡ first_value (ys ++ zs) key
+front_at xs ys zs key same = first_value-append xs zs key ∙ ap (λ o. option_or o (first_value zs key)) same ∙ sym (first_value-append ys zs key)
 
-pub same_front : {V : Type 0} (xs ys zs : List (Range × V)) → SameLooks xs ys → SameLooks (xs ++ zs) (ys ++ zs)
+pub same_front : {V : Type 0} (xs ys zs : List (Range × V)) → SameFirstValues xs ys → SameFirstValues (xs ++ zs) (ys ++ zs)
 same_front xs ys zs same key = front_at xs ys zs key (same key)
 
-pub same_back : {V : Type 0} (zs xs ys : List (Range × V)) (key : ℕ) → look xs key ≡ look ys key → look (zs ++ xs) key ≡ look (zs ++ ys) key
-same_back zs xs ys key same = look-append zs xs key ∙ ap (λ o. option_or (look zs key) o) same ∙ sym (look-append zs ys key)
+pub same_back : {V : Type 0} (zs xs ys : List (Range × V)) (key : ℕ) → first_value xs key ≡ first_value ys key → first_value (zs ++ xs) key ≡ first_value (zs ++ ys) key
+same_back zs xs ys key same = first_value-append zs xs key ∙ ap (λ o. option_or (first_value zs key) o) same ∙ sym (first_value-append zs ys key)
 
 -- a list that says nothing of the number
-skip : {V : Type 0} (xs ys : List (Range × V)) (key : ℕ) → look xs key ≡ None → look (xs ++ ys) key ≡ look ys key
-skip xs ys key none = look-append xs ys key ∙ ap (λ o. option_or o (look ys key)) none
+skip : {V : Type 0} (xs ys : List (Range × V)) (key : ℕ) → first_value xs key ≡ None → first_value (xs ++ ys) key ≡ first_value ys key
+skip xs ys key none = first_value-append xs ys key ∙ ap (λ o. option_or o (first_value ys key)) none
 
 -- ---- lists in order
 
@@ -75,7 +75,7 @@ rising_less m n [] le h = h
 rising_less m n (x ∷ xs) le h = (omega (arith, h.0), h.1)
 
 -- nothing is said of a number below all of them
-none_below : {V : Type 0} (n key : ℕ) (xs : List (Range × V)) → key < n → IsRising n xs → look xs key ≡ None
+none_below : {V : Type 0} (n key : ℕ) (xs : List (Range × V)) → key < n → IsRising n xs → first_value xs key ≡ None
 none_below n key [] lt h = refl
 none_below n key (x ∷ xs) lt h = miss x.0 x.1 xs key (under x.0 key (omega (arith, h.0))) ∙ none_below (x.0.high + 1) key xs (omega (arith, h.0, x.0.ordered)) h.1
 
@@ -97,17 +97,17 @@ table_follows {V} done xs none table = subst (λ l. Follows l xs) (sym none) (fo
 pub table_past : {V : Type 0} (xs : List (Range × V)) (p : Range × V) → IsTable xs → EndsBefore xs p.0.low → ((i : ℕ) (d : Range × V) → i + 1 ≡ length xs → (get_or xs i d).0.high + 1 ≡ p.0.low → (get_or xs i d).1 ≡ p.1 → ⊥) → IsTable (xs ++ p ∷ [])
 table_past xs p table ends apart = record {
   separate = separate_push xs p table.separate (λ i d last. ends i d (omega arith));
-  joined = joined_push xs p table.joined apart;
+  merged = merged_push xs p table.merged apart;
 }
 
 -- the last piece goes on to the end of a range that begins where the piece ends
-joined_range : (p r q : Range) (key : ℕ) → p.high + 1 ≡ r.low → q.low ≡ p.low → q.high ≡ max p.high r.high → in_range q key ≡ (in_range p key || in_range r key)
-joined_range p r q key touch low high =
+merged_range : (p r q : Range) (key : ℕ) → p.high + 1 ≡ r.low → q.low ≡ p.low → q.high ≡ max p.high r.high → in_range q key ≡ (in_range p key || in_range r key)
+merged_range p r q key touch low high =
     ⊎_elim
     (λ before. under q key (omega arith) ∙ sym (or_from _ _ (under p key before) (under r key (omega (arith, p.ordered)))))
-    (λ begun. ⊎_elim
+    (λ begun_run. ⊎_elim
     (λ beyond. same_above q r key (omega (arith, r.ordered)) (omega arith) (omega arith) ∙ ap (λ b. b || in_range r key) (sym (past p key beyond)))
-    (λ inside. within q key (omega arith) (omega arith) ∙ sym (or_left _ _ (within p key begun inside)))
+    (λ inside. within q key (omega arith) (omega arith) ∙ sym (or_left _ _ (within p key begun_run inside)))
     (cases_lt p.high key))
     (cases_lt key p.low)
 
@@ -115,27 +115,27 @@ either : {V : Type 0} (a b c : Bool) (v : V) → c ≡ (a || b) → (if c then S
 either true b c v e = ap (λ t. if t then Some v else None) e
 either false b c v e = ap (λ t. if t then Some v else None) e
 
-look-widened : {V : Type 0} (xs : List (Range × V)) (i : ℕ) (d : Range × V) (q r : Range) (key : ℕ) → i + 1 ≡ length xs → in_range q key ≡ (in_range (get_or xs i d).0 key || in_range r key) → look (set xs i (q, (get_or xs i d).1)) key ≡ look (xs ++ (r, (get_or xs i d).1) ∷ []) key
-look-widened [] i d q r key last e = absurd (omega arith)
-look-widened (x ∷ []) zero d q r key last e = either (in_range x.0 key) (in_range r key) (in_range q key) x.1 e
-look-widened (x ∷ (y ∷ ys)) zero d q r key last e = absurd (omega arith)
-look-widened (x ∷ xs) (suc i) d q r key last e = ap (λ o. if in_range x.0 key then Some x.1 else o) (look-widened xs i d q r key (omega arith) e)
+first_value-widened : {V : Type 0} (xs : List (Range × V)) (i : ℕ) (d : Range × V) (q r : Range) (key : ℕ) → i + 1 ≡ length xs → in_range q key ≡ (in_range (get_or xs i d).0 key || in_range r key) → first_value (set xs i (q, (get_or xs i d).1)) key ≡ first_value (xs ++ (r, (get_or xs i d).1) ∷ []) key
+first_value-widened [] i d q r key last e = absurd (omega arith)
+first_value-widened (x ∷ []) zero d q r key last e = either (in_range x.0 key) (in_range r key) (in_range q key) x.1 e
+first_value-widened (x ∷ (y ∷ ys)) zero d q r key last e = absurd (omega arith)
+first_value-widened (x ∷ xs) (suc i) d q r key last e = ap (λ o. if in_range x.0 key then Some x.1 else o) (first_value-widened xs i d q r key (omega arith) e)
 
-pub joined_last : {V : Type 0} (xs : List (Range × V)) (i : ℕ) (p : Range × V) (r q : Range) (v : V) → i + 1 ≡ length xs → p ≡ get_or xs i p → p.1 ≡ v → p.0.high + 1 ≡ r.low → q.low ≡ p.0.low → q.high ≡ max p.0.high r.high → SameLooks (set xs i (q, p.1)) (xs ++ (r, v) ∷ [])
-joined_last {V} xs i p r q v last is value touch low high key =
-    let range_is : in_range q key ≡ (in_range (get_or xs i p).0 key || in_range r key) = joined_range p.0 r q key touch low high ∙ ap (λ (s : Range × V). in_range s.0 key || in_range r key) is in
-    ap (λ (s : Range × V). look (set xs i (q, s.1)) key) is ∙ look-widened xs i p q r key last range_is ∙ ap (λ (s : Range × V). look (xs ++ (r, s.1) ∷ []) key) (sym is) ∙ ap (λ w. look (xs ++ (r, w) ∷ []) key) value
+pub merged_last : {V : Type 0} (xs : List (Range × V)) (i : ℕ) (p : Range × V) (r q : Range) (v : V) → i + 1 ≡ length xs → p ≡ get_or xs i p → p.1 ≡ v → p.0.high + 1 ≡ r.low → q.low ≡ p.0.low → q.high ≡ max p.0.high r.high → SameFirstValues (set xs i (q, p.1)) (xs ++ (r, v) ∷ [])
+merged_last {V} xs i p r q v last is value touch low high key =
+    let range_is : in_range q key ≡ (in_range (get_or xs i p).0 key || in_range r key) = merged_range p.0 r q key touch low high ∙ ap (λ (s : Range × V). in_range s.0 key || in_range r key) is in
+    ap (λ (s : Range × V). first_value (set xs i (q, s.1)) key) is ∙ first_value-widened xs i p q r key last range_is ∙ ap (λ (s : Range × V). first_value (xs ++ (r, s.1) ∷ []) key) (sym is) ∙ ap (λ w. first_value (xs ++ (r, w) ∷ []) key) value
 
 -- ---- the part of a range before another one
 
 -- the same pair behind, wherever the two ranges have the same numbers
-pub pushed : {V : Type 0} (xs : List (Range × V)) (r s : Range) (v : V) (key : ℕ) → in_range r key ≡ in_range s key → look (xs ++ (r, v) ∷ []) key ≡ look (xs ++ (s, v) ∷ []) key
+pub pushed : {V : Type 0} (xs : List (Range × V)) (r s : Range) (v : V) (key : ℕ) → in_range r key ≡ in_range s key → first_value (xs ++ (r, v) ∷ []) key ≡ first_value (xs ++ (s, v) ∷ []) key
 pushed xs r s v key same = same_back xs ((r, v) ∷ []) ((s, v) ∷ []) key (ap (λ b. if b then Some v else None) same)
 
-pub unpushed : {V : Type 0} (xs : List (Range × V)) (r : Range) (v : V) (key : ℕ) → in_range r key ≡ false → look (xs ++ (r, v) ∷ []) key ≡ look xs key
-unpushed xs r v key none = same_back xs ((r, v) ∷ []) [] key (miss r v [] key none) ∙ ap (λ l. look l key) (append-nil xs)
+pub unpushed : {V : Type 0} (xs : List (Range × V)) (r : Range) (v : V) (key : ℕ) → in_range r key ≡ false → first_value (xs ++ (r, v) ∷ []) key ≡ first_value xs key
+unpushed xs r v key none = same_back xs ((r, v) ∷ []) [] key (miss r v [] key none) ∙ ap (λ l. first_value l key) (append-nil xs)
 
-pub adds_part : {V : Type 0} (old new : List (Range × V)) (r part other : Range) (v : V) → r.low < other.low → part.low ≡ r.low → part.high + 1 ≡ min (r.high + 1) other.low → SameLooks new (old ++ (part, v) ∷ []) → AddsBelow old r v other.low new
+pub adds_part : {V : Type 0} (old new : List (Range × V)) (r part other : Range) (v : V) → r.low < other.low → part.low ≡ r.low → part.high + 1 ≡ min (r.high + 1) other.low → SameFirstValues new (old ++ (part, v) ∷ []) → AddsBelow old r v other.low new
 adds_part {V} old new r part other v begins low high same = record {
   lesser = λ key lt. same key ∙ pushed old part r v key (⊎_elim
       (λ beyond. past part key (omega arith) ∙ sym (past r key beyond))
@@ -153,15 +153,15 @@ adds_nothing old r other v le = record {
 -- ---- a range under the first of the upper pieces
 
 -- below that piece
-beneath : {V : Type 0} (old new tail : List (Range × V)) (first : Range × V) (others : List (Range × V)) (r : Range) (v : V) (key : ℕ) → IsRising (first.0.high + 1) others → AddsBelow old r v first.0.low new → key < first.0.low → look tail key ≡ None → look (new ++ tail) key ≡ look (old ++ (first ∷ others ++ (r, v) ∷ [])) key
+beneath : {V : Type 0} (old new tail : List (Range × V)) (first : Range × V) (others : List (Range × V)) (r : Range) (v : V) (key : ℕ) → IsRising (first.0.high + 1) others → AddsBelow old r v first.0.low new → key < first.0.low → first_value tail key ≡ None → first_value (new ++ tail) key ≡ first_value (old ++ (first ∷ others ++ (r, v) ∷ [])) key
 beneath {V} old new tail first others r v key rises adds less silent =
     same_back new tail [] key silent
-    ∙ ap (λ l. look l key) (append-nil new)
+    ∙ ap (λ l. first_value l key) (append-nil new)
     ∙ adds.lesser key less
     ∙ same_back old ((r, v) ∷ []) (first ∷ others ++ (r, v) ∷ []) key (sym (skip (first ∷ others) ((r, v) ∷ []) key (none_below first.0.low key (first ∷ others) less (omega arith, rises))))
 
 -- nothing of the range lies past that piece
-pub covered : {V : Type 0} (old new : List (Range × V)) (first : Range × V) (others : List (Range × V)) (r : Range) (v : V) → r.high ≤ first.0.high → IsRising (first.0.high + 1) others → AddsBelow old r v first.0.low new → SameLooks (new ++ first ∷ others) (old ++ (first ∷ others ++ (r, v) ∷ []))
+pub covered : {V : Type 0} (old new : List (Range × V)) (first : Range × V) (others : List (Range × V)) (r : Range) (v : V) → r.high ≤ first.0.high → IsRising (first.0.high + 1) others → AddsBelow old r v first.0.low new → SameFirstValues (new ++ first ∷ others) (old ++ (first ∷ others ++ (r, v) ∷ []))
 covered {V} old new first others r v ends rises adds key =
     ⊎_elim
     (λ less. beneath old new (first ∷ others) first others r v key rises adds less (none_below first.0.low key (first ∷ others) less (omega arith, rises)))
@@ -172,10 +172,10 @@ covered {V} old new first others r v ends rises adds key =
     (cases_lt key first.0.low)
 
 -- the rest of the range lies past that piece, which is appended
-pub passed : {V : Type 0} (old new newer : List (Range × V)) (first : Range × V) (others : List (Range × V)) (r part : Range) (v : V) → part.low ≡ max r.low (first.0.high + 1) → part.high ≡ r.high → IsRising (first.0.high + 1) others → AddsBelow old r v first.0.low new → SameLooks newer (new ++ first ∷ []) → SameLooks (newer ++ (others ++ (part, v) ∷ [])) (old ++ (first ∷ others ++ (r, v) ∷ []))
+pub passed : {V : Type 0} (old new newer : List (Range × V)) (first : Range × V) (others : List (Range × V)) (r part : Range) (v : V) → part.low ≡ max r.low (first.0.high + 1) → part.high ≡ r.high → IsRising (first.0.high + 1) others → AddsBelow old r v first.0.low new → SameFirstValues newer (new ++ first ∷ []) → SameFirstValues (newer ++ (others ++ (part, v) ∷ [])) (old ++ (first ∷ others ++ (r, v) ∷ []))
 passed {V} old new newer first others r part v low high rises adds appended key =
     same_front newer (new ++ first ∷ []) (others ++ (part, v) ∷ []) appended key
-    ∙ ap (λ l. look l key) (append_assoc new (first ∷ []) (others ++ (part, v) ∷ []))
+    ∙ ap (λ l. first_value l key) (append_assoc new (first ∷ []) (others ++ (part, v) ∷ []))
     ∙ ⊎_elim
     (λ less. beneath old new (first ∷ others ++ (part, v) ∷ []) first others r v key rises adds less (skip (first ∷ others) ((part, v) ∷ []) key (none_below first.0.low key (first ∷ others) less (omega arith, rises)) ∙ miss part v [] key (under part key (omega (arith, first.0.ordered)))))
     (λ more. front_at new old (first ∷ others ++ (part, v) ∷ []) key (adds.others key more) ∙ same_back old (first ∷ others ++ (part, v) ∷ []) (first ∷ others ++ (r, v) ∷ []) key (⊎_elim
@@ -188,27 +188,27 @@ passed {V} old new newer first others r part v low high rises adds appended key 
     above key beyond =
         ⊎_elim
         (λ less. under part key (omega arith) ∙ sym (under r key less))
-        (λ begun. same_above part r key high (omega arith) begun)
+        (λ begun_run. same_above part r key high (omega arith) begun_run)
         (cases_lt key r.low)
 
 -- ---- two lists in one
 
 pub table_none : {V : Type 0} (xs : List (Range × V)) → xs ≡ [] → IsTable xs
-table_none {V} xs none = subst IsTable (sym none) (record { separate = λ i j d lt in_list. absurd (omega arith); joined = λ i d lt. absurd (omega arith) })
+table_none {V} xs none = subst IsTable (sym none) (record { separate = λ i j d lt in_list. absurd (omega arith); merged = λ i d lt. absurd (omega arith) })
 
 -- one more of the lower pieces is laid under the upper ones
-pub laid_more : {V : Type 0} (pieces left new left' lower all : List (Range × V)) (i : ℕ) (item : Range × V) → i < length lower → item ≡ get_or lower i item → SameLooks (new ++ left') (pieces ++ (left ++ item ∷ [])) → SameLooks (pieces ++ (left ++ drop i lower)) all → SameLooks (new ++ (left' ++ drop (i + 1) lower)) all
+pub laid_more : {V : Type 0} (pieces left new left' lower all : List (Range × V)) (i : ℕ) (item : Range × V) → i < length lower → item ≡ get_or lower i item → SameFirstValues (new ++ left') (pieces ++ (left ++ item ∷ [])) → SameFirstValues (pieces ++ (left ++ drop i lower)) all → SameFirstValues (new ++ (left' ++ drop (i + 1) lower)) all
 laid_more {V} pieces left new left' lower all i item lt is one so_far key =
     let rest = drop (i + 1) lower in
-    ap (λ l. look l key) (sym (append_assoc new left' rest))
+    ap (λ l. first_value l key) (sym (append_assoc new left' rest))
     ∙ same_front (new ++ left') (pieces ++ (left ++ item ∷ [])) rest one key
-    ∙ ap (λ l. look l key) (append_assoc pieces (left ++ item ∷ []) rest ∙ ap (λ l. pieces ++ l) (append_assoc left (item ∷ []) rest))
-    ∙ ap (λ l. look (pieces ++ (left ++ l)) key) (ap (λ p. p ∷ rest) is ∙ sym (drop_more lower i item lt))
+    ∙ ap (λ l. first_value l key) (append_assoc pieces (left ++ item ∷ []) rest ∙ ap (λ l. pieces ++ l) (append_assoc left (item ∷ []) rest))
+    ∙ ap (λ l. first_value (pieces ++ (left ++ l)) key) (ap (λ p. p ∷ rest) is ∙ sym (drop_more lower i item lt))
     ∙ so_far key
 
 -- both halves say the same, and so does the whole
-pub same_halves : {V : Type 0} (upper lower pairs : List (Range × V)) (n : ℕ) → SameLooks upper (take n pairs) → SameLooks lower (drop n pairs) → SameLooks (upper ++ lower) pairs
+pub same_halves : {V : Type 0} (upper lower pairs : List (Range × V)) (n : ℕ) → SameFirstValues upper (take n pairs) → SameFirstValues lower (drop n pairs) → SameFirstValues (upper ++ lower) pairs
 same_halves upper lower pairs n front back key =
     same_front upper (take n pairs) lower front key
     ∙ same_back (take n pairs) lower (drop n pairs) key (back key)
-    ∙ ap (λ l. look l key) (take-append-drop n pairs)
+    ∙ ap (λ l. first_value l key) (take-append-drop n pairs)

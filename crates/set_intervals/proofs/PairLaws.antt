@@ -6,21 +6,21 @@ use Rattle.std.specs.List.Sorted.{IsPermutation}
 use Rattle.std.proofs.lemmas.List.{take_more, take_all}
 use Rattle.std.proofs.lemmas.List.Sorted.{Contains-permutation, IsPermutation-sym}
 use Rattle.set_intervals.specs.declared.range.Range.{Range}
-use Rattle.set_intervals.specs.Pairs.{Covers, Holds, Same, Clashing, in_range, look}
+use Rattle.set_intervals.specs.Pairs.{Covers, HasValue, SameValues, HasClash, in_range, first_value}
 use Rattle.set_intervals.specs.steps.Pieces.{Adds, ClashesWith}
 
 -- ---- a pair with a number
 
-holds_at : {V : Type 0} (xs : List (Range × V)) (i : ℕ) (d : Range × V) (key : ℕ) → i < length xs → Covers (get_or xs i d).0 key → Holds xs key (get_or xs i d).1
+holds_at : {V : Type 0} (xs : List (Range × V)) (i : ℕ) (d : Range × V) (key : ℕ) → i < length xs → Covers (get_or xs i d).0 key → HasValue xs key (get_or xs i d).1
 holds_at [] i d key lt c = absurd (omega arith)
 holds_at (x ∷ xs) zero d key lt c = inl (c, refl)
 holds_at (x ∷ xs) (suc i) d key lt c = inr (holds_at xs i d key (omega arith) c)
 
 -- a pair that was read
-pub holds_read : {V : Type 0} (xs : List (Range × V)) (i : ℕ) (p : Range × V) (key : ℕ) → i < length xs → p ≡ get_or xs i p → Covers p.0 key → Holds xs key p.1
+pub holds_read : {V : Type 0} (xs : List (Range × V)) (i : ℕ) (p : Range × V) (key : ℕ) → i < length xs → p ≡ get_or xs i p → Covers p.0 key → HasValue xs key p.1
 holds_read {V} xs i p key lt is c =
     let at = holds_at xs i p key lt (subst (λ (s : Range × V). Covers s.0 key) is c) in
-    subst (λ (s : Range × V). Holds xs key s.1) (sym is) at
+    subst (λ (s : Range × V). HasValue xs key s.1) (sym is) at
 
 -- a pair with the number and the value, and where it stands
 pub record Place {V : Type 0} (xs : List (Range × V)) (key : ℕ) (v : V) : Type 0 where
@@ -31,20 +31,20 @@ pub record Place {V : Type 0} (xs : List (Range × V)) (key : ℕ) (v : V) : Typ
   pub covers : Covers pair.0 key
   pub value : pair.1 ≡ v
 
-pub place_of : {V : Type 0} (xs : List (Range × V)) (key : ℕ) (v : V) → Holds xs key v → Place xs key v
+pub place_of : {V : Type 0} (xs : List (Range × V)) (key : ℕ) (v : V) → HasValue xs key v → Place xs key v
 place_of [] key v h = absurd h
 place_of (x ∷ xs) key v (inl h) = record { pair = x; at = 0; in_list = omega arith; stands = λ d. refl; covers = h.0; value = h.1 }
 place_of (x ∷ xs) key v (inr h) =
     let r = place_of xs key v h in
     record { pair = r.pair; at = suc r.at; in_list = omega (arith, r.in_list); stands = r.stands; covers = r.covers; value = r.value }
 
-push_forth : {V : Type 0} (xs : List (Range × V)) (r : Range) (v : V) (key : ℕ) (w : V) → Holds (xs ++ (r, v) ∷ []) key w → Holds xs key w ⊎ (Covers r key × (v ≡ w))
+push_forth : {V : Type 0} (xs : List (Range × V)) (r : Range) (v : V) (key : ℕ) (w : V) → HasValue (xs ++ (r, v) ∷ []) key w → HasValue xs key w ⊎ (Covers r key × (v ≡ w))
 push_forth [] r v key w (inl h) = inr h
 push_forth [] r v key w (inr h) = absurd h
 push_forth (x ∷ xs) r v key w (inl h) = inl (inl h)
 push_forth (x ∷ xs) r v key w (inr h) = ⊎_elim (λ a. inl (inr a)) (λ b. inr b) (push_forth xs r v key w h)
 
-push_back : {V : Type 0} (xs : List (Range × V)) (r : Range) (v : V) (key : ℕ) (w : V) → Holds xs key w ⊎ (Covers r key × (v ≡ w)) → Holds (xs ++ (r, v) ∷ []) key w
+push_back : {V : Type 0} (xs : List (Range × V)) (r : Range) (v : V) (key : ℕ) (w : V) → HasValue xs key w ⊎ (Covers r key × (v ≡ w)) → HasValue (xs ++ (r, v) ∷ []) key w
 push_back [] r v key w (inl h) = absurd h
 push_back [] r v key w (inr h) = inl h
 push_back (x ∷ xs) r v key w (inl (inl h)) = inl h
@@ -56,14 +56,14 @@ pub adds_push : {V : Type 0} (xs : List (Range × V)) (r : Range) (v : V) → Ad
 adds_push xs r v key w = (push_forth xs r v key w, push_back xs r v key w)
 
 -- a piece that is made wider
-widen_forth : {V : Type 0} (xs : List (Range × V)) (i : ℕ) (d : Range × V) (q r : Range) (key : ℕ) (w : V) → i < length xs → (Covers q key → Covers (get_or xs i d).0 key ⊎ Covers r key) → Holds (set xs i (q, (get_or xs i d).1)) key w → Holds xs key w ⊎ (Covers r key × ((get_or xs i d).1 ≡ w))
+widen_forth : {V : Type 0} (xs : List (Range × V)) (i : ℕ) (d : Range × V) (q r : Range) (key : ℕ) (w : V) → i < length xs → (Covers q key → Covers (get_or xs i d).0 key ⊎ Covers r key) → HasValue (set xs i (q, (get_or xs i d).1)) key w → HasValue xs key w ⊎ (Covers r key × ((get_or xs i d).1 ≡ w))
 widen_forth [] i d q r key w lt split h = absurd (omega arith)
 widen_forth (x ∷ xs) zero d q r key w lt split (inl h) = ⊎_elim (λ a. inl (inl (a, h.1))) (λ b. inr (b, h.1)) (split h.0)
 widen_forth (x ∷ xs) zero d q r key w lt split (inr h) = inl (inr h)
 widen_forth (x ∷ xs) (suc i) d q r key w lt split (inl h) = inl (inl h)
 widen_forth (x ∷ xs) (suc i) d q r key w lt split (inr h) = ⊎_elim (λ a. inl (inr a)) (λ b. inr b) (widen_forth xs i d q r key w (omega arith) split h)
 
-widen_back : {V : Type 0} (xs : List (Range × V)) (i : ℕ) (d : Range × V) (q r : Range) (key : ℕ) (w : V) → i < length xs → (Covers (get_or xs i d).0 key ⊎ Covers r key → Covers q key) → Holds xs key w ⊎ (Covers r key × ((get_or xs i d).1 ≡ w)) → Holds (set xs i (q, (get_or xs i d).1)) key w
+widen_back : {V : Type 0} (xs : List (Range × V)) (i : ℕ) (d : Range × V) (q r : Range) (key : ℕ) (w : V) → i < length xs → (Covers (get_or xs i d).0 key ⊎ Covers r key → Covers q key) → HasValue xs key w ⊎ (Covers r key × ((get_or xs i d).1 ≡ w)) → HasValue (set xs i (q, (get_or xs i d).1)) key w
 widen_back [] i d q r key w lt join h = absurd (omega arith)
 widen_back (x ∷ xs) zero d q r key w lt join (inl (inl h)) = inl (join (inl h.0), h.1)
 widen_back (x ∷ xs) zero d q r key w lt join (inl (inr h)) = inr h
@@ -79,8 +79,8 @@ adds_widen {V} xs i p q r v lt is same split join key w =
     let join' = subst (λ (s : Range × V). Covers s.0 key ⊎ Covers r key → Covers q key) is (join key) in
     let e : (get_or xs i p).1 ≡ v = ap (λ (s : Range × V). s.1) (sym is) ∙ same in
     let set_is : set xs i (q, p.1) ≡ set xs i (q, (get_or xs i p).1) = ap (λ (s : Range × V). set xs i (q, s.1)) is in (
-      λ h. subst (λ u. Holds xs key w ⊎ (Covers r key × (u ≡ w))) e (widen_forth xs i p q r key w lt split' (subst (λ l. Holds l key w) set_is h)),
-      λ h. subst (λ l. Holds l key w) (sym set_is) (widen_back xs i p q r key w lt join' (subst (λ u. Holds xs key w ⊎ (Covers r key × (u ≡ w))) (sym e) h)),
+      λ h. subst (λ u. HasValue xs key w ⊎ (Covers r key × (u ≡ w))) e (widen_forth xs i p q r key w lt split' (subst (λ l. HasValue l key w) set_is h)),
+      λ h. subst (λ l. HasValue l key w) (sym set_is) (widen_back xs i p q r key w lt join' (subst (λ u. HasValue xs key w ⊎ (Covers r key × (u ≡ w))) (sym e) h)),
     )
 
 -- two ranges that overlap or touch, and the one from the beginning of the first to the end of both
@@ -91,9 +91,9 @@ covers_split first later both near low high key h =
     (λ within. inl (record { above = omega (arith, h.above); below = within }))
     (cases_lt first.high key)
 
-pub covers_join : (first later both : Range) → first.low ≤ later.low → both.low ≡ first.low → both.high ≡ max first.high later.high → (key : ℕ) → Covers first key ⊎ Covers later key → Covers both key
-covers_join first later both rising low high key (inl h) = record { above = omega (arith, h.above); below = omega (arith, h.below) }
-covers_join first later both rising low high key (inr h) = record { above = omega (arith, h.above); below = omega (arith, h.below) }
+pub covers_merge : (first later both : Range) → first.low ≤ later.low → both.low ≡ first.low → both.high ≡ max first.high later.high → (key : ℕ) → Covers first key ⊎ Covers later key → Covers both key
+covers_merge first later both rising low high key (inl h) = record { above = omega (arith, h.above); below = omega (arith, h.below) }
+covers_merge first later both rising low high key (inr h) = record { above = omega (arith, h.above); below = omega (arith, h.below) }
 
 -- ---- the pairs so far
 
@@ -104,30 +104,30 @@ adds_take {V} xs i r v lt is =
     subst (λ l. Adds (take i xs) r v l) (sym e) (adds_push (take i xs) r v)
 
 -- both lists get the same pair
-pub same_more : {V : Type 0} (old new xs ys : List (Range × V)) (r : Range) (v : V) → Same old xs → Adds old r v new → Adds xs r v ys → Same new ys
+pub same_more : {V : Type 0} (old new xs ys : List (Range × V)) (r : Range) (v : V) → SameValues old xs → Adds old r v new → Adds xs r v ys → SameValues new ys
 same_more {V} old new xs ys r v same adds adds' key w = (
   λ h. (adds' key w).1 (⊎_elim (λ a. inl ((same key w).0 a)) (λ b. inr b) ((adds key w).0 h)),
   λ h. (adds key w).1 (⊎_elim (λ a. inl ((same key w).1 a)) (λ b. inr b) ((adds' key w).0 h)),
 )
 
 -- another order of the pairs
-pub holds_permutation : {V : Type 0} (xs ys : List (Range × V)) → IsPermutation xs ys → (key : ℕ) (v : V) → Holds xs key v → Holds ys key v
+pub holds_permutation : {V : Type 0} (xs ys : List (Range × V)) → IsPermutation xs ys → (key : ℕ) (v : V) → HasValue xs key v → HasValue ys key v
 holds_permutation {V} xs ys perm key v h =
     let r = place_of xs key v h in
     let c = Contains-permutation xs ys r.pair perm (r.at, r.in_list, r.stands r.pair) in
-    subst (λ u. Holds ys key u) r.value (holds_read ys c.0 r.pair key c.1 (sym c.2) r.covers)
+    subst (λ u. HasValue ys key u) r.value (holds_read ys c.0 r.pair key c.1 (sym c.2) r.covers)
 
 -- the pieces say what all pairs say, whatever their order
-pub same_permutation : {V : Type 0} (pieces xs ys : List (Range × V)) (i : ℕ) → length xs ≤ i → Same pieces (take i xs) → IsPermutation ys xs → Same pieces ys
+pub same_permutation : {V : Type 0} (pieces xs ys : List (Range × V)) (i : ℕ) → length xs ≤ i → SameValues pieces (take i xs) → IsPermutation ys xs → SameValues pieces ys
 same_permutation {V} pieces xs ys i all same perm key v =
     let whole : take i xs ≡ xs = take_all i xs all in
     let back = IsPermutation-sym ys xs perm in (
-      λ h. holds_permutation xs ys back key v (subst (λ l. Holds l key v) whole ((same key v).0 h)),
-      λ h. (same key v).1 (subst (λ l. Holds l key v) (sym whole) (holds_permutation ys xs perm key v h)),
+      λ h. holds_permutation xs ys back key v (subst (λ l. HasValue l key v) whole ((same key v).0 h)),
+      λ h. (same key v).1 (subst (λ l. HasValue l key v) (sym whole) (holds_permutation ys xs perm key v h)),
     )
 
 -- a pair that the first ones disagree with
-pub clash_of : {V : Type 0} (pieces xs ys : List (Range × V)) (i : ℕ) (r : Range) (v : V) → i < length xs → (r, v) ≡ get_or xs i (r, v) → Same pieces (take i xs) → IsPermutation ys xs → ClashesWith pieces r v → Clashing ys
+pub clash_of : {V : Type 0} (pieces xs ys : List (Range × V)) (i : ℕ) (r : Range) (v : V) → i < length xs → (r, v) ≡ get_or xs i (r, v) → SameValues pieces (take i xs) → IsPermutation ys xs → ClashesWith pieces r v → HasClash ys
 clash_of {V} pieces xs ys i r v lt is same perm h =
     let back = IsPermutation-sym ys xs perm in
     record {
@@ -139,7 +139,7 @@ clash_of {V} pieces xs ys i r v lt is same perm h =
       differ = h.differ;
     }
   where
-    holds_before : (xs : List (Range × V)) (i key : ℕ) (w : V) → Holds (take i xs) key w → Holds xs key w
+    holds_before : (xs : List (Range × V)) (i key : ℕ) (w : V) → HasValue (take i xs) key w → HasValue xs key w
     holds_before xs zero key w h = absurd h
     holds_before [] (suc i) key w h = absurd h
     holds_before (x ∷ xs) (suc i) key w (inl h) = inl h
@@ -149,7 +149,7 @@ clash_of {V} pieces xs ys i r v lt is same perm h =
 
 -- a look-up says what the pairs say
 abbrev pub Says : {V : Type 0} → List (Range × V) → ℕ → Option V → Type 0
-Says {V} xs key o = MatchOption o ((v : V) → Holds xs key v → ⊥) (λ v. Holds xs key v)
+Says {V} xs key o = MatchOption o ((v : V) → HasValue xs key v → ⊥) (λ v. HasValue xs key v)
 
 covers_from_test : (r : Range) (key : ℕ) → in_range r key ≡ true → Covers r key
 covers_from_test r key h = record { above = grind (arith, nat_tests, h); below = grind (arith, nat_tests, h) }
@@ -157,14 +157,14 @@ covers_from_test r key h = record { above = grind (arith, nat_tests, h); below =
 test_from_covers : (r : Range) (key : ℕ) → in_range r key ≡ false → Covers r key → ⊥
 test_from_covers r key h c = let above = c.above in let below = c.below in grind (arith, nat_tests, h)
 
-look_step : {V : Type 0} (x : Range × V) (xs : List (Range × V)) (key : ℕ) (b : Bool) → in_range x.0 key ≡ b → (o : Option V) → Says xs key o → Says (x ∷ xs) key (if b then Some x.1 else o)
-look_step x xs key true e o h = inl (covers_from_test x.0 key e, refl)
-look_step x xs key false e None h = λ v held. ⊎_elim (λ a. test_from_covers x.0 key e a.0) (λ b. h v b) held
-look_step x xs key false e (Some v) h = inr h
+first_value_step : {V : Type 0} (x : Range × V) (xs : List (Range × V)) (key : ℕ) (b : Bool) → in_range x.0 key ≡ b → (o : Option V) → Says xs key o → Says (x ∷ xs) key (if b then Some x.1 else o)
+first_value_step x xs key true e o h = inl (covers_from_test x.0 key e, refl)
+first_value_step x xs key false e None h = λ v held. ⊎_elim (λ a. test_from_covers x.0 key e a.0) (λ b. h v b) held
+first_value_step x xs key false e (Some v) h = inr h
 
-pub look_says : {V : Type 0} (xs : List (Range × V)) (key : ℕ) → Says xs key (look xs key)
-look_says [] key = λ v h. h
-look_says (x ∷ xs) key = look_step x xs key (in_range x.0 key) refl (look xs key) (look_says xs key)
+pub first_value_holds : {V : Type 0} (xs : List (Range × V)) (key : ℕ) → Says xs key (first_value xs key)
+first_value_holds [] key = λ v h. h
+first_value_holds (x ∷ xs) key = first_value_step x xs key (in_range x.0 key) refl (first_value xs key) (first_value_holds xs key)
 
-pub same_itself : {V : Type 0} (xs : List (Range × V)) → Same xs xs
+pub same_itself : {V : Type 0} (xs : List (Range × V)) → SameValues xs xs
 same_itself xs key v = (λ h. h, λ h. h)

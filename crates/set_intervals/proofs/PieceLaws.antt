@@ -6,9 +6,9 @@ use Rattle.std.proofs.lemmas.List.{get_or_append_left, get_or_default, get_or-se
 use Rattle.std.proofs.lemmas.Bool.{cases_lt}
 use Rattle.std.proofs.lemmas.List.Sorted.{IsPartitionedBy-ltb}
 use Rattle.set_intervals.specs.declared.range.Range.{Range}
-use Rattle.set_intervals.specs.declared.table.Meeting.TheVariants.{Apart}
-use Rattle.set_intervals.specs.Pairs.{Holds, Same, Clashing}
-use Rattle.set_intervals.specs.steps.Pieces.{IsSeparate, IsJoined, IsTable, StartsBefore, Meets, IsReach}
+use Rattle.set_intervals.specs.declared.table.Overlap.TheVariants.{Disjoint}
+use Rattle.set_intervals.specs.Pairs.{HasValue, SameValues, HasClash}
+use Rattle.set_intervals.specs.steps.Pieces.{IsSeparate, IsMerged, IsTable, StartsBefore, ClassifiesOverlap, IsLowerBound}
 use Rattle.set_intervals.proofs.PairLaws.{place_of, Says}
 
 -- the ends of pieces rise
@@ -53,8 +53,8 @@ separate_push {V} xs p sep after i j d lt in_range = ⊎_elim old new (cases_lt 
         let before = after (length xs - 1) d (omega arith) in
         rw (get_or_append_left xs (p ∷ []) d i i_in, at_end) (omega (arith, rise, before))
 
-pub joined_push : {V : Type 0} (xs : List (Range × V)) (p : Range × V) → IsJoined xs → ((i : ℕ) (d : Range × V) → i + 1 ≡ length xs → (get_or xs i d).0.high + 1 ≡ p.0.low → (get_or xs i d).1 ≢ p.1) → IsJoined (xs ++ p ∷ [])
-joined_push {V} xs p joined last i d lt = ⊎_elim old new (cases_lt (i + 1) (length xs))
+pub merged_push : {V : Type 0} (xs : List (Range × V)) (p : Range × V) → IsMerged xs → ((i : ℕ) (d : Range × V) → i + 1 ≡ length xs → (get_or xs i d).0.high + 1 ≡ p.0.low → (get_or xs i d).1 ≢ p.1) → IsMerged (xs ++ p ∷ [])
+merged_push {V} xs p merged last i d lt = ⊎_elim old new (cases_lt (i + 1) (length xs))
   where
     len : length (xs ++ p ∷ []) ≡ length xs + 1
     len = omega (arith, length-append xs (p ∷ []))
@@ -63,7 +63,7 @@ joined_push {V} xs p joined last i d lt = ⊎_elim old new (cases_lt (i + 1) (le
     in_old = omega (arith, len)
 
     old : i + 1 < length xs → (get_or (xs ++ p ∷ []) i d).0.high + 1 ≡ (get_or (xs ++ p ∷ []) (i + 1) d).0.low → (get_or (xs ++ p ∷ []) i d).1 ≢ (get_or (xs ++ p ∷ []) (i + 1) d).1
-    old next = rw (get_or_append_left xs (p ∷ []) d i in_old, get_or_append_left xs (p ∷ []) d (i + 1) next) (joined i d next)
+    old next = rw (get_or_append_left xs (p ∷ []) d i in_old, get_or_append_left xs (p ∷ []) d (i + 1) next) (merged i d next)
 
     new : length xs ≤ i + 1 → (get_or (xs ++ p ∷ []) i d).0.high + 1 ≡ (get_or (xs ++ p ∷ []) (i + 1) d).0.low → (get_or (xs ++ p ∷ []) i d).1 ≢ (get_or (xs ++ p ∷ []) (i + 1) d).1
     new past =
@@ -72,10 +72,10 @@ joined_push {V} xs p joined last i d lt = ⊎_elim old new (cases_lt (i + 1) (le
         rw (get_or_append_left xs (p ∷ []) d i in_old, at_end) (last i d j_is)
 
 -- a new last piece that lies apart from the one before it
-pub table_push : {V : Type 0} (xs : List (Range × V)) (n : ℕ) (q p : Range × V) → IsTable xs → n ≡ length xs → q ≡ get_or xs (n - 1) q → Meets q p Apart → IsTable (xs ++ p ∷ [])
+pub table_push : {V : Type 0} (xs : List (Range × V)) (n : ℕ) (q p : Range × V) → IsTable xs → n ≡ length xs → q ≡ get_or xs (n - 1) q → ClassifiesOverlap q p Disjoint → IsTable (xs ++ p ∷ [])
 table_push {V} xs n q p table whole is apart = record {
   separate = separate_push xs p table.separate (λ i d last. subst (λ (s : Range × V). s.0.high < p.0.low) (sym (last_is xs n i d q whole last is)) apart.0);
-  joined = joined_push xs p table.joined (λ i d last. subst (λ (s : Range × V). s.0.high + 1 ≡ p.0.low → s.1 ≢ p.1) (sym (last_is xs n i d q whole last is)) apart.1);
+  merged = merged_push xs p table.merged (λ i d last. subst (λ (s : Range × V). s.0.high + 1 ≡ p.0.low → s.1 ≢ p.1) (sym (last_is xs n i d q whole last is)) apart.1);
 }
 
 pub starts_push : {V : Type 0} (xs : List (Range × V)) (p : Range × V) → StartsBefore xs p.0.low → StartsBefore (xs ++ p ∷ []) p.0.low
@@ -101,7 +101,7 @@ starts_widen {V} xs i p q n lt is same before j d in_list =
 -- ---- the one value at a number
 
 -- nothing has a key that lies after the pieces before a place and before the piece there
-pub not_held : {V : Type 0} (xs : List (Range × V)) → IsSeparate xs → (key at : ℕ) → IsReach xs key at → ((d : Range × V) → at < length xs → key < (get_or xs at d).0.low) → (v : V) → Holds xs key v → ⊥
+pub not_held : {V : Type 0} (xs : List (Range × V)) → IsSeparate xs → (key at : ℕ) → IsLowerBound xs key at → ((d : Range × V) → at < length xs → key < (get_or xs at d).0.low) → (v : V) → HasValue xs key v → ⊥
 not_held {V} xs sep key at reach later v h =
     let r = place_of xs key v h in
     let d = r.pair in
@@ -119,7 +119,7 @@ not_held {V} xs sep key at reach later v h =
     (cases_lt i at)
 
 -- separate pieces have one value at a key
-one_value : {V : Type 0} (xs : List (Range × V)) → IsSeparate xs → (key : ℕ) (v w : V) → Holds xs key v → Holds xs key w → v ≡ w
+one_value : {V : Type 0} (xs : List (Range × V)) → IsSeparate xs → (key : ℕ) (v w : V) → HasValue xs key v → HasValue xs key w → v ≡ w
 one_value {V} xs sep key v w hv hw =
     let a = place_of xs key v hv in
     let b = place_of xs key w hw in
@@ -137,12 +137,12 @@ one_value {V} xs sep key v w hv hw =
     (cases_lt a.at b.at)
 
 -- the one answer
-pub one_answer : {V : Type 0} (xs ys : List (Range × V)) → IsSeparate xs → Same xs ys → (key : ℕ) (a b : Option V) → Says xs key a → Says ys key b → a ≡ b
+pub one_answer : {V : Type 0} (xs ys : List (Range × V)) → IsSeparate xs → SameValues xs ys → (key : ℕ) (a b : Option V) → Says xs key a → Says ys key b → a ≡ b
 one_answer xs ys sep same key None None ha hb = refl
 one_answer xs ys sep same key None (Some w) ha hb = absurd (ha w ((same key w).1 hb))
 one_answer xs ys sep same key (Some v) None ha hb = absurd (hb v ((same key v).0 ha))
 one_answer xs ys sep same key (Some v) (Some w) ha hb = ap Some (one_value xs sep key v w ha ((same key w).1 hb))
 
 -- a table's pairs don't clash
-pub no_clash : {V : Type 0} (xs ys : List (Range × V)) → IsSeparate xs → Same xs ys → Clashing ys → ⊥
+pub no_clash : {V : Type 0} (xs ys : List (Range × V)) → IsSeparate xs → SameValues xs ys → HasClash ys → ⊥
 no_clash xs ys sep same clash = clash.differ (one_value xs sep clash.key clash.one clash.other ((same clash.key clash.one).1 clash.has_one) ((same clash.key clash.other).1 clash.has_other))

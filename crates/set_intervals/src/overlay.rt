@@ -1,7 +1,7 @@
 //! Pieces laid over others: at a number that both have, the upper ones' value counts.
 ghost use Rattle.std.specs.Prelude.{◌≡◌, ◌≤◌, ◌<◌, ◌+◌, ◌++◌, ◌∷◌, [], ◌↔◌, IsTrue, IfOk, OnOk};
 ghost use Rattle.set_intervals.specs.Pairs.{IsExact};
-ghost use Rattle.set_intervals.specs.steps.Layers.{AddsBelow, EndsBefore, Follows, SameLooks};
+ghost use Rattle.set_intervals.specs.steps.Layers.{AddsBelow, EndsBefore, Follows, SameFirstValues};
 ghost use Rattle.set_intervals.specs.steps.Pieces.{IsTable};
 
 use crate::range::Range;
@@ -26,14 +26,14 @@ fn append<V: Copy + Eq>(
     requires past { EndsBefore pieces.old.items range.low }
     ensures table { OnOk result (IsTable pieces.new.items) }
     ensures ends { OnOk result (EndsBefore pieces.new.items (range.high + 1)) }
-    ensures looks { OnOk result (SameLooks pieces.new.items
+    ensures first_values { OnOk result (SameFirstValues pieces.new.items
         (pieces.old.items ++ (range, value) ∷ [])) }
 {
     let len = pieces.len();
     if len > 0 {
         let last = pieces[len - 1];
         if continues(last, range, value) {
-            pieces[len - 1] = (last.0.joined(range), last.1);
+            pieces[len - 1] = (last.0.merged(range), last.1);
             return Ok(());
         }
     }
@@ -55,7 +55,7 @@ fn append_before<V: Copy + Eq>(
     ensures table { OnOk result (IsTable pieces.new.items) }
     ensures before { OnOk result (EndsBefore pieces.new.items other.low) }
     ensures ends { OnOk result (EndsBefore pieces.new.items (range.high + 1)) }
-    ensures looks { OnOk result
+    ensures first_values { OnOk result
         (AddsBelow pieces.old.items range value other.low pieces.new.items) }
 {
     if let Some(part) = range.before(other) {
@@ -79,7 +79,7 @@ fn append_under<'a, V: Copy + Eq>(
     ensures table { OnOk result (IsTable pieces.new.items) }
     ensures ends { OnOk result (EndsBefore pieces.new.items (range.high + 1)) }
     ensures follows { IfOk result (λ left. Follows pieces.new.items left.now) }
-    ensures looks { IfOk result (λ left. SameLooks (pieces.new.items ++ left.now)
+    ensures first_values { IfOk result (λ left. SameFirstValues (pieces.new.items ++ left.now)
         (pieces.old.items ++ (upper.now ++ (range, value) ∷ []))) }
 {
     let mut left = upper;
@@ -106,7 +106,7 @@ fn append_all<V: Copy + Eq>(
     requires table { IsTable pieces.old.items }
     requires follows { Follows pieces.old.items further.now }
     ensures table { OnOk result (IsTable pieces.new.items) }
-    ensures looks { OnOk result (SameLooks pieces.new.items (pieces.old.items ++ further.now)) }
+    ensures first_values { OnOk result (SameFirstValues pieces.new.items (pieces.old.items ++ further.now)) }
 {
     let mut left = further;
     while let [first, others @ ..] = left {
@@ -126,7 +126,7 @@ fn overlay<V: Copy + Eq>(
     requires upper { IsTable upper.now }
     requires lower { IsTable lower.now }
     ensures table { IfOk result (λ pieces. IsTable pieces.items) }
-    ensures looks { IfOk result (λ pieces. SameLooks pieces.items (upper.now ++ lower.now)) }
+    ensures first_values { IfOk result (λ pieces. SameFirstValues pieces.items (upper.now ++ lower.now)) }
 {
     let mut pieces = Vec::new(alloc);
     let mut left = upper;
@@ -144,7 +144,7 @@ pub fn first_wins<V: Copy + Eq>(
 ) -> Result<Vec<(Range, V)>, AllocError>
     requires exact { IsExact V.eq }
     ensures table { IfOk result (λ pieces. IsTable pieces.items) }
-    ensures looks { IfOk result (λ pieces. SameLooks pieces.items pairs.now) }
+    ensures first_values { IfOk result (λ pieces. SameFirstValues pieces.items pairs.now) }
 {
     if pairs.len() < 2 {
         return Vec::from_slice(alloc, pairs);

@@ -52,7 +52,7 @@ impl Range {
     }
 
     /// From the beginning of this one to the end of both.
-    pub(crate) fn joined(self, later: Range) -> Range
+    pub(crate) fn merged(self, later: Range) -> Range
         ensures low { result.low ≡ self.low }
         ensures high { result.high ≡ max self.high later.high }
     {

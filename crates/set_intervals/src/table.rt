@@ -2,8 +2,8 @@
 ghost use Rattle.std.specs.Prelude.{◌≡◌, ◌≤◌, ◌<◌, ◌↔◌, ℕ, List, length, IsTrue, IfOk, OnOk, IfErr, MatchOption};
 ghost use Rattle.std.specs.Option.{option_copied};
 ghost use Rattle.set_intervals.specs.declared.range.Range.{Range};
-ghost use Rattle.set_intervals.specs.Pairs.{Clashing, HasRuns, Holds, IsExact, Same, look};
-ghost use Rattle.set_intervals.specs.steps.Pieces.{Adds, ClashesWith, IsReach, IsTable, Meets, StartsBefore};
+ghost use Rattle.set_intervals.specs.Pairs.{HasClash, HasRuns, HasValue, IsExact, SameValues, first_value};
+ghost use Rattle.set_intervals.specs.steps.Pieces.{Adds, ClashesWith, IsLowerBound, IsTable, ClassifiesOverlap, StartsBefore};
 
 use crate::fault::SetError;
 use crate::overlay::first_wins;
@@ -36,10 +36,10 @@ impl<V: Copy + Eq> Intervals<V> {
     /// `Clash` where a number has two different values, `Memory` where there is no room.
     pub fn build(alloc: Global, pairs: &[(Range, V)]) -> Result<Self, SetError>
         requires exact { IsExact V.eq }
-        ensures looks { IfOk result (λ table. (key : ℕ) → look table key ≡ look pairs.now key) }
-        ensures same { IfOk result (λ table. Same table pairs.now) }
-        ensures agrees { IfOk result (λ table. Clashing pairs.now → ⊥) }
-        ensures clash { IfErr result (λ e. e ≡ SetError.Clash → Clashing pairs.now) }
+        ensures first_values { IfOk result (λ table. (key : ℕ) → first_value table key ≡ first_value pairs.now key) }
+        ensures same { IfOk result (λ table. SameValues table pairs.now) }
+        ensures agrees { IfOk result (λ table. HasClash pairs.now → ⊥) }
+        ensures clash { IfErr result (λ e. e ≡ SetError.Clash → HasClash pairs.now) }
     {
         let mut sorted = copied(alloc, pairs)?;
         sorted.sort_unstable_by_key(|pair| pair.0.low());
@@ -58,7 +58,7 @@ impl<V: Copy + Eq> Intervals<V> {
     /// Where there is no room.
     pub fn first_wins(alloc: Global, pairs: &[(Range, V)]) -> Result<Self, AllocError>
         requires exact { IsExact V.eq }
-        ensures { IfOk result (λ table. (key : ℕ) → look table key ≡ look pairs.now key) }
+        ensures { IfOk result (λ table. (key : ℕ) → first_value table key ≡ first_value pairs.now key) }
     {
         let pieces = first_wins(alloc, pairs)?;
         Ok(Intervals { pieces })
@@ -67,9 +67,9 @@ impl<V: Copy + Eq> Intervals<V> {
     /// The value at a number. `None` where it has none.
     pub fn find(&self, key: u128) -> Option<&V>
         ensures held { MatchOption (option_copied result)
-            ((v : V) → Holds self.now key v → ⊥)
-            (λ v. Holds self.now key v) }
-        ensures looks { option_copied result ≡ look self.now key }
+            ((v : V) → HasValue self.now key v → ⊥)
+            (λ v. HasValue self.now key v) }
+        ensures first_values { option_copied result ≡ first_value self.now key }
     {
         find_in(&self.pieces, key)
     }
@@ -90,32 +90,32 @@ impl<V: Copy + Eq> Intervals<V> {
 }
 
 /// How a pair stands to a piece that begins no later.
-enum Meeting {
+enum Overlap {
     /// It lies past the piece, and has another value where it touches it.
-    Apart,
+    Disjoint,
     /// It has the same value, and overlaps the piece or touches it.
-    Joins,
+    Mergeable,
     /// It has another value at a number of the piece.
     Clashes,
 }
 
 /// How the pair stands to the piece.
-fn meet<V: Copy + Eq>(piece: (Range, V), pair: (Range, V)) -> Meeting
+fn classify_overlap<V: Copy + Eq>(piece: (Range, V), pair: (Range, V)) -> Overlap
     requires exact { IsExact V.eq }
     requires rising { piece.0.low ≤ pair.0.low }
-    ensures { Meets piece pair result }
+    ensures { ClassifiesOverlap piece pair result }
 {
     let same = piece.1 == pair.1;
     if piece.0.overlaps(pair.0) {
         if same {
-            Meeting::Joins
+            Overlap::Mergeable
         } else {
-            Meeting::Clashes
+            Overlap::Clashes
         }
     } else if same && piece.0.touches(pair.0) {
-        Meeting::Joins
+        Overlap::Mergeable
     } else {
-        Meeting::Apart
+        Overlap::Disjoint
     }
 }
 
@@ -136,10 +136,10 @@ fn add<V: Copy + Eq>(pieces: &mut Vec<(Range, V)>, range: Range, value: V) -> Re
         return Ok(());
     }
     let last = pieces[len - 1];
-    match meet(last, (range, value)) {
-        Meeting::Apart => pieces.push((range, value))?,
-        Meeting::Joins => pieces[len - 1] = (last.0.joined(range), last.1),
-        Meeting::Clashes => return Err(SetError::Clash),
+    match classify_overlap(last, (range, value)) {
+        Overlap::Disjoint => pieces.push((range, value))?,
+        Overlap::Mergeable => pieces[len - 1] = (last.0.merged(range), last.1),
+        Overlap::Clashes => return Err(SetError::Clash),
     }
     Ok(())
 }
@@ -155,10 +155,10 @@ fn copied<V: Copy>(alloc: Global, pairs: &[(Range, V)]) -> Result<Vec<(Range, V)
 fn find_in<V>(pieces: &[(Range, V)], key: u128) -> Option<&V>
     requires { IsTable pieces.now }
     ensures { MatchOption (option_copied result)
-        ((v : V) → Holds pieces.now key v → ⊥)
-        (λ v. Holds pieces.now key v) }
+        ((v : V) → HasValue pieces.now key v → ⊥)
+        (λ v. HasValue pieces.now key v) }
 {
-    let at = first_reaching(pieces, key);
+    let at = lower_bound(pieces, key);
     match pieces.get(at) {
         Some((range, value)) if range.low() <= key => Some(value),
         _ => None,
@@ -166,9 +166,9 @@ fn find_in<V>(pieces: &[(Range, V)], key: u128) -> Option<&V>
 }
 
 /// The place of the first piece that doesn't end before the number.
-fn first_reaching<V>(pieces: &[(Range, V)], key: u128) -> usize
+fn lower_bound<V>(pieces: &[(Range, V)], key: u128) -> usize
     requires { IsTable pieces.now }
-    ensures { IsReach pieces.now key result }
+    ensures { IsLowerBound pieces.now key result }
 {
     pieces.partition_point(|pair| pair.0.high() < key)
 }

@@ -1,10 +1,10 @@
 mod Passages
 mod Steps
 mod Arrivals
-mod Leads
-mod LastStep
-mod Fates
-mod Standing
+mod Routing
+mod Confirmations
+mod Processing
+mod Extending
 mod Around
 pub mod Carrying
 mod Entries

@@ -5,51 +5,51 @@ use Rattle.nft_tree.specs.declared.chain.Hook.TheVariants as hooks
 use Rattle.ip_headers.specs.declared.tuple.Mapping.{Mapping}
 use Rattle.rule_meaning.specs.declared.facts.Facts.{Facts}
 use Rattle.rule_meaning.specs.declared.event.Event.{Event}
-use Rattle.rule_meaning.specs.declared.event.Ending.{Ending}
-use Rattle.story.specs.declared.outcome.Cause.{Cause}
-use Rattle.story.specs.Setup.{Setup}
-use Rattle.translation.specs.declared.way.Way.{Way}
-use Rattle.translation.specs.Ways.{facts_from, facts_to}
-use Rattle.translation.specs.Translating.{way_from, way_to}
-use Rattle.stepping.specs.Translated.{Asked, Redirects, Sources, passed_on, sourced}
-use Rattle.stepping.specs.steps.Passing.{Comes, answer_of}
+use Rattle.rule_meaning.specs.declared.event.HookVerdict.{HookVerdict}
+use Rattle.history.specs.declared.outcome.Cause.{Cause}
+use Rattle.history.specs.Setup.{Setup}
+use Rattle.translation.specs.declared.ct_info.CtInfo.{CtInfo}
+use Rattle.translation.specs.CtInfos.{facts_after_source_nat, facts_after_destination_nat}
+use Rattle.translation.specs.Nat.{after_source_nat, after_destination_nat}
+use Rattle.stepping.specs.NatSteps.{RunsNatChains, RunsDestinationNat, RunsSourceNat, destination_verdict, source_verdict}
+use Rattle.stepping.specs.steps.Traversing.{Traverses, verdict_result}
 
-module _ (setup : Setup) (mappings : List Mapping) (way after : Way) (f g h : Facts) (es events : List Event)
-    (ending last : Ending) (answer : Result ⊤ Cause) where
-  pub redirects_so : Asked setup hooks.Prerouting way f es (record { ending = ending; facts = g; events = events })
-      → after ≡ way_to setup.plant mappings g way ending → h ≡ facts_to after g
-      → last ≡ passed_on ending → answer ≡ answer_of last
-      → Comes (Redirects setup mappings way after) f es answer h events
+module _ (setup : Setup) (mappings : List Mapping) (info after : CtInfo) (f g h : Facts) (es events : List Event)
+    (verdict last : HookVerdict) (answer : Result ⊤ Cause) where
+  pub redirects_so : RunsNatChains setup hooks.Prerouting info f es (record { verdict = verdict; facts = g; events = events })
+      → after ≡ after_destination_nat setup.plant mappings g info verdict → h ≡ facts_after_destination_nat after g
+      → last ≡ destination_verdict verdict → answer ≡ verdict_result last
+      → Traverses (RunsDestinationNat setup mappings info after) f es answer h events
   redirects_so asked goes known ends is = record {
-    end = record { ending = passed_on ending; facts = facts_to after g; events = events };
+    end = record { verdict = destination_verdict verdict; facts = facts_after_destination_nat after g; events = events };
     run = record {
-      asked = record { ending = ending; facts = g; events = events };
+      asked = record { verdict = verdict; facts = g; events = events };
       run = asked;
       goes = goes;
       is = refl;
     };
-    answered = is ∙ ap answer_of ends;
+    answered = is ∙ ap verdict_result ends;
     left = known;
     happened = refl;
   }
 
-  pub sources_so : (found : Option Way) → Asked setup hooks.Postrouting way f es (record { ending = ending; facts = g; events = events })
-      → found ≡ way_from setup.plant mappings g way ending → after ≡ unwrap_or found way → h ≡ facts_from after g
-      → last ≡ sourced ending found → answer ≡ answer_of last
-      → Comes (Sources setup mappings way after) f es answer h events
+  pub sources_so : (found : Option CtInfo) → RunsNatChains setup hooks.Postrouting info f es (record { verdict = verdict; facts = g; events = events })
+      → found ≡ after_source_nat setup.plant mappings g info verdict → after ≡ unwrap_or found info → h ≡ facts_after_source_nat after g
+      → last ≡ source_verdict verdict found → answer ≡ verdict_result last
+      → Traverses (RunsSourceNat setup mappings info after) f es answer h events
   sources_so found asked goes so known ends is = record {
     end = record {
-      ending = sourced ending (way_from setup.plant mappings g way ending);
-      facts = facts_from after g;
+      verdict = source_verdict verdict (after_source_nat setup.plant mappings g info verdict);
+      facts = facts_after_source_nat after g;
       events = events;
     };
     run = record {
-      asked = record { ending = ending; facts = g; events = events };
+      asked = record { verdict = verdict; facts = g; events = events };
       run = asked;
-      goes = so ∙ ap (λ (o : Option Way). unwrap_or o way) goes;
+      goes = so ∙ ap (λ (o : Option CtInfo). unwrap_or o info) goes;
       is = refl;
     };
-    answered = is ∙ ap answer_of (ends ∙ ap (sourced ending) goes);
+    answered = is ∙ ap verdict_result (ends ∙ ap (source_verdict verdict) goes);
     left = known;
     happened = refl;
   }

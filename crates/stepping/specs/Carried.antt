@@ -2,7 +2,7 @@
 use Rattle.std.specs.Prelude.{◌≡◌, ℕ, ◌-◌, List, [], drop, Option, Some, None, Result, Ok, Err, unwrap_or}
 use Rattle.std.specs.Option.{option_map}
 use Rattle.box_file.specs.Box.{PlantTree, name_of}
-use Rattle.nft_values.specs.Values.{filled}
+use Rattle.nft_values.specs.Values.{padded}
 use Rattle.ip_headers.specs.declared.view.HeaderFault.{HeaderFault}
 use Rattle.ip_headers.specs.declared.view.HeaderFault.TheVariants as headers
 use Rattle.ip_headers.specs.Header.{fault_of, packet_of, total_len, protocol, source, destination, ttl, transport_of}
@@ -14,16 +14,16 @@ use Rattle.pcap_io.specs.Pcap.{Recorded}
 use Rattle.rule_meaning.specs.declared.facts.Facts.{Facts}
 use Rattle.rule_meaning.specs.declared.facts.Packet.{Packet}
 use Rattle.rule_meaning.specs.declared.facts.Interface.{Interface}
-use Rattle.rule_meaning.specs.declared.facts.Tracking.{Tracking}
-use Rattle.rule_meaning.specs.declared.facts.Tracking.TheVariants.{Unknown}
-use Rattle.story.specs.declared.outcome.Cause.{Cause}
-use Rattle.story.specs.declared.outcome.Cause.TheVariants as causes
-use Rattle.story.specs.Setup.{Setup}
+use Rattle.rule_meaning.specs.declared.facts.CtFacts.{CtFacts}
+use Rattle.rule_meaning.specs.declared.facts.CtFacts.TheVariants.{NotLookedUp}
+use Rattle.history.specs.declared.outcome.Cause.{Cause}
+use Rattle.history.specs.declared.outcome.Cause.TheVariants as causes
+use Rattle.history.specs.Setup.{Setup}
 
 -- ---- the packet of a record
 
 -- a packet that entered by the interface of this index
-pub record Arrived : Type 0 where
+pub record ReceivedPacket : Type 0 where
   pub interface : ℕ
   pub packet : List ℕ
 
@@ -44,21 +44,21 @@ cause_of headers.Transport = causes.Transport
 
 -- the interface that a packet enters by: the one that its link header tells, if the box has it; where none is told,
 -- the one that the box file names
-abbrev pub entered : Setup → Option ℕ → Option ℕ
-entered setup None = Some setup.plant.entering
-entered setup (Some index) = option_map (λ name. index) (name_of setup.plant index)
+abbrev pub input_interface : Setup → Option ℕ → Option ℕ
+input_interface setup None = Some setup.plant.entering
+input_interface setup (Some index) = option_map (λ name. index) (name_of setup.plant index)
 
 -- a record carries this packet, or none for this cause: its link header, the interface that it entered by, and the
 -- packet's own header (RFC 791) are tested in this order, and the first test that fails is the cause
-pub data Carries (setup : Setup) (r : Recorded) : Result Arrived Cause → Type 0 where
+pub data Carries (setup : Setup) (r : Recorded) : Result ReceivedPacket Cause → Type 0 where
   no_link : (cause : LinkCause) → link_of r.link r.bytes ≡ Err cause → Carries setup r (Err (link_cause cause))
-  no_interface : (link : Link) → link_of r.link r.bytes ≡ Ok link → entered setup link.interface ≡ None
+  no_interface : (link : Link) → link_of r.link r.bytes ≡ Ok link → input_interface setup link.interface ≡ None
       → Carries setup r (Err causes.Interface)
   no_header : (link : Link) (index : ℕ) (fault : HeaderFault) → link_of r.link r.bytes ≡ Ok link
-      → entered setup link.interface ≡ Some index → fault_of (drop link.packet r.bytes) ≡ Some fault
+      → input_interface setup link.interface ≡ Some index → fault_of (drop link.packet r.bytes) ≡ Some fault
       → Carries setup r (Err (cause_of fault))
   carries : (link : Link) (index : ℕ) → link_of r.link r.bytes ≡ Ok link
-      → entered setup link.interface ≡ Some index → fault_of (drop link.packet r.bytes) ≡ None
+      → input_interface setup link.interface ≡ Some index → fault_of (drop link.packet r.bytes) ≡ None
       → Carries setup r (Ok (record { interface = index; packet = packet_of (drop link.packet r.bytes) }))
 
 -- ---- what rules may read of it
@@ -75,25 +75,25 @@ packet_facts p = record {
 
 -- an interface of the box, its name filled with zeros
 abbrev pub interface_facts : PlantTree → ℕ → Interface
-interface_facts plant index = record { index = index; name = filled 0 (unwrap_or (name_of plant index) []) }
+interface_facts plant index = record { index = index; name = padded 0 (unwrap_or (name_of plant index) []) }
 
 -- on arrival: nothing is known of its way or its connection, and its mark is 0
-abbrev pub arriving : Setup → Arrived → Facts
-arriving setup a = record {
+abbrev pub initial_facts : Setup → ReceivedPacket → Facts
+initial_facts setup a = record {
   packet = packet_facts a.packet;
   input = interface_facts setup.plant a.interface;
   output = None;
   mark = 0;
-  tracking = Unknown;
+  ct = NotLookedUp;
 }
 
 -- once its connection was looked up
-abbrev pub with_tracking : Tracking → Facts → Facts
-with_tracking known f = record f { tracking = known }
+abbrev pub with_ct : CtFacts → Facts → Facts
+with_ct known f = record f { ct = known }
 
 -- when it is sent on: by this interface, with its TTL lowered (RFC 1812, 5.3.1)
-abbrev pub departing : Setup → ℕ → Facts → Facts
-departing setup interface f = record f {
+abbrev pub forwarded_facts : Setup → ℕ → Facts → Facts
+forwarded_facts setup interface f = record f {
   output = Some (interface_facts setup.plant interface);
   packet = record f.packet { ttl = f.packet.ttl - 1 };
 }

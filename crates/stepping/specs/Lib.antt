@@ -1,8 +1,8 @@
 pub mod Carried
 pub mod Lookups
-pub mod Translated
-pub mod Courses
-pub mod LastStep
+pub mod NatSteps
+pub mod Paths
+pub mod Confirmations
 pub mod Next
-pub mod Stands
+pub mod Representing
 pub mod steps

@@ -1,4 +1,4 @@
-pub mod Passing
-pub mod Leading
-pub mod Settling
-pub mod Fates
+pub mod Traversing
+pub mod RunningHooks
+pub mod Confirming
+pub mod Processing

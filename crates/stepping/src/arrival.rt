@@ -1,19 +1,19 @@
 //! What a record carries.
 ghost use Rattle.std.specs.Prelude.{◌≡◌, IfOk};
 ghost use Rattle.stepping.specs.Carried.{Carries, cause_of, interface_facts, link_cause};
-ghost use Rattle.stepping.specs.Stands.{told_of};
-ghost use Rattle.stepping.specs.steps.Passing.{setup_in};
-ghost use Rattle.stepping.specs.steps.Fates.{arrived_in};
+ghost use Rattle.stepping.specs.Representing.{recorded_of};
+ghost use Rattle.stepping.specs.steps.Traversing.{setup_in};
+ghost use Rattle.stepping.specs.steps.Processing.{arrived_in};
 
 use crate::setup::Setup;
+use history::Cause;
 use ip_headers::{HeaderFault, View};
 use pcap_io::{LinkCause, Record};
 use rule_meaning::Interface;
-use story::Cause;
 
 /// A packet, and the interface that it entered by.
 #[derive(Clone, Copy)]
-pub struct Incoming<'a> {
+pub struct IncomingPacket<'a> {
     pub input: Interface,
     pub view: View<'a>,
 }
@@ -21,19 +21,19 @@ pub struct Incoming<'a> {
 /// The packet of a record; or why it carries none: the first that fails of the tests of its link
 /// header, of the interface that it entered by, and of the packet's own header.
 #[inline(always)]
-pub fn carried<'a>(setup: &Setup, record: &Record<'a>) -> Result<Incoming<'a>, Cause>
-    ensures carries { Carries (setup_in setup.now.hooks) (told_of record.now) (arrived_in result) }
+pub fn carried<'a>(setup: &Setup, record: &Record<'a>) -> Result<IncomingPacket<'a>, Cause>
+    ensures carries { Carries (setup_in setup.now.hooks) (recorded_of record.now) (arrived_in result) }
     ensures known { IfOk result (λ incoming. incoming.input ≡ interface_facts setup.now.hooks.plant incoming.input.index) }
 {
     let link = match record.link() {
         Ok(link) => link,
         Err(cause) => return Err(link_cause(cause)),
     };
-    let Some(input) = setup.entered(link.interface) else {
+    let Some(input) = setup.input_interface(link.interface) else {
         return Err(Cause::Interface);
     };
     match View::read(&record.bytes[link.packet..]) {
-        Ok(view) => Ok(Incoming { input, view }),
+        Ok(view) => Ok(IncomingPacket { input, view }),
         Err(fault) => Err(cause_of(fault)),
     }
 }

@@ -1,19 +1,20 @@
 //! One record at a time.
 ghost use Rattle.std.specs.Prelude.{◌≡◌, ◌<◌, ◌≤◌, ◌+◌, ℕ, [], ◌∷◌, List, length, map, true, IsOk, IsTrue, IfOk, IfSome, OnErr, OnOk};
-ghost use Rattle.conntrack.specs.Held.{connection_of};
+ghost use Rattle.conntrack.specs.ConntrackEntry.{connection_of};
 ghost use Rattle.pcap_io.specs.Sll2.{IsSent, sent};
 ghost use Rattle.rule_check.specs.WellFormed.{WellFormed};
-ghost use Rattle.story.specs.Story.{Entry, IsNewest, live_in};
+ghost use Rattle.history.specs.History.{Entry, IsNewest, live_in};
 ghost use Rattle.nft_tree.specs.Tree.{TableTree, tables_of};
 ghost use Rattle.rule_paths.specs.Paths.{AreAllCosts, Caller, ruleset_cost};
 ghost use Rattle.stepping.specs.Next.{Next};
-ghost use Rattle.stepping.specs.Stands.{Stands, lent, packet_of, sends_of, setup_of, told_of};
+ghost use Rattle.stepping.specs.Representing.{Represents, sent_packets, packet_of, sends_of, setup_of, recorded_of};
 
-use crate::fate::{Ended, fate, way_of};
+use crate::process_record::{RecordResult, output_interface, process_record};
 use crate::setup::Setup;
 use connection_table::ConnectionTable;
-use conntrack::laws::{names_aside, none_later, one_entry_more};
+use conntrack::laws::{independent_of_ids, none_later, one_more_entry};
 use conntrack::{Connection, Tracker};
+use history::Outcome;
 use hook_runs::Events;
 use nft_tree::Ruleset;
 use pcap_io::{Leaving, Record};
@@ -21,8 +22,7 @@ use rule_check::Checked;
 use std::alloc::{AllocError, Global};
 use std::hash::RandomState;
 use std::marker::Model;
-use story::Outcome;
-use translation::laws::names_aside as mappings_aside;
+use translation::laws::independent_of_ids as mappings_aside;
 
 /// The greatest length of a packet.
 const MOST_PACKET_BYTES: usize = 65_535;
@@ -37,7 +37,7 @@ pub struct Engine<T: Tracker> {
     /// What happened while the rules ran on the last record.
     events: Events,
     /// How the last record ended; none before one.
-    ended: Option<Ended>,
+    ended: Option<RecordResult>,
     /// The packet that the last record sent on; empty where it sent none, or before a record.
     packet: Vec<u8>,
     /// There is room for what the next record may need.
@@ -61,11 +61,11 @@ impl<T: Tracker> Drop for Engine<T> {
 }
 
 impl<T: Tracker> Model for Engine<T> {
-    ghost use Rattle.stepping.specs.Stands.{Shown};
-    ghost use Rattle.stepping.specs.steps.Passing.{setup_in};
-    ghost use Rattle.stepping.specs.steps.Fates.{IsReady, newest_in};
+    ghost use Rattle.stepping.specs.Representing.{EngineState};
+    ghost use Rattle.stepping.specs.steps.Traversing.{setup_in};
+    ghost use Rattle.stepping.specs.steps.Processing.{IsReady, newest_in};
 
-    ghost Value = { Shown };
+    ghost Value = { EngineState };
 
     ghost view = { λ e. record { setup = setup_in e.setup.hooks; records = e.records; ticks = e.events.ticks; held = e.connections.held; newest = newest_in e.ended e.latest e.events e.packet; ready = e.ready } };
 
@@ -78,7 +78,7 @@ impl<T: Tracker> Engine<T> {
     /// which comes only for want of memory, the ruleset is dropped.
     pub fn new(alloc: Global, hasher: RandomState, checked: Checked) -> Result<Self, AllocError>
         ensures setup { IfOk result (λ engine. engine.setup ≡ setup_of checked) }
-        ensures none { IfOk result (λ engine. Stands engine []) }
+        ensures none { IfOk result (λ engine. Represents engine []) }
     {
         let setup = Setup::new(alloc, checked)?;
         let idle = setup.plant().idle();
@@ -118,7 +118,7 @@ impl<T: Tracker> Engine<T> {
     pub fn step(&mut self, record: &Record) -> Result<Outcome, AllocError>
         requires few { self.old.records < 4294967296 }
         // Whatever story the engine stands for, it then stands for that story and the one entry that follows.
-        ensures stands { (story : List Entry) → Stands self.old story → IfOk result (λ outcome. (e : Entry) × Next self.old.setup story (told_of record.now) e × Stands self.new (e ∷ story) × (outcome ≡ e.outcome)) }
+        ensures represents { (history : List Entry) → Represents self.old history → IfOk result (λ outcome. (e : Entry) × Next self.old.setup history (recorded_of record.now) e × Represents self.new (e ∷ history) × (outcome ≡ e.outcome)) }
         ensures setup { self.new.setup ≡ self.old.setup }
         ensures records { OnOk result (self.new.records ≡ self.old.records + 1) }
         // All runs of rules on the record together start no more statements than the ruleset costs.
@@ -129,8 +129,8 @@ impl<T: Tracker> Engine<T> {
         ensures ready { IsTrue self.old.ready → IsOk result }
     {
         // What is held is known but for the names that the tracker gives.
-        names_aside();
-        one_entry_more();
+        independent_of_ids();
+        one_more_entry();
         none_later();
         mappings_aside();
         // All growth first: after it nothing can fail.
@@ -142,7 +142,7 @@ impl<T: Tracker> Engine<T> {
         self.connections.age_all(now);
         // What its chains cost is known of the ruleset.
         self.setup.hooks.costs();
-        let ended = fate(
+        let ended = process_record(
             &self.setup,
             record,
             now,
@@ -159,10 +159,10 @@ impl<T: Tracker> Engine<T> {
     /// The packet that the last record sent on, with the moment and the interface; none where it
     /// sent none, or before a record.
     pub fn leaving(&self) -> Option<Leaving<'_>>
-        ensures sends { lent result ≡ sends_of self.now.newest }
+        ensures sends { sent_packets result ≡ sends_of self.now.newest }
         ensures fits { IfSome result (λ leaving. IsSent (sent leaving)) }
     {
-        let interface = way_of(self.ended?.outcome)?;
+        let interface = output_interface(self.ended?.outcome)?;
         Some(Leaving {
             moment: self.latest,
             interface,
@@ -178,14 +178,14 @@ impl<T: Tracker> Engine<T> {
     }
 
     /// What is told of the last record; none before one.
-    pub fn entry(&self) -> Option<story::Entry<'_>>
+    pub fn entry(&self) -> Option<history::Entry<'_>>
         // Whatever story the engine stands for, it is the newest entry of that story.
-        ensures newest { (story : List Entry) → Stands self.now story → IsNewest result story }
+        ensures newest { (history : List Entry) → Represents self.now history → IsNewest result history }
         // The chains that one record meets make no more events than a ruleset may cost.
         ensures few { IfSome result (λ entry. length entry.events.now ≤ 65536) }
     {
         let ended = self.ended?;
-        Some(story::Entry {
+        Some(history::Entry {
             number: self.records,
             length: ended.length,
             events: self.events.list(),
@@ -196,18 +196,18 @@ impl<T: Tracker> Engine<T> {
 
     /// How many connections are alive at the moment of the last record.
     pub fn live(&self) -> usize
-        ensures { (story : List Entry) → Stands self.now story → result ≡ length (live_in self.now.setup story) }
+        ensures { (history : List Entry) → Represents self.now history → result ≡ length (live_in self.now.setup history) }
     {
-        names_aside();
+        independent_of_ids();
         self.connections.live()
     }
 
     /// The connections that are alive at the moment of the last record, in the order in which they
     /// were begun.
     pub fn connections(&self, alloc: Global) -> Result<Vec<Connection>, AllocError>
-        ensures { (story : List Entry) → Stands self.now story → IfOk result (λ all. all.items ≡ map connection_of (live_in self.now.setup story)) }
+        ensures { (history : List Entry) → Represents self.now history → IfOk result (λ all. all.items ≡ map connection_of (live_in self.now.setup history)) }
     {
-        names_aside();
+        independent_of_ids();
         self.connections.list(alloc)
     }
 
@@ -222,7 +222,7 @@ impl<T: Tracker> Engine<T> {
     pub fn judged(&self)
         ensures { WellFormed self.now.setup.rules self.now.setup.plant }
     {
-        self.setup.hooks.checked().measured();
+        self.setup.hooks.checked().known_bounds();
     }
 
     /// How many records it took.

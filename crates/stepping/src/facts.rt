@@ -2,14 +2,14 @@
 ghost use Rattle.std.specs.Prelude.{◌≡◌, ◌-◌, Some, None};
 ghost use Rattle.std.specs.Option.{option_map};
 ghost use Rattle.box_file.specs.Box.{name_of};
-ghost use Rattle.rule_meaning.specs.declared.facts.Tracking.TheVariants.{Unknown};
-ghost use Rattle.stepping.specs.Carried.{interface_facts, packet_facts, with_tracking};
-ghost use Rattle.stepping.specs.Courses.{mark_in};
+ghost use Rattle.rule_meaning.specs.declared.facts.CtFacts.TheVariants.{NotLookedUp};
+ghost use Rattle.stepping.specs.Carried.{interface_facts, packet_facts, with_ct};
+ghost use Rattle.stepping.specs.Paths.{mark_in};
 
 use box_file::Plant;
 use ip_headers::View;
 use nft_values::name_number;
-use rule_meaning::{Facts, Interface, Packet, Tracking};
+use rule_meaning::{CtFacts, Facts, Interface, Packet};
 
 /// The interface of the index, if the box has it.
 #[inline(always)]
@@ -37,29 +37,29 @@ pub fn interface_facts(plant: &Plant, index: u32) -> Interface
 
 /// On arrival by the interface: nothing is known of its way or its connection, and its mark is 0.
 #[inline(always)]
-pub fn arriving(view: &View, input: Interface) -> Facts
-    ensures { result ≡ record { packet = packet_facts view.now.packet.now; input = input; output = None; mark = 0; tracking = Unknown } }
+pub fn initial_facts(view: &View, input: Interface) -> Facts
+    ensures { result ≡ record { packet = packet_facts view.now.packet.now; input = input; output = None; mark = 0; ct = NotLookedUp } }
 {
     Facts {
         packet: packet_facts(view),
         input,
         output: None,
         mark: 0,
-        tracking: Tracking::Unknown,
+        ct: CtFacts::NotLookedUp,
     }
 }
 
 /// Its connection was looked for.
 #[inline(always)]
-pub fn note_tracking(facts: &mut Facts, tracking: Tracking)
-    ensures { facts.new ≡ with_tracking tracking facts.old }
+pub fn set_ct(facts: &mut Facts, ct: CtFacts)
+    ensures { facts.new ≡ with_ct ct facts.old }
 {
-    facts.tracking = tracking;
+    facts.ct = ct;
 }
 
 /// It is sent on: the way is known, and the TTL is one lower (RFC 1812, section 5.3.1).
 #[inline(always)]
-pub fn note_departure(facts: &mut Facts, output: Interface)
+pub fn set_output(facts: &mut Facts, output: Interface)
     ensures { facts.new ≡ record facts.old { output = Some output; packet = record facts.old.packet { ttl = facts.old.packet.ttl - 1 } } }
 {
     facts.output = Some(output);
@@ -67,13 +67,13 @@ pub fn note_departure(facts: &mut Facts, output: Interface)
 }
 
 /// The mark of the connection, as written last; 0 where there is none.
-pub fn mark_in(tracking: Tracking) -> u32
-    ensures { result ≡ mark_in tracking }
+pub fn mark_in(ct: CtFacts) -> u32
+    ensures { result ≡ mark_in ct }
 {
-    match tracking {
-        Tracking::Known(connection) => connection.mark,
-        Tracking::Unknown | Tracking::Skipped => 0,
-        Tracking::Untracked | Tracking::Invalid => 0,
+    match ct {
+        CtFacts::Known(connection) => connection.mark,
+        CtFacts::NotLookedUp | CtFacts::Notrack => 0,
+        CtFacts::Untracked | CtFacts::Invalid => 0,
     }
 }
 

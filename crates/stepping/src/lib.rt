@@ -2,16 +2,16 @@
 #![tactic(auto)]
 
 mod arrival;
+mod confirm;
 mod engine;
 mod facts;
-mod fate;
+mod hooks;
 mod laws;
-mod leading;
 mod lookup;
-mod settling;
+mod lookup_key;
+mod nat;
+mod process_record;
 mod setup;
-mod sought;
-mod translating;
 
 pub use engine::Engine;
 pub use laws::one_entry;

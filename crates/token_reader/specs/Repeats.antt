@@ -1,49 +1,49 @@
 -- Tokens one after the other. `P x from to` says that the tokens `from` begin with a spelling of x, and that `to`
 -- follows it.
 use Rattle.std.specs.Prelude.{◌≡◌, ℕ, zero, suc, List, [], ◌∷◌, ◌⊎◌, Bool, true, false}
-use Rattle.nft_lexer.specs.declared.token.Mark.TheVariants.{Semicolon, CloseBrace}
-use Rattle.nft_lexer.specs.Sign.{Sign, newline, mark, word, number, address, string}
+use Rattle.nft_lexer.specs.declared.token.Punctuator.TheVariants.{Semicolon, CloseBrace}
+use Rattle.nft_lexer.specs.Terminal.{Terminal, newline, punctuator, word, number, address, string}
 
 -- {x}: one after the other, from the first place to the last
-abbrev pub Many : {A : Type 0} → (A → List Sign → List Sign → Type 0) → List A → List Sign → List Sign → Type 0
+abbrev pub Many : {A : Type 0} → (A → List Terminal → List Terminal → Type 0) → List A → List Terminal → List Terminal → Type 0
 Many P [] from to = from ≡ to
-Many P (x ∷ xs) from to = (mid : List Sign) × P x from mid × Many P xs mid to
+Many P (x ∷ xs) from to = (mid : List Terminal) × P x from mid × Many P xs mid to
 
 -- end = NL | ";"
-abbrev pub SpellsEnd : List Sign → List Sign → Type 0
-SpellsEnd from to = (from ≡ newline ∷ to) ⊎ (from ≡ mark Semicolon ∷ to)
+abbrev pub SpellsEnd : List Terminal → List Terminal → Type 0
+SpellsEnd from to = (from ≡ newline ∷ to) ⊎ (from ≡ punctuator Semicolon ∷ to)
 
 -- so many ends, one after the other
-abbrev pub EndsCounted : ℕ → List Sign → List Sign → Type 0
+abbrev pub EndsCounted : ℕ → List Terminal → List Terminal → Type 0
 EndsCounted zero from to = from ≡ to
-EndsCounted (suc n) from to = (mid : List Sign) × SpellsEnd from mid × EndsCounted n mid to
+EndsCounted (suc n) from to = (mid : List Terminal) × SpellsEnd from mid × EndsCounted n mid to
 
 -- {end}: any number of them
-abbrev pub Ends : List Sign → List Sign → Type 0
+abbrev pub Ends : List Terminal → List Terminal → Type 0
 Ends from to = (n : ℕ) × EndsCounted n from to
 
 -- end {end}
-abbrev pub SomeEnds : List Sign → List Sign → Type 0
-SomeEnds from to = (a : List Sign) × SpellsEnd from a × Ends a to
+abbrev pub SomeEnds : List Terminal → List Terminal → Type 0
+SomeEnds from to = (a : List Terminal) × SpellsEnd from a × Ends a to
 
 -- the tokens without the newlines among them
-abbrev pub without_newlines : List Sign → List Sign
+abbrev pub without_newlines : List Terminal → List Terminal
 without_newlines [] = []
 without_newlines (newline ∷ ts) = without_newlines ts
-without_newlines (mark m ∷ ts) = mark m ∷ without_newlines ts
+without_newlines (punctuator m ∷ ts) = punctuator m ∷ without_newlines ts
 without_newlines (word w ∷ ts) = word w ∷ without_newlines ts
 without_newlines (number n ∷ ts) = number n ∷ without_newlines ts
 without_newlines (address a ∷ ts) = address a ∷ without_newlines ts
 without_newlines (string s ∷ ts) = string s ∷ without_newlines ts
 
 -- whether a newline, a semicolon or a closing brace stands in front
-abbrev pub stops : List Sign → Bool
-stops (newline ∷ ts) = true
-stops (mark Semicolon ∷ ts) = true
-stops (mark CloseBrace ∷ ts) = true
-stops ts = false
+abbrev pub is_rule_end : List Terminal → Bool
+is_rule_end (newline ∷ ts) = true
+is_rule_end (punctuator Semicolon ∷ ts) = true
+is_rule_end (punctuator CloseBrace ∷ ts) = true
+is_rule_end ts = false
 
 -- none of these tokens stands in front
-abbrev pub NoneOf : List Sign → List Sign → Type 0
+abbrev pub NoneOf : List Terminal → List Terminal → Type 0
 NoneOf [] ts = Unit
-NoneOf (t ∷ others) ts = ((rest : List Sign) → ts ≡ t ∷ rest → ⊥) × NoneOf others ts
+NoneOf (t ∷ others) ts = ((rest : List Terminal) → ts ≡ t ∷ rest → ⊥) × NoneOf others ts

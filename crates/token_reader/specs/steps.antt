@@ -1,6 +1,6 @@
 pub mod Fronts
 pub mod Reading
-pub mod How
+pub mod Parser
 pub mod Laws
 pub mod TokenLaws
 pub mod Lawful

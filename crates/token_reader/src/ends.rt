@@ -1,26 +1,26 @@
 //! Newlines and semicolons, which end what stands before them.
 
 ghost use Rattle.std.specs.Prelude.{◌≡◌, ◌≤◌, length, option_map, IfSome};
-ghost use Rattle.token_reader.specs.Readers.{IsAfter, ahead};
-ghost use Rattle.token_reader.specs.Repeats.{stops};
+ghost use Rattle.token_reader.specs.Readers.{IsAfter, remaining};
+ghost use Rattle.token_reader.specs.Repeats.{is_rule_end};
 ghost use Rattle.token_reader.specs.steps.Reading.{after_end, after_ends, skip_ends};
 
-use nft_lexer::{Kind, Mark, Token};
+use nft_lexer::{Punctuator, Token, TokenKind};
 
 /// The place after the newline or semicolon, where one stands here.
 pub fn after_end(tokens: &[Token], at: usize) -> Option<usize>
-    ensures read { option_map (ahead tokens.now) result ≡ after_end (ahead tokens.now at) }
+    ensures read { option_map (remaining tokens.now) result ≡ after_end (remaining tokens.now at) }
     ensures within { IfSome result (IsAfter tokens.now at) }
 {
     match tokens.get(at)?.kind {
-        Kind::NewLine | Kind::Mark(Mark::Semicolon) => Some(at + 1),
+        TokenKind::NewLine | TokenKind::Punctuator(Punctuator::Semicolon) => Some(at + 1),
         _ => None,
     }
 }
 
 /// The place after the newlines and semicolons that stand here.
 pub fn skip_ends(tokens: &[Token], at: usize) -> usize
-    ensures read { ahead tokens.now result ≡ skip_ends (ahead tokens.now at) }
+    ensures read { remaining tokens.now result ≡ skip_ends (remaining tokens.now at) }
     ensures within { (at ≤ result) × (at ≤ length tokens.now → result ≤ length tokens.now) }
 {
     let mut here = at;
@@ -32,7 +32,7 @@ pub fn skip_ends(tokens: &[Token], at: usize) -> usize
 
 /// The place after the newlines and semicolons that stand here, where one does.
 pub fn after_ends(tokens: &[Token], at: usize) -> Option<usize>
-    ensures read { option_map (ahead tokens.now) result ≡ after_ends (ahead tokens.now at) }
+    ensures read { option_map (remaining tokens.now) result ≡ after_ends (remaining tokens.now at) }
     ensures within { IfSome result (IsAfter tokens.now at) }
 {
     let at = after_end(tokens, at)?;
@@ -40,13 +40,14 @@ pub fn after_ends(tokens: &[Token], at: usize) -> Option<usize>
 }
 
 /// Whether a newline, a semicolon or a closing brace stands here.
-pub fn stops(tokens: &[Token], at: usize) -> bool
-    ensures { result ≡ stops (ahead tokens.now at) }
+pub fn is_rule_end(tokens: &[Token], at: usize) -> bool
+    ensures { result ≡ is_rule_end (remaining tokens.now at) }
 {
     match tokens.get(at) {
         Some(token) => matches!(
             token.kind,
-            Kind::NewLine | Kind::Mark(Mark::Semicolon | Mark::CloseBrace)
+            TokenKind::NewLine
+                | TokenKind::Punctuator(Punctuator::Semicolon | Punctuator::CloseBrace)
         ),
         None => false,
     }

@@ -8,13 +8,13 @@
 
 mod ends;
 mod found;
-mod parts;
+mod productions;
 mod single;
 mod tables;
 
-pub use ends::{after_end, after_ends, skip_ends, stops};
-pub use parts::{Comma, Dot, Part, Separator, lines, more, repeated, separated};
+pub use ends::{after_end, after_ends, is_rule_end, skip_ends};
+pub use productions::{Comma, Dot, Production, Separator, lines, more, repeated, separated};
 pub use single::{
-    address, after_mark, after_word, number, number_after, string, string_after, word,
+    address, after_punctuator, after_word, number, number_after, string, string_after, word,
 };
 pub use tables::one_of;

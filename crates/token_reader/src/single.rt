@@ -1,77 +1,77 @@
 //! Single tokens at a place.
 
 ghost use Rattle.std.specs.Prelude.{◌≡◌, option_map, IfSome};
-ghost use Rattle.token_reader.specs.Grammar.{a_number, a_string, keyword, sign, ◌▹◌};
-ghost use Rattle.token_reader.specs.Readers.{IsAfter, IsRead, ahead};
-ghost use Rattle.token_reader.specs.steps.Reading.{after_word, after_mark, word_at, number_at, address_at, string_at};
+ghost use Rattle.token_reader.specs.Grammar.{a_number, a_string, keyword, punctuation, ◌▹◌};
+ghost use Rattle.token_reader.specs.Readers.{IsAfter, IsRead, remaining};
+ghost use Rattle.token_reader.specs.steps.Reading.{after_word, after_punctuator, word_at, number_at, address_at, string_at};
 
-use nft_lexer::{Kind, Mark, Token};
+use nft_lexer::{Punctuator, Token, TokenKind};
 
 /// The place after the word, where it stands here.
 pub fn after_word(tokens: &[Token], at: usize, word: &[u8]) -> Option<usize>
-    ensures read { option_map (ahead tokens.now) result ≡ after_word word.now (ahead tokens.now at) }
+    ensures read { option_map (remaining tokens.now) result ≡ after_word word.now (remaining tokens.now at) }
     ensures within { IfSome result (IsAfter tokens.now at) }
 {
     let token = tokens.get(at)?;
     match token.kind {
-        Kind::Word if token.text == word => Some(at + 1),
+        TokenKind::Word if token.text == word => Some(at + 1),
         _ => None,
     }
 }
 
 /// The place after the mark, where it stands here.
-pub fn after_mark(tokens: &[Token], at: usize, mark: Mark) -> Option<usize>
-    ensures read { option_map (ahead tokens.now) result ≡ after_mark mark (ahead tokens.now at) }
+pub fn after_punctuator(tokens: &[Token], at: usize, punctuator: Punctuator) -> Option<usize>
+    ensures read { option_map (remaining tokens.now) result ≡ after_punctuator punctuator (remaining tokens.now at) }
     ensures within { IfSome result (IsAfter tokens.now at) }
 {
     match tokens.get(at)?.kind {
-        Kind::Mark(found) if found == mark => Some(at + 1),
+        TokenKind::Punctuator(found) if found == punctuator => Some(at + 1),
         _ => None,
     }
 }
 
 /// The word here, and the place after it.
 pub fn word<'t>(tokens: &[Token<'t>], at: usize) -> Option<(&'t [u8], usize)>
-    ensures read { option_map (λ x. (x.0.now, ahead tokens.now x.1)) result ≡ word_at (ahead tokens.now at) }
+    ensures read { option_map (λ x. (x.0.now, remaining tokens.now x.1)) result ≡ word_at (remaining tokens.now at) }
     ensures within { IfSome result (λ x. IsAfter tokens.now at x.1) }
 {
     let token = tokens.get(at)?;
     match token.kind {
-        Kind::Word => Some((token.text, at + 1)),
+        TokenKind::Word => Some((token.text, at + 1)),
         _ => None,
     }
 }
 
 /// The number here, and the place after it.
 pub fn number(tokens: &[Token], at: usize) -> Option<(u64, usize)>
-    ensures read { option_map (λ x. (x.0, ahead tokens.now x.1)) result ≡ number_at (ahead tokens.now at) }
+    ensures read { option_map (λ x. (x.0, remaining tokens.now x.1)) result ≡ number_at (remaining tokens.now at) }
     ensures within { IfSome result (λ x. IsAfter tokens.now at x.1) }
 {
     match tokens.get(at)?.kind {
-        Kind::Number(found) => Some((found, at + 1)),
+        TokenKind::Number(found) => Some((found, at + 1)),
         _ => None,
     }
 }
 
 /// The IPv4 address here, its first group the highest byte, and the place after it.
 pub fn address(tokens: &[Token], at: usize) -> Option<(u32, usize)>
-    ensures read { option_map (λ x. (x.0, ahead tokens.now x.1)) result ≡ address_at (ahead tokens.now at) }
+    ensures read { option_map (λ x. (x.0, remaining tokens.now x.1)) result ≡ address_at (remaining tokens.now at) }
     ensures within { IfSome result (λ x. IsAfter tokens.now at x.1) }
 {
     match tokens.get(at)?.kind {
-        Kind::Address(found) => Some((found, at + 1)),
+        TokenKind::Address(found) => Some((found, at + 1)),
         _ => None,
     }
 }
 
 /// The bytes between the quotes of the string here, and the place after it.
 pub fn string<'t>(tokens: &[Token<'t>], at: usize) -> Option<(&'t [u8], usize)>
-    ensures read { option_map (λ x. (x.0.now, ahead tokens.now x.1)) result ≡ string_at (ahead tokens.now at) }
+    ensures read { option_map (λ x. (x.0.now, remaining tokens.now x.1)) result ≡ string_at (remaining tokens.now at) }
     ensures within { IfSome result (λ x. IsAfter tokens.now at x.1) }
 {
     let token = tokens.get(at)?;
     match token.kind {
-        Kind::String => Some((token.between_quotes(), at + 1)),
+        TokenKind::String => Some((token.between_quotes(), at + 1)),
         _ => None,
     }
 }
@@ -85,9 +85,9 @@ pub fn string_after<'t>(tokens: &[Token<'t>], at: usize, word: &[u8]) -> Option<
 }
 
 /// The number after the mark, where both stand here, and the place after it.
-pub fn number_after(tokens: &[Token], at: usize, mark: Mark) -> Option<(u64, usize)>
-    ensures { IsRead (λ n. n) (sign mark ▹ a_number).read tokens.now at result }
+pub fn number_after(tokens: &[Token], at: usize, punctuator: Punctuator) -> Option<(u64, usize)>
+    ensures { IsRead (λ n. n) (punctuation punctuator ▹ a_number).read tokens.now at result }
 {
-    let at = after_mark(tokens, at, mark)?;
+    let at = after_punctuator(tokens, at, punctuator)?;
     number(tokens, at)
 }

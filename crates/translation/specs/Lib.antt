@@ -1,4 +1,4 @@
-pub mod Mapped
-pub mod Ways
-pub mod Translating
+pub mod LiveMappings
+pub mod CtInfos
+pub mod Nat
 pub mod Fitting

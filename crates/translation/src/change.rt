@@ -1,15 +1,15 @@
 //! What becomes of the bytes of a packet that leaves.
 ghost use Rattle.std.specs.Prelude.{◌≡◌, Some};
-ghost use Rattle.rewrite.specs.Ends.{between, numbers_by};
-ghost use Rattle.translation.specs.Ways.{change_of, outgoing};
+ghost use Rattle.rewrite.specs.Endpoints.{between, ports_or_identifier};
+ghost use Rattle.translation.specs.CtInfos.{change_of, outgoing};
 ghost use Rattle.ip_headers.specs.Tuple.{inverse};
 
+use crate::ct_info::{CtInfo, outgoing};
 use crate::facts::{outer_destination, outer_source};
-use crate::way::{Way, outgoing};
 use ip_headers::{Kind, Tuple, View};
-use rewrite::{Change, Numbers};
+use rewrite::{Change, PortsOrIdentifier};
 
-impl Way {
+impl CtInfo {
     /// What is to be other in the packet if it leaves with this TTL: it goes between the ends of the
     /// tuple with which packets of its connection leave, and an ICMP error is about one that came back
     /// with it.
@@ -17,16 +17,16 @@ impl Way {
         ensures { result ≡ change_of self.now view.now.packet.now ttl }
     {
         match self {
-            Way::Within(membership) => between(outgoing(membership), ttl),
-            Way::About(membership) => Change {
-                source: Some(outer_source(membership, view.source())),
-                destination: Some(outer_destination(membership, view.destination())),
+            CtInfo::Tracked(connection) => between(outgoing(connection), ttl),
+            CtInfo::Related(connection) => Change {
+                source: Some(outer_source(connection, view.source())),
+                destination: Some(outer_destination(connection, view.destination())),
                 numbers: None,
                 ttl: Some(ttl),
-                inner: Some(outgoing(membership).inverse()),
+                inner: Some(outgoing(connection).inverse()),
             },
-            Way::First(draft) => between(draft.tuple, ttl),
-            Way::Astray | Way::Untracked => Change {
+            CtInfo::New(new_connection) => between(new_connection.tuple, ttl),
+            CtInfo::Invalid | CtInfo::Untracked => Change {
                 source: None,
                 destination: None,
                 numbers: None,
@@ -50,14 +50,14 @@ fn between(tuple: Tuple, ttl: u8) -> Change
 }
 
 /// The numbers of a tuple: ports, or the identifier at the end that asks.
-fn numbers_of(tuple: &Tuple) -> Option<Numbers>
-    ensures { result ≡ numbers_by tuple.now.kind tuple.now.source.port tuple.now.destination.port }
+fn numbers_of(tuple: &Tuple) -> Option<PortsOrIdentifier>
+    ensures { result ≡ ports_or_identifier tuple.now.kind tuple.now.source.port tuple.now.destination.port }
 {
     let (from, to) = (tuple.source.port, tuple.destination.port);
     match tuple.kind {
-        Kind::Tcp | Kind::Udp => Some(Numbers::Ports(from, to)),
-        Kind::Ask => Some(Numbers::Identifier(from)),
-        Kind::Answer => Some(Numbers::Identifier(to)),
+        Kind::Tcp | Kind::Udp => Some(PortsOrIdentifier::Ports(from, to)),
+        Kind::EchoRequest => Some(PortsOrIdentifier::Identifier(from)),
+        Kind::EchoReply => Some(PortsOrIdentifier::Identifier(to)),
         Kind::Other(_) => None,
     }
 }

@@ -3,75 +3,91 @@ ghost use Rattle.std.specs.Prelude.{◌≡◌, List};
 ghost use Rattle.ip_headers.specs.declared.tuple.Mapping.{Mapping as Mapped};
 ghost use Rattle.nat_mapping.specs.Mappings.{HoldsSame};
 ghost use Rattle.translation.specs.Fitting.{Fits, IsFitting};
-ghost use Rattle.translation.specs.Ways.{untranslated};
-ghost use Rattle.translation.specs.Translating.{aimed, behind, draft_to, has_ports, inward, port_named, way_to};
+ghost use Rattle.translation.specs.CtInfos.{untranslated};
+ghost use Rattle.translation.specs.Nat.{statement_destination, internal_endpoint, with_destination_nat, has_ports, to_internal, port_named, after_destination_nat};
 
-use crate::way::{Draft, Way};
+use crate::ct_info::{CtInfo, NewConnection};
 use box_file::Plant;
 use ip_headers::{Endpoint, Kind, Mapping};
 use nat_mapping::Mappings;
 use nat_mapping::laws::inbound_is_held;
-use rule_meaning::{Ending, Facts, Translation};
+use rule_meaning::{Facts, HookVerdict, NatAction};
 
 /// The way on which a packet goes on from the step, once nat chains ended so: the first packet of a
 /// connection goes to where a statement sends it, and where none did to the internal endpoint of a
 /// live mapping.
-pub fn redirected(
+pub fn apply_destination_nat(
     plant: &Plant,
     mappings: &Mappings,
     facts: &Facts,
-    way: &Way,
-    ending: Ending,
-) -> Way
+    info: &CtInfo,
+    verdict: HookVerdict,
+) -> CtInfo
     // Whatever list stands for what is held.
-    ensures way { (held : List Mapped) → HoldsSame held mappings.now.held → result ≡ way_to plant.now held facts.now way.now ending }
-    ensures fits { (held : List Mapped) → HoldsSame held mappings.now.held → Fits way.now held → Fits result held }
+    ensures info { (held : List Mapped) → HoldsSame held mappings.now.held → result ≡ after_destination_nat plant.now held facts.now info.now verdict }
+    ensures fits { (held : List Mapped) → HoldsSame held mappings.now.held → Fits info.now held → Fits result held }
     // It stays a packet of the same connection.
-    ensures same { untranslated result ≡ untranslated way.now }
+    ensures same { untranslated result ≡ untranslated info.now }
 {
-    match way {
-        Way::First(draft) => Way::First(draft_to(plant, mappings, facts, *draft, ending)),
-        Way::Within(_) | Way::About(_) | Way::Astray | Way::Untracked => *way,
+    match info {
+        CtInfo::New(new_connection) => CtInfo::New(with_destination_nat(
+            plant,
+            mappings,
+            facts,
+            *new_connection,
+            verdict,
+        )),
+        CtInfo::Tracked(_) | CtInfo::Related(_) | CtInfo::Invalid | CtInfo::Untracked => *info,
     }
 }
 
-fn draft_to(
+fn with_destination_nat(
     plant: &Plant,
     mappings: &Mappings,
     facts: &Facts,
-    draft: Draft,
-    ending: Ending,
-) -> Draft
-    ensures draft { (held : List Mapped) → HoldsSame held mappings.now.held → result ≡ draft_to plant.now held facts.now draft ending }
-    ensures fits { (held : List Mapped) → HoldsSame held mappings.now.held → IsFitting draft held → IsFitting result held }
-    ensures same { result.original ≡ draft.original }
+    new_connection: NewConnection,
+    verdict: HookVerdict,
+) -> NewConnection
+    ensures new_connection { (held : List Mapped) → HoldsSame held mappings.now.held → result ≡ with_destination_nat plant.now held facts.now new_connection verdict }
+    ensures fits { (held : List Mapped) → HoldsSame held mappings.now.held → IsFitting new_connection held → IsFitting result held }
+    ensures same { result.original ≡ new_connection.original }
 {
-    match ending {
-        Ending::Translated(translation) => {
-            let mut sent = draft;
-            sent.tuple.destination = aimed(plant, facts, &draft, translation);
+    match verdict {
+        HookVerdict::Translated(translation) => {
+            let mut sent = new_connection;
+            sent.tuple.destination = statement_destination(
+                plant,
+                facts,
+                &new_connection,
+                translation,
+            );
             sent
         }
-        Ending::Accepted => inward(mappings, draft),
-        Ending::Dropped => draft,
+        HookVerdict::Accepted => to_internal(mappings, new_connection),
+        HookVerdict::Dropped => new_connection,
     }
 }
 
 /// Where a statement sends a packet; one that doesn't translate a destination leaves it.
-fn aimed(plant: &Plant, facts: &Facts, draft: &Draft, translation: Translation) -> Endpoint
-    ensures { result ≡ aimed plant.now facts.now draft.now translation }
+fn statement_destination(
+    plant: &Plant,
+    facts: &Facts,
+    new_connection: &NewConnection,
+    translation: NatAction,
+) -> Endpoint
+    ensures { result ≡ statement_destination plant.now facts.now new_connection.now translation }
 {
-    let (kind, old) = (draft.tuple.kind, draft.tuple.destination);
+    let (kind, old) = (new_connection.tuple.kind, new_connection.tuple.destination);
     match translation {
-        Translation::Destination(address, port) => Endpoint {
+        NatAction::Destination(address, port) => Endpoint {
             address,
             port: port_named(kind, port, old.port),
         },
-        Translation::Redirect(port) => Endpoint {
+        NatAction::Redirect(port) => Endpoint {
             address: plant.first_address(facts.input.index).unwrap_or(0),
             port: port_named(kind, port, old.port),
         },
-        Translation::Source(_, _) | Translation::Masquerade(_) => old,
+        NatAction::Source(_, _) | NatAction::Masquerade(_) => old,
     }
 }
 
@@ -92,27 +108,27 @@ fn has_ports(kind: Kind) -> bool
 }
 
 /// To the internal endpoint behind its destination, if a live mapping has one there.
-fn inward(mappings: &Mappings, draft: Draft) -> Draft
-    ensures draft { (held : List Mapped) → HoldsSame held mappings.now.held → result ≡ inward draft (behind held draft) }
-    ensures fits { (held : List Mapped) → HoldsSame held mappings.now.held → IsFitting draft held → IsFitting result held }
-    ensures same { result.original ≡ draft.original }
+fn to_internal(mappings: &Mappings, new_connection: NewConnection) -> NewConnection
+    ensures new_connection { (held : List Mapped) → HoldsSame held mappings.now.held → result ≡ to_internal new_connection (internal_endpoint held new_connection) }
+    ensures fits { (held : List Mapped) → HoldsSame held mappings.now.held → IsFitting new_connection held → IsFitting result held }
+    ensures same { result.original ≡ new_connection.original }
 {
-    let kind = draft.tuple.kind;
+    let kind = new_connection.tuple.kind;
     if !has_ports(kind) {
-        return draft;
+        return new_connection;
     }
-    let external = draft.tuple.destination;
+    let external = new_connection.tuple.destination;
     // What is found behind it is held.
     inbound_is_held();
     let Some(internal) = mappings.inbound(kind, external) else {
-        return draft;
+        return new_connection;
     };
-    let mut inward = draft;
-    inward.tuple.destination = internal;
-    inward.dest = Some(Mapping {
+    let mut to_internal = new_connection;
+    to_internal.tuple.destination = internal;
+    to_internal.dest = Some(Mapping {
         kind,
         internal,
         external,
     });
-    inward
+    to_internal
 }

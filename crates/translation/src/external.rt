@@ -1,49 +1,54 @@
 //! Which external address a source is to have.
 ghost use Rattle.std.specs.Prelude.{◌≡◌, None, Some};
-ghost use Rattle.rule_meaning.specs.declared.event.Translation.TheVariants as translations;
-ghost use Rattle.translation.specs.Translating.{hairpin, is_index, outside, outside_by};
+ghost use Rattle.rule_meaning.specs.declared.event.NatAction.TheVariants as translations;
+ghost use Rattle.translation.specs.Nat.{hairpin, is_same_interface, external_source, statement_source};
 
-use crate::way::Draft;
+use crate::ct_info::NewConnection;
 use box_file::Plant;
 use ip_headers::Mapping;
-use rule_meaning::{Ending, Facts, Ports, Translation};
+use rule_meaning::{Facts, HookVerdict, NatAction, PortInterval};
 
 /// The external address that a source is to have, and the ports that are named for it.
 #[derive(Clone, Copy)]
-pub struct Outside {
+pub struct ExternalSource {
     pub address: u32,
-    pub ports: Option<Ports>,
+    pub ports: Option<PortInterval>,
 }
 
 /// By the statement that ended the nat chains; and where none did by the mapping by which the
 /// packet's destination was found.
-pub(crate) fn asked(plant: &Plant, facts: &Facts, draft: &Draft, ending: Ending) -> Option<Outside>
-    ensures { result ≡ outside plant.now facts.now draft.now ending }
+pub(crate) fn external_source(
+    plant: &Plant,
+    facts: &Facts,
+    new_connection: &NewConnection,
+    verdict: HookVerdict,
+) -> Option<ExternalSource>
+    ensures { result ≡ external_source plant.now facts.now new_connection.now verdict }
 {
-    match ending {
-        Ending::Translated(translation) => outside_by(plant, facts, translation),
-        Ending::Accepted => hairpin(plant, facts.input.index, draft.dest),
-        Ending::Dropped => None,
+    match verdict {
+        HookVerdict::Translated(translation) => statement_source(plant, facts, translation),
+        HookVerdict::Accepted => hairpin(plant, facts.input.index, new_connection.dest),
+        HookVerdict::Dropped => None,
     }
 }
 
 /// Of a statement that translates a source; the others give none.
-fn outside_by(plant: &Plant, facts: &Facts, translation: Translation) -> Option<Outside>
-    ensures { result ≡ outside_by plant.now facts.now translation }
+fn statement_source(plant: &Plant, facts: &Facts, translation: NatAction) -> Option<ExternalSource>
+    ensures { result ≡ statement_source plant.now facts.now translation }
 {
     match translation {
-        Translation::Source(address, ports) => Some(Outside { address, ports }),
-        Translation::Masquerade(ports) => Some(Outside {
+        NatAction::Source(address, ports) => Some(ExternalSource { address, ports }),
+        NatAction::Masquerade(ports) => Some(ExternalSource {
             address: masquerade_address(plant, facts),
             ports,
         }),
-        Translation::Destination(_, _) | Translation::Redirect(_) => None,
+        NatAction::Destination(_, _) | NatAction::Redirect(_) => None,
     }
 }
 
 /// The first address of the interface that the packet leaves by.
 fn masquerade_address(plant: &Plant, facts: &Facts) -> u32
-    ensures { outside_by plant.now facts.now (translations.Masquerade None) ≡ Some (record { address = result; ports = None }) }
+    ensures { statement_source plant.now facts.now (translations.Masquerade None) ≡ Some (record { address = result; ports = None }) }
 {
     let index = match facts.output {
         Some(output) => output.index,
@@ -55,21 +60,21 @@ fn masquerade_address(plant: &Plant, facts: &Facts) -> u32
 /// A destination that was found by a mapping: unless the packet entered by the interface that owns
 /// the external address, its source is mapped to that address too, so that the answer comes back this
 /// way (RFC 4787, REQ-9).
-fn hairpin(plant: &Plant, entered: u32, dest: Option<Mapping>) -> Option<Outside>
+fn hairpin(plant: &Plant, entered: u32, dest: Option<Mapping>) -> Option<ExternalSource>
     ensures { result ≡ hairpin plant.now entered dest }
 {
     let address = dest?.external.address;
-    if is_index(entered, plant.owner(address)) {
+    if is_same_interface(entered, plant.owner(address)) {
         return None;
     }
-    Some(Outside {
+    Some(ExternalSource {
         address,
         ports: None,
     })
 }
 
-fn is_index(index: u32, other: Option<u32>) -> bool
-    ensures { result ≡ is_index index other }
+fn is_same_interface(index: u32, other: Option<u32>) -> bool
+    ensures { result ≡ is_same_interface index other }
 {
     match other {
         Some(other) => other == index,

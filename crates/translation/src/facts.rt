@@ -1,81 +1,87 @@
 //! What rules may read of a packet that was translated.
 ghost use Rattle.std.specs.Prelude.{◌≡◌};
-ghost use Rattle.translation.specs.Ways.{facts_from, facts_to, outer_destination, outer_source, packet_from, packet_to, tracking_on, with_destination_port, with_source_port};
+ghost use Rattle.translation.specs.CtInfos.{facts_after_source_nat, facts_after_destination_nat, outer_destination, outer_source, with_source, with_destination, ct_facts_after_nat, with_destination_port, with_source_port};
 
-use crate::way::{Membership, Way, incoming, outgoing};
+use crate::ct_info::{CtInfo, TrackedConnection, incoming, outgoing};
 use ip_headers::{Endpoint, Transport};
-use rule_meaning::{Facts, Packet, Tracking};
+use rule_meaning::{CtFacts, Facts, Packet};
 
 /// The packet's destination was translated, as its way has it by now.
 #[inline(always)]
-pub fn turn_to(way: &Way, facts: &mut Facts)
-    ensures { facts.new ≡ facts_to way.now facts.old }
+pub fn update_destination(info: &CtInfo, facts: &mut Facts)
+    ensures { facts.new ≡ facts_after_destination_nat info.now facts.old }
 {
-    facts.packet = match way {
-        Way::Within(membership) => packet_to(outgoing(membership).destination, facts.packet),
-        Way::About(membership) => Packet {
-            destination: outer_destination(membership, facts.packet.destination),
+    facts.packet = match info {
+        CtInfo::Tracked(connection) => with_destination(
+            outgoing(connection).destination,
+            facts.packet,
+        ),
+        CtInfo::Related(connection) => Packet {
+            destination: outer_destination(connection, facts.packet.destination),
             ..facts.packet
         },
-        Way::First(draft) => packet_to(draft.tuple.destination, facts.packet),
-        Way::Astray | Way::Untracked => facts.packet,
+        CtInfo::New(new_connection) => with_destination(
+            new_connection.tuple.destination,
+            facts.packet,
+        ),
+        CtInfo::Invalid | CtInfo::Untracked => facts.packet,
     };
-    facts.tracking = tracking_on(way, facts.tracking);
+    facts.ct = ct_facts_after_nat(info, facts.ct);
 }
 
 /// The packet's source was translated, as its way has it by now.
 #[inline(always)]
-pub fn turn_from(way: &Way, facts: &mut Facts)
-    ensures { facts.new ≡ facts_from way.now facts.old }
+pub fn update_source(info: &CtInfo, facts: &mut Facts)
+    ensures { facts.new ≡ facts_after_source_nat info.now facts.old }
 {
-    facts.packet = match way {
-        Way::Within(membership) => packet_from(outgoing(membership).source, facts.packet),
-        Way::About(membership) => Packet {
-            source: outer_source(membership, facts.packet.source),
+    facts.packet = match info {
+        CtInfo::Tracked(connection) => with_source(outgoing(connection).source, facts.packet),
+        CtInfo::Related(connection) => Packet {
+            source: outer_source(connection, facts.packet.source),
             ..facts.packet
         },
-        Way::First(draft) => packet_from(draft.tuple.source, facts.packet),
-        Way::Astray | Way::Untracked => facts.packet,
+        CtInfo::New(new_connection) => with_source(new_connection.tuple.source, facts.packet),
+        CtInfo::Invalid | CtInfo::Untracked => facts.packet,
     };
-    facts.tracking = tracking_on(way, facts.tracking);
+    facts.ct = ct_facts_after_nat(info, facts.ct);
 }
 
 /// What is known of its connection then.
-fn tracking_on(way: &Way, tracking: Tracking) -> Tracking
-    ensures { result ≡ tracking_on way.now tracking }
+fn ct_facts_after_nat(info: &CtInfo, ct: CtFacts) -> CtFacts
+    ensures { result ≡ ct_facts_after_nat info.now ct }
 {
-    match (way, tracking) {
-        (Way::First(draft), Tracking::Known(connection)) => {
-            Tracking::Known(draft.drafted(connection))
+    match (info, ct) {
+        (CtInfo::New(new_connection), CtFacts::Known(connection)) => {
+            CtFacts::Known(new_connection.with_nat_status(connection))
         }
         (_, same) => same,
     }
 }
 
 /// The source of an ICMP error about a packet of the connection, where it comes with this one.
-pub(crate) fn outer_source(membership: &Membership, address: u32) -> u32
-    ensures { result ≡ outer_source membership.now address }
+pub(crate) fn outer_source(connection: &TrackedConnection, address: u32) -> u32
+    ensures { result ≡ outer_source connection.now address }
 {
-    if address == incoming(membership).source.address {
-        outgoing(membership).source.address
+    if address == incoming(connection).source.address {
+        outgoing(connection).source.address
     } else {
         address
     }
 }
 
 /// Its destination likewise.
-pub(crate) fn outer_destination(membership: &Membership, address: u32) -> u32
-    ensures { result ≡ outer_destination membership.now address }
+pub(crate) fn outer_destination(connection: &TrackedConnection, address: u32) -> u32
+    ensures { result ≡ outer_destination connection.now address }
 {
-    if address == incoming(membership).destination.address {
-        outgoing(membership).destination.address
+    if address == incoming(connection).destination.address {
+        outgoing(connection).destination.address
     } else {
         address
     }
 }
 
-fn packet_to(to: Endpoint, packet: Packet) -> Packet
-    ensures { result ≡ packet_to to packet }
+fn with_destination(to: Endpoint, packet: Packet) -> Packet
+    ensures { result ≡ with_destination to packet }
 {
     Packet {
         destination: to.address,
@@ -84,8 +90,8 @@ fn packet_to(to: Endpoint, packet: Packet) -> Packet
     }
 }
 
-fn packet_from(from: Endpoint, packet: Packet) -> Packet
-    ensures { result ≡ packet_from from packet }
+fn with_source(from: Endpoint, packet: Packet) -> Packet
+    ensures { result ≡ with_source from packet }
 {
     Packet {
         source: from.address,

@@ -3,14 +3,14 @@
 #![tactic(auto)]
 
 mod change;
+mod ct_info;
 mod destination;
 mod external;
 mod facts;
 pub mod laws;
 mod source;
-mod way;
 
-pub use destination::redirected;
-pub use facts::{turn_from, turn_to};
-pub use source::mapped;
-pub use way::{Draft, Membership, Way};
+pub use ct_info::{CtInfo, NewConnection, TrackedConnection};
+pub use destination::apply_destination_nat;
+pub use facts::{update_destination, update_source};
+pub use source::apply_source_nat;

@@ -3,86 +3,96 @@ ghost use Rattle.std.specs.Prelude.{◌≡◌, List, IfSome};
 ghost use Rattle.ip_headers.specs.declared.tuple.Mapping.{Mapping as Mapped};
 ghost use Rattle.nat_mapping.specs.Mappings.{HoldsSame};
 ghost use Rattle.translation.specs.Fitting.{Fits, IsFitting};
-ghost use Rattle.translation.specs.Ways.{untranslated};
-ghost use Rattle.translation.specs.Translating.{draft_from, mapped, range_of, way_from};
+ghost use Rattle.translation.specs.CtInfos.{untranslated};
+ghost use Rattle.translation.specs.Nat.{with_source_nat, with_source_mapping, range_of, after_source_nat};
 
-use crate::external::{Outside, asked};
-use crate::way::{Draft, Way};
+use crate::ct_info::{CtInfo, NewConnection};
+use crate::external::{ExternalSource, external_source};
 use box_file::Plant;
 use ip_headers::{Endpoint, Mapping};
 use nat_mapping::laws::stays_one_to_one;
 use nat_mapping::{MapError, Mappings};
-use port_pool::Range;
-use rule_meaning::{Ending, Facts, Ports};
+use port_pool::CandidateRange;
+use rule_meaning::{Facts, HookVerdict, PortInterval};
 
 /// The way on which a packet goes on from the step, once nat chains ended so: the source of the first
 /// packet of a connection is mapped where a statement asks for it, or where the packet came to its
 /// destination by a mapping and from inside. `None` where no port is left for it.
-pub fn mapped(
+pub fn apply_source_nat(
     plant: &Plant,
     mappings: &Mappings,
     facts: &Facts,
-    way: &Way,
-    ending: Ending,
-) -> Option<Way>
+    info: &CtInfo,
+    verdict: HookVerdict,
+) -> Option<CtInfo>
     // Whatever list stands for what is held.
-    ensures way { (held : List Mapped) → HoldsSame held mappings.now.held → result ≡ way_from plant.now held facts.now way.now ending }
-    ensures fits { (held : List Mapped) → HoldsSame held mappings.now.held → Fits way.now held → IfSome result (λ after. Fits after held) }
+    ensures info { (held : List Mapped) → HoldsSame held mappings.now.held → result ≡ after_source_nat plant.now held facts.now info.now verdict }
+    ensures fits { (held : List Mapped) → HoldsSame held mappings.now.held → Fits info.now held → IfSome result (λ after. Fits after held) }
     // It stays a packet of the same connection.
-    ensures same { IfSome result (λ after. untranslated after ≡ untranslated way.now) }
+    ensures same { IfSome result (λ after. untranslated after ≡ untranslated info.now) }
 {
-    match way {
-        Way::First(draft) => {
-            let outside = asked(plant, facts, draft, ending);
-            Some(Way::First(draft_from(mappings, *draft, outside)?))
+    match info {
+        CtInfo::New(new_connection) => {
+            let external_source = external_source(plant, facts, new_connection, verdict);
+            Some(CtInfo::New(with_source_nat(mappings, *new_connection, external_source)?))
         }
-        Way::Within(_) | Way::About(_) | Way::Astray | Way::Untracked => Some(*way),
+        CtInfo::Tracked(_) | CtInfo::Related(_) | CtInfo::Invalid | CtInfo::Untracked => Some(
+            *info,
+        ),
     }
 }
 
 /// `None` where no port is left.
-fn draft_from(mappings: &Mappings, draft: Draft, outside: Option<Outside>) -> Option<Draft>
-    ensures draft { (held : List Mapped) → HoldsSame held mappings.now.held → result ≡ draft_from held draft outside }
-    ensures fits { (held : List Mapped) → HoldsSame held mappings.now.held → IsFitting draft held → IfSome result (λ after. IsFitting after held) }
-    ensures same { IfSome result (λ after. after.original ≡ draft.original) }
+fn with_source_nat(
+    mappings: &Mappings,
+    new_connection: NewConnection,
+    external_source: Option<ExternalSource>,
+) -> Option<NewConnection>
+    ensures new_connection { (held : List Mapped) → HoldsSame held mappings.now.held → result ≡ with_source_nat held new_connection external_source }
+    ensures fits { (held : List Mapped) → HoldsSame held mappings.now.held → IsFitting new_connection held → IfSome result (λ after. IsFitting after held) }
+    ensures same { IfSome result (λ after. after.original ≡ new_connection.original) }
 {
-    let Some(outside) = outside else {
-        return Some(draft);
+    let Some(external_source) = external_source else {
+        return Some(new_connection);
     };
-    let (kind, internal) = (draft.tuple.kind, draft.tuple.source);
-    let range = range_of(outside.ports);
+    let (kind, internal) = (new_connection.tuple.kind, new_connection.tuple.source);
+    let range = range_of(external_source.ports);
     // With that port what is held stays one to one.
     stays_one_to_one();
-    match mappings.source(kind, internal, outside.address, range) {
-        Ok(port) => Some(with_source(draft, &outside, port)),
+    match mappings.source(kind, internal, external_source.address, range) {
+        Ok(port) => Some(with_source_mapping(new_connection, &external_source, port)),
         Err(MapError::NoPort) => None,
     }
 }
 
 /// The source is mapped to this port there.
-fn with_source(draft: Draft, outside: &Outside, port: u16) -> Draft
-    ensures { result ≡ mapped draft outside.now port }
+fn with_source_mapping(
+    new_connection: NewConnection,
+    external_source: &ExternalSource,
+    port: u16,
+) -> NewConnection
+    ensures { result ≡ with_source_mapping new_connection external_source.now port }
 {
     let external = Endpoint {
-        address: outside.address,
+        address: external_source.address,
         port,
     };
-    let mut mapped = draft;
+    let mut mapped = new_connection;
     mapped.tuple.source = external;
     mapped.source = Some(Mapping {
-        kind: draft.tuple.kind,
-        internal: draft.tuple.source,
+        kind: new_connection.tuple.kind,
+        internal: new_connection.tuple.source,
         external,
     });
-    mapped.named = outside.ports.is_some();
+    mapped.has_port_range = external_source.ports.is_some();
     mapped
 }
 
-fn range_of(ports: Option<Ports>) -> Option<Range>
+fn range_of(ports: Option<PortInterval>) -> Option<CandidateRange>
     ensures { result ≡ range_of ports }
 {
     let ports = ports?;
-    Some(Range {
+    Some(CandidateRange {
         low: ports.low,
         high: ports.high,
     })

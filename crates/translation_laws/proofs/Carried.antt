@@ -4,10 +4,10 @@ use Rattle.ip_headers.specs.Header.{fault_of, packet_of}
 use Rattle.ip_headers.specs.Passing.{Passes}
 use Rattle.ip_headers.proofs.Faults.{packet_passes}
 use Rattle.pcap_io.specs.Pcap.{Recorded}
-use Rattle.story.specs.declared.outcome.Cause.{Cause}
-use Rattle.story.specs.Setup.{Setup}
+use Rattle.history.specs.declared.outcome.Cause.{Cause}
+use Rattle.history.specs.Setup.{Setup}
 use Rattle.stepping.specs.Carried as carried
-use Rattle.stepping.specs.Carried.{Arrived, Carries}
+use Rattle.stepping.specs.Carried.{ReceivedPacket, Carries}
 
 -- what is known of faults
 pub record FaultLaws : Type 0 where
@@ -16,12 +16,12 @@ pub record FaultLaws : Type 0 where
 
 -- ---- what is carried
 
-abbrev pub IsFaultless : Result Arrived Cause → Type 0
+abbrev pub IsFaultless : Result ReceivedPacket Cause → Type 0
 IsFaultless (Ok a) = fault_of a.packet ≡ None
 IsFaultless (Err cause) = Unit {0}
 
 module _ (setup : Setup) (r : Recorded) where
-  pub carried_faultless : FaultLaws → (arrived : Result Arrived Cause) → Carries setup r arrived → IsFaultless arrived
+  pub carried_faultless : FaultLaws → (arrived : Result ReceivedPacket Cause) → Carries setup r arrived → IsFaultless arrived
   carried_faultless laws arrived (carried.no_link cause e) = tt
   carried_faultless laws arrived (carried.no_interface l e f) = tt
   carried_faultless laws arrived (carried.no_header l index fault e f g) = tt

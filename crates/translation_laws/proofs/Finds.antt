@@ -2,17 +2,17 @@
 use Rattle.std.proofs.Common.{◌≡◌, ℕ, Bool, true, false, List, [], ◌∷◌, Option, Some, ◌⊎◌, inl, inr, refl, sym, ap, subst, ◌∙◌, arith}
 use Rattle.std.specs.List.{Contains, find}
 use Rattle.std.specs.Option.{option_map}
-use Rattle.std.proofs.lemmas.Bool.{and_parts, and_from, cases_Bool, cond-true, cond-false, both_ways, eqb-true}
+use Rattle.std.proofs.lemmas.Bool.{and_parts, and_from, cases_Bool, cond-true, cond-false, true_and_false, eqb-true}
 use Rattle.std.proofs.lemmas.Option.{none-some, same_Some}
 use Rattle.list_laws.specs.Lists.{Contains-head}
 use Rattle.list_laws.specs.Elements.{Contains-cases, Contains-tail}
-use Rattle.list_laws.specs.Options.{mapped_some}
+use Rattle.list_laws.specs.Options.{some_of_map}
 use Rattle.ip_headers.specs.declared.tuple.Endpoint.{Endpoint}
 use Rattle.ip_headers.specs.declared.tuple.Kind.{Kind}
 use Rattle.ip_headers.specs.declared.tuple.Mapping.{Mapping}
 use Rattle.ip_headers.specs.steps.Equal.{same_kind-refl, same_kind-true, same_endpoint-refl, same_endpoint-true}
-use Rattle.nat_mapping.specs.Mappings.{inbound_of, is_from, is_outside, port_of, same_mapping}
-use Rattle.translation_laws.proofs.Drafts.{end_at, mapping_at}
+use Rattle.nat_mapping.specs.Mappings.{inbound_of, has_internal, has_external, port_of, same_mapping}
+use Rattle.translation_laws.proofs.NewConnections.{end_at, mapping_at}
 
 module _ {X : Type 0} (p : X → Bool) where
   -- what is found is there and passes
@@ -43,7 +43,7 @@ module _ {X : Type 0} (p : X → Bool) where
       later f = by_place (Contains-cases z xs x among)
         where
           by_place : (z ≡ x) ⊎ Contains xs x → Contains xs x
-          by_place (inl e) = absurd (both_ways (p z) f (subst (λ (w : X). p w ≡ true) (sym e) passes))
+          by_place (inl e) = absurd (true_and_false (p z) f (subst (λ (w : X). p w ≡ true) (sym e) passes))
           by_place (inr k) = k
 
 -- ---- equal mappings
@@ -70,9 +70,9 @@ pub port_held : (kind : Kind) (internal : Endpoint) (address port : ℕ) (mappin
     → port_of kind internal address mappings ≡ Some port → Contains mappings (mapping_at kind internal (end_at address port))
 unfolding port_of
 port_held kind internal address port mappings e =
-    let r = mapped_some (λ (m : Mapping). m.external.port) (find (is_from kind internal address) mappings) port e in
+    let r = some_of_map (λ (m : Mapping). m.external.port) (find (has_internal kind internal address) mappings) port e in
     let n = r.0 in
-    let so = found_so (is_from kind internal address) mappings r.0 r.1 in
+    let so = found_so (has_internal kind internal address) mappings r.0 r.1 in
     let kinds = and_parts _ _ so.1 in
     let ends = and_parts _ _ kinds.1 in
     let at : r.0.external.address ≡ address = eqb-true _ _ ends.1 in
@@ -86,5 +86,5 @@ pub inbound_found : (m : Mapping) (mappings : List Mapping) → Contains mapping
     → (internal : Endpoint) × (inbound_of m.kind m.external mappings ≡ Some internal)
 unfolding inbound_of
 inbound_found m mappings among =
-    let r = one_found (is_outside m.kind m.external) mappings m among (and_from _ _ (same_kind-refl m.kind) (same_endpoint-refl m.external)) in
+    let r = one_found (has_external m.kind m.external) mappings m among (and_from _ _ (same_kind-refl m.kind) (same_endpoint-refl m.external)) in
     (r.0.internal, ap (λ (o : Option Mapping). option_map (λ (n : Mapping). n.internal) o) r.1)

@@ -4,7 +4,7 @@ mod Begun
 mod Follows
 mod Each
 mod Lifted
-mod Drafts
+mod NewConnections
 mod Kept
 mod Given
 mod Listed

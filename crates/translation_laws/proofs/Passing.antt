@@ -2,50 +2,50 @@
 use Rattle.std.proofs.Common.{◌≡◌, ℕ, List, Option, Some, None, Result, Ok, Err, refl, sym, ap, subst, ◌∙◌}
 use Rattle.std.specs.Option.{option_map}
 use Rattle.std.proofs.lemmas.Option.{same_Some}
-use Rattle.list_laws.specs.Options.{none_or_some}
+use Rattle.list_laws.specs.Options.{none_not_some}
 use Rattle.ip_headers.specs.declared.tuple.Tuple.{Tuple}
-use Rattle.conntrack.specs.declared.connection.Held.{Held}
-use Rattle.conntrack.specs.Held.{belongs_in}
+use Rattle.conntrack.specs.declared.connection.ConntrackEntry.{ConntrackEntry}
+use Rattle.conntrack.specs.ConntrackEntry.{belongs_in}
 use Rattle.conntrack.specs.Updates.{Confirmation}
 use Rattle.pcap_io.specs.Pcap.{Recorded}
 use Rattle.rule_meaning.specs.declared.facts.Facts.{Facts}
-use Rattle.rule_meaning.specs.declared.event.Ending.{Ending}
-use Rattle.rule_meaning.specs.declared.event.Ending.TheVariants.{Accepted, Dropped, Translated}
-use Rattle.rule_meaning.specs.declared.facts.Tracking.{Tracking}
-use Rattle.rule_meaning.specs.declared.facts.Tracking.TheVariants.{Unknown, Skipped, Untracked, Invalid, Known}
-use Rattle.rule_meaning.specs.Hooks.{End, GoesOn, Stops}
-use Rattle.story.specs.declared.outcome.Cause.{Cause}
-use Rattle.story.specs.declared.outcome.Outcome.{Outcome}
-use Rattle.story.specs.declared.outcome.Outcome.TheVariants as outcomes
-use Rattle.story.specs.Setup.{Setup}
-use Rattle.story.specs.Story.{Entry}
-use Rattle.translation.specs.declared.way.Way.{Way}
-use Rattle.translation.specs.declared.way.Way.TheVariants.{Within, About, First, Astray}
-use Rattle.translation.specs.declared.way.Way.TheVariants as ways
-use Rattle.translation.specs.Mapped.{mappings_in}
-use Rattle.translation.specs.Ways.{way_by}
-use Rattle.stepping.specs.declared.sought.Sought.{Sought}
-use Rattle.stepping.specs.Carried.{Arrived, Carries, interface_facts}
-use Rattle.stepping.specs.Lookups.{Lookup, look_up, sought_of, unless_skipped, way_unless_skipped}
-use Rattle.stepping.specs.Courses.{Course}
-use Rattle.stepping.specs.LastStep.{Fate, begun_unless, counted_by, refusal, reply_to, settled_as}
-use Rattle.stepping.specs.Next.{FaresAs, Fares, FaresIn, Next, answered, entry_of, live_at_record, moment_after, tracked_by, tuple_in}
+use Rattle.rule_meaning.specs.declared.event.HookVerdict.{HookVerdict}
+use Rattle.rule_meaning.specs.declared.event.HookVerdict.TheVariants.{Accepted, Dropped, Translated}
+use Rattle.rule_meaning.specs.declared.facts.CtFacts.{CtFacts}
+use Rattle.rule_meaning.specs.declared.facts.CtFacts.TheVariants.{NotLookedUp, Notrack, Untracked, Invalid, Known}
+use Rattle.rule_meaning.specs.Hooks.{HookResult, Continues, Stops}
+use Rattle.history.specs.declared.outcome.Cause.{Cause}
+use Rattle.history.specs.declared.outcome.Outcome.{Outcome}
+use Rattle.history.specs.declared.outcome.Outcome.TheVariants as outcomes
+use Rattle.history.specs.Setup.{Setup}
+use Rattle.history.specs.History.{Entry}
+use Rattle.translation.specs.declared.ct_info.CtInfo.{CtInfo}
+use Rattle.translation.specs.declared.ct_info.CtInfo.TheVariants.{Tracked, Related, New, Invalid}
+use Rattle.translation.specs.declared.ct_info.CtInfo.TheVariants as ways
+use Rattle.translation.specs.LiveMappings.{mappings_in}
+use Rattle.translation.specs.CtInfos.{ct_info_by}
+use Rattle.stepping.specs.declared.lookup_key.LookupKey.{LookupKey}
+use Rattle.stepping.specs.Carried.{ReceivedPacket, Carries, interface_facts}
+use Rattle.stepping.specs.Lookups.{Lookup, look_up, lookup_key_of, unless_notrack, ct_info_unless_notrack}
+use Rattle.stepping.specs.Paths.{PathResult}
+use Rattle.stepping.specs.Confirmations.{PacketResult, begun_unless, confirmed_by, refusal, reply_to, confirmed_unless_dropped}
+use Rattle.stepping.specs.Next.{ProcessesRecord, ProcessesPacket, ProcessesAfterLookup, Next, answered, entry_of, live_at_record, moment_after, tracked_by, tuple_in}
 use Rattle.translation_laws.proofs.Passed.{chains_keep}
-use Rattle.translation_laws.proofs.Goes.{Goes, IsThrough, leads_so}
+use Rattle.translation_laws.proofs.Goes.{Goes, IsThrough, run_so}
 
 -- beside these connections a record with this fate carries a packet that is looked up, and passes by this interface
-pub record Passes (setup : Setup) (held : List Held) (arrived : Result Arrived Cause) (fate : Fate) (interface : ℕ) : Type 0 where
-  pub a : Arrived
+pub record Passes (setup : Setup) (held : List ConntrackEntry) (arrived : Result ReceivedPacket Cause) (packet_result : PacketResult) (interface : ℕ) : Type 0 where
+  pub a : ReceivedPacket
   pub arrives : arrived ≡ Ok a
-  pub s : Sought
-  pub read : sought_of a.packet ≡ Some s
+  pub s : LookupKey
+  pub read : lookup_key_of a.packet ≡ Some s
   -- what rules read of it before its destination is translated
   pub f : Facts
   pub input : f.input ≡ interface_facts setup.plant a.interface
-  pub course : Course
-  pub goes : Goes setup (mappings_in (look_up held s).others) f (way_by s.tuple (belongs_in held s.tuple s.flags)) course
-  pub outcome : course.outcome ≡ outcomes.Passed interface
-  pub is : fate ≡ counted_by course.way (look_up held s).others course
+  pub path_result : PathResult
+  pub goes : Goes setup (mappings_in (look_up held s).others) f (ct_info_by s.tuple (belongs_in held s.tuple s.flags)) path_result
+  pub outcome : path_result.outcome ≡ outcomes.Passed interface
+  pub is : packet_result ≡ confirmed_by path_result.info (look_up held s).others path_result
 
 pub not_passed : (cause : Cause) (interface : ℕ) → outcomes.Dropped cause ≡ outcomes.Passed interface → ⊥
 not_passed cause interface e = cc
@@ -54,32 +54,32 @@ pub not_local : (interface : ℕ) → outcomes.Local ≡ outcomes.Passed interfa
 not_local interface e = cc
 
 -- what counts passes where its course does
-passes_so : (w : Way) (others : List Held) (course : Course) (interface : ℕ)
-    → (counted_by w others course).outcome ≡ outcomes.Passed interface → course.outcome ≡ outcomes.Passed interface
-passes_so (Within of) others course interface e = e
-passes_so (About of) others course interface e = e
-passes_so Astray others course interface e = e
-passes_so ways.Untracked others course interface e = e
-passes_so (First draft) others course interface e = by_refusal (refusal (reply_to draft) others) e
+passes_so : (w : CtInfo) (others : List ConntrackEntry) (path_result : PathResult) (interface : ℕ)
+    → (confirmed_by w others path_result).outcome ≡ outcomes.Passed interface → path_result.outcome ≡ outcomes.Passed interface
+passes_so (Tracked of) others path_result interface e = e
+passes_so (Related of) others path_result interface e = e
+passes_so Invalid others path_result interface e = e
+passes_so ways.Untracked others path_result interface e = e
+passes_so (New new_connection) others path_result interface e = by_refusal (refusal (reply_to new_connection) others) e
   where
-    by_refusal : (o : Option Cause) → (begun_unless o others draft course).outcome ≡ outcomes.Passed interface
-        → course.outcome ≡ outcomes.Passed interface
+    by_refusal : (o : Option Cause) → (begun_unless o others new_connection path_result).outcome ≡ outcomes.Passed interface
+        → path_result.outcome ≡ outcomes.Passed interface
     by_refusal None e = e
     by_refusal (Some cause) e = absurd (not_passed cause interface e)
 
 -- what isn't looked up has no tuple in its entry
-none_sought : (count : Option Confirmation) (t : Tuple) → tuple_in None count ≡ Some t → ⊥
-none_sought None t e = none_or_some {A = Tuple} None t refl e
-none_sought (Some count) t e = none_or_some {A = Tuple} None t refl e
+no_lookup_tuple : (confirmation : Option Confirmation) (t : Tuple) → tuple_in None confirmation ≡ Some t → ⊥
+no_lookup_tuple None t e = none_not_some {A = Tuple} None t refl e
+no_lookup_tuple (Some confirmation) t e = none_not_some {A = Tuple} None t refl e
 
-module _ (setup : Setup) (held : List Held) (interface : ℕ) where
-  module _ (a : Arrived) (s : Sought) (read : sought_of a.packet ≡ Some s) (fate : Fate) (passed : fate.outcome ≡ outcomes.Passed interface) where
-    led : (early : End) → early.facts.input ≡ interface_facts setup.plant a.interface
-        → FaresIn setup held (Some (look_up held s)) (way_by s.tuple (belongs_in held s.tuple s.flags)) early fate → Passes setup held (Ok a) fate interface
-    led early entered g = by_outcome g.course.outcome refl (g.is)
+module _ (setup : Setup) (held : List ConntrackEntry) (interface : ℕ) where
+  module _ (a : ReceivedPacket) (s : LookupKey) (read : lookup_key_of a.packet ≡ Some s) (packet_result : PacketResult) (passed : packet_result.outcome ≡ outcomes.Passed interface) where
+    led : (early : HookResult) → early.facts.input ≡ interface_facts setup.plant a.interface
+        → ProcessesAfterLookup setup held (Some (look_up held s)) (ct_info_by s.tuple (belongs_in held s.tuple s.flags)) early packet_result → Passes setup held (Ok a) packet_result interface
+    led early entered g = by_outcome g.path_result.outcome refl (g.is)
       where
-        through : (x : Outcome) → g.course.outcome ≡ x → IsThrough x → fate ≡ counted_by g.course.way (look_up held s).others g.course
-            → Passes setup held (Ok a) fate interface
+        through : (x : Outcome) → g.path_result.outcome ≡ x → IsThrough x → packet_result ≡ confirmed_by g.path_result.info (look_up held s).others g.path_result
+            → Passes setup held (Ok a) packet_result interface
         through x e t is = record {
           a = a;
           arrives = refl;
@@ -87,101 +87,101 @@ module _ (setup : Setup) (held : List Held) (interface : ℕ) where
           read = read;
           f = _;
           input = entered;
-          course = g.course;
-          goes = leads_so setup (mappings_in (look_up held s).others) (way_by s.tuple (belongs_in held s.tuple s.flags)) _ _ g.course g.leads (subst IsThrough (sym e) t);
-          outcome = passes_so g.course.way (look_up held s).others g.course interface (sym (ap (λ (x : Fate). x.outcome) is) ∙ passed);
+          path_result = g.path_result;
+          goes = run_so setup (mappings_in (look_up held s).others) (ct_info_by s.tuple (belongs_in held s.tuple s.flags)) _ _ g.path_result g.runs_hooks (subst IsThrough (sym e) t);
+          outcome = passes_so g.path_result.info (look_up held s).others g.path_result interface (sym (ap (λ (x : PacketResult). x.outcome) is) ∙ passed);
           is = is;
         }
 
-        by_outcome : (x : Outcome) → g.course.outcome ≡ x → fate ≡ settled_as x (look_up held s).others g.course → Passes setup held (Ok a) fate interface
+        by_outcome : (x : Outcome) → g.path_result.outcome ≡ x → packet_result ≡ confirmed_unless_dropped x (look_up held s).others g.path_result → Passes setup held (Ok a) packet_result interface
         by_outcome (outcomes.Passed i) e is = through (outcomes.Passed i) e tt is
         by_outcome outcomes.Local e is = through outcomes.Local e tt is
         by_outcome (outcomes.Dropped cause) e is =
-            absurd (not_passed cause interface (sym e ∙ sym (ap (λ (x : Fate). x.outcome) is) ∙ passed))
+            absurd (not_passed cause interface (sym e ∙ sym (ap (λ (x : PacketResult). x.outcome) is) ∙ passed))
 
-    fares : (t : Tuple) → tuple_in (Some (look_up held s)) fate.count ≡ Some t → Fares setup held (Some (look_up held s)) a fate
-        → Passes setup held (Ok a) fate interface
-    fares t sought r = by_ending r.early.ending refl
+    processes : (t : Tuple) → tuple_in (Some (look_up held s)) packet_result.confirmation ≡ Some t → ProcessesPacket setup held (Some (look_up held s)) a packet_result
+        → Passes setup held (Ok a) packet_result interface
+    processes t lookup_tuple r = by_ending r.early.verdict refl
       where
-        stops_so : Stops r.early.ending → Passes setup held (Ok a) fate interface
-        stops_so off = absurd (not_passed _ interface (sym (ap (λ (x : Fate). x.outcome) (r.stopped off)) ∙ passed))
+        stops_so : Stops r.early.verdict → Passes setup held (Ok a) packet_result interface
+        stops_so off = absurd (not_passed _ interface (sym (ap (λ (x : PacketResult). x.outcome) (r.stopped off)) ∙ passed))
 
-        looked : FaresIn setup held (Some (look_up held s)) (way_by s.tuple (belongs_in held s.tuple s.flags)) r.early fate
-            → Passes setup held (Ok a) fate interface
+        looked : ProcessesAfterLookup setup held (Some (look_up held s)) (ct_info_by s.tuple (belongs_in held s.tuple s.flags)) r.early packet_result
+            → Passes setup held (Ok a) packet_result interface
         looked g = led r.early (chains_keep setup.plant setup.rules _ _ _ r.early r.first).input g
 
         -- one that passes untracked isn't looked up
-        by_tracking : (x : Tracking) → FaresIn setup held (unless_skipped x (Some (look_up held s)))
-            (way_unless_skipped x (way_by s.tuple (belongs_in held s.tuple s.flags))) r.early fate → Passes setup held (Ok a) fate interface
-        by_tracking Skipped g =
-            absurd (none_or_some {A = Tuple} None t refl
-            (subst (λ (o : Option Confirmation). tuple_in (Some (look_up held s)) o ≡ Some t) (ap (λ (x : Fate). x.count) g.is) sought))
-        by_tracking Unknown g = looked g
+        by_tracking : (x : CtFacts) → ProcessesAfterLookup setup held (unless_notrack x (Some (look_up held s)))
+            (ct_info_unless_notrack x (ct_info_by s.tuple (belongs_in held s.tuple s.flags))) r.early packet_result → Passes setup held (Ok a) packet_result interface
+        by_tracking Notrack g =
+            absurd (none_not_some {A = Tuple} None t refl
+            (subst (λ (o : Option Confirmation). tuple_in (Some (look_up held s)) o ≡ Some t) (ap (λ (x : PacketResult). x.confirmation) g.is) lookup_tuple))
+        by_tracking NotLookedUp g = looked g
         by_tracking Untracked g = looked g
         by_tracking Invalid g = looked g
         by_tracking (Known c) g = looked g
 
-        by_ending : (x : Ending) → r.early.ending ≡ x → Passes setup held (Ok a) fate interface
-        by_ending Accepted e = by_tracking r.early.facts.tracking (r.goes_on (subst GoesOn (sym e) tt))
+        by_ending : (x : HookVerdict) → r.early.verdict ≡ x → Passes setup held (Ok a) packet_result interface
+        by_ending Accepted e = by_tracking r.early.facts.ct (r.goes_on (subst Continues (sym e) tt))
         by_ending Dropped e = stops_so (subst Stops (sym e) (λ g. g))
         by_ending (Translated t) e = stops_so (subst Stops (sym e) (λ g. g))
 
-  pub fares_passes : (arrived : Result Arrived Cause) (fate : Fate) (t : Tuple) → FaresAs setup held (answered held arrived) arrived fate
-      → tuple_in (answered held arrived) fate.count ≡ Some t → fate.outcome ≡ outcomes.Passed interface
-      → Passes setup held arrived fate interface
-  fares_passes (Err cause) fate t r sought passed = absurd (none_sought fate.count t sought)
-  fares_passes (Ok a) fate t r sought passed = by_sought (sought_of a.packet) refl r sought
+  pub processing_passes : (arrived : Result ReceivedPacket Cause) (packet_result : PacketResult) (t : Tuple) → ProcessesRecord setup held (answered held arrived) arrived packet_result
+      → tuple_in (answered held arrived) packet_result.confirmation ≡ Some t → packet_result.outcome ≡ outcomes.Passed interface
+      → Passes setup held arrived packet_result interface
+  processing_passes (Err cause) packet_result t r lookup_tuple passed = absurd (no_lookup_tuple packet_result.confirmation t lookup_tuple)
+  processing_passes (Ok a) packet_result t r lookup_tuple passed = by_lookup_tuple (lookup_key_of a.packet) refl r lookup_tuple
     where
-      by_sought : (o : Option Sought) → sought_of a.packet ≡ o → Fares setup held (option_map (look_up held) o) a fate
-          → tuple_in (option_map (look_up held) o) fate.count ≡ Some t → Passes setup held (Ok a) fate interface
-      by_sought None read r sought = absurd (none_sought fate.count t sought)
-      by_sought (Some s) read r sought = fares a s read fate passed t sought r
+      by_lookup_tuple : (o : Option LookupKey) → lookup_key_of a.packet ≡ o → ProcessesPacket setup held (option_map (look_up held) o) a packet_result
+          → tuple_in (option_map (look_up held) o) packet_result.confirmation ≡ Some t → Passes setup held (Ok a) packet_result interface
+      by_lookup_tuple None read r lookup_tuple = absurd (no_lookup_tuple packet_result.confirmation t lookup_tuple)
+      by_lookup_tuple (Some s) read r lookup_tuple = processes a s read packet_result passed t lookup_tuple r
 
 -- an entry with this tuple passes
-pub record PassesWith (setup : Setup) (held : List Held) (now : ℕ) (r : Recorded) (e : Entry) (t : Tuple) (interface : ℕ) : Type 0 where
-  pub arrived : Result Arrived Cause
+pub record PassesWith (setup : Setup) (held : List ConntrackEntry) (now : ℕ) (r : Recorded) (e : Entry) (t : Tuple) (interface : ℕ) : Type 0 where
+  pub arrived : Result ReceivedPacket Cause
   pub carried : Carries setup r arrived
-  pub fate : Fate
-  pub passes : Passes setup held arrived fate interface
-  pub passed : fate.outcome ≡ outcomes.Passed interface
+  pub packet_result : PacketResult
+  pub passes : Passes setup held arrived packet_result interface
+  pub passed : packet_result.outcome ≡ outcomes.Passed interface
   pub tuple : passes.s.tuple ≡ t
   pub flags : e.tracked.flags ≡ passes.s.flags
-  pub is : e ≡ entry_of now (Some (look_up held passes.s)) (Ok passes.a) fate
+  pub is : e ≡ entry_of now (Some (look_up held passes.s)) (Ok passes.a) packet_result
 
-module _ (held : List Held) (s : Sought) (t : Tuple) where
-  its_tuple : (count : Option Confirmation) → tuple_in (Some (look_up held s)) count ≡ Some t → s.tuple ≡ t
-  its_tuple None e = absurd (none_or_some {A = Tuple} None t refl e)
-  its_tuple (Some count) e = same_Some s.tuple t e
+module _ (held : List ConntrackEntry) (s : LookupKey) (t : Tuple) where
+  its_tuple : (confirmation : Option Confirmation) → tuple_in (Some (look_up held s)) confirmation ≡ Some t → s.tuple ≡ t
+  its_tuple None e = absurd (none_not_some {A = Tuple} None t refl e)
+  its_tuple (Some confirmation) e = same_Some s.tuple t e
 
-  its_flags : (now : ℕ) (a : Arrived) (fate : Fate) (count : Option Confirmation) → fate.count ≡ count → tuple_in (Some (look_up held s)) count ≡ Some t
-      → (entry_of now (Some (look_up held s)) (Ok a) fate).tracked.flags ≡ s.flags
-  its_flags now a fate None k e = absurd (none_or_some {A = Tuple} None t refl e)
-  its_flags now a fate (Some count) k e = ap (λ (o : Option Confirmation). (tracked_by now (Some (look_up held s)) o).flags) k
+  its_flags : (now : ℕ) (a : ReceivedPacket) (packet_result : PacketResult) (confirmation : Option Confirmation) → packet_result.confirmation ≡ confirmation → tuple_in (Some (look_up held s)) confirmation ≡ Some t
+      → (entry_of now (Some (look_up held s)) (Ok a) packet_result).tracked.flags ≡ s.flags
+  its_flags now a packet_result None k e = absurd (none_not_some {A = Tuple} None t refl e)
+  its_flags now a packet_result (Some confirmation) k e = ap (λ (o : Option Confirmation). (tracked_by now (Some (look_up held s)) o).flags) k
 
-pub passes_with : (setup : Setup) (story : List Entry) (r : Recorded) (e : Entry) → Next setup story r e → (t : Tuple) → e.sought ≡ Some t
+pub passes_with : (setup : Setup) (history : List Entry) (r : Recorded) (e : Entry) → Next setup history r e → (t : Tuple) → e.lookup_tuple ≡ Some t
     → (interface : ℕ) → e.outcome ≡ outcomes.Passed interface
-    → PassesWith setup (live_at_record setup story r) (moment_after story r) r e t interface
-passes_with setup story r e n t sought interface passed =
-    let held = live_at_record setup story r in
-    let now = moment_after story r in
-    let is = n.is ∙ ap (λ (l : Option Lookup). entry_of now l n.arrived n.fate) n.looked in
-    let fares = subst (λ (l : Option Lookup). FaresAs setup held l n.arrived n.fate) n.looked n.fares in
-    let tuple : tuple_in (answered held n.arrived) n.fate.count ≡ Some t = sym (ap (λ (x : Entry). x.sought) is) ∙ sought in
-    let outcome : n.fate.outcome ≡ outcomes.Passed interface = sym (ap (λ (x : Entry). x.outcome) is) ∙ passed in
-    let p = fares_passes setup held interface n.arrived n.fate t fares tuple outcome in
+    → PassesWith setup (live_at_record setup history r) (moment_after history r) r e t interface
+passes_with setup history r e n t lookup_tuple interface passed =
+    let held = live_at_record setup history r in
+    let now = moment_after history r in
+    let is = n.is ∙ ap (λ (l : Option Lookup). entry_of now l n.arrived n.packet_result) n.looked in
+    let processes = subst (λ (l : Option Lookup). ProcessesRecord setup held l n.arrived n.packet_result) n.looked n.processes in
+    let tuple : tuple_in (answered held n.arrived) n.packet_result.confirmation ≡ Some t = sym (ap (λ (x : Entry). x.lookup_tuple) is) ∙ lookup_tuple in
+    let outcome : n.packet_result.outcome ≡ outcomes.Passed interface = sym (ap (λ (x : Entry). x.outcome) is) ∙ passed in
+    let p = processing_passes setup held interface n.arrived n.packet_result t processes tuple outcome in
     let answer : answered held n.arrived ≡ Some (look_up held p.s) = ap (answered held) p.arrives ∙ ap (option_map (look_up held)) p.read in
-    let looked : tuple_in (Some (look_up held p.s)) n.fate.count ≡ Some t =
-    subst (λ (l : Option Lookup). tuple_in l n.fate.count ≡ Some t) answer tuple in
-    let so : e ≡ entry_of now (Some (look_up held p.s)) (Ok p.a) n.fate =
-    is ∙ ap (λ (l : Option Lookup). entry_of now l n.arrived n.fate) answer
-    ∙ ap (λ (x : Result Arrived Cause). entry_of now (Some (look_up held p.s)) x n.fate) p.arrives in
+    let looked : tuple_in (Some (look_up held p.s)) n.packet_result.confirmation ≡ Some t =
+    subst (λ (l : Option Lookup). tuple_in l n.packet_result.confirmation ≡ Some t) answer tuple in
+    let so : e ≡ entry_of now (Some (look_up held p.s)) (Ok p.a) n.packet_result =
+    is ∙ ap (λ (l : Option Lookup). entry_of now l n.arrived n.packet_result) answer
+    ∙ ap (λ (x : Result ReceivedPacket Cause). entry_of now (Some (look_up held p.s)) x n.packet_result) p.arrives in
     record {
       arrived = n.arrived;
       carried = n.carried;
-      fate = n.fate;
+      packet_result = n.packet_result;
       passes = p;
       passed = outcome;
-      tuple = its_tuple held p.s t n.fate.count looked;
-      flags = ap (λ (x : Entry). x.tracked.flags) so ∙ its_flags held p.s t now p.a n.fate n.fate.count refl looked;
+      tuple = its_tuple held p.s t n.packet_result.confirmation looked;
+      flags = ap (λ (x : Entry). x.tracked.flags) so ∙ its_flags held p.s t now p.a n.packet_result n.packet_result.confirmation refl looked;
       is = so;
     }

@@ -12,26 +12,26 @@ use Rattle.conntrack.specs.declared.belonging.Belonging.TheVariants.{Ends, Found
 use Rattle.conntrack.specs.declared.connection.Connection.{Connection}
 use Rattle.conntrack.specs.declared.connection.Direction.TheVariants.{Original, Reply}
 use Rattle.conntrack.specs.declared.connection.Flags.{Flags}
-use Rattle.conntrack.specs.declared.connection.Held.{Held}
+use Rattle.conntrack.specs.declared.connection.ConntrackEntry.{ConntrackEntry}
 use Rattle.conntrack.specs.Phases.{is_closing, is_lone_syn}
-use Rattle.conntrack.specs.Held.{belongs_in, is_incoming, limit_of, place_of}
-use Rattle.conntrack.specs.Stories.{What, Begins, Touches, begun_in, connection_in, does_begin, is_ended}
+use Rattle.conntrack.specs.ConntrackEntry.{belongs_in, is_incoming, limit_of, connection_ref}
+use Rattle.conntrack.specs.Histories.{ConnectionChange, Begins, Touches, begun_in, connection_in, is_creation, is_ended}
 use Rattle.conntrack.specs.Updates.{after_end}
 use Rattle.pcap_io.specs.Pcap.{Recorded}
-use Rattle.port_pool.specs.Candidates.{alike}
+use Rattle.port_pool.specs.Candidates.{same_class_and_parity}
 use Rattle.nat_mapping.specs.Mappings.{source_of}
-use Rattle.rule_meaning.specs.declared.event.Decision.{Decision}
-use Rattle.rule_meaning.specs.declared.event.Decision.TheVariants.{Translate}
+use Rattle.rule_meaning.specs.declared.event.RuleVerdict.{RuleVerdict}
+use Rattle.rule_meaning.specs.declared.event.RuleVerdict.TheVariants.{Translate}
 use Rattle.rule_meaning.specs.declared.event.Event.{Event}
-use Rattle.rule_meaning.specs.declared.event.Event.TheVariants.{Took}
-use Rattle.story.specs.declared.outcome.Outcome.TheVariants.{Passed}
-use Rattle.story.specs.Setup.{Setup, limits_of}
-use Rattle.story.specs.Story.{Entry, moment_of, tracked_of}
-use Rattle.translation.specs.Mapped.{mappings_in}
-use Rattle.translation.specs.Translating.{has_ports, is_index}
-use Rattle.stepping.specs.Carried.{Arrived, Carries}
+use Rattle.rule_meaning.specs.declared.event.Event.TheVariants.{TookVerdict}
+use Rattle.history.specs.declared.outcome.Outcome.TheVariants.{Passed}
+use Rattle.history.specs.Setup.{Setup, limits_of}
+use Rattle.history.specs.History.{Entry, moment_of, tracked_of}
+use Rattle.translation.specs.LiveMappings.{mappings_in}
+use Rattle.translation.specs.Nat.{has_ports, is_same_interface}
+use Rattle.stepping.specs.Carried.{ReceivedPacket, Carries}
 use Rattle.stepping.specs.Next.{Next, live_at_record, moment_after}
-use Rattle.translation_laws.specs.Stories.{alive_at, latest_choice, listed_at}
+use Rattle.translation_laws.specs.Histories.{alive_at, latest_choice, listed_at}
 
 -- ---- of the connections that are alive at one time, as they are listed
 
@@ -64,92 +64,92 @@ OnePort all =
 -- a port keeps class and parity of the one that it stands for, where no ports were named when it was chosen
 -- (RFC 4787, REQ-3 and REQ-4)
 abbrev pub KeepsClass : List Entry → List Connection → Type 0
-KeepsClass story all =
+KeepsClass history all =
     (c : Connection) (m : Mapping) → Contains all c → HoldsMapping c m → has_ports m.kind ≡ true
-    → latest_choice m story ≡ Some false → IsTrue (alike m.internal.port m.external.port)
+    → latest_choice m history ≡ Some false → IsTrue (same_class_and_parity m.internal.port m.external.port)
 
 -- so this speaks of every mapping: its port was chosen afresh once
 abbrev pub WasChosen : List Entry → List Connection → Type 0
-WasChosen story all =
-    (c : Connection) (m : Mapping) → Contains all c → HoldsMapping c m → latest_choice m story ≢ None
+WasChosen history all =
+    (c : Connection) (m : Mapping) → Contains all c → HoldsMapping c m → latest_choice m history ≢ None
 
 -- ---- of what is alive at a moment after a story
 
 -- a lone SYN in direction original ends it
-abbrev pub does_end : Held → Tuple → Flags → Bool
+abbrev pub does_end : ConntrackEntry → Tuple → Flags → Bool
 does_end h t flags = same_tuple h.original t && (is_lone_syn flags && is_closing h)
 
 -- what a packet with one of its tuples belongs to, as if no other connection were there
-abbrev pub given_to : Held → Tuple → Flags → Belonging
+abbrev pub given_to : ConntrackEntry → Tuple → Flags → Belonging
 given_to h t flags =
     if does_end h t flags then Ends h.id
-    else (if same_tuple h.original t then Found (place_of h Original) else Found (place_of h Reply))
+    else (if same_tuple h.original t then Found (connection_ref h Original) else Found (connection_ref h Reply))
 
 -- a packet is given to the connection that has its tuple, and to no other
-abbrev pub GivenToOne : List Held → Type 0
+abbrev pub GivenToOne : List ConntrackEntry → Type 0
 GivenToOne alive =
-    (h : Held) (t : Tuple) (flags : Flags) → Contains alive h → IsTrue (is_incoming t h)
+    (h : ConntrackEntry) (t : Tuple) (flags : Flags) → Contains alive h → IsTrue (is_incoming t h)
     → belongs_in alive t flags ≡ given_to h t flags
 
-abbrev pub names_of : List Held → List ℕ
+abbrev pub names_of : List ConntrackEntry → List ℕ
 names_of held = map (λ h. h.id.0) held
 
 -- a connection that no lone SYN ended is alive exactly while less than its limit has passed since its last packet
 abbrev pub LivesOn : Setup → List Entry → ℕ → Type 0
-LivesOn setup story now =
-    (c : ℕ) → Contains (begun_in (tracked_of story)) c → is_ended c (tracked_of story) ≡ false
-    → Contains (names_of (alive_at setup story now)) c
-    ↔ (now - (connection_in c (tracked_of story)).last
-    < limit_of (limits_of setup) (connection_in c (tracked_of story)))
+LivesOn setup history now =
+    (c : ℕ) → Contains (begun_in (tracked_of history)) c → is_ended c (tracked_of history) ≡ false
+    → Contains (names_of (alive_at setup history now)) c
+    ↔ (now - (connection_in c (tracked_of history)).last
+    < limit_of (limits_of setup) (connection_in c (tracked_of history)))
 
 -- ---- of the entry of a record after a story
 
 -- what a packet with this tuple is recorded as that counts for this connection
-abbrev pub touch_of : Held → Tuple → What
+abbrev pub touch_of : ConntrackEntry → Tuple → ConnectionChange
 touch_of h t = if same_tuple h.original t then Touches h.id.0 Original else Touches h.id.0 Reply
 
 -- it counts for that connection, and leaves with the way back of its other tuple
-pub record GoesWith (h : Held) (t : Tuple) (e : Entry) : Type 0 where
-  pub touched : e.tracked.what ≡ touch_of h t
+pub record GoesWith (h : ConntrackEntry) (t : Tuple) (e : Entry) : Type 0 where
+  pub touched : e.tracked.change ≡ touch_of h t
   pub original : same_tuple h.original t ≡ true → tuple_of e.packet ≡ Some (inverse h.reply)
   pub reply : same_tuple h.reply t ≡ true → tuple_of e.packet ≡ Some (inverse h.original)
 
 -- so does a packet that came with a tuple of a live connection, was looked up by it, doesn't end it, and passes
 abbrev pub LeavesTranslated : Setup → List Entry → Recorded → Entry → Type 0
-LeavesTranslated setup story r e =
-    (t : Tuple) → e.sought ≡ Some t → (h : Held) → Contains (live_at_record setup story r) h → IsTrue (is_incoming t h)
+LeavesTranslated setup history r e =
+    (t : Tuple) → e.lookup_tuple ≡ Some t → (h : ConntrackEntry) → Contains (live_at_record setup history r) h → IsTrue (is_incoming t h)
     → does_end h t e.tracked.flags ≡ false
     → (interface : ℕ) → e.outcome ≡ Passed interface → GoesWith h t e
 
-abbrev pub is_translation : Decision → Bool
+abbrev pub is_translation : RuleVerdict → Bool
 is_translation (Translate t) = true
 is_translation other = false
 
 -- a NAT statement acted
 abbrev pub did_translate : Event → Bool
-did_translate (Took rule decision) = is_translation decision
+did_translate (TookVerdict rule decision) = is_translation decision
 did_translate other = false
 
 -- the mappings that are live when a packet's destination is translated: not those of a connection that its own lone SYN
 -- ended
 abbrev pub mappings_before : Setup → List Entry → Recorded → Tuple → Flags → List Mapping
-mappings_before setup story r t flags =
-    let live = live_at_record setup story r in
+mappings_before setup history r t flags =
+    let live = live_at_record setup history r in
     mappings_in (after_end (belongs_in live t flags) live)
 
 -- from these ends to the internal endpoint of the mapping, from this port of its external address
-abbrev pub turned_back : Tuple → Mapping → ℕ → Tuple
-turned_back t m port =
+abbrev pub hairpinned : Tuple → Mapping → ℕ → Tuple
+hairpinned t m port =
     record { kind = t.kind; source = record { address = m.external.address; port = port }; destination = m.internal }
 
 -- a packet with tuple t turned back by mapping m: between these ends it leaves, and its connection holds these mappings
-pub record TurnsBack (t : Tuple) (m : Mapping) (mappings : List Mapping) (e : Entry) : Type 0 where
+pub record IsHairpinned (t : Tuple) (m : Mapping) (mappings : List Mapping) (e : Entry) : Type 0 where
   -- the port that its source has at that address, or else gets there
   pub port : ℕ
   pub chosen : source_of t.kind t.source m.external.address None mappings ≡ Some port
-  pub began : e.tracked.what ≡ Begins (record {
+  pub began : e.tracked.change ≡ Begins (record {
     original = t;
-    reply = inverse (turned_back t m port);
+    reply = inverse (hairpinned t m port);
     source = Some (record {
       kind = t.kind;
       internal = t.source;
@@ -157,42 +157,42 @@ pub record TurnsBack (t : Tuple) (m : Mapping) (mappings : List Mapping) (e : En
     });
     dest = Some m;
   })
-  pub left : tuple_of e.packet ≡ Some (turned_back t m port)
+  pub left : tuple_of e.packet ≡ Some (hairpinned t m port)
 
 -- a packet to the external endpoint of a live mapping of its kind that enters by another interface than the owner of
 -- that address, begins a connection without any NAT statement having acted, and passes: hairpinning (RFC 4787, REQ-9;
 -- RFC 5382, REQ-8)
 abbrev pub Hairpins : Setup → List Entry → Recorded → Entry → Type 0
-Hairpins setup story r e =
-    (a : Arrived) → Carries setup r (Ok a) → (t : Tuple) → e.sought ≡ Some t → has_ports t.kind ≡ true
-    → (m : Mapping) → Contains (mappings_before setup story r t e.tracked.flags) m → m.kind ≡ t.kind
-    → m.external ≡ t.destination → is_index a.interface (owner setup.plant m.external.address) ≡ false
-    → IsTrue (does_begin e.tracked.what) → list_any did_translate e.events ≡ false
+Hairpins setup history r e =
+    (a : ReceivedPacket) → Carries setup r (Ok a) → (t : Tuple) → e.lookup_tuple ≡ Some t → has_ports t.kind ≡ true
+    → (m : Mapping) → Contains (mappings_before setup history r t e.tracked.flags) m → m.kind ≡ t.kind
+    → m.external ≡ t.destination → is_same_interface a.interface (owner setup.plant m.external.address) ≡ false
+    → IsTrue (is_creation e.tracked.change) → list_any did_translate e.events ≡ false
     → (interface : ℕ) → e.outcome ≡ Passed interface
-    → TurnsBack t m (mappings_before setup story r t e.tracked.flags) e
+    → IsHairpinned t m (mappings_before setup history r t e.tracked.flags) e
 
 -- ---- together
 
 -- of what is alive at a moment after a story, and of the list of it
-pub record LiveLaws (setup : Setup) (story : List Entry) (now : ℕ) (all : List Connection) : Type 0 where
+pub record LiveLaws (setup : Setup) (history : List Entry) (now : ℕ) (all : List Connection) : Type 0 where
   -- just those that are alive, in the order in which they were begun
-  pub listed : all ≡ listed_at setup story now
+  pub listed : all ≡ listed_at setup history now
   pub apart : AreApart all
   pub one_internal : OneInternal all
   pub one_port : OnePort all
-  pub class : KeepsClass story all
-  pub chosen : WasChosen story all
-  pub given : GivenToOne (alive_at setup story now)
-  pub lives : LivesOn setup story now
+  pub class : KeepsClass history all
+  pub chosen : WasChosen history all
+  pub given : GivenToOne (alive_at setup history now)
+  pub lives : LivesOn setup history now
 
 -- of the entry of a record after a story, and of what is alive when that record comes
-pub record EntryLaws (setup : Setup) (story : List Entry) (r : Recorded) (e : Entry) : Type 0 where
-  pub given : GivenToOne (live_at_record setup story r)
-  pub lives : LivesOn setup story (moment_after story r)
-  pub leaves : LeavesTranslated setup story r e
-  pub hairpins : Hairpins setup story r e
+pub record EntryLaws (setup : Setup) (history : List Entry) (r : Recorded) (e : Entry) : Type 0 where
+  pub given : GivenToOne (live_at_record setup history r)
+  pub lives : LivesOn setup history (moment_after history r)
+  pub leaves : LeavesTranslated setup history r e
+  pub hairpins : Hairpins setup history r e
 
 -- of a story: at its last moment and at each later one until another record comes, and of whatever record comes
-pub record StoryLaws (setup : Setup) (story : List Entry) : Type 0 where
-  pub live : (now : ℕ) → moment_of story ≤ now → LiveLaws setup story now (listed_at setup story now)
-  pub next : (r : Recorded) (e : Entry) → Next setup story r e → EntryLaws setup story r e
+pub record HistoryLaws (setup : Setup) (history : List Entry) : Type 0 where
+  pub live : (now : ℕ) → moment_of history ≤ now → LiveLaws setup history now (listed_at setup history now)
+  pub next : (r : Recorded) (e : Entry) → Next setup history r e → EntryLaws setup history r e

@@ -1,2 +1,2 @@
-pub mod Stories
+pub mod Histories
 pub mod Laws

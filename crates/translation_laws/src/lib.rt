@@ -2,34 +2,34 @@
 #![tactic(auto)]
 
 ghost use Rattle.std.specs.Prelude.{[], List};
-ghost use Rattle.story.specs.Setup.{Setup};
-ghost use Rattle.story.specs.Story.{Entry};
-ghost use Rattle.translation_laws.specs.Laws.{StoryLaws};
-ghost use Rattle.translation_laws.specs.Stories.{EntriesFollow, IsStory};
+ghost use Rattle.history.specs.Setup.{Setup};
+ghost use Rattle.history.specs.History.{Entry};
+ghost use Rattle.translation_laws.specs.Laws.{HistoryLaws};
+ghost use Rattle.translation_laws.specs.Histories.{EntriesFollow, IsHistory};
 
-use conntrack::laws::{one_entry_more, still_apart};
+use conntrack::laws::{one_more_entry, tuples_stay_disjoint};
 use ip_headers::laws::no_fault;
 use nat_mapping::laws::{inbound_is_held, stays_one_to_one};
-use port_pool::laws::ports_alike;
-use rewrite::laws::goes_between;
+use port_pool::laws::candidates_keep_class_and_parity;
+use rewrite::laws::rewritten_has_tuple;
 
 /// What is true of translation in every story that grows from nothing, on every box, whatever its
 /// records are. Nothing is such a story; each entry of one is the next after what was before it; and
 /// each obeys the laws.
 pub fn translation_laws()
-    ensures begins { (setup : Setup) → IsStory setup [] }
+    ensures begins { (setup : Setup) → IsHistory setup [] }
     ensures entries { (setup : Setup) → EntriesFollow setup }
-    ensures obeys { (setup : Setup) (story : List Entry) → IsStory setup story → StoryLaws setup story }
+    ensures obeys { (setup : Setup) (history : List Entry) → IsHistory setup history → HistoryLaws setup history }
 {
     // What a story tells with one entry more.
-    one_entry_more();
+    one_more_entry();
     // Connections stay apart, and mappings one to one.
-    still_apart();
+    tuples_stay_disjoint();
     stays_one_to_one();
     inbound_is_held();
     // A port keeps its class and parity where all ports are candidates.
-    ports_alike();
+    candidates_keep_class_and_parity();
     // A packet that leaves carries the tuple that it was given.
-    goes_between();
+    rewritten_has_tuple();
     no_fault();
 }

@@ -2,30 +2,30 @@
 use Rattle.std.specs.Prelude.{◌≡◌, ℕ, true, not, if◌then◌else◌, Option, Some, None, length}
 use Rattle.ip_headers.specs.declared.tuple.Tuple.{Tuple}
 use Rattle.ip_headers.specs.Same.{same_tuple}
-use Rattle.conntrack.specs.declared.connection.Held.{Held}
+use Rattle.conntrack.specs.declared.connection.ConntrackEntry.{ConntrackEntry}
 use Rattle.conntrack.specs.declared.connection.Flags.{Flags}
 use Rattle.conntrack.specs.declared.connection.Direction.TheVariants.{Reply}
 use Rattle.conntrack.specs.declared.belonging.Belonging.{Belonging}
-use Rattle.conntrack.specs.declared.belonging.Belonging.TheVariants.{Nowhere, Found}
+use Rattle.conntrack.specs.declared.belonging.Belonging.TheVariants.{NotFound, Found}
 use Rattle.box_file.specs.declared.limits.Limits.{Limits}
-use Rattle.conntrack.specs.Held.{belonging_by, is_incoming, is_live, place_of}
+use Rattle.conntrack.specs.ConntrackEntry.{belonging_by, is_incoming, is_live, connection_ref}
 use Rattle.aged_tracker.specs.declared.aged_slots.AgedSlots.{AgedSlots}
 use Rattle.aged_tracker.specs.steps.Table.{IsTable, held_by, slots_of}
 
 -- the map finds for each tuple the slot of the connection whose incoming tuple it is
-pub record IsKeyed (slots : ℕ → Option Held) (at : Tuple → Option ℕ) : Type 0 where
+pub record IsKeyed (slots : ℕ → Option ConntrackEntry) (at : Tuple → Option ℕ) : Type 0 where
   pub found : (tuple : Tuple) (key : ℕ) → at tuple ≡ Some key
-      → (h : Held) × ((slots key ≡ Some h) × (is_incoming tuple h ≡ true))
-  pub original : (key : ℕ) (h : Held) → slots key ≡ Some h → at h.original ≡ Some key
-  pub reply : (key : ℕ) (h : Held) → slots key ≡ Some h → at h.reply ≡ Some key
+      → (h : ConntrackEntry) × ((slots key ≡ Some h) × (is_incoming tuple h ≡ true))
+  pub original : (key : ℕ) (h : ConntrackEntry) → slots key ≡ Some h → at h.original ≡ Some key
+  pub reply : (key : ℕ) (h : ConntrackEntry) → slots key ≡ Some h → at h.reply ≡ Some key
 
-pub record IsAged (slots : AgedSlots) (at : Tuple → Option ℕ) (live : ℕ) : Type 0 where
+pub record IsConsistent (slots : AgedSlots) (at : Tuple → Option ℕ) (live : ℕ) : Type 0 where
   pub table : IsTable slots
   pub keyed : IsKeyed (slots_of slots) at
   pub count : live ≡ length (held_by slots)
 
 -- what a packet belongs to, where its tuple is one of the connection's
-abbrev pub belonging_of : Limits → ℕ → Tuple → Flags → Held → Belonging
+abbrev pub belonging_of : Limits → ℕ → Tuple → Flags → ConntrackEntry → Belonging
 belonging_of limits now tuple flags h =
-    if not (is_live limits now h) then Nowhere
-    else (if same_tuple h.original tuple then belonging_by flags (Some h) None else Found (place_of h Reply))
+    if not (is_live limits now h) then NotFound
+    else (if same_tuple h.original tuple then belonging_by flags (Some h) None else Found (connection_ref h Reply))

@@ -4,16 +4,16 @@ use Rattle.std.specs.Prelude.{Option, Some, None, IsSome, option_map, slice_get,
 use Rattle.slab.specs.Slab.{slab_len}
 use Rattle.futures.specs.LinkedLists.{IsIn, IsApart}
 use Rattle.ip_headers.specs.declared.tuple.Kind.{Kind}
-use Rattle.ip_headers.specs.declared.tuple.Kind.TheVariants.{Tcp, Udp, Ask, Answer, Other}
+use Rattle.ip_headers.specs.declared.tuple.Kind.TheVariants.{Tcp, Udp, EchoRequest, EchoReply, Other}
 use Rattle.conntrack.specs.declared.connection.Phase.{Phase}
 use Rattle.conntrack.specs.declared.connection.Phase.TheVariants.{Opening, Established, Closing}
-use Rattle.conntrack.specs.declared.connection.Held.{Held}
+use Rattle.conntrack.specs.declared.connection.ConntrackEntry.{ConntrackEntry}
 use Rattle.box_file.specs.declared.limits.Limits.{Limits}
 use Rattle.conntrack.specs.Phases.{phase_of, seconds}
-use Rattle.conntrack.specs.Held.{is_live}
+use Rattle.conntrack.specs.ConntrackEntry.{is_live}
 use Rattle.aged_tracker.specs.declared.aged_slots.AgedSlots.{AgedSlots}
-use Rattle.aged_tracker.specs.declared.slot.Thread.TheVariants.{Queues, Order}
-use Rattle.aged_tracker.specs.steps.Rings.{MOST_KEYS, Lists, held_at, held_in, lists_of, IsRings}
+use Rattle.aged_tracker.specs.declared.slot.SlotList.TheVariants.{Queues, Order}
+use Rattle.aged_tracker.specs.steps.SlotLists.{MAX_KEYS, Lists, held_at, held_in, lists_of, IsRings}
 
 -- ---- queues
 
@@ -23,11 +23,11 @@ queue_by Udp phase = 0
 queue_by Tcp Established = 1
 queue_by Tcp Opening = 2
 queue_by Tcp Closing = 2
-queue_by Ask phase = 3
-queue_by Answer phase = 3
+queue_by EchoRequest phase = 3
+queue_by EchoReply phase = 3
 queue_by (Other number) phase = 4
 
-abbrev pub queue_of : Held → ℕ
+abbrev pub queue_of : ConntrackEntry → ℕ
 queue_of h = queue_by h.original.kind (phase_of h)
 
 -- for how many nanoseconds a connection of the queue is live
@@ -36,7 +36,7 @@ limit_at limits q =
     if q == 0 then seconds limits.udp
     else (if q == 1 then seconds limits.established
     else (if q == 2 then seconds limits.transitory
-    else (if q == 3 then seconds limits.ask
+    else (if q == 3 then seconds limits.echo
     else seconds limits.other)))
 
 -- ---- lists
@@ -50,25 +50,25 @@ abbrev pub owner_in : Lists → ℕ → Option ℕ
 owner_in lists key = lists.list_of key
 
 -- each key that is to be in a list is in that list, once, and no other key is in a list
-pub record IsFiled (lists : Lists) (place : ℕ → Option ℕ) : Type 0 where
-  pub owner : (key : ℕ) → owner_in lists key ≡ place key
-  pub listed : (key list : ℕ) → place key ≡ Some list → IsIn key (keys_in lists list)
-  pub placed : (key list : ℕ) → IsIn key (keys_in lists list) → place key ≡ Some list
+pub record IsFiled (lists : Lists) (list_for : ℕ → Option ℕ) : Type 0 where
+  pub owner : (key : ℕ) → owner_in lists key ≡ list_for key
+  pub listed : (key list : ℕ) → list_for key ≡ Some list → IsIn key (keys_in lists list)
+  pub placed : (key list : ℕ) → IsIn key (keys_in lists list) → list_for key ≡ Some list
   pub apart : (list : ℕ) → IsApart (keys_in lists list)
 
 -- the first list for each slot in use
-abbrev pub order_place : (ℕ → Option Held) → ℕ → Option ℕ
-order_place slots key = option_map (λ h. 0) (slots key)
+abbrev pub order_list : (ℕ → Option ConntrackEntry) → ℕ → Option ℕ
+order_list slots key = option_map (λ h. 0) (slots key)
 
-abbrev pub queue_place : (ℕ → Option Held) → ℕ → Option ℕ
-queue_place slots key = option_map queue_of (slots key)
+abbrev pub queue_list : (ℕ → Option ConntrackEntry) → ℕ → Option ℕ
+queue_list slots key = option_map queue_of (slots key)
 
-abbrev pub last_by : Option Held → ℕ
+abbrev pub last_by : Option ConntrackEntry → ℕ
 last_by None = 0
 last_by (Some h) = h.last
 
 -- the moment of the last packet of the connection in a slot
-abbrev pub last_at : (ℕ → Option Held) → ℕ → ℕ
+abbrev pub last_at : (ℕ → Option ConntrackEntry) → ℕ → ℕ
 last_at slots key = last_by (slots key)
 
 -- the moments don't fall
@@ -78,20 +78,20 @@ IsRising f (key ∷ keys) = ((other : ℕ) → IsIn other keys → f key ≤ f o
 
 -- each slot's connection has its key for a name, is in the order of beginning and in its queue, and each queue is by
 -- last packets
-pub record IsLinked (slots : ℕ → Option Held) (begun kinds : Lists) : Type 0 where
-  pub named : (key : ℕ) (h : Held) → slots key ≡ Some h → h.id.0 ≡ key
-  pub order : IsFiled begun (order_place slots)
-  pub queues : IsFiled kinds (queue_place slots)
+pub record IsLinked (slots : ℕ → Option ConntrackEntry) (begun kinds : Lists) : Type 0 where
+  pub named : (key : ℕ) (h : ConntrackEntry) → slots key ≡ Some h → h.id.0 ≡ key
+  pub order : IsFiled begun (order_list slots)
+  pub queues : IsFiled kinds (queue_list slots)
   pub rising : (q : ℕ) → IsRising (last_at slots) (keys_in kinds q)
 
 -- the moment of a queue's front
-abbrev pub IsOldest : (ℕ → Option Held) → Lists → ℕ → ℕ → Type 0
+abbrev pub IsOldest : (ℕ → Option ConntrackEntry) → Lists → ℕ → ℕ → Type 0
 IsOldest slots queues q moment = (key : ℕ) → slice_get (keys_in queues q) 0 ≡ Some key → moment ≡ last_at slots key
 
 -- ---- the table
 
 -- what is held in a slot
-abbrev pub slots_of : AgedSlots → ℕ → Option Held
+abbrev pub slots_of : AgedSlots → ℕ → Option ConntrackEntry
 slots_of t = held_at t.slots
 
 abbrev pub order_of : AgedSlots → Lists
@@ -101,7 +101,7 @@ abbrev pub queues_of : AgedSlots → Lists
 queues_of t = lists_of Queues t.slots t.queues
 
 -- all that is held, in order of beginning
-abbrev pub held_by : AgedSlots → List Held
+abbrev pub held_by : AgedSlots → List ConntrackEntry
 held_by t = held_in (slots_of t) (keys_in (order_of t) 0)
 
 pub record IsTable (t : AgedSlots) : Type 0 where
@@ -109,21 +109,21 @@ pub record IsTable (t : AgedSlots) : Type 0 where
   pub queue_rings : IsRings Queues t.slots t.queues
   pub linked : IsLinked (slots_of t) (order_of t) (queues_of t)
   pub oldest : (q : ℕ) → q < 5 → IsOldest (slots_of t) (queues_of t) q (slice_index_or t.oldest q 0)
-  pub few : (key : ℕ) → IsSome (slots_of t key) → key < MOST_KEYS
+  pub few : (key : ℕ) → IsSome (slots_of t key) → key < MAX_KEYS
 
 -- whether one more takes no memory
 abbrev pub has_room : AgedSlots → Bool
-has_room t = nat_lt (slab_len t.slots) t.slots.capacity && nat_lt t.slots.vacant_key MOST_KEYS
+has_room t = nat_lt (slab_len t.slots) t.slots.capacity && nat_lt t.slots.vacant_key MAX_KEYS
 
 -- a slot's connection is this, and every other slot's is as it was
-pub record Sets (old new : ℕ → Option Held) (key : ℕ) (slot : Option Held) : Type 0 where
+pub record Sets (old new : ℕ → Option ConntrackEntry) (key : ℕ) (slot : Option ConntrackEntry) : Type 0 where
   pub changed : new key ≡ slot
   pub others : (other : ℕ) → other ≢ key → new other ≡ old other
 
 -- every connection of the queue is live
-abbrev pub IsLiveQueue : Limits → (ℕ → Option Held) → ℕ → ℕ → Type 0
+abbrev pub IsLiveQueue : Limits → (ℕ → Option ConntrackEntry) → ℕ → ℕ → Type 0
 IsLiveQueue limits slots now q =
-    (key : ℕ) (h : Held) → slots key ≡ Some h → queue_of h ≡ q → is_live limits now h ≡ true
+    (key : ℕ) (h : ConntrackEntry) → slots key ≡ Some h → queue_of h ≡ q → is_live limits now h ≡ true
 
-abbrev pub IsAllLive : Limits → (ℕ → Option Held) → ℕ → Type 0
-IsAllLive limits slots now = (key : ℕ) (h : Held) → slots key ≡ Some h → is_live limits now h ≡ true
+abbrev pub IsAllLive : Limits → (ℕ → Option ConntrackEntry) → ℕ → Type 0
+IsAllLive limits slots now = (key : ℕ) (h : ConntrackEntry) → slots key ≡ Some h → is_live limits now h ≡ true

@@ -11,7 +11,7 @@ use Rattle.box_file.specs.declared.idle_line.IdleKind.{IdleKind}
 use Rattle.box_file.specs.declared.idle_line.IdleKind.TheVariants as kinds
 use Rattle.box_file.specs.declared.line.Line as kept
 use Rattle.box_file.specs.declared.line.Line.TheVariants as lines
-use Rattle.box_file.specs.Text.{is_blank, is_numeral, has_some, words_of, lines_of}
+use Rattle.box_file.specs.Text.{is_blank, is_numeral, is_nonempty, words_of, lines_of}
 use Rattle.box_file.specs.Idle.{word_of}
 use Rattle.box_file.specs.Box.{Interface, NamedRoute, Idle, Line, interface_line, route_line, default_line, idle_line, is_name_byte, same_text}
 
@@ -132,7 +132,7 @@ kind_in word =
     if same_text word (word_of kinds.Udp) then Some kinds.Udp
     else (if same_text word (word_of kinds.Established) then Some kinds.Established
     else (if same_text word (word_of kinds.Transitory) then Some kinds.Transitory
-    else (if same_text word (word_of kinds.Ask) then Some kinds.Ask
+    else (if same_text word (word_of kinds.Echo) then Some kinds.Echo
     else (if same_text word (word_of kinds.Other) then Some kinds.Other
     else None))))
 
@@ -163,4 +163,4 @@ all_in (t ∷ ts) = line_in t >>= λ l. option_map (λ ls. l ∷ ls) (all_in ts)
 
 -- the lines of a text
 abbrev pub lines_in : List ℕ → Option (List Line)
-lines_in text = all_in (filter has_some (map words_of (lines_of text)))
+lines_in text = all_in (filter is_nonempty (map words_of (lines_of text)))

@@ -1,7 +1,7 @@
 -- What the tests of the lines compute: names as numbers, pairs of numbers.
 use Rattle.std.specs.Prelude.{◌≡◌, ℕ, ◌+◌, ◌*◌, ◌<◌, ◌%◌, ◌^◌, ◌==◌, ◌&&◌, not, nat_eq, Bool, List, [], ◌∷◌, fold, reverse, Option, Some, None, if◌then◌else◌}
 use Rattle.std.specs.List.{list_any}
-use Rattle.box_file.specs.Box.{Interface, NamedRoute, Idle, IsName, Line, interfaces_in, routes_in, defaults_in, idles_in, is_misformed, is_repeated, has_unknown, is_too_large, is_out_of_range}
+use Rattle.box_file.specs.Box.{Interface, NamedRoute, Idle, IsName, Line, interfaces_in, routes_in, defaults_in, idles_in, is_malformed, is_repeated, has_unknown, is_too_large, is_out_of_range}
 use Rattle.box_file.specs.declared.fault.BoxFault.{BoxFault}
 use Rattle.box_file.specs.declared.fault.BoxFault.TheVariants as faults
 use Rattle.box_file.specs.Idle.{number_of}
@@ -55,16 +55,16 @@ EachName [] = Unit {0}
 EachName (n ∷ ns) = IsName n × EachName ns
 
 -- these are the lines by their kinds
-pub record IsSorted (lines : List Line) (interfaces : List Interface) (routes : List NamedRoute) (defaults : List (List ℕ)) (idles : List Idle) : Type 0 where
+pub record AreLinesByKind (lines : List Line) (interfaces : List Interface) (routes : List NamedRoute) (defaults : List (List ℕ)) (idles : List Idle) : Type 0 where
   pub interfaces_are : interfaces ≡ interfaces_in lines
   pub routes_are : routes ≡ routes_in lines
   pub defaults_are : defaults ≡ defaults_in lines
   pub idles_are : idles ≡ idles_in lines
 
 -- the least fault of a text with these lines of each kind
-abbrev pub least_of : List ℕ → List Interface → List NamedRoute → List (List ℕ) → List Idle → Option BoxFault
-least_of text interfaces routes defaults idles =
-    if is_misformed defaults then Some faults.Form
+abbrev pub least_fault_of : List ℕ → List Interface → List NamedRoute → List (List ℕ) → List Idle → Option BoxFault
+least_fault_of text interfaces routes defaults idles =
+    if is_malformed defaults then Some faults.Form
     else if is_repeated interfaces routes idles then Some faults.Repeated
     else if has_unknown interfaces routes defaults then Some faults.UnknownName
     else if is_too_large text interfaces routes then Some faults.TooLarge

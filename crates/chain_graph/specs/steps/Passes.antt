@@ -1,7 +1,7 @@
 -- What the passes over the nodes compute of one node's calls.
 use Rattle.std.specs.Prelude.{ℕ, ◌+◌, ◌<◌, max, List, [], ◌∷◌, All, Bool, false, ◌||◌, if◌then◌else◌}
 use Rattle.chain_graph.specs.Graph.{Call}
-use Rattle.chain_graph.specs.Known.{stopped}
+use Rattle.chain_graph.specs.Measures.{saturated}
 use Rattle.chain_graph.specs.declared.node.Node.{Node}
 use Rattle.chain_graph.specs.declared.node.Node.TheVariants.{Chain, Map}
 
@@ -16,7 +16,7 @@ jump_of e = if e.is_jump then 1 else 0
 -- the deepest of these calls, where each node has the depth `depth`
 abbrev pub deepest : (ℕ → ℕ) → List (Call ℕ) → ℕ
 deepest depth [] = 0
-deepest depth (e ∷ es) = max (stopped (depth e.to + jump_of e)) (deepest depth es)
+deepest depth (e ∷ es) = max (saturated (depth e.to + jump_of e)) (deepest depth es)
 
 -- one of these calls is to a node that passes
 abbrev pub some_call : (ℕ → Bool) → List (Call ℕ) → Bool

@@ -8,16 +8,16 @@ abbrev pub rows_of : List (Vec ℕ Global) → List (List ℕ)
 rows_of rows = map (λ r. r.items) rows
 
 -- a way from a to b through these nodes, of which b is the last
-abbrev pub IsWay : List (List ℕ) → ℕ → List ℕ → ℕ → Type 0
-IsWay g a [] b = a ≡ b
-IsWay g a (c ∷ cs) b = HasEdge g a c × IsWay g c cs b
+abbrev pub IsTargetPath : List (List ℕ) → ℕ → List ℕ → ℕ → Type 0
+IsTargetPath g a [] b = a ≡ b
+IsTargetPath g a (c ∷ cs) b = HasEdge g a c × IsTargetPath g c cs b
 
 -- a way of one step or more from a node to itself
-pub record HasRing (g : List (List ℕ)) : Type 0 where
+pub record HasTargetCycle (g : List (List ℕ)) : Type 0 where
   pub node : ℕ
   pub first : ℕ
   pub rest : List ℕ
-  pub way : IsWay g node (first ∷ rest) node
+  pub path : IsTargetPath g node (first ∷ rest) node
 
 -- each target is a node
 abbrev pub TargetsInRange : List (List ℕ) → Type 0

@@ -4,20 +4,20 @@ use Rattle.std.specs.List.Sorted.{IsPermutation, IsSortedBy, IsStableBy}
 use Rattle.nft_tree.specs.declared.chain.Hook.{Hook}
 use Rattle.nft_tree.specs.Tree.{head_tree}
 use Rattle.rule_meaning.specs.declared.event.ChainNo.{ChainNo}
-use Rattle.rule_meaning.specs.Hooks.{Base, runs_before, stands_at}
+use Rattle.rule_meaning.specs.Hooks.{BaseChain, runs_before, is_on_hook}
 use Rattle.filter_vm.specs.declared.code.Start.{Start}
-use Rattle.compiler.specs.declared.base.BaseChain.{BaseChain}
-use Rattle.compiler.specs.Compiled.{told, told_of}
+use Rattle.compiler.specs.declared.compiled_chain.CompiledChain.{CompiledChain}
+use Rattle.compiler.specs.Compiled.{start_head, base_chain_head}
 
-abbrev pub base : BaseChain → Base
+abbrev pub base : CompiledChain → BaseChain
 base b = record { number = b.number; head = head_tree b.head.now }
 
-abbrev pub runs_at : Hook → BaseChain → Bool
-runs_at hook b = stands_at hook (base b)
+abbrev pub runs_on_hook : Hook → CompiledChain → Bool
+runs_on_hook hook b = is_on_hook hook (base b)
 
 -- behind the old ones stand these, each with a cost that is right for its number
-pub record AddsBases (wanted : List Base) (Costs : ChainNo → ℕ → Type 0) (old new : List BaseChain) : Type 0 where
-  pub more : List BaseChain
+pub record AddsBases (wanted : List BaseChain) (Costs : ChainNo → ℕ → Type 0) (old new : List CompiledChain) : Type 0 where
+  pub more : List CompiledChain
   pub is : new ≡ old ++ more
   pub are : map base more ≡ wanted
   pub costs : All (λ b. Costs b.number b.cost) more
@@ -27,10 +27,10 @@ abbrev pub CostsIn : List (List ℕ) → ChainNo → ℕ → Type 0
 CostsIn costs n cost = cost ≡ slice_index (get_or costs n.table []) n.chain + 1
 
 -- the starts are the base chains of the hook, in order of priority and of text
-pub record Ordered (hook : Hook) (bases : List BaseChain) (starts : List Start) : Type 0 where
-  pub order : List BaseChain
-  pub moved : IsPermutation (filter (runs_at hook) bases) order
+pub record Ordered (hook : Hook) (bases : List CompiledChain) (starts : List Start) : Type 0 where
+  pub order : List CompiledChain
+  pub moved : IsPermutation (filter (runs_on_hook hook) bases) order
   pub rising : IsSortedBy (λ a b. runs_before (base a) (base b)) order
-  pub stable : IsStableBy (λ a b. runs_before (base a) (base b)) (filter (runs_at hook) bases) order
-  pub starts_are : map told starts ≡ map told_of (map base order)
+  pub stable : IsStableBy (λ a b. runs_before (base a) (base b)) (filter (runs_on_hook hook) bases) order
+  pub starts_are : map start_head starts ≡ map base_chain_head (map base order)
   pub costs_are : map (λ s. s.cost) starts ≡ map (λ b. b.cost) order

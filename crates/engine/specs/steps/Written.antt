@@ -5,17 +5,17 @@ use Rattle.pcap_io.specs.declared.format.Format.{Format}
 use Rattle.pcap_io.specs.declared.fault.CaptureFault.{CaptureFault}
 use Rattle.pcap_io.specs.declared.fault.CaptureFault.TheVariants as captures
 use Rattle.pcap_io.specs.Pcap.{Ending, Ends}
-use Rattle.pcap_io.specs.Seen.{READ_AHEAD}
-use Rattle.pcap_io.specs.Counting.{AppendsPart, one_more}
-use Rattle.story.specs.Story.{Entry, capture_text}
+use Rattle.pcap_io.specs.CaptureStates.{READ_AHEAD}
+use Rattle.pcap_io.specs.Counting.{AppendsPrefix, one_more}
+use Rattle.history.specs.History.{Entry, capture_text}
 use Rattle.report.specs.Report.{report_text}
-use Rattle.story.specs.Setup.{Setup}
+use Rattle.history.specs.Setup.{Setup}
 use Rattle.engine.specs.declared.fault.RunFault.{RunFault}
 use Rattle.engine.specs.declared.fault.RunFault.TheVariants.{Rules, Box, Capture, Device, Memory}
 use Rattle.engine.specs.Meaning.{ending_of}
 use Rattle.engine.specs.Refusals.{fault_at}
-use Rattle.engine.specs.Left.{Devices, Untouched}
-use Rattle.engine.specs.steps.Replayed.{AllTold, Interrupts, PartTold, Reached, Start}
+use Rattle.engine.specs.AfterFault.{Devices, Untouched}
+use Rattle.engine.specs.steps.Replayed.{AllWritten, Interrupts, PrefixWritten, ReadSoFar, ReplayStart}
 
 -- whether the end of the records is torn, or the fault that they stop at
 abbrev pub torn_at : Option CaptureFault → Result Bool RunFault
@@ -30,50 +30,50 @@ torn_at (Some captures.TooMany) = Err (Capture captures.TooMany)
 -- ---- after the last record
 
 -- the writers got the two texts of a story
-pub record Finished (start : Start) (story : List Entry) (torn : Bool) (w r : Option (List ℕ)) : Type 0 where
-  pub all_sent : Appends start.sent w (capture_text story)
-  pub all_lines : Appends start.report r (report_text start.setup start.trace story torn)
+pub record OutputsFinished (start : ReplayStart) (history : List Entry) (torn : Bool) (w r : Option (List ℕ)) : Type 0 where
+  pub all_sent : Appends start.sent w (capture_text history)
+  pub all_lines : Appends start.report r (report_text start.setup start.trace history torn)
 
 -- the capture's writer got all of its text, and the report's a beginning of its own
-pub record Unfinished (start : Start) (story : List Entry) (torn : Bool) (w r : Option (List ℕ)) : Type 0 where
-  pub all_sent : Appends start.sent w (capture_text story)
-  pub part_lines : AppendsPart start.report r (report_text start.setup start.trace story torn)
+pub record ReportUnfinished (start : ReplayStart) (history : List Entry) (torn : Bool) (w r : Option (List ℕ)) : Type 0 where
+  pub all_sent : Appends start.sent w (capture_text history)
+  pub part_lines : AppendsPrefix start.report r (report_text start.setup start.trace history torn)
 
 -- what a fault after the last record says of the writers, and of the report's calls that failed
-abbrev pub Ended : Start → List Entry → Option CaptureFault → Option (List ℕ) → Option (List ℕ) → ℕ → ℕ → RunFault → Type 0
-Ended start story stop w r before after (Rules fault) = ⊥
-Ended start story stop w r before after (Box fault) = ⊥
-Ended start story stop w r before after (Capture fault) = (torn_at stop ≡ Err (Capture fault)) × AllTold start story w r
-Ended start story stop w r before after Device = PartTold start story w r ⊎ ((torn : Bool) × (torn_at stop ≡ Ok torn) × Unfinished start story torn w r × (after ≡ one_more before))
-Ended start story stop w r before after Memory = ⊥
+abbrev pub FinishFails : ReplayStart → List Entry → Option CaptureFault → Option (List ℕ) → Option (List ℕ) → ℕ → ℕ → RunFault → Type 0
+FinishFails start history stop w r before after (Rules fault) = ⊥
+FinishFails start history stop w r before after (Box fault) = ⊥
+FinishFails start history stop w r before after (Capture fault) = (torn_at stop ≡ Err (Capture fault)) × AllWritten start history w r
+FinishFails start history stop w r before after Device = PrefixWritten start history w r ⊎ ((torn : Bool) × (torn_at stop ≡ Ok torn) × ReportUnfinished start history torn w r × (after ≡ one_more before))
+FinishFails start history stop w r before after Memory = ⊥
 
 -- ---- the whole
 
 -- these bytes are so many records, with a torn end or none, and the writers got the two texts of them
-pub record Told (start : Start) (format : Format) (bytes : List ℕ) (count : ℕ) (torn : Bool) (unread w r : Option (List ℕ)) : Type 0 where
-  pub reached : Reached start.setup format bytes unread
+pub record OutputsWritten (start : ReplayStart) (format : Format) (bytes : List ℕ) (count : ℕ) (torn : Bool) (unread w r : Option (List ℕ)) : Type 0 where
+  pub reached : ReadSoFar start.setup format bytes unread
   pub ends : Ends format (ending_of torn) (length reached.follows.records) (reached.ahead ++ reached.left)
   pub counted : count ≡ length reached.follows.records
-  pub finished : Finished start reached.story torn w r
+  pub finished : OutputsFinished start reached.history torn w r
 
 -- these bytes are records and stop at a fault, and the writers got all that the records give
-pub record Held (start : Start) (format : Format) (bytes : List ℕ) (fault : CaptureFault) (unread w r : Option (List ℕ)) : Type 0 where
-  pub reached : Reached start.setup format bytes unread
+pub record RefusedAtRecord (start : ReplayStart) (format : Format) (bytes : List ℕ) (fault : CaptureFault) (unread w r : Option (List ℕ)) : Type 0 where
+  pub reached : ReadSoFar start.setup format bytes unread
   pub few : length reached.ahead ≤ READ_AHEAD
   pub ending : Ending
   pub refused : fault_at ending ≡ Some fault
   pub ends : Ends format ending (length reached.follows.records) (reached.ahead ++ reached.left)
-  pub all : AllTold start reached.story w r
+  pub all : AllWritten start reached.history w r
 
 -- these bytes are records, the capture's writer got all of its text of them, and the report's a beginning of its own
-pub record Untold (start : Start) (format : Format) (bytes : List ℕ) (unread w r : Option (List ℕ)) : Type 0 where
-  pub reached : Reached start.setup format bytes unread
+pub record RecordsUnreported (start : ReplayStart) (format : Format) (bytes : List ℕ) (unread w r : Option (List ℕ)) : Type 0 where
+  pub reached : ReadSoFar start.setup format bytes unread
   pub few : length reached.ahead ≤ READ_AHEAD
   pub torn : Bool
   pub ends : Ends format (ending_of torn) (length reached.follows.records) (reached.ahead ++ reached.left)
-  pub unfinished : Unfinished start reached.story torn w r
+  pub unfinished : ReportUnfinished start reached.history torn w r
 
-abbrev pub start_of : Setup → Bool → Devices → Start
+abbrev pub start_of : Setup → Bool → Devices → ReplayStart
 start_of setup trace old = record { setup = setup; trace = trace; sent = old.sent; report = old.report }
 
 -- nothing was read and nothing written
@@ -81,15 +81,15 @@ abbrev pub Unchanged : Devices → Devices → Type 0
 Unchanged old new = (new.unread ≡ old.unread) × Untouched old new × (new.reads_failed ≡ old.reads_failed)
 
 -- what a fault within the records, or before the first, says of the bytes and of the devices
-abbrev pub SaysWithin : Setup → Bool → Format → List ℕ → Devices → Devices → RunFault → Type 0
-SaysWithin setup trace format bytes old new (Rules fault) = ⊥
-SaysWithin setup trace format bytes old new (Box fault) = ⊥
-SaysWithin setup trace format bytes old new (Capture fault) =
-    Held (start_of setup trace old) format bytes fault new.unread new.sent new.report × (new.reads_failed ≡ old.reads_failed)
-SaysWithin setup trace format bytes old new Device =
+abbrev pub FaultLeaves : Setup → Bool → Format → List ℕ → Devices → Devices → RunFault → Type 0
+FaultLeaves setup trace format bytes old new (Rules fault) = ⊥
+FaultLeaves setup trace format bytes old new (Box fault) = ⊥
+FaultLeaves setup trace format bytes old new (Capture fault) =
+    RefusedAtRecord (start_of setup trace old) format bytes fault new.unread new.sent new.report × (new.reads_failed ≡ old.reads_failed)
+FaultLeaves setup trace format bytes old new Device =
     Interrupts (start_of setup trace old) format bytes new.unread new.sent new.report old.reads_failed new.reads_failed Device
-    ⊎ (Untold (start_of setup trace old) format bytes new.unread new.sent new.report × (new.reports_failed ≡ one_more old.reports_failed))
-SaysWithin setup trace format bytes old new Memory =
+    ⊎ (RecordsUnreported (start_of setup trace old) format bytes new.unread new.sent new.report × (new.reports_failed ≡ one_more old.reports_failed))
+FaultLeaves setup trace format bytes old new Memory =
     Interrupts (start_of setup trace old) format bytes new.unread new.sent new.report old.reads_failed new.reads_failed Memory
     ⊎ Unchanged old new
 

@@ -3,46 +3,46 @@ use Rattle.std.specs.Prelude.{◌≡◌, ℕ, ◌≤◌, ℤ, int_lt, negsuc, no
 use Rattle.rule_check.specs.Checked.{CheckedTree}
 use Rattle.rule_meaning.specs.declared.facts.Facts.{Facts}
 use Rattle.rule_meaning.specs.declared.event.Event.{Event}
-use Rattle.rule_meaning.specs.declared.event.Ending.{Ending}
-use Rattle.rule_meaning.specs.declared.event.Ending.TheVariants.{Accepted, Dropped, Translated}
-use Rattle.rule_meaning.specs.Hooks.{Base, End, InOrder, RunsBase, bases_of}
+use Rattle.rule_meaning.specs.declared.event.HookVerdict.{HookVerdict}
+use Rattle.rule_meaning.specs.declared.event.HookVerdict.TheVariants.{Accepted, Dropped, Translated}
+use Rattle.rule_meaning.specs.Hooks.{BaseChain, HookResult, InOrder, RunsBaseChain, base_chains_of}
 use Rattle.filter_vm.specs.declared.code.Code.{Code}
 use Rattle.filter_vm.specs.declared.code.Start.{Start}
-use Rattle.filter_vm.specs.Machine.{end_of}
-use Rattle.compiler.specs.Compiled.{told, told_of}
+use Rattle.filter_vm.specs.Machine.{base_chain_result}
+use Rattle.compiler.specs.Compiled.{start_head, base_chain_head}
 use Rattle.nft_tree.specs.Priorities.{DSTNAT, SRCNAT}
-use Rattle.hook_runs.specs.Parts.{Costs, CostedTree, all_cost, bases_in}
-use Rattle.hook_runs.specs.declared.parts.Part.{Part}
-use Rattle.hook_runs.specs.declared.parts.Part.TheVariants as parts
-use Rattle.hook_runs.specs.declared.parts.Parts.{Parts}
+use Rattle.hook_runs.specs.Stages.{StageCosts, CostedTree, total_stage_cost, chains_in_stage}
+use Rattle.hook_runs.specs.declared.stages.HookStage.{HookStage}
+use Rattle.hook_runs.specs.declared.stages.HookStage.TheVariants as stages
+use Rattle.hook_runs.specs.declared.stages.StagedChains.{StagedChains}
 
 -- ---- which run in a part
 
-abbrev pub starts_in : Parts → Part → List Start
-starts_in p parts.Early = p.early.items
-starts_in p parts.BeforeDestination = p.before_destination.items
-starts_in p parts.ToDestination = p.to_destination.items
-starts_in p parts.AfterDestination = p.after_destination.items
-starts_in p parts.Input = p.input.items
-starts_in p parts.Forward = p.forward.items
-starts_in p parts.BeforeSource = p.before_source.items
-starts_in p parts.ToSource = p.to_source.items
-starts_in p parts.AfterSource = p.after_source.items
+abbrev pub staged_starts : StagedChains → HookStage → List Start
+staged_starts p stages.PreroutingRaw = p.prerouting_raw.items
+staged_starts p stages.PreroutingBeforeNat = p.prerouting_before_nat.items
+staged_starts p stages.PreroutingNat = p.prerouting_nat.items
+staged_starts p stages.PreroutingAfterNat = p.prerouting_after_nat.items
+staged_starts p stages.Input = p.input.items
+staged_starts p stages.Forward = p.forward.items
+staged_starts p stages.PostroutingBeforeNat = p.postrouting_before_nat.items
+staged_starts p stages.PostroutingNat = p.postrouting_nat.items
+staged_starts p stages.PostroutingAfterNat = p.postrouting_after_nat.items
 
 abbrev pub is_filter : Start → Bool
 is_filter s = not s.is_nat
 
-abbrev pub is_translator : Start → Bool
-is_translator s = s.is_nat
+abbrev pub is_nat_start : Start → Bool
+is_nat_start s = s.is_nat
 
 abbrev pub starts_before : ℤ → Start → Bool
 starts_before priority s = int_lt s.priority priority
 
-abbrev pub filters : List Start → List Start
-filters = filter is_filter
+abbrev pub filter_starts : List Start → List Start
+filter_starts = filter is_filter
 
-abbrev pub translators : List Start → List Start
-translators = filter is_translator
+abbrev pub nat_starts : List Start → List Start
+nat_starts = filter is_nat_start
 
 -- those on both sides of a priority
 abbrev pub before : ℤ → List Start → List Start
@@ -51,80 +51,80 @@ before priority = filter (starts_before priority)
 abbrev pub after : ℤ → List Start → List Start
 after priority = filter (λ s. not (starts_before priority s))
 
-abbrev pub late : Code → List Start
-late code = after (negsuc 198) (filters code.prerouting.items)
+abbrev pub after_conntrack : Code → List Start
+after_conntrack code = after (negsuc 198) (filter_starts code.prerouting.items)
 
-abbrev pub runs_in : Code → Part → List Start
-runs_in code parts.Early = before (negsuc 198) (filters code.prerouting.items)
-runs_in code parts.BeforeDestination = before DSTNAT (late code)
-runs_in code parts.ToDestination = translators code.prerouting.items
-runs_in code parts.AfterDestination = after DSTNAT (late code)
-runs_in code parts.Input = filters code.input.items
-runs_in code parts.Forward = filters code.forward.items
-runs_in code parts.BeforeSource = before SRCNAT (filters code.postrouting.items)
-runs_in code parts.ToSource = translators code.postrouting.items
-runs_in code parts.AfterSource = after SRCNAT (filters code.postrouting.items)
+abbrev pub starts_of_stage : Code → HookStage → List Start
+starts_of_stage code stages.PreroutingRaw = before (negsuc 198) (filter_starts code.prerouting.items)
+starts_of_stage code stages.PreroutingBeforeNat = before DSTNAT (after_conntrack code)
+starts_of_stage code stages.PreroutingNat = nat_starts code.prerouting.items
+starts_of_stage code stages.PreroutingAfterNat = after DSTNAT (after_conntrack code)
+starts_of_stage code stages.Input = filter_starts code.input.items
+starts_of_stage code stages.Forward = filter_starts code.forward.items
+starts_of_stage code stages.PostroutingBeforeNat = before SRCNAT (filter_starts code.postrouting.items)
+starts_of_stage code stages.PostroutingNat = nat_starts code.postrouting.items
+starts_of_stage code stages.PostroutingAfterNat = after SRCNAT (filter_starts code.postrouting.items)
 
-abbrev pub AreParts : Code → Parts → Type 0
-AreParts code p = (part : Part) → starts_in p part ≡ runs_in code part
+abbrev pub AreStagedChains : Code → StagedChains → Type 0
+AreStagedChains code p = (stage : HookStage) → staged_starts p stage ≡ starts_of_stage code stage
 
 -- ---- what they come to
 
-abbrev pub goes_on : Ending → Bool
-goes_on Accepted = true
-goes_on Dropped = false
-goes_on (Translated t) = false
+abbrev pub continues : HookVerdict → Bool
+continues Accepted = true
+continues Dropped = false
+continues (Translated t) = false
 
 -- what follows where the packet goes on
-abbrev pub then_on : End → (Facts → List Event → End) → End
-then_on end next = cond (goes_on end.ending) (next end.facts end.events) end
+abbrev pub then_continue : HookResult → (Facts → List Event → HookResult) → HookResult
+then_continue end next = cond (continues end.verdict) (next end.facts end.events) end
 
-abbrev pub in_turn : Code → List Start → Facts → List Event → End
-in_turn code [] f es = record { ending = Accepted; facts = f; events = es }
-in_turn code (s ∷ ss) f es = then_on (end_of code s f es) (in_turn code ss)
+abbrev pub in_order_result : Code → List Start → Facts → List Event → HookResult
+in_order_result code [] f es = record { verdict = Accepted; facts = f; events = es }
+in_order_result code (s ∷ ss) f es = then_continue (base_chain_result code s f es) (in_order_result code ss)
 
 -- ---- what they cost
 
 abbrev pub cost_of : List Start → ℕ
 cost_of ss = sum_by (λ s. s.cost) ss
 
-abbrev pub costs_of : Parts → Costs
+abbrev pub costs_of : StagedChains → StageCosts
 costs_of p = record {
-  early = cost_of p.early.items;
-  before_destination = cost_of p.before_destination.items;
-  to_destination = cost_of p.to_destination.items;
-  after_destination = cost_of p.after_destination.items;
+  prerouting_raw = cost_of p.prerouting_raw.items;
+  prerouting_before_nat = cost_of p.prerouting_before_nat.items;
+  prerouting_nat = cost_of p.prerouting_nat.items;
+  prerouting_after_nat = cost_of p.prerouting_after_nat.items;
   input = cost_of p.input.items;
   forward = cost_of p.forward.items;
-  before_source = cost_of p.before_source.items;
-  to_source = cost_of p.to_source.items;
-  after_source = cost_of p.after_source.items;
+  postrouting_before_nat = cost_of p.postrouting_before_nat.items;
+  postrouting_nat = cost_of p.postrouting_nat.items;
+  postrouting_after_nat = cost_of p.postrouting_after_nat.items;
 }
 
 -- a checked ruleset with what its parts cost
-abbrev pub ready : CheckedTree → Parts → CostedTree
-ready checked p = record { rules = checked.rules; plant = checked.plant; costs = costs_of p }
+abbrev pub costed_tree : CheckedTree → StagedChains → CostedTree
+costed_tree checked p = record { rules = checked.rules; plant = checked.plant; costs = costs_of p }
 
 -- ---- what is known of them
 
 -- a start tells of its base chain, and code comes to that end to which its rules lead
-pub record Leads (checked : CheckedTree) (code : Code) (s : Start) (b : Base) : Type 0 where
-  pub same : told s ≡ told_of b
-  pub runs : (f : Facts) (es : List Event) → RunsBase checked.plant checked.rules b f es (end_of code s f es)
+pub record IsStartOf (checked : CheckedTree) (code : Code) (s : Start) (b : BaseChain) : Type 0 where
+  pub same : start_head s ≡ base_chain_head b
+  pub runs : (f : Facts) (es : List Event) → RunsBaseChain checked.plant checked.rules b f es (base_chain_result code s f es)
 
-abbrev pub AllLead : CheckedTree → Code → List Start → List Base → Type 0
-AllLead checked code [] [] = Unit {0}
-AllLead checked code [] (b ∷ bs) = ⊥
-AllLead checked code (s ∷ ss) [] = ⊥
-AllLead checked code (s ∷ ss) (b ∷ bs) = Leads checked code s b × AllLead checked code ss bs
+abbrev pub AreStartsOf : CheckedTree → Code → List Start → List BaseChain → Type 0
+AreStartsOf checked code [] [] = Unit {0}
+AreStartsOf checked code [] (b ∷ bs) = ⊥
+AreStartsOf checked code (s ∷ ss) [] = ⊥
+AreStartsOf checked code (s ∷ ss) (b ∷ bs) = IsStartOf checked code s b × AreStartsOf checked code ss bs
 
 -- the starts are those of the base chains that pass the test, in the order in which they run
-pub record AreStarts (checked : CheckedTree) (code : Code) (test : Base → Bool) (starts : List Start) : Type 0 where
-  pub order : List Base
-  pub in_order : InOrder (filter test (bases_of checked.rules)) order
-  pub lead : AllLead checked code starts order
+pub record AreStarts (checked : CheckedTree) (code : Code) (test : BaseChain → Bool) (starts : List Start) : Type 0 where
+  pub order : List BaseChain
+  pub in_order : InOrder (filter test (base_chains_of checked.rules)) order
+  pub are_starts : AreStartsOf checked code starts order
 
 -- each part has its base chains, and there is room for what all cost
-pub record IsReady (checked : CheckedTree) (code : Code) (p : Parts) : Type 0 where
-  pub starts : (part : Part) → AreStarts checked code (bases_in part) (starts_in p part)
-  pub few : all_cost (ready checked p) ≤ 65536
+pub record IsCompiled (checked : CheckedTree) (code : Code) (p : StagedChains) : Type 0 where
+  pub starts : (stage : HookStage) → AreStarts checked code (chains_in_stage stage) (staged_starts p stage)
+  pub few : total_stage_cost (costed_tree checked p) ≤ 65536

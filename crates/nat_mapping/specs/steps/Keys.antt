@@ -1,14 +1,14 @@
 -- What mappings are found by.
 use Rattle.std.specs.Prelude.{ℕ, Bool, true, false, ◌==◌, ◌&&◌}
 use Rattle.ip_headers.specs.declared.tuple.Kind.{Kind}
-use Rattle.ip_headers.specs.declared.tuple.Kind.TheVariants.{Tcp, Udp, Ask, Answer, Other}
+use Rattle.ip_headers.specs.declared.tuple.Kind.TheVariants.{Tcp, Udp, EchoRequest, EchoReply, Other}
 use Rattle.ip_headers.specs.declared.tuple.Endpoint.{Endpoint}
 use Rattle.ip_headers.specs.declared.tuple.Mapping.{Mapping}
 use Rattle.ip_headers.specs.Same.{same_kind, same_endpoint}
 use Rattle.nat_mapping.specs.declared.keys.SourceKey.{SourceKey}
 use Rattle.nat_mapping.specs.declared.keys.InboundKey.{InboundKey}
 use Rattle.nat_mapping.specs.declared.keys.PoolKey.{PoolKey}
-use Rattle.nat_mapping.specs.declared.keys.Holding.{Holding}
+use Rattle.nat_mapping.specs.declared.keys.MappedPort.{MappedPort}
 
 abbrev pub source_key_of : Mapping → SourceKey
 source_key_of m = record { kind = m.kind; internal = m.internal; address = m.external.address }
@@ -32,16 +32,16 @@ same_pool a b = same_kind a.kind b.kind && a.address == b.address
 abbrev pub has_pool : Kind → Bool
 has_pool Tcp = true
 has_pool Udp = true
-has_pool Ask = true
-has_pool Answer = true
+has_pool EchoRequest = true
+has_pool EchoReply = true
 has_pool (Other number) = false
 
 -- the mapping that is held under a key
-abbrev pub mapping_at : SourceKey → Holding → Mapping
-mapping_at key holding = record {
+abbrev pub mapping_at : SourceKey → MappedPort → Mapping
+mapping_at key mapped = record {
   kind = key.kind;
   internal = key.internal;
-  external = record { address = key.address; port = holding.port };
+  external = record { address = key.address; port = mapped.port };
 }
 
 -- where an external endpoint of a pool is found

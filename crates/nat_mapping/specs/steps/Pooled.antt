@@ -25,7 +25,7 @@ pool_count t = hash_map_len t.pools + vec_len t.spares
 -- a port is taken of each pool, whose order is that of its kind
 pub record AreUsed (orders : PoolKey → Option Order) (taken : PoolKey → ℕ → Bool) : Type 0 where
   pub order : (key : PoolKey) (order : Order) → orders key ≡ Some order → order ≡ order_of key.kind
-  pub row : (key : PoolKey) → is_some (orders key) ≡ true → has_pool key.kind ≡ true
+  pub bitmap : (key : PoolKey) → is_some (orders key) ≡ true → has_pool key.kind ≡ true
   pub used : (key : PoolKey) → is_some (orders key) ≡ true → (port : ℕ) × (taken key port ≡ true)
 
 pub record IsPooled (t : Pools) : Type 0 where

@@ -16,4 +16,4 @@ order_by pool = option_map order_of pool
 -- none of its ports is taken, and it has a row of them
 pub record IsSpare (pool : Pool) : Type 0 where
   pub unused : (port : ℕ) → is_taken pool port ≡ false
-  pub row : order_of pool ≢ Zero
+  pub bitmap : order_of pool ≢ Zero

@@ -1,82 +1,82 @@
 -- Reading values, ranges and keys by what stands behind their first value, and lists up to the brace that closes them.
 use Rattle.std.specs.Prelude.{List, [], ◌∷◌, length, ◌==◌, Option, Some, None, if◌then◌else◌}
-use Rattle.nft_lexer.specs.declared.token.Mark.TheVariants.{OpenBrace, CloseBrace, Comma, Dot, Slash, Minus}
-use Rattle.nft_lexer.specs.Sign as signs
-use Rattle.nft_lexer.specs.Sign.{Sign}
+use Rattle.nft_lexer.specs.declared.token.Punctuator.TheVariants.{OpenBrace, CloseBrace, Comma, Dot, Slash, Minus}
+use Rattle.nft_lexer.specs.Terminal as terminals
+use Rattle.nft_lexer.specs.Terminal.{Terminal}
 use Rattle.nft_tree.specs.Tree as tree
 use Rattle.nft_tree.specs.Tree.{ValueTree, RangeTree, KeyTree}
 use Rattle.list_laws.specs.Options.{◌>>=◌}
-use Rattle.token_reader.specs.steps.Reading.{option_else, all_at, with_front, after_at, sign_at, separated_at, after_mark, number_at}
+use Rattle.token_reader.specs.steps.Reading.{option_else, all_at, with_front, after_at, punctuation_at, separated_at, after_punctuator, number_at}
 
 -- NUM | ADDR | WORD | STRING
-abbrev pub value_at : List Sign → Option (ValueTree × List Sign)
-value_at (signs.number n ∷ ts) = Some (tree.number n, ts)
-value_at (signs.address a ∷ ts) = Some (tree.address a, ts)
-value_at (signs.word w ∷ ts) = Some (tree.word w, ts)
-value_at (signs.string s ∷ ts) = Some (tree.string s, ts)
+abbrev pub value_at : List Terminal → Option (ValueTree × List Terminal)
+value_at (terminals.number n ∷ ts) = Some (tree.number n, ts)
+value_at (terminals.address a ∷ ts) = Some (tree.address a, ts)
+value_at (terminals.word w ∷ ts) = Some (tree.word w, ts)
+value_at (terminals.string s ∷ ts) = Some (tree.string s, ts)
 value_at ts = None
 
 -- ["/" NUM] after a value, where that is an address
-unfoldable pub one_or_prefix : ValueTree → List Sign → RangeTree × List Sign
-one_or_prefix (tree.address a) ts = option_else (after_at (sign_at Slash) number_at ts) (λ n. (tree.prefix a n.0, n.1)) (tree.one (tree.address a), ts)
+unfoldable pub one_or_prefix : ValueTree → List Terminal → RangeTree × List Terminal
+one_or_prefix (tree.address a) ts = option_else (after_at (punctuation_at Slash) number_at ts) (λ n. (tree.prefix a n.0, n.1)) (tree.one (tree.address a), ts)
 one_or_prefix v ts = (tree.one v, ts)
 
 -- a range, after its first value
-unfoldable pub range_after : ValueTree → List Sign → RangeTree × List Sign
-range_after v ts = option_else (after_at (sign_at Minus) value_at ts) (λ high. (tree.between v high.0, high.1)) (one_or_prefix v ts)
+unfoldable pub range_after : ValueTree → List Terminal → RangeTree × List Terminal
+range_after v ts = option_else (after_at (punctuation_at Minus) value_at ts) (λ high. (tree.between v high.0, high.1)) (one_or_prefix v ts)
 
-abbrev pub range_at : List Sign → Option (RangeTree × List Sign)
+abbrev pub range_at : List Terminal → Option (RangeTree × List Terminal)
 range_at ts = value_at ts >>= λ v. Some (range_after v.0 v.1)
 
-abbrev pub next_value_at : List Sign → Option (ValueTree × List Sign)
-next_value_at = after_at (sign_at Dot) value_at
+abbrev pub next_value_at : List Terminal → Option (ValueTree × List Terminal)
+next_value_at = after_at (punctuation_at Dot) value_at
 
 -- values joined by dots, after two of them
-unfoldable pub joined_after : ValueTree → ValueTree → List Sign → KeyTree × List Sign
+unfoldable pub joined_after : ValueTree → ValueTree → List Terminal → KeyTree × List Terminal
 joined_after v w ts = let others = with_front (v ∷ w ∷ []) (all_at next_value_at ts) in (tree.joined others.0, others.1)
 
 -- a key, after its first value
-unfoldable pub key_after : ValueTree → List Sign → KeyTree × List Sign
+unfoldable pub key_after : ValueTree → List Terminal → KeyTree × List Terminal
 key_after v ts = option_else (next_value_at ts) (λ w. joined_after v w.0 w.1) (tree.single (range_after v ts).0, (range_after v ts).1)
 
-abbrev pub key_at : List Sign → Option (KeyTree × List Sign)
+abbrev pub key_at : List Terminal → Option (KeyTree × List Terminal)
 key_at ts = value_at ts >>= λ v. Some (key_after v.0 v.1)
 
 -- a token that is no closing brace
-abbrev pub inside_at : List Sign → Option (Sign × List Sign)
+abbrev pub inside_at : List Terminal → Option (Terminal × List Terminal)
 inside_at [] = None
-inside_at (signs.mark CloseBrace ∷ ts) = None
+inside_at (terminals.punctuator CloseBrace ∷ ts) = None
 inside_at (t ∷ ts) = Some (t, ts)
 
 -- what follows a token that is no newline and no closing brace
-abbrev pub after_plain : List Sign → Option (List Sign)
+abbrev pub after_plain : List Terminal → Option (List Terminal)
 after_plain [] = None
-after_plain (signs.newline ∷ ts) = None
-after_plain (signs.mark CloseBrace ∷ ts) = None
+after_plain (terminals.newline ∷ ts) = None
+after_plain (terminals.punctuator CloseBrace ∷ ts) = None
 after_plain (t ∷ ts) = Some ts
 
 -- what stands before the first closing brace, the newlines left out, and from that brace on
-unfoldable pub enclosed_at : List Sign → Option (List Sign × List Sign)
+unfoldable pub enclosed_at : List Terminal → Option (List Terminal × List Terminal)
 enclosed_at [] = None
-enclosed_at (signs.newline ∷ ts) = enclosed_at ts
-enclosed_at (signs.mark CloseBrace ∷ ts) = Some ([], signs.mark CloseBrace ∷ ts)
+enclosed_at (terminals.newline ∷ ts) = enclosed_at ts
+enclosed_at (terminals.punctuator CloseBrace ∷ ts) = Some ([], terminals.punctuator CloseBrace ∷ ts)
 enclosed_at (t ∷ ts) = enclosed_at ts >>= λ x. Some (t ∷ x.0, x.1)
 
 -- what was kept, where a closing brace stands
-abbrev pub at_brace : List Sign → List Sign → Option (List Sign × List Sign)
-at_brace kept here = after_mark CloseBrace here >>= λ a. Some (kept, here)
+abbrev pub at_brace : List Terminal → List Terminal → Option (List Terminal × List Terminal)
+at_brace kept here = after_punctuator CloseBrace here >>= λ a. Some (kept, here)
 
-abbrev pub after_last_comma : List Sign → List Sign
-after_last_comma ts = option_else (after_mark Comma ts) (λ a. a) ts
+abbrev pub after_last_comma : List Terminal → List Terminal
+after_last_comma ts = option_else (after_punctuator Comma ts) (λ a. a) ts
 
 -- x {"," x} [","], all of the tokens
-unfoldable pub listed_at : {A : Type 0} → (List Sign → Option (A × List Sign)) → List Sign → Option (List A)
-listed_at read ts = separated_at (sign_at Comma) read ts >>= λ xs. if length (after_last_comma xs.1) == 0 then Some xs.0 else None
+unfoldable pub comma_separated_at : {A : Type 0} → (List Terminal → Option (A × List Terminal)) → List Terminal → Option (List A)
+comma_separated_at read ts = separated_at (punctuation_at Comma) read ts >>= λ xs. if length (after_last_comma xs.1) == 0 then Some xs.0 else None
 
 -- the same up to the brace that closes it
-unfoldable pub up_to_brace_at : {A : Type 0} → (List Sign → Option (A × List Sign)) → List Sign → Option (List A × List Sign)
-up_to_brace_at read ts = enclosed_at ts >>= λ inner. listed_at read inner.0 >>= λ xs. Some (xs, inner.1)
+unfoldable pub up_to_brace_at : {A : Type 0} → (List Terminal → Option (A × List Terminal)) → List Terminal → Option (List A × List Terminal)
+up_to_brace_at read ts = enclosed_at ts >>= λ inner. comma_separated_at read inner.0 >>= λ xs. Some (xs, inner.1)
 
 -- "{" x {"," x} [","] "}"
-unfoldable pub braced_at : {A : Type 0} → (List Sign → Option (A × List Sign)) → List Sign → Option (List A × List Sign)
-braced_at read ts = after_at (sign_at OpenBrace) (up_to_brace_at read) ts >>= λ xs. sign_at CloseBrace xs.1 >>= λ e. Some (xs.0, e.1)
+unfoldable pub braced_at : {A : Type 0} → (List Terminal → Option (A × List Terminal)) → List Terminal → Option (List A × List Terminal)
+braced_at read ts = after_at (punctuation_at OpenBrace) (up_to_brace_at read) ts >>= λ xs. punctuation_at CloseBrace xs.1 >>= λ e. Some (xs.0, e.1)

@@ -3,23 +3,23 @@ use Rattle.std.specs.Prelude.{ℕ, ◌+◌, ◌-◌, ◌*◌, ◌^◌, List, [],
 use Rattle.std.specs.Char.{digit_value, is_ascii_digit, is_ascii_hexdigit}
 use Rattle.std.specs.List.{prefix_len}
 use Rattle.std.specs.Option.{option_map_or, option_or}
-use Rattle.nft_lexer.specs.declared.token.Mark.{Mark}
-use Rattle.nft_lexer.specs.declared.token.Mark.TheVariants.{OpenBrace, CloseBrace, OpenParenthesis, CloseParenthesis, Comma, Semicolon, Colon, Dot, Slash, Minus, Plus, Equals, At, Ampersand, Bar, EqualTo, NotEqualTo, AtMost, AtLeast, Below, Above}
-use Rattle.nft_lexer.specs.declared.piece.Class.{Class}
-use Rattle.nft_lexer.specs.declared.piece.Class.TheVariants as classes
-use Rattle.nft_lexer.specs.declared.piece.Piece.{Piece}
-use Rattle.nft_lexer.specs.declared.piece.Piece.TheVariants as pieces
-use Rattle.nft_lexer.specs.declared.token.Kind.TheVariants as kinds
-use Rattle.nft_lexer.specs.declared.piece.Run.{Run}
-use Rattle.nft_lexer.specs.declared.piece.Run.TheVariants as runs
+use Rattle.nft_lexer.specs.declared.token.Punctuator.{Punctuator}
+use Rattle.nft_lexer.specs.declared.token.Punctuator.TheVariants.{OpenBrace, CloseBrace, OpenParenthesis, CloseParenthesis, Comma, Semicolon, Colon, Dot, Slash, Minus, Plus, Equals, At, Ampersand, Bar, EqualTo, NotEqualTo, AtMost, AtLeast, Below, Above}
+use Rattle.nft_lexer.specs.declared.lexeme.Class.{Class}
+use Rattle.nft_lexer.specs.declared.lexeme.Class.TheVariants as classes
+use Rattle.nft_lexer.specs.declared.lexeme.LexemeKind.{LexemeKind}
+use Rattle.nft_lexer.specs.declared.lexeme.LexemeKind.TheVariants as lexeme_kinds
+use Rattle.nft_lexer.specs.declared.token.TokenKind.TheVariants as kinds
+use Rattle.nft_lexer.specs.declared.lexeme.Run.{Run}
+use Rattle.nft_lexer.specs.declared.lexeme.Run.TheVariants as runs
 use Rattle.nft_lexer.specs.declared.fault.LexError.{LexError}
 use Rattle.nft_lexer.specs.declared.fault.LexError.TheVariants.{Refused, Memory}
 use Rattle.nft_lexer.specs.declared.fault.LexFault.{LexFault}
 use Rattle.nft_lexer.specs.declared.fault.LexFault.TheVariants as lexical
-use Rattle.nft_lexer.specs.declared.cutting.Fault.{Fault}
-use Rattle.nft_lexer.specs.declared.cutting.Fault.TheVariants as faults
-use Rattle.nft_lexer.specs.Sign.{Sign, Spelled, sign_of}
-use Rattle.nft_lexer.specs.Cut.{Part, blank, joined_line, comment, line_end, name, digits, hexadecimal, dotted, quoted, sole, is_blank, begins_word, continues_word, is_no_line_end, stands_in_string, mark_text, IsPartAt, Means}
+use Rattle.nft_lexer.specs.declared.lexing.Fault.{Fault}
+use Rattle.nft_lexer.specs.declared.lexing.Fault.TheVariants as faults
+use Rattle.nft_lexer.specs.Terminal.{Terminal, LexedToken, terminal_of}
+use Rattle.nft_lexer.specs.Lexing.{Lexeme, blank, line_continuation, comment, line_end, name, digits, hexadecimal, dotted_quad, quoted, punctuation, is_blank, begins_word, continues_word, is_no_newline, is_string_byte, punctuator_text, IsLongestLexeme, HasTokens}
 
 infixl 10 ◌>>=◌
 abbrev pub ◌>>=◌ : {A B : Type 0} → Option A → (A → Option B) → Option B
@@ -39,23 +39,23 @@ class_of b =
     else classes.Other))))))
 
 -- whether a byte goes on with a run
-abbrev pub goes_on : Run → ℕ → Bool
-goes_on runs.Word = continues_word
-goes_on runs.Line = is_no_line_end
-goes_on runs.String = stands_in_string
-goes_on runs.Hexadecimal = is_ascii_hexdigit
+abbrev pub continues_run : Run → ℕ → Bool
+continues_run runs.Word = continues_word
+continues_run runs.Line = is_no_newline
+continues_run runs.String = is_string_byte
+continues_run runs.Hexadecimal = is_ascii_hexdigit
 
 -- the first of the marks that begins with the byte
-abbrev pub mark_from : ℕ → List Mark → Option Mark
-mark_from b [] = None
-mark_from b (m ∷ ms) = if b == slice_index (mark_text m) 0 then Some m else mark_from b ms
+abbrev pub punctuator_from : ℕ → List Punctuator → Option Punctuator
+punctuator_from b [] = None
+punctuator_from b (m ∷ ms) = if b == slice_index (punctuator_text m) 0 then Some m else punctuator_from b ms
 
-abbrev pub short_marks : List Mark
-short_marks = OpenBrace ∷ CloseBrace ∷ OpenParenthesis ∷ CloseParenthesis ∷ Comma ∷ Semicolon ∷ Colon ∷ Dot ∷ Slash ∷ Minus ∷ Plus ∷ Equals ∷ At ∷ Ampersand ∷ Bar ∷ Below ∷ Above ∷ []
+abbrev pub short_punctuators : List Punctuator
+short_punctuators = OpenBrace ∷ CloseBrace ∷ OpenParenthesis ∷ CloseParenthesis ∷ Comma ∷ Semicolon ∷ Colon ∷ Dot ∷ Slash ∷ Minus ∷ Plus ∷ Equals ∷ At ∷ Ampersand ∷ Bar ∷ Below ∷ Above ∷ []
 
 -- each ends with an equals sign
-abbrev pub long_marks : List Mark
-long_marks = EqualTo ∷ NotEqualTo ∷ AtMost ∷ AtLeast ∷ []
+abbrev pub long_punctuators : List Punctuator
+long_punctuators = EqualTo ∷ NotEqualTo ∷ AtMost ∷ AtLeast ∷ []
 
 -- what follows this byte
 abbrev pub after_byte : ℕ → List ℕ → Option (List ℕ)
@@ -81,30 +81,30 @@ abbrev pub is_zero : List ℕ → Bool
 is_zero ds = length ds == 1 && slice_index ds 0 == 48
 
 -- after these digits: where they are a zero, `x` and hexadecimal digits
-unfoldable pub hexadecimal_at : List ℕ → List ℕ → Option (Part × List ℕ)
+unfoldable pub hexadecimal_at : List ℕ → List ℕ → Option (Lexeme × List ℕ)
 hexadecimal_at first ts = do
   r ← after_byte 120 ts
   x ← if is_zero first then run_at is_ascii_hexdigit r else None
   Some (hexadecimal x.0, x.1)
 
 -- a dot and the digits after it
-unfoldable pub next_group_at : List ℕ → Option (List ℕ × List ℕ)
-next_group_at ts = after_byte 46 ts >>= run_at is_ascii_digit
+unfoldable pub next_octet_at : List ℕ → Option (List ℕ × List ℕ)
+next_octet_at ts = after_byte 46 ts >>= run_at is_ascii_digit
 
 -- after these digits: three more groups
-unfoldable pub dotted_at : List ℕ → List ℕ → Option (Part × List ℕ)
-dotted_at first ts = do
-  b ← next_group_at ts
-  c ← next_group_at b.1
-  d ← next_group_at c.1
-  Some (dotted first b.0 c.0 d.0, d.1)
+unfoldable pub dotted_quad_at : List ℕ → List ℕ → Option (Lexeme × List ℕ)
+dotted_quad_at first ts = do
+  b ← next_octet_at ts
+  c ← next_octet_at b.1
+  d ← next_octet_at c.1
+  Some (dotted_quad first b.0 c.0 d.0, d.1)
 
-unfoldable pub number_at : List ℕ → Option (Part × List ℕ)
-number_at ts = run_at is_ascii_digit ts >>= (λ a. option_or (hexadecimal_at a.0 a.1) (option_or (dotted_at a.0 a.1) (Some (digits a.0, a.1))))
+unfoldable pub number_at : List ℕ → Option (Lexeme × List ℕ)
+number_at ts = run_at is_ascii_digit ts >>= (λ a. option_or (hexadecimal_at a.0 a.1) (option_or (dotted_quad_at a.0 a.1) (Some (digits a.0, a.1))))
 
 -- more than one digit, and the first is a zero
-abbrev pub leads_with_zero : List ℕ → Bool
-leads_with_zero ds = nat_lt 1 (length ds) && slice_index ds 0 == 48
+abbrev pub has_leading_zero : List ℕ → Bool
+has_leading_zero ds = nat_lt 1 (length ds) && slice_index ds 0 == 48
 
 -- the number if it is below the bound
 abbrev pub below : ℕ → ℕ → Option ℕ
@@ -125,14 +125,14 @@ digit_at [] = None
 digit_at (b ∷ bs) = if is_ascii_digit b then Some (b, bs) else None
 
 unfoldable pub decimal_at : List ℕ → Option ℕ
-decimal_at ds = if leads_with_zero ds then None else value_after 10 0 ds
+decimal_at ds = if has_leading_zero ds then None else value_after 10 0 ds
 
 -- a number from 0 to 255
 abbrev pub byte_of : Option ℕ → Option ℕ
 byte_of n = n >>= below 256
 
-unfoldable pub group_at : List ℕ → Option ℕ
-group_at ds = byte_of (decimal_at ds)
+unfoldable pub octet_at : List ℕ → Option ℕ
+octet_at ds = byte_of (decimal_at ds)
 
 -- the address of which these are the groups, where each is a number
 unfoldable pub address_of : (first second third fourth : Option ℕ) → Option ℕ
@@ -149,28 +149,28 @@ address_at first second third fourth = address_of (decimal_at first) (decimal_at
 -- ---- what the code holds of a piece
 
 -- numbers and addresses as the code's pieces
-abbrev pub number_piece : Option ℕ → Piece
-number_piece (Some n) = pieces.Token (kinds.Number n)
-number_piece None = pieces.NoNumber
+abbrev pub number_kind : Option ℕ → LexemeKind
+number_kind (Some n) = lexeme_kinds.Token (kinds.Number n)
+number_kind None = lexeme_kinds.InvalidNumber
 
-abbrev pub address_piece : Option ℕ → Piece
-address_piece (Some a) = pieces.Token (kinds.Address a)
-address_piece None = pieces.NoNumber
+abbrev pub address_kind : Option ℕ → LexemeKind
+address_kind (Some a) = lexeme_kinds.Token (kinds.Address a)
+address_kind None = lexeme_kinds.InvalidNumber
 
 -- every piece as the code's
-abbrev pub held : Part → Piece
-held line_end = pieces.Token kinds.NewLine
-held (name w) = pieces.Token kinds.Word
-held (digits n) = number_piece (decimal_at n)
-held (hexadecimal n) = number_piece (value_after 16 0 n)
-held (dotted a b c d) = address_piece (address_at a b c d)
-held (quoted s) = pieces.Token kinds.String
-held (sole m) = pieces.Token (kinds.Mark m)
-held p = pieces.Blank
+abbrev pub lexeme_kind : Lexeme → LexemeKind
+lexeme_kind line_end = lexeme_kinds.Token kinds.NewLine
+lexeme_kind (name w) = lexeme_kinds.Token kinds.Word
+lexeme_kind (digits n) = number_kind (decimal_at n)
+lexeme_kind (hexadecimal n) = number_kind (value_after 16 0 n)
+lexeme_kind (dotted_quad a b c d) = address_kind (address_at a b c d)
+lexeme_kind (quoted s) = lexeme_kinds.Token kinds.String
+lexeme_kind (punctuation m) = lexeme_kinds.Token (kinds.Punctuator m)
+lexeme_kind p = lexeme_kinds.Blank
 
 -- with what follows it
-abbrev pub seen : Option (Part × List ℕ) → Option (Piece × List ℕ)
-seen o = option_map (λ x. (held x.0, x.1)) o
+abbrev pub scanned_kind : Option (Lexeme × List ℕ) → Option (LexemeKind × List ℕ)
+scanned_kind o = option_map (λ x. (lexeme_kind x.0, x.1)) o
 
 -- ---- numbers and addresses by their values
 
@@ -179,92 +179,92 @@ unfoldable pub digits_at : List ℕ → Option (List ℕ × Option ℕ × List �
 digits_at ts = option_map (λ x. (x.0, decimal_at x.0, x.1)) (run_at is_ascii_digit ts)
 
 -- a dot and the number of the digits after it
-unfoldable pub group_after : List ℕ → Option (Option ℕ × List ℕ)
-group_after ts = after_byte 46 ts >>= (λ r. option_map (λ x. (x.1, x.2)) (digits_at r))
+unfoldable pub octet_after : List ℕ → Option (Option ℕ × List ℕ)
+octet_after ts = after_byte 46 ts >>= (λ r. option_map (λ x. (x.1, x.2)) (digits_at r))
 
 -- after a group of this number: three more
-unfoldable pub groups_after : Option ℕ → List ℕ → Option (Piece × List ℕ)
-groups_after first ts = do
-  b ← group_after ts
-  c ← group_after b.1
-  d ← group_after c.1
-  Some (address_piece (address_of first b.0 c.0 d.0), d.1)
+unfoldable pub octets_after : Option ℕ → List ℕ → Option (LexemeKind × List ℕ)
+octets_after first ts = do
+  b ← octet_after ts
+  c ← octet_after b.1
+  d ← octet_after c.1
+  Some (address_kind (address_of first b.0 c.0 d.0), d.1)
 
 -- the number or the address in front
-unfoldable pub numeral_at : List ℕ → Option (Piece × List ℕ)
-numeral_at ts = digits_at ts >>= (λ a. option_or (seen (hexadecimal_at a.0 a.2)) (option_or (groups_after a.1 a.2) (Some (number_piece a.1, a.2))))
+unfoldable pub numeral_at : List ℕ → Option (LexemeKind × List ℕ)
+numeral_at ts = digits_at ts >>= (λ a. option_or (scanned_kind (hexadecimal_at a.0 a.2)) (option_or (octets_after a.1 a.2) (Some (number_kind a.1, a.2))))
 
 -- ---- pieces
 
 -- what follows a quote: the bytes up to the next one, with no line's end before it
-unfoldable pub quoted_at : List ℕ → Option (Part × List ℕ)
-quoted_at ts = option_map (λ r. (quoted (front stands_in_string ts), r)) (after_byte 34 (behind stands_in_string ts))
+unfoldable pub quoted_at : List ℕ → Option (Lexeme × List ℕ)
+quoted_at ts = option_map (λ r. (quoted (front is_string_byte ts), r)) (after_byte 34 (behind is_string_byte ts))
 
 -- this byte and an equals sign
-unfoldable pub long_mark_at : ℕ → List ℕ → Option (Part × List ℕ)
-long_mark_at b bs = do
-  m ← mark_from b long_marks
+unfoldable pub long_punctuator_at : ℕ → List ℕ → Option (Lexeme × List ℕ)
+long_punctuator_at b bs = do
+  m ← punctuator_from b long_punctuators
   r ← after_byte 61 bs
-  Some (sole m, r)
+  Some (punctuation m, r)
 
-unfoldable pub mark_at : ℕ → List ℕ → Option (Part × List ℕ)
-mark_at b bs = option_or (long_mark_at b bs) (option_map (λ m. (sole m, bs)) (mark_from b short_marks))
+unfoldable pub punctuator_at : ℕ → List ℕ → Option (Lexeme × List ℕ)
+punctuator_at b bs = option_or (long_punctuator_at b bs) (option_map (λ m. (punctuation m, bs)) (punctuator_from b short_punctuators))
 
 -- the piece that begins with a byte of this class
-unfoldable pub class_at : Class → ℕ → List ℕ → Option (Part × List ℕ)
+unfoldable pub class_at : Class → ℕ → List ℕ → Option (Lexeme × List ℕ)
 class_at classes.Blank b bs = Some (blank, bs)
 class_at classes.LineEnd b bs = Some (line_end, bs)
-class_at classes.Backslash b bs = option_map (λ r. (joined_line, r)) (after_byte 10 bs)
-class_at classes.Hash b bs = Some (comment (front is_no_line_end bs), behind is_no_line_end bs)
+class_at classes.Backslash b bs = option_map (λ r. (line_continuation, r)) (after_byte 10 bs)
+class_at classes.Hash b bs = Some (comment (front is_no_newline bs), behind is_no_newline bs)
 class_at classes.Quote b bs = quoted_at bs
 class_at classes.Digit b bs = number_at (b ∷ bs)
 class_at classes.Letter b bs = Some (name (b ∷ front continues_word bs), behind continues_word bs)
-class_at classes.Other b bs = mark_at b bs
+class_at classes.Other b bs = punctuator_at b bs
 
 -- the longest piece in front
-unfoldable pub piece_at : List ℕ → Option (Part × List ℕ)
-piece_at [] = None
-piece_at (b ∷ bs) = class_at (class_of b) b bs
+unfoldable pub lexeme_at : List ℕ → Option (Lexeme × List ℕ)
+lexeme_at [] = None
+lexeme_at (b ∷ bs) = class_at (class_of b) b bs
 
 -- ---- tokens
 
-abbrev pub one : Sign → List ℕ → List Spelled
-one s bytes = record { sign = s; text = bytes } ∷ []
+abbrev pub one : Terminal → List ℕ → List LexedToken
+one s bytes = record { terminal = s; text = bytes } ∷ []
 
 -- the tokens that what the code holds of a piece with these bytes is
-abbrev pub tokens_of : Piece → List ℕ → Option (List Spelled)
-tokens_of pieces.Blank bytes = Some []
-tokens_of (pieces.Token k) bytes = Some (one (sign_of k bytes) bytes)
-tokens_of pieces.NoNumber bytes = None
+abbrev pub tokens_of : LexemeKind → List ℕ → Option (List LexedToken)
+tokens_of lexeme_kinds.Blank bytes = Some []
+tokens_of (lexeme_kinds.Token k) bytes = Some (one (terminal_of k bytes) bytes)
+tokens_of lexeme_kinds.InvalidNumber bytes = None
 
 -- the tokens of a piece with these bytes, if it has any meaning
-abbrev pub meaning : Part → List ℕ → Option (List Spelled)
-meaning p bytes = tokens_of (held p) bytes
+abbrev pub meaning : Lexeme → List ℕ → Option (List LexedToken)
+meaning p bytes = tokens_of (lexeme_kind p) bytes
 
 abbrev pub listed : {A B : Type 0} → (A → B) → Option A → List B
 listed f o = option_to_list (option_map f o)
 
 -- the result as it is seen
-abbrev pub told : {A B : Type 0} → (A → B) → Result A Fault → Result B Fault
-told f (Ok x) = Ok (f x)
-told f (Err e) = Err e
+abbrev pub map_ok : {A B : Type 0} → (A → B) → Result A Fault → Result B Fault
+map_ok f (Ok x) = Ok (f x)
+map_ok f (Err e) = Err e
 
 -- the tokens of the longest piece in front and what follows it, or why there are none
-unfoldable pub next_at : List ℕ → Result (List Spelled × List ℕ) Fault
+unfoldable pub next_at : List ℕ → Result (List LexedToken × List ℕ) Fault
 next_at ts =
-    option_map_or (λ x. told (λ tokens. (tokens, x.1)) (ok_or (tokens_of x.0 (take (length ts - length x.1) ts)) faults.Number)) (seen (piece_at ts))
+    option_map_or (λ x. map_ok (λ tokens. (tokens, x.1)) (ok_or (tokens_of x.0 (take (length ts - length x.1) ts)) faults.Number)) (scanned_kind (lexeme_at ts))
     (Err (if slice_index ts 0 == 34 then faults.OpenString else faults.Byte))
 
 -- a piece from a place to another is these tokens
-abbrev pub Passes : List ℕ → List Spelled → List ℕ → Type 0
-Passes from tokens to = (p : Part) × (bytes : List ℕ) × IsPartAt p bytes from to × Means p bytes tokens
+abbrev pub ScansOne : List ℕ → List LexedToken → List ℕ → Type 0
+ScansOne from tokens to = (p : Lexeme) × (bytes : List ℕ) × IsLongestLexeme p bytes from to × HasTokens p bytes tokens
 
-abbrev pub on_line : Fault → ℕ → LexFault
-on_line faults.Byte line = lexical.Byte line
-on_line faults.OpenString line = lexical.OpenString line
-on_line faults.Number line = lexical.Number line
+abbrev pub at_line : Fault → ℕ → LexFault
+at_line faults.Byte line = lexical.Byte line
+at_line faults.OpenString line = lexical.OpenString line
+at_line faults.Number line = lexical.Number line
 
 -- a fault that is told is one of these; want of memory may be told of any text
-abbrev pub Tells : (LexFault → Type 0) → LexError → Type 0
-Tells P (Refused fault) = P fault
-Tells P Memory = Unit {0}
+abbrev pub IfRefused : (LexFault → Type 0) → LexError → Type 0
+IfRefused P (Refused fault) = P fault
+IfRefused P Memory = Unit {0}

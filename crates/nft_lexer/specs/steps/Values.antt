@@ -5,8 +5,8 @@ use Rattle.std.specs.Char.{is_ascii_digit}
 use Rattle.std.specs.List.{prefix_len}
 use Rattle.std.specs.Option.{option_or}
 use Rattle.std.proofs.lemmas.Bool.Decides.{nat_tests}
-use Rattle.nft_lexer.specs.Cut.{Part}
-use Rattle.nft_lexer.specs.steps.Reading.{◌>>=◌, after_byte, front, behind, run_at, digit_at, decimal_at, value_after, with_digit, hexadecimal_at, next_group_at, dotted_at, number_at, seen, digits_at, group_after, groups_after, numeral_at}
+use Rattle.nft_lexer.specs.Lexing.{Lexeme}
+use Rattle.nft_lexer.specs.steps.Reading.{◌>>=◌, after_byte, front, behind, run_at, digit_at, decimal_at, value_after, with_digit, hexadecimal_at, next_octet_at, dotted_quad_at, number_at, scanned_kind, digits_at, octet_after, octets_after, numeral_at}
 
 by_bool : (P : Bool → Type 0) (b : Bool) → (b ≡ true → P true) → (b ≡ false → P false) → P b
 by_bool P true h k = h refl
@@ -57,39 +57,39 @@ with_value x = (x.0, decimal_at x.0, x.1)
 abbrev value_alone : List ℕ × Option ℕ × List ℕ → Option ℕ × List ℕ
 value_alone x = (x.1, x.2)
 
-abbrev group_value : List ℕ × List ℕ → Option ℕ × List ℕ
-group_value x = (decimal_at x.0, x.1)
+abbrev octet_value : List ℕ × List ℕ → Option ℕ × List ℕ
+octet_value x = (decimal_at x.0, x.1)
 
-values : (o : Option (List ℕ × List ℕ)) → option_map value_alone (option_map with_value o) ≡ option_map group_value o
+values : (o : Option (List ℕ × List ℕ)) → option_map value_alone (option_map with_value o) ≡ option_map octet_value o
 values None = refl
 values (Some x) = refl
 
-group_of : (o : Option (List ℕ)) → (o >>= (λ r. option_map value_alone (option_map with_value (run_at is_ascii_digit r)))) ≡ option_map group_value (o >>= run_at is_ascii_digit)
-group_of None = refl
-group_of (Some r) = values (run_at is_ascii_digit r)
+octet_of : (o : Option (List ℕ)) → (o >>= (λ r. option_map value_alone (option_map with_value (run_at is_ascii_digit r)))) ≡ option_map octet_value (o >>= run_at is_ascii_digit)
+octet_of None = refl
+octet_of (Some r) = values (run_at is_ascii_digit r)
 
-group_is : (ts : List ℕ) → group_after ts ≡ option_map group_value (next_group_at ts)
-unfolding group_after next_group_at digits_at
-group_is ts = group_of (after_byte 46 ts)
+octet_is : (ts : List ℕ) → octet_after ts ≡ option_map octet_value (next_octet_at ts)
+unfolding octet_after next_octet_at digits_at
+octet_is ts = octet_of (after_byte 46 ts)
 
 -- what is read from what is read, by their values
 through : {A B C D : Type 0} (g : A → B) (s : D → C) (o : Option A) (k : B → Option C) (l : A → Option D) → ((x : A) → k (g x) ≡ option_map s (l x)) → (option_map g o >>= k) ≡ option_map s (o >>= l)
 through g s None k l h = refl
 through g s (Some x) k l h = h x
 
-groups_are : (first ts : List ℕ) → groups_after (decimal_at first) ts ≡ seen (dotted_at first ts)
-unfolding groups_after dotted_at
-groups_are first ts =
-    rw (group_is ts) (through _ _ (next_group_at ts) _ _ (λ b.
-    rw (group_is b.1) (through _ _ (next_group_at b.1) _ _ (λ c.
-    rw (group_is c.1) (through _ _ (next_group_at c.1) _ _ (λ d. refl))))))
+octets_are : (first ts : List ℕ) → octets_after (decimal_at first) ts ≡ scanned_kind (dotted_quad_at first ts)
+unfolding octets_after dotted_quad_at
+octets_are first ts =
+    rw (octet_is ts) (through _ _ (next_octet_at ts) _ _ (λ b.
+    rw (octet_is b.1) (through _ _ (next_octet_at b.1) _ _ (λ c.
+    rw (octet_is c.1) (through _ _ (next_octet_at c.1) _ _ (λ d. refl))))))
 
-or_seen : (o d : Option (Part × List ℕ)) → seen (option_or o d) ≡ option_or (seen o) (seen d)
+or_seen : (o d : Option (Lexeme × List ℕ)) → scanned_kind (option_or o d) ≡ option_or (scanned_kind o) (scanned_kind d)
 or_seen None d = refl
 or_seen (Some x) d = refl
 
-pub numeral_is : (ts : List ℕ) → numeral_at ts ≡ seen (number_at ts)
+pub numeral_is : (ts : List ℕ) → numeral_at ts ≡ scanned_kind (number_at ts)
 unfolding numeral_at digits_at number_at
 numeral_is ts =
     through _ _ (run_at is_ascii_digit ts) _ _ (λ a.
-    rw (groups_are a.0 a.1, or_seen (hexadecimal_at a.0 a.1) _, or_seen (dotted_at a.0 a.1) _) refl)
+    rw (octets_are a.0 a.1, or_seen (hexadecimal_at a.0 a.1) _, or_seen (dotted_quad_at a.0 a.1) _) refl)

@@ -3,15 +3,15 @@ use Rattle.std.specs.Prelude.{Bool, true, false}
 use Rattle.nft_lexer.specs.declared.fault.LexError.{LexError}
 use Rattle.nft_lexer.specs.declared.fault.LexError.TheVariants as lexical
 use Rattle.nft_parser.specs.declared.fault.TextFault.{TextFault}
-use Rattle.nft_parser.specs.declared.fault.TextFault.TheVariants.{Cutting, Syntax, LeftOut}
+use Rattle.nft_parser.specs.declared.fault.TextFault.TheVariants.{Lexical, Syntax, Unsupported}
 use Rattle.nft_parser.specs.declared.fault.ParseError.{ParseError}
 use Rattle.nft_parser.specs.declared.fault.ParseError.TheVariants.{Refused, Memory}
 
-abbrev pub of_cutting : LexError → ParseError
-of_cutting (lexical.Refused fault) = Refused (Cutting fault)
-of_cutting lexical.Memory = Memory
+abbrev pub of_lex_error : LexError → ParseError
+of_lex_error (lexical.Refused fault) = Refused (Lexical fault)
+of_lex_error lexical.Memory = Memory
 
 -- the fault of tokens that spell no tree, by whether one of their words is left out
 abbrev pub refusal : Bool → TextFault
-refusal true = LeftOut
+refusal true = Unsupported
 refusal false = Syntax

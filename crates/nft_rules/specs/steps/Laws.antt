@@ -2,29 +2,29 @@
 use Rattle.std.proofs.Common.{◌≡◌, ℕ, List, [], ◌∷◌, ◌++◌, true, false, Option, Some, None, inl, inr, refl, sym, ap, subst, ◌∙◌}
 use Rattle.std.specs.Prelude.{codes, option_map}
 use Rattle.std.proofs.lemmas.Option.{same_Some}
-use Rattle.list_laws.specs.Options.{if_found, bind_found}
-use Rattle.nft_lexer.specs.declared.token.Mark.TheVariants.{Semicolon, CloseBrace}
-use Rattle.nft_lexer.specs.Sign.{Sign, newline, mark, word}
+use Rattle.list_laws.specs.Options.{IfSome_cond, IfSome_bind}
+use Rattle.nft_lexer.specs.declared.token.Punctuator.TheVariants.{Semicolon, CloseBrace}
+use Rattle.nft_lexer.specs.Terminal.{Terminal, newline, punctuator, word}
 use Rattle.nft_tree.specs.declared.selector.Selector.{Selector}
 use Rattle.nft_tree.specs.declared.selector.Selector.TheVariants.{MetaMark, CtMark}
 use Rattle.nft_tree.specs.Tree as tree
-use Rattle.nft_tree.specs.Tree.{LookTree, OperandTree, MatchTree, Statement}
-use Rattle.token_reader.specs.Repeats.{stops}
-use Rattle.token_reader.specs.Grammar.{Front, line, this_mark, stands, Grammar}
+use Rattle.nft_tree.specs.Tree.{MapLookupTree, OperandTree, MatchTree, Statement}
+use Rattle.token_reader.specs.Repeats.{is_rule_end}
+use Rattle.token_reader.specs.Grammar.{Lookahead, line, this_punctuator, begins_with, Grammar}
 use Rattle.token_reader.specs.steps.Reading.{word_at}
-use Rattle.token_reader.specs.steps.Lawful.{Lawful, stands_apart, neither, begins, lawful_keyword, lawful_sign, lawful_number, lawful_address, lawful_string, lawful_then, lawful_after, lawful_either, lawful_first, lawful_maybe, lawful_many, lawful_made, lawful_named}
+use Rattle.token_reader.specs.steps.Lawful.{Lawful, begins_with_apart, neither, begins, lawful_keyword, lawful_punctuation, lawful_number, lawful_address, lawful_string, lawful_then, lawful_after, lawful_either, lawful_first, lawful_maybe, lawful_many, lawful_made, lawful_named}
 use Rattle.nft_expressions.specs.Selectors.{selector, selectors, is_word_for}
 use Rattle.nft_expressions.specs.steps.SelectorLaws.{lawful_selector}
 use Rattle.nft_expressions.specs.Elements.{range, comment, verdict, elements, set_ref, pairs, map_ref}
 use Rattle.nft_expressions.specs.steps.Laws.{lawful_comment, lawful_verdict, lawful_map_ref}
 use Rattle.nft_rules.specs.Matches.{matching, words, flag_list, masked, flag_group, flags, flag, equality}
 use Rattle.nft_rules.specs.steps.MatchLaws.{lawful_matching, match_word}
-use Rattle.nft_rules.specs.Rules.{look, mark_field, operand, ports, to_word, target, nat, counter, log, notrack, set_mark, verdict_map, statement, rule, Stops}
+use Rattle.nft_rules.specs.Rules.{map_lookup, mark_field, operand, ports, to_word, target, nat, counter, log, notrack, set_mark, verdict_map, statement, rule, IsRuleEnd}
 use Rattle.nft_rules.specs.Rules.{ended_rule}
 
-lawful_look : Lawful look
-unfolding look selector map_ref
-lawful_look = lawful_made _ (lawful_then lawful_selector (lawful_after (lawful_keyword _) lawful_map_ref refl) refl)
+lawful_map_lookup : Lawful map_lookup
+unfolding map_lookup selector map_ref
+lawful_map_lookup = lawful_made _ (lawful_then lawful_selector (lawful_after (lawful_keyword _) lawful_map_ref refl) refl)
 
 lawful_operand : Lawful operand
 unfolding operand selector map_ref
@@ -33,24 +33,24 @@ lawful_operand =
 
 lawful_ports : Lawful ports
 unfolding ports
-lawful_ports = lawful_made _ (lawful_then lawful_number (lawful_maybe (lawful_after (lawful_sign _) lawful_number refl) refl) refl)
+lawful_ports = lawful_made _ (lawful_then lawful_number (lawful_maybe (lawful_after (lawful_punctuation _) lawful_number refl) refl) refl)
 
 lawful_to_word : Lawful to_word
 unfolding to_word
 lawful_to_word = lawful_either (lawful_keyword _) (lawful_after (lawful_keyword _) (lawful_keyword _) refl) refl refl
 
-lawful_target : {A B : Type 0} (at_address : ℕ → Option A → B) (looked : LookTree → B) {port : Grammar A} → Lawful port → Lawful (target at_address looked port)
-unfolding look selector
-lawful_target at_address looked port =
-    lawful_either (lawful_made _ (lawful_then lawful_address (lawful_maybe (lawful_after (lawful_sign _) port refl) refl) refl)) (lawful_made looked lawful_look) refl refl
+lawful_target : {A B : Type 0} (at_address : ℕ → Option A → B) (map_looked_up : MapLookupTree → B) {port : Grammar A} → Lawful port → Lawful (target at_address map_looked_up port)
+unfolding map_lookup selector
+lawful_target at_address map_looked_up port =
+    lawful_either (lawful_made _ (lawful_then lawful_address (lawful_maybe (lawful_after (lawful_punctuation _) port refl) refl) refl)) (lawful_made map_looked_up lawful_map_lookup) refl refl
 
 lawful_nat : Lawful nat
-unfolding nat to_word ports look selector
+unfolding nat to_word ports map_lookup selector
 lawful_nat =
     lawful_either (lawful_made _ (lawful_after (lawful_keyword _) (lawful_after lawful_to_word (lawful_target _ _ lawful_ports) refl) refl))
     (lawful_either (lawful_made _ (lawful_after (lawful_keyword _) (lawful_after lawful_to_word (lawful_target _ _ lawful_number) refl) refl))
-    (lawful_either (lawful_made _ (lawful_after (lawful_keyword _) (lawful_maybe (lawful_after (lawful_keyword _) (lawful_after (lawful_sign _) lawful_ports refl) refl) refl) refl))
-    (lawful_made _ (lawful_after (lawful_keyword _) (lawful_maybe (lawful_after (lawful_keyword _) (lawful_after (lawful_sign _) lawful_number refl) refl) refl) refl))
+    (lawful_either (lawful_made _ (lawful_after (lawful_keyword _) (lawful_maybe (lawful_after (lawful_keyword _) (lawful_after (lawful_punctuation _) lawful_ports refl) refl) refl) refl))
+    (lawful_made _ (lawful_after (lawful_keyword _) (lawful_maybe (lawful_after (lawful_keyword _) (lawful_after (lawful_punctuation _) lawful_number refl) refl) refl) refl))
     refl refl) refl refl) refl refl
 
 lawful_counter : Lawful counter
@@ -77,13 +77,13 @@ unfolding verdict_map selector map_ref
 lawful_verdict_map = lawful_made _ (lawful_then lawful_selector (lawful_after (lawful_keyword _) lawful_map_ref refl) refl)
 
 -- one selector stands in front, and one thing behind it
-one_selector : (s t : Selector) (from a b : List Sign) → selector.spells s from a → selector.spells t from b → a ≡ b
+one_selector : (s t : Selector) (from a b : List Terminal) → selector.spells s from a → selector.spells t from b → a ≡ b
 unfolding selector
 one_selector s t from a b e f =
     let same = sym (lawful_selector.only s from a e refl) ∙ lawful_selector.only t from b f refl in
-    ap (λ (x : Selector × List Sign). x.1) (same_Some (s, a) (t, b) same)
+    ap (λ (x : Selector × List Terminal). x.1) (same_Some (s, a) (t, b) same)
 
-not_both : (x y : Statement) (from to mid : List Sign) → verdict_map.spells x from to → set_mark.spells y from mid → ⊥
+not_both : (x y : Statement) (from to mid : List Terminal) → verdict_map.spells x from to → set_mark.spells y from mid → ⊥
 unfolding verdict_map set_mark
 not_both x y from to mid (v, is, (a, ev, (b, vmap, em))) (w, same, (c, es, (d, set, eo))) =
     let behind : word (codes "vmap") ∷ b ≡ word (codes "set") ∷ d = sym vmap ∙ one_selector v.0 w.0 from a c ev es ∙ set in
@@ -95,15 +95,15 @@ no_word MetaMark o x e fits = absurd cc
 no_word CtMark o x e fits = absurd cc
 no_word s o x e fits = absurd cc
 
-no_set_mark : (m : MatchTree) (y : Statement) (from to mid : List Sign) → matching.spells m from to → stands matching.follow to ≡ false → set_mark.spells y from mid → ⊥
+no_set_mark : (m : MatchTree) (y : Statement) (from to mid : List Terminal) → matching.spells m from to → begins_with matching.follow to ≡ false → set_mark.spells y from mid → ⊥
 unfolding set_mark
 no_set_mark m y from to mid e none ((s, o), same, (a, es, (b, set, eo))) =
-    no_word s o y same (match_word m from to e none s (codes "set") b (subst (λ (r : List Sign). selector.spells s from r) set es)).0
+    no_word s o y same (match_word m from to e none s (codes "set") b (subst (λ (r : List Terminal). selector.spells s from r) set es)).0
 
-no_verdict_map : (m : MatchTree) (y : Statement) (from to mid : List Sign) → matching.spells m from to → stands matching.follow to ≡ false → verdict_map.spells y from mid → ⊥
+no_verdict_map : (m : MatchTree) (y : Statement) (from to mid : List Terminal) → matching.spells m from to → begins_with matching.follow to ≡ false → verdict_map.spells y from mid → ⊥
 unfolding verdict_map map_ref
 no_verdict_map m y from to mid e none ((s, map), same, (a, es, (b, vmap, em))) =
-    let plain = (match_word m from to e none s (codes "vmap") b (subst (λ (r : List Sign). selector.spells s from r) vmap es)).1 in
+    let plain = (match_word m from to e none s (codes "vmap") b (subst (λ (r : List Terminal). selector.spells s from r) vmap es)).1 in
     let stood = begins map_ref lawful_map_ref refl map b mid em in
     absurd (cc (plain, stood))
 
@@ -125,7 +125,7 @@ lawful_statement =
     refl refl) refl refl) refl refl) refl refl) refl refl
 
 -- a statement begins with a word
-pub no_statement : (ts : List Sign) → word_at ts ≡ None → statement.read ts ≡ None
+pub no_statement : (ts : List Terminal) → word_at ts ≡ None → statement.read ts ≡ None
 unfolding statement counter log notrack verdict nat set_mark verdict_map selector matching
 no_statement (word w ∷ ts) none = absurd cc
 no_statement ts none = refl
@@ -133,24 +133,24 @@ no_statement ts none = refl
 -- ---- rules
 
 lawful_unended : Lawful rule
-unfolding rule statement comment counter log notrack verdict nat set_mark verdict_map operand to_word ports look selector selectors map_ref pairs matching words flag_list masked flag_group flags flag equality range set_ref elements
+unfolding rule statement comment counter log notrack verdict nat set_mark verdict_map operand to_word ports map_lookup selector selectors map_ref pairs matching words flag_list masked flag_group flags flag equality range set_ref elements
 lawful_unended = lawful_made _ (lawful_then lawful_statement (lawful_then (lawful_many lawful_statement refl refl) lawful_comment refl) refl)
 
 -- what stops a rule
-abbrev stop_front : List Front
-stop_front = line ∷ this_mark Semicolon ∷ this_mark CloseBrace ∷ []
+abbrev rule_end_lookaheads : List Lookahead
+rule_end_lookaheads = line ∷ this_punctuator Semicolon ∷ this_punctuator CloseBrace ∷ []
 
-stop_stands : (ts : List Sign) → Stops ts → stands stop_front ts ≡ true
-stop_stands [] e = absurd cc
-stop_stands (newline ∷ ts) e = refl
-stop_stands (mark Semicolon ∷ ts) e = refl
-stop_stands (mark CloseBrace ∷ ts) e = refl
-stop_stands ts e = absurd cc
+rule_end_begins : (ts : List Terminal) → IsRuleEnd ts → begins_with rule_end_lookaheads ts ≡ true
+rule_end_begins [] e = absurd cc
+rule_end_begins (newline ∷ ts) e = refl
+rule_end_begins (punctuator Semicolon ∷ ts) e = refl
+rule_end_begins (punctuator CloseBrace ∷ ts) e = refl
+rule_end_begins ts e = absurd cc
 
 pub lawful_rule : Lawful ended_rule
-unfolding ended_rule rule statement comment counter log notrack verdict nat set_mark verdict_map operand to_word ports look selector selectors map_ref pairs matching words flag_list masked flag_group flags flag equality range set_ref elements
+unfolding ended_rule rule statement comment counter log notrack verdict nat set_mark verdict_map operand to_word ports map_lookup selector selectors map_ref pairs matching words flag_list masked flag_group flags flag equality range set_ref elements
 lawful_rule = record {
-  found = λ ts. bind_found _ (rule.read ts) _ (lawful_unended.found ts) (λ r e. if_found _ (stops r.1) r (λ stop. (e, stop)));
-  only = λ r from to e none. rw (lawful_unended.only r from to e.0 (stands_apart rule.follow stop_front to refl (stop_stands to e.1)), e.1) refl;
+  found = λ ts. IfSome_bind _ (rule.read ts) _ (lawful_unended.found ts) (λ r e. IfSome_cond _ (is_rule_end r.1) r (λ stop. (e, stop)));
+  only = λ r from to e none. rw (lawful_unended.only r from to e.0 (begins_with_apart rule.follow rule_end_lookaheads to refl (rule_end_begins to e.1)), e.1) refl;
   front = λ r from to e. lawful_unended.front r from to e.0;
 }

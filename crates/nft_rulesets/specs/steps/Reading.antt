@@ -1,7 +1,7 @@
 -- Parts of which only the reading is told, for the code that takes any.
 use Rattle.std.specs.Prelude.{List, [], Option, false}
-use Rattle.nft_lexer.specs.Sign.{Sign}
+use Rattle.nft_lexer.specs.Terminal.{Terminal}
 use Rattle.token_reader.specs.Grammar.{Grammar}
 
-abbrev pub read_by : {A : Type 0} → (List Sign → Option (A × List Sign)) → Grammar A
+abbrev pub read_by : {A : Type 0} → (List Terminal → Option (A × List Terminal)) → Grammar A
 read_by read = record { spells = λ x from to. ⊥; read = read; first = []; follow = []; empty = false }

@@ -1,7 +1,7 @@
 -- What the system's own files promise of a call.
 use Rattle.std.specs.Prelude.{ℕ, List, Option, Some, None, Ok, Err, IfSome}
-use Rattle.engine.specs.Judged.{Judged, Misjudged}
-use Rattle.engine.specs.Meaning.{Wrote}
+use Rattle.engine.specs.Judged.{Judged, JudgeRefuses}
+use Rattle.engine.specs.Meaning.{WroteOutputs}
 use Rattle.engine.specs.Refusals.{Refuses}
 use Rattle.program.specs.Calls.{Call, run, judge}
 
@@ -12,11 +12,11 @@ Reported contents None Holds = (report : Option (List ℕ)) × (report' : Option
 Reported contents (Some file) Holds = Holds (contents file.0) (contents file.1)
 
 -- a run and a judgement do what the engine promises; of the other calls nothing is known
-abbrev pub Promised : {I O : Type 0} → (I → Option (List ℕ)) → (O → Option (List ℕ)) → Call I O → Type 0
-Promised remaining contents (run _ rules box input _ output output' report traced (Ok torn)) =
+abbrev pub IsGuaranteed : {I O : Type 0} → (I → Option (List ℕ)) → (O → Option (List ℕ)) → Call I O → Type 0
+IsGuaranteed remaining contents (run _ rules box input _ output output' report traced (Ok torn)) =
     IfSome (remaining input) (λ capture. (count : ℕ) × Reported contents report
-    (Wrote rules box capture traced count torn (contents output) (contents output')))
-Promised remaining contents (run _ rules box input _ _ _ _ _ (Err fault)) = Refuses rules box (remaining input) fault
-Promised remaining contents (judge rules box (Ok counts)) = Judged rules box counts
-Promised remaining contents (judge rules box (Err fault)) = Misjudged rules box fault
-Promised _ _ _ = Unit {0}
+    (WroteOutputs rules box capture traced count torn (contents output) (contents output')))
+IsGuaranteed remaining contents (run _ rules box input _ _ _ _ _ (Err fault)) = Refuses rules box (remaining input) fault
+IsGuaranteed remaining contents (judge rules box (Ok counts)) = Judged rules box counts
+IsGuaranteed remaining contents (judge rules box (Err fault)) = JudgeRefuses rules box fault
+IsGuaranteed _ _ _ = Unit {0}

@@ -1,12 +1,12 @@
 -- No number of a report comes near its greatest.
 use Rattle.std.specs.Prelude.{◌≡◌, ℕ, ◌+◌, ◌*◌, ◌^◌, ◌≤◌, List, Some, slice_index}
-use Rattle.rule_meaning.specs.declared.event.Place.{Place}
+use Rattle.rule_meaning.specs.declared.event.StatementPosition.{StatementPosition}
 use Rattle.report.specs.declared.tallies.Tally.{Tally}
-use Rattle.report.specs.Standing.{Tallies, tally_at}
+use Rattle.report.specs.Representing.{Tallies, tally_at}
 
 -- each counter is within these bounds
 abbrev pub AllWithin : ℕ → ℕ → Tallies → Type 0
-AllWithin packets bytes tallies = (at : Place) (tally : Tally) → tally_at tallies at ≡ Some tally → (tally.packets ≤ packets) × (tally.bytes ≤ bytes)
+AllWithin packets bytes tallies = (at : StatementPosition) (tally : Tally) → tally_at tallies at ≡ Some tally → (tally.packets ≤ packets) × (tally.bytes ≤ bytes)
 
 -- so many records, each of fewer than 2^64 events and 2^16 bytes, lead no further
 pub record IsBounded (records passed local : ℕ) (dropped : List ℕ) (begun : ℕ) (tallies : Tallies) : Type 0 where

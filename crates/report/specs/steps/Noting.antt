@@ -4,15 +4,15 @@ use Rattle.std.specs.Option.{option_to_list}
 use Rattle.std.specs.List.{flat_map}
 use Rattle.rule_meaning.specs.declared.event.Event.{Event}
 use Rattle.rule_meaning.specs.declared.event.Event.TheVariants as events
-use Rattle.story.specs.declared.outcome.Outcome.{Outcome}
+use Rattle.history.specs.declared.outcome.Outcome.{Outcome}
 use Rattle.report.specs.declared.notes.Note.{Note}
 use Rattle.report.specs.declared.notes.Note.TheVariants as notes
 
 -- what is noted of an event of entry n: what is logged; and what was decided, where it is traced
 abbrev pub noted_event : Bool → ℕ → Event → Option Note
 noted_event trace n (events.Logged at) = Some (notes.Logged n at)
-noted_event trace n (events.Took rule decision) = cond trace (Some (notes.Took n rule decision)) None
-noted_event trace n (events.Closed chain policy) = cond trace (Some (notes.Closed n chain policy)) None
+noted_event trace n (events.TookVerdict rule verdict) = cond trace (Some (notes.TookVerdict n rule verdict)) None
+noted_event trace n (events.TookPolicy chain policy) = cond trace (Some (notes.TookPolicy n chain policy)) None
 noted_event trace n (events.Counted at) = None
 noted_event trace n (events.Marked field value) = None
 noted_event trace n events.Untracked = None

@@ -2,12 +2,12 @@
 use Rattle.std.specs.Prelude.{ℕ, zero, suc, ◌+◌, ◌-◌, ◌^◌, min, List, [], ◌∷◌, map, Option, Some, None, unwrap_or}
 use Rattle.nft_tree.specs.declared.statement.CounterStart.{CounterStart}
 use Rattle.nft_tree.specs.Tree.{Text, Statement, RuleTree, ChainTree, TableTree}
-use Rattle.nft_tree.specs.Parts.{chains_of, counter_in}
-use Rattle.rule_meaning.specs.declared.event.Place.{Place}
+use Rattle.nft_tree.specs.TableItems.{chains_of, counter_in}
+use Rattle.rule_meaning.specs.declared.event.StatementPosition.{StatementPosition}
 use Rattle.rule_meaning.specs.declared.event.Event.{Event}
 use Rattle.rule_meaning.specs.declared.event.Event.TheVariants as events
 use Rattle.report.specs.declared.tallies.Tally.{Tally}
-use Rattle.report.specs.Standing.{Tallies}
+use Rattle.report.specs.Representing.{Tallies}
 
 -- ---- before the first record
 
@@ -59,7 +59,7 @@ chain_counted length statement rule = changed_from_one (rule_counted length stat
 abbrev pub table_counted : ℕ → ℕ → ℕ → ℕ → List (List (List Tally)) → List (List (List Tally))
 table_counted length statement rule chain = changed (chain_counted length statement rule) chain
 
-abbrev pub counted : ℕ → Place → Tallies → Tallies
+abbrev pub counted : ℕ → StatementPosition → Tallies → Tallies
 counted length at = changed (table_counted length at.statement at.rule.rule at.rule.chain) at.rule.table
 
 abbrev pub counted_event : ℕ → Event → Tallies → Tallies
@@ -67,8 +67,8 @@ counted_event length (events.Counted at) tallies = counted length at tallies
 counted_event length (events.Logged at) tallies = tallies
 counted_event length (events.Marked field value) tallies = tallies
 counted_event length events.Untracked tallies = tallies
-counted_event length (events.Took rule decision) tallies = tallies
-counted_event length (events.Closed chain policy) tallies = tallies
+counted_event length (events.TookVerdict rule verdict) tallies = tallies
+counted_event length (events.TookPolicy chain policy) tallies = tallies
 
 -- after these events, in their order
 abbrev pub counted_all : ℕ → List Event → Tallies → Tallies

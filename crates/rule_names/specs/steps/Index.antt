@@ -2,7 +2,7 @@
 use Rattle.std.specs.Prelude.{◌≡◌, ℕ, Bool, true, false, List, [], ◌∷◌, ◌++◌, Option, Some, None, map, slice_get}
 use Rattle.std.specs.Borrow.{Bor}
 use Rattle.nft_tree.specs.Tree.{Text}
-use Rattle.rule_names.specs.Names.{Repeats}
+use Rattle.rule_names.specs.Names.{HasDuplicate}
 
 -- the bytes behind each reference
 abbrev pub texts : List (Bor Text) → List Text
@@ -10,10 +10,10 @@ texts names = map (λ n. n.now) names
 
 -- the names are those of before and one more, no two the same, if that one is new
 abbrev pub IsAdded : List Text → Text → List Text → Bool → Type 0
-IsAdded old name new true = (new ≡ old ++ name ∷ []) × (Repeats new → ⊥)
-IsAdded old name new false = Repeats (old ++ name ∷ [])
+IsAdded old name new true = (new ≡ old ++ name ∷ []) × (HasDuplicate new → ⊥)
+IsAdded old name new false = HasDuplicate (old ++ name ∷ [])
 
 -- what stands at the place of a name
-abbrev pub at_place : {X : Type 0} → List X → Option ℕ → Option X
-at_place xs None = None
-at_place xs (Some i) = slice_get xs i
+abbrev pub at_index : {X : Type 0} → List X → Option ℕ → Option X
+at_index xs None = None
+at_index xs (Some i) = slice_get xs i

@@ -3,39 +3,39 @@ use Rattle.std.specs.Prelude.{◌≡◌, ◌⊎◌, Bool, true, false, List, map
 use Rattle.std.specs.Borrow.{Bor}
 use Rattle.std.specs.List.{filter_map}
 use Rattle.nft_tree.specs.Tree.{Text, ItemTree, TableTree, chain_tree, set_tree, map_tree}
-use Rattle.nft_tree.specs.Parts.{chain_in, set_in, map_in}
-use Rattle.rule_names.specs.Names.{Repeats, chain_names, set_and_map_names, set_or_map_name}
+use Rattle.nft_tree.specs.TableItems.{chain_in, set_in, map_in}
+use Rattle.rule_names.specs.Names.{HasDuplicate, chain_names, set_and_map_names, set_or_map_name}
 use Rattle.rule_names.specs.declared.table.NamedItems.{NamedItems}
 
 -- no name stands twice in the table
-pub record IsApart (t : TableTree) : Type 0 where
-  pub chains_apart : Repeats (chain_names t) → ⊥
-  pub sets_and_maps_apart : Repeats (set_and_map_names t) → ⊥
+pub record HasUniqueNames (t : TableTree) : Type 0 where
+  pub chains_apart : HasDuplicate (chain_names t) → ⊥
+  pub sets_and_maps_apart : HasDuplicate (set_and_map_names t) → ⊥
 
 -- these are the items of one kind, and their names, no two the same
 pub record AreNamed {T X : Type 0} (view : T → X) (name_of : X → Text) (xs : List X) (all : List (Bor T)) (names : List Text) : Type 0 where
   pub are : map (λ x. view x.now) all ≡ xs
   pub named : names ≡ map name_of xs
-  pub apart : Repeats (map name_of xs) → ⊥
+  pub apart : HasDuplicate (map name_of xs) → ⊥
 
 -- these are the chains, the sets and the maps among the items, and the names of each
-pub record Holds (items : List ItemTree) (n : NamedItems) : Type 0 where
+pub record Represents (items : List ItemTree) (n : NamedItems) : Type 0 where
   pub chains : AreNamed chain_tree (λ c. c.name) (filter_map chain_in items) n.chains.all.items n.chains.names
   pub sets : AreNamed set_tree (λ s. s.name) (filter_map set_in items) n.sets.all.items n.sets.names
   pub maps : AreNamed map_tree (λ m. m.name) (filter_map map_in items) n.maps.all.items n.maps.names
   pub both : n.sets_and_maps ≡ filter_map set_or_map_name items
-  pub both_apart : Repeats (filter_map set_or_map_name items) → ⊥
+  pub both_apart : HasDuplicate (filter_map set_or_map_name items) → ⊥
 
 -- a name stands twice among the items
-abbrev pub RepeatsIn : List ItemTree → Type 0
-RepeatsIn items = Repeats (map (λ c. c.name) (filter_map chain_in items)) ⊎ Repeats (filter_map set_or_map_name items)
+abbrev pub HasDuplicateIn : List ItemTree → Type 0
+HasDuplicateIn items = HasDuplicate (map (λ c. c.name) (filter_map chain_in items)) ⊎ HasDuplicate (filter_map set_or_map_name items)
 
-abbrev pub HoldsOrRepeats : List ItemTree → NamedItems → Bool → Type 0
-HoldsOrRepeats items n true = Holds items n
-HoldsOrRepeats items n false = RepeatsIn items
+abbrev pub RepresentsOrHasDuplicate : List ItemTree → NamedItems → Bool → Type 0
+RepresentsOrHasDuplicate items n true = Represents items n
+RepresentsOrHasDuplicate items n false = HasDuplicateIn items
 
 -- a name stands twice within one of the tables
-pub record SomeRepeats (tables : List TableTree) : Type 0 where
+pub record SomeTableHasDuplicate (tables : List TableTree) : Type 0 where
   pub table : TableTree
   pub stands : Contains tables table
-  pub twice : RepeatsIn table.items
+  pub duplicate : HasDuplicateIn table.items

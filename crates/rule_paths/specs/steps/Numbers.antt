@@ -17,7 +17,7 @@ IsEmptyNode (chain ss) = ss ≡ []
 IsEmptyNode (verdict_map es) = es ≡ []
 
 -- the graph is these nodes by their numbers. Two nodes share a number only where both are empty, and what else is in the graph is empty
-pub record StandsFor {K : Type 0} (nodes : K → NodeTree K) (number : K → ℕ) (g : Graph) : Type 0 where
+pub record RepresentsNodes {K : Type 0} (nodes : K → NodeTree K) (number : K → ℕ) (g : Graph) : Type 0 where
   pub node : (a : K) → node_at g (number a) ≡ numbered number (nodes a)
   pub inside : (a : K) → number a < length g
   pub back : (i : ℕ) → ((a : K) × (number a ≡ i)) ⊎ IsEmptyNode (node_at g i)

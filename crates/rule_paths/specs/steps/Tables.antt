@@ -4,28 +4,28 @@ use Rattle.std.specs.declared.alloc.Global.{Global}
 use Rattle.nft_tree.specs.Tree.{TableTree}
 use Rattle.chain_graph.specs.Graph.{HasCycle}
 use Rattle.chain_graph.specs.Nodes.{Graph}
-use Rattle.chain_graph.specs.Known.{stopped, IsCost}
+use Rattle.chain_graph.specs.Measures.{saturated, IsCost}
 use Rattle.rule_paths.specs.Paths.{Caller, CallsOf, node_of, Cycles, HasDeepPath, TooDeep, MisplacedNat, AreCosts, AreAllCosts, table_cost, ruleset_cost, Misplaces}
 use Rattle.rule_paths.specs.Findings.{AreChainCosts, AreChainDepths, numbers_at}
-use Rattle.rule_paths.specs.declared.marks.Translation.{Translation}
-use Rattle.rule_paths.specs.declared.marks.Translation.TheVariants.{Source, Destination}
+use Rattle.rule_paths.specs.declared.marks.NatKind.{NatKind}
+use Rattle.rule_paths.specs.declared.marks.NatKind.TheVariants.{Source, Destination}
 use Rattle.rule_paths.specs.declared.table.TableFindings.{TableFindings}
-use Rattle.rule_paths.specs.steps.Numbers.{StandsFor}
+use Rattle.rule_paths.specs.steps.Numbers.{RepresentsNodes}
 use Rattle.rule_paths.specs.steps.Index.{translates, may_translate, index_of, index_graph}
 
-abbrev pub MisplacesAs : Translation → TableTree → Type 0
+abbrev pub MisplacesAs : NatKind → TableTree → Type 0
 MisplacesAs kind t = Misplaces (translates kind) (may_translate kind) t
 
 abbrev pub MisplacesIn : TableTree → Type 0
 MisplacesIn t = MisplacesAs Source t ⊎ MisplacesAs Destination t
 
 pub record AreTableFindings (t : TableTree) (found : TableFindings) : Type 0 where
-  pub stands : StandsFor (node_of t) (index_of t) (index_graph t)
+  pub stands : RepresentsNodes (node_of t) (index_of t) (index_graph t)
   pub has_costs : (cost : ℕ → ℕ) × IsCost (index_graph t) cost
   pub acyclic : HasCycle (CallsOf t) → ⊥
   pub deep : IsTrue found.is_too_deep ↔ HasDeepPath t
   pub nat : IsTrue found.misplaces_nat ↔ MisplacesIn t
-  pub base_cost : (cost : Caller → ℕ) → AreCosts t cost → found.base_cost ≡ stopped (table_cost cost t)
+  pub base_cost : (cost : Caller → ℕ) → AreCosts t cost → found.base_cost ≡ saturated (table_cost cost t)
   pub costs : AreChainCosts t found.costs.items
   pub depths : AreChainDepths t found.depths.items
 
@@ -33,15 +33,15 @@ pub record AreTableFindings (t : TableTree) (found : TableFindings) : Type 0 whe
 pub record HaveCosts (tables : List TableTree) : Type 0 where
   pub costs : Graph → ℕ → ℕ
   pub are : (t : TableTree) → Contains tables t → IsCost (index_graph t) (costs (index_graph t))
-  pub stand : (t : TableTree) → Contains tables t → StandsFor (node_of t) (index_of t) (index_graph t)
+  pub stand : (t : TableTree) → Contains tables t → RepresentsNodes (node_of t) (index_of t) (index_graph t)
 
 -- what is found of the tables so far
-pub record AreFoundSoFar (tables : List TableTree) (is_too_deep misplaces_nat : Bool) (cost : ℕ) (costs depths : List (Vec ℕ Global)) : Type 0 where
+pub record AreFindingsSoFar (tables : List TableTree) (is_too_deep misplaces_nat : Bool) (cost : ℕ) (costs depths : List (Vec ℕ Global)) : Type 0 where
   pub acyclic : Cycles tables → ⊥
   pub deep : IsTrue is_too_deep ↔ TooDeep tables
   pub nat : IsTrue misplaces_nat ↔ MisplacedNat tables
   pub have_costs : HaveCosts tables
-  pub sum : (cost_of : TableTree → Caller → ℕ) → AreAllCosts tables cost_of → cost ≡ stopped (ruleset_cost cost_of tables)
+  pub sum : (cost_of : TableTree → Caller → ℕ) → AreAllCosts tables cost_of → cost ≡ saturated (ruleset_cost cost_of tables)
   pub costs_long : length costs ≡ length tables
   pub chain_costs : (i : ℕ) (t : TableTree) → i < length tables → t ≡ get_or tables i t → AreChainCosts t (numbers_at costs i)
   pub depths_long : length depths ≡ length tables

@@ -1,11 +1,11 @@
 -- Pieces laid over others: at a number that both have, the upper ones' value counts.
 use Rattle.std.specs.Prelude.{◌≡◌, ℕ, ◌+◌, ◌<◌, ◌≤◌, List, [], ◌∷◌, ◌++◌, All}
 use Rattle.set_intervals.specs.declared.range.Range.{Range}
-use Rattle.set_intervals.specs.Pairs.{look}
+use Rattle.set_intervals.specs.Pairs.{first_value}
 
 -- the first pair with a number has the same value in both lists
-abbrev pub SameLooks : {V : Type 0} → List (Range × V) → List (Range × V) → Type 0
-SameLooks {V} xs ys = (key : ℕ) → look xs key ≡ look ys key
+abbrev pub SameFirstValues : {V : Type 0} → List (Range × V) → List (Range × V) → Type 0
+SameFirstValues {V} xs ys = (key : ℕ) → first_value xs key ≡ first_value ys key
 
 -- each range ends before the number
 abbrev pub EndsBefore : {V : Type 0} → List (Range × V) → ℕ → Type 0
@@ -23,5 +23,5 @@ Follows done (p ∷ ps) = EndsBefore done p.0.low × IsRising (p.0.high + 1) ps
 
 -- below the number the new list has the pair behind the old ones, and from it on only the old ones
 pub record AddsBelow {V : Type 0} (old : List (Range × V)) (r : Range) (v : V) (n : ℕ) (new : List (Range × V)) : Type 0 where
-  pub lesser : (key : ℕ) → key < n → look new key ≡ look (old ++ (r, v) ∷ []) key
-  pub others : (key : ℕ) → n ≤ key → look new key ≡ look old key
+  pub lesser : (key : ℕ) → key < n → first_value new key ≡ first_value (old ++ (r, v) ∷ []) key
+  pub others : (key : ℕ) → n ≤ key → first_value new key ≡ first_value old key

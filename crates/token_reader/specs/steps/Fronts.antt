@@ -3,35 +3,35 @@ use Rattle.std.specs.Prelude.{ℕ, List, ◌∷◌, Bool, true, false, ◌==◌}
 use Rattle.std.specs.List.{list_any}
 use Rattle.std.specs.Str.{bytes_eq}
 use denote.Enum.Declared.{tag_of}
-use Rattle.nft_lexer.specs.declared.token.Mark.{Mark}
-use Rattle.nft_lexer.specs.contracts.token.Mark.{the_type}
-use Rattle.nft_lexer.specs.Sign as signs
-use Rattle.nft_lexer.specs.Sign.{Sign}
+use Rattle.nft_lexer.specs.declared.token.Punctuator.{Punctuator}
+use Rattle.nft_lexer.specs.contracts.token.Punctuator.{the_type}
+use Rattle.nft_lexer.specs.Terminal as terminals
+use Rattle.nft_lexer.specs.Terminal.{Terminal}
 
 -- marks by number, to compare them
-abbrev pub place : Mark → ℕ
-place = tag_of the_type
+abbrev pub punctuator_tag : Punctuator → ℕ
+punctuator_tag = tag_of the_type
 
 -- tokens that may stand in front
-pub data Front : Type 0 where
-  line : Front
-  this_mark : Mark → Front
-  this_word : List ℕ → Front
-  any_word : Front
-  any_number : Front
-  any_address : Front
-  any_string : Front
+pub data Lookahead : Type 0 where
+  line : Lookahead
+  this_punctuator : Punctuator → Lookahead
+  this_word : List ℕ → Lookahead
+  any_word : Lookahead
+  any_number : Lookahead
+  any_address : Lookahead
+  any_string : Lookahead
 
-abbrev pub is_front : List Sign → Front → Bool
-is_front (signs.newline ∷ ts) line = true
-is_front (signs.mark n ∷ ts) (this_mark m) = place n == place m
-is_front (signs.word v ∷ ts) (this_word w) = bytes_eq v w
-is_front (signs.word v ∷ ts) any_word = true
-is_front (signs.number n ∷ ts) any_number = true
-is_front (signs.address a ∷ ts) any_address = true
-is_front (signs.string s ∷ ts) any_string = true
-is_front ts f = false
+abbrev pub matches_lookahead : List Terminal → Lookahead → Bool
+matches_lookahead (terminals.newline ∷ ts) line = true
+matches_lookahead (terminals.punctuator n ∷ ts) (this_punctuator m) = punctuator_tag n == punctuator_tag m
+matches_lookahead (terminals.word v ∷ ts) (this_word w) = bytes_eq v w
+matches_lookahead (terminals.word v ∷ ts) any_word = true
+matches_lookahead (terminals.number n ∷ ts) any_number = true
+matches_lookahead (terminals.address a ∷ ts) any_address = true
+matches_lookahead (terminals.string s ∷ ts) any_string = true
+matches_lookahead ts f = false
 
 -- one of these stands in front
-abbrev pub stands : List Front → List Sign → Bool
-stands fs ts = list_any (is_front ts) fs
+abbrev pub begins_with : List Lookahead → List Terminal → Bool
+begins_with fs ts = list_any (matches_lookahead ts) fs

@@ -3,14 +3,14 @@ use Rattle.std.proofs.Common.{◌≡◌, ℕ, zero, suc, ◌<◌, ◌≤◌, tru
 use Rattle.std.proofs.lemmas.Bool.{and_parts, eqb-true}
 use Rattle.std.specs.Prelude.{IfSome, map}
 use Rattle.std.specs.Str.{bytes_eq}
-use Rattle.list_laws.specs.Options.{if_found}
-use Rattle.nft_lexer.specs.declared.token.Mark.{Mark}
-use Rattle.nft_lexer.specs.declared.token.Mark.TheVariants as marks
+use Rattle.list_laws.specs.Options.{IfSome_cond}
+use Rattle.nft_lexer.specs.declared.token.Punctuator.{Punctuator}
+use Rattle.nft_lexer.specs.declared.token.Punctuator.TheVariants as marks
 use Rattle.nft_lexer.specs.declared.token.Token.{Token}
-use Rattle.nft_lexer.specs.Sign.{Sign, newline, mark, word, number, address, string, sign_of, signs, signs_of, spelled}
+use Rattle.nft_lexer.specs.Terminal.{Terminal, newline, punctuator, word, number, address, string, terminal_of, terminals, terminals_of, spelled}
 use Rattle.token_reader.specs.Repeats.{SpellsEnd, EndsCounted, Ends, SomeEnds}
-use Rattle.token_reader.specs.steps.Fronts.{place}
-use Rattle.token_reader.specs.steps.Reading.{after_word, after_mark, after_end, after_ends, word_at, number_at, address_at, string_at, skip_ends}
+use Rattle.token_reader.specs.steps.Fronts.{punctuator_tag}
+use Rattle.token_reader.specs.steps.Reading.{after_word, after_punctuator, after_end, after_ends, word_at, number_at, address_at, string_at, skip_ends}
 
 pub bytes_eq-true : (v w : List ℕ) → bytes_eq v w ≡ true → v ≡ w
 bytes_eq-true [] [] e = refl
@@ -22,90 +22,90 @@ bytes_eq-true (x ∷ xs) (y ∷ ys) e =
     let tail : xs ≡ ys = bytes_eq-true xs ys p.1 in
     cc
 
-nth_mark : List Mark → ℕ → Mark
-nth_mark [] n = marks.Above
-nth_mark (m ∷ ms) zero = m
-nth_mark (m ∷ ms) (suc n) = nth_mark ms n
+nth_punctuator : List Punctuator → ℕ → Punctuator
+nth_punctuator [] n = marks.Above
+nth_punctuator (m ∷ ms) zero = m
+nth_punctuator (m ∷ ms) (suc n) = nth_punctuator ms n
 
-marked : ℕ → Mark
-marked = nth_mark (
+punctuator_of_tag : ℕ → Punctuator
+punctuator_of_tag = nth_punctuator (
     marks.OpenBrace ∷ marks.CloseBrace ∷ marks.OpenParenthesis ∷ marks.CloseParenthesis ∷ marks.Comma ∷ marks.Semicolon ∷ marks.Colon ∷ marks.Dot ∷ marks.Slash ∷ marks.Minus
     ∷ marks.Plus ∷ marks.Equals ∷ marks.At ∷ marks.Ampersand ∷ marks.Bar ∷ marks.EqualTo ∷ marks.NotEqualTo ∷ marks.AtMost ∷ marks.AtLeast ∷ marks.Below ∷ marks.Above ∷ [])
 
-marked-place : (m : Mark) → marked (place m) ≡ m
-unfolding marked nth_mark
-marked-place marks.OpenBrace = refl
-marked-place marks.CloseBrace = refl
-marked-place marks.OpenParenthesis = refl
-marked-place marks.CloseParenthesis = refl
-marked-place marks.Comma = refl
-marked-place marks.Semicolon = refl
-marked-place marks.Colon = refl
-marked-place marks.Dot = refl
-marked-place marks.Slash = refl
-marked-place marks.Minus = refl
-marked-place marks.Plus = refl
-marked-place marks.Equals = refl
-marked-place marks.At = refl
-marked-place marks.Ampersand = refl
-marked-place marks.Bar = refl
-marked-place marks.EqualTo = refl
-marked-place marks.NotEqualTo = refl
-marked-place marks.AtMost = refl
-marked-place marks.AtLeast = refl
-marked-place marks.Below = refl
-marked-place marks.Above = refl
+punctuator_of_tag-punctuator_tag : (m : Punctuator) → punctuator_of_tag (punctuator_tag m) ≡ m
+unfolding punctuator_of_tag nth_punctuator
+punctuator_of_tag-punctuator_tag marks.OpenBrace = refl
+punctuator_of_tag-punctuator_tag marks.CloseBrace = refl
+punctuator_of_tag-punctuator_tag marks.OpenParenthesis = refl
+punctuator_of_tag-punctuator_tag marks.CloseParenthesis = refl
+punctuator_of_tag-punctuator_tag marks.Comma = refl
+punctuator_of_tag-punctuator_tag marks.Semicolon = refl
+punctuator_of_tag-punctuator_tag marks.Colon = refl
+punctuator_of_tag-punctuator_tag marks.Dot = refl
+punctuator_of_tag-punctuator_tag marks.Slash = refl
+punctuator_of_tag-punctuator_tag marks.Minus = refl
+punctuator_of_tag-punctuator_tag marks.Plus = refl
+punctuator_of_tag-punctuator_tag marks.Equals = refl
+punctuator_of_tag-punctuator_tag marks.At = refl
+punctuator_of_tag-punctuator_tag marks.Ampersand = refl
+punctuator_of_tag-punctuator_tag marks.Bar = refl
+punctuator_of_tag-punctuator_tag marks.EqualTo = refl
+punctuator_of_tag-punctuator_tag marks.NotEqualTo = refl
+punctuator_of_tag-punctuator_tag marks.AtMost = refl
+punctuator_of_tag-punctuator_tag marks.AtLeast = refl
+punctuator_of_tag-punctuator_tag marks.Below = refl
+punctuator_of_tag-punctuator_tag marks.Above = refl
 
-pub same_mark : (m n : Mark) → place m ≡ place n → m ≡ n
-same_mark m n e = sym (marked-place m) ∙ ap marked e ∙ marked-place n
+pub same_punctuator : (m n : Punctuator) → punctuator_tag m ≡ punctuator_tag n → m ≡ n
+same_punctuator m n e = sym (punctuator_of_tag-punctuator_tag m) ∙ ap punctuator_of_tag e ∙ punctuator_of_tag-punctuator_tag n
 
-pub word_after : (w : List ℕ) (ts : List Sign) → IfSome (after_word w ts) (λ a. ts ≡ word w ∷ a)
-word_after w (word v ∷ ts) = if_found _ (bytes_eq v w) ts (λ e. ap (λ (t : List ℕ). word t ∷ ts) (bytes_eq-true v w e))
+pub word_after : (w : List ℕ) (ts : List Terminal) → IfSome (after_word w ts) (λ a. ts ≡ word w ∷ a)
+word_after w (word v ∷ ts) = IfSome_cond _ (bytes_eq v w) ts (λ e. ap (λ (t : List ℕ). word t ∷ ts) (bytes_eq-true v w e))
 word_after w ts = tt
 
-pub mark_after : (m : Mark) (ts : List Sign) → IfSome (after_mark m ts) (λ a. ts ≡ mark m ∷ a)
-mark_after m (mark n ∷ ts) = if_found _ (place n == place m) ts (λ e. ap (λ (k : Mark). mark k ∷ ts) (same_mark n m (eqb-true _ _ e)))
-mark_after m ts = tt
+pub punctuator_after : (m : Punctuator) (ts : List Terminal) → IfSome (after_punctuator m ts) (λ a. ts ≡ punctuator m ∷ a)
+punctuator_after m (punctuator n ∷ ts) = IfSome_cond _ (punctuator_tag n == punctuator_tag m) ts (λ e. ap (λ (k : Punctuator). punctuator k ∷ ts) (same_punctuator n m (eqb-true _ _ e)))
+punctuator_after m ts = tt
 
-pub word_found : (ts : List Sign) → IfSome (word_at ts) (λ x. ts ≡ word x.0 ∷ x.1)
+pub word_found : (ts : List Terminal) → IfSome (word_at ts) (λ x. ts ≡ word x.0 ∷ x.1)
 word_found (word w ∷ ts) = refl
 word_found ts = tt
 
-pub number_found : (ts : List Sign) → IfSome (number_at ts) (λ x. ts ≡ number x.0 ∷ x.1)
+pub number_found : (ts : List Terminal) → IfSome (number_at ts) (λ x. ts ≡ number x.0 ∷ x.1)
 number_found (number n ∷ ts) = refl
 number_found ts = tt
 
-pub address_found : (ts : List Sign) → IfSome (address_at ts) (λ x. ts ≡ address x.0 ∷ x.1)
+pub address_found : (ts : List Terminal) → IfSome (address_at ts) (λ x. ts ≡ address x.0 ∷ x.1)
 address_found (address n ∷ ts) = refl
 address_found ts = tt
 
-pub string_found : (ts : List Sign) → IfSome (string_at ts) (λ x. ts ≡ string x.0 ∷ x.1)
+pub string_found : (ts : List Terminal) → IfSome (string_at ts) (λ x. ts ≡ string x.0 ∷ x.1)
 string_found (string s ∷ ts) = refl
 string_found ts = tt
 
 -- the signs of tokens are those of the tokens as they are spelled
-pub signs_of-spelled : (tokens : List Token) → signs_of (map spelled tokens) ≡ signs tokens
-signs_of-spelled [] = refl
-signs_of-spelled (t ∷ ts) = ap (λ (others : List Sign). sign_of t.kind t.text.now ∷ others) (signs_of-spelled ts)
+pub terminals_of-spelled : (tokens : List Token) → terminals_of (map spelled tokens) ≡ terminals tokens
+terminals_of-spelled [] = refl
+terminals_of-spelled (t ∷ ts) = ap (λ (others : List Terminal). terminal_of t.kind t.text.now ∷ others) (terminals_of-spelled ts)
 
 -- ---- ends
 
 -- no end stands in front
-abbrev pub NoEnd : List Sign → Type 0
+abbrev pub NoEnd : List Terminal → Type 0
 NoEnd ts = after_end ts ≡ None
 
 -- what stands in front is an end, or no end is skipped there
-ends_or_not : (ts : List Sign) → ((a : List Sign) × SpellsEnd ts a × (after_end ts ≡ Some a) × (skip_ends ts ≡ skip_ends a)) ⊎ ((after_end ts ≡ None) × (skip_ends ts ≡ ts))
+ends_or_not : (ts : List Terminal) → ((a : List Terminal) × SpellsEnd ts a × (after_end ts ≡ Some a) × (skip_ends ts ≡ skip_ends a)) ⊎ ((after_end ts ≡ None) × (skip_ends ts ≡ ts))
 ends_or_not (newline ∷ ts) = inl (ts, inl refl, refl, refl)
-ends_or_not (mark marks.Semicolon ∷ ts) = inl (ts, inr refl, refl, refl)
+ends_or_not (punctuator marks.Semicolon ∷ ts) = inl (ts, inr refl, refl, refl)
 ends_or_not ts = inr (refl, refl)
 
-end_only : (from to : List Sign) → SpellsEnd from to → (after_end from ≡ Some to) × (skip_ends from ≡ skip_ends to) × (length from ≡ suc (length to))
+end_only : (from to : List Terminal) → SpellsEnd from to → (after_end from ≡ Some to) × (skip_ends from ≡ skip_ends to) × (length from ≡ suc (length to))
 end_only from to (inl e) = rw e (refl, refl, refl)
 end_only from to (inr e) = rw e (refl, refl, refl)
 
 -- the ends that are skipped are any number of ends
-skipped_in : (n : ℕ) (ts : List Sign) → length ts ≤ n → Ends ts (skip_ends ts)
+skipped_in : (n : ℕ) (ts : List Terminal) → length ts ≤ n → Ends ts (skip_ends ts)
 skipped_in n [] le = (0, refl)
 skipped_in zero (t ∷ ts) le = absurd (omega arith)
 skipped_in (suc n) (t ∷ ts) le =
@@ -117,43 +117,43 @@ skipped_in (suc n) (t ∷ ts) le =
       | inr s ↦ (0, sym s.1)
     ]
 
-pub ends_found : (ts : List Sign) → Ends ts (skip_ends ts)
+pub ends_found : (ts : List Terminal) → Ends ts (skip_ends ts)
 ends_found ts = skipped_in (length ts) ts (omega arith)
 
 -- where no end stands, none is skipped
-none_skipped : (ts : List Sign) → NoEnd ts → skip_ends ts ≡ ts
+none_skipped : (ts : List Terminal) → NoEnd ts → skip_ends ts ≡ ts
 none_skipped ts none =
     elim (ends_or_not ts) [
       | inl s ↦
-          let same : ◌≡◌ {A = Option (List Sign)} None (Some s.0) = sym none ∙ s.2 in
+          let same : ◌≡◌ {A = Option (List Terminal)} None (Some s.0) = sym none ∙ s.2 in
           absurd cc
       | inr s ↦ s.1
     ]
 
-counted_only : (n : ℕ) (from to : List Sign) → EndsCounted n from to → NoEnd to → skip_ends from ≡ to
+counted_only : (n : ℕ) (from to : List Terminal) → EndsCounted n from to → NoEnd to → skip_ends from ≡ to
 counted_only zero from to s none = ap skip_ends s ∙ none_skipped to none
 counted_only (suc n) from to s none = (end_only from s.0 s.1).1 ∙ counted_only n s.0 to s.2 none
 
 -- any number of ends up to a place where none stands are those that are skipped
-pub ends_only : (from to : List Sign) → Ends from to → NoEnd to → skip_ends from ≡ to
+pub ends_only : (from to : List Terminal) → Ends from to → NoEnd to → skip_ends from ≡ to
 ends_only from to s none = counted_only s.0 from to s.1 none
 
-counted_takes : (n : ℕ) (from to : List Sign) → EndsCounted n from to → length to ≤ length from
+counted_takes : (n : ℕ) (from to : List Terminal) → EndsCounted n from to → length to ≤ length from
 counted_takes zero from to s = omega (arith, ap length s)
 counted_takes (suc n) from to s = omega (arith, (end_only from s.0 s.1).2, counted_takes n s.0 to s.2)
 
-pub ends_takes : (from to : List Sign) → Ends from to → length to ≤ length from
+pub ends_takes : (from to : List Terminal) → Ends from to → length to ≤ length from
 ends_takes from to s = counted_takes s.0 from to s.1
 
-pub some_ends_found : (ts : List Sign) → IfSome (after_ends ts) (λ a. SomeEnds ts a)
+pub some_ends_found : (ts : List Terminal) → IfSome (after_ends ts) (λ a. SomeEnds ts a)
 some_ends_found ts =
     elim (ends_or_not ts) [
       | inl s ↦ rw s.2 (s.0, s.1, ends_found s.0)
       | inr s ↦ rw s.0 tt
     ]
 
-pub some_ends_only : (from to : List Sign) → SomeEnds from to → NoEnd to → after_ends from ≡ Some to
+pub some_ends_only : (from to : List Terminal) → SomeEnds from to → NoEnd to → after_ends from ≡ Some to
 some_ends_only from to s none = rw ((end_only from s.0 s.1).0, ends_only s.0 to s.2 none) refl
 
-pub some_ends_takes : (from to : List Sign) → SomeEnds from to → length to < length from
+pub some_ends_takes : (from to : List Terminal) → SomeEnds from to → length to < length from
 some_ends_takes from to s = omega (arith, (end_only from s.0 s.1).2, ends_takes s.0 to s.2)

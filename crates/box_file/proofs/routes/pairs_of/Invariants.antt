@@ -1,6 +1,6 @@
 use Rattle.std.proofs.Common.{map, take}
-use Rattle.box_file.specs.steps.Best.{way_tree, GivesFirst}
+use Rattle.box_file.specs.steps.Best.{route_entry, GivesFirst}
 use Rattle.box_file.proofs.routes.pairs_of.Given as goal
 
 abbrev pub invariant-loop-route : goal.invariant-loop-route
-invariant-loop-route l = GivesFirst l.pairs.items (map way_tree (take l.route-index l.routes))
+invariant-loop-route l = GivesFirst l.pairs.items (map route_entry (take l.route-index l.routes))

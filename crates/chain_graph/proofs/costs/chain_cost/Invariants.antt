@@ -1,11 +1,11 @@
 use Rattle.std.proofs.Common.{◌≡◌, ◌+◌, ◌-◌, ◌≤◌, get_or, ◌^◌, drop}
 use Rattle.chain_graph.specs.Graph.{chain_cost}
-use Rattle.chain_graph.specs.Known.{stopped}
+use Rattle.chain_graph.specs.Measures.{saturated}
 use Rattle.chain_graph.specs.Nodes.{statements_of}
 use Rattle.chain_graph.proofs.costs.chain_cost.Given as goal
 
 abbrev pub invariant-loop-calls : goal.invariant-loop-calls
 invariant-loop-calls l = record {
   small : l.sum ≤ 2 ^ 64 - 1;
-  rest : stopped (l.sum + chain_cost (λ c. get_or l.costs c 0) (statements_of (drop l.calls-index l.statements))) ≡ stopped (chain_cost (λ c. get_or l.costs c 0) (statements_of l.statements));
+  rest : saturated (l.sum + chain_cost (λ c. get_or l.costs c 0) (statements_of (drop l.calls-index l.statements))) ≡ saturated (chain_cost (λ c. get_or l.costs c 0) (statements_of l.statements));
 }

@@ -2,7 +2,7 @@ use Rattle.std.proofs.Common.{◌≡◌, ℕ, ◌<◌, length, get_or, sym, ap, 
 use Rattle.std.specs.Prelude.{Contains}
 use Rattle.std.proofs.lemmas.List.{get_or_default}
 use Rattle.chain_graph.specs.Graph.{node_cost}
-use Rattle.chain_graph.specs.Known.{stopped}
+use Rattle.chain_graph.specs.Measures.{saturated}
 use Rattle.chain_graph.specs.Nodes.{node_of, graph_of, InRange}
 use Rattle.chain_graph.proofs.CostLaws.{cost-now}
 use Rattle.list_laws.specs.Elements.{set-known}
@@ -27,9 +27,9 @@ loop-node-preserved c =
     let read = sym (node-is c.args.nodes.now node c.index-nodes-node.result below c.index-nodes-node.is) in
     record {
       long = length-set c.loop-node.costs.items node c.node_cost-cost.result ∙ c.loop-node.invariant.long;
-      known = λ cost of x k. set-known (λ x v. v ≡ stopped (cost x)) c.args.order.now c.loop-node.costs.items i node c.node_cost-cost.result 0 inside is (omega arith)
+      known = λ cost of x k. set-known (λ x v. v ≡ saturated (cost x)) c.args.order.now c.loop-node.costs.items i node c.node_cost-cost.result 0 inside is (omega arith)
           (cost-now (graph_of c.args.nodes.now) c.args.order.now c.loop-node.costs.items i node c.node_cost-cost.result cost c.requires.order inside is of (omega arith)
-          (c.node_cost-cost.ensures ∙ ap (λ xs. stopped (node_cost (λ k. get_or xs k 0) (node_of c.index-nodes-node.result))) c.deref.ensures.value ∙ ap (λ n. stopped (node_cost (λ k. get_or c.loop-node.costs.items k 0) n)) read)
+          (c.node_cost-cost.ensures ∙ ap (λ xs. saturated (node_cost (λ k. get_or xs k 0) (node_of c.index-nodes-node.result))) c.deref.ensures.value ∙ ap (λ n. saturated (node_cost (λ k. get_or c.loop-node.costs.items k 0) n)) read)
           (c.loop-node.invariant.known cost of))
           (c.loop-node.invariant.known cost of) x k;
     }

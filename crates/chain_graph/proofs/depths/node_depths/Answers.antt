@@ -1,7 +1,7 @@
 use Rattle.std.proofs.Common.{ℕ, ◌<◌, length, get_or, sym, ap, subst, ◌∙◌, arith, length-set, take_all}
 use Rattle.std.specs.Prelude.{Contains}
 use Rattle.std.proofs.lemmas.List.{get_or_default}
-use Rattle.chain_graph.specs.Known.{IsDepth}
+use Rattle.chain_graph.specs.Measures.{IsDepth}
 use Rattle.chain_graph.specs.Graph.{calls_in}
 use Rattle.chain_graph.specs.Nodes.{node_of, graph_of, InRange}
 use Rattle.chain_graph.specs.steps.Passes.{deepest}

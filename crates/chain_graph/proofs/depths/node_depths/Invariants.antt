@@ -1,6 +1,6 @@
 use Rattle.std.proofs.Common.{◌≡◌, ℕ, length, get_or, take}
 use Rattle.std.specs.Prelude.{Contains}
-use Rattle.chain_graph.specs.Known.{IsDepth}
+use Rattle.chain_graph.specs.Measures.{IsDepth}
 use Rattle.chain_graph.specs.Nodes.{graph_of}
 use Rattle.chain_graph.proofs.depths.node_depths.Given as goal
 

@@ -1,7 +1,7 @@
 use Rattle.std.proofs.Common.{◌≡◌, ℕ, List, [], ◌∷◌, length, sym, refl, ap, ◌∙◌, Vec, Global, arith, replicate, map, take_all}
 use Rattle.chain_graph.specs.declared.search.Mark.TheVariants.{New}
 use Rattle.chain_graph.specs.steps.Targets.{rows_of}
-use Rattle.chain_graph.proofs.EndLaws.{fresh}
+use Rattle.chain_graph.proofs.OrderLaws.{fresh}
 use Rattle.chain_graph.proofs.ReadLaws.{rows-long}
 use Rattle.chain_graph.proofs.search.start.Goals as goal
 

@@ -1,15 +1,15 @@
 use Rattle.std.proofs.Common.{◌≢◌, get_or}
 use Rattle.chain_graph.specs.declared.search.Mark.TheVariants.{New}
-use Rattle.chain_graph.specs.steps.Search.{IsSearch, effort, KeepsMet}
+use Rattle.chain_graph.specs.steps.Search.{IsSearch, remaining_work, KeepsVisited}
 use Rattle.chain_graph.specs.steps.Targets.{rows_of}
 use Rattle.chain_graph.proofs.search.visit.Given as goal
 
 abbrev pub invariant-loop-last : goal.invariant-loop-last
 invariant-loop-last l = record {
   search : IsSearch (rows_of l.targets) l.search;
-  root_met : get_or l.search.marks.items l.root New ≢ New;
-  met : KeepsMet l.fn.search.marks.items l.search.marks.items;
+  root_visited : get_or l.search.marks.items l.root New ≢ New;
+  visited : KeepsVisited l.fn.search.marks.items l.search.marks.items;
 }
 
 abbrev pub decreases-loop-last : goal.decreases-loop-last
-decreases-loop-last l = effort l.search
+decreases-loop-last l = remaining_work l.search

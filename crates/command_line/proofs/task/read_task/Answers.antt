@@ -1,5 +1,5 @@
 use Rattle.std.proofs.Common.{◌≡◌, true, map}
-use Rattle.command_line.proofs.Reading.{asks_told, given_as, handed_on, has_read, has_task, refused}
+use Rattle.command_line.proofs.Reading.{task_requested, given_as, handed_on, has_read, has_task, refused}
 use Rattle.clap.specs.Words.{found_of, kind_of}
 use Rattle.clap.specs.declared.error.kind.ErrorKind.TheVariants.{OutOfMemory}
 use Rattle.command_line.specs.CommandLine.{is_well_formed}
@@ -11,9 +11,9 @@ task_of-requires c =
     has_task _ _ _ (has_read _ (map (λ w. w.now) c.args.words.now) c.in_ok-matches.matches c.unwrap.result.0.now _ c.in_ok-program.ensures c.in_ok-matches.ensures.kinds c.in_ok-matches.ensures.matches
     (given_as c.subcommand.result c.unwrap.result _ _ c.unwrap.ensures c.subcommand.ensures.name c.subcommand.ensures.rows))
 
-pub returns-clause-asked : goal.returns-clause-asked
-returns-clause-asked c =
-    asks_told _ c.unwrap.result.0.now (found_of c.unwrap.result.1.now) c.task_of.result
+pub returns-clause-requested : goal.returns-clause-requested
+returns-clause-requested c =
+    task_requested _ c.unwrap.result.0.now (found_of c.unwrap.result.1.now) c.task_of.result
     (has_read _ _ c.in_ok-matches.matches c.unwrap.result.0.now _ c.in_ok-program.ensures c.in_ok-matches.ensures.kinds c.in_ok-matches.ensures.matches
     (given_as c.subcommand.result c.unwrap.result _ _ c.unwrap.ensures c.subcommand.ensures.name c.subcommand.ensures.rows))
     c.task_of.ensures

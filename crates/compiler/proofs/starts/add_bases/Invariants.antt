@@ -1,4 +1,4 @@
-use Rattle.nft_tree.specs.Parts.{chains_of}
+use Rattle.nft_tree.specs.TableItems.{chains_of}
 use Rattle.compiler.proofs.StartLaws.{BasesSoFar}
 use Rattle.compiler.proofs.starts.add_bases.Given as goal
 

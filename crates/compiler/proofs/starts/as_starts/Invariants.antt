@@ -1,10 +1,10 @@
 use Rattle.std.proofs.Common.{◌≡◌, map, take}
-use Rattle.compiler.specs.Compiled.{told, told_of}
+use Rattle.compiler.specs.Compiled.{start_head, base_chain_head}
 use Rattle.compiler.specs.steps.Bases.{base}
 use Rattle.compiler.proofs.starts.as_starts.Given as goal
 
 abbrev pub invariant-loop-base : goal.invariant-loop-base
 invariant-loop-base l = record {
-  starts : map told l.starts.items ≡ map told_of (map base (take l.base-index l.bases));
+  starts : map start_head l.starts.items ≡ map base_chain_head (map base (take l.base-index l.bases));
   costs : map (λ s. s.cost) l.starts.items ≡ map (λ b. b.cost) (take l.base-index l.bases);
 }

@@ -1,12 +1,12 @@
 use Rattle.std.proofs.Common.{◌≡◌, ◌-◌, [], ◌∷◌, ◌++◌, ◌∙◌, List, length, take, drop, map, refl, sym, ap, subst, Bor}
 use Rattle.std.specs.List.{list_any}
-use Rattle.list_laws.specs.Lists.{parted}
+use Rattle.list_laws.specs.Lists.{head_and_rest}
 use Rattle.nft_tree.specs.declared.chain.Chain.{Chain}
 use Rattle.nft_tree.specs.Tree.{ChainTree, RuleTree, chain_tree, rule_tree}
-use Rattle.nft_tree.specs.Parts.{chains_of}
-use Rattle.rule_meaning.specs.Runs.{named}
+use Rattle.nft_tree.specs.TableItems.{chains_of}
+use Rattle.rule_meaning.specs.Runs.{table_program}
 use Rattle.filter_vm.specs.declared.code.TableCode.{TableCode}
-use Rattle.compiler.specs.Placed.{RulesAt}
+use Rattle.compiler.specs.CodeLayout.{RulesAt}
 use Rattle.compiler.specs.steps.Adding.{Adds}
 use Rattle.compiler.proofs.AddLaws.{declared_kept, nothing_left, none_later}
 use Rattle.compiler.proofs.TableLaws.{chain_misfits, chain_rules_wrong, types_free, bounds_free, chains_none, chains_more, chains_all}
@@ -25,19 +25,19 @@ loop-rest-preserved c =
     let rest : List (Bor Chain) = c.loop-rest.rest.now in
     let others : List (Bor Chain) = take (length rest - 1) (drop 1 rest) in
     let tree : Bor Chain → ChainTree = λ b. chain_tree b.now in
-    let is : map tree rest ≡ tree c.chain-item.result ∷ map tree others = ap (map tree) (parted rest c.chain-item.result c.in-len1-up.len_at_least c.chain-item.is) in
+    let is : map tree rest ≡ tree c.chain-item.result ∷ map tree others = ap (map tree) (head_and_rest rest c.chain-item.result c.in-len1-up.len_at_least c.chain-item.is) in
     let types = ap (list_any (chain_misfits c.args.names.now)) (sym is) ∙ c.loop-rest.invariant.types in
     let bounds = ap (list_any chain_rules_wrong) (sym is) ∙ c.loop-rest.invariant.bounds in
-    let with_place : TableCode = record { steps = c.loop-rest.code.steps; places = c.push.new.self; lookups = c.loop-rest.code.lookups } in
-    let p = named c.args.plant.now c.args.table c.args.names.now in
-    let number : c.in_ok-short.field-0 ≡ length c.loop-rest.code.places.items = c.in_ok-short.ensures ∙ c.len.ensures ∙ c.loop-rest.code.places.ok.0 in
+    let with_place : TableCode = record { steps = c.loop-rest.code.steps; chain_offsets = c.push.new.self; lookups = c.loop-rest.code.lookups } in
+    let p = table_program c.args.plant.now c.args.table c.args.names.now in
+    let number : c.in_ok-to_u32.field-0 ≡ length c.loop-rest.code.chain_offsets.items = c.in_ok-to_u32.ensures ∙ c.len.ensures ∙ c.loop-rest.code.chain_offsets.ok.0 in
     let here : length c.list.result.now ≡ length c.loop-rest.code.steps.items = ap length c.list.ensures.items in
     let adds = subst (λ n. Adds (λ later at_step. RulesAt p later at_step n 1 (map (λ (r : RuleTree). r.statements) (map rule_tree c.chain-item.result.now.rules.items))) with_place c.add_rules.new.code) number
-    (subst (λ rs. Adds (λ later at_step. RulesAt p later at_step c.in_ok-short.field-0 1 (map (λ (r : RuleTree). r.statements) (map rule_tree rs))) with_place c.add_rules.new.code) c.deref.ensures.value c.in_ok-add_rules.ensures) in
+    (subst (λ rs. Adds (λ later at_step. RulesAt p later at_step c.in_ok-to_u32.field-0 1 (map (λ (r : RuleTree). r.statements) (map rule_tree rs))) with_place c.add_rules.new.code) c.deref.ensures.value c.in_ok-add_rules.ensures) in
     record {
       placed = chains_more p (chains_of c.args.names.now) (map tree rest) (map tree others) (tree c.chain-item.result) c.loop-rest.code with_place c.add_rules.new.code is
-          (c.in_ok-push.ensures.items ∙ ap (λ n. c.loop-rest.code.places.items ++ n ∷ []) here) refl refl adds c.loop-rest.invariant.placed;
-      declared = declared_kept _ _ _ _ c.in_ok-add_rules.ensures.grows.lookups c.loop-rest.invariant.declared;
+          (c.in_ok-push.ensures.items ∙ ap (λ n. c.loop-rest.code.chain_offsets.items ++ n ∷ []) here) refl refl adds c.loop-rest.invariant.placed;
+      declared = declared_kept _ _ _ _ c.in_ok-add_rules.ensures.extends_code.lookups c.loop-rest.invariant.declared;
       types = none_later _ _ types;
       bounds = none_later _ _ bounds;
     }

@@ -2,7 +2,7 @@ use Rattle.conntrack.proofs.Packets.{none_later-without, none_later_after, none_
 use Rattle.conntrack.proofs.laws.none_later.Goals as goal
 
 pub returns-clause-packet : goal.returns-clause-packet
-returns-clause-packet c = λ held belonging id p count h. none_later_after belonging id p count held h
+returns-clause-packet c = λ held belonging id p confirmation h. none_later_after belonging id p confirmation held h
 
 pub returns-clause-ended : goal.returns-clause-ended
 returns-clause-ended c = λ held id now h. none_later-without id now held h

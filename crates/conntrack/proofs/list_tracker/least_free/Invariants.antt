@@ -1,5 +1,5 @@
 use Rattle.std.proofs.Common.{◌≡◌, ℕ, ◌<◌, true}
-use Rattle.conntrack.specs.Held.{has_id}
+use Rattle.conntrack.specs.ConntrackEntry.{has_id}
 use Rattle.conntrack.proofs.list_tracker.least_free.Given as goal
 
 -- each smaller name is taken

@@ -1,5 +1,5 @@
 use Rattle.std.proofs.Common.{◌≡◌, ◌++◌, take, drop}
-use Rattle.conntrack.specs.Held.{touched_at}
+use Rattle.conntrack.specs.ConntrackEntry.{touched_at}
 use Rattle.conntrack.proofs.list_tracker.touch_in.Given as goal
 
 -- those passed are touched, and the rest are as they were

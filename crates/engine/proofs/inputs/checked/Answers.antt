@@ -1,5 +1,5 @@
 use Rattle.nft_tree.specs.Tree.{tables_of}
-use Rattle.engine.proofs.Misjudging.{refused_as}
+use Rattle.engine.proofs.JudgeRefusing.{refused_as}
 use Rattle.engine.proofs.inputs.checked.Goals as goal
 
 pub returns-in-Err-Refused-clause-refused : goal.returns-in-Err-Refused-clause-refused

@@ -1,6 +1,6 @@
 use Rattle.std.proofs.Common.{◌≡◌, ◌^◌, ◌-◌, length, min, ap, ◌∙◌, arith}
 use Rattle.rule_limits.specs.Limits.{chain_count, rule_count}
-use Rattle.engine.proofs.Misjudging.{length_of_tables}
+use Rattle.engine.proofs.JudgeRefusing.{length_of_tables}
 use Rattle.engine.proofs.judging.judge.Goals as goal
 
 pub returns-clause-accepted : goal.returns-clause-accepted

@@ -1,9 +1,9 @@
 use Rattle.std.proofs.Common.{Err, ap, refl}
 use Rattle.std.proofs.KnownBytes.{Consumes-nil, Keeps-refl}
 use Rattle.std.proofs.lemmas.Result.{err_from_is_err_and}
-use Rattle.engine.specs.Left.{Devices}
-use Rattle.engine.specs.steps.Replayed.{Start}
-use Rattle.engine.proofs.Misjudging.{misjudged}
+use Rattle.engine.specs.AfterFault.{Devices}
+use Rattle.engine.specs.steps.Replayed.{ReplayStart}
+use Rattle.engine.proofs.JudgeRefusing.{misjudged}
 use Rattle.engine.proofs.Meanings.{Single, accepted_of, if_ok_then, if_err_both, left_all, left_of_texts, left_unopened, left_unread, left_untouched, opened, refused_unread, refuses_all, wrote_all}
 use Rattle.engine.proofs.runs.run.Goals as goal
 
@@ -28,7 +28,7 @@ returns-in-Err-Refused-clause-left g c =
     let old : Devices = record { unread = g.R.Read.remaining c.args.capture.now.inner; sent = g.W.Write.contents c.args.sent.now.inner; report = g.W2.Write.contents c.args.report.now.inner; reads_failed = c.args.capture.now.failures; sends_failed = c.args.sent.now.failures; reports_failed = c.args.report.now.failures } in
     let new : Devices = record { unread = g.R.Read.remaining c.open.new.reader.inner; sent = g.W.Write.contents c.args.sent.now.inner; report = g.W2.Write.contents c.args.report.now.inner; reads_failed = c.open.new.reader.failures; sends_failed = c.args.sent.now.failures; reports_failed = c.args.report.now.failures } in
     let read = c.open.ensures.read in
-    let h = left_unread c.args.rules.now c.args.plant.now c.args.trace _ old new read.0 c.in-Err-Refused.fault read.1 read.2 (Keeps-refl _, Keeps-refl _) (c.in-Err-Refused.ensures.calm (λ e. cc)) (rw c.in-Err-Refused.field-0-is at c.in-Err-Refused.ensures.refused) in
+    let h = left_unread c.args.rules.now c.args.plant.now c.args.trace _ old new read.0 c.in-Err-Refused.fault read.1 read.2 (Keeps-refl _, Keeps-refl _) (c.in-Err-Refused.ensures.no_failure (λ e. cc)) (rw c.in-Err-Refused.field-0-is at c.in-Err-Refused.ensures.refused) in
     rw c.in-Err-Refused.fault-is h
 
 pub returns-in-Err-Memory-clause-left : goal.returns-in-Err-Memory-clause-left
@@ -36,12 +36,12 @@ returns-in-Err-Memory-clause-left g c =
     let old : Devices = record { unread = g.R.Read.remaining c.args.capture.now.inner; sent = g.W.Write.contents c.args.sent.now.inner; report = g.W2.Write.contents c.args.report.now.inner; reads_failed = c.args.capture.now.failures; sends_failed = c.args.sent.now.failures; reports_failed = c.args.report.now.failures } in
     let new : Devices = record { unread = g.R.Read.remaining c.open.new.reader.inner; sent = g.W.Write.contents c.args.sent.now.inner; report = g.W2.Write.contents c.args.report.now.inner; reads_failed = c.open.new.reader.failures; sends_failed = c.args.sent.now.failures; reports_failed = c.args.report.now.failures } in
     let read = c.open.ensures.read in
-    left_untouched _ _ _ _ old new read.0 read.1 read.2 (Keeps-refl _, Keeps-refl _) (c.in-Err-Memory.ensures.calm (λ e. cc))
+    left_untouched _ _ _ _ old new read.0 read.1 read.2 (Keeps-refl _, Keeps-refl _) (c.in-Err-Memory.ensures.no_failure (λ e. cc))
 
 pub returns-clause-meaning : goal.returns-clause-meaning
 returns-clause-meaning g c =
     let one : Single = record { tree = c.one_tree.ensures.one; plant = c.one_box.ensures.one; reading = c.one_reading.ensures; entry = c.one_entry.ensures.one } in
-    let start : Start = record { setup = c.in_ok-engine.engine.setup; trace = c.args.trace; sent = g.W.Write.contents c.args.sent.now.inner; report = g.W2.Write.contents c.args.report.now.inner } in
+    let start : ReplayStart = record { setup = c.in_ok-engine.engine.setup; trace = c.args.trace; sent = g.W.Write.contents c.args.sent.now.inner; report = g.W2.Write.contents c.args.report.now.inner } in
     let read = c.open.ensures.read in
     if_ok_then _ _ _ c.write_texts.ensures.ok (λ summary done.
     wrote_all one _ _ _ start _ _ _ _ _ _ _ _ c.in_ok-checked.ensures.fine c.in_ok-engine.ensures.setup (opened _ c.in-Ok.records _ read.0 read.1 c.in-Ok.ensures.drained c.in-Ok.ensures.bytes) done)
@@ -49,10 +49,10 @@ returns-clause-meaning g c =
 pub returns-clause-left : goal.returns-clause-left
 returns-clause-left g c =
     let old : Devices = record { unread = g.R.Read.remaining c.args.capture.now.inner; sent = g.W.Write.contents c.args.sent.now.inner; report = g.W2.Write.contents c.args.report.now.inner; reads_failed = c.args.capture.now.failures; sends_failed = c.args.sent.now.failures; reports_failed = c.args.report.now.failures } in
-    let calm = c.in-Ok.ensures.calm (λ e. cc) in
+    let no_failure = c.in-Ok.ensures.no_failure (λ e. cc) in
     let read = c.open.ensures.read in
     if_err_both _ _ _ _ c.write_texts.ensures.within c.write_texts.ensures.left (λ fault within says.
-    left_all _ _ _ _ _ _ _ _ old _ (g.R.Read.remaining c.open.new.reader.inner) c.open.new.reader.failures read.0 fault calm read.1 read.2 c.in_ok-checked.ensures.fine c.in_ok-engine.ensures.setup
+    left_all _ _ _ _ _ _ _ _ old _ (g.R.Read.remaining c.open.new.reader.inner) c.open.new.reader.failures read.0 fault no_failure read.1 read.2 c.in_ok-checked.ensures.fine c.in_ok-engine.ensures.setup
     (opened _ c.in-Ok.records _ read.0 read.1 c.in-Ok.ensures.drained c.in-Ok.ensures.bytes) within says)
 
 pub returns-in-Err-Device-clause-left : goal.returns-in-Err-Device-clause-left
@@ -67,7 +67,7 @@ returns-in_err-engine-clause-left g c =
     let old : Devices = record { unread = g.R.Read.remaining c.args.capture.now.inner; sent = g.W.Write.contents c.args.sent.now.inner; report = g.W2.Write.contents c.args.report.now.inner; reads_failed = c.args.capture.now.failures; sends_failed = c.args.sent.now.failures; reports_failed = c.args.report.now.failures } in
     let new : Devices = record { unread = g.R.Read.remaining c.open.new.reader.inner; sent = g.W.Write.contents c.args.sent.now.inner; report = g.W2.Write.contents c.args.report.now.inner; reads_failed = c.open.new.reader.failures; sends_failed = c.args.sent.now.failures; reports_failed = c.args.report.now.failures } in
     let read = c.open.ensures.read in
-    rw p.1 (rw p.2 (left_untouched _ _ _ _ old new read.0 read.1 read.2 (Keeps-refl _, Keeps-refl _) (c.in-Ok.ensures.calm (λ e. cc))))
+    rw p.1 (rw p.2 (left_untouched _ _ _ _ old new read.0 read.1 read.2 (Keeps-refl _, Keeps-refl _) (c.in-Ok.ensures.no_failure (λ e. cc))))
 
 pub returns-clause-refusals : goal.returns-clause-refusals
 returns-clause-refusals g c =

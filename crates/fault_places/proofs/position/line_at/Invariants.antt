@@ -1,5 +1,5 @@
 use Rattle.std.proofs.Common.{◌≤◌, ◌+◌}
 use Rattle.fault_places.proofs.position.line_at.Given as goal
 
-abbrev pub invariant-loop-place : goal.invariant-loop-place
-invariant-loop-place l = (l.start ≤ l.place) × (l.line ≤ l.place + 1)
+abbrev pub invariant-loop-at : goal.invariant-loop-at
+invariant-loop-at l = (l.start ≤ l.at) × (l.line ≤ l.at + 1)

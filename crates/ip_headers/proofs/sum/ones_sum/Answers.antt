@@ -1,7 +1,7 @@
 use Rattle.std.proofs.Common.{◌≡◌, ◌∙◌, ◌+◌, ◌++◌, take, sym, arith, ap}
 use Rattle.std.proofs.lemmas.List.{take-append-drop}
 use Rattle.ip_headers.specs.Sum.{words_sum, folded, ones_add}
-use Rattle.ip_headers.proofs.Sums.{carried_is, zero_bytes, words_sum_append, folded_again, add_folded_right}
+use Rattle.ip_headers.proofs.Sums.{sum_with_carries_is, zero_bytes, words_sum_append, folded_again, add_folded_right}
 use Rattle.ip_headers.proofs.sum.ones_sum.Goals as goal
 
 pub loop-block-preserved : goal.loop-block-preserved
@@ -20,7 +20,7 @@ pub returns-clause-sum : goal.returns-clause-sum
 returns-clause-sum c = c.add_bytes.ensures ∙ c.loop-block.invariant.same
 
 pub returns-clause-carries : goal.returns-clause-carries
-returns-clause-carries c = returns-clause-sum c ∙ sym (carried_is c.args.bytes.now (λ i. omega (arith, c.type_inv.bytes i)))
+returns-clause-carries c = returns-clause-sum c ∙ sym (sum_with_carries_is c.args.bytes.now (λ i. omega (arith, c.type_inv.bytes i)))
 
 pub returns-clause-zero : goal.returns-clause-zero
 returns-clause-zero c = λ e. zero_bytes c.args.bytes.now (sym (returns-clause-sum c) ∙ e)

@@ -1,8 +1,8 @@
 use Rattle.std.proofs.Common.{map, take}
 use Rattle.nft_tree.specs.Tree.{map_tree}
-use Rattle.lowering.specs.steps.Tables.{AllTwo, IsMapNumbers}
+use Rattle.lowering.specs.steps.Tables.{AllPairs, IsMapNumbers}
 use Rattle.lowering.proofs.declarations.all_numbers.Given as goal
 
 -- those so far
 abbrev pub invariant-loop-map : goal.invariant-loop-map
-invariant-loop-map l = AllTwo (IsMapNumbers l.plant) (map (λ m. map_tree m.now) (take l.map-index l.map-items)) l.tables.items
+invariant-loop-map l = AllPairs (IsMapNumbers l.plant) (map (λ m. map_tree m.now) (take l.map-index l.map-items)) l.tables.items

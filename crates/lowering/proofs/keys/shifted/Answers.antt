@@ -1,4 +1,4 @@
-use Rattle.lowering.proofs.Rooms.{none-before}
+use Rattle.lowering.proofs.BitWidths.{none-before}
 use Rattle.lowering.proofs.keys.shifted.Goals as goal
 
 pub returns-then-bits-ge128 : goal.returns-then-bits-ge128

@@ -1,5 +1,5 @@
 use Rattle.std.proofs.Common.{map, take}
-use Rattle.nft_tree.specs.declared.kind.Kind.TheVariants.{Named}
+use Rattle.nft_tree.specs.declared.compared_types.ComparedType.TheVariants.{Named}
 use Rattle.nft_tree.specs.Tree.{pair_tree}
 use Rattle.rule_meaning.specs.Sets.{data_number}
 use Rattle.lowering.proofs.Gathered.{IsTableOf}

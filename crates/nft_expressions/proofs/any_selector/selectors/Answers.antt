@@ -4,7 +4,7 @@ use Rattle.std.proofs.lemmas.Result.{IfOk-weaker}
 use Rattle.std.specs.Prelude.{ℕ, map}
 use Rattle.nft_lexer.specs.declared.token.Token.{Token}
 use Rattle.nft_tree.specs.declared.selector.Selector.{Selector}
-use Rattle.token_reader.specs.Readers.{IsRead, ahead}
+use Rattle.token_reader.specs.Readers.{IsRead, remaining}
 use Rattle.token_reader.specs.steps.Laws.{reader_found, reader_only}
 use Rattle.nft_expressions.specs.Selectors.{selectors}
 use Rattle.nft_expressions.specs.steps.SelectorLaws.{lawful_selectors, selectors_only}
@@ -19,10 +19,10 @@ pub returns-clause-found : goal.returns-clause-found
 unfolding selectors
 returns-clause-found c =
     let tokens = c.args.tokens.now in
-    IfOk-weaker c.separated.result _ _ (λ o e. reader_found selectors.spells (λ found. found.items) (ahead tokens) selectors.read (ahead tokens c.args.at) o (same (λ found. found.items) tokens c.args.at o e).0 lawful_selectors.found) c.separated.ensures
+    IfOk-weaker c.separated.result _ _ (λ o e. reader_found selectors.spells (λ found. found.items) (remaining tokens) selectors.read (remaining tokens c.args.at) o (same (λ found. found.items) tokens c.args.at o e).0 lawful_selectors.found) c.separated.ensures
 
 pub returns-clause-only : goal.returns-clause-only
 unfolding selectors
 returns-clause-only c = λ ss to spelled ends.
     let tokens = c.args.tokens.now in
-    IfOk-weaker c.separated.result _ _ (λ o e. reader_only (λ found. found.items) (ahead tokens) selectors.read (ahead tokens c.args.at) o (same (λ found. found.items) tokens c.args.at o e).0 ss to (selectors_only ss (ahead tokens c.args.at) to spelled ends)) c.separated.ensures
+    IfOk-weaker c.separated.result _ _ (λ o e. reader_only (λ found. found.items) (remaining tokens) selectors.read (remaining tokens c.args.at) o (same (λ found. found.items) tokens c.args.at o e).0 ss to (selectors_only ss (remaining tokens c.args.at) to spelled ends)) c.separated.ensures

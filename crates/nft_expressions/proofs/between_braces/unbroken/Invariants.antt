@@ -1,5 +1,5 @@
 use Rattle.std.proofs.Common.{◌≡◌, ◌-◌, ◌≤◌, take, drop, length}
-use Rattle.token_reader.specs.Readers.{ahead}
+use Rattle.token_reader.specs.Readers.{remaining}
 use Rattle.nft_expressions.specs.steps.Braces.{behind_kept}
 use Rattle.nft_expressions.specs.steps.Reading.{enclosed_at}
 use Rattle.nft_expressions.proofs.between_braces.unbroken.Given as goal
@@ -7,10 +7,10 @@ use Rattle.nft_expressions.proofs.between_braces.unbroken.Given as goal
 -- all tokens so far stand before what is still enclosed
 abbrev pub invariant-loop-after : goal.invariant-loop-after
 invariant-loop-after l = record {
-  read : enclosed_at (ahead l.tokens l.at) ≡ behind_kept (take (l.here - l.at) (ahead l.tokens l.at)) (ahead l.tokens l.here);
-  rest : drop (l.here - l.at) (ahead l.tokens l.at) ≡ ahead l.tokens l.here;
+  read : enclosed_at (remaining l.tokens l.at) ≡ behind_kept (take (l.here - l.at) (remaining l.tokens l.at)) (remaining l.tokens l.here);
+  rest : drop (l.here - l.at) (remaining l.tokens l.at) ≡ remaining l.tokens l.here;
   within : l.at ≤ l.here;
 }
 
 abbrev pub decreases-loop-after : goal.decreases-loop-after
-decreases-loop-after l = length (ahead l.tokens l.here)
+decreases-loop-after l = length (remaining l.tokens l.here)

@@ -6,7 +6,7 @@ use Rattle.pcap_io.proofs.whole.write_whole.Given as goal
 abbrev pub invariant-loop-rest : goal.invariant-loop-rest
 invariant-loop-rest g l = record {
   done : (done : List ℕ) × (l.fn.bytes ≡ done ++ l.rest) × Appends (g.W.Write.contents l.initial.writer.inner) (g.W.Write.contents l.writer.inner) done;
-  calm : l.writer.failures ≡ l.initial.writer.failures;
+  no_failure : l.writer.failures ≡ l.initial.writer.failures;
 }
 
 abbrev pub decreases-loop-rest : goal.decreases-loop-rest

@@ -1,7 +1,7 @@
 -- Each return shows the calls that led to it, and where each stands in its order.
 use Rattle.std.proofs.Common.{[], ◌∷◌, refl}
 use Rattle.std.proofs.lemmas.Result.{err_from_is_err_and}
-use Rattle.program.specs.Calls.{read, judge, announce}
+use Rattle.program.specs.Calls.{read, judge, print_accepted}
 use Rattle.program.proofs.examining.try_examine.Goals as goal
 
 pub returns-in_err-rules : goal.returns-in_err-rules
@@ -23,18 +23,18 @@ returns-in_err-counts g c =
       (refl, (refl, (c.deref.ensures.value, c.deref-2.ensures.value, p.2))),
     )
 
-pub returns-in_err-announce : goal.returns-in_err-announce
-returns-in_err-announce g c =
-    let p = err_from_is_err_and c.from_residual-in_err-announce.result c.from_residual-in_err-announce.ensures.1 in
+pub returns-in_err-print_accepted : goal.returns-in_err-print_accepted
+returns-in_err-print_accepted g c =
+    let p = err_from_is_err_and c.from_residual-in_err-print_accepted.result c.from_residual-in_err-print_accepted.ensures.1 in
     rw p.1 (
-      read _ _ ∷ read _ _ ∷ judge _ _ _ ∷ announce _ _ ∷ [],
-      (_, c.in_ok-rules.ensures, (_, c.in_ok-plant.ensures, (_, c.in_ok-counts.ensures, (_, c.in_err-announce.ensures, refl)))),
+      read _ _ ∷ read _ _ ∷ judge _ _ _ ∷ print_accepted _ _ ∷ [],
+      (_, c.in_ok-rules.ensures, (_, c.in_ok-plant.ensures, (_, c.in_ok-counts.ensures, (_, c.in_err-print_accepted.ensures, refl)))),
       (refl, (refl, (c.deref.ensures.value, c.deref-2.ensures.value, (refl, p.2)))),
     )
 
 pub returns : goal.returns
 returns g c = (
-  read _ _ ∷ read _ _ ∷ judge _ _ _ ∷ announce _ _ ∷ [],
-  (_, c.in_ok-rules.ensures, (_, c.in_ok-plant.ensures, (_, c.in_ok-counts.ensures, (_, c.in_ok-announce.ensures, refl)))),
+  read _ _ ∷ read _ _ ∷ judge _ _ _ ∷ print_accepted _ _ ∷ [],
+  (_, c.in_ok-rules.ensures, (_, c.in_ok-plant.ensures, (_, c.in_ok-counts.ensures, (_, c.in_ok-print_accepted.ensures, refl)))),
   (refl, (refl, (c.deref.ensures.value, c.deref-2.ensures.value, (refl, refl)))),
 )

@@ -2,7 +2,7 @@
 use Rattle.std.proofs.Common.{[], ◌∷◌, ◌++◌, append-nil, refl, sym}
 use Rattle.std.proofs.lemmas.Result.{err_from_is_err_and}
 use Rattle.program.specs.Calls.{read, open_input, draw_keys, create}
-use Rattle.program.proofs.Chains.{Leads-append}
+use Rattle.program.proofs.Chains.{HappenInOrder-append}
 use Rattle.program.proofs.replaying.try_replay.Goals as goal
 
 pub returns-in_err-rules : goal.returns-in_err-rules
@@ -24,27 +24,27 @@ returns-in_err-input g c =
       (refl, (refl, (refl, p.2))),
     )
 
-pub returns-in_err-guard_output : goal.returns-in_err-guard_output
-returns-in_err-guard_output g c =
-    let p = err_from_is_err_and c.from_residual-in_err-guard_output.result c.from_residual-in_err-guard_output.ensures.1 in
-    let looked = c.in_err-guard_output.ensures in
+pub returns-in_err-check_output : goal.returns-in_err-check_output
+returns-in_err-check_output g c =
+    let p = err_from_is_err_and c.from_residual-in_err-check_output.result c.from_residual-in_err-check_output.ensures.1 in
+    let looked = c.in_err-check_output.ensures in
     rw p.1 rw p.2 (
       read _ _ ∷ read _ _ ∷ open_input _ _ ∷ looked.0,
       (_, c.in_ok-rules.ensures, (_, c.in_ok-plant.ensures, (_, c.in_ok-input.ensures, looked.1))),
       (refl, (refl, (refl, (looked.0, _, [], looked.2, sym (append-nil looked.0), (refl, refl))))),
     )
 
-pub returns-in_err-guard_report : goal.returns-in_err-guard_report
-returns-in_err-guard_report g c =
-    let p = err_from_is_err_and c.from_residual-in_err-guard_report.result c.from_residual-in_err-guard_report.ensures.1 in
-    let looked = c.in_ok-guard_output.ensures in
-    let again = c.in_err-guard_report.ensures in
+pub returns-in_err-check_report : goal.returns-in_err-check_report
+returns-in_err-check_report g c =
+    let p = err_from_is_err_and c.from_residual-in_err-check_report.result c.from_residual-in_err-check_report.ensures.1 in
+    let looked = c.in_ok-check_output.ensures in
+    let again = c.in_err-check_report.ensures in
     rw p.1 rw p.2 (
       read _ _ ∷ read _ _ ∷ open_input _ _ ∷ looked.0 ++ again.0,
       (
         _,
         c.in_ok-rules.ensures,
-        (_, c.in_ok-plant.ensures, (_, c.in_ok-input.ensures, Leads-append g.H.Host.happens _ _ _ looked.0 _ looked.1 again.1)),
+        (_, c.in_ok-plant.ensures, (_, c.in_ok-input.ensures, HappenInOrder-append g.H.Host.happens _ _ _ looked.0 _ looked.1 again.1)),
       ),
       (refl, (refl, (refl, (looked.0, _, again.0, looked.2, refl, (again.0, _, [], again.2, sym (append-nil again.0), (refl, refl)))))),
     )
@@ -52,8 +52,8 @@ returns-in_err-guard_report g c =
 pub returns-in_err-hasher : goal.returns-in_err-hasher
 returns-in_err-hasher g c =
     let p = err_from_is_err_and c.from_residual-in_err-hasher.result c.from_residual-in_err-hasher.ensures.1 in
-    let looked = c.in_ok-guard_output.ensures in
-    let again = c.in_ok-guard_report.ensures in
+    let looked = c.in_ok-check_output.ensures in
+    let again = c.in_ok-check_report.ensures in
     let later = draw_keys _ ∷ [] in
     rw p.1 (
       read _ _ ∷ read _ _ ∷ open_input _ _ ∷ looked.0 ++ (again.0 ++ later),
@@ -66,8 +66,8 @@ returns-in_err-hasher g c =
           (
             _,
             c.in_ok-input.ensures,
-            Leads-append g.H.Host.happens _ _ _ looked.0 _ looked.1
-                (Leads-append g.H.Host.happens _ _ _ again.0 _ again.1 (_, c.in_err-hasher.ensures, refl)),
+            HappenInOrder-append g.H.Host.happens _ _ _ looked.0 _ looked.1
+                (HappenInOrder-append g.H.Host.happens _ _ _ again.0 _ again.1 (_, c.in_err-hasher.ensures, refl)),
           ),
         ),
       ),
@@ -77,8 +77,8 @@ returns-in_err-hasher g c =
 pub returns-in_err-output : goal.returns-in_err-output
 returns-in_err-output g c =
     let p = err_from_is_err_and c.from_residual-in_err-output.result c.from_residual-in_err-output.ensures.1 in
-    let looked = c.in_ok-guard_output.ensures in
-    let again = c.in_ok-guard_report.ensures in
+    let looked = c.in_ok-check_output.ensures in
+    let again = c.in_ok-check_report.ensures in
     let later = draw_keys _ ∷ create _ _ ∷ [] in
     rw p.1 (
       read _ _ ∷ read _ _ ∷ open_input _ _ ∷ looked.0 ++ (again.0 ++ later),
@@ -91,8 +91,8 @@ returns-in_err-output g c =
           (
             _,
             c.in_ok-input.ensures,
-            Leads-append g.H.Host.happens _ _ _ looked.0 _ looked.1
-                (Leads-append g.H.Host.happens _ _ _ again.0 _ again.1 (_, c.in_ok-hasher.ensures, (_, c.in_err-output.ensures, refl))),
+            HappenInOrder-append g.H.Host.happens _ _ _ looked.0 _ looked.1
+                (HappenInOrder-append g.H.Host.happens _ _ _ again.0 _ again.1 (_, c.in_ok-hasher.ensures, (_, c.in_err-output.ensures, refl))),
           ),
         ),
       ),
@@ -102,8 +102,8 @@ returns-in_err-output g c =
 pub returns-in_err-report : goal.returns-in_err-report
 returns-in_err-report g c =
     let p = err_from_is_err_and c.from_residual-in_err-report.result c.from_residual-in_err-report.ensures.1 in
-    let looked = c.in_ok-guard_output.ensures in
-    let again = c.in_ok-guard_report.ensures in
+    let looked = c.in_ok-check_output.ensures in
+    let again = c.in_ok-check_report.ensures in
     let made = c.in_err-report.ensures in
     let later = draw_keys _ ∷ create _ _ ∷ made.0 in
     rw p.1 rw p.2 (
@@ -117,8 +117,8 @@ returns-in_err-report g c =
           (
             _,
             c.in_ok-input.ensures,
-            Leads-append g.H.Host.happens _ _ _ looked.0 _ looked.1
-                (Leads-append g.H.Host.happens _ _ _ again.0 _ again.1 (_, c.in_ok-hasher.ensures, (_, c.in_ok-output.ensures, made.1))),
+            HappenInOrder-append g.H.Host.happens _ _ _ looked.0 _ looked.1
+                (HappenInOrder-append g.H.Host.happens _ _ _ again.0 _ again.1 (_, c.in_ok-hasher.ensures, (_, c.in_ok-output.ensures, made.1))),
           ),
         ),
       ),
@@ -143,8 +143,8 @@ returns-in_err-report g c =
 
 pub returns : goal.returns
 returns g c =
-    let looked = c.in_ok-guard_output.ensures in
-    let again = c.in_ok-guard_report.ensures in
+    let looked = c.in_ok-check_output.ensures in
+    let again = c.in_ok-check_report.ensures in
     let made = c.in_ok-report.ensures in
     let played = c.play.ensures in
     let later = draw_keys _ ∷ create _ _ ∷ (made.0 ++ played.0) in (
@@ -158,9 +158,9 @@ returns g c =
           (
             _,
             c.in_ok-input.ensures,
-            Leads-append g.H.Host.happens _ _ _ looked.0 _ looked.1
-                (Leads-append g.H.Host.happens _ _ _ again.0 _ again.1
-                (_, c.in_ok-hasher.ensures, (_, c.in_ok-output.ensures, Leads-append g.H.Host.happens _ _ _ made.0 _ made.1 played.1))),
+            HappenInOrder-append g.H.Host.happens _ _ _ looked.0 _ looked.1
+                (HappenInOrder-append g.H.Host.happens _ _ _ again.0 _ again.1
+                (_, c.in_ok-hasher.ensures, (_, c.in_ok-output.ensures, HappenInOrder-append g.H.Host.happens _ _ _ made.0 _ made.1 played.1))),
           ),
         ),
       ),

@@ -19,5 +19,5 @@ loop-number-preserved g c =
       left = left_more _ _ _ _ _ _ _ _ _ _ c.loop-number.invariant.left
           (tables_on c.args.tallies.now i c.args.rules.now.tables.items i c.table-item.result (rw (← c.deref-table-items.ensures.value) c.loop-number-test.true) (rw (← c.deref-table-items.ensures.value) c.table-item.is))
           c.in_ok-put_table.ensures.puts;
-      calm = c.in_ok-put_table.ensures.counts ∙ c.loop-number.invariant.calm;
+      no_failure = c.in_ok-put_table.ensures.counts ∙ c.loop-number.invariant.no_failure;
     }

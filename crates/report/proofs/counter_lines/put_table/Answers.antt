@@ -20,13 +20,13 @@ loop-item-preserved g c =
         left = left_more _ _ _ _ _ _ _ _ _ _ c.loop-item.invariant.left
             (chains_on c.args.tallies.now (table_tree c.args.table.now) c.args.number c.loop-item.chain_number c.args.table.now.items.items c.loop-item.item-index c.item-item.result (chain_tree w.in-Some.chain.now) (rw (← c.deref-item-items.ensures.value) c.loop-item-test.true) (rw (← c.deref-item-items.ensures.value) c.item-item.is) w.in-Some.ensures)
             w.in_ok-put_chain.ensures.puts;
-        calm = w.in_ok-put_chain.ensures.counts ∙ c.loop-item.invariant.calm;
+        no_failure = w.in_ok-put_chain.ensures.counts ∙ c.loop-item.invariant.no_failure;
         few = omega arith;
       })
       | in_default w ↦ rw (w.page-is, w.writer-is, w.chain_number-is) (record {
         left = left_as _ _ _ _ _ _ _ c.loop-item.invariant.left
             (chains_past c.args.tallies.now (table_tree c.args.table.now) c.args.number c.loop-item.chain_number c.args.table.now.items.items c.loop-item.item-index c.item-item.result (rw (← c.deref-item-items.ensures.value) c.loop-item-test.true) (rw (← c.deref-item-items.ensures.value) c.item-item.is) w.in_default.ensures);
-        calm = c.loop-item.invariant.calm;
+        no_failure = c.loop-item.invariant.no_failure;
         few = omega arith;
       })
     ]

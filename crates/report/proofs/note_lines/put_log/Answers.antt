@@ -1,14 +1,14 @@
 use Rattle.std.proofs.Common.{◌∙◌}
 use Rattle.nft_tree.specs.Tree.{tables_of, table_tree, chain_tree}
 use Rattle.report.specs.Report.{log_line}
-use Rattle.report.proofs.Texts.{puts_as, on_found, log_told}
+use Rattle.report.proofs.Texts.{puts_as, on_found, log_written}
 use Rattle.report.proofs.note_lines.put_log.Goals as goal
 
 pub returns-clause-puts : goal.returns-clause-puts
 returns-clause-puts g c =
-    let t = table_tree c.in-Some.named.table.now in
-    let k = chain_tree c.in-Some.named.chain.now in
-    let at = c.args.place in
+    let t = table_tree c.in-Some.found.table.now in
+    let k = chain_tree c.in-Some.found.chain.now in
+    let at = c.args.position in
     puts_as c.put_all.result _ _ _ _ _ _ c.put_all.ensures.puts
-    (log_told _ _ _ at t k _ _ _ _ c.from.ensures c.family_word-family.ensures c.deref.ensures.value c.deref-2.ensures.value c.from-2.ensures c.prefix-before.ensures
+    (log_written _ _ _ at t k _ _ _ _ c.from.ensures c.family_word-family.ensures c.deref.ensures.value c.deref-2.ensures.value c.from-2.ensures c.prefix-before.ensures
     ∙ on_found (tables_of c.args.rules.now) at.rule.table at.rule.chain (log_line c.args.number at) t k c.in-Some.ensures)

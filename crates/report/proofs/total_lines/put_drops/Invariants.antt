@@ -2,12 +2,12 @@
 use Rattle.std.proofs.Common.{◌≡◌, drop}
 use Rattle.std.specs.List.{flat_map}
 use Rattle.report.specs.Report.{drop_line}
-use Rattle.report.specs.steps.Telling.{Left}
+use Rattle.report.specs.steps.Paging.{PutsAllBut}
 use Rattle.report.specs.steps.Totals.{drops_in}
 use Rattle.report.proofs.total_lines.put_drops.Given as goal
 
 abbrev pub invariant-loop-cause : goal.invariant-loop-cause
 invariant-loop-cause g l = record {
-  left : Left l.initial.page.text.items (g.W.Write.contents l.initial.writer.inner) l.page.text.items (g.W.Write.contents l.writer.inner) (flat_map (drop_line (drops_in l.dropped)) (drop l.cause-index l.causes)) (flat_map (drop_line (drops_in l.dropped)) l.causes);
-  calm : l.writer.failures ≡ l.initial.writer.failures;
+  left : PutsAllBut l.initial.page.text.items (g.W.Write.contents l.initial.writer.inner) l.page.text.items (g.W.Write.contents l.writer.inner) (flat_map (drop_line (drops_in l.dropped)) (drop l.cause-index l.causes)) (flat_map (drop_line (drops_in l.dropped)) l.causes);
+  no_failure : l.writer.failures ≡ l.initial.writer.failures;
 }

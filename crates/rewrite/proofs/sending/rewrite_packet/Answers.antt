@@ -3,7 +3,7 @@ use Rattle.std.specs.Option.{option_and}
 use Rattle.ip_headers.specs.Passing.{Passes}
 use Rattle.ip_headers.specs.Tuple.{inner_tuple_of}
 use Rattle.ip_headers.specs.declared.tuple.Tuple.{Tuple}
-use Rattle.rewrite.specs.Rewritten.{replaced, right_datagram}
+use Rattle.rewrite.specs.Rewritten.{replaced, update_checksums}
 use Rattle.rewrite.specs.steps.Fields.{HasFields}
 use Rattle.rewrite.proofs.Lengths.{has_fields}
 use Rattle.rewrite.proofs.Inward.{inner_fields, inward, inward_none, inward_passes, inward_some, read_some, rewritten_is}
@@ -11,8 +11,8 @@ use Rattle.rewrite.proofs.sending.rewrite_packet.Goals as goal
 use Rattle.rewrite.proofs.sending.rewrite_packet.Goals.{in-Some, in_default}
 
 -- the ends that are asked for, where the packet is about a datagram that can be read
-asked : (p q : List ℕ) (inner found both : Option Tuple) → p ≡ q → found ≡ inner_tuple_of q → both ≡ option_and found inner → option_and (inner_tuple_of p) inner ≡ both
-asked p q inner found both same is joined = ap (λ l. option_and (inner_tuple_of l) inner) same ∙ ap (λ o. option_and o inner) (sym is) ∙ sym joined
+asked : (p q : List ℕ) (inner found combined : Option Tuple) → p ≡ q → found ≡ inner_tuple_of q → combined ≡ option_and found inner → option_and (inner_tuple_of p) inner ≡ combined
+asked p q inner found combined same is joined = ap (λ l. option_and (inner_tuple_of l) inner) same ∙ ap (λ o. option_and o inner) (sym is) ∙ sym joined
 
 pub rewrite_inner-requires-clause-fields : goal.rewrite_inner-requires-clause-fields
 rewrite_inner-requires-clause-fields c =
@@ -25,10 +25,10 @@ rewrite-requires c =
     let p = c.args.packet.now in
     let change = c.args.change.now in
     let ok : Passes p = subst Passes (sym c.requires) (c.no_fault.ensures.passes _ c.args.view.now.whole) in
-    let both = asked p _ change.inner _ _ c.requires c.inner_tuple.ensures c.and.ensures in
+    let combined = asked p _ change.inner _ _ c.requires c.inner_tuple.ensures c.and.ensures in
     let is : c.match-and.packet ≡ inward p change = elim c.match-and.branch [
-      | in-Some w ↦ w.packet-is ∙ w.rewrite_inner.ensures ∙ sym (inward_some p change w.in-Some.tuple (both ∙ w.in-Some.is))
-      | in_default w ↦ w.packet-is ∙ sym (inward_none p change (both ∙ w.in_default.is))
+      | in-Some w ↦ w.packet-is ∙ w.rewrite_inner.ensures ∙ sym (inward_some p change w.in-Some.tuple (combined ∙ w.in-Some.is))
+      | in_default w ↦ w.packet-is ∙ sym (inward_none p change (combined ∙ w.in_default.is))
     ] in
     subst (λ l. HasFields 0 l) (sym is) (has_fields (inward p change) (inward_passes p change ok))
 
@@ -36,9 +36,9 @@ pub returns : goal.returns
 returns c =
     let p = c.args.packet.now in
     let change = c.args.change.now in
-    let both = asked p _ change.inner _ _ c.requires c.inner_tuple.ensures c.and.ensures in
+    let combined = asked p _ change.inner _ _ c.requires c.inner_tuple.ensures c.and.ensures in
     let is : c.match-and.packet ≡ inward p change = elim c.match-and.branch [
-      | in-Some w ↦ w.packet-is ∙ w.rewrite_inner.ensures ∙ sym (inward_some p change w.in-Some.tuple (both ∙ w.in-Some.is))
-      | in_default w ↦ w.packet-is ∙ sym (inward_none p change (both ∙ w.in_default.is))
+      | in-Some w ↦ w.packet-is ∙ w.rewrite_inner.ensures ∙ sym (inward_some p change w.in-Some.tuple (combined ∙ w.in-Some.is))
+      | in_default w ↦ w.packet-is ∙ sym (inward_none p change (combined ∙ w.in_default.is))
     ] in
-    c.rewrite.ensures ∙ ap (λ l. right_datagram 0 l (replaced 0 l change)) is ∙ sym (rewritten_is p change)
+    c.rewrite.ensures ∙ ap (λ l. update_checksums 0 l (replaced 0 l change)) is ∙ sym (rewritten_is p change)

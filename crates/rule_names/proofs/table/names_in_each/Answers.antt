@@ -4,7 +4,7 @@ use Rattle.std.proofs.lemmas.Option.{MatchOption-at_none}
 use Rattle.std.proofs.lemmas.List.Elements.{All-push}
 use Rattle.list_laws.specs.Lists.{map-more}
 use Rattle.nft_tree.specs.Tree.{TableTree, table_tree}
-use Rattle.rule_names.specs.steps.Table.{IsApart, RepeatsIn}
+use Rattle.rule_names.specs.steps.Table.{HasUniqueNames, HasDuplicateIn}
 use Rattle.rule_names.proofs.Lists.{Contains-map}
 use Rattle.rule_names.proofs.table.names_in_each.Goals as goal
 
@@ -12,13 +12,13 @@ pub returns-in_default-clause-is : goal.returns-in_default-clause-is
 returns-in_default-clause-is c = record {
   table = table_tree c.table-item.result;
   stands = Contains-map table_tree c.args.tables.now c.loop-table.table-index c.table-item.result (omega arith) c.table-item.is;
-  twice = MatchOption-at_none (RepeatsIn (table_tree c.table-item.result).items) (λ (names : TableTree). names ≡ table_tree c.table-item.result) c.in_default.is c.in_ok-of_table.ensures.is;
+  duplicate = MatchOption-at_none (HasDuplicateIn (table_tree c.table-item.result).items) (λ (names : TableTree). names ≡ table_tree c.table-item.result) c.in_default.is c.in_ok-of_table.ensures.is;
 }
 
 pub loop-table-preserved : goal.loop-table-preserved
 loop-table-preserved c =
-    let is = subst (λ o. MatchOption o (RepeatsIn (table_tree c.table-item.result).items) (λ (names : TableTree). names ≡ table_tree c.table-item.result)) c.in-Some.is c.in_ok-of_table.ensures.is in
-    let apart = subst (λ o. IfSome o IsApart) c.in-Some.is c.in_ok-of_table.ensures.apart in (
+    let is = subst (λ o. MatchOption o (HasDuplicateIn (table_tree c.table-item.result).items) (λ (names : TableTree). names ≡ table_tree c.table-item.result)) c.in-Some.is c.in_ok-of_table.ensures.is in
+    let apart = subst (λ o. IfSome o HasUniqueNames) c.in-Some.is c.in_ok-of_table.ensures.apart in (
       c.in_ok-push.ensures.items ∙ ap₂ (λ xs x. xs ++ x ∷ []) c.loop-table.invariant.0 is ∙ sym (map-more table_tree c.args.tables.now c.loop-table.table-index c.table-item.result (omega arith) c.table-item.is),
-      subst (All IsApart) (sym c.in_ok-push.ensures.items) (All-push IsApart c.loop-table.names.items c.in-Some.of_table c.loop-table.invariant.1 apart),
+      subst (All HasUniqueNames) (sym c.in_ok-push.ensures.items) (All-push HasUniqueNames c.loop-table.names.items c.in-Some.of_table c.loop-table.invariant.1 apart),
     )

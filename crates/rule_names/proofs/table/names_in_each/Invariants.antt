@@ -1,9 +1,9 @@
 use Rattle.std.proofs.Common.{◌≡◌, map, take}
 use Rattle.std.specs.Prelude.{All}
 use Rattle.nft_tree.specs.Tree.{table_tree}
-use Rattle.rule_names.specs.steps.Table.{IsApart}
+use Rattle.rule_names.specs.steps.Table.{HasUniqueNames}
 use Rattle.rule_names.proofs.table.names_in_each.Given as goal
 
 -- the tables so far
 abbrev pub invariant-loop-table : goal.invariant-loop-table
-invariant-loop-table l = (l.names.items ≡ map table_tree (take l.table-index l.tables)) × All IsApart l.names.items
+invariant-loop-table l = (l.names.items ≡ map table_tree (take l.table-index l.tables)) × All HasUniqueNames l.names.items

@@ -1,7 +1,7 @@
 use Rattle.std.proofs.Common.{◌≡◌, ℕ, ◌-◌, ◌≤◌, ◌++◌, Bool, List, Some, false, length, map, replicate, take, vec_len, arith, ap, ap₂, ◌∙◌}
 use Rattle.std.proofs.lemmas.List.{take_all, length-map}
 use Rattle.nft_tree.specs.Tree.{ChainTree, chain_tree}
-use Rattle.nft_tree.specs.Parts.{chains_of}
+use Rattle.nft_tree.specs.TableItems.{chains_of}
 use Rattle.rule_paths.specs.Paths.{chain_has}
 use Rattle.rule_paths.specs.steps.Index.{translates}
 use Rattle.rule_paths.proofs.marks.marks.Goals as goal

@@ -1,5 +1,5 @@
 use Rattle.std.proofs.Common.{◌≡◌, ℕ, List, Vec, Global, ◌∷◌, ◌++◌, [], map, ap, ap₂, ◌∙◌}
-use Rattle.nft_tree.specs.Parts.{chains_of, maps_of}
+use Rattle.nft_tree.specs.TableItems.{chains_of, maps_of}
 use Rattle.chain_graph.specs.declared.node.Edge.{Edge}
 use Rattle.chain_graph.specs.declared.node.Node.TheVariants.{Chain, Map}
 use Rattle.chain_graph.specs.Graph.{NodeTree, chain, verdict_map}

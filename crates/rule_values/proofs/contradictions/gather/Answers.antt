@@ -1,7 +1,7 @@
 use Rattle.std.proofs.Common.{ap, ◌∙◌}
 use Rattle.nft_tree.specs.Tree.{pair_tree}
 use Rattle.rule_values.specs.Faults.{entry_of}
-use Rattle.rule_values.specs.steps.Seen.{elements_tree}
+use Rattle.rule_values.specs.steps.Views.{elements_tree}
 use Rattle.rule_values.proofs.Entries.{gathered-some, gathered-none, gathered-all}
 use Rattle.rule_values.proofs.contradictions.gather.Goals as goal
 use Rattle.rule_values.proofs.contradictions.gather.Goals.{in-Some+in_ok-push, in_default}

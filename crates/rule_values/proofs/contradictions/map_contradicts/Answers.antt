@@ -1,5 +1,5 @@
-use Rattle.rule_values.specs.steps.Seen.{elements_tree}
-use Rattle.rule_values.specs.steps.Outcomes.{entries_of}
+use Rattle.rule_values.specs.steps.Views.{elements_tree}
+use Rattle.rule_values.specs.steps.MapEntries.{entries_of}
 use Rattle.rule_values.proofs.Clashes.{clash-some, clash-none}
 use Rattle.rule_values.proofs.contradictions.map_contradicts.Goals as goal
 

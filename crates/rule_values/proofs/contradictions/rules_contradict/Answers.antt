@@ -1,7 +1,7 @@
 use Rattle.std.proofs.Common.{refl, ◌∙◌}
 use Rattle.std.specs.List.{list_any}
 use Rattle.nft_tree.specs.Tree.{rule_tree}
-use Rattle.rule_values.specs.Places.{rule_maps}
+use Rattle.rule_values.specs.TypedValues.{rule_maps}
 use Rattle.rule_values.specs.Faults.{map_contradicts}
 use Rattle.rule_values.proofs.Tests.{any_flat, passes_here, passes_nowhere}
 use Rattle.rule_values.proofs.contradictions.rules_contradict.Goals as goal

@@ -1,7 +1,7 @@
 use Rattle.std.proofs.Common.{◌∙◌}
 use Rattle.std.specs.List.{list_any}
 use Rattle.nft_tree.specs.Tree.{item_tree}
-use Rattle.rule_values.specs.Places.{item_maps}
+use Rattle.rule_values.specs.TypedValues.{item_maps}
 use Rattle.rule_values.specs.Faults.{map_contradicts}
 use Rattle.rule_values.proofs.Tests.{any_flat, passes_here, passes_nowhere}
 use Rattle.rule_values.proofs.contradictions.table_contradicts.Goals as goal

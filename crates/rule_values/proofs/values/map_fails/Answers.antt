@@ -3,10 +3,10 @@ use Rattle.std.proofs.lemmas.Iterator.{YieldsList-from_slice}
 use Rattle.std.proofs.lemmas.Iterator.Search.{any_from_yields_List}
 use Rattle.std.specs.List.{list_any}
 use Rattle.nft_tree.specs.Tree.{pair_tree}
-use Rattle.rule_values.specs.steps.Asked.{fails, pair_ranges}
-use Rattle.rule_values.specs.steps.Seen.{elements_tree}
+use Rattle.rule_values.specs.steps.Checks.{fails, pair_ranges}
+use Rattle.rule_values.specs.steps.Views.{elements_tree}
 use Rattle.rule_values.proofs.Tests.{any_flat}
 use Rattle.rule_values.proofs.values.map_fails.Goals as goal
 
 pub returns : goal.returns
-returns c = any_from_yields_List (λ x. list_any (fails c.args.question c.args.plant.now) (pair_ranges (elements_tree c.args.elements.now) (pair_tree x))) _ _ c.any.result c.any.ensures.ran (YieldsList-from_slice c.args.elements.now.pairs.now cc) (λ x b q k. search (rules, tests)) ∙ any_flat (fails c.args.question c.args.plant.now) (pair_ranges (elements_tree c.args.elements.now)) pair_tree c.args.elements.now.pairs.now
+returns c = any_from_yields_List (λ x. list_any (fails c.args.value_check c.args.plant.now) (pair_ranges (elements_tree c.args.elements.now) (pair_tree x))) _ _ c.any.result c.any.ensures.ran (YieldsList-from_slice c.args.elements.now.pairs.now cc) (λ x b q k. search (rules, tests)) ∙ any_flat (fails c.args.value_check c.args.plant.now) (pair_ranges (elements_tree c.args.elements.now)) pair_tree c.args.elements.now.pairs.now

@@ -1,23 +1,23 @@
 use Rattle.std.proofs.Common.{[], ◌∷◌, ◌+◌, ◌++◌, ◌-◌, ◌∙◌, length, take, drop, subst, sym, ap, arith}
-use Rattle.list_laws.specs.Lists.{parted}
-use Rattle.set_intervals.specs.Pairs.{look}
+use Rattle.list_laws.specs.Lists.{head_and_rest}
+use Rattle.set_intervals.specs.Pairs.{first_value}
 use Rattle.set_intervals.specs.steps.Layers.{Follows}
 use Rattle.set_intervals.proofs.LayerLaws.{covered, follows, passed}
 use Rattle.set_intervals.proofs.overlay.append_under.Goals as goal
 
-pub returns-in_default-after-clause-looks : goal.returns-in_default-after-clause-looks
-returns-in_default-after-clause-looks g c = λ key.
+pub returns-in_default-after-clause-first_values : goal.returns-in_default-after-clause-first_values
+returns-in_default-after-clause-first_values g c = λ key.
     let pieces = c.loop-left.pieces.items in
     let new = c.append_before.new.pieces.items in
     let left = c.loop-left.left.now in
     let first = c.first-item.result in
     let others = take (length left - 1) (drop 1 left) in
-    let parts = parted left first c.in-len1-up.len_at_least c.first-item.is in
+    let parts = head_and_rest left first c.in-len1-up.len_at_least c.first-item.is in
     let past = subst (Follows pieces) parts c.loop-left.invariant.follows in
-    ap (λ l. look (new ++ l) key) parts
-    ∙ covered pieces new first others c.loop-left.rest c.args.value c.in_default-after.ensures past.1 c.in_ok-append_before.ensures.looks key
-    ∙ ap (λ l. look (pieces ++ (l ++ (c.loop-left.rest, c.args.value) ∷ [])) key) (sym parts)
-    ∙ c.loop-left.invariant.looks key
+    ap (λ l. first_value (new ++ l) key) parts
+    ∙ covered pieces new first others c.loop-left.rest c.args.value c.in_default-after.ensures past.1 c.in_ok-append_before.ensures.first_values key
+    ∙ ap (λ l. first_value (pieces ++ (l ++ (c.loop-left.rest, c.args.value) ∷ [])) key) (sym parts)
+    ∙ c.loop-left.invariant.first_values key
 
 pub loop-left-preserved : goal.loop-left-preserved
 loop-left-preserved g c =
@@ -27,7 +27,7 @@ loop-left-preserved g c =
     let left = c.loop-left.left.now in
     let first = c.first-item.result in
     let others = take (length left - 1) (drop 1 left) in
-    let parts = parted left first c.in-len1-up.len_at_least c.first-item.is in
+    let parts = head_and_rest left first c.in-len1-up.len_at_least c.first-item.is in
     let past = subst (Follows pieces) parts c.loop-left.invariant.follows in
     let part = c.in-Some.part in
     record {
@@ -35,8 +35,8 @@ loop-left-preserved g c =
       before = λ i d lt. omega (arith, c.in_ok-append.ensures.ends i d lt, c.in-Some.ensures.0);
       follows = follows newer (first.0.high + 1) others c.in_ok-append.ensures.ends past.1;
       end = c.in-Some.ensures.1 ∙ c.loop-left.invariant.end;
-      looks = λ key.
-          passed pieces new newer first others c.loop-left.rest part c.args.value c.in-Some.ensures.0 c.in-Some.ensures.1 past.1 c.in_ok-append_before.ensures.looks c.in_ok-append.ensures.looks key
-          ∙ ap (λ l. look (pieces ++ (l ++ (c.loop-left.rest, c.args.value) ∷ [])) key) (sym parts)
-          ∙ c.loop-left.invariant.looks key;
+      first_values = λ key.
+          passed pieces new newer first others c.loop-left.rest part c.args.value c.in-Some.ensures.0 c.in-Some.ensures.1 past.1 c.in_ok-append_before.ensures.first_values c.in_ok-append.ensures.first_values key
+          ∙ ap (λ l. first_value (pieces ++ (l ++ (c.loop-left.rest, c.args.value) ∷ [])) key) (sym parts)
+          ∙ c.loop-left.invariant.first_values key;
     }

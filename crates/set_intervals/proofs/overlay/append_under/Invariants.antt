@@ -1,7 +1,7 @@
 use Rattle.std.proofs.Common.{◌≡◌, List, [], ◌∷◌, ◌++◌, length}
 use Rattle.set_intervals.specs.declared.range.Range.{Range}
 use Rattle.set_intervals.specs.steps.Pieces.{IsTable}
-use Rattle.set_intervals.specs.steps.Layers.{EndsBefore, Follows, SameLooks}
+use Rattle.set_intervals.specs.steps.Layers.{EndsBefore, Follows, SameFirstValues}
 use Rattle.set_intervals.proofs.overlay.append_under.Given as goal
 
 -- what is left of the upper pieces and of the range lies past the pieces, and with them says what all did at first
@@ -10,7 +10,7 @@ pub record Laid {V : Type 0} (pieces left : List (Range × V)) (rest : Range) (v
   pub before : EndsBefore pieces rest.low
   pub follows : Follows pieces left
   pub end : rest.high ≡ range.high
-  pub looks : SameLooks (pieces ++ (left ++ (rest, value) ∷ [])) all
+  pub first_values : SameFirstValues (pieces ++ (left ++ (rest, value) ∷ [])) all
 
 abbrev pub invariant-loop-left : goal.invariant-loop-left
 invariant-loop-left g l = Laid l.pieces.items l.left l.rest l.value l.fn.range (l.fn.pieces.items ++ (l.fn.upper ++ (l.fn.range, l.value) ∷ []))

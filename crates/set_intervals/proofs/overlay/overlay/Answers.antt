@@ -1,6 +1,6 @@
 use Rattle.std.proofs.Common.{◌+◌, ◌++◌, ◌∙◌, length, ap, arith}
 use Rattle.std.proofs.lemmas.List.{get_or_default}
-use Rattle.set_intervals.specs.Pairs.{look}
+use Rattle.set_intervals.specs.Pairs.{first_value}
 use Rattle.set_intervals.proofs.LayerLaws.{laid_more, table_follows, table_none}
 use Rattle.set_intervals.proofs.overlay.overlay.Goals as goal
 
@@ -11,7 +11,7 @@ loop-range-init g c =
       table = table_none _ none;
       follows = table_follows _ c.args.upper.now none c.requires.upper;
       before = λ d some i e lt. absurd (omega (arith, ap length none));
-      looks = λ key. ap (λ l. look (l ++ (c.args.upper.now ++ c.args.lower.now)) key) none;
+      first_values = λ key. ap (λ l. first_value (l ++ (c.args.upper.now ++ c.args.lower.now)) key) none;
     }
 
 pub loop-range-preserved : goal.loop-range-preserved
@@ -23,7 +23,7 @@ loop-range-preserved g c =
       table = c.in_ok-left.ensures.table;
       follows = c.in_ok-left.ensures.follows;
       before = λ d next k e lt. omega (arith, c.in_ok-left.ensures.ends k e lt, c.requires.lower.separate i (i + 1) d (omega arith) next, ap (λ p. p.0.high) (c.loop-range-item.is ∙ get_or_default lower i item d c.loop-range-test.true));
-      looks = laid_more c.loop-range.pieces.items c.loop-range.left.now c.append_under.new.pieces.items c.in_ok-left.left.now lower (c.args.upper.now ++ lower) i item c.loop-range-test.true c.loop-range-item.is c.in_ok-left.ensures.looks c.loop-range.invariant.looks;
+      first_values = laid_more c.loop-range.pieces.items c.loop-range.left.now c.append_under.new.pieces.items c.in_ok-left.left.now lower (c.args.upper.now ++ lower) i item c.loop-range-test.true c.loop-range-item.is c.in_ok-left.ensures.first_values c.loop-range.invariant.first_values;
     }
 
 pub append_under-requires-clause-past : goal.append_under-requires-clause-past

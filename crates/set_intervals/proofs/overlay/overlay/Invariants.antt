@@ -1,7 +1,7 @@
 use Rattle.std.proofs.Common.{ℕ, List, ◌<◌, ◌++◌, length, get_or, drop}
 use Rattle.set_intervals.specs.declared.range.Range.{Range}
 use Rattle.set_intervals.specs.steps.Pieces.{IsTable}
-use Rattle.set_intervals.specs.steps.Layers.{EndsBefore, Follows, SameLooks}
+use Rattle.set_intervals.specs.steps.Layers.{EndsBefore, Follows, SameFirstValues}
 use Rattle.set_intervals.proofs.overlay.overlay.Given as goal
 
 -- what is left of both lists lies past the pieces, and with them says what both did at first
@@ -9,7 +9,7 @@ pub record Laid {V : Type 0} (pieces left lower : List (Range × V)) (i : ℕ) (
   pub table : IsTable pieces
   pub follows : Follows pieces left
   pub before : (d : Range × V) → i < length lower → EndsBefore pieces (get_or lower i d).0.low
-  pub looks : SameLooks (pieces ++ (left ++ drop i lower)) all
+  pub first_values : SameFirstValues (pieces ++ (left ++ drop i lower)) all
 
 abbrev pub invariant-loop-range : goal.invariant-loop-range
 invariant-loop-range g l = Laid l.pieces.items l.left l.lower l.range-index (l.fn.upper ++ l.lower)

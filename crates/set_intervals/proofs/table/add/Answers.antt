@@ -1,6 +1,6 @@
 use Rattle.std.proofs.Common.{◌≤◌, ◌<◌, ◌-◌, length, sym, ap, subst, arith}
 use Rattle.set_intervals.specs.steps.Pieces.{Adds, IsTable, StartsBefore}
-use Rattle.set_intervals.proofs.PairLaws.{holds_read, adds_widen, adds_push, covers_split, covers_join}
+use Rattle.set_intervals.proofs.PairLaws.{holds_read, adds_widen, adds_push, covers_split, covers_merge}
 use Rattle.set_intervals.proofs.PieceLaws.{table_push, starts_push, starts_widen}
 use Rattle.set_intervals.proofs.table.add.Goals as goal
 
@@ -17,30 +17,30 @@ returns-in-Clashes-clause-clash g c = λ _.
       differ = c.in-Clashes.ensures.1;
     }
 
-pub returns-in_ok-push-in-Apart-clause-table : goal.returns-in_ok-push-in-Apart-clause-table
-returns-in_ok-push-in-Apart-clause-table g c =
-    subst IsTable (sym c.in_ok-push-in-Apart.ensures.items) (table_push c.args.pieces.now.items c.len-len.result c.index-last.result.now (c.args.range, c.args.value) c.requires.table (omega arith) c.index-last.ensures c.in-Apart.ensures)
+pub returns-in_ok-push-in-Disjoint-clause-table : goal.returns-in_ok-push-in-Disjoint-clause-table
+returns-in_ok-push-in-Disjoint-clause-table g c =
+    subst IsTable (sym c.in_ok-push-in-Disjoint.ensures.items) (table_push c.args.pieces.now.items c.len-len.result c.index-last.result.now (c.args.range, c.args.value) c.requires.table (omega arith) c.index-last.ensures c.in-Disjoint.ensures)
 
-pub returns-in_ok-push-in-Apart-clause-after : goal.returns-in_ok-push-in-Apart-clause-after
-returns-in_ok-push-in-Apart-clause-after g c =
-    subst (λ l. StartsBefore l c.args.range.low) (sym c.in_ok-push-in-Apart.ensures.items) (starts_push c.args.pieces.now.items (c.args.range, c.args.value) c.requires.after)
+pub returns-in_ok-push-in-Disjoint-clause-after : goal.returns-in_ok-push-in-Disjoint-clause-after
+returns-in_ok-push-in-Disjoint-clause-after g c =
+    subst (λ l. StartsBefore l c.args.range.low) (sym c.in_ok-push-in-Disjoint.ensures.items) (starts_push c.args.pieces.now.items (c.args.range, c.args.value) c.requires.after)
 
-pub returns-in_ok-push-in-Apart-clause-adds : goal.returns-in_ok-push-in-Apart-clause-adds
-returns-in_ok-push-in-Apart-clause-adds g c =
-    subst (λ l. Adds c.args.pieces.now.items c.args.range c.args.value l) (sym c.in_ok-push-in-Apart.ensures.items) (adds_push _ _ _)
+pub returns-in_ok-push-in-Disjoint-clause-adds : goal.returns-in_ok-push-in-Disjoint-clause-adds
+returns-in_ok-push-in-Disjoint-clause-adds g c =
+    subst (λ l. Adds c.args.pieces.now.items c.args.range c.args.value l) (sym c.in_ok-push-in-Disjoint.ensures.items) (adds_push _ _ _)
 
-pub returns-in-Joins-clause-after : goal.returns-in-Joins-clause-after
-returns-in-Joins-clause-after g c =
+pub returns-in-Mergeable-clause-after : goal.returns-in-Mergeable-clause-after
+returns-in-Mergeable-clause-after g c =
     let last = c.index-last.result.now in
     let lt : c.len-len.result - 1 < length c.args.pieces.now.items = omega arith in
-    starts_widen c.args.pieces.now.items (c.len-len.result - 1) last (c.joined.result, last.1) c.args.range.low lt c.index-last.ensures c.joined.ensures.low c.requires.after
+    starts_widen c.args.pieces.now.items (c.len-len.result - 1) last (c.merged.result, last.1) c.args.range.low lt c.index-last.ensures c.merged.ensures.low c.requires.after
 
-pub returns-in-Joins-clause-adds : goal.returns-in-Joins-clause-adds
-returns-in-Joins-clause-adds g c =
+pub returns-in-Mergeable-clause-adds : goal.returns-in-Mergeable-clause-adds
+returns-in-Mergeable-clause-adds g c =
     let xs = c.args.pieces.now.items in
     let last = c.index-last.result.now in
     let lt : c.len-len.result - 1 < length xs = omega arith in
     let rising : last.0.low ≤ c.args.range.low = omega (arith, c.requires.after (c.len-len.result - 1) last lt, ap (λ p. p.0.low) c.index-last.ensures) in
-    adds_widen xs (c.len-len.result - 1) last c.joined.result c.args.range c.args.value lt c.index-last.ensures c.in-Joins.ensures.1
-    (covers_split last.0 c.args.range c.joined.result c.in-Joins.ensures.0 c.joined.ensures.low c.joined.ensures.high)
-    (covers_join last.0 c.args.range c.joined.result rising c.joined.ensures.low c.joined.ensures.high)
+    adds_widen xs (c.len-len.result - 1) last c.merged.result c.args.range c.args.value lt c.index-last.ensures c.in-Mergeable.ensures.1
+    (covers_split last.0 c.args.range c.merged.result c.in-Mergeable.ensures.0 c.merged.ensures.low c.merged.ensures.high)
+    (covers_merge last.0 c.args.range c.merged.result rising c.merged.ensures.low c.merged.ensures.high)

@@ -9,16 +9,16 @@ use Rattle.set_intervals.proofs.table.find_in.Goals.{in_default-via-in-Some+else
 pub returns-in-Some : goal.returns-in-Some
 returns-in-Some g c =
     let xs = c.args.pieces.now in
-    let at = c.first_reaching-at.result in
+    let at = c.lower_bound-at.result in
     let piece = c.in-Some.field-0.now in
     let lt : at < length xs = ltb-true _ _ (sym c.in-Some.ensures.lookup.0) in
     let is = c.in-Some.ensures.lookup.1 in
-    let high : c.args.key ≤ piece.0.high = omega (arith, (c.first_reaching-at.ensures at piece lt).1, ap (λ p. p.0.high) is) in
+    let high : c.args.key ≤ piece.0.high = omega (arith, (c.lower_bound-at.ensures at piece lt).1, ap (λ p. p.0.high) is) in
     holds_read xs at piece c.args.key lt is (record { above = omega arith; below = high })
 
 pub returns-in_default : goal.returns-in_default
 returns-in_default g c =
-    not_held c.args.pieces.now c.requires.separate c.args.key c.first_reaching-at.result c.first_reaching-at.ensures
+    not_held c.args.pieces.now c.requires.separate c.args.key c.lower_bound-at.result c.lower_bound-at.ensures
     (λ d lt. elim c.in_default.branch [
       | in_default-via-in-Some+else-low-key w ↦ omega (arith, w.low.ensures, w.if-low-key.false, ap (λ p. p.0.low) (w.in-Some.ensures.lookup.1 ∙ get_or_default _ _ w.in-Some.field-0.now d lt))
       | in_default-via-in_default w ↦ absurd (omega (arith, lt, ltb-false _ _ (sym w.in_default.ensures.lookup.0)))

@@ -2,8 +2,8 @@ use Rattle.std.proofs.Common.{◌≡◌, ◌+◌, Some, refl, ap, sym, subst, le
 use Rattle.std.proofs.lemmas.Option.{same_Some}
 use Rattle.conntrack.specs.declared.connection.Aged.{Aged}
 use Rattle.conntrack.specs.declared.connection.ConnId.{ConnId}
-use Rattle.conntrack.specs.declared.connection.Held.{Held}
-use Rattle.conntrack.specs.Held.{aged_of, live_at, taken_out, without}
+use Rattle.conntrack.specs.declared.connection.ConntrackEntry.{ConntrackEntry}
+use Rattle.conntrack.specs.ConntrackEntry.{aged_of, live_at, removed_entry, without}
 use Rattle.aged_tracker.specs.steps.Table.{keys_in, order_of, slots_of}
 use Rattle.aged_tracker.proofs.Linked.{some_of}
 use Rattle.aged_tracker.proofs.Whole.{has_by, distinct_by, handed_over, one_fewer}
@@ -11,7 +11,7 @@ use Rattle.aged_tracker.proofs.Found.{live_all, live_without}
 use Rattle.aged_tracker.proofs.aged_tracker.AgedTrackerTracker.age.Goals as goal
 use Rattle.aged_tracker.proofs.aged_tracker.AgedTrackerTracker.age.Goals.{In-Some, After-end}
 
-slot : (c : In-Some) → (h : Held) × (slots_of c.self.inside.slots c.in-Some.id.0 ≡ Some h)
+slot : (c : In-Some) → (h : ConntrackEntry) × (slots_of c.self.inside.slots c.in-Some.id.0 ≡ Some h)
 slot c = some_of _ c.in-Some.ensures.some.1
 
 pub end-requires : goal.end-requires
@@ -33,19 +33,19 @@ returns-in-Some-clause-distinct c = rw (← c.self.view_is) (distinct_by c.self.
 named : (c : After-end) → c.end.result.id ≡ c.in-Some.id
 named c =
     let at = some_of (slots_of c.self.inside.slots c.in-Some.id.0) c.in-Some.ensures.some.1 in
-    let taken : taken_out c.in-Some.id c.args.self.now.held ≡ Some (aged_of at.0) = rw (← c.self.view_is) (handed_over c.self.inside.slots c.self.invariant.table c.in-Some.id at.0 at.1) in
+    let taken : removed_entry c.in-Some.id c.args.self.now.held ≡ Some (aged_of at.0) = rw (← c.self.view_is) (handed_over c.self.inside.slots c.self.invariant.table c.in-Some.id at.0 at.1) in
     let same : c.end.result ≡ aged_of at.0 = same_Some c.end.result (aged_of at.0) (sym c.end.ensures.aged ∙ taken) in
     ap (λ (a : Aged). a.id) same ∙ ap (λ n. record { 0 = n }) (c.self.invariant.table.linked.named c.in-Some.id.0 at.0 at.1)
 
 pub returns-in-Some-clause-some : goal.returns-in-Some-clause-some
 returns-in-Some-clause-some c =
     let at = some_of (slots_of c.self.inside.slots c.in-Some.id.0) c.in-Some.ensures.some.1 in
-    let dead = rw at.1 at c.in-Some.ensures.some.0 in
+    let expired = rw at.1 at c.in-Some.ensures.some.0 in
     let name = named (goal.at.returns-in-Some-clause-some c).After-end in (
-      subst (λ (i : ConnId). taken_out i c.args.self.now.held ≡ Some c.end.result) (sym name) c.end.ensures.aged,
+      subst (λ (i : ConnId). removed_entry i c.args.self.now.held ≡ Some c.end.result) (sym name) c.end.ensures.aged,
       c.end.ensures.held ∙ ap (λ (i : ConnId). without i c.args.self.now.held) (sym name),
       ap (live_at c.args.self.now.limits c.args.now) c.end.ensures.held
-          ∙ rw (← c.self.view_is) (live_without c.self.inside.limits (slots_of c.self.inside.slots) c.args.now c.in-Some.id at.0 c.self.invariant.table.linked.named at.1 dead (keys_in (order_of c.self.inside.slots) 0)),
+          ∙ rw (← c.self.view_is) (live_without c.self.inside.limits (slots_of c.self.inside.slots) c.args.now c.in-Some.id at.0 c.self.invariant.table.linked.named at.1 expired (keys_in (order_of c.self.inside.slots) 0)),
     )
 
 pub returns-in-Some-clause-fewer : goal.returns-in-Some-clause-fewer

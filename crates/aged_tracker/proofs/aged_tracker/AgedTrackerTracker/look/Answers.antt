@@ -1,6 +1,6 @@
 use Rattle.std.proofs.Common.{ap, ◌∙◌}
-use Rattle.conntrack.specs.Held.{nameless_belonging}
+use Rattle.conntrack.specs.ConntrackEntry.{belonging_without_id}
 use Rattle.aged_tracker.proofs.aged_tracker.AgedTrackerTracker.look.Goals as goal
 
-pub returns-clause-story : goal.returns-clause-story
-returns-clause-story c story s = ap nameless_belonging c.find.ensures.belonging ∙ c.names_aside.ensures.belonging _ _ c.args.tuple c.args.flags s.live
+pub returns-clause-history : goal.returns-clause-history
+returns-clause-history c history s = ap belonging_without_id c.find.ensures.belonging ∙ c.independent_of_ids.ensures.belonging _ _ c.args.tuple c.args.flags s.live

@@ -1,10 +1,10 @@
 use Rattle.std.proofs.Common.{◌∙◌, ap, map}
-use Rattle.set_intervals.specs.Pairs.{look}
-use Rattle.box_file.specs.steps.Best.{way_tree}
-use Rattle.box_file.proofs.PlantLaws.{way_found}
+use Rattle.set_intervals.specs.Pairs.{first_value}
+use Rattle.box_file.specs.steps.Best.{route_entry}
+use Rattle.box_file.proofs.PlantLaws.{route_found_index}
 use Rattle.box_file.proofs.plant.Plant.route.Goals as goal
 
 pub returns-clause-index : goal.returns-clause-index
 returns-clause-index c =
-    let routes = map way_tree c.self.inside.routes.items in
-    way_found routes c.args.address c.copied.result c.self.invariant.ways (c.copied.ensures ∙ c.find.ensures.looks ∙ ap (look c.self.inside.table) c.from.ensures ∙ c.self.invariant.best c.args.address)
+    let routes = map route_entry c.self.inside.routes.items in
+    route_found_index routes c.args.address c.copied.result c.self.invariant.routes_indexed (c.copied.ensures ∙ c.find.ensures.first_values ∙ ap (first_value c.self.inside.table) c.from.ensures ∙ c.self.invariant.best c.args.address)

@@ -1,6 +1,6 @@
 use Rattle.std.proofs.Common.{◌∙◌, arith}
 use Rattle.std.proofs.lemmas.Bool.{and_parts, and_from, leb-true, le-leb}
-use Rattle.connection_table.proofs.Taken.{stands_with_taken}
+use Rattle.connection_table.proofs.Taken.{released_with_removed}
 use Rattle.connection_table.proofs.table.ConnectionTable.age_all.Goals as goal
 
 pub release-requires : goal.release-requires
@@ -10,7 +10,7 @@ release-requires g c =
     let aged = c.in-Some.aged in
     let of = c.in-Some.ensures in
     let mapped = c.loop-aged.invariant.mapped in
-    record { held = (_, stands_with_taken aged.id held aged mappings of.distinct of.some.0 mapped) }
+    record { held = (_, released_with_removed aged.id held aged mappings of.distinct of.some.0 mapped) }
 
 pub loop-aged-preserved : goal.loop-aged-preserved
 loop-aged-preserved g c =
@@ -18,7 +18,7 @@ loop-aged-preserved g c =
     let mappings = c.loop-aged.self-inside.mappings.held in
     let aged = c.in-Some.aged in
     let of = c.in-Some.ensures in
-    let before = stands_with_taken aged.id held aged mappings of.distinct of.some.0 c.loop-aged.invariant.mapped in
+    let before = released_with_removed aged.id held aged mappings of.distinct of.some.0 c.loop-aged.invariant.mapped in
     record {
       same = c.age.ensures.limits ∙ c.loop-aged.invariant.same;
       live = (rw c.loop-aged.invariant.same at c.in-Some.ensures.some).2 ∙ c.loop-aged.invariant.live;

@@ -1,8 +1,8 @@
 use Rattle.std.proofs.Common.{◌≡◌, ◌&&◌, length}
 use Rattle.std.specs.Prelude.{IsTrue, nat_le}
-use Rattle.conntrack.specs.Held.{IsNoneLater, live_at}
+use Rattle.conntrack.specs.ConntrackEntry.{IsNoneLater, live_at}
 use Rattle.nat_mapping.specs.Mappings.{HoldsSame}
-use Rattle.translation.specs.Mapped.{mappings_in}
+use Rattle.translation.specs.LiveMappings.{mappings_in}
 use Rattle.connection_table.proofs.table.ConnectionTable.age_all.Given as goal
 
 -- those that are live stay, and their mappings alone are held

@@ -1,5 +1,5 @@
-use Rattle.connection_table.proofs.Open.{untranslated_fits}
-use Rattle.connection_table.proofs.Taken.{stands_with_taken}
+use Rattle.connection_table.proofs.Untranslated.{untranslated_fits}
+use Rattle.connection_table.proofs.Taken.{released_with_removed}
 use Rattle.connection_table.proofs.table.ConnectionTable.look_up.Goals as goal
 use Rattle.connection_table.proofs.table.ConnectionTable.look_up.Goals.{in-Ends, in_default}
 
@@ -10,7 +10,7 @@ release-requires g c =
     let distinct = c.look-belonging.ensures.distinct in
     let ended = c.end-ended.result in
     let taken = c.end-ended.ensures.aged in
-    record { held = (_, stands_with_taken c.in-Ends.id held ended mappings distinct taken c.self.invariant) }
+    record { held = (_, released_with_removed c.in-Ends.id held ended mappings distinct taken c.self.invariant) }
 
 pub invariant_of-self : goal.invariant_of-self
 invariant_of-self g c m =
@@ -21,7 +21,7 @@ invariant_of-self g c m =
       | in-Ends w ↦
           let taken = w.end-ended.ensures.aged in
           let ended = w.end-ended.result in
-          let before = stands_with_taken w.in-Ends.id held ended mappings distinct taken c.self.invariant in
+          let before = released_with_removed w.in-Ends.id held ended mappings distinct taken c.self.invariant in
           rw (w.self-inside-is, w.end-ended.ensures.held) (w.release.ensures.held _ before m)
       | in_default w ↦ rw w.self-inside-is (c.self.invariant m)
     ]

@@ -1,16 +1,16 @@
 use Rattle.std.proofs.Common.{◌≡◌, ◌≢◌, take, drop, get_or, List, ℕ, ◌+◌, ◌-◌, ◌%◌, length, ◌≤◌, ◌<◌, Bool, false, true, sym, ap, ◌∙◌, arith}
 use Rattle.std.proofs.lemmas.Grind.{common_steps}
 use Rattle.byteorder.specs.Endian.{big_number}
-use Rattle.ip_headers.specs.Bytes.{word_at}
+use Rattle.ip_headers.specs.Bytes.{u16_at}
 use Rattle.ip_headers.specs.Sum.{ones_sum_of}
-use Rattle.ip_headers.specs.Transport.{transport_is_wrong}
+use Rattle.ip_headers.specs.Transport.{transport_is_malformed}
 use Rattle.ip_headers.specs.Header.{version, header, total_len, header_len, protocol, is_fragment, flags_and_offset, packet_of, payload_of}
 use Rattle.ip_headers.specs.Passing.{PassesHeader}
 use Rattle.ip_headers.proofs.Faults.{packet_passes, fault_free, too_small, cut, damaged, broken, refused}
 use Rattle.ip_headers.proofs.view.View.read.Goals as goal
 
 -- a word of the first n bytes
-read_word : (p : List ℕ) (n i r : ℕ) → n ≤ length p → i + 1 < n → r ≡ big_number 2 (take (length (take n p) - i) (drop i (take n p))) → r ≡ word_at p i
+read_word : (p : List ℕ) (n i r : ℕ) → n ≤ length p → i + 1 < n → r ≡ big_number 2 (take (length (take n p) - i) (drop i (take n p))) → r ≡ u16_at p i
 read_word p n i r whole lt read = grind (arith, common_steps)
 
 unbroken_by : (p : List ℕ) (word : ℕ) → word ≡ flags_and_offset p → word % 16384 ≡ 0 → is_fragment p ≡ false
@@ -29,8 +29,8 @@ head_by p n total long head whole four sum = record {
 }
 
 -- what is read of the packet is what the record has
-carried_by : (p payload : List ℕ) (n : ℕ) (answer : Bool) → n ≡ total_len p → 20 ≤ n → n ≤ length p → payload ≡ drop (header_len p) (take n p) → answer ≡ transport_is_wrong (get_or (take n p) 9 0) payload
-    → transport_is_wrong (protocol p) (payload_of p) ≡ answer
+carried_by : (p payload : List ℕ) (n : ℕ) (answer : Bool) → n ≡ total_len p → 20 ≤ n → n ≤ length p → payload ≡ drop (header_len p) (take n p) → answer ≡ transport_is_malformed (get_or (take n p) 9 0) payload
+    → transport_is_malformed (protocol p) (payload_of p) ≡ answer
 carried_by p payload n answer total long whole of is =
     let ninth : get_or (take n p) 9 0 ≡ get_or p 9 0 = grind (arith, common_steps) in
     let same : payload ≡ payload_of p = of ∙ ap (λ k. drop (header_len p) (take k p)) total in
@@ -80,16 +80,16 @@ returns-then-read_u16-ne0-clause-fault c =
     let flags = read_word p n 6 c.read_u16.result (omega arith) (omega arith) c.read_u16.ensures in
     sym (broken p head (broken_by p c.read_u16.result flags c.if-read_u16-ne0.true))
 
-pub returns-then-is_wrong-clause-fault : goal.returns-then-is_wrong-clause-fault
-returns-then-is_wrong-clause-fault c =
+pub returns-then-is_malformed-clause-fault : goal.returns-then-is_malformed-clause-fault
+returns-then-is_malformed-clause-fault c =
     let p = c.args.bytes.now in
     let n = c.read_u16-total_len.result in
     let total : n ≡ total_len p = grind (arith, common_steps, c.read_u16-total_len.ensures) in
     let sum : ones_sum_of (take (header_len p) (take n p)) ≡ 65535 = grind (arith, common_steps, c.ones_sum.ensures.sum) in
     let head = head_by p n total (omega arith) (omega arith) (omega arith) (omega arith) sum in
     let flags = read_word p n 6 c.read_u16.result (omega arith) (omega arith) c.read_u16.ensures in
-    let carried = carried_by p c.split_at.result.1.now n c.is_wrong.result total (omega arith) (omega arith) c.split_at.ensures.back c.is_wrong.ensures in
-    sym (refused p head (unbroken_by p c.read_u16.result flags c.if-read_u16-ne0.false) (carried ∙ c.if-is_wrong.true))
+    let carried = carried_by p c.split_at.result.1.now n c.is_malformed.result total (omega arith) (omega arith) c.split_at.ensures.back c.is_malformed.ensures in
+    sym (refused p head (unbroken_by p c.read_u16.result flags c.if-read_u16-ne0.false) (carried ∙ c.if-is_malformed.true))
 
 pub returns-clause-fault : goal.returns-clause-fault
 returns-clause-fault c =
@@ -99,8 +99,8 @@ returns-clause-fault c =
     let sum : ones_sum_of (take (header_len p) (take n p)) ≡ 65535 = grind (arith, common_steps, c.ones_sum.ensures.sum) in
     let head = head_by p n total (omega arith) (omega arith) (omega arith) (omega arith) sum in
     let flags = read_word p n 6 c.read_u16.result (omega arith) (omega arith) c.read_u16.ensures in
-    let carried = carried_by p c.split_at.result.1.now n c.is_wrong.result total (omega arith) (omega arith) c.split_at.ensures.back c.is_wrong.ensures in
-    sym (fault_free p (record { head = head; unbroken = unbroken_by p c.read_u16.result flags c.if-read_u16-ne0.false; carried = carried ∙ c.if-is_wrong.false }))
+    let carried = carried_by p c.split_at.result.1.now n c.is_malformed.result total (omega arith) (omega arith) c.split_at.ensures.back c.is_malformed.ensures in
+    sym (fault_free p (record { head = head; unbroken = unbroken_by p c.read_u16.result flags c.if-read_u16-ne0.false; carried = carried ∙ c.if-is_malformed.false }))
 
 pub invariant_of-result-clause-whole : goal.invariant_of-result-clause-whole
 invariant_of-result-clause-whole c =
@@ -110,8 +110,8 @@ invariant_of-result-clause-whole c =
     let sum : ones_sum_of (take (header_len p) (take n p)) ≡ 65535 = grind (arith, common_steps, c.ones_sum.ensures.sum) in
     let head = head_by p n total (omega arith) (omega arith) (omega arith) (omega arith) sum in
     let flags = read_word p n 6 c.read_u16.result (omega arith) (omega arith) c.read_u16.ensures in
-    let carried = carried_by p c.split_at.result.1.now n c.is_wrong.result total (omega arith) (omega arith) c.split_at.ensures.back c.is_wrong.ensures in
-    rw total (fault_free (packet_of p) (packet_passes p (record { head = head; unbroken = unbroken_by p c.read_u16.result flags c.if-read_u16-ne0.false; carried = carried ∙ c.if-is_wrong.false })))
+    let carried = carried_by p c.split_at.result.1.now n c.is_malformed.result total (omega arith) (omega arith) c.split_at.ensures.back c.is_malformed.ensures in
+    rw total (fault_free (packet_of p) (packet_passes p (record { head = head; unbroken = unbroken_by p c.read_u16.result flags c.if-read_u16-ne0.false; carried = carried ∙ c.if-is_malformed.false })))
 
 pub invariant_of-result-clause-tail : goal.invariant_of-result-clause-tail
 invariant_of-result-clause-tail c =

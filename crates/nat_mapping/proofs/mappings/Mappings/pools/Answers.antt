@@ -1,6 +1,6 @@
 use Rattle.std.proofs.Common.{ap, arith}
 use Rattle.nat_mapping.proofs.Entries.{counts_same}
-use Rattle.nat_mapping.proofs.Places.{pools_bounded}
+use Rattle.nat_mapping.proofs.PoolCounts.{pools_bounded}
 use Rattle.nat_mapping.proofs.mappings.Mappings.pools.Goals as goal
 
 pub returns-clause-bounded : goal.returns-clause-bounded

@@ -6,11 +6,11 @@ use Rattle.ip_headers.specs.declared.tuple.Mapping.{Mapping}
 use Rattle.nat_mapping.specs.declared.keys.SourceKey.{SourceKey}
 use Rattle.nat_mapping.specs.declared.keys.InboundKey.{InboundKey}
 use Rattle.nat_mapping.specs.declared.keys.PoolKey.{PoolKey}
-use Rattle.nat_mapping.specs.declared.keys.Holding.{Holding}
+use Rattle.nat_mapping.specs.declared.keys.MappedPort.{MappedPort}
 use Rattle.nat_mapping.specs.Mappings.{HoldsSame}
 use Rattle.nat_mapping.specs.steps.Keys.{has_pool, same_source, source_key_of}
 use Rattle.nat_mapping.specs.steps.Pooled.{taken_in}
-use Rattle.nat_mapping.specs.steps.Kept.{held_by}
+use Rattle.nat_mapping.specs.steps.Consistent.{held_by}
 use Rattle.nat_mapping.proofs.Changes.{PortSet}
 use Rattle.nat_mapping.proofs.Whole.{SourceSet, InboundSet, held_found, held_port, port_taken, changed, one_held_fewer, ended, ended_held}
 use Rattle.nat_mapping.proofs.mappings.Mappings.release.Goals as goal
@@ -29,66 +29,66 @@ invariant_of-self c =
     let m = c.args.m in
     let is : held_by c.self.inside.sources.entries ≡ c.args.self.now.held = ap (λ v. v.held) c.self.view_is in
     let L : List Mapping → Type 0 = λ held. Contains held m in
-    let h : Holding = c.in-Some.holding in
+    let h : MappedPort = c.in-Some.mapped in
     let found : get same_source c.self.inside.sources (source_key_of m) ≡ Some h = ap (get same_source c.self.inside.sources) (sym c.source_key-key.ensures) ∙ sym c.find_source.ensures ∙ c.in-Some.is in
     let port : h.port ≡ m.external.port = held_port c.self.inside.sources c.self.inside.inbounds c.self.inside.pools c.self.invariant m (subst L (sym is) c.requires) h found in
-    let fewer : Holding = record { port = h.port; holders = h.holders - 1 } in
-    let S : SourceKey → Type 0 = λ k. SourceSet c.self.inside.sources c.change_source.new.sources k (Some fewer) in
-    changed c.self.inside.sources c.self.inside.inbounds c.self.inside.pools c.self.invariant m c.change_source.new.sources h fewer found port refl c.change_source.ensures.unique
-    (subst S c.source_key-key.ensures c.change_source.ensures.values) (omega (arith, c.if-holding-gt1.true))
+    let fewer : MappedPort = record { port = h.port; holders = h.holders - 1 } in
+    let S : SourceKey → Type 0 = λ k. SourceSet c.self.inside.sources c.update_source.new.sources k (Some fewer) in
+    changed c.self.inside.sources c.self.inside.inbounds c.self.inside.pools c.self.invariant m c.update_source.new.sources h fewer found port refl c.update_source.ensures.unique
+    (subst S c.source_key-key.ensures c.update_source.ensures.values) (omega (arith, c.if-mapped-gt1.true))
 
-pub returns-then-holding-gt1-clause-held : goal.returns-then-holding-gt1-clause-held
-returns-then-holding-gt1-clause-held c =
+pub returns-then-mapped-gt1-clause-held : goal.returns-then-mapped-gt1-clause-held
+returns-then-mapped-gt1-clause-held c =
     let m = c.args.m in
     let is : held_by c.self.inside.sources.entries ≡ c.args.self.now.held = ap (λ v. v.held) c.self.view_is in
     let L : List Mapping → Type 0 = λ held. Contains held m in
-    let h : Holding = c.in-Some.holding in
+    let h : MappedPort = c.in-Some.mapped in
     let found : get same_source c.self.inside.sources (source_key_of m) ≡ Some h = ap (get same_source c.self.inside.sources) (sym c.source_key-key.ensures) ∙ sym c.find_source.ensures ∙ c.in-Some.is in
     let port : h.port ≡ m.external.port = held_port c.self.inside.sources c.self.inside.inbounds c.self.inside.pools c.self.invariant m (subst L (sym is) c.requires) h found in
-    let fewer : Holding = record { port = h.port; holders = h.holders - 1 } in
-    let S : SourceKey → Type 0 = λ k. SourceSet c.self.inside.sources c.change_source.new.sources k (Some fewer) in
-    let H : List Mapping → Type 0 = λ held. HoldsSame held (m ∷ held_by c.change_source.new.sources.entries) in
+    let fewer : MappedPort = record { port = h.port; holders = h.holders - 1 } in
+    let S : SourceKey → Type 0 = λ k. SourceSet c.self.inside.sources c.update_source.new.sources k (Some fewer) in
+    let H : List Mapping → Type 0 = λ held. HoldsSame held (m ∷ held_by c.update_source.new.sources.entries) in
     subst H is
-    (one_held_fewer c.self.inside.sources c.self.inside.inbounds c.self.inside.pools c.self.invariant m c.change_source.new.sources h fewer found port refl c.change_source.ensures.unique
-    (subst S c.source_key-key.ensures c.change_source.ensures.values) (omega (arith, c.if-holding-gt1.true)))
+    (one_held_fewer c.self.inside.sources c.self.inside.inbounds c.self.inside.pools c.self.invariant m c.update_source.new.sources h fewer found port refl c.update_source.ensures.unique
+    (subst S c.source_key-key.ensures c.update_source.ensures.values) (omega (arith, c.if-mapped-gt1.true)))
 
-pub invariant_of-self-else-holding-gt1 : goal.invariant_of-self-else-holding-gt1
-invariant_of-self-else-holding-gt1 c =
+pub invariant_of-self-else-mapped-gt1 : goal.invariant_of-self-else-mapped-gt1
+invariant_of-self-else-mapped-gt1 c =
     let m = c.args.m in
     let is : held_by c.self.inside.sources.entries ≡ c.args.self.now.held = ap (λ v. v.held) c.self.view_is in
     let L : List Mapping → Type 0 = λ held. Contains held m in
-    let h : Holding = c.in-Some.holding in
+    let h : MappedPort = c.in-Some.mapped in
     let found : get same_source c.self.inside.sources (source_key_of m) ≡ Some h = ap (get same_source c.self.inside.sources) (sym c.source_key-key.ensures) ∙ sym c.find_source.ensures ∙ c.in-Some.is in
     let port : h.port ≡ m.external.port = held_port c.self.inside.sources c.self.inside.inbounds c.self.inside.pools c.self.invariant m (subst L (sym is) c.requires) h found in
-    let S : SourceKey → Type 0 = λ k. SourceSet c.self.inside.sources c.drop_source.new.sources k None in
-    let O : InboundKey → Type 0 = λ k. InboundSet c.self.inside.inbounds c.drop_inbound.new.inbounds k None in
+    let S : SourceKey → Type 0 = λ k. SourceSet c.self.inside.sources c.remove_source.new.sources k None in
+    let O : InboundKey → Type 0 = λ k. InboundSet c.self.inside.inbounds c.remove_inbound.new.inbounds k None in
     let P : PoolKey → Type 0 = λ k. PortSet (taken_in c.self.inside.pools) (taken_in c.give.new.self) k m.external.port false in
-    ended c.self.inside.sources c.self.inside.inbounds c.self.inside.pools c.self.invariant m c.drop_source.new.sources c.drop_inbound.new.inbounds c.give.new.self c.drop_source.ensures.unique c.give.ensures.pooled h found port
-    (subst S c.source_key-key.ensures c.drop_source.ensures.values)
-    (subst O c.inbound_key.ensures c.drop_inbound.ensures.values)
+    ended c.self.inside.sources c.self.inside.inbounds c.self.inside.pools c.self.invariant m c.remove_source.new.sources c.remove_inbound.new.inbounds c.give.new.self c.remove_source.ensures.unique c.give.ensures.pooled h found port
+    (subst S c.source_key-key.ensures c.remove_source.ensures.values)
+    (subst O c.inbound_key.ensures c.remove_inbound.ensures.values)
     (subst P c.pool_key.ensures c.give.ensures.taken)
 
-pub returns-else-holding-gt1-clause-held : goal.returns-else-holding-gt1-clause-held
-returns-else-holding-gt1-clause-held c =
+pub returns-else-mapped-gt1-clause-held : goal.returns-else-mapped-gt1-clause-held
+returns-else-mapped-gt1-clause-held c =
     let m = c.args.m in
     let is : held_by c.self.inside.sources.entries ≡ c.args.self.now.held = ap (λ v. v.held) c.self.view_is in
     let L : List Mapping → Type 0 = λ held. Contains held m in
-    let h : Holding = c.in-Some.holding in
+    let h : MappedPort = c.in-Some.mapped in
     let found : get same_source c.self.inside.sources (source_key_of m) ≡ Some h = ap (get same_source c.self.inside.sources) (sym c.source_key-key.ensures) ∙ sym c.find_source.ensures ∙ c.in-Some.is in
     let port : h.port ≡ m.external.port = held_port c.self.inside.sources c.self.inside.inbounds c.self.inside.pools c.self.invariant m (subst L (sym is) c.requires) h found in
-    let S : SourceKey → Type 0 = λ k. SourceSet c.self.inside.sources c.drop_source.new.sources k None in
-    let H : List Mapping → Type 0 = λ held. HoldsSame held (m ∷ held_by c.drop_source.new.sources.entries) in
+    let S : SourceKey → Type 0 = λ k. SourceSet c.self.inside.sources c.remove_source.new.sources k None in
+    let H : List Mapping → Type 0 = λ held. HoldsSame held (m ∷ held_by c.remove_source.new.sources.entries) in
     let some : 0 < h.holders = c.self.invariant.sound.held (source_key_of m) h found in
     subst H is
-    (ended_held c.self.inside.sources c.self.inside.inbounds c.self.inside.pools c.self.invariant m c.drop_source.new.sources c.drop_inbound.new.inbounds c.give.new.self c.drop_source.ensures.unique c.give.ensures.pooled h found port
-    (omega (arith, some, c.if-holding-gt1.false))
-    (subst S c.source_key-key.ensures c.drop_source.ensures.values))
+    (ended_held c.self.inside.sources c.self.inside.inbounds c.self.inside.pools c.self.invariant m c.remove_source.new.sources c.remove_inbound.new.inbounds c.give.new.self c.remove_source.ensures.unique c.give.ensures.pooled h found port
+    (omega (arith, some, c.if-mapped-gt1.false))
+    (subst S c.source_key-key.ensures c.remove_source.ensures.values))
 
 pub give-requires-clause-taken : goal.give-requires-clause-taken
-give-requires-clause-taken c row =
+give-requires-clause-taken c bitmap =
     let m = c.args.m in
     let is : held_by c.self.inside.sources.entries ≡ c.args.self.now.held = ap (λ v. v.held) c.self.view_is in
     let L : List Mapping → Type 0 = λ held. Contains held m in
-    let here : has_pool m.kind ≡ true = ap (λ (k : PoolKey). has_pool k.kind) (sym c.pool_key.ensures) ∙ row in
+    let here : has_pool m.kind ≡ true = ap (λ (k : PoolKey). has_pool k.kind) (sym c.pool_key.ensures) ∙ bitmap in
     ap (λ k. taken_in c.self.inside.pools k m.external.port) c.pool_key.ensures
     ∙ port_taken c.self.inside.sources c.self.inside.inbounds c.self.inside.pools c.self.invariant m (subst L (sym is) c.requires) here

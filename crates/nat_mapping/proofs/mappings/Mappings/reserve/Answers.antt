@@ -4,7 +4,7 @@ use Rattle.ip_headers.specs.declared.tuple.Mapping.{Mapping}
 use Rattle.nat_mapping.specs.declared.keys.SourceKey.{SourceKey}
 use Rattle.nat_mapping.specs.declared.keys.InboundKey.{InboundKey}
 use Rattle.nat_mapping.specs.Mappings.{HoldsSame}
-use Rattle.nat_mapping.specs.steps.Kept.{held_by}
+use Rattle.nat_mapping.specs.steps.Consistent.{held_by}
 use Rattle.nat_mapping.proofs.Same.{source_fun, inbound_fun}
 use Rattle.nat_mapping.proofs.Whole.{grown, grown_held}
 use Rattle.nat_mapping.proofs.mappings.Mappings.reserve.Goals as goal

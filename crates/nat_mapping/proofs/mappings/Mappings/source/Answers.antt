@@ -8,7 +8,7 @@ use Rattle.port_pool.specs.Candidates.{candidates}
 use Rattle.nat_mapping.specs.declared.mappings.MapError.{MapError}
 use Rattle.nat_mapping.specs.declared.mappings.MapError.TheVariants.{NoPort}
 use Rattle.nat_mapping.specs.declared.keys.PoolKey.{PoolKey}
-use Rattle.nat_mapping.specs.declared.keys.Holding.{Holding}
+use Rattle.nat_mapping.specs.declared.keys.MappedPort.{MappedPort}
 use Rattle.nat_mapping.specs.Mappings.{or_else, order_of, source_of}
 use Rattle.nat_mapping.specs.steps.Keys.{inbound_at, same_inbound}
 use Rattle.nat_mapping.proofs.Answers.{source_is}
@@ -20,7 +20,7 @@ returns-in-Some-clause-ok c held same =
     let pool : PoolKey = record { kind = c.args.kind; address = c.args.address } in
     let chosen : Option ℕ = find (λ p. not (is_some (get same_inbound c.self.inside.inbounds (inbound_at pool p)))) (candidates (order_of c.args.kind) c.args.internal.port c.args.range) in
     let by = source_is _ _ _ c.self.invariant.sound held (counts_same c.self.inside.sources c.self.invariant.unique held c.args.self.now.held (ap (λ v. v.held) c.self.view_is) same) c.args.kind c.args.internal c.args.address c.args.range in
-    let step = λ (o : Option Holding). or_else (option_map (λ h. h.port) o) chosen in
+    let step = λ (o : Option MappedPort). or_else (option_map (λ h. h.port) o) chosen in
     by ∙ ap step (sym c.find_source.ensures ∙ c.in-Some.is)
 
 pub returns-in-Some-clause-no_port : goal.returns-in-Some-clause-no_port
@@ -39,17 +39,17 @@ returns-in-None-clause-ok c held same =
     let pool : PoolKey = record { kind = c.args.kind; address = c.args.address } in
     let chosen : Option ℕ = find (λ p. not (is_some (get same_inbound c.self.inside.inbounds (inbound_at pool p)))) (candidates (order_of c.args.kind) c.args.internal.port c.args.range) in
     let by = source_is _ _ _ c.self.invariant.sound held (counts_same c.self.inside.sources c.self.invariant.unique held c.args.self.now.held (ap (λ v. v.held) c.self.view_is) same) c.args.kind c.args.internal c.args.address c.args.range in
-    let step = λ (o : Option Holding). or_else (option_map (λ h. h.port) o) chosen in
+    let step = λ (o : Option MappedPort). or_else (option_map (λ h. h.port) o) chosen in
     let want : Option ℕ = source_of c.args.kind c.args.internal c.args.address c.args.range held in
     let P : Result ℕ MapError → Type 0 = λ r. IfOk r (λ port. want ≡ Some port) in
-    subst P (sym c.ok_or.ensures.value) (answered c.fresh_port.result want (by ∙ ap step (sym c.find_source.ensures ∙ c.in-None.is) ∙ sym c.fresh_port.ensures))
+    subst P (sym c.ok_or.ensures.value) (answered c.first_free_port.result want (by ∙ ap step (sym c.find_source.ensures ∙ c.in-None.is) ∙ sym c.first_free_port.ensures))
 
 pub returns-in-None-clause-no_port : goal.returns-in-None-clause-no_port
 returns-in-None-clause-no_port c held same =
     let pool : PoolKey = record { kind = c.args.kind; address = c.args.address } in
     let chosen : Option ℕ = find (λ p. not (is_some (get same_inbound c.self.inside.inbounds (inbound_at pool p)))) (candidates (order_of c.args.kind) c.args.internal.port c.args.range) in
     let by = source_is _ _ _ c.self.invariant.sound held (counts_same c.self.inside.sources c.self.invariant.unique held c.args.self.now.held (ap (λ v. v.held) c.self.view_is) same) c.args.kind c.args.internal c.args.address c.args.range in
-    let step = λ (o : Option Holding). or_else (option_map (λ h. h.port) o) chosen in
+    let step = λ (o : Option MappedPort). or_else (option_map (λ h. h.port) o) chosen in
     let want : Option ℕ = source_of c.args.kind c.args.internal c.args.address c.args.range held in
     let P : Result ℕ MapError → Type 0 = λ r. (r ≡ Err NoPort) ↔ (want ≡ None) in
-    subst P (sym c.ok_or.ensures.value) (refused c.fresh_port.result want (by ∙ ap step (sym c.find_source.ensures ∙ c.in-None.is) ∙ sym c.fresh_port.ensures))
+    subst P (sym c.ok_or.ensures.value) (refused c.first_free_port.result want (by ∙ ap step (sym c.find_source.ensures ∙ c.in-None.is) ∙ sym c.first_free_port.ensures))

@@ -38,6 +38,6 @@ returns-clause-pooled c =
       unique = subst U pool_fun c.reserve.ensures.unique;
       used = used_same (orders_in c.args.self.now) (λ q. order_by (get same_pool c.reserve.new.self q)) (taken_in c.args.self.now) (λ q p. is_taken_by (get same_pool c.reserve.new.self q) p) key 0 c.requires.pooled.used
           (λ q. ap order_by (same q)) (λ q p. ap (λ o. is_taken_by o p) (same q));
-      spares = c.stock.ensures.spares;
-      few = c.stock.ensures.few;
+      spares = c.fill_spares.ensures.spares;
+      few = c.fill_spares.ensures.few;
     }

@@ -1,7 +1,7 @@
 -- what was read is held, and nothing else changed; nothing was read where the answer was known
 use Rattle.std.proofs.Common.{◌≡◌, ◌-◌, ℕ, true, None, cond, length, List}
 use Rattle.std.specs.Io.KnownBytes.{Consumes, Keeps, IsAtEnd}
-use Rattle.pcap_io.specs.Seen.{ahead, is_ready}
+use Rattle.pcap_io.specs.CaptureStates.{ahead, is_ready}
 use Rattle.pcap_io.proofs.capture.Capture.next.Given as goal
 
 abbrev pub invariant-loop-self : goal.invariant-loop-self
@@ -15,7 +15,7 @@ invariant-loop-self g l = record {
   unread : is_ready l.initial.self ≡ true → (l.self ≡ l.initial.self) × (l.reader ≡ l.initial.reader);
   drained : (l.initial.self.ended ≡ true → IsAtEnd (g.R.Read.remaining l.initial.reader.inner)) → l.self.ended ≡ true → IsAtEnd (g.R.Read.remaining l.reader.inner);
   read : (part : List ℕ) × Consumes (g.R.Read.remaining l.initial.reader.inner) (g.R.Read.remaining l.reader.inner) part;
-  calm : l.reader.failures ≡ l.initial.reader.failures;
+  no_failure : l.reader.failures ≡ l.initial.reader.failures;
 }
 
 abbrev pub decreases-loop-self : goal.decreases-loop-self

@@ -1,28 +1,28 @@
 use Rattle.std.proofs.Common.{[], ◌++◌, ap, subst, ◌∙◌}
 use Rattle.std.proofs.lemmas.Result.{err_from_is_err_and}
 use Rattle.pcap_io.specs.steps.Written.{part_first}
-use Rattle.pcap_io.specs.Counting.{AppendsPart}
+use Rattle.pcap_io.specs.Counting.{AppendsPrefix}
 use Rattle.pcap_io.specs.Sll2.{sll2_record, sent}
-use Rattle.pcap_io.specs.Waiting.{Gets}
-use Rattle.pcap_io.proofs.Parts.{drained, left_waiting, waits_more}
+use Rattle.pcap_io.specs.Buffering.{AppendsBuffered}
+use Rattle.pcap_io.proofs.Parts.{drained, left_buffered, buffers_more}
 use Rattle.pcap_io.proofs.sink.Sink.put.Goals as goal
 use Rattle.pcap_io.proofs.sink.Sink.put.Goals.{then-len-length+in_ok-write_whole, else-len-length}
 
 pub returns-in_err-write_whole-clause-part : goal.returns-in_err-write_whole-clause-part
 returns-in_err-write_whole-clause-part g c =
     let p = err_from_is_err_and c.from_residual.result c.from_residual.ensures.1 in
-    let is = c.deref.ensures.value ∙ ap (λ v. v.waiting) c.self.view_is in
-    rw p.1 (part_first _ _ c.args.self.now.waiting (sll2_record (sent c.args.leaving.now)) (subst (AppendsPart _ _) is c.in_err-write_whole.ensures.part))
+    let is = c.deref.ensures.value ∙ ap (λ v. v.buffered) c.self.view_is in
+    rw p.1 (part_first _ _ c.args.self.now.buffered (sll2_record (sent c.args.leaving.now)) (subst (AppendsPrefix _ _) is c.in_err-write_whole.ensures.part))
 
 pub returns-clause-ok : goal.returns-clause-ok
 returns-clause-ok g c =
     let a = g.W.Write.contents c.args.writer.now.inner in
     let b = g.W.Write.contents c.if-len-length.writer.inner in
-    let old = c.args.self.now.waiting in
-    let mid = c.if-len-length.self-inside.waiting.items in
-    let so_far : Gets old a b mid [] = elim c.if-len-length.branch [
-      | then-len-length+in_ok-write_whole w ↦ rw (w.writer-is, w.self-inside-is) (drained _ _ old w.deref.result.now _ w.in_ok-write_whole.ensures.ok (w.deref.ensures.value ∙ ap (λ v. v.waiting) c.self.view_is) w.clear.ensures.items)
-      | else-len-length w ↦ rw (w.writer-is, w.self-inside-is) (left_waiting _ old _ (ap (λ v. v.waiting) c.self.view_is))
+    let old = c.args.self.now.buffered in
+    let mid = c.if-len-length.self-inside.buffered.items in
+    let so_far : AppendsBuffered old a b mid [] = elim c.if-len-length.branch [
+      | then-len-length+in_ok-write_whole w ↦ rw (w.writer-is, w.self-inside-is) (drained _ _ old w.deref.result.now _ w.in_ok-write_whole.ensures.ok (w.deref.ensures.value ∙ ap (λ v. v.buffered) c.self.view_is) w.clear.ensures.items)
+      | else-len-length w ↦ rw (w.writer-is, w.self-inside-is) (left_buffered _ old _ (ap (λ v. v.buffered) c.self.view_is))
     ] in
-    waits_more a b old mid c.headers.result c.args.leaving.now.packet.now c.append-2.new.waiting.items (sll2_record (sent c.args.leaving.now)) so_far
+    buffers_more a b old mid c.headers.result c.args.leaving.now.packet.now c.append-2.new.buffered.items (sll2_record (sent c.args.leaving.now)) so_far
     (c.append-2.ensures.items ∙ ap (λ l. l ++ c.args.leaving.now.packet.now) c.append.ensures.items) c.headers.ensures.bytes

@@ -2,30 +2,30 @@ use Rattle.std.proofs.Common.{◌≡◌, ℕ, refl, ◌∙◌, sym, subst, Bool,
 use Rattle.std.specs.Prelude.{◌==◌}
 use Rattle.std.specs.Bool.{then_some}
 use Rattle.std.specs.List.{find}
-use Rattle.port_pool.specs.declared.range.Range.{Range}
-use Rattle.port_pool.specs.declared.pool.Numbers.{Numbers}
+use Rattle.port_pool.specs.declared.range.CandidateRange.{CandidateRange}
+use Rattle.port_pool.specs.declared.pool.TakenNumbers.{TakenNumbers}
 use Rattle.port_pool.specs.steps.Bits.{bit}
 use Rattle.port_pool.specs.steps.Spans.{members}
 use Rattle.port_pool.specs.Taken.{is_taken, order_of, order_in, taken_in}
-use Rattle.port_pool.specs.Candidates.{candidates, numbers, suited, ports_of}
-use Rattle.port_pool.proofs.SpanLaws.{from_on-same, all_fit}
+use Rattle.port_pool.specs.Candidates.{candidates, numbers, preferred, ports_of}
+use Rattle.port_pool.proofs.SpanLaws.{starting_at-same, all_match_parity}
 use Rattle.port_pool.proofs.pool.Pool.first_candidate.Goals as goal
 
 -- the first number that is free, by what the pool has
-abbrev IsFree : ℕ → Option Range → Option ℕ → Numbers → Type 0
+abbrev IsFree : ℕ → Option CandidateRange → Option ℕ → TakenNumbers → Type 0
 IsFree s range r n = r ≡ find (λ p. not (taken_in n p)) (candidates (order_in n) s range)
 
 pub returns-in-Ports : goal.returns-in-Ports
 unfolding candidates is_taken order_of
 returns-in-Ports c =
     subst (IsFree c.args.s c.args.range c.first_from.result) (sym c.in-Ports.is)
-    (c.first_from.ensures ∙ from_on-same c.args.s (members c.ports_span.result) (suited c.args.s (ports_of c.args.range)) c.ports_span.ensures (λ k. not (bit c.in-Ports.row k)))
+    (c.first_from.ensures ∙ starting_at-same c.args.s (members c.ports_span.result) (preferred c.args.s (ports_of c.args.range)) c.ports_span.ensures (λ k. not (bit c.in-Ports.bitmap k)))
 
 pub returns-in-Identifiers : goal.returns-in-Identifiers
 unfolding candidates is_taken order_of
 returns-in-Identifiers c =
     subst (IsFree c.args.s c.args.range c.first_from-in-Identifiers.result) (sym c.in-Identifiers.is)
-    (c.first_from-in-Identifiers.ensures ∙ from_on-same c.args.s _ (numbers 0 65535) (all_fit (numbers 0 65535)) (λ k. not (bit c.in-Identifiers.row k)))
+    (c.first_from-in-Identifiers.ensures ∙ starting_at-same c.args.s _ (numbers 0 65535) (all_match_parity (numbers 0 65535)) (λ k. not (bit c.in-Identifiers.bitmap k)))
 
 -- of 0 alone
 zero_free : (taken : Bool) → then_some (not taken) 0 ≡ find (λ p. not (taken && p == 0)) (0 ∷ [])

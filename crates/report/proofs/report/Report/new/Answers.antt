@@ -1,5 +1,5 @@
 use Rattle.std.proofs.Common.{refl, arith}
-use Rattle.story.specs.Outcomes.{place}
+use Rattle.history.specs.Outcomes.{report_index}
 use Rattle.report.proofs.Fresh.{fresh_starts, fresh_fits, none_at}
 use Rattle.report.proofs.report.Report.new.Goals as goal
 
@@ -17,7 +17,7 @@ returns-clause-fresh c = record {
   records = refl;
   passed_are = refl;
   local_are = refl;
-  dropped_are = λ cause. none_at 17 (place cause);
+  dropped_are = λ cause. none_at 17 (report_index cause);
   begun_are = refl;
   tallies_are = λ at start is. rw c.in_ok-tallies.ensures.starts (fresh_starts _ at start is);
   traces_so = refl;

@@ -32,16 +32,16 @@ invariant_of-self-in-Dropped c = record {
 }
 
 pub returns-in-Passed-clause-noted : goal.returns-in-Passed-clause-noted
-returns-in-Passed-clause-noted c = λ rules trace story told e r is.
-    reports_more (the_view c.self.inside) _ rules trace story told e c.args.entry.now _ _ _ _ _ _ _ c.self.view_is r is c.self.invariant.tallies_fit c.requires.few (omega arith) (omega arith)
+returns-in-Passed-clause-noted c = λ rules trace history written e r is.
+    reports_more (the_view c.self.inside) _ rules trace history written e c.args.entry.now _ _ _ _ _ _ _ c.self.view_is r is c.self.invariant.tallies_fit c.requires.few (omega arith) (omega arith)
     (rw c.in-Passed.is (omega arith)) (rw c.in-Passed.is (omega arith)) (λ cause. rw c.in-Passed.is (omega arith)) (ap (λ n. c.self.inside.begun + n) c.from.ensures ∙ more_by_test c.args.entry.now.begun c.self.inside.begun) c.count_events.ensures (cc)
 
 pub returns-in-Local-clause-noted : goal.returns-in-Local-clause-noted
-returns-in-Local-clause-noted c = λ rules trace story told e r is.
-    reports_more (the_view c.self.inside) _ rules trace story told e c.args.entry.now _ _ _ _ _ _ _ c.self.view_is r is c.self.invariant.tallies_fit c.requires.few (omega arith) (omega arith)
+returns-in-Local-clause-noted c = λ rules trace history written e r is.
+    reports_more (the_view c.self.inside) _ rules trace history written e c.args.entry.now _ _ _ _ _ _ _ c.self.view_is r is c.self.invariant.tallies_fit c.requires.few (omega arith) (omega arith)
     (rw c.in-Local.is (omega arith)) (rw c.in-Local.is (omega arith)) (λ cause. rw c.in-Local.is (omega arith)) (ap (λ n. c.self.inside.begun + n) c.from.ensures ∙ more_by_test c.args.entry.now.begun c.self.inside.begun) c.count_events.ensures (cc)
 
 pub returns-in-Dropped-clause-noted : goal.returns-in-Dropped-clause-noted
-returns-in-Dropped-clause-noted c = λ rules trace story told e r is.
-    reports_more (the_view c.self.inside) _ rules trace story told e c.args.entry.now _ _ _ _ _ _ _ c.self.view_is r is c.self.invariant.tallies_fit c.requires.few (omega arith) (omega arith)
-    (rw c.in-Dropped.is (omega arith)) (rw c.in-Dropped.is (omega arith)) (λ cause. rw c.in-Dropped.is (drop_more _ _ _ c.place.ensures.place (omega (arith, c.place.ensures.within, c.self.told)) cause)) (ap (λ n. c.self.inside.begun + n) c.from.ensures ∙ more_by_test c.args.entry.now.begun c.self.inside.begun) c.count_events.ensures (cc)
+returns-in-Dropped-clause-noted c = λ rules trace history written e r is.
+    reports_more (the_view c.self.inside) _ rules trace history written e c.args.entry.now _ _ _ _ _ _ _ c.self.view_is r is c.self.invariant.tallies_fit c.requires.few (omega arith) (omega arith)
+    (rw c.in-Dropped.is (omega arith)) (rw c.in-Dropped.is (omega arith)) (λ cause. rw c.in-Dropped.is (drop_more _ _ _ c.report_index.ensures.report_index (omega (arith, c.report_index.ensures.within, c.self.written)) cause)) (ap (λ n. c.self.inside.begun + n) c.from.ensures ∙ more_by_test c.args.entry.now.begun c.self.inside.begun) c.count_events.ensures (cc)

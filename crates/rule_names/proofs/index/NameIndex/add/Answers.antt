@@ -1,6 +1,6 @@
 use Rattle.std.proofs.Common.{subst, refl}
 use Rattle.rule_names.specs.steps.Index.{IsAdded, texts}
-use Rattle.rule_names.proofs.Twice.{key-added}
+use Rattle.rule_names.proofs.Duplicates.{key-added}
 use Rattle.rule_names.proofs.index.NameIndex.add.Goals as goal
 
 pub invariant_of-self-2 : goal.invariant_of-self-2

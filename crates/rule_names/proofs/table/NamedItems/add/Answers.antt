@@ -2,16 +2,16 @@ use Rattle.std.proofs.Common.{inr, subst}
 use Rattle.std.proofs.lemmas.Result.{IfOk-weaker}
 use Rattle.std.proofs.lemmas.List.Elements.{filter_map-append}
 use Rattle.rule_names.specs.steps.Index.{IsAdded}
-use Rattle.rule_names.proofs.Additions.{comment-added, chain-added, set-added, map-added, shared-twice}
+use Rattle.rule_names.proofs.Additions.{comment-added, chain-added, set-added, map-added, shared-duplicate}
 use Rattle.rule_names.proofs.table.NamedItems.add.Goals as goal
 
 pub returns-then-not-branch : goal.returns-then-not-branch
 returns-then-not-branch c = λ items held.
-    rw c.in-Set.is (inr (simp filter_map-append (shared-twice items c.args.self.now held _ _ c.deref-in-Set.ensures.value (subst (IsAdded _ _ c.add-in-Set.new.self) c.if-not-branch.true c.in_ok-add-in-Set.ensures))))
+    rw c.in-Set.is (inr (simp filter_map-append (shared-duplicate items c.args.self.now held _ _ c.deref-in-Set.ensures.value (subst (IsAdded _ _ c.add-in-Set.new.self) c.if-not-branch.true c.in_ok-add-in-Set.ensures))))
 
 pub returns-then-not-branch-2 : goal.returns-then-not-branch-2
 returns-then-not-branch-2 c = λ items held.
-    rw c.in-Map.is (inr (simp filter_map-append (shared-twice items c.args.self.now held _ _ c.deref-in-Map.ensures.value (subst (IsAdded _ _ c.add-in-Map.new.self) c.if-not-branch-2.true c.in_ok-add-in-Map.ensures))))
+    rw c.in-Map.is (inr (simp filter_map-append (shared-duplicate items c.args.self.now held _ _ c.deref-in-Map.ensures.value (subst (IsAdded _ _ c.add-in-Map.new.self) c.if-not-branch-2.true c.in_ok-add-in-Map.ensures))))
 
 pub returns-in-Comment : goal.returns-in-Comment
 returns-in-Comment c = λ items held. rw c.in-Comment.is (comment-added items c.args.self.now held c.in-Comment.field-0.items)

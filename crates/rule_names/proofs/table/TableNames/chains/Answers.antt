@@ -1,6 +1,6 @@
 use Rattle.std.proofs.Common.{◌∙◌, ap, map}
 use Rattle.nft_tree.specs.Tree.{chain_tree}
-use Rattle.nft_tree.specs.Parts.{chains_of}
+use Rattle.nft_tree.specs.TableItems.{chains_of}
 use Rattle.rule_names.proofs.table.TableNames.chains.Goals as goal
 
 pub returns-clause-all : goal.returns-clause-all

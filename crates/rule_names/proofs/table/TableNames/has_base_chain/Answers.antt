@@ -1,6 +1,6 @@
 use Rattle.std.proofs.Common.{◌∙◌, ap, sym}
 use Rattle.nft_tree.specs.Tree.{head_tree}
-use Rattle.nft_tree.specs.Parts.{chains_of}
+use Rattle.nft_tree.specs.TableItems.{chains_of}
 use Rattle.rule_names.proofs.Bases.{is_base, any-base, is-some-map}
 use Rattle.rule_names.proofs.table.TableNames.has_base_chain.Goals as goal
 

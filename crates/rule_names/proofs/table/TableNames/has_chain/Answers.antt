@@ -3,7 +3,7 @@ use Rattle.std.specs.Prelude.{is_some}
 use Rattle.std.specs.List.{list_any}
 use Rattle.std.specs.Str.{bytes_eq}
 use Rattle.nft_tree.specs.Tree.{table_tree}
-use Rattle.nft_tree.specs.Parts.{chains_of}
+use Rattle.nft_tree.specs.TableItems.{chains_of}
 use Rattle.rule_names.specs.Names.{chain_named}
 use Rattle.rule_names.proofs.Places.{any-found}
 use Rattle.rule_names.proofs.table.TableNames.has_chain.Goals as goal

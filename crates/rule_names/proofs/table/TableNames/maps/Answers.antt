@@ -1,6 +1,6 @@
 use Rattle.std.proofs.Common.{◌∙◌, ap, map}
 use Rattle.nft_tree.specs.Tree.{map_tree}
-use Rattle.nft_tree.specs.Parts.{maps_of}
+use Rattle.nft_tree.specs.TableItems.{maps_of}
 use Rattle.rule_names.proofs.table.TableNames.maps.Goals as goal
 
 pub returns-clause-all : goal.returns-clause-all

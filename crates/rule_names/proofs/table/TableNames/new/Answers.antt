@@ -2,15 +2,15 @@ use Rattle.std.proofs.Common.{◌∙◌, List, ap, arith, get_or, length, map, s
 use Rattle.std.proofs.lemmas.List.{take_all}
 use Rattle.nft_tree.specs.declared.ruleset.Item.{Item}
 use Rattle.nft_tree.specs.Tree.{item_tree}
-use Rattle.rule_names.specs.steps.Table.{Holds}
-use Rattle.rule_names.proofs.Additions.{item-held, item-twice}
+use Rattle.rule_names.specs.steps.Table.{Represents}
+use Rattle.rule_names.proofs.Additions.{item-held, item-duplicate}
 use Rattle.rule_names.proofs.table.TableNames.new.Goals as goal
 
 pub returns-then-not-branch-clause-is : goal.returns-then-not-branch-clause-is
 returns-then-not-branch-clause-is c =
     let n = ap length c.deref-item-items.ensures.value in
     let is = c.item-item.is ∙ ap (λ xs. get_or xs c.loop-item.item-index c.item-item.result) c.deref-item-items.ensures.value in
-    item-twice c.args.table.now.items.items c.loop-item.item-index c.item-item.result (omega arith) is c.add.new.self _ c.if-not-branch.true (c.in_ok-add.ensures _ c.loop-item.invariant)
+    item-duplicate c.args.table.now.items.items c.loop-item.item-index c.item-item.result (omega arith) is c.add.new.self _ c.if-not-branch.true (c.in_ok-add.ensures _ c.loop-item.invariant)
 
 pub loop-item-preserved : goal.loop-item-preserved
 loop-item-preserved c =
@@ -22,5 +22,5 @@ pub returns-clause-apart : goal.returns-clause-apart
 returns-clause-apart c =
     let items : List Item = c.args.table.now.items.items in
     let n = ap length c.deref-item-items.ensures.value in
-    let all = subst (λ xs. Holds (map item_tree xs) c.loop-item.items) (take_all c.loop-item.item-index items (omega arith)) c.loop-item.invariant in
+    let all = subst (λ xs. Represents (map item_tree xs) c.loop-item.items) (take_all c.loop-item.item-index items (omega arith)) c.loop-item.invariant in
     record { chains_apart = all.chains.apart; sets_and_maps_apart = all.both_apart }

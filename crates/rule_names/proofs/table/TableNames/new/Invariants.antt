@@ -1,8 +1,8 @@
 use Rattle.std.proofs.Common.{map, take}
 use Rattle.nft_tree.specs.Tree.{item_tree}
-use Rattle.rule_names.specs.steps.Table.{Holds}
+use Rattle.rule_names.specs.steps.Table.{Represents}
 use Rattle.rule_names.proofs.table.TableNames.new.Given as goal
 
 -- the items so far
 abbrev pub invariant-loop-item : goal.invariant-loop-item
-invariant-loop-item l = Holds (map item_tree (take l.item-index l.table.items.items)) l.items
+invariant-loop-item l = Represents (map item_tree (take l.item-index l.table.items.items)) l.items

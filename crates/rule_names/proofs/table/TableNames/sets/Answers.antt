@@ -1,6 +1,6 @@
 use Rattle.std.proofs.Common.{◌∙◌, ap, map}
 use Rattle.nft_tree.specs.Tree.{set_tree}
-use Rattle.nft_tree.specs.Parts.{sets_of}
+use Rattle.nft_tree.specs.TableItems.{sets_of}
 use Rattle.rule_names.proofs.table.TableNames.sets.Goals as goal
 
 pub returns-clause-all : goal.returns-clause-all

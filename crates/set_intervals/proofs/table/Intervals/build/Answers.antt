@@ -3,7 +3,7 @@ use Rattle.std.specs.List.Sorted.{IsNonDecreasingBy, IsPermutation}
 use Rattle.std.proofs.lemmas.List.Sorted.{IsNonDecreasingBy-from_sort_by_key}
 use Rattle.std.proofs.lemmas.List.{get_or_default}
 use Rattle.std.proofs.lemmas.Result.{err_from_is_err_and}
-use Rattle.set_intervals.proofs.PairLaws.{clash_of, same_more, adds_take, same_permutation, look_says}
+use Rattle.set_intervals.proofs.PairLaws.{clash_of, same_more, adds_take, same_permutation, first_value_holds}
 use Rattle.set_intervals.proofs.PieceLaws.{one_answer, no_clash}
 use Rattle.set_intervals.proofs.table.Intervals.build.Goals as goal
 
@@ -35,9 +35,9 @@ returns-clause-same g c =
     let moved = subst (λ l. IsPermutation c.in_ok-sorted.sorted.items l) (sym c.deref-range-items.ensures.value) c.sort_unstable_by_key.ensures.permutation in
     same_permutation _ xs c.args.pairs.now c.loop-range.range-index c.loop-range-test.false c.loop-range.invariant.same (subst (λ l. IsPermutation l xs) c.in_ok-sorted.ensures moved)
 
-pub returns-clause-looks : goal.returns-clause-looks
-returns-clause-looks g c = λ key.
-    one_answer _ _ c.loop-range.invariant.table.separate (returns-clause-same g c) key _ _ (look_says _ key) (look_says _ key)
+pub returns-clause-first_values : goal.returns-clause-first_values
+returns-clause-first_values g c = λ key.
+    one_answer _ _ c.loop-range.invariant.table.separate (returns-clause-same g c) key _ _ (first_value_holds _ key) (first_value_holds _ key)
 
 pub returns-clause-agrees : goal.returns-clause-agrees
 returns-clause-agrees g c = no_clash _ _ c.loop-range.invariant.table.separate (returns-clause-same g c)

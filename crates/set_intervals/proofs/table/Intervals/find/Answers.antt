@@ -1,12 +1,12 @@
 use Rattle.std.proofs.Common.{◌∙◌, subst}
 use Rattle.std.specs.Option.{option_copied}
 use Rattle.set_intervals.specs.steps.Pieces.{IsTable}
-use Rattle.set_intervals.proofs.PairLaws.{Says, look_says, same_itself}
+use Rattle.set_intervals.proofs.PairLaws.{Says, first_value_holds, same_itself}
 use Rattle.set_intervals.proofs.PieceLaws.{one_answer}
 use Rattle.set_intervals.proofs.table.Intervals.find.Goals as goal
 
-pub returns-clause-looks : goal.returns-clause-looks
-returns-clause-looks g c =
+pub returns-clause-first_values : goal.returns-clause-first_values
+returns-clause-first_values g c =
     let e = c.deref.ensures.value ∙ c.self.view_is in
     let table = subst IsTable c.self.view_is c.self.invariant in
-    one_answer _ _ table.separate (same_itself _) c.args.key _ _ (subst (λ l. Says l c.args.key (option_copied c.find_in.result)) e c.find_in.ensures) (look_says _ c.args.key)
+    one_answer _ _ table.separate (same_itself _) c.args.key _ _ (subst (λ l. Says l c.args.key (option_copied c.find_in.result)) e c.find_in.ensures) (first_value_holds _ c.args.key)

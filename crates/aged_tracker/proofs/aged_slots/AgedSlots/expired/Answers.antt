@@ -1,0 +1,6 @@
+use Rattle.std.proofs.Common.{arith}
+use Rattle.aged_tracker.proofs.Expired.{all_live}
+use Rattle.aged_tracker.proofs.aged_slots.AgedSlots.expired.Goals as goal
+
+pub returns-clause-none : goal.returns-clause-none
+returns-clause-none c = all_live c.args.limits c.args.self.now c.args.now (λ q range. c.loop-queue.invariant q (omega arith))

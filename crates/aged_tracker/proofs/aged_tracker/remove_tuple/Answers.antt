@@ -1,0 +1,10 @@
+use Rattle.std.proofs.Common.{◌≡◌, subst, None, cond, Bool}
+use Rattle.std.specs.HashMap.{get}
+use Rattle.ip_headers.specs.declared.tuple.Tuple.{Tuple}
+use Rattle.aged_tracker.proofs.Same.{same_fun}
+use Rattle.aged_tracker.proofs.aged_tracker.remove_tuple.Goals as goal
+
+pub returns-clause-keys : goal.returns-clause-keys
+returns-clause-keys c q =
+    let P : (Tuple → Tuple → Bool) → Type 0 = λ eq. get eq c.remove.new.self q ≡ cond (eq c.args.tuple q) None (get eq c.args.keys.now q) in
+    subst P same_fun (c.remove.ensures.updates.0 q)

@@ -1,0 +1,98 @@
+//! Tuples and mappings without the room that alignment leaves between their fields.
+ghost use Rattle.std.specs.Prelude.{◌≡◌, option_map};
+ghost use Rattle.aged_tracker.specs.steps.Packed.{endpoint_of, mapping_of, tuple_of};
+
+use ip_headers::{Endpoint, Kind, Mapping, Tuple};
+
+/// An endpoint in 6 bytes: halves of an address need no wider alignment than a port.
+#[derive(Clone, Copy)]
+struct PackedEndpoint {
+    /// The upper 16 bits of the address.
+    high: u16,
+    /// The lower 16 bits of the address.
+    low: u16,
+    port: u16,
+}
+
+/// A kind and two endpoints in 14 bytes, as a tuple or a mapping has them in 20.
+#[derive(Clone, Copy)]
+pub struct PackedTuple {
+    kind: Kind,
+    /// The source, or the internal endpoint.
+    first: PackedEndpoint,
+    /// The destination, or the external endpoint.
+    second: PackedEndpoint,
+}
+
+impl PackedEndpoint {
+    fn of(endpoint: Endpoint) -> Self
+        ensures { endpoint_of result ≡ endpoint }
+    {
+        PackedEndpoint {
+            high: (endpoint.address / 65536) as u16,
+            low: (endpoint.address % 65536) as u16,
+            port: endpoint.port,
+        }
+    }
+
+    fn endpoint(self) -> Endpoint
+        ensures { result ≡ endpoint_of self }
+    {
+        Endpoint {
+            address: u32::from(self.high) * 65536 + u32::from(self.low),
+            port: self.port,
+        }
+    }
+}
+
+impl PackedTuple {
+    /// Those of a tuple.
+    pub fn of_tuple(tuple: Tuple) -> Self
+        ensures { tuple_of result ≡ tuple }
+    {
+        PackedTuple {
+            kind: tuple.kind,
+            first: PackedEndpoint::of(tuple.source),
+            second: PackedEndpoint::of(tuple.destination),
+        }
+    }
+
+    /// The tuple.
+    pub fn tuple(self) -> Tuple
+        ensures { result ≡ tuple_of self }
+    {
+        Tuple {
+            kind: self.kind,
+            source: self.first.endpoint(),
+            destination: self.second.endpoint(),
+        }
+    }
+
+    /// Those of a mapping, where there is one.
+    pub fn of_mapping(mapping: Option<Mapping>) -> Option<Self>
+        ensures { option_map mapping_of result ≡ mapping }
+    {
+        match mapping {
+            Some(mapping) => Some(PackedTuple {
+                kind: mapping.kind,
+                first: PackedEndpoint::of(mapping.internal),
+                second: PackedEndpoint::of(mapping.external),
+            }),
+            None => None,
+        }
+    }
+
+    /// The mapping, where there is one.
+    pub fn mapping(packed: Option<Self>) -> Option<Mapping>
+        ensures { result ≡ option_map mapping_of packed }
+    {
+        match packed {
+            Some(packed) => Some(Mapping {
+                kind: packed.kind,
+                internal: packed.first.endpoint(),
+                external: packed.second.endpoint(),
+            }),
+            None => None,
+        }
+    }
+}

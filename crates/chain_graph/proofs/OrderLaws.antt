@@ -1,0 +1,80 @@
+-- How the search begins, and what it has found at its end.
+use Rattle.std.proofs.Common.{◌≡◌, ◌≢◌, ◌⊎◌, ℕ, zero, suc, ◌<◌, List, [], ◌∷◌, length, get_or, sym, refl, subst, ◌∙◌, inl, inr, ⊎_elim, arith, replicate, map, le_of_eq}
+use Rattle.std.specs.Prelude.{Contains}
+use Rattle.std.proofs.lemmas.Bool.{cases_lt}
+use Rattle.std.proofs.lemmas.List.{get_or_default, length-map, length-replicate, get_or_past}
+use Rattle.chain_graph.specs.declared.search.Mark.{Mark}
+use Rattle.chain_graph.specs.declared.search.Mark.TheVariants.{New, Open, Done}
+use Rattle.chain_graph.specs.Order.{HasEdge, IsTopologicalOrder}
+use Rattle.chain_graph.specs.steps.Search.{IsSound}
+use Rattle.chain_graph.specs.steps.Targets.{IsTargetPath, HasTargetCycle}
+use Rattle.list_laws.specs.Elements.{none-in-empty, empty-All, take-place}
+
+pub get_or-lengths : (g : List (List ℕ)) (c : ℕ) → get_or (map length g) c 0 ≡ length (get_or g c [])
+get_or-lengths [] c = refl
+get_or-lengths (x ∷ xs) zero = refl
+get_or-lengths (x ∷ xs) (suc c) = get_or-lengths xs c
+
+pub all-new : (n c : ℕ) → get_or (replicate n New) c New ≡ New
+all-new zero c = refl
+all-new (suc n) zero = refl
+all-new (suc n) (suc c) = all-new n c
+
+pub fresh : (g : List (List ℕ)) (marks : List Mark) (left path order : List ℕ) → marks ≡ replicate (length g) New → left ≡ map length g → path ≡ [] → order ≡ [] → IsSound g marks left path order
+fresh g marks left path order m l p o =
+    let start : IsSound g (replicate (length g) New) (map length g) [] [] = record {
+      marks_long = length-replicate (length g) New;
+      left_long = length-map g length;
+      within = empty-All (λ c. c < length g);
+      below = empty-All (λ c. c < length g);
+      fits = λ c. le_of_eq (get_or-lengths g c);
+      scanned = λ c k h j. let n = get_or-lengths g c in absurd (omega arith);
+      ended = λ c e. let n = all-new (length g) c in let q : New ≡ Done = sym n ∙ e in cc;
+      opened = λ c e. let n = all-new (length g) c in let q : New ≡ Open = sym n ∙ e in cc;
+      listed = λ c h. absurd (none-in-empty c h);
+      on_path = λ c h. absurd (none-in-empty c h);
+      order_once = λ i h. absurd (omega (arith, h));
+      path_once = λ i h. absurd (omega (arith, h));
+      chained = λ i h. absurd (omega (arith, h));
+      after = λ i t h. absurd (omega (arith, h));
+    } in
+    subst (λ x. IsSound g x left path order) (sym m) (subst (λ x. IsSound g (replicate (length g) New) x path order) (sym l) (subst (λ x. IsSound g (replicate (length g) New) (map length g) x order) (sym p) (subst (λ x. IsSound g (replicate (length g) New) (map length g) [] x) (sym o) start)))
+
+pub mark-cases : (m : Mark) → (m ≡ New) ⊎ ((m ≡ Open) ⊎ (m ≡ Done))
+mark-cases New = inl refl
+mark-cases Open = inr (inl refl)
+mark-cases Done = inr (inr refl)
+
+pub all-done : (g : List (List ℕ)) (marks : List Mark) (left path order : List ℕ) → IsSound g marks left path order → path ≡ [] → ((c : ℕ) → c < length g → get_or marks c New ≢ New) → IsTopologicalOrder g order
+all-done g marks left path order s none visited = record {
+  below = s.below;
+  all = λ c h. ⊎_elim (λ e. absurd (visited c h e)) (λ r. ⊎_elim (λ e. absurd (none-in-empty c (subst (λ p. Contains p c) none (s.opened c e)))) (λ e. s.ended c e) r) (mark-cases (get_or marks c New));
+  once = s.order_once;
+  after = s.after;
+}
+
+pub reaching-before : (g : List (List ℕ)) (order : List ℕ) → IsTopologicalOrder g order → (i c b : ℕ) (cs : List ℕ) → i < length order → IsTargetPath g (get_or order i 0) (c ∷ cs) b → (j : ℕ) × (j < i) × (get_or order j 0 ≡ b)
+reaching-before g order o i c b [] h p =
+    let at = take-place order i c (omega arith) (o.after i c h p.0) in
+    (at.0, at.1, at.2 ∙ p.1)
+reaching-before g order o i c b (d ∷ cs) h p =
+    let at = take-place order i c (omega arith) (o.after i c h p.0) in
+    let l = at.1 in
+    let more = reaching-before g order o at.0 d b cs (omega arith) (subst (λ x. IsTargetPath g x (d ∷ cs) b) (sym at.2) p.1) in
+    let m = more.1 in
+    (more.0, omega arith, more.2)
+
+pub never-back : (g : List (List ℕ)) (order : List ℕ) → IsTopologicalOrder g order → (a c : ℕ) (cs : List ℕ) → IsTargetPath g a (c ∷ cs) a → (n i : ℕ) → i < n → i < length order → get_or order i 0 ≡ a → ⊥
+never-back g order o a c cs p zero i h l e = omega (arith, h)
+never-back g order o a c cs p (suc n) i h l e =
+    let at = reaching-before g order o i c a cs l (subst (λ x. IsTargetPath g x (c ∷ cs) a) (sym e) p) in
+    let m = at.1 in
+    never-back g order o a c cs p n at.0 (omega arith) (omega arith) at.2
+
+pub edge-within : (g : List (List ℕ)) (a b : ℕ) → HasEdge g a b → a < length g
+edge-within g a b e = ⊎_elim (λ h. h) (λ h. absurd (none-in-empty b (subst (λ xs. Contains xs b) (get_or_past g a [] h) e))) (cases_lt a (length g))
+
+pub no-cycle : (g : List (List ℕ)) (order : List ℕ) → IsTopologicalOrder g order → HasTargetCycle g → ⊥
+no-cycle g order o k =
+    let at = o.all k.node (edge-within g k.node k.first k.path.0) in
+    never-back g order o k.node k.first k.rest k.path (length order) at.0 at.1 at.1 (get_or_default order at.0 0 k.node at.1 ∙ at.2)

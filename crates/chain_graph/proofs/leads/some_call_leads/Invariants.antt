@@ -1,7 +1,0 @@
-use Rattle.std.proofs.Common.{◌≡◌, get_or, map, drop, false}
-use Rattle.chain_graph.specs.Nodes.{call_of}
-use Rattle.chain_graph.specs.steps.Passes.{some_call}
-use Rattle.chain_graph.proofs.leads.some_call_leads.Given as goal
-
-abbrev pub invariant-loop-call : goal.invariant-loop-call
-invariant-loop-call l = some_call (λ c. get_or l.leads c false) (map call_of (drop l.call-index l.calls)) ≡ some_call (λ c. get_or l.leads c false) (map call_of l.calls)

@@ -1,9 +1,0 @@
-use Rattle.std.proofs.Common.{◌≡◌, get_or, drop, false}
-use Rattle.std.specs.Prelude.{flat_map}
-use Rattle.chain_graph.specs.Graph.{itself}
-use Rattle.chain_graph.specs.Nodes.{statements_of}
-use Rattle.chain_graph.specs.steps.Passes.{some_call}
-use Rattle.chain_graph.proofs.leads.some_statement_leads.Given as goal
-
-abbrev pub invariant-loop-calls : goal.invariant-loop-calls
-invariant-loop-calls l = some_call (λ c. get_or l.leads c false) (flat_map itself (statements_of (drop l.calls-index l.statements))) ≡ some_call (λ c. get_or l.leads c false) (flat_map itself (statements_of l.statements))

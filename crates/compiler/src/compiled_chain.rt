@@ -1,0 +1,37 @@
+//! Base chains.
+ghost use Rattle.std.specs.Prelude.{◌≡◌, ◌<◌, false};
+ghost use Rattle.rule_values.specs.Faults.{priority_out_of_range};
+
+use filter_vm::Start;
+use nft_tree::{ChainKind, Head, Policy};
+use rule_meaning::ChainNo;
+
+/// A base chain of a ruleset.
+#[derive(Clone, Copy)]
+pub(crate) struct CompiledChain<'t> {
+    pub(crate) number: ChainNo,
+    pub(crate) head: &'t Head,
+    /// 1, and how many statements a run starts at most.
+    pub(crate) cost: u32,
+    ghost is_positive: { 0 < cost },
+    ghost in_range: { priority_out_of_range head.now.priority ≡ false },
+}
+
+impl CompiledChain<'_> {
+    ghost use Rattle.compiler.specs.Compiled.{start_head, base_chain_head};
+    ghost use Rattle.compiler.specs.steps.Bases.{base};
+
+    /// Where a packet starts that comes to the chain. Without a policy it accepts.
+    pub(crate) fn start(&self) -> Start
+        ensures start_head { start_head result ≡ base_chain_head (base self.now) }
+        ensures cost { result.cost ≡ self.now.cost }
+    {
+        Start {
+            chain: self.number,
+            policy: self.head.policy.unwrap_or(Policy::Accept),
+            priority: self.head.priority.number() as i32,
+            is_nat: matches!(self.head.kind, ChainKind::Nat),
+            cost: self.cost,
+        }
+    }
+}

@@ -1,9 +1,0 @@
-use Rattle.std.proofs.Common.{rules, tests, not, ◌∙◌}
-use Rattle.std.proofs.lemmas.Iterator.{YieldsList-from_slice}
-use Rattle.std.proofs.lemmas.Iterator.Search.{find_from_yields_List}
-use Rattle.conntrack.specs.declared.connection.Held.{Held}
-use Rattle.conntrack.specs.Held.{is_live}
-use Rattle.conntrack.proofs.list_tracker.find_dead.Goals as goal
-
-pub returns : goal.returns
-returns c = c.copied.ensures ∙ find_from_yields_List (λ (h : Held). not (is_live c.args.limits c.args.now h)) _ _ c.find.result c.find.ensures.ran (YieldsList-from_slice c.args.conns.now cc) (λ x b q k. search (rules, tests))

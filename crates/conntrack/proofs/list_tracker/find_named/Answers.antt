@@ -1,9 +1,0 @@
-use Rattle.std.proofs.Common.{rules, tests, ◌∙◌}
-use Rattle.std.proofs.lemmas.Iterator.{YieldsList-from_slice}
-use Rattle.std.proofs.lemmas.Iterator.Search.{find_from_yields_List}
-use Rattle.conntrack.specs.declared.connection.Held.{Held}
-use Rattle.conntrack.specs.Held.{same_id}
-use Rattle.conntrack.proofs.list_tracker.find_named.Goals as goal
-
-pub returns : goal.returns
-returns c = c.copied.ensures ∙ find_from_yields_List (λ (h : Held). same_id c.args.id h) _ _ c.find.result c.find.ensures.ran (YieldsList-from_slice c.args.conns.now cc) (λ x b q k. search (rules, tests))

@@ -1,0 +1,164 @@
+//! What is found in box files. What they are refused for is asked of the built program.
+use crate::support::check_row;
+use box_file::Plant;
+use std::alloc::{AllocError, Global};
+use std::process::Abort;
+
+/// A box with two interfaces and a route to everywhere.
+const TWO: &[u8] = b"interface 2 lan 192.168.1.1/24
+interface 3 wan 203.0.113.1/24
+route 0.0.0.0/0 wan
+default lan
+";
+
+/// A box with a second address, overlapping prefixes and an own multicast address.
+const SEVERAL: &[u8] = b"# the way out stands before its interface
+route 10.0.0.0/23 up
+interface 2 lan 10.0.0.1/24
+interface 3 wan 10.0.1.1/24
+\tinterface  2 lan\t10.0.1.129/25 # a second address
+interface 7 up 239.0.0.1/8
+route 10.0.1.0/24 lan
+
+default wan";
+
+/// Lines, and the limits that they say: of UDP, of TCP that is established and that isn't, of echoes and of
+/// other protocols.
+static IDLE_LIMITS: [(&[u8], [u32; 5]); 4] = [
+    (b"", [300, 7440, 240, 60, 600]),
+    (b"idle udp 120\n", [120, 7440, 240, 60, 600]),
+    (
+        b"idle other 5\nidle established 7444\nidle ask 604800\n",
+        [300, 7444, 240, 604_800, 5],
+    ),
+    (
+        b"idle udp 121\nidle established 7441\nidle transitory 241\nidle ask 1\nidle other 2\n",
+        [121, 7441, 241, 1, 2],
+    ),
+];
+
+/// The limits of a box that has these lines too.
+fn idle_limits(alloc: Global, lines: &[u8]) -> Option<[u32; 5]> {
+    let text = [TWO, lines].concat(alloc).ok()?;
+    let idle = Plant::read(alloc, &text).ok()?.idle();
+    Some([
+        idle.udp,
+        idle.established,
+        idle.transitory,
+        idle.echo,
+        idle.other,
+    ])
+}
+
+/// Each kind has the limit of its line, and without one its usual limit.
+#[test]
+fn idle_limits_are_read(rt: HostRuntime) {
+    for (row, (lines, wanted)) in IDLE_LIMITS.iter().enumerate() {
+        check_row(&rt, row, idle_limits(rt.alloc(), lines) == Some(*wanted));
+    }
+}
+
+/// A box with as many routes as one may have, to addresses of their own.
+fn many_routes(alloc: Global) -> Result<String, AllocError> {
+    let mut text = String::from_str(alloc, "interface 1 e1 192.168.1.1/24\ndefault e1\n")?;
+    for place in 0..1024u32 {
+        let third = place / 256;
+        let fourth = place % 256;
+        writeln!(text, "route 10.0.{third}.{fourth}/32 e1")?;
+    }
+    Ok(text)
+}
+
+/// An address, the interface by which it is reached, and the one that has it.
+type Reachability = ([u8; 4], Option<u32>, Option<u32>);
+
+static REACHED_BY_TWO: [Reachability; 12] = [
+    ([192, 168, 1, 1], Some(2), Some(2)),
+    ([192, 168, 1, 2], Some(2), None),
+    ([192, 168, 1, 10], Some(2), None),
+    ([192, 168, 1, 255], Some(2), None),
+    ([192, 168, 2, 0], Some(3), None),
+    ([203, 0, 113, 1], Some(3), Some(3)),
+    ([203, 0, 113, 2], Some(3), None),
+    ([203, 0, 113, 9], Some(3), None),
+    ([0, 0, 0, 0], Some(3), None),
+    ([223, 255, 255, 255], Some(3), None),
+    ([224, 0, 0, 0], None, None),
+    ([255, 255, 255, 255], None, None),
+];
+
+static REACHED_BY_SEVERAL: [Reachability; 9] = [
+    ([9, 255, 255, 255], None, None),
+    ([10, 0, 0, 0], Some(2), None),
+    ([10, 0, 1, 0], Some(3), None),
+    ([10, 0, 1, 127], Some(3), None),
+    ([10, 0, 1, 128], Some(2), None),
+    ([10, 0, 1, 129], Some(2), Some(2)),
+    ([10, 0, 1, 255], Some(2), None),
+    ([10, 0, 2, 0], None, None),
+    ([239, 0, 0, 1], None, Some(7)),
+];
+
+static REACHED_BY_MANY: [Reachability; 2] = [
+    ([10, 0, 3, 255], Some(1), None),
+    ([10, 0, 4, 0], None, None),
+];
+
+/// Whether the box knows this way.
+fn is_known(plant: &Plant, expected: &Reachability) -> bool {
+    let (groups, route, owner) = expected;
+    let address = u32::from_be_bytes(*groups);
+    plant.route(address) == *route
+        && plant.owner(address) == *owner
+        && plant.is_own(address) == owner.is_some()
+}
+
+/// The ways have to be found in the box.
+fn finds<R: Abort + AllocGlobal>(rt: &R, text: &[u8], rows: &[Reachability]) {
+    let plant = Plant::read(rt.alloc(), text).expect(rt, "a box");
+    for (row, expected) in rows.iter().enumerate() {
+        check_row(rt, row, is_known(&plant, expected));
+    }
+}
+
+/// The longest prefix tells the route, and of equal ones that of an interface or the first.
+#[test]
+fn routes_and_owners_are_found(rt: HostRuntime) {
+    finds(&rt, TWO, &REACHED_BY_TWO);
+    finds(&rt, SEVERAL, &REACHED_BY_SEVERAL);
+    let many = many_routes(rt.alloc()).expect(&rt, "a text");
+    finds(&rt, many.as_bytes(), &REACHED_BY_MANY);
+}
+
+/// A box, the interface by which its packets enter, a word, the number of the interface of that
+/// name, and the interface's first address; None where there is no such interface.
+type Named<'a> = (&'a [u8], u32, &'a [u8], u32, Option<u32>);
+
+static NAMES: [Named<'static>; 5] = [
+    (TWO, 2, b"wa", 1, None),
+    (TWO, 2, b"lan", 2, Some(0xc0a8_0101)),
+    (TWO, 2, b"wan", 3, Some(0xcb00_7101)),
+    (TWO, 2, b"dmz", 4, None),
+    (SEVERAL, 3, b"lan", 2, Some(0x0a00_0001)),
+];
+
+/// Whether the box has this interface, or none.
+fn is_named(plant: &Plant, row: &Named<'_>) -> bool {
+    let (_, entering, word, number, first) = *row;
+    let (name, named) = match first {
+        Some(_) => (Some(word), Some(number)),
+        None => (None, None),
+    };
+    plant.first_address(number) == first
+        && plant.name(number) == name
+        && plant.named(word) == named
+        && plant.entering() == entering
+}
+
+#[test]
+fn interfaces_are_found_by_their_names(rt: HostRuntime) {
+    for (row, named) in NAMES.iter().enumerate() {
+        let plant = Plant::read(rt.alloc(), named.0).expect(&rt, "a box");
+        check_row(&rt, row, is_named(&plant, named));
+    }
+}

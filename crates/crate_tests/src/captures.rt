@@ -1,0 +1,239 @@
+//! Captures as pcap-savefile(5) lays them out, read and written.
+ghost use Rattle.std.specs.Prelude.{◌≤◌, length};
+
+use crate::support::{bytes, check_row, repeated};
+use pcap_io::{Calls, Capture, CaptureError, CaptureFault, Counted, Failing, Leaving, Sink, Slow};
+use std::alloc::{AllocError, Global};
+use std::io::{Read, Write};
+use std::process::Abort;
+
+/// Magic a1b2c3d4, which tells microseconds, version 2.4, LINKTYPE_RAW.
+const HEADER: &str = "d4c3b2a1020004000000000000000000ffff000065000000";
+
+/// At 1 s 500000 microseconds, 28 bytes.
+const AT_1_5: &str = "0100000020a107001c0000001c000000";
+
+/// UDP from 192.168.1.10:5000 to 198.51.100.7:53, TTL 64.
+const PLAIN: &str = "4500001c0001000040118ee3c0a8010ac63364071388003500080000";
+
+/// A packet of one byte at 0 seconds, which is earlier; 4 bytes were on the wire.
+const EARLIER: &str = "0000000000000000010000000400000045";
+
+/// How many records there are, or the first fault.
+fn count_until_fault<I: Read>(
+    capture: &mut Capture,
+    reader: &mut Counted<I>,
+) -> Result<u64, CaptureError> {
+    for count in 0..9 {
+        if !capture.next(reader)? {
+            return Ok(count);
+        }
+    }
+    Ok(9)
+}
+
+/// The same of a capture that is opened; None where a fault doesn't come again, or leaves a record.
+fn count_records<I: Read>(
+    alloc: Global,
+    reader: &mut Counted<I>,
+) -> Option<Result<u64, CaptureError>> {
+    let mut capture = match Capture::open(alloc, reader) {
+        Ok(capture) => capture,
+        Err(error) => return Some(Err(error)),
+    };
+    let answer = count_until_fault(&mut capture, reader);
+    if let Err(error) = answer {
+        if capture.next(reader) != Err(error) || capture.record().is_some() {
+            return None;
+        }
+    }
+    Some(answer)
+}
+
+const MAGIC: Result<u64, CaptureError> = Err(CaptureError::Refused(CaptureFault::Magic));
+
+const VERSION: Result<u64, CaptureError> = Err(CaptureError::Refused(CaptureFault::Version));
+
+const LINK_TYPE: Result<u64, CaptureError> = Err(CaptureError::Refused(CaptureFault::LinkType));
+
+const MALFORMED: Result<u64, CaptureError> = Err(CaptureError::Refused(CaptureFault::Malformed));
+
+const TORN_END: Result<u64, CaptureError> = Err(CaptureError::Refused(CaptureFault::TornEnd));
+
+/// The header of a record of 262,144 bytes, the most that one may have.
+const LONGEST: &[u8] = &[0, 0, 0, 0, 0, 0, 0, 0, 0, 0, 4, 0, 0, 0, 0, 0];
+
+/// Of one byte more.
+const LONGER: &[u8] = &[0, 0, 0, 0, 0, 0, 0, 0, 1, 0, 4, 0, 0, 0, 0, 0];
+
+/// The header of a record without a byte, at 999,999 microseconds.
+const LATEST: &[u8] = &[0, 0, 0, 0, 0x3f, 0x42, 0x0f, 0, 0, 0, 0, 0, 0, 0, 0, 0];
+
+/// At a microsecond more.
+const LATER: &[u8] = &[0, 0, 0, 0, 0x40, 0x42, 0x0f, 0, 0, 0, 0, 0, 0, 0, 0, 0];
+
+/// A place of a capture of two records, the bytes that are put there, how long the capture is then,
+/// and how many records it has or why it is refused.
+type Row = (usize, &'static [u8], usize, Result<u64, CaptureError>);
+
+static ROWS: [Row; 23] = [
+    (0, &[0x4d], 85, MAGIC),
+    (4, &[3], 85, VERSION),
+    (6, &[3], 85, VERSION),
+    (20, &[0x71], 85, LINK_TYPE),
+    // LINKTYPE_ETHERNET.
+    (20, &[1], 85, Ok(2)),
+    // The high bits of the link type's field don't count.
+    (23, &[0x14], 85, Ok(2)),
+    // A fraction of 1,024,288.
+    (30, &[0x0f], 85, MALFORMED),
+    // Captured lengths of 65,564 and of 262,172.
+    (34, &[1], 85, TORN_END),
+    (34, &[4], 85, MALFORMED),
+    // The original length isn't used.
+    (39, &[0xff], 85, Ok(2)),
+    (0, &[], 0, TORN_END),
+    (0, &[], 23, TORN_END),
+    (0, &[], 24, Ok(0)),
+    (0, &[], 25, TORN_END),
+    (0, &[], 67, TORN_END),
+    (0, &[], 68, Ok(1)),
+    (0, &[], 84, TORN_END),
+    (0, &[], 85, Ok(2)),
+    // As many bytes as the header tells, and one fewer.
+    (24, LONGEST, 262_184, Ok(1)),
+    (24, LONGEST, 262_183, TORN_END),
+    (24, LONGER, 262_185, MALFORMED),
+    (24, LATEST, 40, Ok(1)),
+    (24, LATER, 40, MALFORMED),
+];
+
+/// The capture that the row makes of the whole one.
+fn changed(alloc: Global, whole: &[u8], row: &Row) -> Result<Vec<u8>, AllocError> {
+    let (place, put, length, _) = row;
+    let mut capture = whole.to_vec(alloc)?;
+    for (old, new) in capture.iter_mut().skip(*place).zip(*put) {
+        *old = *new;
+    }
+    capture.resize(*length, b'x')?;
+    Ok(capture)
+}
+
+#[test]
+fn records_are_counted_or_refused(rt: HostRuntime) {
+    let parts = [HEADER, AT_1_5, PLAIN, EARLIER];
+    let whole = bytes(rt.alloc(), &parts).expect(&rt, "a capture");
+    for (number, row) in ROWS.iter().enumerate() {
+        let capture = changed(rt.alloc(), &whole, row).expect(&rt, "memory");
+        let answer = count_records(rt.alloc(), &mut Counted::new(capture.as_slice()));
+        check_row(&rt, number, answer == Some(row.3));
+    }
+}
+
+/// What is told where this read of 9 bytes fails, and how many calls there were.
+fn read_slowly(
+    alloc: Global,
+    capture: &[u8],
+    fails: usize,
+) -> (Option<Result<u64, CaptureError>>, u64) {
+    let slow = Slow::new(capture, 9);
+    let mut reader = Counted::new(Calls::new(Failing::new(slow, fails)));
+    let answer = count_records(alloc, &mut reader);
+    (answer, reader.into_inner().calls())
+}
+
+/// Each read of 9 bytes fails in turn: that is answered, it is answered again, and nothing is read again.
+#[test]
+fn a_failed_read_is_reported_again(rt: HostRuntime) {
+    let parts = [HEADER, AT_1_5, PLAIN, AT_1_5, PLAIN];
+    let capture = bytes(rt.alloc(), &parts).expect(&rt, "a capture");
+    // 112 bytes take 13 reads, and the end is seen by one more.
+    for fails in 0..14u8 {
+        let row = usize::from(fails);
+        let wanted = (Some(Err(CaptureError::Device)), u64::from(fails) + 1);
+        check_row(&rt, row, read_slowly(rt.alloc(), &capture, row) == wanted);
+    }
+    check_row(
+        &rt,
+        14,
+        read_slowly(rt.alloc(), &capture, 14) == (Some(Ok(2)), 14),
+    );
+}
+
+/// How many packets wait in the buffer before one has no room.
+const WAITING: usize = 2_048;
+
+/// Magic a1b23c4d, which tells nanoseconds, version 2.4, snaplen 262,144, LINKTYPE_LINUX_SLL2.
+static OUT_HEADER: [u8; 24] = [
+    0x4d, 0x3c, 0xb2, 0xa1, 2, 0, 4, 0, 0, 0, 0, 0, 0, 0, 0, 0, 0, 0, 4, 0, 0x14, 1, 0, 0,
+];
+
+/// At 1 s 500000000 nanoseconds, 48 bytes, by interface 3; the packet begins at 36.
+static RECORD: [u8; 64] = [
+    1, 0, 0, 0, 0, 0x65, 0xcd, 0x1d, 0x30, 0, 0, 0, 0x30, 0, 0, 0, 8, 0, 0, 0, 0, 0, 0, 3, 0, 1, 4,
+    0, 0, 0, 0, 0, 0, 0, 0, 0, 0x45, 0x00, 0x00, 0x1c, 0x00, 0x01, 0x00, 0x00, 0x40, 0x11, 0x8e,
+    0xe3, 0xc0, 0xa8, 0x01, 0x0a, 0xc6, 0x33, 0x64, 0x07, 0x13, 0x88, 0x00, 0x35, 0x00, 0x08, 0x00,
+    0x00,
+];
+
+/// What is written of the packets that wait, where the first write behind the header fails.
+fn written_after_failed_put<R: Abort + AllocGlobal>(rt: &R, packet: &[u8]) -> Vec<u8>
+    requires { length packet.now ≤ 65535 }
+{
+    let leaving = Leaving {
+        moment: 1_500_000_000,
+        interface: 3,
+        packet,
+    };
+    let mut writer = Counted::new(Failing::new(Vec::new(rt.alloc()), 1));
+    let mut sink = Sink::open(rt.alloc(), &mut writer).expect(rt, "a sink");
+    for _ in 0..WAITING {
+        sink.put(&mut writer, &leaving).expect(rt, "room");
+    }
+    assert!(rt; sink.put(&mut writer, &leaving).is_err() && writer.failures() == 1);
+    // The call fails once; what waited is all there.
+    sink.finish(&mut writer).expect(rt, "a write");
+    writer.into_inner().into_inner()
+}
+
+/// A buffer that can't be drained keeps what waits.
+#[test]
+fn buffered_packets_survive_a_failed_put(rt: HostRuntime) {
+    let wanted = repeated(rt.alloc(), &OUT_HEADER, &RECORD, WAITING, b"").expect(&rt, "memory");
+    let written = written_after_failed_put(&rt, &RECORD[36..]);
+    assert!(rt; written.as_slice() == wanted.as_slice());
+}
+
+/// Of six calls of a writer the one of this number fails, and is counted alone.
+fn counts_writes(alloc: Global, fails: usize) -> bool {
+    let mut writer = Counted::new(Calls::new(Failing::new(Vec::new(alloc), fails)));
+    let mut is_right = true;
+    for call in 0..6usize {
+        let has_failed = if call % 2 == 0 {
+            writer.write(b"byte").is_err()
+        } else {
+            writer.flush().is_err()
+        };
+        is_right &= has_failed == (call == fails);
+    }
+    is_right && writer.failures() == 1 && writer.into_inner().calls() == 6
+}
+
+/// So it is with a reader.
+fn counts_reads(fails: usize) -> bool {
+    let mut reader = Counted::new(Calls::new(Failing::new(&b"some bytes"[..], fails)));
+    let mut is_right = true;
+    for call in 0..6usize {
+        is_right &= reader.read(&mut [0u8; 3]).is_err() == (call == fails);
+    }
+    is_right && reader.failures() == 1 && reader.into_inner().calls() == 6
+}
+
+/// Each call is handed on once, whether it fails or not, and only the one that fails is counted.
+#[test]
+fn a_counted_call_is_made_once(rt: HostRuntime) {
+    for fails in 0..6usize {
+        check_row(&rt, fails, counts_writes(rt.alloc(), fails));
+        check_row(&rt, fails, counts_reads(fails));
+    }
+}

@@ -1,0 +1,478 @@
+//! Packets read in place.
+use crate::support::{PACKET, bytes, check_row};
+use hex::FromHexError;
+use ip_headers::{Endpoint, HeaderFault, Kind, Transport, Tuple, View, ones_sum};
+use std::alloc::{AllocError, Global};
+
+/// The first is that of RFC 1071, section 3.
+static SUMS: [(&[u8], u16); 5] = [
+    (&[0x00, 0x01, 0xf2, 0x03, 0xf4, 0xf5, 0xf6, 0xf7], 0xddf2),
+    (&[], 0),
+    (&[0x01], 0x0100),
+    (&[0xff, 0xff, 0x00, 0x01], 0x0001),
+    (&[0xff, 0xff, 0xff, 0xff], 0xffff),
+];
+
+#[test]
+fn sums(rt: HostRuntime) {
+    for (row, &(words, sum)) in SUMS.iter().enumerate() {
+        check_row(&rt, row, ones_sum(words) == sum);
+    }
+}
+
+/// The sum as the C code of RFC 1071, section 4.1, makes it.
+fn plain_sum(bytes: &[u8]) -> u16 {
+    let mut sum = 0u32;
+    for (place, byte) in bytes.iter().enumerate() {
+        let weight = if place % 2 == 0 { 256 } else { 1 };
+        sum = sum.wrapping_add(u32::from(*byte) * weight);
+    }
+    let folded = (sum & 0xffff).wrapping_add(sum >> 16);
+    (folded & 0xffff).wrapping_add(folded >> 16) as u16
+}
+
+/// Of each length, by blocks and what is left of one.
+#[test]
+fn sums_of_each_length(rt: HostRuntime) {
+    let mut bytes = Vec::new(rt.alloc());
+    for number in 0..201u8 {
+        check_row(&rt, bytes.len(), ones_sum(&bytes) == plain_sum(&bytes));
+        let byte = number.wrapping_mul(151) ^ 0xa5;
+        bytes.push(byte).expect(&rt, "memory");
+    }
+}
+
+/// From where the answer to a packet comes, and where it goes.
+static BACK: Tuple = Tuple {
+    kind: Kind::Udp,
+    source: Endpoint {
+        address: 0xc633_6407,
+        port: 53,
+    },
+    destination: Endpoint {
+        address: 0xc0a8_010a,
+        port: 5000,
+    },
+};
+
+#[test]
+fn reads_in_place(rt: HostRuntime) {
+    let view = View::read(&PACKET).expect(&rt, "a packet");
+    let addresses = (view.source(), view.destination());
+    assert!(rt; addresses == (0xc0a8_010a, 0xc633_6407));
+    assert!(rt; (view.ttl(), view.total_length()) == (64, 28));
+    assert!(rt; view.payload == &PACKET[20..]);
+    assert!(rt; view.tuple().map(Tuple::inverse) == Some(BACK));
+}
+
+/// The first fault of a packet that is written in hexadecimal digits.
+fn first_fault(alloc: Global, packet: &str) -> Result<Option<HeaderFault>, FromHexError> {
+    let packet = hex::decode(alloc, packet)?;
+    Ok(View::read(&packet).err())
+}
+
+/// Beginnings of packets, each with its first fault. Then packets of GRE without a payload, each test of a header
+/// at its limit and one past: 20 bytes and 19; versions 3 and 5; IHL 4; a total length of 19, and of 23 and 24
+/// behind options; a total length of one more than there is, and that byte; a checksum of one more and one less;
+/// DF, the reserved bit, MF, the offsets 1 and 8,191. The others are right in all else.
+static FAULTS: [(&str, Option<HeaderFault>); 27] = [
+    (
+        "4500001c0001000040118ee3c0a8010ac63364",
+        Some(HeaderFault::Short),
+    ),
+    (
+        "4500001c0001000040118ee3c0a8010ac633640713880035000800",
+        Some(HeaderFault::Truncated),
+    ),
+    (
+        "4500001c0001200040116ee3c0a8010ac63364071388003500080000",
+        Some(HeaderFault::Fragment),
+    ),
+    (
+        "4500001c0001000140118ee2c0a8010ac63364071388003500080000",
+        Some(HeaderFault::Fragment),
+    ),
+    (
+        "4500001c0001000140118ee3c0a8010ac63364071388003500080000",
+        Some(HeaderFault::Checksum),
+    ),
+    (
+        "6500001c0001000040118ee3c0a8010ac63364071388003500080000",
+        Some(HeaderFault::Version),
+    ),
+    (
+        "4400001c0001000040118ee3c0a8010ac63364071388003500080000",
+        Some(HeaderFault::HeaderLength),
+    ),
+    (
+        "4f0000140001000040110000c0a8010ac6336407",
+        Some(HeaderFault::Length),
+    ),
+    (
+        "4500001c0001000040118ee3c0a8010ac63364071388003500070000",
+        Some(HeaderFault::Transport),
+    ),
+    ("4500001400010000402f8ecdc0a8010ac6336407", None),
+    (
+        "4500001400010000402f8ecdc0a8010ac63364",
+        Some(HeaderFault::Short),
+    ),
+    (
+        "3500001400010000402f9ecdc0a8010ac6336407",
+        Some(HeaderFault::Version),
+    ),
+    (
+        "5500001400010000402f7ecdc0a8010ac6336407",
+        Some(HeaderFault::Version),
+    ),
+    (
+        "4400001400010000402f8fcdc0a8010ac6336407",
+        Some(HeaderFault::HeaderLength),
+    ),
+    (
+        "4500001300010000402f8ecec0a8010ac6336407",
+        Some(HeaderFault::Length),
+    ),
+    (
+        "4600001700010000402f8bc9c0a8010ac633640701010100",
+        Some(HeaderFault::Length),
+    ),
+    ("4600001800010000402f8bc8c0a8010ac633640701010100", None),
+    (
+        "4500001500010000402f8eccc0a8010ac6336407",
+        Some(HeaderFault::Truncated),
+    ),
+    ("4500001500010000402f8eccc0a8010ac633640700", None),
+    (
+        "4500ffff00010000402f8ee1c0a8010ac633640700",
+        Some(HeaderFault::Truncated),
+    ),
+    (
+        "4500001400010000402f8ecec0a8010ac6336407",
+        Some(HeaderFault::Checksum),
+    ),
+    (
+        "4500001400010000402f8eccc0a8010ac6336407",
+        Some(HeaderFault::Checksum),
+    ),
+    ("4500001400014000402f4ecdc0a8010ac6336407", None),
+    ("4500001400018000402f0ecdc0a8010ac6336407", None),
+    (
+        "4500001400012000402f6ecdc0a8010ac6336407",
+        Some(HeaderFault::Fragment),
+    ),
+    (
+        "4500001400010001402f8eccc0a8010ac6336407",
+        Some(HeaderFault::Fragment),
+    ),
+    (
+        "4500001400011fff402f6ecec0a8010ac6336407",
+        Some(HeaderFault::Fragment),
+    ),
+];
+
+#[test]
+fn first_faults(rt: HostRuntime) {
+    for (row, (packet, fault)) in FAULTS.iter().enumerate() {
+        check_row(&rt, row, first_fault(rt.alloc(), *packet) == Ok(*fault));
+    }
+}
+
+static WORDS: [(HeaderFault, &str); 8] = [
+    (HeaderFault::Short, "short"),
+    (HeaderFault::Truncated, "truncated"),
+    (HeaderFault::Fragment, "fragment"),
+    (HeaderFault::Checksum, "checksum"),
+    (HeaderFault::Version, "version"),
+    (HeaderFault::HeaderLength, "hlen"),
+    (HeaderFault::Length, "length"),
+    (HeaderFault::Transport, "transport"),
+];
+
+/// Whether the fault is told by this word.
+fn is_displayed_as(alloc: Global, fault: HeaderFault, word: &str) -> Result<bool, AllocError> {
+    let text = format!(in alloc; "{fault}")?;
+    Ok(text.as_str() == word)
+}
+
+#[test]
+fn faults_are_displayed(rt: HostRuntime) {
+    for (row, (fault, word)) in WORDS.iter().enumerate() {
+        check_row(
+            &rt,
+            row,
+            is_displayed_as(rt.alloc(), *fault, word) == Ok(true),
+        );
+    }
+}
+
+/// The header of a packet from 192.168.1.10 to 198.51.100.7 with a payload of so many bytes.
+fn header(protocol: u8, length: u8) -> [u8; 20] {
+    let [long, short] = (20 + u16::from(length)).to_be_bytes();
+    let mut header = [
+        0x45, 0, long, short, 0, 1, 0, 0, 0x40, protocol, 0, 0, 0xc0, 0xa8, 0x01, 0x0a, 0xc6, 0x33,
+        0x64, 0x07,
+    ];
+    let [high, low] = (0xffff - ones_sum(&header)).to_be_bytes();
+    header[10] = high;
+    header[11] = low;
+    header
+}
+
+/// A packet whose payload begins so and goes on with zeros; and behind its end nine bytes that don't
+/// count.
+fn packet(
+    alloc: Global,
+    protocol: u8,
+    beginning: &[&str],
+    length: u8,
+) -> Result<Vec<u8>, FromHexError> {
+    let mut payload = bytes(alloc, beginning)?;
+    payload.resize(usize::from(length), 0)?;
+    payload.resize(usize::from(length) + 9, 0xff)?;
+    Ok([&header(protocol, length), payload.as_slice()].concat(alloc)?)
+}
+
+/// A tuple's kind and its two ports.
+fn kind_and_ports(tuple: Option<Tuple>) -> Option<(Kind, u16, u16)> {
+    let tuple = tuple?;
+    Some((tuple.kind, tuple.source.port, tuple.destination.port))
+}
+
+/// What a payload is that begins so.
+#[derive(Clone, Copy)]
+struct Payload {
+    protocol: u8,
+    beginning: &'static str,
+    /// It fits its protocol from this length on; `None` where it never does.
+    least: Option<u8>,
+    transport: Transport,
+    kind_and_ports: Option<(Kind, u16, u16)>,
+}
+
+const SEGMENT: Payload = Payload {
+    protocol: 6,
+    beginning: "1388005000000000000000005012",
+    least: Some(20),
+    transport: Transport::Tcp {
+        source: 5000,
+        destination: 80,
+        flags: 0x12,
+    },
+    kind_and_ports: Some((Kind::Tcp, 5000, 80)),
+};
+
+const DATAGRAM: Payload = Payload {
+    protocol: 17,
+    beginning: "1388003500080000",
+    least: Some(8),
+    transport: Transport::Udp {
+        source: 5000,
+        destination: 53,
+    },
+    kind_and_ports: Some((Kind::Udp, 5000, 53)),
+};
+
+/// A message has 8 bytes and more, whatever its code.
+const ECHO: Payload = Payload {
+    protocol: 1,
+    beginning: "0809000012340001",
+    least: Some(8),
+    transport: Transport::Icmp { icmp_type: 8 },
+    kind_and_ports: Some((Kind::EchoRequest, 0x1234, 0)),
+};
+
+/// Offsets of 5, 6, 15 and 4 words; lengths of 8, 9 and 7; an echo, its reply and a timestamp; GRE.
+static PAYLOADS: [Payload; 11] = [
+    SEGMENT,
+    Payload {
+        beginning: "1388005000000000000000006012",
+        least: Some(24),
+        ..SEGMENT
+    },
+    Payload {
+        beginning: "138800500000000000000000f012",
+        least: Some(60),
+        ..SEGMENT
+    },
+    Payload {
+        beginning: "1388005000000000000000004f12",
+        least: None,
+        ..SEGMENT
+    },
+    DATAGRAM,
+    Payload {
+        beginning: "1388003500090000",
+        least: Some(9),
+        ..DATAGRAM
+    },
+    Payload {
+        beginning: "1388003500070000",
+        least: None,
+        ..DATAGRAM
+    },
+    ECHO,
+    Payload {
+        beginning: "0009000012340001",
+        transport: Transport::Icmp { icmp_type: 0 },
+        kind_and_ports: Some((Kind::EchoReply, 0, 0x1234)),
+        ..ECHO
+    },
+    Payload {
+        beginning: "0d00000012340001",
+        transport: Transport::Icmp { icmp_type: 13 },
+        kind_and_ports: None,
+        ..ECHO
+    },
+    Payload {
+        protocol: 47,
+        beginning: "",
+        least: Some(0),
+        transport: Transport::Other,
+        kind_and_ports: Some((Kind::Other(47), 0, 0)),
+    },
+];
+
+/// A packet's protocol, its transport and its ends.
+type Found = (u8, Transport, Option<(Kind, u16, u16)>);
+
+/// What is read of a packet of so many bytes behind its header, or its fault.
+fn read(
+    alloc: Global,
+    payload: &Payload,
+    length: u8,
+) -> Result<Result<Found, HeaderFault>, FromHexError> {
+    let packet = packet(alloc, payload.protocol, &[payload.beginning], length)?;
+    Ok(match View::read(&packet) {
+        Ok(view) => Ok((
+            view.protocol(),
+            view.transport(),
+            kind_and_ports(view.tuple()),
+        )),
+        Err(fault) => Err(fault),
+    })
+}
+
+/// What has to be read of it.
+fn wanted(payload: &Payload, length: u8) -> Result<Found, HeaderFault> {
+    match payload.least {
+        Some(least) if least <= length => Ok((
+            payload.protocol,
+            payload.transport,
+            payload.kind_and_ports,
+        )),
+        _ => Err(HeaderFault::Transport),
+    }
+}
+
+/// A packet that fits, or the fault of one that doesn't, at each length.
+#[test]
+fn payloads_fit_their_protocol(rt: HostRuntime) {
+    for (row, payload) in PAYLOADS.iter().enumerate() {
+        for length in 0..64u8 {
+            let is_right = read(rt.alloc(), payload, length) == Ok(wanted(payload, length));
+            assert!(rt; is_right, "row {row} of {length} bytes");
+        }
+    }
+}
+
+/// A message's type; of the datagram that follows its 8 bytes version and IHL, the flags and the
+/// offset, the protocol and what follows the addresses; from how many of its bytes on it is read, and
+/// the kind and the ports that it then has.
+type Message = (
+    &'static str,
+    [&'static str; 4],
+    Option<(u8, Kind, u16, u16)>,
+);
+
+/// A header without options and one of 24 bytes; MF, DF and the reserved bit; an echo, its reply, GRE.
+/// None: messages that are no errors, an inner timestamp and an inner error, offsets of 1 and of 1fff,
+/// version 6, a header of 16 bytes.
+static MESSAGES: [Message; 15] = [
+    (
+        "03",
+        ["45", "0000", "11", "00351388"],
+        Some((28, Kind::Udp, 53, 5000)),
+    ),
+    (
+        "04",
+        ["46", "0000", "06", "0101010100501388"],
+        Some((32, Kind::Tcp, 80, 5000)),
+    ),
+    (
+        "05",
+        ["45", "2000", "11", "00351388"],
+        Some((28, Kind::Udp, 53, 5000)),
+    ),
+    (
+        "0b",
+        ["45", "c000", "11", "00351388"],
+        Some((28, Kind::Udp, 53, 5000)),
+    ),
+    (
+        "0c",
+        ["45", "0000", "01", "080900001234"],
+        Some((28, Kind::EchoRequest, 0x1234, 0)),
+    ),
+    (
+        "03",
+        ["45", "0000", "01", "000900001234"],
+        Some((28, Kind::EchoReply, 0, 0x1234)),
+    ),
+    (
+        "03",
+        ["45", "0000", "2f", "00000800"],
+        Some((28, Kind::Other(47), 0, 0)),
+    ),
+    ("0d", ["45", "0000", "11", "00351388"], None),
+    ("08", ["45", "0000", "11", "00351388"], None),
+    ("03", ["45", "0000", "01", "0d0000001234"], None),
+    ("03", ["45", "0000", "01", "030000001234"], None),
+    ("03", ["45", "0001", "11", "00351388"], None),
+    ("03", ["45", "1fff", "11", "00351388"], None),
+    ("03", ["65", "0000", "11", "00351388"], None),
+    ("03", ["44", "0000", "11", "00351388"], None),
+];
+
+/// Whether a packet's message tells of a datagram of this kind with these ports, or of none, and is an
+/// error where it has to be one.
+fn reads_inner_tuple(
+    packet: &[u8],
+    is_error: bool,
+    wanted: Option<(Kind, u16, u16)>,
+) -> Result<bool, HeaderFault> {
+    let view = View::read(packet)?;
+    Ok(kind_and_ports(view.inner_tuple()) == wanted && (view.is_error() || !is_error))
+}
+
+/// Whether so many bytes of the datagram are read so. Its total length, TTL and checksum are wrong.
+fn reads_inner_tuple_at(alloc: Global, row: &Message, length: u8) -> Result<bool, FromHexError> {
+    let (message, [first, flags, protocol, rest], wanted) = row;
+    let payload = [
+        *message,
+        "00000000000000",
+        *first,
+        "00ffff0001",
+        *flags,
+        "00",
+        *protocol,
+        "0000c6336407c0a8010a",
+        *rest,
+    ];
+    let expected = match wanted {
+        Some((least, kind, from, to)) if *least <= length => Some((*kind, *from, *to)),
+        _ => None,
+    };
+    let packet = packet(alloc, 1, &payload, 8u8.saturating_add(length))?;
+    Ok(reads_inner_tuple(&packet, wanted.is_some(), expected) == Ok(true))
+}
+
+#[test]
+fn icmp_errors_have_inner_tuples(rt: HostRuntime) {
+    for (number, row) in MESSAGES.iter().enumerate() {
+        for length in 0..40u8 {
+            let is_right = reads_inner_tuple_at(rt.alloc(), row, length) == Ok(true);
+            assert!(rt; is_right, "row {number} of {length} bytes");
+        }
+    }
+}

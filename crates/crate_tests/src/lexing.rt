@@ -1,0 +1,233 @@
+//! Texts cut into tokens, and the faults of texts that aren't.
+use crate::support::{check_row, repeated};
+use nft_lexer::{LexError, LexFault, Punctuator, Token, TokenKind, lex};
+use std::alloc::Global;
+
+/// What a token is; a string with what stands between its quotes.
+#[derive(Clone, Copy)]
+enum ExpectedKind {
+    NewLine,
+    Punctuator,
+    Word,
+    Number(u64),
+    Address(u32),
+    String(&'static [u8]),
+}
+
+/// A token's text, and what it is.
+type ExpectedToken = (&'static [u8], ExpectedKind);
+
+/// Many kinds of tokens.
+const MANY: &[ExpectedToken] = &[
+    (b"tcp", ExpectedKind::Word),
+    (b"dport", ExpectedKind::Word),
+    (b"!=", ExpectedKind::Punctuator),
+    (b"22", ExpectedKind::Number(22)),
+    (b"\n", ExpectedKind::NewLine),
+    (b"0x1fF", ExpectedKind::Number(511)),
+    (b"\"a b\"", ExpectedKind::String(b"a b")),
+    (b"1.2.3.4", ExpectedKind::Address(0x0102_0304)),
+    (b".", ExpectedKind::Punctuator),
+    (b"80", ExpectedKind::Number(80)),
+    (b"80", ExpectedKind::Number(80)),
+    (b"accept", ExpectedKind::Word),
+    (b"<=", ExpectedKind::Punctuator),
+    (b"=", ExpectedKind::Punctuator),
+    (b"<=", ExpectedKind::Punctuator),
+    (b"0", ExpectedKind::Number(0)),
+    (b"x", ExpectedKind::Word),
+];
+
+/// What is nearly one token.
+const NEARLY: &[ExpectedToken] = &[
+    (b"0", ExpectedKind::Number(0)),
+    (b"X1", ExpectedKind::Word),
+    (b"1", ExpectedKind::Number(1)),
+    (b".", ExpectedKind::Punctuator),
+    (b"2", ExpectedKind::Number(2)),
+    (b".", ExpectedKind::Punctuator),
+    (b"3", ExpectedKind::Number(3)),
+    (b"a-b./c", ExpectedKind::Word),
+    (b"\"#;{\xff\"", ExpectedKind::String(b"#;{\xff")),
+];
+
+/// The largest numbers.
+const LARGEST: &[ExpectedToken] = &[
+    (
+        b"18446744073709551615",
+        ExpectedKind::Number(18_446_744_073_709_551_615),
+    ),
+    (
+        b"0x00ffffffffffffffff",
+        ExpectedKind::Number(18_446_744_073_709_551_615),
+    ),
+    (b"255.255.255.255", ExpectedKind::Address(0xffff_ffff)),
+];
+
+static LEXED: [(&[u8], &[ExpectedToken]); 4] = [
+    (
+        b"tcp dport != 22 # x\n0x1fF \"a b\" 1.2.3.4.80 80accept \\\n\t<=\r=<=0x",
+        MANY,
+    ),
+    (b"0X1 1.2.3 a-b./c \"#;{\xff\"", NEARLY),
+    (
+        b"18446744073709551615 0x00ffffffffffffffff 255.255.255.255",
+        LARGEST,
+    ),
+    (b"# x", &[]),
+];
+
+/// Whether the token has this text and is this.
+fn is_expected(token: &Token, wanted: &ExpectedToken) -> bool {
+    token.text == wanted.0
+        && match (token.kind, wanted.1) {
+            (TokenKind::NewLine, ExpectedKind::NewLine)
+            | (TokenKind::Punctuator(_), ExpectedKind::Punctuator)
+            | (TokenKind::Word, ExpectedKind::Word) => true,
+            (TokenKind::Number(number), ExpectedKind::Number(wanted)) => number == wanted,
+            (TokenKind::Address(address), ExpectedKind::Address(wanted)) => address == wanted,
+            (TokenKind::String, ExpectedKind::String(wanted)) => token.between_quotes() == wanted,
+            _ => false,
+        }
+}
+
+/// Whether the text is cut into these tokens.
+fn lexes_to(alloc: Global, text: &[u8], wanted: &[ExpectedToken]) -> Result<bool, LexError> {
+    let tokens = lex(alloc, text)?;
+    for (token, expected) in tokens.iter().zip(wanted) {
+        if !is_expected(token, expected) {
+            return Ok(false);
+        }
+    }
+    Ok(tokens.len() == wanted.len())
+}
+
+#[test]
+fn texts_are_lexed(rt: HostRuntime) {
+    for (row, (text, wanted)) in LEXED.iter().enumerate() {
+        check_row(
+            &rt,
+            row,
+            lexes_to(rt.alloc(), text, wanted).ok() == Some(true),
+        );
+    }
+}
+
+static PUNCTUATORS: [(&[u8], Punctuator); 21] = [
+    (b"{", Punctuator::OpenBrace),
+    (b"}", Punctuator::CloseBrace),
+    (b"(", Punctuator::OpenParenthesis),
+    (b")", Punctuator::CloseParenthesis),
+    (b",", Punctuator::Comma),
+    (b";", Punctuator::Semicolon),
+    (b":", Punctuator::Colon),
+    (b".", Punctuator::Dot),
+    (b"/", Punctuator::Slash),
+    (b"-", Punctuator::Minus),
+    (b"+", Punctuator::Plus),
+    (b"=", Punctuator::Equals),
+    (b"@", Punctuator::At),
+    (b"&", Punctuator::Ampersand),
+    (b"|", Punctuator::Bar),
+    (b"==", Punctuator::EqualTo),
+    (b"!=", Punctuator::NotEqualTo),
+    (b"<=", Punctuator::AtMost),
+    (b">=", Punctuator::AtLeast),
+    (b"<", Punctuator::Below),
+    (b">", Punctuator::Above),
+];
+
+/// Whether the text is this mark alone.
+fn is_punctuator(alloc: Global, text: &[u8], mark: Punctuator) -> Result<bool, LexError> {
+    let tokens = lex(alloc, text)?;
+    Ok(match tokens.as_slice() {
+        [token] => matches!(token.kind, TokenKind::Punctuator(found) if found == mark),
+        _ => false,
+    })
+}
+
+#[test]
+fn punctuators_are_told_apart(rt: HostRuntime) {
+    for (row, &(text, mark)) in PUNCTUATORS.iter().enumerate() {
+        check_row(
+            &rt,
+            row,
+            is_punctuator(rt.alloc(), text, mark).ok() == Some(true),
+        );
+    }
+}
+
+/// The number of the text's tokens, or its fault.
+fn count(alloc: Global, text: &[u8]) -> Result<Result<usize, LexFault>, LexError> {
+    match lex(alloc, text) {
+        Ok(tokens) => Ok(Ok(tokens.len())),
+        Err(LexError::Refused(fault)) => Ok(Err(fault)),
+        Err(error) => Err(error),
+    }
+}
+
+static FAULTS: [(&[u8], Result<usize, LexFault>); 13] = [
+    (b"accept\n$ 007", Err(LexFault::Byte { line: 2 })),
+    (b"!", Err(LexFault::Byte { line: 1 })),
+    (b"a \\\nb \\", Err(LexFault::Byte { line: 2 })),
+    (
+        b"table ip t { comment \"x",
+        Err(LexFault::OpenString { line: 1 }),
+    ),
+    (b"\n\"x\n\"", Err(LexFault::OpenString { line: 2 })),
+    (b"ip saddr 1.2.3.256", Err(LexFault::Number { line: 1 })),
+    (b"# x\nmeta mark 007", Err(LexFault::Number { line: 2 })),
+    (
+        b"table ip t { chain a { accept $ } }",
+        Err(LexFault::Byte { line: 1 }),
+    ),
+    (
+        b"table ip t { chain a { ip saddr 1.2.3.256 drop } }",
+        Err(LexFault::Number { line: 1 }),
+    ),
+    (
+        b"table ip t { chain a { meta mark 007 drop } }",
+        Err(LexFault::Number { line: 1 }),
+    ),
+    (b"1.2.3.0004", Err(LexFault::Number { line: 1 })),
+    (b"a \\\r\n", Err(LexFault::Byte { line: 1 })),
+    (b"18446744073709551616", Err(LexFault::Number { line: 1 })),
+];
+
+#[test]
+fn first_faults_are_reported(rt: HostRuntime) {
+    for (row, (text, wanted)) in FAULTS.iter().enumerate() {
+        check_row(&rt, row, count(rt.alloc(), text).ok() == Some(*wanted));
+    }
+}
+
+/// A text that is a beginning, so many times the same piece and an end; how many tokens it has, or its fault.
+type Long = (
+    &'static [u8],
+    &'static [u8],
+    usize,
+    &'static [u8],
+    Result<usize, LexFault>,
+);
+
+/// A comment of 1,048,576 bytes, a longer one, and thousands of tokens with and without a fault.
+static LONG: [Long; 4] = [
+    (b"#", b"a", 1_048_575, b"", Ok(0)),
+    (b"#", b"a", 1_048_576, b"", Err(LexFault::TooLong)),
+    (b"", b"accept;\n", 100_000, b"", Ok(300_000)),
+    (
+        b"",
+        b"accept;\n",
+        100_000,
+        b"$",
+        Err(LexFault::Byte { line: 100_001 }),
+    ),
+];
+
+#[test]
+fn long_texts_are_lexed(rt: HostRuntime) {
+    for (row, (beginning, expected, times, end, wanted)) in LONG.iter().enumerate() {
+        let text = repeated(rt.alloc(), beginning, expected, *times, end).expect(&rt, "a text");
+        check_row(&rt, row, count(rt.alloc(), &text).ok() == Some(*wanted));
+    }
+}

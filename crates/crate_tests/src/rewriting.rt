@@ -1,0 +1,34 @@
+//! A packet as it is sent on, behind what the buffer held.
+use crate::support::PACKET;
+use ip_headers::View;
+use rewrite::{Change, PortsOrIdentifier, emit};
+use std::alloc::{AllocError, Global};
+
+/// From 203.0.113.1, port 5002, one hop further.
+static CHANGE: Change = Change {
+    source: Some(0xcb00_7101),
+    destination: None,
+    numbers: Some(PortsOrIdentifier::Ports(5002, 53)),
+    ttl: Some(63),
+    inner: None,
+};
+
+/// The byte that the buffer held, and the packet so changed.
+static SENT: [u8; 29] = [
+    0xaa, 0x45, 0x00, 0x00, 0x1c, 0x00, 0x01, 0x00, 0x00, 0x3f, 0x11, 0x15, 0x94, 0xcb, 0x00, 0x71,
+    0x01, 0xc6, 0x33, 0x64, 0x07, 0x13, 0x8a, 0x00, 0x35, 0x00, 0x08, 0x00, 0x00,
+];
+
+fn sent(alloc: Global, view: &View) -> Result<Vec<u8>, AllocError> {
+    let mut out = Vec::new(alloc);
+    out.push(0xaa)?;
+    emit(view, &CHANGE, &mut out)?;
+    Ok(out)
+}
+
+#[test]
+fn appends_what_is_sent_on(rt: HostRuntime) {
+    let view = View::read(&PACKET).expect(&rt, "a packet");
+    let out = sent(rt.alloc(), &view).expect(&rt, "a buffer");
+    assert_eq!(rt; out.as_slice(), SENT.as_slice());
+}

@@ -1,0 +1,130 @@
+//! Texts that are rulesets, read and copied, and texts that aren't cut into tokens, each with its line. Which
+//! tree a text spells is proved; which texts are refused otherwise is asked of the built program.
+use crate::support::{check_row, repeated};
+use nft_lexer::LexFault;
+use nft_parser::{ParseError, TextFault, parse};
+use nft_tree::{Family, Ruleset};
+use std::alloc::Global;
+
+/// What the text is refused for.
+fn fault(alloc: Global, text: &[u8]) -> Result<Option<TextFault>, ParseError> {
+    match parse(alloc, text) {
+        Ok(_) => Ok(None),
+        Err(ParseError::Refused(fault)) => Ok(Some(fault)),
+        Err(error) => Err(error),
+    }
+}
+
+static FAULTS: [(&[u8], LexFault); 4] = [
+    (
+        b"table ip t { chain a {\nip saddr 1.2.3.256 drop } }",
+        LexFault::Number { line: 2 },
+    ),
+    (
+        b"table ip t { chain a {\nmeta mark 007 drop } }",
+        LexFault::Number { line: 2 },
+    ),
+    (
+        b"table ip t { chain a { accept $ } }",
+        LexFault::Byte { line: 1 },
+    ),
+    (
+        b"table ip t { comment \"x",
+        LexFault::OpenString { line: 1 },
+    ),
+];
+
+#[test]
+fn faults_have_lines(rt: HostRuntime) {
+    for (row, (text, wanted)) in FAULTS.iter().enumerate() {
+        let answer = fault(rt.alloc(), text);
+        check_row(
+            &rt,
+            row,
+            answer.ok() == Some(Some(TextFault::Lexical(*wanted))),
+        );
+    }
+}
+
+const LISTING: &[u8] = b"table inet filter {
+\tset lan4 {
+\t\ttype ipv4_addr
+\t\tflags interval
+\t\tauto-merge
+\t\telements = { 10.0.0.0/8,
+\t\t\t     192.168.0.0/16 }
+\t}
+
+\tchain input {
+\t\ttype filter hook input priority filter; policy drop;
+\t\tct state vmap { invalid : drop, established : accept, related : accept }
+\t\tiifname \"lo\" accept
+\t\tip saddr @lan4 tcp dport { 22, 80-443 } counter packets 12 bytes 840 accept comment \"in\"
+\t\tmeta l4proto { icmp, ipv6-icmp } accept
+\t}
+}
+";
+
+const OTHER_FORMS: &[u8] = b"table nat {
+comment \"of the table\"
+map hosts { type inet_service : ipv4_addr; size 16; elements = { 8080 comment \"web\" : 10.0.0.5 } }
+chain web {
+    comment \"one\"; comment \"two\"
+    tcp flags syn / syn,ack tcp flags 3 tcp flags == 3 ct status snat
+    meta mark set ct mark log prefix \"in\" snat to 192.0.2.1:1-9 dnat to tcp dport map @hosts jump web goto web
+}
+}";
+
+/// A table's family and name, how many items it has, and how many rules its first chain has.
+type Shape<'a> = (Family, &'a [u8], usize, usize);
+
+/// A table may have a family for its name.
+static SHAPES: [(&[u8], Shape<'static>); 7] = [
+    (b"table ip { }", (Family::Ip, b"ip", 0, 0)),
+    (b"table ip6 { }", (Family::Ip, b"ip6", 0, 0)),
+    (b"table inet { }", (Family::Ip, b"inet", 0, 0)),
+    (b"table inet inet { }", (Family::Inet, b"inet", 0, 0)),
+    (b"table ip ip { }", (Family::Ip, b"ip", 0, 0)),
+    (LISTING, (Family::Inet, b"filter", 2, 4)),
+    (OTHER_FORMS, (Family::Ip, b"nat", 3, 2)),
+];
+
+static LONG: Shape<'static> = (Family::Ip, b"t", 1, 5_000);
+
+/// Whether the ruleset has one table, of this shape.
+fn has(ruleset: &Ruleset, shape: &Shape<'_>) -> bool {
+    let (family, name, items, rules) = *shape;
+    let [table] = ruleset.tables.as_slice() else {
+        return false;
+    };
+    let count = match table.chain(0) {
+        Some(chain) => chain.rules.len(),
+        None => 0,
+    };
+    table.family == family
+        && table.name.as_slice() == name
+        && table.items.len() == items
+        && count == rules
+}
+
+/// Whether the text is read as a ruleset of this shape, and its copy has it too.
+fn is_read(alloc: Global, text: &[u8], shape: &Shape<'_>) -> Result<bool, ParseError> {
+    let ruleset = parse(alloc, text)?;
+    Ok(has(&ruleset, shape) && has(&ruleset.try_clone()?, shape))
+}
+
+/// Listings, other forms and thousands of rules.
+#[test]
+fn texts_are_read_and_copied(rt: HostRuntime) {
+    for (row, (text, shape)) in SHAPES.iter().enumerate() {
+        check_row(
+            &rt,
+            row,
+            is_read(rt.alloc(), text, shape).ok() == Some(true),
+        );
+    }
+    let rule = b"ip saddr 10.0.0.0/8 tcp dport { 22, 80-443 } counter accept\n";
+    let long = repeated(rt.alloc(), b"table t { chain a {\n", rule, 5_000, b"} }");
+    let text = long.expect(&rt, "a text");
+    assert!(rt; is_read(rt.alloc(), &text, &LONG).ok() == Some(true));
+}

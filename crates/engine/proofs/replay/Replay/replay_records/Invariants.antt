@@ -1,0 +1,29 @@
+-- the records so far were taken, what they give is written or waits, and no call failed
+use Rattle.std.proofs.Common.{◌≡◌, ◌≤◌, ◌-◌, true, None, IfSome, List, [], length}
+use Rattle.std.specs.Io.KnownBytes.{IsAtEnd}
+use Rattle.pcap_io.specs.CaptureStates.{READ_AHEAD}
+use Rattle.history.specs.History.{Entry}
+use Rattle.stepping.specs.Representing.{Represents}
+use Rattle.engine.specs.steps.Replayed.{ReplayRepresents, ReplayStart, unread_input}
+use Rattle.engine.proofs.Replays.{Carried}
+use Rattle.engine.proofs.replay.Replay.replay_records.Given as goal
+
+abbrev pub invariant-each : goal.invariant-each
+invariant-each g l = record {
+  going : l.self.records.fault ≡ None;
+  format : l.self.records.format ≡ l.fn.self.records.format;
+  taken : l.self.engine.records ≡ l.self.records.count;
+  noted : l.self.numbers.records ≡ l.self.records.count;
+  read_calm : l.capture.failures ≡ l.fn.capture.failures;
+  write_calm : l.sent.failures ≡ l.fn.sent.failures;
+  write_without_failure : l.report.failures ≡ l.fn.report.failures;
+  few : length l.self.records.held ≤ READ_AHEAD;
+  drained : l.self.records.ended ≡ true → IsAtEnd (g.R.Read.remaining l.capture.inner);
+  represents : (history : List Entry) × Represents l.self.engine history;
+  carried : (start : ReplayStart) → ReplayRepresents l.fn.self start [] (g.W.Write.contents l.fn.sent.inner) (g.W2.Write.contents l.fn.report.inner)
+      → IfSome (unread_input l.fn.self.records (g.R.Read.remaining l.fn.capture.inner)) (λ bytes.
+      Carried l.self start l.fn.self.records.format bytes (g.R.Read.remaining l.capture.inner) (g.W.Write.contents l.sent.inner) (g.W2.Write.contents l.report.inner));
+}
+
+abbrev pub decreases-each : goal.decreases-each
+decreases-each g l = 4294967296 - l.self.records.count

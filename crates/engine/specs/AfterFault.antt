@@ -1,0 +1,152 @@
+-- What the reader and the writers hold after a fault, and how the calls that failed are counted.
+use Rattle.std.specs.Prelude.{◌≡◌, ◌<◌, ◌≤◌, ◌++◌, ℕ, Bool, List, [], length, drop, All, Option, ◌⊎◌, Some, Ok}
+use Rattle.std.specs.Io.KnownBytes.{Appends, Keeps}
+use Rattle.pcap_io.specs.declared.format.Format.{Format}
+use Rattle.pcap_io.specs.declared.fault.CaptureFault.{CaptureFault}
+use Rattle.pcap_io.specs.Pcap.{Captured, IsRecord, Ending, Ends, format_of, frame, header_fault, stream_of, decoded_records}
+use Rattle.pcap_io.specs.Pcap.{HEADER_BYTES, MOST_RECORDS}
+use Rattle.pcap_io.specs.CaptureStates.{READ_AHEAD}
+use Rattle.pcap_io.specs.Counting.{AppendsPrefix, one_more}
+use Rattle.history.specs.History.{Entry, capture_text}
+use Rattle.report.specs.Report.{entry_lines, report_text}
+use Rattle.stepping.specs.Next.{IsHistoryOf}
+use Rattle.engine.specs.declared.fault.RunFault.{RunFault}
+use Rattle.engine.specs.declared.fault.RunFault.TheVariants.{Rules, Box, Capture, Device, Memory}
+use Rattle.engine.specs.Meaning.{Accepted, ending_of}
+use Rattle.engine.specs.Refusals.{fault_at}
+
+-- what the reader has left and the two writers hold, where it is known, and how many calls of each failed
+pub record Devices : Type 0 where
+  pub unread : Option (List ℕ)
+  pub sent : Option (List ℕ)
+  pub report : Option (List ℕ)
+  pub reads_failed : ℕ
+  pub sends_failed : ℕ
+  pub reports_failed : ℕ
+
+-- nothing was written
+abbrev pub Untouched : Devices → Devices → Type 0
+Untouched old new = Keeps old.sent new.sent × Keeps old.report new.report
+
+-- ---- before the first record
+
+-- a read failed before the capture's header was there
+pub record FailedHeaderRead (rules box capture : List ℕ) (old new : Devices) : Type 0 where
+  pub accepted : Accepted rules box
+  pub part : List ℕ
+  pub left : List ℕ
+  pub unread : new.unread ≡ Some left
+  pub joined : capture ≡ part ++ left
+  pub short : length part < HEADER_BYTES
+  pub untouched : Untouched old new
+  pub failed : new.reads_failed ≡ one_more old.reads_failed
+
+-- no record was read, though some bytes may have been read ahead; no read failed, and nothing was written
+pub record NothingTaken (capture : List ℕ) (old new : Devices) : Type 0 where
+  pub part : List ℕ
+  pub left : List ℕ
+  pub unread : new.unread ≡ Some left
+  pub joined : capture ≡ part ++ left
+  pub few : length part ≤ READ_AHEAD
+  pub untouched : Untouched old new
+  pub all_read : new.reads_failed ≡ old.reads_failed
+
+-- ---- within the records
+
+-- the texts and the capture's header are accepted; of what follows it these records were taken and make this story,
+-- these bytes were read ahead of them, and the reader has the rest left
+pub record RecordsTaken (rules box capture : List ℕ) (new : Devices) : Type 0 where
+  pub accepted : Accepted rules box
+  pub format : Format
+  pub header : format_of capture ≡ Ok format
+  pub records : List Captured
+  pub ahead : List ℕ
+  pub left : List ℕ
+  pub joined : drop HEADER_BYTES capture ≡ stream_of records (ahead ++ left)
+  pub unread : new.unread ≡ Some left
+  pub each : All (IsRecord format) records
+  pub not_over : length records ≤ MOST_RECORDS
+  pub history : List Entry
+  pub is_history : IsHistoryOf accepted.setup [] (decoded_records format records) history
+
+-- each writer got a beginning of its text for the records taken so far, and the report has no line of what comes after
+-- the last; no read failed
+pub record FailedWrite (rules box capture : List ℕ) (trace : Bool) (old new : Devices) : Type 0 where
+  pub taken_so_far : RecordsTaken rules box capture new
+  pub few : length taken_so_far.ahead ≤ READ_AHEAD
+  pub sent : AppendsPrefix old.sent new.sent (capture_text taken_so_far.history)
+  pub report : AppendsPrefix old.report new.report (entry_lines taken_so_far.accepted.setup.rules trace taken_so_far.history)
+  pub all_read : new.reads_failed ≡ old.reads_failed
+
+-- a read failed among the records: what was read before is a capture with a torn end or without, and both writers got
+-- all that its records give, but for what comes after the last
+pub record FailedRead (rules box capture : List ℕ) (trace : Bool) (old new : Devices) : Type 0 where
+  pub taken_so_far : RecordsTaken rules box capture new
+  pub few : length taken_so_far.ahead ≤ READ_AHEAD
+  pub torn : Bool
+  pub ends : Ends taken_so_far.format (ending_of torn) (length taken_so_far.records) taken_so_far.ahead
+  pub sent : Appends old.sent new.sent (capture_text taken_so_far.history)
+  pub report : Appends old.report new.report (entry_lines taken_so_far.accepted.setup.rules trace taken_so_far.history)
+  pub failed : new.reads_failed ≡ one_more old.reads_failed
+
+-- there was no room to take a record that was read: both writers got all that the records before it give, but for what
+-- comes after the last; no read failed
+pub record OutOfMemory (rules box capture : List ℕ) (trace : Bool) (old new : Devices) : Type 0 where
+  pub taken_so_far : RecordsTaken rules box capture new
+  pub untaken : Captured
+  pub is_record : IsRecord taken_so_far.format untaken
+  pub more : List ℕ
+  pub read : taken_so_far.ahead ≡ frame untaken ++ more
+  pub few : length more ≤ READ_AHEAD
+  pub sent : Appends old.sent new.sent (capture_text taken_so_far.history)
+  pub report : Appends old.report new.report (entry_lines taken_so_far.accepted.setup.rules trace taken_so_far.history)
+  pub all_read : new.reads_failed ≡ old.reads_failed
+
+-- a record was refused: both writers got all that the records before it give, but for what comes after the last
+pub record RecordRefused (rules box capture : List ℕ) (trace : Bool) (fault : CaptureFault) (old new : Devices)
+    : Type 0 where
+  pub taken_so_far : RecordsTaken rules box capture new
+  pub few : length taken_so_far.ahead ≤ READ_AHEAD
+  pub ending : Ending
+  pub ends : Ends taken_so_far.format ending (length taken_so_far.records) (taken_so_far.ahead ++ taken_so_far.left)
+  pub refused : fault_at ending ≡ Some fault
+  pub sent : Appends old.sent new.sent (capture_text taken_so_far.history)
+  pub report : Appends old.report new.report (entry_lines taken_so_far.accepted.setup.rules trace taken_so_far.history)
+  pub all_read : new.reads_failed ≡ old.reads_failed
+
+-- all records were done, and a call of the report's writer failed: the capture's writer got all of its text, the
+-- report's a beginning
+pub record FailedReport (rules box capture : List ℕ) (trace : Bool) (old new : Devices) : Type 0 where
+  pub taken_so_far : RecordsTaken rules box capture new
+  pub few : length taken_so_far.ahead ≤ READ_AHEAD
+  pub torn : Bool
+  pub ends : Ends taken_so_far.format (ending_of torn) (length taken_so_far.records) (taken_so_far.ahead ++ taken_so_far.left)
+  pub sent : Appends old.sent new.sent (capture_text taken_so_far.history)
+  pub report : AppendsPrefix old.report new.report (report_text taken_so_far.accepted.setup trace taken_so_far.history torn)
+  pub failed : new.reports_failed ≡ one_more old.reports_failed
+
+-- ---- by the fault
+
+-- a read failed, or a write; once all records are done a write of the report leaves more than a beginning of the rest
+abbrev pub LeftByDeviceFault : List ℕ → List ℕ → List ℕ → Bool → Devices → Devices → Type 0
+LeftByDeviceFault rules box capture trace old new =
+    FailedHeaderRead rules box capture old new
+    ⊎ (FailedRead rules box capture trace old new
+    ⊎ (FailedWrite rules box capture trace old new ⊎ FailedReport rules box capture trace old new))
+
+-- what a run leaves: before the capture's header is accepted nothing is written, nor for want of room before a record
+abbrev pub LeftDevices : List ℕ → List ℕ → List ℕ → Bool → Devices → Devices → RunFault → Type 0
+LeftDevices rules box capture trace old new (Rules fault) = Untouched old new
+LeftDevices rules box capture trace old new (Box fault) = Untouched old new
+LeftDevices rules box capture trace old new (Capture fault) =
+    ((header_fault capture ≡ Some fault) × NothingTaken capture old new) ⊎ RecordRefused rules box capture trace fault old new
+LeftDevices rules box capture trace old new Device = LeftByDeviceFault rules box capture trace old new
+LeftDevices rules box capture trace old new Memory = NothingTaken capture old new ⊎ OutOfMemory rules box capture trace old new
+
+-- ---- failed calls
+
+-- of three counts just one rose, by one
+abbrev pub OneFailed : (a a' b b' c c' : ℕ) → Type 0
+OneFailed a a' b b' c c' =
+    ((a' ≡ one_more a) × (b' ≡ b) × (c' ≡ c))
+    ⊎ (((a' ≡ a) × (b' ≡ one_more b) × (c' ≡ c)) ⊎ ((a' ≡ a) × (b' ≡ b) × (c' ≡ one_more c)))

@@ -1,0 +1,60 @@
+//! What stands around an offset of a ruleset's text.
+use crate::brace_parts::{Level, Span, spans};
+use std::alloc::{AllocError, Global};
+
+/// The table and the declaration that have an offset, and the rule's number in its chain.
+#[derive(Clone, Copy)]
+pub struct EnclosingItems {
+    pub table: Option<Span>,
+    /// A chain, a set or a map.
+    pub declaration: Option<Span>,
+    /// From 1.
+    pub rule: Option<usize>,
+}
+
+/// What stands around an offset.
+///
+/// # Errors
+/// `AllocError` where there is no room to grow.
+pub fn enclosing_items(
+    alloc: Global,
+    text: &[u8],
+    offset: usize,
+) -> Result<EnclosingItems, AllocError> {
+    let table = part_around(&spans(alloc, text, Level::Tables)?, offset);
+    let declaration = part_around(&spans(alloc, text, Level::Declarations)?, offset);
+    let rule = match declaration {
+        Some(chain) => number(&spans(alloc, text, Level::Rules)?, chain, offset),
+        None => None,
+    };
+    Ok(EnclosingItems {
+        table,
+        declaration,
+        rule,
+    })
+}
+
+/// The part that has an offset.
+fn part_around(parts: &[Span], offset: usize) -> Option<Span> {
+    for part in parts {
+        if part.start <= offset && offset < part.end {
+            return Some(*part);
+        }
+    }
+    None
+}
+
+/// The number that the rule with an offset has in its chain.
+fn number(rules: &[Span], chain: Span, offset: usize) -> Option<usize> {
+    let mut before = 0usize;
+    for rule in rules {
+        if rule.start < chain.start {
+            continue;
+        }
+        if rule.start <= offset && offset < rule.end {
+            return Some(before.saturating_add(1));
+        }
+        before = before.saturating_add(1);
+    }
+    None
+}

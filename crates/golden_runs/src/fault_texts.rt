@@ -1,0 +1,103 @@
+//! What is told of faults. Each text of `data/faults` but a few has a fault behind some lines that are right, and
+//! `lines.txt` has what `--explain` and `--all` print for it, below a line `== NAME`.
+//!
+//! Rulesets are judged on the box `box.txt`, boxes under the ruleset `whole.nft`; of captures the place is
+//! told.
+use anyhow::Result;
+use engine::judge;
+use fault_search::{SourcePaths, Sources, all_faults, capture_location, explained};
+use std::alloc::{AllocError, Global};
+use std::fs;
+
+/// What stands before the name of each text in the stored lines.
+const HEAD: &str = "\n== ";
+
+/// A ruleset of blanks that is too long: it has no file.
+const LONG: &str = "long.nft";
+
+/// One byte more than a ruleset may have.
+const LONG_BYTES: usize = 1_048_577;
+
+/// Tells of each text of which something else is told than what is stored, and answers how many texts there
+/// are.
+pub fn compare_all(rt: &HostRuntime, stored: &str) -> Result<u64> {
+    let mut number: u64 = 0;
+    let parts = stored.strip_suffix('\n').unwrap_or(stored);
+    for part in parts.split(HEAD).skip(1) {
+        compare(rt, part)?;
+        number = number.saturating_add(1);
+    }
+    Ok(number)
+}
+
+/// Compares what is told of a text with what is stored: its name, and the lines below.
+fn compare(rt: &HostRuntime, part: &str) -> Result<()> {
+    let (name, lines) = part.split_once('\n').unwrap_or((part, ""));
+    let told = told(rt, name)?;
+    if told.as_str() != lines {
+        println!(rt;
+            "{name}: what is told is\n{}\ninstead of\n{lines}",
+            told.as_str()
+        )?;
+    }
+    Ok(())
+}
+
+/// What is told of the text of this name.
+fn told(rt: &HostRuntime, name: &str) -> Result<String> {
+    if name.ends_with(".pcap") {
+        return capture_fault_location(rt, name);
+    }
+    let paths = paths_of(name);
+    let rules = if name == LONG {
+        vec![in rt.alloc(); b' '; LONG_BYTES]?
+    } else {
+        fs::read(rt, path(rt.alloc(), paths.rules)?.as_str())?
+    };
+    let plant = fs::read(rt, path(rt.alloc(), paths.plant)?.as_str())?;
+    let sources = Sources {
+        paths,
+        rules: &rules,
+        plant: &plant,
+    };
+    Ok(diagnostics_of_texts(rt.alloc(), sources)?)
+}
+
+/// The ruleset and the box that are judged for this name.
+fn paths_of(name: &str) -> SourcePaths<'_> {
+    if name.ends_with(".nft") {
+        SourcePaths {
+            rules: name,
+            plant: "box.txt",
+        }
+    } else {
+        SourcePaths {
+            rules: "whole.nft",
+            plant: name,
+        }
+    }
+}
+
+/// Where the file of this name is.
+fn path(alloc: Global, name: &str) -> Result<String, AllocError> {
+    format!(in alloc; "faults/{name}")
+}
+
+/// What is told of a ruleset on a box.
+fn diagnostics_of_texts(alloc: Global, sources: Sources<'_>) -> Result<String, AllocError> {
+    let Err(fault) = judge(alloc, sources.rules, sources.plant) else {
+        return String::from_str(alloc, "accepted");
+    };
+    let lines = explained(alloc, fault, sources)?;
+    let faults = all_faults(alloc, sources)?;
+    format!(in alloc; "nftrun: {fault}\n{}\n{}", lines.as_str(), faults.as_str())
+}
+
+/// Where a capture isn't read further.
+fn capture_fault_location(rt: &HostRuntime, name: &str) -> Result<String> {
+    let file = fs::open(rt, path(rt.alloc(), name)?.as_str())?;
+    Ok(match capture_location(rt.alloc(), file) {
+        Some(place) => format!(in rt.alloc(); "{place}")?,
+        None => String::from_str(rt.alloc(), "read whole")?,
+    })
+}

@@ -1,0 +1,156 @@
+//! Runs that keep their connections in a plain list. They take each record as `engine::run` does, whose
+//! connections stand in slots that are found by hashed tuples.
+use crate::rows::{Row, Written};
+use anyhow::Result;
+use box_file::Plant;
+use conntrack::ListTracker;
+use nft_parser::parse;
+use nft_tree::Ruleset;
+use pcap_io::{Capture, CaptureError, CaptureFault, Counted, Failing, Record, Sink, Slow};
+use report::Report;
+use rule_check::check;
+use std::alloc::Global;
+use std::hash::RandomState;
+use std::io::Read;
+use stepping::Engine;
+
+/// The greatest number of records in a capture.
+const MOST_RECORDS: u64 = 4_294_967_296;
+
+/// What a run writes.
+#[derive(Drop)]
+struct Outputs {
+    numbers: Report,
+    sink: Sink,
+    sent: Counted<Vec<u8>>,
+    report: Counted<Vec<u8>>,
+}
+
+impl Outputs {
+    /// Before the first record.
+    fn open(alloc: Global, rules: &Ruleset, trace: bool) -> Result<Self> {
+        let mut sent = Counted::new(Vec::new(alloc));
+        let sink = Sink::open(alloc, &mut sent)?;
+        Ok(Outputs {
+            numbers: Report::new(alloc, rules, trace)?,
+            sink,
+            sent,
+            report: Counted::new(Vec::new(alloc)),
+        })
+    }
+
+    fn written(self) -> Written {
+        Written {
+            sent: self.sent.into_inner(),
+            report: self.report.into_inner(),
+        }
+    }
+}
+
+/// A run among the records of its capture, and what it has written.
+#[derive(Drop)]
+struct ListRun {
+    engine: Engine<ListTracker>,
+    outputs: Outputs,
+}
+
+impl ListRun {
+    /// Before the first record.
+    fn new(alloc: Global, engine: Engine<ListTracker>, trace: bool) -> Result<Self> {
+        let outputs = Outputs::open(alloc, engine.rules(), trace)?;
+        Ok(ListRun { engine, outputs })
+    }
+
+    /// Takes a record; no capture has more than so many.
+    fn take(&mut self, record: &Record) -> Result<()> {
+        if self.engine.records() < MOST_RECORDS && self.outputs.numbers.records() < MOST_RECORDS {
+            self.engine.step(record)?;
+            if let Some(entry) = self.engine.entry() {
+                self.outputs.numbers.note(&entry)?;
+            }
+            if let Some(leaving) = self.engine.leaving() {
+                self.outputs.sink.put(&mut self.outputs.sent, &leaving)?;
+            }
+        }
+        Ok(())
+    }
+
+    /// Takes the records, and answers what they stop at; none at their end.
+    fn play<R: Read>(
+        &mut self,
+        records: &mut Capture,
+        reader: &mut Counted<R>,
+    ) -> Result<Option<CaptureError>> {
+        for _ in 0..u64::MAX {
+            match records.next(reader) {
+                Ok(true) => {}
+                Ok(false) => break,
+                Err(stop) => return Ok(Some(stop)),
+            }
+            if let Some(record) = records.record() {
+                self.take(&record)?;
+            }
+        }
+        Ok(None)
+    }
+
+    /// Takes the capture's records, which are read as the row says.
+    fn run(&mut self, alloc: Global, row: &Row<'_>, capture: &[u8]) -> Result<()> {
+        let mut reader = Counted::new(Failing::new(Slow::new(capture, row.pace), row.reads));
+        let mut records = Capture::open(alloc, &mut reader)?;
+        let stop = self.play(&mut records, &mut reader)?;
+        self.finish(stop)
+    }
+
+    /// What it has written once they are taken.
+    fn written(mut self, alloc: Global, row: &Row<'_>, capture: &[u8]) -> Result<Written> {
+        self.run(alloc, row, capture)?;
+        Ok(self.outputs.written())
+    }
+
+    /// Writes what is left, and the lines that come after the last record unless the records stop at a
+    /// fault; a torn end is none.
+    fn finish(&mut self, stop: Option<CaptureError>) -> Result<()> {
+        self.outputs.sink.finish(&mut self.outputs.sent)?;
+        let rules = self.engine.rules();
+        let torn = match stop {
+            None => false,
+            Some(CaptureError::Refused(CaptureFault::TornEnd)) => true,
+            Some(_) => return Ok(self.outputs.numbers.drain(rules, &mut self.outputs.report)?),
+        };
+        let live = self.engine.live() as u64;
+        Ok(
+            self.outputs
+                .numbers
+                .lines(rules, live, torn, &mut self.outputs.report)?,
+        )
+    }
+}
+
+/// The box with these rules, before its first record; neither text is refused.
+fn engine_of(
+    alloc: Global,
+    hasher: RandomState,
+    rules: &[u8],
+    plant: &[u8],
+) -> Result<Engine<ListTracker>> {
+    let tree = parse(alloc, rules)?;
+    let plant = Plant::read(alloc, plant)?;
+    let checked = check(alloc, tree, plant)?;
+    Ok(Engine::new(alloc, hasher, checked)?)
+}
+
+/// What a run of the row writes with these rules on this box over the capture, none of which is refused before
+/// the first record.
+pub fn run_listed(
+    alloc: Global,
+    hasher: RandomState,
+    row: &Row<'_>,
+    rules: &[u8],
+    plant: &[u8],
+    capture: &[u8],
+) -> Result<Written> {
+    let engine = engine_of(alloc, hasher, rules, plant)?;
+    let listed = ListRun::new(alloc, engine, row.trace)?;
+    listed.written(alloc, row, capture)
+}

@@ -1,0 +1,186 @@
+//! Packets, as they come and as they leave, built byte by byte of what they carry.
+use ip_headers::ones_sum;
+use std::alloc::{AllocError, Global};
+
+/// An end of a packet: its address and its port. The identifier of an echo is the port of the end
+/// that asks.
+#[derive(Clone, Copy)]
+pub struct PacketEndpoint {
+    pub address: u32,
+    pub port: u16,
+}
+
+/// What a packet carries behind its addresses.
+#[derive(Clone, Copy)]
+pub enum Payload {
+    Udp,
+    /// With these control bits.
+    Tcp(u8),
+    /// An ICMP echo.
+    EchoRequest,
+    /// Its reply.
+    EchoReply,
+    /// An ICMP error of this type.
+    Error(u8),
+    /// Nothing, by this protocol.
+    Other(u8),
+}
+
+/// A packet without data, by what it carries and the ends between which it goes.
+#[derive(Clone, Copy)]
+pub struct Flow {
+    pub payload: Payload,
+    pub from: PacketEndpoint,
+    pub to: PacketEndpoint,
+}
+
+/// What an ICMP error tells of the packet that it is about: its first bytes, so many at most.
+#[derive(Clone, Copy)]
+pub struct EmbeddedDatagram {
+    pub flow: Flow,
+    pub kept: usize,
+}
+
+/// A packet.
+#[derive(Clone, Copy)]
+pub struct Packet {
+    pub flow: Flow,
+    pub ttl: u8,
+    pub about: Option<EmbeddedDatagram>,
+}
+
+impl Payload {
+    /// The number of the protocol.
+    fn protocol(self) -> u8 {
+        match self {
+            Payload::Udp => 17,
+            Payload::Tcp(_) => 6,
+            Payload::EchoRequest | Payload::EchoReply | Payload::Error(_) => 1,
+            Payload::Other(number) => number,
+        }
+    }
+}
+
+impl Packet {
+    /// Its bytes, with checksums that are right.
+    pub fn bytes(&self, alloc: Global) -> Result<Vec<u8>, AllocError> {
+        let behind = match &self.about {
+            Some(about) => about.bytes(alloc)?,
+            None => Vec::new(alloc),
+        };
+        let carried = carried(alloc, &self.flow, &behind)?;
+        datagram(alloc, &self.flow, self.ttl, &carried)
+    }
+}
+
+impl EmbeddedDatagram {
+    /// The bytes that are told of a packet that had one hop left. Of a protocol without ports or an
+    /// identifier 8 bytes are told too.
+    fn bytes(&self, alloc: Global) -> Result<Vec<u8>, AllocError> {
+        let carried = carried(alloc, &self.flow, &[0; 8])?;
+        let mut all = datagram(alloc, &self.flow, 1, &carried)?;
+        all.truncate(self.kept);
+        Ok(all)
+    }
+}
+
+/// The length of the datagram that carries this.
+fn length_of(carried: &[u8]) -> u16 {
+    match u16::try_from(carried.len()) {
+        Ok(length) => length.saturating_add(20),
+        Err(_) => u16::MAX,
+    }
+}
+
+/// A datagram of IPv4 with a header of 20 bytes (RFC 791, section 3.1).
+fn datagram(alloc: Global, flow: &Flow, ttl: u8, carried: &[u8]) -> Result<Vec<u8>, AllocError> {
+    let [l0, l1] = length_of(carried).to_be_bytes();
+    let [s0, s1, s2, s3] = flow.from.address.to_be_bytes();
+    let [d0, d1, d2, d3] = flow.to.address.to_be_bytes();
+    let protocol = flow.payload.protocol();
+    let mut header = [
+        0x45, 0, l0, l1, 0, 0, 0, 0, ttl, protocol, 0, 0, s0, s1, s2, s3, d0, d1, d2, d3,
+    ];
+    let [high, low] = (0xffff - ones_sum(&header)).to_be_bytes();
+    header[10] = high;
+    header[11] = low;
+    let mut all = Vec::new(alloc);
+    all.extend_from_slice(&header)?;
+    all.extend_from_slice(carried)?;
+    Ok(all)
+}
+
+/// What stands behind the header; `behind` is what stands behind the 8 bytes of an ICMP error, or is
+/// all that another protocol carries.
+fn carried(alloc: Global, flow: &Flow, behind: &[u8]) -> Result<Vec<u8>, AllocError> {
+    let mut all = Vec::new(alloc);
+    match flow.payload {
+        Payload::Udp => all.extend_from_slice(&udp(flow.from, flow.to)[12..])?,
+        Payload::Tcp(flags) => all.extend_from_slice(&tcp(flow.from, flow.to, flags)[12..])?,
+        Payload::EchoRequest => all.extend_from_slice(&echo(8, flow.from.port))?,
+        Payload::EchoReply => all.extend_from_slice(&echo(0, flow.to.port))?,
+        Payload::Error(message) => put_error(alloc, &mut all, message, behind)?,
+        Payload::Other(_) => all.extend_from_slice(behind)?,
+    }
+    Ok(all)
+}
+
+/// The header of UDP behind what its checksum covers before it: addresses, protocol and length
+/// (RFC 768).
+fn udp(from: PacketEndpoint, to: PacketEndpoint) -> [u8; 20] {
+    let [s0, s1, s2, s3] = from.address.to_be_bytes();
+    let [d0, d1, d2, d3] = to.address.to_be_bytes();
+    let [f0, f1] = from.port.to_be_bytes();
+    let [t0, t1] = to.port.to_be_bytes();
+    let mut covered = [
+        s0, s1, s2, s3, d0, d1, d2, d3, 0, 17, 0, 8, f0, f1, t0, t1, 0, 8, 0, 0,
+    ];
+    let right = 0xffff - ones_sum(&covered);
+    // 0 would tell that there is none.
+    let written = if right == 0 { 0xffff } else { right };
+    let [high, low] = written.to_be_bytes();
+    covered[18] = high;
+    covered[19] = low;
+    covered
+}
+
+/// The header of TCP, likewise (RFC 9293, section 3.1).
+fn tcp(from: PacketEndpoint, to: PacketEndpoint, flags: u8) -> [u8; 32] {
+    let [s0, s1, s2, s3] = from.address.to_be_bytes();
+    let [d0, d1, d2, d3] = to.address.to_be_bytes();
+    let [f0, f1] = from.port.to_be_bytes();
+    let [t0, t1] = to.port.to_be_bytes();
+    let mut covered = [
+        s0, s1, s2, s3, d0, d1, d2, d3, 0, 6, 0, 20, f0, f1, t0, t1, 0, 0, 0, 1, 0, 0, 0, 0, 0x50,
+        flags, 3, 0xe8, 0, 0, 0, 0,
+    ];
+    let [high, low] = (0xffff - ones_sum(&covered)).to_be_bytes();
+    covered[28] = high;
+    covered[29] = low;
+    covered
+}
+
+/// An ICMP echo, or its reply (RFC 792).
+fn echo(message: u8, identifier: u16) -> [u8; 8] {
+    let [i0, i1] = identifier.to_be_bytes();
+    let mut all = [message, 0, 0, 0, i0, i1, 0, 1];
+    let [high, low] = (0xffff - ones_sum(&all)).to_be_bytes();
+    all[2] = high;
+    all[3] = low;
+    all
+}
+
+/// Appends an ICMP error, behind whose 8 bytes stands this (RFC 792).
+fn put_error(
+    alloc: Global,
+    all: &mut Vec<u8>,
+    message: u8,
+    behind: &[u8],
+) -> Result<(), AllocError> {
+    let mut covered = Vec::new(alloc);
+    covered.extend_from_slice(&[message, 0, 0, 0, 0, 0, 0, 0])?;
+    covered.extend_from_slice(behind)?;
+    let [high, low] = (0xffff - ones_sum(&covered)).to_be_bytes();
+    all.extend_from_slice(&[message, 0, high, low, 0, 0, 0, 0])?;
+    all.extend_from_slice(behind)
+}

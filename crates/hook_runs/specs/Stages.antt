@@ -1,0 +1,64 @@
+-- The base chains of a hook that run in one go, and what they cost.
+use Rattle.std.specs.Prelude.{ℕ, ◌+◌, not, ◌&&◌, Bool, List}
+use Rattle.nft_tree.specs.declared.chain.Hook.TheVariants as hooks
+use Rattle.nft_tree.specs.Priorities.{DSTNAT, SRCNAT}
+use Rattle.nft_tree.specs.Tree.{TableTree}
+use Rattle.box_file.specs.Box.{PlantTree}
+use Rattle.rule_meaning.specs.Hooks.{BaseChain, filter_chains_on, nat_chains_on, is_below, is_prerouting_raw}
+use Rattle.hook_runs.specs.declared.stages.HookStage.{HookStage}
+use Rattle.hook_runs.specs.declared.stages.HookStage.TheVariants as stages
+
+-- the filter chains on prerouting that run once a connection was looked for
+abbrev pub is_after_conntrack : BaseChain → Bool
+is_after_conntrack b = filter_chains_on hooks.Prerouting b && not (is_prerouting_raw b)
+
+-- whether a base chain runs in a part: those of type nat where they translate, whatever their priority; filter chains
+-- of the priority of a translation run after it
+abbrev pub chains_in_stage : HookStage → BaseChain → Bool
+chains_in_stage stages.PreroutingRaw = is_prerouting_raw
+chains_in_stage stages.PreroutingBeforeNat = λ b. is_after_conntrack b && is_below DSTNAT b
+chains_in_stage stages.PreroutingNat = nat_chains_on hooks.Prerouting
+chains_in_stage stages.PreroutingAfterNat = λ b. is_after_conntrack b && not (is_below DSTNAT b)
+chains_in_stage stages.Input = filter_chains_on hooks.Input
+chains_in_stage stages.Forward = filter_chains_on hooks.Forward
+chains_in_stage stages.PostroutingBeforeNat = λ b. filter_chains_on hooks.Postrouting b && is_below SRCNAT b
+chains_in_stage stages.PostroutingNat = nat_chains_on hooks.Postrouting
+chains_in_stage stages.PostroutingAfterNat = λ b. filter_chains_on hooks.Postrouting b && not (is_below SRCNAT b)
+
+-- what each part costs: how many statements its base chains start at most, and 1 more for each chain; each base chain
+-- that isn't of hook output, nor of type nat on input or forward, runs in one part at what it costs
+pub record StageCosts : Type 0 where
+  pub prerouting_raw : ℕ
+  pub prerouting_before_nat : ℕ
+  pub prerouting_nat : ℕ
+  pub prerouting_after_nat : ℕ
+  pub input : ℕ
+  pub forward : ℕ
+  pub postrouting_before_nat : ℕ
+  pub postrouting_nat : ℕ
+  pub postrouting_after_nat : ℕ
+
+-- a checked ruleset, the box that it was judged on, and what its parts cost
+pub record CostedTree : Type 0 where
+  pub rules : List TableTree
+  pub plant : PlantTree
+  pub costs : StageCosts
+
+-- what a part costs
+abbrev pub stage_cost : CostedTree → HookStage → ℕ
+stage_cost runs stages.PreroutingRaw = runs.costs.prerouting_raw
+stage_cost runs stages.PreroutingBeforeNat = runs.costs.prerouting_before_nat
+stage_cost runs stages.PreroutingNat = runs.costs.prerouting_nat
+stage_cost runs stages.PreroutingAfterNat = runs.costs.prerouting_after_nat
+stage_cost runs stages.Input = runs.costs.input
+stage_cost runs stages.Forward = runs.costs.forward
+stage_cost runs stages.PostroutingBeforeNat = runs.costs.postrouting_before_nat
+stage_cost runs stages.PostroutingNat = runs.costs.postrouting_nat
+stage_cost runs stages.PostroutingAfterNat = runs.costs.postrouting_after_nat
+
+-- what all parts cost together
+abbrev pub total_stage_cost : CostedTree → ℕ
+total_stage_cost runs =
+    runs.costs.prerouting_raw + runs.costs.prerouting_before_nat + runs.costs.prerouting_nat + runs.costs.prerouting_after_nat
+    + runs.costs.input + runs.costs.forward
+    + runs.costs.postrouting_before_nat + runs.costs.postrouting_nat + runs.costs.postrouting_after_nat

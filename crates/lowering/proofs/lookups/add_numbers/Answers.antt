@@ -1,8 +1,0 @@
-use Rattle.std.proofs.Common.{map}
-use Rattle.std.proofs.lemmas.Result.{IfOk-weaker}
-use Rattle.nft_tree.specs.Tree.{pair_tree}
-use Rattle.lowering.proofs.Kept.{kept-numbers}
-use Rattle.lowering.proofs.lookups.add_numbers.Goals as goal
-
-pub returns-clause-gives : goal.returns-clause-gives
-returns-clause-gives c = IfOk-weaker c.keep.result _ _ (λ i at t. kept-numbers c.args.plant.now t _ c.args.selector c.kind.result c.args.given (map pair_tree c.args.pairs.now) c.in_ok-table.table i c.kind.ensures c.in_ok-table.ensures at) c.keep.ensures.at

@@ -1,0 +1,158 @@
+//! Tables that actions name by their numbers.
+ghost use Rattle.std.specs.Prelude.{◌≡◌, false, map, slice_get, IfOk, OnOk};
+ghost use Rattle.nft_tree.specs.Tree as tree;
+ghost use Rattle.nft_tree.specs.Tree.{TableTree, element_tree, map_ref_tree, pair_tree, set_ref_tree};
+ghost use Rattle.nft_tree.specs.ComparedTypes.{selector_compared_type};
+ghost use Rattle.nft_tree.specs.declared.compared_types.ComparedType.TheVariants.{Named};
+ghost use Rattle.rule_types.specs.Types.{is_too_wide, lookup_mismatches, map_ref_mismatches};
+ghost use Rattle.rule_meaning.specs.Sets.{elements_have, set_has};
+ghost use Rattle.lowering.specs.Lowered.{Extends, HasDeclared, Keeps};
+ghost use Rattle.lowering.specs.steps.Tables.{IsNumberType};
+ghost use Rattle.lowering.specs.steps.Actions.{HasNumbers, HasSet, HasVerdicts, scope_of};
+
+use crate::keys::selector_kinds;
+use crate::tables::{number_table, set_table, verdict_table};
+use box_file::Plant;
+use filter_vm::Lookups;
+use nft_tree::{Element, MapRef, Pair, Selector, SetRef, ValueType};
+use rule_names::TableNames;
+use set_intervals::Intervals;
+use std::alloc::{AllocError, Global};
+
+/// Puts a table behind the others, and gives its number.
+fn add_table<V: Drop>(
+    tables: &mut Vec<Intervals<V>>,
+    table: Intervals<V>,
+) -> Result<usize, AllocError>
+    ensures keeps { OnOk result (Keeps tables.old.items tables.new.items) }
+    ensures at { IfOk result (λ i. slice_get tables.new.items i ≡ Some table) }
+{
+    let number = tables.len();
+    tables.push(table)?;
+    Ok(number)
+}
+
+/// The number of a new table with the numbers of elements of the selectors' types.
+fn add_set(
+    alloc: Global,
+    plant: &Plant,
+    selectors: &[Selector],
+    elements: &[Element],
+    lookups: &mut Lookups,
+) -> Result<usize, AllocError>
+    requires { is_too_wide (map selector_compared_type selectors.now) ≡ false }
+    ensures extends { OnOk result (Extends lookups.old lookups.new) }
+    ensures has { IfOk result (HasSet lookups.new (elements_have plant.now (map selector_compared_type selectors.now) (map element_tree elements.now))) }
+{
+    let kinds = selector_kinds(alloc, selectors)?;
+    let table = set_table(alloc, plant, &kinds, elements)?;
+    add_table(&mut lookups.sets, table)
+}
+
+/// The number of the table of a set: of a declared one by its name, or a new one.
+pub(crate) fn set_index(
+    alloc: Global,
+    plant: &Plant,
+    names: &TableNames,
+    selectors: &[Selector],
+    set: &SetRef,
+    lookups: &mut Lookups,
+) -> Result<usize, AllocError>
+    requires declared { HasDeclared plant.now names.now lookups.old }
+    requires types { lookup_mismatches names.now selectors.now (set_ref_tree set.now) ≡ false }
+    ensures extends { OnOk result (Extends lookups.old lookups.new) }
+    ensures has { IfOk result (HasSet lookups.new (set_has (scope_of plant.now names.now) selectors.now (set_ref_tree set.now))) }
+{
+    match set {
+        SetRef::Named(name) => match names.set_index(name) {
+            Some(place) => Ok(place),
+            // What no set has the name of holds nothing.
+            None => add_set(alloc, plant, selectors, &[], lookups),
+        },
+        SetRef::Anonymous(elements) => add_set(alloc, plant, selectors, elements, lookups),
+    }
+}
+
+/// The number of a new table with what elements of a verdict map decide.
+fn add_verdicts(
+    alloc: Global,
+    plant: &Plant,
+    names: &TableNames,
+    selector: Selector,
+    pairs: &[Pair],
+    lookups: &mut Lookups,
+) -> Result<usize, AllocError>
+    ensures extends { OnOk result (Extends lookups.old lookups.new) }
+    ensures gives { IfOk result (HasVerdicts plant.now names.now lookups.new selector (tree.pairs (map pair_tree pairs.now))) }
+{
+    let table = verdict_table(alloc, plant, names, selector.kind(), pairs)?;
+    add_table(&mut lookups.verdicts, table)
+}
+
+/// The number of the table of a verdict map: of a declared one by its name, or a new one.
+pub(crate) fn verdict_map_index(
+    alloc: Global,
+    plant: &Plant,
+    names: &TableNames,
+    selector: Selector,
+    map: &MapRef,
+    lookups: &mut Lookups,
+) -> Result<usize, AllocError>
+    requires declared { HasDeclared plant.now names.now lookups.old }
+    requires types { map_ref_mismatches names.now selector None (map_ref_tree map.now) ≡ false }
+    ensures extends { OnOk result (Extends lookups.old lookups.new) }
+    ensures gives { IfOk result (HasVerdicts plant.now names.now lookups.new selector (map_ref_tree map.now)) }
+{
+    match map {
+        MapRef::Named(name) => match names.map_index(name) {
+            Some(place) => Ok(place),
+            // What no map has the name of gives nothing.
+            None => add_verdicts(alloc, plant, names, selector, &[], lookups),
+        },
+        MapRef::Anonymous(pairs) => add_verdicts(alloc, plant, names, selector, pairs, lookups),
+    }
+}
+
+/// The number of a new table with the numbers that elements of a map give, marks or addresses.
+fn add_numbers(
+    alloc: Global,
+    plant: &Plant,
+    selector: Selector,
+    given: ValueType,
+    pairs: &[Pair],
+    lookups: &mut Lookups,
+) -> Result<usize, AllocError>
+    requires { IsNumberType given }
+    ensures extends { OnOk result (Extends lookups.old lookups.new) }
+    ensures gives { IfOk result (λ i. (t : TableTree) → HasNumbers plant.now t lookups.new selector given (tree.pairs (map pair_tree pairs.now)) i) }
+{
+    let table = number_table(alloc, plant, selector.kind(), given, pairs)?;
+    add_table(&mut lookups.numbers, table)
+}
+
+/// The number of the table of a map of marks or of addresses: of a declared one by its name, or a new
+/// one.
+pub(crate) fn number_map_index(
+    alloc: Global,
+    plant: &Plant,
+    names: &TableNames,
+    selector: Selector,
+    given: ValueType,
+    map: &MapRef,
+    lookups: &mut Lookups,
+) -> Result<usize, AllocError>
+    requires read { IsNumberType given }
+    requires declared { HasDeclared plant.now names.now lookups.old }
+    requires types { map_ref_mismatches names.now selector (Some (Named given)) (map_ref_tree map.now) ≡ false }
+    ensures extends { OnOk result (Extends lookups.old lookups.new) }
+    ensures gives { IfOk result (HasNumbers plant.now names.now lookups.new selector given (map_ref_tree map.now)) }
+{
+    match map {
+        MapRef::Named(name) => match names.map_index(name) {
+            Some(place) => Ok(place),
+            // What no map has the name of gives nothing.
+            None => add_numbers(alloc, plant, selector, given, &[], lookups),
+        },
+        MapRef::Anonymous(pairs) => add_numbers(alloc, plant, selector, given, pairs, lookups),
+    }
+}

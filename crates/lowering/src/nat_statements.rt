@@ -1,0 +1,157 @@
+//! Translations as actions.
+ghost use Rattle.std.specs.Prelude.{◌≡◌, ◌<◌, false, not, true, IfOk, OnOk};
+ghost use Rattle.std.specs.Option.{option_map};
+ghost use Rattle.nft_tree.specs.Tree.{destination_tree, nat_tree, source_tree, statement};
+ghost use Rattle.nft_tree.specs.Tree as tree;
+ghost use Rattle.rule_types.specs.Types.{statement_mismatches};
+ghost use Rattle.rule_values.specs.Faults.{are_ports, destination_out_of_range, if_some, is_port, nat_out_of_range, source_out_of_range};
+ghost use Rattle.rule_meaning.specs.Statements.{destination_of, give, ports_of, source_of, nat_action_of, with_value};
+ghost use Rattle.lowering.specs.Lowered.{Extends, HasDeclared};
+ghost use Rattle.lowering.specs.steps.Actions.{AlwaysHasEffect, HasEffect, scope_of};
+
+use crate::lookup_tables::number_map_index;
+use box_file::Plant;
+use filter_vm::{Action, Lookups};
+use nft_tree::{DestinationTarget, Nat, PortRange, SourceTarget, ValueType};
+use rule_meaning::{NatAction, PortInterval, RuleVerdict};
+use rule_names::TableNames;
+use std::alloc::{AllocError, Global};
+
+/// A port.
+fn port(number: u64) -> u16
+    requires { is_port number ≡ true }
+    ensures { result ≡ number }
+{
+    number as u16
+}
+
+/// A port, if one is given.
+fn some_port(number: Option<u64>) -> Option<u16>
+    requires { if_some (λ n. not (is_port n)) number ≡ false }
+    ensures { result ≡ number }
+{
+    match number {
+        Some(number) => Some(port(number)),
+        None => None,
+    }
+}
+
+/// The ports from one to another.
+fn ports(range: PortRange) -> PortInterval
+    requires { are_ports range ≡ true }
+    ensures { result ≡ ports_of range }
+{
+    match range {
+        PortRange::One(number) => PortInterval {
+            low: port(number),
+            high: port(number),
+        },
+        PortRange::Between(low, high) => PortInterval {
+            low: port(low),
+            high: port(high),
+        },
+    }
+}
+
+/// Ports, if any are given.
+fn some_ports(range: Option<PortRange>) -> Option<PortInterval>
+    requires { if_some (λ r. not (are_ports r)) range ≡ false }
+    ensures { result ≡ option_map ports_of range }
+{
+    match range {
+        Some(range) => Some(ports(range)),
+        None => None,
+    }
+}
+
+/// `snat`.
+fn lower_snat(
+    alloc: Global,
+    plant: &Plant,
+    names: &TableNames,
+    target: &SourceTarget,
+    lookups: &mut Lookups,
+) -> Result<Action, AllocError>
+    requires declared { HasDeclared plant.now names.now lookups.old }
+    requires types { statement_mismatches names.now (tree.nat (tree.source (source_tree target.now))) ≡ false }
+    requires bounds { source_out_of_range (source_tree target.now) ≡ false }
+    ensures extends { OnOk result (Extends lookups.old lookups.new) }
+    ensures statement_effect { IfOk result (HasEffect lookups.new (λ f. with_value (λ t. give (RuleVerdict.Translate t)) (source_of (scope_of plant.now names.now) (source_tree target.now) f))) }
+{
+    match target {
+        SourceTarget::Address(address, ports) => Ok(Action::GiveVerdict(RuleVerdict::Translate(
+            NatAction::Source(*address, some_ports(*ports)),
+        ))),
+        SourceTarget::MapLookup(look) => {
+            let number = number_map_index(
+                alloc,
+                plant,
+                names,
+                look.selector,
+                ValueType::Address,
+                &look.map,
+                lookups,
+            )?;
+            Ok(Action::TranslateSource(look.selector, number))
+        }
+    }
+}
+
+/// `dnat`.
+fn lower_dnat(
+    alloc: Global,
+    plant: &Plant,
+    names: &TableNames,
+    target: &DestinationTarget,
+    lookups: &mut Lookups,
+) -> Result<Action, AllocError>
+    requires declared { HasDeclared plant.now names.now lookups.old }
+    requires types { statement_mismatches names.now (tree.nat (tree.destination (destination_tree target.now))) ≡ false }
+    requires bounds { destination_out_of_range (destination_tree target.now) ≡ false }
+    ensures extends { OnOk result (Extends lookups.old lookups.new) }
+    ensures statement_effect { IfOk result (HasEffect lookups.new (λ f. with_value (λ t. give (RuleVerdict.Translate t)) (destination_of (scope_of plant.now names.now) (destination_tree target.now) f))) }
+{
+    match target {
+        DestinationTarget::Address(address, port) => Ok(Action::GiveVerdict(RuleVerdict::Translate(
+            NatAction::Destination(*address, some_port(*port)),
+        ))),
+        DestinationTarget::MapLookup(look) => {
+            let number = number_map_index(
+                alloc,
+                plant,
+                names,
+                look.selector,
+                ValueType::Address,
+                &look.map,
+                lookups,
+            )?;
+            Ok(Action::TranslateDestination(look.selector, number))
+        }
+    }
+}
+
+/// The action that gives the translation.
+pub(crate) fn lower_nat(
+    alloc: Global,
+    plant: &Plant,
+    names: &TableNames,
+    nat: &Nat,
+    lookups: &mut Lookups,
+) -> Result<Action, AllocError>
+    requires declared { HasDeclared plant.now names.now lookups.old }
+    requires types { statement_mismatches names.now (tree.nat (nat_tree nat.now)) ≡ false }
+    requires bounds { nat_out_of_range (nat_tree nat.now) ≡ false }
+    ensures extends { OnOk result (Extends lookups.old lookups.new) }
+    ensures statement_effect { IfOk result (HasEffect lookups.new (λ f. with_value (λ t. give (RuleVerdict.Translate t)) (nat_action_of (scope_of plant.now names.now) (nat_tree nat.now) f))) }
+{
+    match nat {
+        Nat::Source(target) => lower_snat(alloc, plant, names, target, lookups),
+        Nat::Destination(target) => lower_dnat(alloc, plant, names, target, lookups),
+        Nat::Masquerade(ports) => Ok(Action::GiveVerdict(RuleVerdict::Translate(
+            NatAction::Masquerade(some_ports(*ports)),
+        ))),
+        Nat::Redirect(port) => Ok(Action::GiveVerdict(RuleVerdict::Translate(NatAction::Redirect(
+            some_port(*port),
+        )))),
+    }
+}

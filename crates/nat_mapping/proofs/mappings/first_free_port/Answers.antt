@@ -1,0 +1,33 @@
+use Rattle.std.proofs.Common.{◌≡◌, ℕ, Bool, true, false, not, is_some, Option, None, Some, sym, ◌∙◌, ap}
+use Rattle.std.specs.HashMap.{get}
+use Rattle.std.specs.List.{find}
+use Rattle.std.proofs.lemmas.Bool.{cond-true, cond-false}
+use Rattle.ip_headers.specs.declared.tuple.Endpoint.{Endpoint}
+use Rattle.port_pool.specs.Candidates.{candidates}
+use Rattle.nat_mapping.specs.declared.keys.PoolKey.{PoolKey}
+use Rattle.nat_mapping.specs.Mappings.{order_of}
+use Rattle.nat_mapping.specs.steps.Keys.{has_pool, inbound_at, same_inbound}
+use Rattle.nat_mapping.specs.steps.Pooled.{taken_in}
+use Rattle.nat_mapping.proofs.WhichKinds.{zero_found, zero_order}
+use Rattle.nat_mapping.proofs.mappings.first_free_port.Goals as goal
+
+pub returns-then-has_pool : goal.returns-then-has_pool
+returns-then-has_pool c =
+    let pool : PoolKey = record { kind = c.args.key.kind; address = c.args.key.address } in
+    let bitmap : has_pool c.args.key.kind ≡ true = sym c.has_pool.ensures ∙ c.if-has_pool.true in
+    let tests : ◌≡◌ {A = ℕ → Bool} (λ p. not (taken_in c.args.pools.now pool p)) (λ p. not (is_some (get same_inbound c.args.inbounds.now (inbound_at pool p)))) = λ i. λ p. not (c.requires.ports pool p bitmap i) in
+    c.choose.ensures ∙ ap (λ f. find f (candidates (order_of c.args.key.kind) c.args.key.internal.port c.args.range)) tests
+
+pub returns-in-Some : goal.returns-in-Some
+returns-in-Some c =
+    let none : has_pool c.args.key.kind ≡ false = sym c.has_pool.ensures ∙ c.if-has_pool.false in
+    let test : ℕ → Bool = λ p. not (is_some (get same_inbound c.args.inbounds.now (inbound_at (record { kind = c.args.key.kind; address = c.args.key.address }) p))) in
+    let at : test 0 ≡ false = ap (λ (o : Option Endpoint). not (is_some o)) (sym c.find_inbound.ensures ∙ c.in-Some.is) in
+    sym (zero_found test (order_of c.args.key.kind) c.args.key.internal.port c.args.range (zero_order c.args.key.kind none) ∙ cond-false (test 0) (Some 0) None at)
+
+pub returns-in-None : goal.returns-in-None
+returns-in-None c =
+    let none : has_pool c.args.key.kind ≡ false = sym c.has_pool.ensures ∙ c.if-has_pool.false in
+    let test : ℕ → Bool = λ p. not (is_some (get same_inbound c.args.inbounds.now (inbound_at (record { kind = c.args.key.kind; address = c.args.key.address }) p))) in
+    let at : test 0 ≡ true = ap (λ (o : Option Endpoint). not (is_some o)) (sym c.find_inbound.ensures ∙ c.in-None.is) in
+    sym (zero_found test (order_of c.args.key.kind) c.args.key.internal.port c.args.range (zero_order c.args.key.kind none) ∙ cond-true (test 0) (Some 0) None at)

@@ -1,0 +1,55 @@
+-- How tables and pools stand for the list of what is held.
+use Rattle.std.specs.Prelude.{◌≡◌, ℕ, ◌<◌, Bool, true, ◌==◌, List, [], ◌∷◌, ◌++◌, Option, Some, None, is_some}
+use Rattle.std.specs.Prelude.{if◌then◌else◌, replicate}
+use Rattle.std.specs.HashMap.{HashMap, get, IsUnique}
+use Rattle.std.specs.declared.random_state.RandomState.{RandomState}
+use Rattle.ip_headers.specs.declared.tuple.Endpoint.{Endpoint}
+use Rattle.ip_headers.specs.declared.tuple.Mapping.{Mapping}
+use Rattle.nat_mapping.specs.declared.keys.SourceKey.{SourceKey}
+use Rattle.nat_mapping.specs.declared.keys.InboundKey.{InboundKey}
+use Rattle.nat_mapping.specs.declared.keys.PoolKey.{PoolKey}
+use Rattle.nat_mapping.specs.declared.keys.MappedPort.{MappedPort}
+use Rattle.nat_mapping.specs.declared.pools.Pools.{Pools}
+use Rattle.nat_mapping.specs.Mappings.{holders_of}
+use Rattle.nat_mapping.specs.steps.Keys.{has_pool, inbound_at, inbound_key_of, mapping_at, same_inbound, same_source}
+use Rattle.nat_mapping.specs.steps.Keys.{source_at, source_key_of}
+use Rattle.nat_mapping.specs.steps.Pooled.{taken_in, IsPooled}
+
+abbrev pub Sources : Type 0
+Sources = HashMap SourceKey MappedPort RandomState
+
+abbrev pub Inbounds : Type 0
+Inbounds = HashMap InboundKey Endpoint RandomState
+
+-- all that is held, by the entries of the table
+unfoldable pub held_by : List (SourceKey × MappedPort) → List Mapping
+held_by [] = []
+held_by (e ∷ es) = replicate e.1.holders (mapping_at e.0 e.1) ++ held_by es
+
+abbrev pub holders_at : Option MappedPort → ℕ → ℕ
+holders_at None port = 0
+holders_at (Some h) port = if port == h.port then h.holders else 0
+
+-- the list holds each mapping as often as the table says
+abbrev pub CountsHolders : (SourceKey → Option MappedPort) → List Mapping → Type 0
+CountsHolders sources held = (m : Mapping) → holders_of m held ≡ holders_at (sources (source_key_of m)) m.external.port
+
+-- a pool has those ports taken behind which an internal endpoint stands
+abbrev pub ArePorts : (InboundKey → Option Endpoint) → (PoolKey → ℕ → Bool) → Type 0
+ArePorts inbounds taken = (key : PoolKey) (port : ℕ) → has_pool key.kind ≡ true
+    → taken key port ≡ is_some (inbounds (inbound_at key port))
+
+-- the two tables and the pools speak of the same mappings
+pub record IsSound (sources : SourceKey → Option MappedPort) (inbounds : InboundKey → Option Endpoint)
+    (taken : PoolKey → ℕ → Bool) : Type 0 where
+  pub held : (key : SourceKey) (h : MappedPort) → sources key ≡ Some h → 0 < h.holders
+  pub out : (key : SourceKey) (h : MappedPort) → sources key ≡ Some h
+      → inbounds (inbound_key_of (mapping_at key h)) ≡ Some key.internal
+  pub back : (key : InboundKey) (internal : Endpoint) → inbounds key ≡ Some internal
+      → (h : MappedPort) × ((sources (source_at key internal) ≡ Some h) × (h.port ≡ key.external.port))
+  pub ports : ArePorts inbounds taken
+
+pub record IsConsistent (sources : Sources) (inbounds : Inbounds) (pools : Pools) : Type 0 where
+  pub unique : IsUnique same_source sources
+  pub sound : IsSound (get same_source sources) (get same_inbound inbounds) (taken_in pools)
+  pub pooled : IsPooled pools

@@ -1,8 +1,0 @@
-use Rattle.nft_lexer.proofs.Cuttings.{one, faultless}
-use Rattle.nft_lexer.proofs.laws.one_cutting.Goals as goal
-
-pub returns-clause-one : goal.returns-clause-one
-returns-clause-one c = one
-
-pub returns-clause-faultless : goal.returns-clause-faultless
-returns-clause-faultless c = faultless

@@ -1,0 +1,287 @@
+//! The pieces of a text: blanks, comments, and tokens by their shapes (nft(8), "Lexical
+//! conventions").
+ghost use Rattle.std.specs.Prelude.{◌≡◌, ◌≤◌, length, option_map};
+ghost use Rattle.std.specs.List.{prefix_len};
+ghost use Rattle.nft_lexer.specs.Lexing.{continues_word, punctuation, is_string_byte};
+ghost use Rattle.nft_lexer.specs.steps.Reading.{address_kind, after_byte, behind, class_at, class_of, continues_run, octet_after, octets_after, hexadecimal_at, is_zero, long_punctuator_at, long_punctuators, punctuator_at, punctuator_from, number_kind, numeral_at, lexeme_at, run_at, scanned_kind, short_punctuators};
+
+use crate::number::{address, leading_digits, value};
+use crate::token::{Punctuator, TokenKind};
+
+/// What pieces a byte may begin.
+#[derive(Clone, Copy)]
+pub(crate) enum Class {
+    Blank,
+    LineEnd,
+    Backslash,
+    Hash,
+    Quote,
+    Digit,
+    Letter,
+    Other,
+}
+
+/// What a run of bytes is of.
+#[derive(Clone, Copy)]
+enum Run {
+    Word,
+    /// All up to the line's end.
+    Line,
+    /// All up to the next quote or the line's end.
+    String,
+    Hexadecimal,
+}
+
+/// The piece in front of a text.
+#[derive(Clone, Copy)]
+pub(crate) enum LexemeKind {
+    /// No token: a blank, a line's end after a backslash, or a comment.
+    Blank,
+    Token(TokenKind),
+    /// Digits or groups of digits that are neither a number nor an address.
+    InvalidNumber,
+}
+
+fn class_of(byte: u8) -> Class
+    ensures { result ≡ class_of byte }
+{
+    match byte {
+        b'0'..=b'9' => Class::Digit,
+        b'a'..=b'z' | b'A'..=b'Z' | b'_' => Class::Letter,
+        b' ' | b'\t' | b'\r' => Class::Blank,
+        b'\n' => Class::LineEnd,
+        b'\\' => Class::Backslash,
+        b'#' => Class::Hash,
+        b'"' => Class::Quote,
+        _ => Class::Other,
+    }
+}
+
+/// The mark that the byte alone is.
+fn punctuator_of(byte: u8) -> Option<Punctuator>
+    ensures { result ≡ punctuator_from byte short_punctuators }
+{
+    match byte {
+        b'{' => Some(Punctuator::OpenBrace),
+        b'}' => Some(Punctuator::CloseBrace),
+        b'(' => Some(Punctuator::OpenParenthesis),
+        b')' => Some(Punctuator::CloseParenthesis),
+        b',' => Some(Punctuator::Comma),
+        b';' => Some(Punctuator::Semicolon),
+        b':' => Some(Punctuator::Colon),
+        b'.' => Some(Punctuator::Dot),
+        b'/' => Some(Punctuator::Slash),
+        b'-' => Some(Punctuator::Minus),
+        b'+' => Some(Punctuator::Plus),
+        b'=' => Some(Punctuator::Equals),
+        b'@' => Some(Punctuator::At),
+        b'&' => Some(Punctuator::Ampersand),
+        b'|' => Some(Punctuator::Bar),
+        b'<' => Some(Punctuator::Below),
+        b'>' => Some(Punctuator::Above),
+        _ => None,
+    }
+}
+
+/// The mark that the byte and an equals sign are.
+fn punctuator_before_equals(byte: u8) -> Option<Punctuator>
+    ensures { result ≡ punctuator_from byte long_punctuators }
+{
+    match byte {
+        b'=' => Some(Punctuator::EqualTo),
+        b'!' => Some(Punctuator::NotEqualTo),
+        b'<' => Some(Punctuator::AtMost),
+        b'>' => Some(Punctuator::AtLeast),
+        _ => None,
+    }
+}
+
+/// Whether the byte goes on with a word that has begun.
+fn continues_word(byte: u8) -> bool
+    ensures { result ≡ continues_word byte }
+{
+    byte.is_ascii_alphanumeric() || byte == b'_' || byte == b'-' || byte == b'.' || byte == b'/'
+}
+
+/// Whether the byte goes on with a run.
+fn continues_run(run: Run, byte: u8) -> bool
+    ensures { result ≡ continues_run run byte }
+{
+    match run {
+        Run::Word => continues_word(byte),
+        Run::Line => byte != b'\n',
+        Run::String => byte != b'"' && byte != b'\n',
+        Run::Hexadecimal => byte.is_ascii_hexdigit(),
+    }
+}
+
+/// How many bytes in front go on with the run.
+fn run_length(run: Run, text: &[u8]) -> usize
+    ensures value { result ≡ prefix_len (continues_run run) text.now }
+    ensures within { result ≤ length text.now }
+{
+    text.iter()
+        .take_while(|byte| continues_run(run, **byte))
+        .count()
+}
+
+/// All the bytes in front that go on with the run, one at least, and what follows them.
+#[tactic(auto, unfolding(crate::specs::steps::Reading::run_at))]
+fn some_run<'t>(run: Run, text: &'t [u8]) -> Option<(&'t [u8], &'t [u8])>
+    ensures { option_map (λ x. (x.0.now, x.1.now)) result ≡ run_at (continues_run run) text.entry.now }
+{
+    let [first, rest @ ..] = text else {
+        return None;
+    };
+    if !continues_run(run, *first) {
+        return None;
+    }
+    Some(text.split_at(1 + run_length(run, rest)))
+}
+
+/// The number, as a piece.
+fn number_kind(number: Option<u64>) -> LexemeKind
+    ensures { result ≡ number_kind number }
+{
+    match number {
+        Some(number) => LexemeKind::Token(TokenKind::Number(number)),
+        None => LexemeKind::InvalidNumber,
+    }
+}
+
+/// The address, as a piece.
+fn address_kind(address: Option<u32>) -> LexemeKind
+    ensures { result ≡ address_kind address }
+{
+    match address {
+        Some(address) => LexemeKind::Token(TokenKind::Address(address)),
+        None => LexemeKind::InvalidNumber,
+    }
+}
+
+fn is_zero(digits: &[u8]) -> bool
+    ensures { result ≡ is_zero digits.now }
+{
+    digits.len() == 1 && digits[0] == b'0'
+}
+
+/// The hexadecimal number whose digits before its `x` are these, and what follows it.
+#[tactic(auto, unfolding(crate::specs::steps::Reading::hexadecimal_at))]
+fn hexadecimal<'t>(first: &'t [u8], text: &'t [u8]) -> Option<(LexemeKind, &'t [u8])>
+    ensures { option_map (λ x. (x.0, x.1.now)) result ≡ scanned_kind (hexadecimal_at first.entry.now text.entry.now) }
+{
+    let [b'x', rest @ ..] = text else {
+        return None;
+    };
+    if !is_zero(first) {
+        return None;
+    }
+    let (digits, rest) = some_run(Run::Hexadecimal, rest)?;
+    Some((number_kind(value(digits, 16)), rest))
+}
+
+/// The number of the digits after a dot, and what follows them.
+#[tactic(auto, unfolding(crate::specs::steps::Reading::octet_after))]
+fn next_octet<'t>(text: &'t [u8]) -> Option<(Option<u64>, &'t [u8])>
+    ensures { option_map (λ x. (x.0, x.1.now)) result ≡ octet_after text.entry.now }
+{
+    let [b'.', rest @ ..] = text else {
+        return None;
+    };
+    let (digits, rest) = leading_digits(rest)?;
+    Some((digits.number, rest))
+}
+
+/// The address of four groups of which the first is this number, and what follows them. The last
+/// takes all the digits that stand there.
+#[tactic(auto, unfolding(crate::specs::steps::Reading::octets_after))]
+fn address_after_octet<'t>(first: Option<u64>, text: &'t [u8]) -> Option<(LexemeKind, &'t [u8])>
+    ensures { option_map (λ x. (x.0, x.1.now)) result ≡ octets_after first text.entry.now }
+{
+    let (second, rest) = next_octet(text)?;
+    let (third, rest) = next_octet(rest)?;
+    let (fourth, rest) = next_octet(rest)?;
+    Some((address_kind(address(first, second, third, fourth)), rest))
+}
+
+/// The number or the address in front, and what follows it.
+///
+/// Digits stand first in each: what follows them tells which it is.
+#[tactic(auto, unfolding(crate::specs::steps::Reading::numeral_at))]
+fn number<'t>(text: &'t [u8]) -> Option<(LexemeKind, &'t [u8])>
+    ensures { option_map (λ x. (x.0, x.1.now)) result ≡ numeral_at text.entry.now }
+{
+    let (digits, rest) = leading_digits(text)?;
+    if let Some(found) = hexadecimal(digits.text, rest) {
+        return Some(found);
+    }
+    if let Some(found) = address_after_octet(digits.number, rest) {
+        return Some(found);
+    }
+    Some((number_kind(digits.number), rest))
+}
+
+/// What follows the string whose first quote stands before the text.
+fn after_string<'t>(text: &'t [u8]) -> Option<&'t [u8]>
+    ensures { option_map (λ rest. rest.now) result ≡ after_byte 34 (behind is_string_byte text.entry.now) }
+{
+    let [b'"', rest @ ..] = &text[run_length(Run::String, text)..] else {
+        return None;
+    };
+    Some(rest)
+}
+
+/// The mark that the byte before the text and an equals sign in front are, and what follows it.
+#[tactic(auto, unfolding(crate::specs::steps::Reading::long_punctuator_at))]
+fn long_punctuator<'t>(first: u8, text: &'t [u8]) -> Option<(Punctuator, &'t [u8])>
+    ensures { option_map (λ x. (punctuation x.0, x.1.now)) result ≡ long_punctuator_at first text.entry.now }
+{
+    let punctuator = punctuator_before_equals(first)?;
+    let [b'=', rest @ ..] = text else {
+        return None;
+    };
+    Some((punctuator, rest))
+}
+
+/// The mark that begins with the byte before the text, of two bytes where they are one, and what
+/// follows it.
+#[tactic(auto, unfolding(crate::specs::steps::Reading::punctuator_at))]
+fn punctuator<'t>(first: u8, text: &'t [u8]) -> Option<(Punctuator, &'t [u8])>
+    ensures { option_map (λ x. (punctuation x.0, x.1.now)) result ≡ punctuator_at first text.entry.now }
+{
+    if let Some(found) = long_punctuator(first, text) {
+        return Some(found);
+    }
+    Some((punctuator_of(first)?, text))
+}
+
+/// The longest piece in front, and what follows it.
+#[tactic(auto, using(crate::specs::steps::Values::numeral_is), unfolding(crate::specs::steps::Reading::lexeme_at, crate::specs::steps::Reading::class_at, crate::specs::steps::Reading::quoted_at))]
+pub(crate) fn next_lexeme<'t>(text: &'t [u8]) -> Option<(LexemeKind, &'t [u8])>
+    ensures { option_map (λ x. (x.0, x.1.now)) result ≡ scanned_kind (lexeme_at text.entry.now) }
+{
+    let [first, rest @ ..] = text else {
+        return None;
+    };
+    match class_of(*first) {
+        Class::Blank => Some((LexemeKind::Blank, rest)),
+        Class::LineEnd => Some((LexemeKind::Token(TokenKind::NewLine), rest)),
+        Class::Backslash => {
+            let [b'\n', rest @ ..] = rest else {
+                return None;
+            };
+            Some((LexemeKind::Blank, rest))
+        }
+        Class::Hash => Some((LexemeKind::Blank, &rest[run_length(Run::Line, rest)..])),
+        Class::Quote => Some((LexemeKind::Token(TokenKind::String), after_string(rest)?)),
+        Class::Digit => number(text),
+        Class::Letter => Some((
+            LexemeKind::Token(TokenKind::Word),
+            &rest[run_length(Run::Word, rest)..],
+        )),
+        Class::Other => {
+            let (punctuator, rest) = punctuator(*first, rest)?;
+            Some((LexemeKind::Token(TokenKind::Punctuator(punctuator)), rest))
+        }
+    }
+}

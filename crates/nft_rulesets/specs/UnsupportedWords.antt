@@ -1,0 +1,29 @@
+-- The fault of tokens that spell no ruleset: whether one of them is a word that the language leaves out.
+use Rattle.std.specs.Prelude.{List, [], ◌∷◌, Bool, false, codes}
+use Rattle.std.specs.List.{list_any}
+use Rattle.std.specs.Str.{bytes_eq}
+use Rattle.nft_lexer.specs.Terminal as terminals
+use Rattle.nft_lexer.specs.Terminal.{Terminal}
+use Rattle.nft_tree.specs.Tree.{Text}
+
+-- words of nft(8) that this profile leaves out
+abbrev pub unsupported : List Text
+unsupported =
+    codes "define" ∷ codes "undefine" ∷ codes "redefine" ∷ codes "include" ∷ codes "add" ∷ codes "create" ∷
+    codes "insert" ∷ codes "replace" ∷ codes "delete"
+    ∷ codes "destroy" ∷ codes "list" ∷ codes "reset" ∷ codes "rename" ∷ codes "monitor" ∷ codes "ip6" ∷
+    codes "icmpv6" ∷ codes "arp" ∷ codes "bridge" ∷ codes "netdev"
+    ∷ codes "ether" ∷ codes "vlan" ∷ codes "reject" ∷ codes "limit" ∷ codes "quota" ∷ codes "queue" ∷ codes "dup" ∷
+    codes "fwd" ∷ codes "tproxy" ∷ codes "synproxy"
+    ∷ codes "flowtable" ∷ codes "flow" ∷ codes "helper" ∷ codes "expectation" ∷ codes "timeout" ∷ codes "expires" ∷
+    codes "dynamic" ∷ codes "gc-interval" ∷ codes "numgen"
+    ∷ codes "jhash" ∷ codes "symhash" ∷ codes "fib" ∷ codes "rt" ∷ codes "socket" ∷ codes "osf" ∷ codes "random" ∷
+    codes "fully-random" ∷ codes "persistent" ∷ codes "dscp" ∷ []
+
+abbrev pub is_unsupported : Terminal → Bool
+is_unsupported (terminals.word w) = list_any (bytes_eq w) unsupported
+is_unsupported _ = false
+
+-- some word of the tokens is left out
+abbrev pub has_unsupported : List Terminal → Bool
+has_unsupported ts = list_any is_unsupported ts

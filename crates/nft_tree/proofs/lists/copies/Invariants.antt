@@ -1,6 +1,0 @@
-use Rattle.std.proofs.Common.{◌≡◌, map, take}
-use Rattle.nft_tree.proofs.lists.copies.Given as goal
-
--- the copies show what the items before this one show
-abbrev pub invariant-loop-item : goal.invariant-loop-item
-invariant-loop-item g l = map g.T.Listed.shown l.copies.items ≡ map g.T.Listed.shown (take l.item-index l.items.items)

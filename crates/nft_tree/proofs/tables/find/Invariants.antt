@@ -1,7 +1,0 @@
-use Rattle.std.proofs.Common.{◌≡◌, map, drop}
-use Rattle.nft_tree.specs.Words.{entry_in, entry_of}
-use Rattle.nft_tree.proofs.tables.find.Given as goal
-
--- the entries before this one have another name
-abbrev pub invariant-loop-entry : goal.invariant-loop-entry
-invariant-loop-entry g l = entry_in (map entry_of (drop l.entry-index l.entries)) l.name ≡ entry_in (map entry_of l.entries) l.name

@@ -1,0 +1,39 @@
+//! Copies of lists.
+//!
+//! What a list holds shows a tree, and a copy of a list shows the same trees in the same order.
+ghost use Rattle.nft_tree.specs.Tree.{Text};
+ghost use Rattle.std.specs.Prelude.{◌≡◌, map, IfOk};
+
+use crate::memory::Memory;
+
+/// What a list holds.
+pub trait TreeNode: Drop {
+    ghost Tree: { Type 0 };
+
+    /// What contracts compare of it.
+    ghost tree: { Self → Tree };
+
+    fn try_copy(&self) -> Result<Self, Memory>
+        ensures { IfOk result (λ copy. tree copy ≡ tree self.now) };
+}
+
+impl TreeNode for Vec<u8> {
+    ghost Tree = { Text };
+
+    ghost tree = { λ text. text.items };
+
+    fn try_copy(&self) -> Result<Vec<u8>, Memory> {
+        Ok(self.clone()?)
+    }
+}
+
+/// A list of copies.
+pub(crate) fn copies<T: TreeNode>(items: &Vec<T>) -> Result<Vec<T>, Memory>
+    ensures { IfOk result (λ copies. map T.tree copies.items ≡ map T.tree items.now.items) }
+{
+    let mut copies = Vec::with_capacity(*items.allocator(), items.len())?;
+    for item in items {
+        copies.push(item.try_copy()?)?;
+    }
+    Ok(copies)
+}

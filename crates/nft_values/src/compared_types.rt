@@ -1,0 +1,65 @@
+//! What a type says of its values.
+ghost use Rattle.std.specs.Prelude.{◌≡◌, ◌&&◌, ◌^◌, nat_lt};
+ghost use Rattle.nft_values.specs.Values.{is_address, compared_type_width, lists_word, takes_numbers};
+
+use nft_tree::{ComparedType, ValueType};
+
+/// The width of the type's values in bits.
+pub fn width(kind: ComparedType) -> u32
+    ensures { result ≡ compared_type_width kind }
+{
+    match kind {
+        ComparedType::Named(value_type) => value_type.width(),
+        ComparedType::Unnamed(width) => width,
+    }
+}
+
+/// Whether numbers are values of the type.
+fn takes_numbers(kind: ComparedType) -> bool
+    ensures { result ≡ takes_numbers kind }
+{
+    match kind {
+        ComparedType::Named(
+            ValueType::Address
+            | ValueType::InterfaceName
+            | ValueType::CtState
+            | ValueType::CtStatus,
+        ) => false,
+        _ => true,
+    }
+}
+
+/// Whether the number has no more bits than that.
+fn fits(number: u64, width: u32) -> bool
+    ensures { result ≡ nat_lt number (2 ^ width) }
+{
+    // A shift by more bits than the number has is no number.
+    width >= 64 || number >> width == 0
+}
+
+/// Whether the number is a value of the type.
+pub fn is_number_of(kind: ComparedType, number: u64) -> bool
+    ensures { result ≡ takes_numbers kind && nat_lt number (2 ^ compared_type_width kind) }
+{
+    takes_numbers(kind) && fits(number, width(kind))
+}
+
+/// Whether addresses are values of the type.
+pub fn is_address(kind: ComparedType) -> bool
+    ensures { result ≡ is_address kind }
+{
+    match kind {
+        ComparedType::Named(ValueType::Address) => true,
+        _ => false,
+    }
+}
+
+/// Whether the type lists the word.
+pub fn lists_word(kind: ComparedType, word: &[u8]) -> bool
+    ensures { result ≡ lists_word kind word.now }
+{
+    match kind {
+        ComparedType::Named(value_type) => value_type.number_of(word).is_some(),
+        ComparedType::Unnamed(_) => false,
+    }
+}

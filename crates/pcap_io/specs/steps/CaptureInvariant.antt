@@ -1,0 +1,34 @@
+-- A capture that holds the bytes read ahead.
+use Rattle.std.specs.Prelude.{◌<◌, ◌≤◌, ℕ, List, length, Option, Some, None, IfSome}
+use Rattle.pcap_io.specs.declared.fault.CaptureError.{CaptureError}
+use Rattle.pcap_io.specs.declared.format.LinkType.{LinkType}
+use Rattle.pcap_io.specs.declared.format.Format.{Format}
+use Rattle.pcap_io.specs.Pcap.{Recorded, MOMENTS_END, MOST_RECORDS, MOST_CAPTURED}
+use Rattle.pcap_io.specs.CaptureStates.{CaptureState, READ_AHEAD}
+use Rattle.pcap_io.specs.steps.ReadAhead.{BufferState, last_of}
+
+-- the record that was read last: the last bytes that were taken, at the greatest moment
+abbrev pub last_in : LinkType → List ℕ → ℕ → Option ℕ → Option Recorded
+last_in link taken latest None = None
+last_in link taken latest (Some n) = Some (record { moment = latest; link = link; bytes = last_of n taken })
+
+-- what it shows
+abbrev pub capture_state_of : Format → BufferState → ℕ → ℕ → Option CaptureError → Option ℕ → CaptureState
+capture_state_of format ahead count latest fault last =
+    record {
+      format = format;
+      held = ahead.held;
+      ended = ahead.ended;
+      count = count;
+      latest = latest;
+      fault = fault;
+      last = last_in format.link ahead.taken latest last;
+    }
+
+-- what holds of it after every call
+pub record IsConsistent (ahead : BufferState) (count latest : ℕ) (last : Option ℕ) : Type 0 where
+  pub few : count ≤ MOST_RECORDS
+  pub early : latest < MOMENTS_END
+  pub behind : IfSome last (λ n. n ≤ length ahead.taken)
+  pub short : IfSome last (λ n. n ≤ MOST_CAPTURED)
+  pub room : length ahead.held ≤ READ_AHEAD

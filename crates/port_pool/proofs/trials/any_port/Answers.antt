@@ -1,7 +1,0 @@
-use Rattle.std.proofs.Common.{refl}
-use Rattle.port_pool.specs.Candidates.{candidates, numbers}
-use Rattle.port_pool.proofs.trials.any_port.Goals as goal
-
-pub returns : goal.returns
-unfolding candidates numbers
-returns c = record { itself = refl; next = refl; past_the_last = refl; well_known = refl; past_the_class = refl; zero = refl }

@@ -1,0 +1,13 @@
+-- The status that an answer on the way stands for.
+use Rattle.std.specs.Prelude.{Bool, Result, Ok, Err, ⊤}
+use Rattle.program.specs.Status.{of_end}
+use Rattle.program.specs.declared.status.Status.{Status}
+use Rattle.program.specs.declared.status.Status.TheVariants.{Success}
+
+abbrev pub replay_status : Result Bool Status → Status
+replay_status (Ok torn) = of_end torn
+replay_status (Err status) = status
+
+abbrev pub check_status : Result ⊤ Status → Status
+check_status (Ok _) = Success
+check_status (Err status) = status

@@ -1,0 +1,115 @@
+//! What a status means, and where its fault is.
+use crate::status::Status;
+use command_line::Task;
+use engine::RunFault;
+use fault_search::{SourcePaths, Sources, all_faults, capture_location, explained};
+use std::rt::Files;
+use std::{fs, io};
+
+/// Prints what the status of a task means to standard error, and where its fault is.
+///
+/// A place is a help and no promise: no contract says which one is told. The files are read again
+/// for it, where they are regular files; a pipe has been read already.
+pub fn explain_status<R: Files + Eprint + AllocGlobal>(rt: &R, status: Status, task: &Task<'_>) {
+    if let (Some(fault), Some(paths)) = (fault_of(status), source_paths(task)) {
+        let _ = print_location(rt, fault, paths);
+    }
+    if let Task::Run(run) = task {
+        let _ = print_capture_location(rt, status, run.paths.input);
+    }
+}
+
+/// The ruleset and the box of a task that has them.
+fn source_paths<'a>(task: &Task<'a>) -> Option<SourcePaths<'a>> {
+    match task {
+        Task::Run(run) => Some(SourcePaths {
+            rules: run.paths.rules,
+            plant: run.paths.plant,
+        }),
+        Task::Check(check) => Some(SourcePaths {
+            rules: check.texts.rules,
+            plant: check.texts.plant,
+        }),
+        Task::Explain(_) => None,
+    }
+}
+
+/// The fault of a run or a check that ended so.
+fn fault_of(status: Status) -> Option<RunFault> {
+    match status {
+        Status::Rules(fault) => Some(RunFault::Rules(fault)),
+        Status::Box(fault) => Some(RunFault::Box(fault)),
+        Status::Capture(fault) => Some(RunFault::Capture(fault)),
+        _ => None,
+    }
+}
+
+/// Prints all faults of a check's ruleset and box to standard error, as far as they are found.
+pub fn list_faults<R: Files + Eprint + AllocGlobal>(rt: &R, task: &Task<'_>) {
+    if let Some(paths) = source_paths(task) {
+        let _ = print_all_faults(rt, paths);
+    }
+}
+
+fn print_all_faults<R: Files + Eprint + AllocGlobal>(
+    rt: &R,
+    paths: SourcePaths<'_>,
+) -> io::Result<()> {
+    let rules = read_again(rt, paths.rules);
+    let plant = read_again(rt, paths.plant);
+    let sources = Sources {
+        paths,
+        rules: &rules,
+        plant: &plant,
+    };
+    let lines = all_faults(rt.alloc(), sources)?;
+    eprint!(rt; "{}", lines.as_str())
+}
+
+fn print_location<R: Files + Eprint + AllocGlobal>(
+    rt: &R,
+    fault: RunFault,
+    paths: SourcePaths<'_>,
+) -> io::Result<()> {
+    let rules = read_again(rt, paths.rules);
+    let plant = read_again(rt, paths.plant);
+    let sources = Sources {
+        paths,
+        rules: &rules,
+        plant: &plant,
+    };
+    let lines = explained(rt.alloc(), fault, sources)?;
+    eprint!(rt; "{}", lines.as_str())
+}
+
+/// A file's bytes, where it is a regular file that can be read, and else none.
+fn read_again<R: Files + AllocGlobal>(rt: &R, path: &str) -> Vec<u8> {
+    if is_regular(rt, path) {
+        if let Ok(bytes) = fs::read(rt, path) {
+            return bytes;
+        }
+    }
+    Vec::new(rt.alloc())
+}
+
+fn is_regular<R: Files + AllocGlobal>(rt: &R, path: &str) -> bool {
+    match fs::metadata(rt, path) {
+        Ok(found) => found.is_file(),
+        Err(_) => false,
+    }
+}
+
+/// Tells where a capture's fault is, or its torn end.
+fn print_capture_location<R: Files + Eprint + AllocGlobal>(
+    rt: &R,
+    status: Status,
+    path: &str,
+) -> io::Result<()> {
+    if !matches!(status, Status::Capture(_) | Status::Torn) || !is_regular(rt, path) {
+        return Ok(());
+    }
+    match capture_location(rt.alloc(), fs::open(rt, path)?) {
+        Some(place) => eprintln!(rt; "{path}: {place}"),
+        None => Ok(()),
+    }
+}

@@ -1,0 +1,170 @@
+//! How far a capture is read, told once a second on a terminal.
+ghost use Rattle.std.specs.Prelude.{◌≡◌, ◌+◌, ◌^◌, ◌-◌, None, true, min};
+ghost use Rattle.std.specs.Io.{ReadsAtMost};
+ghost use Rattle.std.specs.Io.KnownBytes.{ReadConsumes};
+ghost use Rattle.pcap_io.specs.Counting.{CountsRead};
+
+use pcap_io::Counted;
+use std::io::{Eprint, Read};
+use std::rt::Clock;
+use std::time::Instant;
+use std::{fmt, io};
+
+/// How many seconds a run lasts before its first line of progress, and how much later the next comes.
+const PAUSE_SECONDS: u64 = 1;
+
+/// A capture that is read, which tells how far it is.
+///
+/// What a read answers is what the capture's own read does. Where progress can't be told, for want of
+/// a clock or because a write fails, it isn't, and the run goes on.
+#[derive(Drop)]
+pub(crate) struct ProgressReader<'a, 'b, R, T> {
+    input: &'a mut Counted<T>,
+    progress: Option<Progress<'b, R>>,
+}
+
+impl<'a, 'b, R: Clock + Eprint, T: Read> ProgressReader<'a, 'b, R, T> {
+    /// Nothing is told where there is no progress to tell.
+    pub(crate) fn new(input: &'a mut Counted<T>, progress: Option<Progress<'b, R>>) -> Self
+        ensures input { result.input.now ≡ input.old }
+    {
+        ProgressReader { input, progress }
+    }
+
+    /// Ends the line of progress, so that what is printed next begins at the start of one.
+    pub(crate) fn end(self) {
+        if let Some(progress) = self.progress {
+            progress.end();
+        }
+    }
+}
+
+impl<R: Clock + Eprint, T: Read> Read for ProgressReader<'_, '_, R, T> {
+    ghost remaining = { λ w. T.remaining w.input.now.inner };
+
+    fn read(&mut self, buf: &mut [u8]) -> io::Result<usize>
+        ensures bound { ReadsAtMost result buf.new }
+        ensures bytes { ReadConsumes (T.remaining self.old.input.now.inner) (T.remaining self.new.input.now.inner) result buf.new }
+        // It fails where the capture's own read does, and there alone.
+        ensures fails { CountsRead self.old.input.now.failures self.new.input.now.failures result }
+    {
+        let answer = self.input.read(buf);
+        if let (Ok(count), Some(progress)) = (&answer, &mut self.progress) {
+            progress.add(*count as u64);
+        }
+        answer
+    }
+}
+
+/// Where lines of progress stand.
+#[derive(Clone, Copy, PartialEq)]
+pub(crate) enum ProgressLine {
+    /// Alone on their terminal: each takes the place of the one before.
+    Overwritten,
+    /// Among the lines of the report.
+    Appended,
+}
+
+/// How far a capture is read.
+#[derive(Drop)]
+pub(crate) struct Progress<'b, R> {
+    rt: &'b R,
+    line: ProgressLine,
+    /// How many bytes the capture has, where that is known.
+    size: Option<u64>,
+    /// How many bytes were read.
+    count: u64,
+    /// When the last line was told, or the first read might have been.
+    latest: Instant,
+    /// Whether a line was begun that another is to replace.
+    is_open: bool,
+}
+
+impl<'b, R: Clock + Eprint> Progress<'b, R> {
+    /// None where there is no clock.
+    pub(crate) fn new(rt: &'b R, line: ProgressLine, size: Option<u64>) -> Option<Self> {
+        let latest = Instant::now(rt).ok()?;
+        Some(Progress {
+            rt,
+            line,
+            size,
+            count: 0,
+            latest,
+            is_open: false,
+        })
+    }
+
+    /// So many bytes more were read. Tells how far it is where the last line is old enough.
+    fn add(&mut self, count: u64)
+        ensures { self.new.count ≡ min (self.old.count + count) (2 ^ 64 - 1) }
+    {
+        self.count = self.count.saturating_add(count);
+        let Ok(now) = Instant::now(self.rt) else {
+            return;
+        };
+        if now.duration_since(self.latest).as_secs() >= PAUSE_SECONDS {
+            self.latest = now;
+            self.print();
+        }
+    }
+
+    // A line that can't be written changes nothing.
+    fn print(&mut self)
+        ensures { self.new.count ≡ self.old.count }
+    {
+        let rt = self.rt;
+        let text = ProgressText {
+            count: self.count,
+            size: self.size,
+        };
+        let _ = match self.line {
+            ProgressLine::Overwritten => eprint!(rt; "\r{text}"),
+            ProgressLine::Appended => eprintln!(rt; "{text}"),
+        };
+        self.is_open = self.line == ProgressLine::Overwritten;
+    }
+
+    fn end(self) {
+        if self.is_open {
+            let rt = self.rt;
+            let text = ProgressText {
+                count: self.count,
+                size: self.size,
+            };
+            let _ = eprintln!(rt; "\r{text}");
+        }
+    }
+}
+
+/// A line of progress. It never gets shorter as more is read.
+#[derive(Clone, Copy)]
+struct ProgressText {
+    count: u64,
+    size: Option<u64>,
+}
+
+impl fmt::Display for ProgressText {
+    fn fmt<W: fmt::Write>(&self, f: &mut fmt::Formatter<W>) -> fmt::Result {
+        let count = Megabytes(self.count);
+        match self.size {
+            Some(size) => {
+                let size = Megabytes(size);
+                write!(f, "nftrun: {count} of {size} read")
+            }
+            None => write!(f, "nftrun: {count} read"),
+        }
+    }
+}
+
+/// So many bytes, told in millions of them and tenths of that.
+#[derive(Clone, Copy)]
+struct Megabytes(u64);
+
+impl fmt::Display for Megabytes {
+    fn fmt<W: fmt::Write>(&self, f: &mut fmt::Formatter<W>) -> fmt::Result {
+        let tenths = self.0 / 100_000;
+        let whole = tenths / 10;
+        let rest = tenths % 10;
+        write!(f, "{whole}.{rest} MB")
+    }
+}

@@ -1,0 +1,76 @@
+//! Numbers drawn by chance, the same ones in every run.
+ghost use Rattle.std.specs.Prelude.{◌<◌, ◌≤◌};
+
+use set_intervals::Range;
+
+/// Draws numbers (SplitMix64).
+#[derive(Drop)]
+pub struct RandomNumbers {
+    state: u64,
+}
+
+impl RandomNumbers {
+    /// Another seed draws other numbers.
+    pub fn new(seed: u64) -> RandomNumbers {
+        RandomNumbers { state: seed }
+    }
+
+    /// A number below so many.
+    pub fn below(&mut self, bound: u32) -> u32
+        requires { 0 < bound }
+        ensures { result < bound }
+    {
+        self.state = self.state.wrapping_add(0x9e37_79b9_7f4a_7c15);
+        let mut mixed = self.state;
+        mixed = (mixed ^ (mixed >> 30)).wrapping_mul(0xbf58_476d_1ce4_e5b9);
+        mixed = (mixed ^ (mixed >> 27)).wrapping_mul(0x94d0_49bb_1331_11eb);
+        mixed ^= mixed >> 31;
+        (mixed % u64::from(bound)) as u32
+    }
+
+    /// What happens so many times of a hundred.
+    pub fn chance(&mut self, times: u32) -> bool {
+        self.below(100) < times
+    }
+
+    /// A number that others that are drawn often equal: a small one, or one of the greatest.
+    pub fn number(&mut self) -> u32 {
+        if self.chance(5) {
+            u32::MAX - self.below(3)
+        } else {
+            self.below(48)
+        }
+    }
+
+    /// A number of 8 bits, likewise.
+    pub fn byte(&mut self) -> u8 {
+        if self.chance(5) {
+            u8::MAX
+        } else {
+            self.below(48) as u8
+        }
+    }
+
+    /// A number of 16 bits, likewise.
+    pub fn port(&mut self) -> u16 {
+        if self.chance(5) {
+            u16::MAX
+        } else {
+            self.below(48) as u16
+        }
+    }
+
+    /// A few numbers one behind another, sometimes all from one on.
+    pub fn range(&mut self) -> Range {
+        let low = u128::from(self.number());
+        let more = if self.chance(3) {
+            u32::MAX
+        } else {
+            self.below(9)
+        };
+        match Range::new(low, low + u128::from(more)) {
+            Some(range) => range,
+            None => unreachable!(),
+        }
+    }
+}

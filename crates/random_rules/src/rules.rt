@@ -1,0 +1,289 @@
+//! Rulesets drawn by chance, as code.
+ghost use Rattle.std.specs.Prelude.{◌<◌, ◌≤◌};
+
+use crate::random_numbers::RandomNumbers;
+use filter_vm::{
+    Action, Code, IndexedTable, Instruction, Lookups, Operand, Start, Step, StepList, TableCode,
+};
+use nft_tree::{MarkField, Operator, Policy, RuleNo, Selector};
+use rule_meaning::{ChainNo, RuleVerdict, StatementPosition};
+use set_intervals::Intervals;
+use std::alloc::{AllocError, Global};
+
+const CHAINS: u32 = 4;
+
+const SETS: u32 = 8;
+
+/// All that can head a run, and two that can't.
+static SELECTORS: [Selector; 25] = [
+    Selector::IpSource,
+    Selector::IpDestination,
+    Selector::IpProtocol,
+    Selector::MetaProtocol,
+    Selector::IpTtl,
+    Selector::IpLength,
+    Selector::MetaLength,
+    Selector::TcpSource,
+    Selector::TcpDestination,
+    Selector::UdpSource,
+    Selector::UdpDestination,
+    Selector::TransportSource,
+    Selector::TransportDestination,
+    Selector::TcpFlags,
+    Selector::IcmpType,
+    Selector::InputName,
+    Selector::OutputName,
+    Selector::InputIndex,
+    Selector::OutputIndex,
+    Selector::MetaMark,
+    Selector::CtMark,
+    Selector::MetaFamily,
+    Selector::CtState,
+    Selector::CtDirection,
+    Selector::CtStatus,
+];
+
+/// Marks are drawn as often as all other selectors: rules write them while they are asked for.
+fn random_selector(random: &mut RandomNumbers) -> Selector {
+    if random.chance(25) {
+        Selector::MetaMark
+    } else if random.chance(25) {
+        Selector::CtMark
+    } else {
+        SELECTORS[random.below(25) as usize]
+    }
+}
+
+fn random_operator(random: &mut RandomNumbers) -> Operator {
+    match random.below(4) {
+        0 => Operator::Below,
+        1 => Operator::AtMost,
+        2 => Operator::Above,
+        _ => Operator::AtLeast,
+    }
+}
+
+/// The first match of a rule: mostly one that a run can have, by ranges that overlap.
+fn random_match(
+    alloc: Global,
+    random: &mut RandomNumbers,
+    selector: Selector,
+) -> Result<Action, AllocError> {
+    Ok(match random.below(100) {
+        0..=54 => Action::Compare(selector, Operator::Equal, random.range()),
+        55..=62 => Action::Compare(selector, random_operator(random), random.range()),
+        63..=96 => Action::InSet(vec![in alloc; selector]?, random.below(SETS + 1) as usize),
+        97 => Action::NotInSet(vec![in alloc; selector]?, random.below(SETS) as usize),
+        98 => Action::Compare(selector, Operator::Unequal, random.range()),
+        _ => Action::BitsEqual(selector, 3, 1),
+    })
+}
+
+/// Goes on, leaves the chain, or leads to one that stands behind it.
+fn random_rule_verdict(random: &mut RandomNumbers, chain: u32) -> RuleVerdict {
+    // How many chains stand behind it.
+    let left = CHAINS.saturating_sub(chain).saturating_sub(1);
+    match random.below(8) {
+        0 => RuleVerdict::Accept,
+        1 => RuleVerdict::Drop,
+        2 => RuleVerdict::Return,
+        3 | 4 if left > 0 => RuleVerdict::Jump(CHAINS - left + random.below(left)),
+        5 if left > 0 => RuleVerdict::Goto(CHAINS - left + random.below(left)),
+        _ => RuleVerdict::Continue,
+    }
+}
+
+/// What a merged rule may decide.
+fn random_terminal_verdict(random: &mut RandomNumbers, chain: u32) -> RuleVerdict {
+    match random.below(4) {
+        0 => RuleVerdict::Accept,
+        1 => RuleVerdict::Drop,
+        2 if chain < CHAINS - 1 => RuleVerdict::Goto(chain + 1),
+        _ => RuleVerdict::Return,
+    }
+}
+
+fn random_mark(random: &mut RandomNumbers) -> Action {
+    let field = if random.chance(50) {
+        MarkField::Meta
+    } else {
+        MarkField::Ct
+    };
+    if random.chance(20) {
+        Action::SetMark(field, Operand::Mark(MarkField::Ct))
+    } else {
+        Action::SetMark(field, Operand::Number(random.number()))
+    }
+}
+
+/// What stands behind a rule's first match: counters, logs, marks, and at last a decision or none.
+fn random_rest(
+    alloc: Global,
+    random: &mut RandomNumbers,
+    rule: RuleNo,
+    is_plain: bool,
+) -> Result<Vec<Action>, AllocError> {
+    let mut actions = Vec::new(alloc);
+    if is_plain {
+        actions.push(Action::GiveVerdict(random_terminal_verdict(random, rule.chain)))?;
+        return Ok(actions);
+    }
+    for statement in 2..5 {
+        let position = StatementPosition { rule, statement };
+        match random.below(9) {
+            0 => actions.push(Action::Count(position))?,
+            1 => actions.push(Action::Log(position))?,
+            2 | 3 => actions.push(random_mark(random))?,
+            4 => {
+                let selector = random_selector(random);
+                actions.push(Action::Compare(selector, Operator::AtLeast, random.range()))?;
+            }
+            5 => {
+                actions.push(Action::GiveVerdict(random_rule_verdict(random, rule.chain)))?;
+                return Ok(actions);
+            }
+            _ => {}
+        }
+    }
+    Ok(actions)
+}
+
+fn add_rule(
+    alloc: Global,
+    random: &mut RandomNumbers,
+    rule: RuleNo,
+    selector: Selector,
+    is_plain: bool,
+    steps: &mut StepList,
+) -> Result<(), AllocError> {
+    let first = random_match(alloc, random, selector)?;
+    let rest = random_rest(alloc, random, rule, is_plain)?;
+    let mut skip = u32::try_from(rest.len()).unwrap_or(u32::MAX);
+    steps.push(Step::Run(Instruction {
+        rule,
+        skip,
+        action: first,
+    }))?;
+    for action in rest {
+        skip = skip.saturating_sub(1);
+        steps.push(Step::Run(Instruction { rule, skip, action }))?;
+    }
+    Ok(())
+}
+
+/// Rules in line, most of which ask of one selector, or of few in any order, and some of another.
+fn add_rules(
+    alloc: Global,
+    random: &mut RandomNumbers,
+    chain: u32,
+    first: u32,
+    steps: &mut StepList,
+) -> Result<(), AllocError>
+    requires { first < 1000 }
+{
+    let selectors = [
+        random_selector(random),
+        random_selector(random),
+        random_selector(random),
+        random_selector(random),
+        random_selector(random),
+    ];
+    // As many as a run can have, and one more.
+    let many = if random.chance(40) {
+        1
+    } else {
+        2 + random.below(4)
+    };
+    // So many of a hundred rules are a match and a verdict, which are merged where none stands between.
+    let plain = match random.below(3) {
+        0 => 0,
+        1 => 60,
+        _ => 99,
+    };
+    for number in 0..random.below(60) {
+        let is_plain = random.chance(plain);
+        let selector = if random.chance(1) {
+            random_selector(random)
+        } else {
+            selectors[random.below(many) as usize]
+        };
+        let rule = RuleNo {
+            table: 0,
+            chain,
+            rule: first + number,
+        };
+        add_rule(alloc, random, rule, selector, is_plain, steps)?;
+    }
+    Ok(())
+}
+
+/// A set, which may have nothing.
+fn random_set(alloc: Global, random: &mut RandomNumbers) -> Result<Intervals<()>, AllocError> {
+    let mut pairs = Vec::new(alloc);
+    for _ in 0..random.below(5) {
+        pairs.push((random.range(), ()))?;
+    }
+    Intervals::first_wins(alloc, &pairs)
+}
+
+fn random_lookups(alloc: Global, random: &mut RandomNumbers) -> Result<Lookups, AllocError> {
+    let mut sets = Vec::new(alloc);
+    for _ in 0..SETS {
+        sets.push(random_set(alloc, random)?)?;
+    }
+    Ok(Lookups {
+        sets,
+        verdicts: Vec::new(alloc),
+        numbers: Vec::new(alloc),
+    })
+}
+
+/// Chains of which each leads to later ones alone.
+fn random_table(alloc: Global, random: &mut RandomNumbers) -> Result<TableCode, AllocError> {
+    let lookups = random_lookups(alloc, random)?;
+    let mut steps = StepList::new(alloc);
+    let mut chain_offsets = Vec::new(alloc);
+    for chain in 0..CHAINS {
+        chain_offsets.push(steps.list().len())?;
+        for part in 0..3 {
+            add_rules(alloc, random, chain, part * 100, &mut steps)?;
+        }
+        steps.push(Step::End)?;
+    }
+    Ok(TableCode {
+        steps,
+        chain_offsets,
+        lookups,
+    })
+}
+
+/// A base chain, which may cost too little.
+pub fn random_start(random: &mut RandomNumbers) -> Start
+    ensures { result.cost ≤ 4096 }
+{
+    let cost = if random.chance(20) {
+        1 + random.below(100)
+    } else {
+        4096
+    };
+    Start {
+        chain: ChainNo { table: 0, chain: 0 },
+        policy: Policy::Accept,
+        priority: 0,
+        is_nat: false,
+        cost,
+    }
+}
+
+/// A ruleset of one table.
+pub fn random_code(alloc: Global, random: &mut RandomNumbers) -> Result<Code, AllocError> {
+    let table = IndexedTable::new(alloc, random_table(alloc, random)?)?;
+    Ok(Code {
+        tables: vec![in alloc; table]?,
+        prerouting: Vec::new(alloc),
+        input: Vec::new(alloc),
+        forward: Vec::new(alloc),
+        output: Vec::new(alloc),
+        postrouting: Vec::new(alloc),
+    })
+}

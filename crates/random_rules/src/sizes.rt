@@ -1,0 +1,289 @@
+//! How many rules are merged and how many are dropped, in code as it is compiled.
+use filter_vm::{
+    Action, Code, Events, IndexedTable, Instruction, Lookups, Operand, Start, Step, StepList,
+    TableCode, run,
+};
+use ip_headers::Transport;
+use nft_tree::{MarkField, Operator, Policy, RuleNo, Selector};
+use rule_meaning::{
+    ChainNo, CtFacts, Event, Facts, HookVerdict, Interface, Packet, RuleVerdict, StatementPosition,
+};
+use set_intervals::{Intervals, Range};
+use std::alloc::{AllocError, Global};
+use std::process::Abort;
+use std::test::Fail;
+
+/// A statement of a rule.
+#[derive(Clone, Copy)]
+enum Statement {
+    /// `ip saddr`, from an address on, and so many behind it.
+    Source(Operator, u32, u32),
+    /// `ip saddr 10.N.0.0/16`.
+    Ten(u8),
+    /// `ip saddr` of a set that has nothing.
+    NoSource,
+    /// `meta mark 1`.
+    Marked,
+    /// `meta mark set 1`.
+    Mark,
+    Counter,
+    GiveVerdict(RuleVerdict),
+}
+
+const ALL_OF_TEN: Statement = Statement::Source(Operator::Equal, 0x0a00_0000, 0x00ff_ffff);
+
+const ELEVEN: Statement = Statement::Source(Operator::Equal, 0x0b00_0000, 0x00ff_ffff);
+
+const NOT_SEVEN: Statement = Statement::Source(Operator::Unequal, 7, 0);
+
+const ACCEPT: Statement = Statement::GiveVerdict(RuleVerdict::Accept);
+
+const DROP: Statement = Statement::GiveVerdict(RuleVerdict::Drop);
+
+const JUMP: Statement = Statement::GiveVerdict(RuleVerdict::Jump(1));
+
+/// An address, the rule whose verdict a packet from there meets, and whether it is dropped.
+type ExpectedVerdict = (u32, Option<u32>, bool);
+
+/// The rules of a chain, their steps, tables, merged and dropped rules, and what packets meet.
+type Row = (
+    &'static [&'static [Statement]],
+    [usize; 4],
+    &'static [ExpectedVerdict],
+);
+
+/// Matches with verdicts, one within another; a rule that writes what the next one asks for; a rule behind
+/// one that always decides; no counter alone ends a chain, nor does a jump; another match, a counter and a
+/// jump between; a set that has nothing.
+static ROWS: [Row; 6] = [
+    (
+        &[
+            &[ALL_OF_TEN, ACCEPT],
+            &[Statement::Ten(1), DROP],
+            &[ELEVEN, DROP],
+        ],
+        [7, 1, 2, 1],
+        &[
+            (0x0a01_0203, Some(0), false),
+            (0x0b00_0001, Some(2), true),
+            (0x0c00_0001, None, false),
+        ],
+    ),
+    (
+        &[
+            &[Statement::Ten(0), Statement::Mark],
+            &[Statement::Marked, DROP],
+        ],
+        [5, 0, 0, 0],
+        &[(0x0a00_0001, None, true), (0x0a01_0001, None, false)],
+    ),
+    (
+        &[&[ACCEPT], &[Statement::Counter, DROP]],
+        [4, 0, 0, 1],
+        &[(7, Some(0), false)],
+    ),
+    (
+        &[
+            &[Statement::Counter],
+            &[JUMP],
+            &[
+                Statement::Counter,
+                Statement::GiveVerdict(RuleVerdict::Return),
+            ],
+            &[Statement::Ten(0), DROP],
+            &[Statement::Ten(1), DROP],
+        ],
+        [9, 0, 0, 2],
+        &[],
+    ),
+    (
+        &[
+            &[Statement::Ten(0), DROP],
+            &[Statement::Ten(1), Statement::Counter, DROP],
+            &[Statement::Ten(2), DROP],
+            &[NOT_SEVEN, DROP],
+            &[Statement::Ten(3), DROP],
+            &[Statement::Ten(4), JUMP],
+            &[Statement::Ten(5), DROP],
+        ],
+        [16, 0, 0, 0],
+        &[(0x0a02_0000, Some(2), true)],
+    ),
+    (
+        &[
+            &[Statement::Ten(0), DROP],
+            &[Statement::NoSource, ACCEPT],
+            &[Statement::Ten(1), DROP],
+        ],
+        [7, 1, 2, 1],
+        &[(0x0a01_0000, Some(2), true)],
+    ),
+];
+
+/// The rule that a statement of a row stands in.
+fn rule(number: u32) -> RuleNo {
+    RuleNo {
+        table: 0,
+        chain: 0,
+        rule: number,
+    }
+}
+
+fn compare(selector: Selector, operator: Operator, low: u32, span: u32) -> Action {
+    let high = low.saturating_add(span);
+    match Range::new(u128::from(low), u128::from(high)) {
+        Some(range) => Action::Compare(selector, operator, range),
+        None => unreachable!(),
+    }
+}
+
+fn action(alloc: Global, statement: Statement, number: u32) -> Result<Action, AllocError> {
+    Ok(match statement {
+        Statement::Source(operator, low, span) => {
+            compare(Selector::IpSource, operator, low, span)
+        }
+        Statement::Ten(octet) => {
+            let low = u32::from_be_bytes([10, octet, 0, 0]);
+            compare(Selector::IpSource, Operator::Equal, low, 0xffff)
+        }
+        Statement::NoSource => Action::InSet(vec![in alloc; Selector::IpSource]?, 0),
+        Statement::Marked => compare(Selector::MetaMark, Operator::Equal, 1, 0),
+        Statement::Mark => Action::SetMark(MarkField::Meta, Operand::Number(1)),
+        Statement::Counter => Action::Count(StatementPosition {
+            rule: rule(number),
+            statement: 1,
+        }),
+        Statement::GiveVerdict(rule_verdict) => Action::GiveVerdict(rule_verdict),
+    })
+}
+
+/// The steps of a rule.
+fn add_rule(
+    alloc: Global,
+    statements: &[Statement],
+    number: u32,
+    steps: &mut StepList,
+) -> Result<(), AllocError> {
+    let mut skip = u32::try_from(statements.len()).unwrap_or(u32::MAX);
+    for &statement in statements {
+        skip = skip.saturating_sub(1);
+        let action = action(alloc, statement, number)?;
+        steps.push(Step::Run(Instruction {
+            rule: rule(number),
+            skip,
+            action,
+        }))?;
+    }
+    Ok(())
+}
+
+/// The steps of a chain of these rules.
+fn steps(alloc: Global, rules: &[&[Statement]]) -> Result<StepList, AllocError> {
+    let mut steps = StepList::new(alloc);
+    let mut number: u32 = 0;
+    for statements in rules {
+        add_rule(alloc, statements, number, &mut steps)?;
+        number = number.saturating_add(1);
+    }
+    steps.push(Step::End)?;
+    Ok(steps)
+}
+
+/// The chain, alone in its table.
+fn table(alloc: Global, rules: &[&[Statement]]) -> Result<IndexedTable, AllocError> {
+    let lookups = Lookups {
+        sets: vec![in alloc; Intervals::first_wins(alloc, &[])?]?,
+        verdicts: Vec::new(alloc),
+        numbers: Vec::new(alloc),
+    };
+    let code = TableCode {
+        steps: steps(alloc, rules)?,
+        chain_offsets: vec![in alloc; 0]?,
+        lookups,
+    };
+    IndexedTable::new(alloc, code)
+}
+
+fn chain(alloc: Global, rules: &[&[Statement]]) -> Result<Code, AllocError> {
+    Ok(Code {
+        tables: vec![in alloc; table(alloc, rules)?]?,
+        prerouting: Vec::new(alloc),
+        input: Vec::new(alloc),
+        forward: Vec::new(alloc),
+        output: Vec::new(alloc),
+        postrouting: Vec::new(alloc),
+    })
+}
+
+fn from(source: u32) -> Facts {
+    let interface = Interface { index: 2, name: 2 };
+    Facts {
+        packet: Packet {
+            source,
+            destination: 1,
+            protocol: 17,
+            ttl: 64,
+            length: 40,
+            transport: Transport::Udp {
+                source: 1,
+                destination: 2,
+            },
+        },
+        input: interface,
+        output: None,
+        mark: 0,
+        ct: CtFacts::NotLookedUp,
+    }
+}
+
+/// The number of the rule whose verdict a packet from the address meets, and whether it is dropped.
+fn first_verdict(
+    alloc: Global,
+    code: &Code,
+    source: u32,
+) -> Result<(Option<u32>, bool), AllocError> {
+    let start = Start {
+        chain: ChainNo { table: 0, chain: 0 },
+        policy: Policy::Accept,
+        priority: 0,
+        is_nat: false,
+        cost: 1000,
+    };
+    let mut events = Events::new(alloc)?;
+    let end = run(code, start, &from(source), &mut events);
+    let verdict_rule = match events.list().first() {
+        Some(Event::TookVerdict(rule, _)) => Some(rule.rule),
+        _ => None,
+    };
+    Ok((verdict_rule, matches!(end.verdict, HookVerdict::Dropped)))
+}
+
+/// Whether the packets meet what the row tells.
+fn has_verdicts(
+    alloc: Global,
+    code: &Code,
+    packets: &[ExpectedVerdict],
+) -> Result<bool, AllocError> {
+    for &(source, rule, is_dropped) in packets {
+        let (verdict_rule, dropped) = first_verdict(alloc, code, source)?;
+        if verdict_rule != rule || dropped != is_dropped {
+            return Ok(false);
+        }
+    }
+    Ok(true)
+}
+
+#[test]
+fn rules_are_merged_and_dropped(rt: HostRuntime) -> Result<(), Fail> {
+    for (number, (rules, wanted, packets)) in ROWS.iter().enumerate() {
+        let code = chain(rt.alloc(), rules)?;
+        let size = code.size();
+        let counted = [size.steps, size.tables, size.merged, size.dropped];
+        assert!(&rt; counted == *wanted, "row {number}");
+        assert!(&rt;
+            has_verdicts(rt.alloc(), &code, packets)?,
+            "packets of row {number}"
+        );
+    }
+    Ok(())
+}

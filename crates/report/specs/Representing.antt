@@ -1,0 +1,89 @@
+-- When a report stands for a story, of which some text was written already.
+use Rattle.std.specs.Prelude.{◌≡◌, ℕ, ◌+◌, Bool, true, List, ◌++◌, length, slice_get, slice_index, Option, Some}
+use Rattle.std.specs.List.{flat_map}
+use Rattle.std.specs.Option.{option_and_then}
+use Rattle.std.specs.Io.KnownBytes.{Appends}
+use Rattle.nft_tree.specs.declared.statement.CounterStart.{CounterStart}
+use Rattle.nft_tree.specs.Tree.{Text, TableTree}
+use Rattle.nft_tree.specs.TableItems.{counter_in, numbered_from_one, rule_numbered}
+use Rattle.rule_meaning.specs.declared.event.StatementPosition.{StatementPosition}
+use Rattle.pcap_io.specs.Counting.{AppendsPrefix}
+use Rattle.history.specs.declared.outcome.Cause.{Cause}
+use Rattle.history.specs.Outcomes.{report_index}
+use Rattle.history.specs.History.{Entry}
+use Rattle.report.specs.declared.tallies.Tally.{Tally}
+use Rattle.report.specs.declared.notes.Note.{Note}
+use Rattle.report.specs.declared.notes.Note.TheVariants as notes
+use Rattle.report.specs.Report.{passed, local, dropped, begun, packets, bytes, entry_lines, on_chain, log_line}
+use Rattle.report.specs.Report.{verdict_line, policy_line, outcome_line}
+
+-- a writer's known bytes grow so that what was told so far becomes this text
+abbrev pub AppendsRest : Option Text → Option Text → Text → Text → Type 0
+AppendsRest old new written text = (rest : Text) × (written ++ rest ≡ text) × Appends old new rest
+
+-- or a beginning of it
+abbrev pub AppendsRestPrefix : Option Text → Option Text → Text → Text → Type 0
+AppendsRestPrefix old new written text = (rest : Text) × (written ++ rest ≡ text) × AppendsPrefix old new rest
+
+-- ---- what a report knows
+
+-- what each statement of each rule of each chain of each table stands at, whether it counts or not
+abbrev pub Tallies : Type 0
+Tallies = List (List (List (List Tally)))
+
+abbrev pub tally_at : Tallies → StatementPosition → Option Tally
+tally_at tallies at =
+    option_and_then (λ r. numbered_from_one r at.statement)
+    (option_and_then (λ c. numbered_from_one c at.rule.rule)
+    (option_and_then (λ t. slice_get t at.rule.chain) (slice_get tallies at.rule.table)))
+
+-- its numbers: of all records, of those that passed and that were for the box, of those dropped, by the cause's place,
+-- and of those that began a connection; what each statement stands at; whether it traces; what was noted and not yet
+-- written; and how many notes more need no memory
+pub record ReportState : Type 0 where
+  pub records : ℕ
+  pub passed : ℕ
+  pub local : ℕ
+  pub dropped : List ℕ
+  pub begun : ℕ
+  pub tallies : Tallies
+  pub traces : Bool
+  pub notes : List Note
+  pub room : ℕ
+
+abbrev pub drops_of : ReportState → Cause → ℕ
+drops_of report cause = slice_index report.dropped (report_index cause)
+
+-- the counter that stands at a place, by where it starts
+abbrev pub counter_at : List TableTree → StatementPosition → Option CounterStart
+counter_at rules at =
+    option_and_then (λ r. option_and_then counter_in (numbered_from_one r.statements at.statement))
+    (rule_numbered rules at.rule)
+
+-- where a counter stands after a story
+abbrev pub tally_of : CounterStart → StatementPosition → List Entry → Tally
+tally_of start at history =
+    record { packets = start.packets + packets at history; bytes = start.bytes + bytes at history }
+
+-- what is told of a note
+abbrev pub note_line : List TableTree → Note → Text
+note_line rules (notes.Logged number at) = on_chain rules at.rule.table at.rule.chain (log_line number at)
+note_line rules (notes.TookVerdict number rule verdict) =
+    on_chain rules rule.table rule.chain (verdict_line number rule.rule verdict)
+note_line rules (notes.TookPolicy number chain policy) =
+    on_chain rules chain.table chain.chain (policy_line number policy)
+note_line rules (notes.Ended number outcome) = outcome_line true number outcome
+
+-- a report stands for a story over these rules, of which this text was written already: its numbers are the story's,
+-- and what it noted is the rest of the text
+pub record IsReportOf (report : ReportState) (rules : List TableTree) (trace : Bool) (history : List Entry) (written : Text)
+    : Type 0 where
+  pub records : report.records ≡ length history
+  pub passed_are : report.passed ≡ passed history
+  pub local_are : report.local ≡ local history
+  pub dropped_are : (cause : Cause) → drops_of report cause ≡ dropped cause history
+  pub begun_are : report.begun ≡ begun history
+  pub tallies_are : (at : StatementPosition) (start : CounterStart)
+      → counter_at rules at ≡ Some start → tally_at report.tallies at ≡ Some (tally_of start at history)
+  pub traces_so : report.traces ≡ trace
+  pub rest : written ++ flat_map (note_line rules) report.notes ≡ entry_lines rules trace history

@@ -1,0 +1,34 @@
+-- A packet sent on between other endpoints.
+use Rattle.std.specs.Prelude.{◌≡◌, ℕ, Option, Some, None}
+use Rattle.ip_headers.specs.declared.tuple.Kind.{Kind}
+use Rattle.ip_headers.specs.declared.tuple.Kind.TheVariants.{Tcp, Udp, EchoRequest, EchoReply, Other}
+use Rattle.ip_headers.specs.declared.tuple.Tuple.{Tuple}
+use Rattle.rewrite.specs.declared.change.Change.{Change}
+use Rattle.rewrite.specs.declared.change.PortsOrIdentifier.{PortsOrIdentifier}
+use Rattle.rewrite.specs.declared.change.PortsOrIdentifier.TheVariants.{Ports, Identifier}
+
+-- the numbers of a tuple, by its kind and its ports
+abbrev pub ports_or_identifier : Kind → ℕ → ℕ → Option PortsOrIdentifier
+ports_or_identifier Tcp from to = Some (Ports from to)
+ports_or_identifier Udp from to = Some (Ports from to)
+ports_or_identifier EchoRequest from to = Some (Identifier from)
+ports_or_identifier EchoReply from to = Some (Identifier to)
+ports_or_identifier (Other number) from to = None
+
+-- the packet is to go between the ends of a tuple, with this time to live or its own
+abbrev pub between : Tuple → Option ℕ → Change
+between t remaining = record {
+  source = Some t.source.address;
+  destination = Some t.destination.address;
+  numbers = ports_or_identifier t.kind t.source.port t.destination.port;
+  ttl = remaining;
+  inner = None;
+}
+
+-- a port is 0 where its kind has none
+abbrev pub PortsMatchKind : Kind → ℕ → ℕ → Type 0
+PortsMatchKind Tcp from to = Unit {0}
+PortsMatchKind Udp from to = Unit {0}
+PortsMatchKind EchoRequest from to = to ≡ 0
+PortsMatchKind EchoReply from to = from ≡ 0
+PortsMatchKind (Other number) from to = (from ≡ 0) × (to ≡ 0)

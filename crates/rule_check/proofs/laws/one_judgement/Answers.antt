@@ -1,8 +1,0 @@
-use Rattle.rule_check.proofs.Lesser.{one_least}
-use Rattle.rule_check.proofs.laws.one_judgement.Goals as goal
-
-pub returns-clause-one : goal.returns-clause-one
-returns-clause-one c = one_least
-
-pub returns-clause-faultless : goal.returns-clause-faultless
-returns-clause-faultless c = λ tables plant fault well least. well fault least.wrong

@@ -1,0 +1,113 @@
+//! The faults in their order, the least first.
+ghost use Rattle.std.specs.Prelude.{◌≡◌, List, IfOk, IfErr};
+ghost use Rattle.nft_tree.specs.Tree.{tables_of};
+ghost use Rattle.box_file.specs.Box.{PlantTree};
+ghost use Rattle.rule_paths.specs.Findings.{AreFindings};
+ghost use Rattle.rule_check.specs.Checked.{IsCheckRefusal};
+ghost use Rattle.rule_check.specs.WellFormed.{WellFormed};
+ghost use Rattle.rule_check.specs.steps.FaultRanges.{IsLeastFaultIn};
+
+use crate::fault::{CheckError, CheckFault};
+use crate::heads::has_misplaced_chain;
+use crate::terminal_statements::has_unreachable_statement;
+use box_file::Plant;
+use nft_tree::Ruleset;
+use rule_limits::too_large;
+use rule_names::{
+    TableNames, jumps_to_base_chain, jumps_to_unknown_chain, names_of, refers_to_unknown_set,
+};
+use rule_paths::Findings;
+use rule_types::has_type_mismatch;
+use rule_values::{has_contradiction, has_wrong_value, names_unknown_interface};
+use std::alloc::Global;
+
+/// What the jumps of a ruleset come to in which nothing is wrong, or the least that is.
+pub(crate) fn analyze(alloc: Global, tree: &Ruleset, plant: &Plant) -> Result<Findings, CheckError>
+    ensures fine { IfOk result (λ found. WellFormed (tables_of tree.now) plant.now) }
+    ensures found { IfOk result (λ found. AreFindings (tables_of tree.now) found) }
+    ensures refused { IfErr result (λ error. IsCheckRefusal (tables_of tree.now) plant.now error) }
+{
+    let Some(names) = names_of(alloc, tree)? else {
+        return Err(CheckError::Refused(CheckFault::DuplicateName));
+    };
+    if let Some(fault) = fault_of_names(&names) {
+        return Err(CheckError::Refused(fault));
+    }
+    let Some(found) = rule_paths::analyze(alloc, &names)? else {
+        return Err(CheckError::Refused(CheckFault::Cycle));
+    };
+    if let Some(fault) = fault_of_chains(&names, &found, tree, plant) {
+        return Err(CheckError::Refused(fault));
+    }
+    if has_contradiction(alloc, plant, tree)? {
+        return Err(CheckError::Refused(CheckFault::Contradiction));
+    }
+    if let Some(fault) = last_fault(tree, plant) {
+        return Err(CheckError::Refused(fault));
+    }
+    Ok(found)
+}
+
+/// N02, N03.
+fn fault_of_names(names: &[TableNames]) -> Option<CheckFault>
+    ensures { (plant : PlantTree) → IsLeastFaultIn 2 4 names.now plant result }
+{
+    if jumps_to_unknown_chain(names) {
+        return Some(CheckFault::NoSuchChain);
+    }
+    if refers_to_unknown_set(names) {
+        return Some(CheckFault::NoSuchSet);
+    }
+    None
+}
+
+/// N05 to N11.
+fn fault_of_chains(
+    names: &[TableNames],
+    found: &Findings,
+    tree: &Ruleset,
+    plant: &Plant,
+) -> Option<CheckFault>
+    requires names { names.now ≡ tables_of tree.now }
+    requires found { AreFindings (tables_of tree.now) found.now }
+    ensures { IsLeastFaultIn 5 12 (tables_of tree.now) plant.now result }
+{
+    if found.is_too_deep {
+        return Some(CheckFault::TooDeep);
+    }
+    if found.is_too_costly {
+        return Some(CheckFault::TooCostly);
+    }
+    if jumps_to_base_chain(names) {
+        return Some(CheckFault::BaseChainCalled);
+    }
+    if has_type_mismatch(names) {
+        return Some(CheckFault::TypeMismatch);
+    }
+    if has_wrong_value(plant, tree) {
+        return Some(CheckFault::WrongValue);
+    }
+    if found.misplaces_nat {
+        return Some(CheckFault::MisplacedNat);
+    }
+    if has_misplaced_chain(tree) {
+        return Some(CheckFault::MisplacedNatChain);
+    }
+    None
+}
+
+/// N13 to N15.
+fn last_fault(tree: &Ruleset, plant: &Plant) -> Option<CheckFault>
+    ensures { IsLeastFaultIn 13 16 (tables_of tree.now) plant.now result }
+{
+    if names_unknown_interface(plant, tree) {
+        return Some(CheckFault::NoSuchInterface);
+    }
+    if has_unreachable_statement(tree) {
+        return Some(CheckFault::StatementAfterVerdict);
+    }
+    if too_large(tree) {
+        return Some(CheckFault::TooLarge);
+    }
+    None
+}

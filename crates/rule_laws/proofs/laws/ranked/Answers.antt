@@ -1,7 +1,0 @@
-use Rattle.rule_laws.proofs.WellTables.{whole, once, shallow}
-use Rattle.rule_laws.proofs.Ranks.{ranked}
-use Rattle.rule_laws.proofs.laws.ranked.Goals as goal
-
-pub returns : goal.returns
-returns c = λ tables plant well number t at cost are depths depths_are.
-    ranked plant number t (once tables plant well number t at) (whole tables plant well number t at) cost are (shallow tables plant well number t at) depths depths_are

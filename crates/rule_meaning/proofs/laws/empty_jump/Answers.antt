@@ -1,5 +1,0 @@
-use Rattle.rule_meaning.proofs.Alike.{empty_jumps}
-use Rattle.rule_meaning.proofs.laws.empty_jump.Goals as goal
-
-pub returns : goal.returns
-returns c = empty_jumps

@@ -1,5 +1,0 @@
-use Rattle.rule_meaning.proofs.OneRun.{one_after}
-use Rattle.rule_meaning.proofs.laws.one_run_of.Goals as goal
-
-pub returns : goal.returns
-returns S c = λ p n m l f es o other a b. one_after p a other b

@@ -1,5 +1,0 @@
-use Rattle.rule_meaning.proofs.Values.{reads_nothing}
-use Rattle.rule_meaning.proofs.laws.without_value.Goals as goal
-
-pub returns : goal.returns
-returns c = λ scope m s f has nothing. reads_nothing s f nothing scope m has

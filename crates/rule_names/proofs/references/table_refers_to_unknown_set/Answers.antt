@@ -1,0 +1,17 @@
+use Rattle.std.proofs.Common.{rules, tests, ◌∙◌, ap, map}
+use Rattle.std.specs.List.{list_any}
+use Rattle.std.proofs.lemmas.Iterator.{YieldsList-from_slice}
+use Rattle.std.proofs.lemmas.Iterator.Search.{any_from_yields_List}
+use Rattle.list_laws.specs.Lists.{any_of_map}
+use Rattle.nft_tree.specs.Tree.{item_tree}
+use Rattle.rule_names.specs.Names.{item_references, references_of}
+use Rattle.rule_names.specs.steps.TargetTests.{is_unknown}
+use Rattle.rule_names.proofs.Tests.{any-flat}
+use Rattle.rule_names.proofs.references.table_refers_to_unknown_set.Goals as goal
+
+pub returns : goal.returns
+returns c =
+    any_from_yields_List (λ x. list_any (is_unknown c.args.names.now) (item_references (item_tree x))) _ _ c.any.result c.any.ensures.ran (YieldsList-from_slice c.table.result.now.items.items cc) (λ x b q k. search (rules, tests))
+    ∙ any_of_map (λ t. list_any (is_unknown c.args.names.now) (item_references t)) item_tree c.table.result.now.items.items
+    ∙ any-flat (is_unknown c.args.names.now) item_references (map item_tree c.table.result.now.items.items)
+    ∙ ap (λ t. list_any (is_unknown c.args.names.now) (references_of t)) c.table.ensures

@@ -1,8 +1,0 @@
-use Rattle.std.proofs.Common.{◌≡◌, map, take}
-use Rattle.nft_tree.specs.Tree.{table_tree}
-use Rattle.rule_names.specs.Names.{Repeats, table_names}
-use Rattle.rule_names.proofs.table.is_table_twice.Given as goal
-
--- the names of the tables so far, no two the same
-abbrev pub invariant-loop-table : goal.invariant-loop-table
-invariant-loop-table l = (l.names ≡ table_names l.family (map table_tree (take l.table-index l.tables))) × (Repeats l.names → ⊥)

@@ -1,0 +1,16 @@
+use Rattle.std.proofs.Common.{rules, tests, ◌∙◌, map}
+use Rattle.std.specs.List.{list_any}
+use Rattle.std.proofs.lemmas.Iterator.{YieldsList-from_slice}
+use Rattle.std.proofs.lemmas.Iterator.Search.{any_from_yields_List}
+use Rattle.list_laws.specs.Lists.{any_of_map}
+use Rattle.nft_tree.specs.Tree.{pair_tree}
+use Rattle.rule_names.specs.Names.{data_target, one_or_none}
+use Rattle.rule_names.specs.steps.TargetTests.{passes}
+use Rattle.rule_names.proofs.Tests.{any-picked}
+use Rattle.rule_names.proofs.targets.TargetTest.of_pairs.Goals as goal
+
+pub returns : goal.returns
+returns c =
+    any_from_yields_List (λ x. list_any (passes c.args.self c.args.names.now) (one_or_none (data_target (pair_tree x).value))) _ _ c.any.result c.any.ensures.ran (YieldsList-from_slice c.args.pairs.now cc) (λ x b q k. search (rules, tests))
+    ∙ any_of_map (λ t. list_any (passes c.args.self c.args.names.now) (one_or_none (data_target t.value))) pair_tree c.args.pairs.now
+    ∙ any-picked (passes c.args.self c.args.names.now) (λ t. data_target t.value) (map pair_tree c.args.pairs.now)

@@ -1,0 +1,16 @@
+use Rattle.std.proofs.Common.{rules, tests, ◌∙◌, map}
+use Rattle.std.specs.List.{list_any}
+use Rattle.std.proofs.lemmas.Iterator.{YieldsList-from_slice}
+use Rattle.std.proofs.lemmas.Iterator.Search.{any_from_yields_List}
+use Rattle.list_laws.specs.Lists.{any_of_map}
+use Rattle.nft_tree.specs.Tree.{statement}
+use Rattle.rule_names.specs.Names.{statement_targets}
+use Rattle.rule_names.specs.steps.TargetTests.{passes}
+use Rattle.rule_names.proofs.Tests.{any-flat}
+use Rattle.rule_names.proofs.targets.TargetTest.of_rule.Goals as goal
+
+pub returns : goal.returns
+returns c =
+    any_from_yields_List (λ x. list_any (passes c.args.self c.args.names.now) (statement_targets (statement x))) _ _ c.any.result c.any.ensures.ran (YieldsList-from_slice c.args.rule.now.statements.items cc) (λ x b q k. search (rules, tests))
+    ∙ any_of_map (λ t. list_any (passes c.args.self c.args.names.now) (statement_targets t)) statement c.args.rule.now.statements.items
+    ∙ any-flat (passes c.args.self c.args.names.now) statement_targets (map statement c.args.rule.now.statements.items)

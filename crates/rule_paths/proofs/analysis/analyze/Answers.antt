@@ -1,0 +1,31 @@
+use Rattle.std.proofs.Common.{sym, subst, arith, refl}
+use Rattle.std.proofs.lemmas.List.{take_all}
+use Rattle.std.proofs.lemmas.Option.{MatchOption-at_none, MatchOption-at_some}
+use Rattle.chain_graph.specs.Graph.{HasCycle}
+use Rattle.rule_paths.specs.Paths.{CallsOf}
+use Rattle.rule_paths.specs.steps.Tables.{AreTableFindings, AreFindingsSoFar}
+use Rattle.rule_paths.proofs.RulesetLaws.{none-at, more-at, all-found, cycle-found}
+use Rattle.rule_paths.proofs.analysis.analyze.Goals as goal
+
+pub loop-table-init : goal.loop-table-init
+loop-table-init c = none-at c.in_ok-costs.costs.items c.in_ok-depths.depths.items c.in_ok-costs.ensures.items c.in_ok-depths.ensures.items
+
+pub returns-in_default : goal.returns-in_default
+returns-in_default c =
+    let t = c.table-item.result in
+    cycle-found c.args.names.now t (c.loop-table.table-index, c.loop-table-test.true, sym c.table-item.is)
+    (MatchOption-at_none (HasCycle (CallsOf t)) (λ found. AreTableFindings t found) c.in_default.is c.in_ok-found.ensures)
+
+pub loop-table-preserved : goal.loop-table-preserved
+loop-table-preserved c =
+    let t = c.table-item.result in
+    more-at c.args.names.now c.loop-table.table-index t c.loop-table.is_too_deep c.loop-table.misplaces_nat c.loop-table.cost c.saturating_add-cost.result
+    c.loop-table.costs.items c.push.new.self.items c.loop-table.depths.items c.push-in-loop-table.new.self.items c.in-Some.found
+    (omega arith) c.table-item.is c.loop-table.invariant
+    (MatchOption-at_some (HasCycle (CallsOf t)) (λ found. AreTableFindings t found) c.in-Some.found c.in-Some.is c.in_ok-found.ensures)
+    (omega arith) c.in_ok-push.ensures.items c.in_ok-push-2.ensures.items
+
+pub returns : goal.returns
+returns c = all-found c.args.names.now c.loop-table.cost _
+    (subst (λ ts. AreFindingsSoFar ts c.loop-table.is_too_deep c.loop-table.misplaces_nat c.loop-table.cost c.loop-table.costs.items c.loop-table.depths.items) (take_all c.loop-table.table-index c.args.names.now (omega arith)) c.loop-table.invariant)
+    refl

@@ -1,0 +1,7 @@
+use Rattle.std.proofs.Common.{◌≡◌, ℕ, ◌<◌, map, get_or, true, false}
+use Rattle.nft_tree.specs.Tree.{ChainTree, chain_tree}
+use Rattle.rule_paths.specs.steps.Index.{may_not_translate}
+use Rattle.rule_paths.proofs.misplaced.reaches_misplaced.Given as goal
+
+abbrev pub invariant-loop-index : goal.invariant-loop-index
+invariant-loop-index l = (k : ℕ) → k < l.index → (base : ChainTree) → base ≡ get_or (map (λ c. chain_tree c.now) l.chains) k base → may_not_translate l.kind base.head ≡ true → get_or l.reaching k false ≡ true → ⊥

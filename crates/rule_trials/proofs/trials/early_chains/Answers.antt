@@ -1,9 +1,0 @@
-use Rattle.std.proofs.Common.{refl}
-use Rattle.rule_trials.proofs.Answering.{prerouting, early}
-use Rattle.rule_trials.proofs.trials.early_chains.Goals as goal
-
-pub returns-clause-at : goal.returns-clause-at
-returns-clause-at c = (early _ _ _ refl, prerouting _ _ _ _ refl)
-
-pub returns-clause-above : goal.returns-clause-above
-returns-clause-above c = (early _ _ _ refl, prerouting _ _ _ _ refl)

@@ -1,9 +1,0 @@
-use Rattle.std.proofs.Common.{refl}
-use Rattle.rule_trials.proofs.Answering.{forwards, input}
-use Rattle.rule_trials.proofs.trials.input_and_forward.Goals as goal
-
-pub returns-clause-input : goal.returns-clause-input
-returns-clause-input c = (input _ _ _ refl, forwards _ _ _ refl)
-
-pub returns-clause-forward : goal.returns-clause-forward
-returns-clause-forward c = (forwards _ _ _ refl, input _ _ _ refl)

@@ -1,3 +1,0 @@
-pub mod Scene
-pub mod Happened
-pub mod Trials

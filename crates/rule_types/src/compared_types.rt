@@ -1,0 +1,80 @@
+//! What types are the same, how wide they are, and what orders and ranges they have.
+ghost use Rattle.std.specs.Prelude.{◌≡◌};
+ghost use Rattle.nft_tree.specs.Tree.{range_tree};
+ghost use Rattle.nft_tree.specs.ComparedTypes.{selector_compared_type};
+ghost use Rattle.rule_types.specs.Types.{compare_mismatches, has_ranges, is_order, is_ordered, is_single, compared_type_width, range_mismatches, same_compared_type};
+
+use nft_tree::{ComparedType, Operator, Selector, ValueRange, ValueType};
+
+/// Whether two types are the same.
+pub(crate) fn same_compared_type(one: ComparedType, other: ComparedType) -> bool
+    ensures { result ≡ same_compared_type one other }
+{
+    one == other
+}
+
+/// The width of the type's values in bits.
+pub(crate) fn compared_type_width(kind: ComparedType) -> u32
+    ensures { result ≡ compared_type_width kind }
+{
+    match kind {
+        ComparedType::Named(value_type) => value_type.width(),
+        ComparedType::Unnamed(width) => width,
+    }
+}
+
+/// Whether the type's values are in an order.
+fn is_ordered(kind: ComparedType) -> bool
+    ensures { result ≡ is_ordered kind }
+{
+    matches!(
+        kind,
+        ComparedType::Named(ValueType::Address | ValueType::Service | ValueType::Mark)
+            | ComparedType::Unnamed(_)
+    )
+}
+
+/// Whether there are ranges of the type's values.
+fn has_ranges(kind: ComparedType) -> bool
+    ensures { result ≡ has_ranges kind }
+{
+    match kind {
+        ComparedType::Named(ValueType::Protocol | ValueType::IcmpType) => true,
+        _ => is_ordered(kind),
+    }
+}
+
+/// Whether it is a range of a type that has none.
+pub(crate) fn range_mismatches(kind: ComparedType, range: &ValueRange) -> bool
+    ensures { result ≡ range_mismatches kind (range_tree range.now) }
+{
+    match range {
+        ValueRange::Between(_, _) => !has_ranges(kind),
+        ValueRange::One(_) | ValueRange::Prefix(_, _) => false,
+    }
+}
+
+fn is_order(operator: Operator) -> bool
+    ensures { result ≡ is_order operator }
+{
+    match operator {
+        Operator::Below | Operator::Above | Operator::AtMost | Operator::AtLeast => true,
+        Operator::Equal | Operator::Unequal => false,
+    }
+}
+
+/// Whether it is one value.
+fn is_single(range: &ValueRange) -> bool
+    ensures { result ≡ is_single (range_tree range.now) }
+{
+    matches!(range, ValueRange::One(_))
+}
+
+/// Whether an order is asked of a range, of a prefix or of a type without order, or whether a
+/// range is asked of a type that has none.
+pub(crate) fn compare_mismatches(selector: Selector, operator: Operator, range: &ValueRange) -> bool
+    ensures { result ≡ compare_mismatches selector operator (range_tree range.now) }
+{
+    let kind = selector.kind();
+    (is_order(operator) && !(is_single(range) && is_ordered(kind))) || range_mismatches(kind, range)
+}

@@ -1,0 +1,33 @@
+-- What is asked of each value and each number.
+use Rattle.std.specs.Prelude.{Bool, not, List, ◌∷◌, Option}
+use Rattle.std.specs.List.{list_any}
+use Rattle.nft_tree.specs.declared.compared_types.ComparedType.{ComparedType}
+use Rattle.nft_tree.specs.Tree.{RangeTree, PairTree, RuleTree, HeadTree}
+use Rattle.box_file.specs.Box.{PlantTree}
+use Rattle.nft_values.specs.Values.{is_range_on_box}
+use Rattle.rule_values.specs.declared.value_check.ValueCheck.{ValueCheck}
+use Rattle.rule_values.specs.declared.value_check.ValueCheck.TheVariants as value_checks
+use Rattle.rule_values.specs.TypedValues.{TypedRange, TypedMap, data_ranges}
+use Rattle.rule_values.specs.Faults.{is_of_type, statement_out_of_range, priority_out_of_range, if_some}
+
+-- ---- values
+
+-- whether the answer is no
+abbrev pub fails : ValueCheck → PlantTree → TypedRange → Bool
+fails value_checks.IsOfType plant r = not (is_of_type plant r)
+fails value_checks.IsOnBox plant r = not (is_range_on_box plant r.kind r.range)
+
+abbrev pub typed_range : ComparedType → RangeTree → TypedRange
+typed_range k r = record { kind = k; range = r }
+
+-- the values of a map's element
+abbrev pub pair_ranges : TypedMap → PairTree → List TypedRange
+pair_ranges m p = typed_range m.key p.key ∷ data_ranges m.value p.value
+
+-- ---- numbers
+
+abbrev pub rule_out_of_range : RuleTree → Bool
+rule_out_of_range r = list_any statement_out_of_range r.statements
+
+abbrev pub head_out_of_range : Option HeadTree → Bool
+head_out_of_range h = if_some (λ h. priority_out_of_range h.priority) h

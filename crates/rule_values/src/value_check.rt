@@ -1,0 +1,40 @@
+//! What is asked of each value.
+ghost use Rattle.std.specs.Prelude.{◌≡◌};
+ghost use Rattle.nft_tree.specs.Tree.{range_tree, value_tree};
+ghost use Rattle.rule_values.specs.TypedValues.{typed_value};
+ghost use Rattle.rule_values.specs.steps.Checks.{fails, typed_range};
+
+use box_file::Plant;
+use nft_tree::{ComparedType, Value, ValueRange};
+use nft_values::{is_on_box, is_range, is_range_on_box, is_value};
+
+/// What is asked of each value of a ruleset.
+#[derive(Clone, Copy)]
+pub(crate) enum ValueCheck {
+    /// Is it one of its type?
+    IsOfType,
+    /// Is the interface that it names on the box?
+    IsOnBox,
+}
+
+impl ValueCheck {
+    /// Whether the answer is no for a value, a range or a prefix.
+    pub(crate) fn fails(self, plant: &Plant, kind: ComparedType, range: &ValueRange) -> bool
+        ensures { result ≡ fails self plant.now (typed_range kind (range_tree range.now)) }
+    {
+        match self {
+            ValueCheck::IsOfType => !is_range(plant, kind, range),
+            ValueCheck::IsOnBox => !is_range_on_box(plant, kind, range),
+        }
+    }
+
+    /// Whether the answer is no for a value.
+    pub(crate) fn fails_value(self, plant: &Plant, kind: ComparedType, value: &Value) -> bool
+        ensures { result ≡ fails self plant.now (typed_value kind (value_tree value.now)) }
+    {
+        match self {
+            ValueCheck::IsOfType => !is_value(kind, value),
+            ValueCheck::IsOnBox => !is_on_box(plant, kind, value),
+        }
+    }
+}

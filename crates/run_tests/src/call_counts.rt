@@ -1,0 +1,58 @@
+//! How few calls a run over thousands of records makes.
+use crate::support::{AT_1_5, BOX, HEADER, PLAIN, bytes, no_failures, run_over, shows};
+use hex::FromHexError;
+use std::alloc::{AllocError, Global};
+use std::process::Abort;
+
+/// `PLAIN` from 192.168.1.11.
+const OTHER: &str = "4500001c0001000040118ee2c0a8010bc63364071388003500080000";
+
+/// A beginning, so many times the same piece, and an end.
+fn repeated(
+    alloc: Global,
+    beginning: &[u8],
+    piece: &[u8],
+    count: usize,
+    end: &[u8],
+) -> Result<Vec<u8>, AllocError> {
+    let pieces = piece.repeat(alloc, count)?;
+    [beginning, &pieces, end].concat(alloc)
+}
+
+/// 5,000 packets, by turns from one host and from another.
+fn packets(alloc: Global) -> Result<Vec<u8>, FromHexError> {
+    let header = bytes(alloc, &[HEADER])?;
+    let pair = bytes(alloc, &[AT_1_5, PLAIN, AT_1_5, OTHER])?;
+    Ok(repeated(alloc, &header, &pair, 2_500, b"")?)
+}
+
+/// 2,000 rules, of which only the last one matches, and drops what the first host sends.
+fn rules(alloc: Global) -> Result<Vec<u8>, AllocError> {
+    repeated(
+        alloc,
+        b"table ip t { chain c { type filter hook forward priority 0; ",
+        b"ip daddr 198.51.100.7 ip saddr 10.0.0.1 drop\n",
+        1_999,
+        b"ip saddr 192.168.1.10 drop\n} }",
+    )
+}
+
+/// The calls of both writers in a run that goes through with all calls at once.
+fn calls<R: Abort + AllocGlobal>(rt: &R, rules: &[u8]) -> [u64; 2] {
+    let capture = packets(rt.alloc()).expect(rt, "a capture");
+    let device_settings = no_failures(usize::MAX);
+    let given = run_over(rt.alloc(), rules, BOX, &capture, false, device_settings);
+    shows(rt, given.status, "nftrun: done");
+    assert!(rt; given.failures == [0, 0, 0]);
+    let [_, sends, reports] = given.calls;
+    [sends, reports]
+}
+
+/// A packet that leaves takes 64 bytes, so 2,048 of them fill the sink's buffer of 131,072: there is a call for
+/// the header, one each time that the buffer is full, one for the rest, and a flush.
+#[test]
+fn thousands_of_records_take_few_calls(rt: HostRuntime) {
+    assert!(&rt; calls(&rt, b"") == [5, 2]);
+    let rules = rules(rt.alloc()).expect(&rt, "a ruleset");
+    assert!(&rt; calls(&rt, &rules) == [4, 2]);
+}

@@ -1,0 +1,251 @@
+//! The connections that an engine lists, whether it keeps them in a plain list or in slots as `run` does.
+use crate::support::{BOX, bytes, hasher};
+use aged_tracker::AgedTracker;
+use box_file::Plant;
+use conntrack::{Connection, ListTracker, Tracker};
+use ip_headers::{Endpoint, Kind, Mapping, Tuple};
+use nft_parser::parse;
+use pcap_io::{LinkType, Record};
+use rule_check::check;
+use std::process::Abort;
+use stepping::Engine;
+
+/// What leaves by `wan` gets a mark for its connection.
+const ROUTER: &[u8] =
+    b"table ip nat { chain post { type nat hook postrouting priority srcnat; oifname \"wan\" ct mark set 7 masquerade } }";
+
+/// Cooked headers: by `lan`, and by `wan`.
+const BY_LAN: &str = "0800000000000002000100060200000000010000";
+
+const BY_WAN: &str = "0800000000000003000100060200000000010000";
+
+/// A moment in nanoseconds, a link header and a packet.
+type Sent = (u64, &'static str, &'static str);
+
+/// From 192.168.1.11:6000 to 198.51.100.7:53; to the end 203.0.113.1:6000 that it then has outside from
+/// 192.168.1.10:5000, and from itself.
+static TO_OWN_EXTERNAL: [Sent; 3] = [
+    (
+        0,
+        BY_LAN,
+        "4500001c0000000040118ee3c0a8010bc63364071770003500080000",
+    ),
+    (
+        0,
+        BY_LAN,
+        "4500001c0000000040117d1dc0a8010acb0071011388177000080000",
+    ),
+    (
+        0,
+        BY_LAN,
+        "4500001c0000000040117d1cc0a8010bcb0071011770177000080000",
+    ),
+];
+
+/// UDP from 192.168.1.10:5000 to 198.51.100.7:53 and to 198.51.100.9:53, and from 192.168.1.11:5000 to
+/// 198.51.100.7:53.
+const FIRST: &str = "4500001c0000000040118ee4c0a8010ac63364071388003500080000";
+
+const ELSEWHERE: &str = "4500001c0000000040118ee2c0a8010ac63364091388003500080000";
+
+const OF_ANOTHER: &str = "4500001c0000000040118ee3c0a8010bc63364071388003500080000";
+
+/// TCP between 192.168.1.10:5000 and 198.51.100.7:80: a SYN, and a RST with ACK to 203.0.113.1:5000.
+const SYN: &str =
+    "450000280000000040068ee3c0a8010ac63364071388005000000000000000005002000000000000";
+
+const REFUSED: &str =
+    "450000280000000040061494c6336407cb0071010050138800000000000000005014000000000000";
+
+const BEFORE_THE_LIMIT: u64 = 299_999_999_999;
+
+const AT_THE_LIMIT: u64 = 300_000_000_000;
+
+/// 192.168.1.10:5000, .11:5000 and .11:6000, and the last one's end outside.
+const OTHER: Endpoint = Endpoint {
+    address: 0xc0a8_010a,
+    port: 5000,
+};
+
+const NEIGHBOUR: Endpoint = Endpoint {
+    address: 0xc0a8_010b,
+    port: 5000,
+};
+
+const HOST: Endpoint = Endpoint {
+    address: 0xc0a8_010b,
+    port: 6000,
+};
+
+const EXTERNAL: Endpoint = Endpoint {
+    address: 0xcb00_7101,
+    port: 6000,
+};
+
+const NAME_SERVER: Endpoint = Endpoint {
+    address: 0xc633_6407,
+    port: 53,
+};
+
+const OTHER_SERVER: Endpoint = Endpoint {
+    address: 0xc633_6409,
+    port: 53,
+};
+
+const WEB_SERVER: Endpoint = Endpoint {
+    address: 0xc633_6407,
+    port: 80,
+};
+
+/// A connection from inside: its kind, the end that began it and the one that it was sent to, the port
+/// that it has outside and the moment of its last packet.
+type Masqueraded = (Kind, Endpoint, Endpoint, u16, u64);
+
+/// The connections that are listed behind these records, in order of beginning: whatever it sends to, an
+/// internal end has one port outside; another host gets the next port of that parity, unless the first
+/// one's connection is over; a SYN opens a connection anew that was reset.
+static LISTED: [(&[Sent], &[Masqueraded]); 4] = [
+    (
+        &[
+            (0, BY_LAN, FIRST),
+            (0, BY_LAN, ELSEWHERE),
+            (0, BY_LAN, OF_ANOTHER),
+        ],
+        &[
+            (Kind::Udp, OTHER, NAME_SERVER, 5000, 0),
+            (Kind::Udp, OTHER, OTHER_SERVER, 5000, 0),
+            (Kind::Udp, NEIGHBOUR, NAME_SERVER, 5002, 0),
+        ],
+    ),
+    (
+        &[(0, BY_LAN, FIRST), (BEFORE_THE_LIMIT, BY_LAN, OF_ANOTHER)],
+        &[
+            (Kind::Udp, OTHER, NAME_SERVER, 5000, 0),
+            (Kind::Udp, NEIGHBOUR, NAME_SERVER, 5002, BEFORE_THE_LIMIT),
+        ],
+    ),
+    (
+        &[(0, BY_LAN, FIRST), (AT_THE_LIMIT, BY_LAN, OF_ANOTHER)],
+        &[(Kind::Udp, NEIGHBOUR, NAME_SERVER, 5000, AT_THE_LIMIT)],
+    ),
+    (
+        &[(0, BY_LAN, SYN), (1, BY_WAN, REFUSED), (2, BY_LAN, SYN)],
+        &[(Kind::Tcp, OTHER, WEB_SERVER, 5000, 2)],
+    ),
+];
+
+/// A router before its first record.
+fn router<R: Abort + AllocGlobal, T: Tracker>(rt: &R) -> Engine<T> {
+    let hasher = hasher().expect(rt, "keys");
+    let tree = parse(rt.alloc(), ROUTER).expect(rt, "rules");
+    let plant = Plant::read(rt.alloc(), BOX).expect(rt, "a box");
+    let checked = check(rt.alloc(), tree, plant).expect(rt, "an accepted ruleset");
+    Engine::new(rt.alloc(), hasher, checked).expect(rt, "memory")
+}
+
+/// Takes a record, as long as there may be more.
+fn take<R: Abort + AllocGlobal, T: Tracker>(rt: &R, engine: &mut Engine<T>, sent: &Sent) {
+    let (moment, link, packet) = *sent;
+    let bytes = bytes(rt.alloc(), &[link, packet]).expect(rt, "a packet");
+    if engine.records() < 4_294_967_296 && moment < 4_294_967_296_000_000_000 {
+        let record = Record {
+            moment,
+            link_type: LinkType::Sll2,
+            bytes: &bytes,
+        };
+        engine.step(&record).expect(rt, "memory");
+    }
+}
+
+/// What it lists behind these records.
+fn listed_by<R: Abort + AllocGlobal, T: Tracker>(
+    rt: &R,
+    engine: &mut Engine<T>,
+    records: &[Sent],
+) -> Vec<Connection> {
+    for sent in records {
+        take(rt, engine, sent);
+    }
+    engine.connections(rt.alloc()).expect(rt, "memory")
+}
+
+/// What a router lists behind these records.
+fn listed_after<R: Abort + AllocGlobal, T: Tracker>(rt: &R, records: &[Sent]) -> Vec<Connection> {
+    let mut engine: Engine<T> = router(rt);
+    listed_by(rt, &mut engine, records)
+}
+
+fn between(kind: Kind, source: Endpoint, destination: Endpoint) -> Tuple {
+    Tuple {
+        kind,
+        source,
+        destination,
+    }
+}
+
+/// The connection of a host inside that is masqueraded.
+fn masqueraded(connection: Masqueraded) -> Connection {
+    let (kind, internal, peer, port, last) = connection;
+    let external = Endpoint { port, ..EXTERNAL };
+    Connection {
+        original: between(kind, internal, peer),
+        reply: between(kind, peer, external),
+        mark: 7,
+        last,
+        source: Some(Mapping {
+            kind,
+            internal,
+            external,
+        }),
+        dest: None,
+    }
+}
+
+/// Whether just these are listed, in this order.
+fn are_listed(all: &[Connection], expected: &[Masqueraded]) -> bool {
+    all.len() == expected.len()
+        && all.iter().zip(expected).all(|(connection, &expected_one)| *connection
+            == masqueraded(expected_one))
+}
+
+#[test]
+fn live_connections_are_listed(rt: HostRuntime) {
+    for (records, expected) in &LISTED {
+        let in_a_list = listed_after::<_, ListTracker>(&rt, records);
+        assert!(&rt; are_listed(&in_a_list, expected));
+        let in_slots = listed_after::<_, AgedTracker>(&rt, records);
+        assert!(&rt; are_listed(&in_slots, expected));
+    }
+}
+
+/// Whether a host, its neighbour and itself are listed, by the mapping of the host's end outside.
+fn are_hairpins_to_the_own_host(all: &[Connection]) -> bool {
+    if all.len() != 3 {
+        return false;
+    }
+    let mapping = Some(Mapping {
+        kind: Kind::Udp,
+        internal: HOST,
+        external: EXTERNAL,
+    });
+    let neighbour = Endpoint {
+        port: 5000,
+        ..EXTERNAL
+    };
+    all[0].source == mapping
+        && all[0].dest == None
+        && all[1].dest == mapping
+        && all[1].original == between(Kind::Udp, OTHER, EXTERNAL)
+        && all[1].reply == between(Kind::Udp, HOST, neighbour)
+        && all[2].original == all[2].reply
+        && all[2].source == mapping
+        && all[2].dest == mapping
+}
+
+/// A host reaches its own end outside: packets back come as the first one does, and the connection
+/// is none that clashes with itself.
+#[test]
+fn a_hairpin_to_the_own_host_is_listed(rt: HostRuntime) {
+    let all = listed_after::<_, ListTracker>(&rt, &TO_OWN_EXTERNAL);
+    assert!(&rt; are_hairpins_to_the_own_host(&all));
+}

@@ -1,0 +1,371 @@
+//! Each call of the reader and of the two writers fails in turn: what was done stays done, and is told.
+ghost use Rattle.std.specs.Prelude.{◌<◌};
+
+use crate::support::{
+    AT_1_5, BOX, DeviceSettings, Fault, HEADER, OUT_AT_1_5, OUT_HEADER, PLAIN, PLAIN_OUT,
+    RunResult, bytes, no_failures, run_over, shows,
+};
+use std::alloc::Global;
+use std::io::ErrorKind;
+use std::process::Abort;
+use std::str;
+
+/// A run: its rules, whether it is traced, its capture, its line, and the capture that leaves.
+#[derive(Clone, Copy)]
+pub struct Row {
+    pub rules: &'static [u8],
+    pub trace: bool,
+    pub capture: &'static [&'static str],
+    pub line: &'static str,
+    pub sent: &'static [&'static str],
+}
+
+/// Hosts of `lan` share the box's address, and nothing comes in that wasn't asked for.
+const ROUTER: &[u8] = b"table ip nat {
+ chain post { type nat hook postrouting priority srcnat; policy accept;
+  oifname \"wan\" masquerade
+ }
+}
+table ip fw {
+ chain in { type filter hook input priority filter; policy drop;
+ }
+ chain fwd { type filter hook forward priority filter; policy drop;
+  ct state established,related accept
+  iifname \"lan\" accept
+ }
+}
+";
+
+/// Each packet that is forwarded is logged and traced.
+const LOGS: &[u8] = b"table t { chain fwd { type filter hook forward priority 0; log accept; } }";
+
+/// Magic a1b23c4d, which tells nanoseconds, version 2.4, snaplen 65,535, LINKTYPE_LINUX_SLL2.
+const COOKED: &str = "4d3cb2a1020004000000000000000000ffff000014010000";
+
+/// At 0 s a record of 48 bytes that came in by `lan`, and one that leaves by `wan`.
+const AT_0: &str = "000000000000000030000000300000000800000000000002000100060000000000000000";
+
+const OUT_AT_0: &str = "000000000000000030000000300000000800000000000003000104000000000000000000";
+
+/// UDP from 192.168.1.10:5000 to 198.51.100.7:53, and as it leaves from 203.0.113.1:5000.
+const QUESTION: &str = "4500001c0000000040118ee4c0a8010ac63364071388003500080000";
+
+const QUESTION_OUT: &str = "4500001c000000003f111595cb007101c63364071388003500080000";
+
+/// The answer to 203.0.113.1:5000, and as it leaves.
+const ANSWER: &str = "4500001c0000000040111495c6336407cb0071010035138800080000";
+
+const ANSWER_OUT: &str = "4500001c000000003f118fe4c6336407c0a8010a0035138800080000";
+
+/// A plain packet, and through the router; an answer just before its connection is over, and just then;
+/// one host's port to two hosts, and another host's; an ICMP error about a packet that left; a torn end;
+/// lines that are written while records are read.
+pub static ROWS: [Row; 8] = [
+    Row {
+        rules: b"",
+        trace: false,
+        capture: &[HEADER, AT_1_5, PLAIN],
+        line: "nftrun: done",
+        sent: &[OUT_HEADER, OUT_AT_1_5, PLAIN_OUT],
+    },
+    Row {
+        rules: ROUTER,
+        trace: true,
+        capture: &[HEADER, AT_1_5, PLAIN],
+        line: "nftrun: done",
+        sent: &[
+            OUT_HEADER,
+            OUT_AT_1_5,
+            "4500001c000100003f111594cb007101c63364071388003500080000",
+        ],
+    },
+    Row {
+        rules: ROUTER,
+        trace: false,
+        capture: &[
+            COOKED,
+            AT_0,
+            QUESTION,
+            "2b01000018c69a3b30000000300000000800000000000003000100060000000000000000",
+            ANSWER,
+        ],
+        line: "nftrun: done",
+        sent: &[
+            OUT_HEADER,
+            OUT_AT_0,
+            QUESTION_OUT,
+            "2b01000018c69a3b30000000300000000800000000000002000104000000000000000000",
+            ANSWER_OUT,
+        ],
+    },
+    Row {
+        rules: ROUTER,
+        trace: true,
+        capture: &[
+            COOKED,
+            AT_0,
+            QUESTION,
+            "2c0100000000000030000000300000000800000000000003000100060000000000000000",
+            ANSWER,
+        ],
+        line: "nftrun: done",
+        sent: &[OUT_HEADER, OUT_AT_0, QUESTION_OUT],
+    },
+    Row {
+        rules: ROUTER,
+        trace: false,
+        capture: &[
+            COOKED,
+            AT_0,
+            QUESTION,
+            AT_0,
+            "4500001c0000000040118ee2c0a8010ac63364091388003500080000",
+            AT_0,
+            "4500001c0000000040118ee3c0a8010bc63364071388003500080000",
+        ],
+        line: "nftrun: done",
+        sent: &[
+            OUT_HEADER,
+            OUT_AT_0,
+            QUESTION_OUT,
+            OUT_AT_0,
+            "4500001c000000003f111593cb007101c63364091388003500080000",
+            OUT_AT_0,
+            "4500001c000000003f111595cb007101c6336407138a003500080000",
+        ],
+    },
+    Row {
+        rules: ROUTER,
+        trace: false,
+        capture: &[
+            COOKED,
+            AT_0,
+            "4500001c0001000040118ee3c0a8010ac63364071388003500081000",
+            "00000000000000004c0000004c0000000800000000000003000100060200000000010000",
+            "45000038000200004001148dc6336401cb0071010301538900000000",
+            "4500001c000100003f111594cb007101c633640713880035000895b0",
+        ],
+        line: "nftrun: done",
+        sent: &[
+            OUT_HEADER,
+            OUT_AT_0,
+            "4500001c000100003f111594cb007101c633640713880035000895b0",
+            "00000000000000004c0000004c0000000800000000000002000104000000000000000000",
+            "45000038000200003f018fdcc6336401c0a8010a0301d93900000000",
+            "4500001c000100003f118fe3c0a8010ac63364071388003500081000",
+        ],
+    },
+    Row {
+        rules: ROUTER,
+        trace: false,
+        capture: &[HEADER, AT_1_5, PLAIN, AT_1_5, "4500001c0001"],
+        line: "nftrun: capture torn",
+        sent: &[
+            OUT_HEADER,
+            OUT_AT_1_5,
+            "4500001c000100003f111594cb007101c63364071388003500080000",
+        ],
+    },
+    Row {
+        rules: LOGS,
+        trace: true,
+        capture: &[HEADER, AT_1_5, PLAIN, AT_1_5, PLAIN],
+        line: "nftrun: done",
+        sent: &[OUT_HEADER, OUT_AT_1_5, PLAIN_OUT, OUT_AT_1_5, PLAIN_OUT],
+    },
+];
+
+/// A read fails so.
+static READ_FAULTS: [Fault; 2] = [
+    Fault::Error(ErrorKind::Other),
+    Fault::Error(ErrorKind::Interrupted),
+];
+
+/// A write, or a flush, fails so.
+static WRITE_FAULTS: [Fault; 3] = [
+    Fault::Error(ErrorKind::Other),
+    Fault::Error(ErrorKind::Interrupted),
+    Fault::NoByte,
+];
+
+/// How many bytes a call takes or gives at most while the reader (0), the writer of packets (1) or that of
+/// the report (2) fails: no line of a report is as long as three calls.
+fn most(device: usize) -> usize
+    ensures { 0 < result }
+{
+    if device == 2 { 37 } else { 13 }
+}
+
+/// So many calls of this device work, and the next one fails.
+fn device_settings(device: usize, fault: Fault, count: usize) -> DeviceSettings {
+    let mut calls = [usize::MAX; 3];
+    if device < 3 {
+        calls[device] = count;
+    }
+    DeviceSettings {
+        most: most(device),
+        calls,
+        fault,
+    }
+}
+
+/// A run of the row over this capture.
+fn run_of(alloc: Global, row: &Row, capture: &[u8], device_settings: DeviceSettings) -> RunResult {
+    run_over(alloc, row.rules, BOX, capture, row.trace, device_settings)
+}
+
+/// The lines of a report before its totals.
+fn lines_of(report: &[u8]) -> &[u8] {
+    let text = str::from_utf8(report).unwrap_or("no text");
+    match text.split("records ").next() {
+        Some(lines) => lines.as_bytes(),
+        None => b"",
+    }
+}
+
+/// What is written is a beginning of what the whole run writes, and has no totals unless the report's
+/// own writer failed; then all packets are there.
+fn is_beginning(given: &RunResult, whole: &RunResult, device: usize) -> bool {
+    let has_totals = lines_of(&given.report).len() < given.report.len();
+    let may_have = device == 2 && given.sent.len() == whole.sent.len();
+    whole.sent.starts_with(given.sent.as_slice())
+        && whole.report.starts_with(given.report.as_slice())
+        && (may_have || !has_totals)
+}
+
+/// The call of this number failed alone, and none was made again behind it.
+fn is_stopped<R: Abort + AllocGlobal>(
+    rt: &R,
+    given: &RunResult,
+    whole: &RunResult,
+    device: usize,
+    count: usize,
+) {
+    assert!(rt; device < 3);
+    let mut failures = [0; 3];
+    failures[device] = 1;
+    shows(rt, given.status, "nftrun: device");
+    assert!(rt; given.failures == failures, "call {count} of {device}");
+    let calls = usize::try_from(given.calls[device]);
+    assert!(rt;
+        calls == Ok(count.saturating_add(1)),
+        "calls up to {count} of {device}"
+    );
+    assert!(rt;
+        is_beginning(given, whole, device),
+        "call {count} of {device}"
+    );
+}
+
+/// This read fails, in each way: what is written is all that the whole records give that were read before.
+/// Whether there is such a read.
+fn read_stops<R: Abort + AllocGlobal>(
+    rt: &R,
+    row: &Row,
+    capture: &[u8],
+    whole: &RunResult,
+    count: usize,
+) -> bool {
+    let length = count.saturating_mul(most(0)).min(capture.len());
+    let cut = run_of(rt.alloc(), row, &capture[..length], no_failures(most(0)));
+    let mut is_made = true;
+    for fault in &READ_FAULTS {
+        let given = run_of(rt.alloc(), row, capture, device_settings(0, *fault, count));
+        if given.failures == [0; 3] {
+            is_made = false;
+            assert!(rt; given.sent == whole.sent && given.report == whole.report);
+        } else {
+            is_stopped(rt, &given, whole, 0, count);
+            assert!(rt; given.sent == cut.sent, "packets after {count} reads");
+            let lines = lines_of(&cut.report);
+            assert!(rt;
+                given.report.as_slice() == lines,
+                "lines after {count} reads"
+            );
+        }
+    }
+    is_made
+}
+
+/// This call of a writer fails, in each way. Whether there is such a call.
+fn write_stops<R: Abort + AllocGlobal>(
+    rt: &R,
+    row: &Row,
+    capture: &[u8],
+    whole: &RunResult,
+    device: usize,
+    count: usize,
+) -> bool {
+    let mut is_made = true;
+    for fault in &WRITE_FAULTS {
+        let given = run_of(
+            rt.alloc(),
+            row,
+            capture,
+            device_settings(device, *fault, count),
+        );
+        if given.failures == [0; 3] {
+            is_made = false;
+            assert!(rt; given.sent == whole.sent && given.report == whole.report);
+        } else {
+            is_stopped(rt, &given, whole, device, count);
+        }
+    }
+    is_made
+}
+
+/// What the row gives where all calls work.
+fn whole_run<R: Abort + AllocGlobal>(
+    rt: &R,
+    row: &Row,
+    capture: &[u8],
+    device: usize,
+) -> RunResult {
+    let whole = run_of(rt.alloc(), row, capture, no_failures(most(device)));
+    shows(rt, whole.status, row.line);
+    assert!(rt; whole.sent == bytes(rt.alloc(), row.sent).expect(rt, "packets"));
+    // The end is seen by one read more.
+    let reads = capture.len().div_ceil(most(device)).saturating_add(1);
+    assert!(rt; usize::try_from(whole.calls[0]) == Ok(reads));
+    whole
+}
+
+/// Each call of the device fails in turn, up to runs that make no more.
+fn stops<R: Abort + AllocGlobal>(rt: &R, row: &Row, device: usize) {
+    assert!(rt; device < 3);
+    let capture = bytes(rt.alloc(), row.capture).expect(rt, "a capture");
+    let whole = whole_run(rt, row, &capture, device);
+    for count in 0..200usize {
+        let is_made = match device {
+            0 => read_stops(rt, row, &capture, &whole, count),
+            _ => write_stops(rt, row, &capture, &whole, device, count),
+        };
+        if !is_made {
+            let calls = usize::try_from(whole.calls[device]);
+            assert!(rt; calls == Ok(count), "calls of {device}");
+            return;
+        }
+    }
+    panic!(rt; "no run makes so few calls of {device}");
+}
+
+#[test]
+fn each_read_that_fails_stops_the_run(rt: HostRuntime) {
+    for row in &ROWS {
+        stops(&rt, row, 0);
+    }
+}
+
+#[test]
+fn each_failing_write_of_packets_stops_the_run(rt: HostRuntime) {
+    for row in &ROWS {
+        stops(&rt, row, 1);
+    }
+}
+
+#[test]
+fn each_failing_write_of_a_report_stops_the_run(rt: HostRuntime) {
+    for row in &ROWS {
+        stops(&rt, row, 2);
+    }
+}

@@ -1,0 +1,15 @@
+//! Whole runs with calls that fail or are counted; the connections that an engine lists; the program.
+#![tactic(auto)]
+
+#[cfg(test)]
+mod call_counts;
+#[cfg(test)]
+mod connection_lists;
+#[cfg(test)]
+mod device_failures;
+#[cfg(test)]
+mod program_calls;
+#[cfg(test)]
+mod retry;
+#[cfg(test)]
+mod support;

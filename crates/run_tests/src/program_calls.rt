@@ -1,0 +1,916 @@
+//! The program over a host that records its calls, its words, and each line that it can print.
+use crate::support::{hasher, shows};
+use box_file::BoxFault;
+use clap::Error;
+use clap::error::ErrorKind;
+use command_line::{Task, read_task};
+use engine::{Counts, RulesFault, RunFault};
+use explanations::Explanation;
+use nft_lexer::LexFault;
+use nft_parser::TextFault;
+use pcap_io::CaptureFault;
+use program::{FileIdentity, Host, Status, perform};
+use rule_check::CheckFault;
+use std::alloc::{AllocError, Global};
+use std::hash::RandomState;
+use std::io;
+use std::process::Abort;
+
+const SAME_FILE: &str = "nftrun: usage: OUT is the same file as RULES, BOX, IN or standard output";
+
+const PRINTED_SAME_FILE: &str =
+    "tell nftrun: usage: OUT is the same file as RULES, BOX, IN or standard output\n";
+
+const SAME_REPORT: &str = "nftrun: usage: FILE is the same file as RULES, BOX, IN or OUT";
+
+const PRINTED_SAME_REPORT: &str =
+    "tell nftrun: usage: FILE is the same file as RULES, BOX, IN or OUT\n";
+
+const NO_CODE: &str =
+    "nftrun: usage: CODE is one of E01 to E06, B1 to B5, N01 to N15, P1 to P5 and P7";
+
+const PRINTED_NO_CODE: &str =
+    "tell nftrun: usage: CODE is one of E01 to E06, B1 to B5, N01 to N15, P1 to P5 and P7\n";
+
+const RUN: &[&str] = &["nftrun", "run", "rules", "box", "in", "out"];
+
+const REPORT: &[&str] = &[
+    "nftrun", "run", "--report", "file", "rules", "box", "in", "out",
+];
+
+const CHECK: &[&str] = &["nftrun", "check", "rules", "box"];
+
+/// The calls of a run that succeeds.
+const CALLS: &[&str] = &[
+    "words\n",
+    "read rules\n",
+    "read box\n",
+    "open in\n",
+    "identify out\n",
+    "identify rules\n",
+    "identify box\n",
+    "identify in\n",
+    "identify /dev/stdout\n",
+    "draw keys\n",
+    "create out\n",
+    "run rules box\n",
+];
+
+/// The calls of a run that succeeds, with its report in a file.
+const REPORT_CALLS: &[&str] = &[
+    "words\n",
+    "read rules\n",
+    "read box\n",
+    "open in\n",
+    "identify out\n",
+    "identify rules\n",
+    "identify box\n",
+    "identify in\n",
+    "identify file\n",
+    "identify rules\n",
+    "identify box\n",
+    "identify in\n",
+    "identify out\n",
+    "draw keys\n",
+    "create out\n",
+    "identify file\n",
+    "identify out\n",
+    "create file\n",
+];
+
+/// How a host answers, and what the program has to do then.
+#[derive(Clone, Copy)]
+struct Row {
+    words: &'static [&'static str],
+    /// The calls of a run,
+    calls: &'static [&'static str],
+    /// Which call fails, counted from 0, and of which kind its error is.
+    failing: Option<(usize, io::ErrorKind)>,
+    /// The path that leads to the same file
+    same: &'static str,
+    /// as this one,
+    file: &'static str,
+    /// and whether that is a regular file.
+    is_regular: bool,
+    outcome: Result<bool, RunFault>,
+    judged: Result<Counts, RunFault>,
+    /// of which it makes the first so many,
+    count: usize,
+    /// and then these,
+    last: &'static str,
+    /// and ends with this status.
+    code: u8,
+}
+
+/// A run that succeeds.
+const DONE: Row = Row {
+    words: RUN,
+    calls: CALLS,
+    failing: None,
+    same: "",
+    file: "out",
+    is_regular: true,
+    outcome: Ok(false),
+    judged: Ok(Counts {
+        tables: 1,
+        chains: 2,
+        rules: 3,
+    }),
+    count: 12,
+    last: "",
+    code: 0,
+};
+
+/// A run that succeeds, with its report in a file.
+const REPORTED: Row = Row {
+    words: REPORT,
+    calls: REPORT_CALLS,
+    file: "file",
+    count: 18,
+    last: "run rules box to a file\n",
+    ..DONE
+};
+
+/// A check that accepts its ruleset. Its first calls are those of a run.
+const CHECKED: Row = Row {
+    words: CHECK,
+    count: 3,
+    last: "judge rules box\nannounce 1 2 3\n",
+    ..DONE
+};
+
+/// Answers as its row tells, and writes its calls down, a line each. A file holds its own path.
+#[derive(Drop)]
+struct Recorder {
+    alloc: Global,
+    row: Row,
+    calls: Vec<u8>,
+    count: usize,
+}
+
+impl Recorder {
+    fn note(&mut self, parts: &[&[u8]]) -> io::Result<()> {
+        for part in parts {
+            self.calls.extend_from_slice(part)?;
+        }
+        self.calls.push(b'\n')?;
+        let at = self.count;
+        self.count = self.count.saturating_add(1);
+        match self.row.failing {
+            Some((call, kind)) if call == at => Err(io::Error::from(kind)),
+            _ => Ok(()),
+        }
+    }
+
+    fn outcome(&mut self, parts: &[&[u8]]) -> Result<bool, RunFault> {
+        match self.note(parts) {
+            Ok(()) => self.row.outcome,
+            Err(error) if error.kind() == io::ErrorKind::OutOfMemory => Err(RunFault::Memory),
+            Err(_) => Err(RunFault::Device),
+        }
+    }
+}
+
+impl Host for Recorder {
+    type Input = ();
+
+    type Output = ();
+
+    ghost happens = { λ _ _ _. Unit {0} };
+
+    fn words(&mut self) -> io::Result<Vec<String>> {
+        self.note(&[b"words"])?;
+        let mut words = Vec::new(self.alloc);
+        for word in self.row.words {
+            words.push(String::from_str(self.alloc, *word)?)?;
+        }
+        Ok(words)
+    }
+
+    fn read(&mut self, path: &str) -> io::Result<Vec<u8>> {
+        self.note(&[b"read ", path.as_bytes()])?;
+        Ok(path.as_bytes().to_vec(self.alloc)?)
+    }
+
+    fn open(&mut self, path: &str) -> io::Result<()> {
+        self.note(&[b"open ", path.as_bytes()])
+    }
+
+    fn identify(&mut self, path: &str) -> io::Result<FileIdentity> {
+        self.note(&[b"identify ", path.as_bytes()])?;
+        let is_same = path == self.row.file || path == self.row.same;
+        let inode = if is_same {
+            2
+        } else if path == "out" {
+            3
+        } else if path == "file" {
+            4
+        } else {
+            5
+        };
+        Ok(FileIdentity {
+            is_regular: self.row.is_regular,
+            device: 1,
+            inode,
+        })
+    }
+
+    fn draw_keys(&mut self) -> io::Result<RandomState> {
+        self.note(&[b"draw keys"])?;
+        hasher()
+    }
+
+    fn create(&mut self, path: &str) -> io::Result<()> {
+        self.note(&[b"create ", path.as_bytes()])
+    }
+
+    fn run(
+        &mut self,
+        _hasher: RandomState,
+        rules: &[u8],
+        plant: &[u8],
+        _input: &mut (),
+        _output: &mut (),
+        trace: bool,
+    ) -> Result<bool, RunFault> {
+        let end: &[u8] = if trace { b" traced" } else { b"" };
+        self.outcome(&[b"run ", rules, b" ", plant, end])
+    }
+
+    fn run_to_file(
+        &mut self,
+        _hasher: RandomState,
+        rules: &[u8],
+        plant: &[u8],
+        _input: &mut (),
+        _output: &mut (),
+        _report: &mut (),
+        trace: bool,
+    ) -> Result<bool, RunFault> {
+        let end: &[u8] = if trace { b" traced" } else { b"" };
+        self.outcome(&[b"run ", rules, b" ", plant, b" to a file", end])
+    }
+
+    fn judge(&mut self, rules: &[u8], plant: &[u8]) -> Result<Counts, RunFault> {
+        match self.note(&[b"judge ", rules, b" ", plant]) {
+            Ok(()) => self.row.judged,
+            Err(error) if error.kind() == io::ErrorKind::OutOfMemory => Err(RunFault::Memory),
+            Err(_) => Err(RunFault::Device),
+        }
+    }
+
+    fn print_accepted(&mut self, counts: Counts) -> io::Result<()> {
+        let line = format!(in self.alloc;
+            "announce {} {} {}",
+            counts.tables, counts.chains, counts.rules
+        )?;
+        self.note(&[line.as_str().as_bytes()])
+    }
+
+    fn print_status(&mut self, status: Status) {
+        if let Ok(line) = format!(in self.alloc; "tell {status}") {
+            let _ = self.note(&[line.as_str().as_bytes()]);
+        }
+    }
+
+    fn explain_status(&mut self, status: Status, task: &Task<'_>) {
+        let name = match task {
+            Task::Run(_) => "run",
+            Task::Check(_) => "check",
+            Task::Explain(_) => "explain",
+        };
+        if let Ok(line) = format!(in self.alloc; "clarify {name} {status}") {
+            let _ = self.note(&[line.as_str().as_bytes()]);
+        }
+    }
+
+    fn list_faults(&mut self, _task: &Task<'_>) {
+        let _ = self.note(&[b"list_faults"]);
+    }
+
+    fn show(&mut self, explanation: &Explanation) -> io::Result<()> {
+        self.note(&[b"show ", explanation.code.as_bytes()])
+    }
+
+    fn explain(&mut self, error: &Error) -> io::Result<()> {
+        match error.exit_code() {
+            0 => self.note(&[b"explain help"]),
+            _ => self.note(&[b"explain usage"]),
+        }
+    }
+}
+
+/// The calls that the program has to make.
+fn wanted(alloc: Global, row: &Row) -> Result<Vec<u8>, AllocError> {
+    let mut wanted = Vec::new(alloc);
+    for call in row.calls.iter().take(row.count) {
+        wanted.extend_from_slice(call.as_bytes())?;
+    }
+    wanted.extend_from_slice(row.last.as_bytes())?;
+    Ok(wanted)
+}
+
+/// The program has to do what the row tells.
+fn ends<R: Abort + AllocGlobal>(rt: &R, row: Row) {
+    let mut host = Recorder {
+        alloc: rt.alloc(),
+        row,
+        calls: Vec::new(rt.alloc()),
+        count: 0,
+    };
+    assert_eq!(rt; perform(rt.alloc(), &mut host), row.code);
+    let wanted = wanted(rt.alloc(), &row).expect(rt, "memory");
+    assert!(rt; host.calls == wanted);
+}
+
+/// A run; one that tells each decision; one with a torn end; one that would write over a file that
+/// it reads, or over the report; one whose files are devices; one whose OUT isn't there, and one whose
+/// standard output isn't; words that can't be read; a fault of a run; a line that can't be told, which changes nothing; words that are no
+/// task, and help. A check; one that refuses; a box that can't be read; a line that can't be printed.
+/// What a fault means, where there is one and that is asked for; a path `--explain`; what a code means.
+static ROWS: [Row; 30] = [
+    DONE,
+    Row {
+        words: &["nftrun", "run", "--trace", "rules", "box", "in", "out"],
+        count: 11,
+        last: "run rules box traced\n",
+        ..DONE
+    },
+    CHECKED,
+    Row {
+        judged: Err(RunFault::Rules(RulesFault::Check(CheckFault::TooCostly))),
+        last: "judge rules box\ntell nftrun: rules N06\n",
+        code: 1,
+        ..CHECKED
+    },
+    Row {
+        failing: Some((2, io::ErrorKind::NotFound)),
+        last: "tell nftrun: device\n",
+        code: 5,
+        ..CHECKED
+    },
+    Row {
+        failing: Some((4, io::ErrorKind::BrokenPipe)),
+        last: "judge rules box\nannounce 1 2 3\ntell nftrun: device\n",
+        code: 5,
+        ..CHECKED
+    },
+    Row {
+        outcome: Ok(true),
+        last: "tell nftrun: capture torn\n",
+        code: 7,
+        ..DONE
+    },
+    Row {
+        same: "rules",
+        count: 6,
+        last: PRINTED_SAME_FILE,
+        code: 2,
+        ..DONE
+    },
+    Row {
+        same: "box",
+        count: 7,
+        last: PRINTED_SAME_FILE,
+        code: 2,
+        ..DONE
+    },
+    Row {
+        same: "in",
+        count: 8,
+        last: PRINTED_SAME_FILE,
+        code: 2,
+        ..DONE
+    },
+    Row {
+        same: "/dev/stdout",
+        count: 9,
+        last: PRINTED_SAME_FILE,
+        code: 2,
+        ..DONE
+    },
+    Row {
+        same: "in",
+        is_regular: false,
+        ..DONE
+    },
+    Row {
+        failing: Some((4, io::ErrorKind::NotFound)),
+        count: 5,
+        last: "draw keys\ncreate out\nrun rules box\n",
+        ..DONE
+    },
+    Row {
+        failing: Some((8, io::ErrorKind::NotFound)),
+        ..DONE
+    },
+    Row {
+        failing: Some((0, io::ErrorKind::InvalidData)),
+        count: 1,
+        last: "tell nftrun: usage: a word isn't UTF-8\n",
+        code: 2,
+        ..DONE
+    },
+    Row {
+        outcome: Err(RunFault::Capture(CaptureFault::TornEnd)),
+        last: "tell nftrun: capture P5\n",
+        code: 4,
+        ..DONE
+    },
+    Row {
+        failing: Some((12, io::ErrorKind::BrokenPipe)),
+        outcome: Err(RunFault::Device),
+        last: "tell nftrun: device\n",
+        code: 5,
+        ..DONE
+    },
+    Row {
+        words: &["nftrun", "run", "rules"],
+        count: 1,
+        last: "explain usage\n",
+        code: 2,
+        ..DONE
+    },
+    Row {
+        words: &["nftrun", "--help"],
+        count: 1,
+        last: "explain help\n",
+        ..DONE
+    },
+    Row {
+        words: &["nftrun", "--help"],
+        failing: Some((1, io::ErrorKind::BrokenPipe)),
+        count: 1,
+        last: "explain help\ntell nftrun: device\n",
+        code: 5,
+        ..DONE
+    },
+    Row {
+        words: &["nftrun", "check", "--explain", "rules", "box"],
+        judged: Err(RunFault::Rules(RulesFault::Check(CheckFault::TooCostly))),
+        last: "judge rules box\ntell nftrun: rules N06\nclarify check nftrun: rules N06\n",
+        code: 1,
+        ..CHECKED
+    },
+    Row {
+        words: &["nftrun", "check", "--all", "rules", "box"],
+        judged: Err(RunFault::Rules(RulesFault::Check(CheckFault::TooCostly))),
+        last: "judge rules box\ntell nftrun: rules N06\nlist_faults\n",
+        code: 1,
+        ..CHECKED
+    },
+    Row {
+        words: &["nftrun", "check", "--all", "--explain", "rules", "box"],
+        judged: Err(RunFault::Rules(RulesFault::Check(CheckFault::TooCostly))),
+        last: "judge rules box\ntell nftrun: rules N06\nclarify check nftrun: rules N06\nlist_faults\n",
+        code: 1,
+        ..CHECKED
+    },
+    Row {
+        words: &["nftrun", "check", "--all", "rules", "box"],
+        ..CHECKED
+    },
+    Row {
+        words: &["nftrun", "run", "rules", "box", "--explain", "in", "out"],
+        outcome: Ok(true),
+        last: "tell nftrun: capture torn\nclarify run nftrun: capture torn\n",
+        code: 7,
+        ..DONE
+    },
+    Row {
+        words: &["nftrun", "run", "--explain", "rules", "box", "in", "out"],
+        ..DONE
+    },
+    Row {
+        words: &["nftrun", "check", "--", "--explain", "box"],
+        count: 1,
+        last: "read --explain\nread box\njudge --explain box\nannounce 1 2 3\n",
+        ..CHECKED
+    },
+    Row {
+        words: &["nftrun", "explain", "N12"],
+        count: 1,
+        last: "show N12\n",
+        ..DONE
+    },
+    Row {
+        words: &["nftrun", "explain", "N12"],
+        failing: Some((1, io::ErrorKind::BrokenPipe)),
+        count: 1,
+        last: "show N12\ntell nftrun: device\n",
+        code: 5,
+        ..DONE
+    },
+    Row {
+        words: &["nftrun", "explain", "N16"],
+        count: 1,
+        last: PRINTED_NO_CODE,
+        code: 2,
+        ..DONE
+    },
+];
+
+/// Runs whose report goes to a file: one that succeeds, and one that tells each decision; one that
+/// would write the report over a file that it reads, or over OUT, which may be found only once OUT
+/// is there, and one whose OUT is one of the files that it reads; one whose OUT goes where standard
+/// output goes; one whose files are devices; one whose FILE isn't there yet; a torn end, and a fault
+/// of the run.
+static REPORTS: [Row; 13] = [
+    REPORTED,
+    Row {
+        words: &[
+            "nftrun",
+            "run",
+            "--report=file",
+            "--trace",
+            "rules",
+            "box",
+            "in",
+            "out",
+        ],
+        last: "run rules box to a file traced\n",
+        ..REPORTED
+    },
+    Row {
+        same: "rules",
+        count: 10,
+        last: PRINTED_SAME_REPORT,
+        code: 2,
+        ..REPORTED
+    },
+    Row {
+        same: "box",
+        count: 11,
+        last: PRINTED_SAME_REPORT,
+        code: 2,
+        ..REPORTED
+    },
+    Row {
+        same: "in",
+        count: 12,
+        last: PRINTED_SAME_REPORT,
+        code: 2,
+        ..REPORTED
+    },
+    Row {
+        same: "out",
+        count: 13,
+        last: PRINTED_SAME_REPORT,
+        code: 2,
+        ..REPORTED
+    },
+    Row {
+        failing: Some((8, io::ErrorKind::NotFound)),
+        same: "out",
+        count: 9,
+        last: "draw keys\ncreate out\nidentify file\nidentify out\ntell nftrun: usage: FILE is the same file as RULES, BOX, IN or OUT\n",
+        code: 2,
+        ..REPORTED
+    },
+    Row {
+        same: "in",
+        file: "out",
+        count: 8,
+        last: PRINTED_SAME_FILE,
+        code: 2,
+        ..REPORTED
+    },
+    Row {
+        same: "/dev/stdout",
+        file: "out",
+        ..REPORTED
+    },
+    Row {
+        same: "out",
+        is_regular: false,
+        ..REPORTED
+    },
+    Row {
+        failing: Some((15, io::ErrorKind::NotFound)),
+        count: 16,
+        last: "create file\nrun rules box to a file\n",
+        ..REPORTED
+    },
+    Row {
+        outcome: Ok(true),
+        last: "run rules box to a file\ntell nftrun: capture torn\n",
+        code: 7,
+        ..REPORTED
+    },
+    Row {
+        outcome: Err(RunFault::Capture(CaptureFault::TornEnd)),
+        last: "run rules box to a file\ntell nftrun: capture P5\n",
+        code: 4,
+        ..REPORTED
+    },
+];
+
+#[test]
+fn the_program_makes_these_calls(rt: HostRuntime) {
+    for row in &ROWS {
+        ends(&rt, *row);
+    }
+    for row in &REPORTS {
+        ends(&rt, *row);
+    }
+}
+
+/// Each call of a run in turn fails.
+fn stops<R: Abort + AllocGlobal>(rt: &R, done: Row, calls: usize) {
+    for call in 0..calls {
+        for (kind, last, code) in [
+            (io::ErrorKind::PermissionDenied, "tell nftrun: device\n", 5),
+            (io::ErrorKind::OutOfMemory, "tell nftrun: memory\n", 6),
+        ] {
+            let row = Row {
+                failing: Some((call, kind)),
+                count: call.saturating_add(1),
+                last,
+                code,
+                ..done
+            };
+            ends(rt, row);
+        }
+    }
+}
+
+#[test]
+fn no_call_follows_one_that_failed(rt: HostRuntime) {
+    stops(&rt, DONE, CALLS.len());
+    stops(&rt, REPORTED, REPORT_CALLS.len());
+}
+
+/// Words, and the paths of the task that they ask for, or the kind and the exit status of the error.
+static WORDS: [(&[&str], Result<&str, (ErrorKind, i32)>); 37] = [
+    (&["nftrun", "check", "r", "b"], Ok("r b")),
+    (&["nftrun", "check", "--all", "r", "b"], Ok("r b all")),
+    (&["nftrun", "check", "r", "b", "--all"], Ok("r b all")),
+    (&["nftrun", "check", "--", "--all", "b"], Ok("--all b")),
+    (
+        &["nftrun", "check", "--all", "r", "b", "--all"],
+        Err((ErrorKind::ArgumentConflict, 2)),
+    ),
+    (
+        &["nftrun", "run", "--all", "r", "b", "i", "o"],
+        Err((ErrorKind::UnknownArgument, 2)),
+    ),
+    (
+        &["nftrun", "check", "--report", "f", "r", "b"],
+        Err((ErrorKind::UnknownArgument, 2)),
+    ),
+    (
+        &["nftrun", "run", "--report", "f", "r", "b", "i", "o"],
+        Ok("r b i o to f"),
+    ),
+    (
+        &["nftrun", "run", "r", "b", "--report=f", "i", "o"],
+        Ok("r b i o to f"),
+    ),
+    (
+        &["nftrun", "run", "r", "b", "i", "o", "--report", "-"],
+        Ok("r b i o to -"),
+    ),
+    (
+        &["nftrun", "run", "--report=--trace", "r", "b", "i", "o"],
+        Ok("r b i o to --trace"),
+    ),
+    (
+        &[
+            "nftrun", "run", "--trace", "r", "--report", "f", "b", "--", "-i", "o",
+        ],
+        Ok("r b -i o traced to f"),
+    ),
+    (
+        &["nftrun", "run", "--", "--report", "f", "i", "o"],
+        Ok("--report f i o"),
+    ),
+    (
+        &["nftrun", "run", "--report", "--", "r", "b", "i", "o"],
+        Err((ErrorKind::InvalidValue, 2)),
+    ),
+    (
+        &["nftrun", "run", "--report", "--trace", "r", "b", "i", "o"],
+        Err((ErrorKind::InvalidValue, 2)),
+    ),
+    (
+        &["nftrun", "run", "r", "b", "i", "o", "--report"],
+        Err((ErrorKind::InvalidValue, 2)),
+    ),
+    (
+        &[
+            "nftrun",
+            "run",
+            "--report",
+            "f",
+            "r",
+            "b",
+            "i",
+            "o",
+            "--report=f",
+        ],
+        Err((ErrorKind::ArgumentConflict, 2)),
+    ),
+    (
+        &["nftrun", "run", "--report", "f", "r", "b", "i"],
+        Err((ErrorKind::MissingRequiredArgument, 2)),
+    ),
+    (&["nftrun", "check", "--", "-r", "b"], Ok("-r b")),
+    (
+        &["nftrun", "check", "r", "b", "i", "o"],
+        Err((ErrorKind::UnknownArgument, 2)),
+    ),
+    (&["nftrun", "run", "r", "b", "i", "o"], Ok("r b i o")),
+    (&["nftrun", "run", "r", "b", "-", "o"], Ok("r b - o")),
+    (
+        &["nftrun", "run", "--", "r", "b", "-i", "--help"],
+        Ok("r b -i --help"),
+    ),
+    (
+        &["nftrun", "run", "--trace", "r", "b", "i", "o"],
+        Ok("r b i o traced"),
+    ),
+    (
+        &["nftrun", "run", "r", "b", "--trace", "i", "o"],
+        Ok("r b i o traced"),
+    ),
+    (
+        &["nftrun", "run", "r", "b", "i", "o", "--trace"],
+        Ok("r b i o traced"),
+    ),
+    (
+        &["nftrun", "run", "--trace", "--", "-r", "b", "i", "o"],
+        Ok("-r b i o traced"),
+    ),
+    (
+        &["nftrun", "run", "--", "--trace", "b", "i", "o"],
+        Ok("--trace b i o"),
+    ),
+    (
+        &["nftrun", "run", "--trace", "r", "b", "i", "o", "--trace"],
+        Err((ErrorKind::ArgumentConflict, 2)),
+    ),
+    (
+        &["nftrun", "check", "--trace", "r", "b"],
+        Err((ErrorKind::UnknownArgument, 2)),
+    ),
+    (&["nftrun"], Err((ErrorKind::MissingSubcommand, 2))),
+    (
+        &["nftrun", "run", "r"],
+        Err((ErrorKind::MissingRequiredArgument, 2)),
+    ),
+    (&["nftrun", "explain", "E05"], Ok("E05")),
+    (
+        &["nftrun", "explain"],
+        Err((ErrorKind::MissingRequiredArgument, 2)),
+    ),
+    (
+        &["nftrun", "--version"],
+        Err((ErrorKind::DisplayVersion, 0)),
+    ),
+    (&["nftrun", "--help"], Err((ErrorKind::DisplayHelp, 0))),
+    (
+        &["nftrun", "run", "--help"],
+        Err((ErrorKind::DisplayHelp, 0)),
+    ),
+];
+
+/// A task and its words, in one line.
+fn shown(alloc: Global, task: &Task<'_>) -> Result<String, AllocError> {
+    match task {
+        Task::Run(task) => {
+            let paths = task.paths;
+            let end = if task.trace { " traced" } else { "" };
+            let to = if task.report.is_some() { " to " } else { "" };
+            let file = task.report.unwrap_or("");
+            format!(in alloc;
+                "{} {} {} {}{end}{to}{file}",
+                paths.rules, paths.plant, paths.input, paths.output
+            )
+        }
+        Task::Check(task) => {
+            let end = if task.all { " all" } else { "" };
+            format!(in alloc; "{} {}{end}", task.texts.rules, task.texts.plant)
+        }
+        Task::Explain(code) => String::from_str(alloc, *code),
+    }
+}
+
+/// Whether the help of `run` names its paths, if that is what is told.
+fn names_paths(alloc: Global, words: &[&str], error: &Error) -> Result<bool, AllocError> {
+    let text = format!(in alloc; "{error}")?;
+    let is_help_of_run = words.len() == 3 && error.exit_code() == 0;
+    Ok(!is_help_of_run || text.contains("<RULES> <BOX> <IN> <OUT>"))
+}
+
+#[test]
+fn words_ask_for_a_task_or_are_refused(rt: HostRuntime) {
+    for (words, wanted) in &WORDS {
+        match read_task(rt.alloc(), words) {
+            Ok(task) => {
+                let text = shown(rt.alloc(), &task).expect(&rt, "memory");
+                assert!(&rt; *wanted == Ok(text.as_str()), "{text}");
+            }
+            Err(error) => {
+                assert!(&rt; *wanted == Err((error.kind(), error.exit_code())));
+                let is_named = names_paths(rt.alloc(), words, &error);
+                assert!(&rt; is_named.expect(&rt, "memory"));
+            }
+        }
+    }
+}
+
+/// Each status, the line that the program can print, and the exit status.
+static STATUSES: [(Status, &str, u8); 28] = [
+    (Status::Success, "nftrun: done", 0),
+    (
+        Status::Rules(RulesFault::Text(TextFault::Lexical(LexFault::Byte { line: 1 }))),
+        "nftrun: rules E01",
+        1,
+    ),
+    (
+        Status::Rules(RulesFault::Text(TextFault::Lexical(LexFault::OpenString { line: 1 }))),
+        "nftrun: rules E02",
+        1,
+    ),
+    (
+        Status::Rules(RulesFault::Text(TextFault::Lexical(LexFault::Number { line: 1 }))),
+        "nftrun: rules E03",
+        1,
+    ),
+    (
+        Status::Rules(RulesFault::Text(TextFault::Lexical(LexFault::TooLong))),
+        "nftrun: rules E04",
+        1,
+    ),
+    (
+        Status::Rules(RulesFault::Text(TextFault::Syntax)),
+        "nftrun: rules E05",
+        1,
+    ),
+    (
+        Status::Rules(RulesFault::Text(TextFault::Unsupported)),
+        "nftrun: rules E06",
+        1,
+    ),
+    (
+        Status::Rules(RulesFault::Check(CheckFault::TooCostly)),
+        "nftrun: rules N06",
+        1,
+    ),
+    (
+        Status::Rules(RulesFault::Check(CheckFault::TooLarge)),
+        "nftrun: rules N15",
+        1,
+    ),
+    (Status::Usage, "nftrun: usage", 2),
+    (Status::NotUtf8, "nftrun: usage: a word isn't UTF-8", 2),
+    (Status::SameFile, SAME_FILE, 2),
+    (Status::SameReport, SAME_REPORT, 2),
+    (Status::UnknownCode, NO_CODE, 2),
+    (Status::Box(BoxFault::Form), "nftrun: box B1", 3),
+    (Status::Box(BoxFault::Repeated), "nftrun: box B2", 3),
+    (Status::Box(BoxFault::UnknownName), "nftrun: box B3", 3),
+    (Status::Box(BoxFault::TooLarge), "nftrun: box B4", 3),
+    (Status::Box(BoxFault::OutOfRange), "nftrun: box B5", 3),
+    (
+        Status::Capture(CaptureFault::Magic),
+        "nftrun: capture P1",
+        4,
+    ),
+    (
+        Status::Capture(CaptureFault::Version),
+        "nftrun: capture P2",
+        4,
+    ),
+    (
+        Status::Capture(CaptureFault::LinkType),
+        "nftrun: capture P3",
+        4,
+    ),
+    (
+        Status::Capture(CaptureFault::Malformed),
+        "nftrun: capture P4",
+        4,
+    ),
+    (
+        Status::Capture(CaptureFault::TornEnd),
+        "nftrun: capture P5",
+        4,
+    ),
+    (
+        Status::Capture(CaptureFault::TooMany),
+        "nftrun: capture P7",
+        4,
+    ),
+    (Status::Device, "nftrun: device", 5),
+    (Status::Memory, "nftrun: memory", 6),
+    (Status::Torn, "nftrun: capture torn", 7),
+];
+
+#[test]
+fn each_status_has_its_line_and_its_code(rt: HostRuntime) {
+    for (status, line, code) in &STATUSES {
+        shows(&rt, *status, line);
+        assert!(&rt; status.code() == *code, "{line}");
+    }
+}

@@ -1,0 +1,235 @@
+//! A record that a step was refused memory for is stepped again. Nothing is refused here: `bench/refuse` runs
+//! this test over and over, and refuses each request of its steps in turn.
+ghost use Rattle.std.specs.Prelude.{◌<◌};
+
+use crate::device_failures::{ROWS, Row};
+use crate::support::{BOX, bytes, hasher, no_failures, run_over};
+use aged_tracker::AgedTracker;
+use box_file::Plant;
+use conntrack::Connection;
+use nft_parser::parse;
+use nft_tree::Ruleset;
+use pcap_io::{Capture, Counted, Record, Sink};
+use program::Status;
+use report::Report;
+use rule_check::check;
+use std::alloc::{AllocError, Global};
+use std::fs;
+use std::process::Abort;
+use std::rt::Files;
+use stepping::Engine;
+
+/// The greatest number of records in a capture.
+const MOST_RECORDS: u64 = 4_294_967_296;
+
+/// What an engine tells between two records.
+#[derive(Drop)]
+struct EngineState {
+    records: u64,
+    /// The number and the length of the last record, how many events it made, and whether it began a connection.
+    entry: Option<(u64, u16, usize, bool)>,
+    packet: Vec<u8>,
+    connections: Vec<Connection>,
+}
+
+fn state_of(alloc: Global, engine: &Engine<AgedTracker>) -> Result<EngineState, AllocError> {
+    let entry = match engine.entry() {
+        Some(entry) => Some((entry.number, entry.length, entry.events.len(), entry.begun)),
+        None => None,
+    };
+    Ok(EngineState {
+        records: engine.records(),
+        entry,
+        packet: engine.packet().to_vec(alloc)?,
+        connections: engine.connections(alloc)?,
+    })
+}
+
+fn is_same(one: &EngineState, other: &EngineState) -> bool {
+    one.records == other.records
+        && one.entry == other.entry
+        && one.packet == other.packet
+        && one.connections == other.connections
+}
+
+/// Steps the record, and tells whether there was memory to take it. A file is opened before and behind the
+/// step, by which `bench/refuse` knows its requests from all others.
+fn try_step<R: Abort + AllocGlobal + Files>(
+    rt: &R,
+    engine: &mut Engine<AgedTracker>,
+    record: &Record,
+) -> bool
+    requires few { engine.old.records < 4294967296 }
+{
+    fs::open(rt, "/dev/null").expect(rt, "a file");
+    let is_taken = engine.step(record).is_ok();
+    fs::open(rt, "/dev/null").expect(rt, "a file");
+    is_taken
+}
+
+/// The engine tells what it told before.
+fn has_not_changed<R: Abort + AllocGlobal>(
+    rt: &R,
+    engine: &Engine<AgedTracker>,
+    before: &EngineState,
+) {
+    let after = state_of(rt.alloc(), engine).expect(rt, "memory");
+    assert!(rt; is_same(before, &after));
+}
+
+/// Steps the record, and once more where there was no memory to take it: the engine tells then what it told
+/// before.
+fn step_again<R: Abort + AllocGlobal + Files>(
+    rt: &R,
+    engine: &mut Engine<AgedTracker>,
+    record: &Record,
+)
+    requires few { engine.old.records < 4294967296 }
+{
+    let before = state_of(rt.alloc(), engine).expect(rt, "memory");
+    if try_step(rt, engine, record) {
+        return;
+    }
+    has_not_changed(rt, engine, &before);
+    if engine.records() < MOST_RECORDS {
+        engine.step(record).expect(rt, "memory");
+    }
+}
+
+/// What a run writes.
+#[derive(Drop)]
+struct Outputs {
+    report: Report,
+    sink: Sink,
+    sent: Counted<Vec<u8>>,
+}
+
+impl Outputs {
+    /// Before the first record.
+    fn open<R: Abort + AllocGlobal>(rt: &R, rules: &Ruleset, trace: bool) -> Self {
+        let mut sent = Counted::new(Vec::new(rt.alloc()));
+        Outputs {
+            report: Report::new(rt.alloc(), rules, trace).expect(rt, "memory"),
+            sink: Sink::open(rt.alloc(), &mut sent).expect(rt, "a write"),
+            sent,
+        }
+    }
+
+    /// The packets that were written.
+    fn packets(self) -> Vec<u8> {
+        self.sent.into_inner()
+    }
+}
+
+/// A run among its records.
+#[derive(Drop)]
+struct Replayed {
+    engine: Engine<AgedTracker>,
+    outputs: Outputs,
+}
+
+impl Replayed {
+    /// Before the first record.
+    fn new<R: Abort + AllocGlobal>(rt: &R, engine: Engine<AgedTracker>, trace: bool) -> Self {
+        let outputs = Outputs::open(rt, engine.rules(), trace);
+        Replayed { engine, outputs }
+    }
+
+    /// Steps the record, notes what is told of it, and puts the packet that it sends on.
+    fn take<R: Abort + AllocGlobal + Files>(&mut self, rt: &R, record: &Record) {
+        if self.engine.records() < MOST_RECORDS && self.outputs.report.records() < MOST_RECORDS {
+            step_again(rt, &mut self.engine, record);
+            if let Some(entry) = self.engine.entry() {
+                self.outputs.report.note(&entry).expect(rt, "room");
+            }
+            if let Some(leaving) = self.engine.leaving() {
+                let put = self.outputs.sink.put(&mut self.outputs.sent, &leaving);
+                put.expect(rt, "a write");
+            }
+        }
+    }
+
+    /// Takes each record of the capture, of which no row has so many as 9, and tells whether its end is torn.
+    fn take_all<R: Abort + AllocGlobal + Files>(&mut self, rt: &R, capture: &[u8]) -> bool {
+        let mut reader = Counted::new(capture);
+        let mut records = Capture::open(rt.alloc(), &mut reader).expect(rt, "a capture");
+        for _ in 0..9u8 {
+            if records.next(&mut reader) != Ok(true) {
+                break;
+            }
+            if let Some(record) = records.record() {
+                self.take(rt, &record);
+            }
+        }
+        records.next(&mut reader).is_err()
+    }
+
+    /// The report of the whole run.
+    fn report_bytes<R: Abort + AllocGlobal>(&mut self, rt: &R, torn: bool) -> Vec<u8> {
+        let finished = self.outputs.sink.finish(&mut self.outputs.sent);
+        finished.expect(rt, "a write");
+        let mut report_bytes = Counted::new(Vec::new(rt.alloc()));
+        let live = self.engine.live() as u64;
+        let rules = self.engine.rules();
+        let written = self
+            .outputs
+            .report
+            .lines(rules, live, torn, &mut report_bytes);
+        written.expect(rt, "a write");
+        report_bytes.into_inner()
+    }
+
+    /// The packets that it has sent.
+    fn packets(self) -> Vec<u8> {
+        self.outputs.packets()
+    }
+
+    /// The report of a capture.
+    fn replay<R: Abort + AllocGlobal + Files>(&mut self, rt: &R, capture: &[u8]) -> Vec<u8> {
+        let torn = self.take_all(rt, capture);
+        self.report_bytes(rt, torn)
+    }
+}
+
+/// The box with the row's rules, before its first record.
+fn started<R: Abort + AllocGlobal>(rt: &R, row: &Row) -> Engine<AgedTracker> {
+    let hasher = hasher().expect(rt, "keys");
+    let tree = parse(rt.alloc(), row.rules).expect(rt, "rules");
+    let plant = Plant::read(rt.alloc(), BOX).expect(rt, "a box");
+    let checked = check(rt.alloc(), tree, plant).expect(rt, "an accepted ruleset");
+    Engine::new(rt.alloc(), hasher, checked).expect(rt, "memory")
+}
+
+/// The packets that leave, and the report, where the row's records are stepped so.
+fn packets_and_report<R: Abort + AllocGlobal + Files>(
+    rt: &R,
+    row: &Row,
+    capture: &[u8],
+) -> (Vec<u8>, Vec<u8>) {
+    let mut replayed = Replayed::new(rt, started(rt, row), row.trace);
+    let report_bytes = replayed.replay(rt, capture);
+    (replayed.packets(), report_bytes)
+}
+
+/// The packets and the report are those of a run.
+fn replays<R: Abort + AllocGlobal + Files>(rt: &R, row: &Row) {
+    let capture = bytes(rt.alloc(), row.capture).expect(rt, "a capture");
+    let whole = run_over(
+        rt.alloc(),
+        row.rules,
+        BOX,
+        &capture,
+        row.trace,
+        no_failures(99),
+    );
+    assert!(rt; !matches!(whole.status, Status::Memory));
+    let (sent, report_bytes) = packets_and_report(rt, row, &capture);
+    assert!(rt; sent == whole.sent && report_bytes == whole.report);
+}
+
+#[test]
+fn a_refused_record_is_retried(rt: HostRuntime) {
+    for row in &ROWS {
+        replays(&rt, row);
+    }
+}

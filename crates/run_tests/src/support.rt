@@ -1,0 +1,236 @@
+//! What tests share: a packet and its records, texts of pieces, runs with slow and failing calls, and the
+//! line of a status.
+use engine::{RunFault, run};
+use hex::FromHexError;
+use pcap_io::{Calls, Counted, Slow};
+use program::Status;
+use std::alloc::Global;
+use std::hash::RandomState;
+use std::io;
+use std::io::{ErrorKind, Read, Write};
+use std::process::Abort;
+use std::random::RandomSource;
+
+pub const BOX: &[u8] = b"interface 2 lan 192.168.1.1/24
+interface 3 wan 203.0.113.1/24
+route 0.0.0.0/0 wan
+default lan
+";
+
+/// Magic a1b2c3d4, which tells microseconds, version 2.4, LINKTYPE_RAW.
+pub const HEADER: &str = "d4c3b2a1020004000000000000000000ffff000065000000";
+
+/// Magic a1b23c4d, which tells nanoseconds, version 2.4, snaplen 262,144, LINKTYPE_LINUX_SLL2.
+pub const OUT_HEADER: &str = "4d3cb2a10200040000000000000000000000040014010000";
+
+/// At 1 s 500000 microseconds, 28 bytes.
+pub const AT_1_5: &str = "0100000020a107001c0000001c000000";
+
+/// UDP from 192.168.1.10:5000 to 198.51.100.7:53, TTL 64.
+pub const PLAIN: &str = "4500001c0001000040118ee3c0a8010ac63364071388003500080000";
+
+/// At 1 s 500000000 nanoseconds, 48 bytes, by interface 3.
+pub const OUT_AT_1_5: &str =
+    "010000000065cd1d30000000300000000800000000000003000104000000000000000000";
+
+/// `PLAIN` with TTL 63.
+pub const PLAIN_OUT: &str = "4500001c000100003f118fe3c0a8010ac63364071388003500080000";
+
+/// The bytes of these hexadecimal texts, one after another.
+pub fn bytes(alloc: Global, parts: &[&str]) -> Result<Vec<u8>, FromHexError> {
+    hex::decode(alloc, parts.concat(alloc)?)
+}
+
+/// A status has this line.
+pub fn shows<R: Abort + AllocGlobal>(rt: &R, status: Status, line: &str) {
+    let text = format!(in rt.alloc(); "{status}").expect(rt, "memory");
+    assert!(rt; text.as_str() == line, "{text}");
+}
+
+/// Leaves bytes as they are, so that the keys are the same in each run.
+struct Fixed;
+
+impl RandomSource for Fixed {
+    fn fill_bytes(&self, _buf: &mut [u8]) -> io::Result<()> {
+        Ok(())
+    }
+}
+
+/// The keys by which tests hash. No answer depends on them.
+pub fn hasher() -> io::Result<RandomState> {
+    RandomState::new(&Fixed)
+}
+
+/// How a call fails.
+#[derive(Clone, Copy)]
+pub enum Fault {
+    /// With an error of this kind.
+    Error(ErrorKind),
+    /// A write takes no byte.
+    NoByte,
+}
+
+/// Works for so many calls (reads, writes and flushes), and then fails once. What it holds isn't told
+/// to the prover.
+#[derive(Drop)]
+struct Faulty<T> {
+    inner: T,
+    /// The greatest once it has failed.
+    calls: usize,
+    fault: Fault,
+}
+
+impl<T> Faulty<T> {
+    /// Why this call fails, where it is the one that does.
+    fn fails(&mut self) -> Option<Fault> {
+        if self.calls == 0 {
+            self.calls = usize::MAX;
+            return Some(self.fault);
+        }
+        self.calls -= 1;
+        None
+    }
+}
+
+/// The error of a call that fails.
+fn error_of(fault: Fault) -> io::Error {
+    match fault {
+        Fault::Error(kind) => io::Error::from(kind),
+        Fault::NoByte => io::Error::from(ErrorKind::WriteZero),
+    }
+}
+
+impl<R: Read> Read for Faulty<R> {
+    fn read(&mut self, buf: &mut [u8]) -> io::Result<usize> {
+        match self.fails() {
+            Some(fault) => Err(error_of(fault)),
+            None => self.inner.read(buf),
+        }
+    }
+}
+
+impl<W: Write> Write for Faulty<W> {
+    fn write(&mut self, buf: &[u8]) -> io::Result<usize> {
+        match self.fails() {
+            Some(Fault::NoByte) => Ok(0),
+            Some(fault) => Err(error_of(fault)),
+            None => self.inner.write(buf),
+        }
+    }
+
+    fn flush(&mut self) -> io::Result<()> {
+        match self.fails() {
+            Some(fault) => Err(error_of(fault)),
+            None => self.inner.flush(),
+        }
+    }
+}
+
+/// How the reader and the two writers work.
+#[derive(Clone, Copy)]
+pub struct DeviceSettings {
+    /// At most so many bytes a call.
+    pub most: usize,
+    /// After so many calls one fails: of the reader, the writer of packets, the writer of the report,
+    pub calls: [usize; 3],
+    /// and so.
+    pub fault: Fault,
+}
+
+/// All calls work.
+pub fn no_failures(most: usize) -> DeviceSettings {
+    DeviceSettings {
+        most,
+        calls: [usize::MAX; 3],
+        fault: Fault::NoByte,
+    }
+}
+
+/// What a run gives.
+pub struct RunResult {
+    /// What the program would end with.
+    pub status: Status,
+    /// What the writer of packets holds.
+    pub sent: Vec<u8>,
+    /// What the writer of the report holds.
+    pub report: Vec<u8>,
+    /// How many calls failed, of all three.
+    pub failures: [u64; 3],
+    /// How many calls of each there were, flushes too.
+    pub calls: [u64; 3],
+}
+
+// Written out, so that dropping one is a call.
+impl Drop for RunResult {
+    fn drop(self) {
+        let RunResult {
+            status: _,
+            sent: _,
+            report: _,
+            failures: _,
+            calls: _,
+        } = self;
+    }
+}
+
+/// This reader or writer, of which one call fails.
+fn device<T>(
+    inner: T,
+    device_settings: DeviceSettings,
+    calls: usize,
+) -> Counted<Calls<Faulty<Slow<T>>>> {
+    Counted::new(Calls::new(Faulty {
+        inner: Slow::new(inner, device_settings.most),
+        calls,
+        fault: device_settings.fault,
+    }))
+}
+
+/// What a writer holds.
+fn held(writer: Calls<Faulty<Slow<Vec<u8>>>>) -> Vec<u8> {
+    writer.into_inner().inner.into_inner()
+}
+
+/// A run of these rules on this box over this capture.
+pub fn run_over(
+    alloc: Global,
+    rules: &[u8],
+    plant: &[u8],
+    capture: &[u8],
+    trace: bool,
+    device_settings: DeviceSettings,
+) -> RunResult {
+    let [reads, sends, reports] = device_settings.calls;
+    let mut reader = device(capture, device_settings, reads);
+    let mut sent = device(Vec::new(alloc), device_settings, sends);
+    let mut report = device(Vec::new(alloc), device_settings, reports);
+    let answer = match hasher() {
+        Ok(hasher) => run(
+            alloc,
+            hasher,
+            rules,
+            plant,
+            &mut reader,
+            &mut sent,
+            &mut report,
+            trace,
+        ),
+        Err(_) => Err(RunFault::Device),
+    };
+    let status = match answer {
+        Ok(summary) => Status::of(Ok(summary.torn)),
+        Err(fault) => Status::of(Err(&fault)),
+    };
+    let failures = [reader.failures(), sent.failures(), report.failures()];
+    let reader = reader.into_inner();
+    let sent = sent.into_inner();
+    let report = report.into_inner();
+    let calls = [reader.calls(), sent.calls(), report.calls()];
+    RunResult {
+        status,
+        sent: held(sent),
+        report: held(report),
+        failures,
+        calls,
+    }
+}

@@ -1,0 +1,61 @@
+-- What happens in the first table, and how it ends.
+use Rattle.std.specs.Prelude.{ℕ, List, [], ◌∷◌}
+use Rattle.nft_tree.specs.declared.ruleset.RuleNo.{RuleNo}
+use Rattle.nft_tree.specs.declared.chain.Policy.{Policy}
+use Rattle.nft_tree.specs.declared.chain.Policy.TheVariants as policies
+use Rattle.nft_tree.specs.Tree as tree
+use Rattle.nft_tree.specs.Tree.{MatchTree, Statement, ItemTree}
+use Rattle.rule_meaning.specs.declared.facts.Facts.{Facts}
+use Rattle.rule_meaning.specs.declared.event.StatementPosition.{StatementPosition}
+use Rattle.rule_meaning.specs.declared.event.RuleVerdict.{RuleVerdict}
+use Rattle.rule_meaning.specs.declared.event.RuleVerdict.TheVariants as rule_verdicts
+use Rattle.rule_meaning.specs.declared.event.NatAction.{NatAction}
+use Rattle.rule_meaning.specs.declared.event.Event.{Event}
+use Rattle.rule_meaning.specs.declared.event.Event.TheVariants as events
+use Rattle.rule_meaning.specs.declared.event.HookVerdict.TheVariants as endings
+use Rattle.rule_meaning.specs.Hooks.{HookResult, Forward}
+use Rattle.semantics_examples.specs.Fixtures.{box, one_table, forwards, drop}
+
+-- rule n of chain c, and its statement k
+abbrev pub rule : ℕ → ℕ → RuleNo
+rule c n = record { table = 0; chain = c; rule = n }
+
+abbrev pub statement_position : ℕ → ℕ → ℕ → StatementPosition
+statement_position c n k = record { rule = rule c n; statement = k }
+
+abbrev pub counted : ℕ → ℕ → ℕ → Event
+counted c n k = events.Counted (statement_position c n k)
+
+abbrev pub took : ℕ → ℕ → RuleVerdict → Event
+took c n d = events.TookVerdict (rule c n) d
+
+abbrev pub closed : ℕ → Policy → Event
+closed c policy = events.TookPolicy (record { table = 0; chain = c }) policy
+
+abbrev pub accepted : Facts → List Event → HookResult
+accepted f es = record { verdict = endings.Accepted; facts = f; events = es }
+
+abbrev pub dropped : Facts → List Event → HookResult
+dropped f es = record { verdict = endings.Dropped; facts = f; events = es }
+
+abbrev pub translated : NatAction → Facts → List Event → HookResult
+translated t f es = record { verdict = endings.Translated t; facts = f; events = es }
+
+-- ---- one rule on forward
+
+-- `MATCH drop`, beside items: the packet is dropped; it isn't
+abbrev pub DropsBeside : List ItemTree → MatchTree → Facts → Type 0
+DropsBeside items m f =
+    Forward box (one_table (forwards policies.Accept ((tree.matching m ∷ drop ∷ []) ∷ []) ∷ items)) f []
+    (dropped f (took 0 1 rule_verdicts.Drop ∷ []))
+
+abbrev pub PassesBeside : List ItemTree → MatchTree → Facts → Type 0
+PassesBeside items m f =
+    Forward box (one_table (forwards policies.Accept ((tree.matching m ∷ drop ∷ []) ∷ []) ∷ items)) f []
+    (accepted f (closed 0 policies.Accept ∷ []))
+
+abbrev pub Drops : MatchTree → Facts → Type 0
+Drops = DropsBeside []
+
+abbrev pub Passes : MatchTree → Facts → Type 0
+Passes = PassesBeside []

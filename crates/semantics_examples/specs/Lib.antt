@@ -1,0 +1,3 @@
+pub mod Fixtures
+pub mod Expected
+pub mod Examples

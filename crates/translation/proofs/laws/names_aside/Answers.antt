@@ -1,5 +1,0 @@
-use Rattle.translation.proofs.Names.{same_mappings}
-use Rattle.translation.proofs.laws.names_aside.Goals as goal
-
-pub returns : goal.returns
-returns c = same_mappings

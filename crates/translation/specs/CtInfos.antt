@@ -1,0 +1,224 @@
+-- How a packet stands to connections, between which endpoints it goes by now, and what rules may read of that.
+use Rattle.std.specs.Prelude.{ℕ, Bool, false, not, ◌||◌, ◌==◌, if◌then◌else◌, List, Some, None}
+use Rattle.ip_headers.specs.declared.transport.Transport.{Transport}
+use Rattle.ip_headers.specs.declared.transport.Transport.TheVariants as transports
+use Rattle.ip_headers.specs.declared.tuple.Endpoint.{Endpoint}
+use Rattle.ip_headers.specs.declared.tuple.Tuple.{Tuple}
+use Rattle.ip_headers.specs.Header.{source, destination}
+use Rattle.ip_headers.specs.Same.{same_endpoint}
+use Rattle.ip_headers.specs.Tuple.{inverse}
+use Rattle.rewrite.specs.declared.change.Change.{Change}
+use Rattle.rewrite.specs.Endpoints.{between}
+use Rattle.conntrack.specs.declared.belonging.Belonging.{Belonging}
+use Rattle.conntrack.specs.declared.belonging.Belonging.TheVariants.{Found}
+use Rattle.conntrack.specs.declared.belonging.ConnectionRef.{ConnectionRef}
+use Rattle.conntrack.specs.declared.belonging.LookupState.{LookupState}
+use Rattle.conntrack.specs.declared.belonging.LookupState.TheVariants as connection_states
+use Rattle.conntrack.specs.declared.connection.Direction.{Direction}
+use Rattle.conntrack.specs.declared.connection.Direction.TheVariants as sides
+use Rattle.conntrack.specs.ConntrackEntry.{first_state, is_reply}
+use Rattle.rule_meaning.specs.declared.facts.Facts.{Facts}
+use Rattle.rule_meaning.specs.declared.facts.Packet.{Packet}
+use Rattle.rule_meaning.specs.declared.facts.ConnectionFacts.{ConnectionFacts}
+use Rattle.rule_meaning.specs.declared.facts.CtState.{CtState}
+use Rattle.rule_meaning.specs.declared.facts.CtState.TheVariants as states
+use Rattle.rule_meaning.specs.declared.facts.CtDirection as facts_direction
+use Rattle.rule_meaning.specs.declared.facts.CtDirection.TheVariants as directions
+use Rattle.rule_meaning.specs.declared.facts.CtFacts.{CtFacts}
+use Rattle.rule_meaning.specs.declared.facts.CtFacts.TheVariants.{NotLookedUp, Notrack, Invalid, Known}
+use Rattle.rule_meaning.specs.declared.facts.CtFacts.TheVariants as trackings
+use Rattle.translation.specs.declared.ct_info.NewConnection.{NewConnection}
+use Rattle.translation.specs.declared.ct_info.TrackedConnection.{TrackedConnection}
+use Rattle.translation.specs.declared.ct_info.CtInfo.{CtInfo}
+use Rattle.translation.specs.declared.ct_info.CtInfo.TheVariants.{Tracked, Related, New, Invalid, Untracked}
+
+-- ---- the tuples of a connection
+
+-- with this one the packets of a direction come
+abbrev pub incoming_by : Direction → Tuple → Tuple → Tuple
+incoming_by sides.Original original reply = original
+incoming_by sides.Reply original reply = reply
+
+abbrev pub incoming : TrackedConnection → Tuple
+incoming connection = incoming_by connection.direction connection.original connection.reply
+
+-- with this one the packets of a direction leave: the inverse of the one with which those of the other direction come
+abbrev pub outgoing_by : Direction → Tuple → Tuple → Tuple
+outgoing_by sides.Original original reply = inverse reply
+outgoing_by sides.Reply original reply = inverse original
+
+abbrev pub outgoing : TrackedConnection → Tuple
+outgoing connection = outgoing_by connection.direction connection.original connection.reply
+
+-- ---- how a packet stands to connections
+
+-- as one of its connection, whatever that is called
+abbrev pub tracked_connection : ConnectionRef → TrackedConnection
+tracked_connection found = record {
+  direction = found.direction;
+  original = found.original;
+  reply = found.reply;
+  mark = found.mark;
+  replied = found.replied;
+}
+
+-- nothing is translated yet
+abbrev pub new_connection_of : Tuple → NewConnection
+new_connection_of t = record { original = t; tuple = t; source = None; has_port_range = false; dest = None }
+
+-- the first packet of a connection is one of which a connection may begin; an answer to no ask is neither
+abbrev pub new_ct_info : LookupState → Tuple → CtInfo
+new_ct_info connection_states.New t = New (new_connection_of t)
+new_ct_info connection_states.Established t = Invalid
+new_ct_info connection_states.Invalid t = Invalid
+
+abbrev pub ct_info_by : Tuple → Belonging → CtInfo
+ct_info_by t (Found found) = Tracked (tracked_connection found)
+ct_info_by t other = new_ct_info (first_state t.kind) t
+
+-- an ICMP error is about a packet of a connection where the way back of that packet is one of the connection
+-- (RFC 5508, section 4.2); else it is of none
+abbrev pub error_ct_info : Belonging → CtInfo
+error_ct_info (Found found) = Related (tracked_connection found)
+error_ct_info other = Invalid
+
+-- as it was when it was found, before anything was translated
+abbrev pub untranslated : CtInfo → CtInfo
+untranslated (Tracked connection) = Tracked connection
+untranslated (Related connection) = Related connection
+untranslated (New new_connection) = New (new_connection_of new_connection.original)
+untranslated Invalid = Invalid
+untranslated Untracked = Untracked
+
+-- ---- what rules may read of its connection (nft(8), "Conntrack expressions")
+
+abbrev pub direction_of : Direction → facts_direction.CtDirection
+direction_of sides.Original = directions.Original
+direction_of sides.Reply = directions.Reply
+
+-- it is a reply, or comes after one
+abbrev pub is_reply_seen : TrackedConnection → Bool
+is_reply_seen connection = is_reply connection.direction || connection.replied
+
+-- of the connection that it belongs to: in direction original its packets leave with the inverse of the reply tuple, so
+-- an end is translated where that differs from the one received
+abbrev pub known_ct_facts : CtState → Bool → TrackedConnection → CtFacts
+known_ct_facts state seen_reply connection = Known (record {
+  state = state;
+  direction = direction_of connection.direction;
+  mark = connection.mark;
+  seen_reply = seen_reply;
+  source_translated = not (same_endpoint (inverse connection.reply).source connection.original.source);
+  destination_translated = not (same_endpoint (inverse connection.reply).destination connection.original.destination);
+})
+
+-- of the one that it is to begin: an end is translated where it is another by now than the one received
+abbrev pub with_nat_status : NewConnection → ConnectionFacts → ConnectionFacts
+with_nat_status new_connection c = record c {
+  source_translated = not (same_endpoint new_connection.tuple.source new_connection.original.source);
+  destination_translated = not (same_endpoint new_connection.tuple.destination new_connection.original.destination);
+}
+
+abbrev pub new_ct_facts : NewConnection → ConnectionFacts
+new_ct_facts new_connection = with_nat_status new_connection (record {
+  state = states.New;
+  direction = directions.Original;
+  mark = 0;
+  seen_reply = false;
+  source_translated = false;
+  destination_translated = false;
+})
+
+abbrev pub ct_facts_of : CtInfo → CtFacts
+ct_facts_of (Tracked connection) = known_ct_facts (if is_reply_seen connection then states.Established else states.New) (is_reply_seen connection) connection
+-- an error isn't a reply itself
+ct_facts_of (Related connection) = known_ct_facts states.Related connection.replied connection
+ct_facts_of (New new_connection) = Known (new_ct_facts new_connection)
+ct_facts_of Invalid = Invalid
+ct_facts_of Untracked = trackings.Untracked
+
+-- once a packet that is to begin a connection was translated: what rules wrote stays
+abbrev pub ct_facts_after_nat : CtInfo → CtFacts → CtFacts
+ct_facts_after_nat (New new_connection) (Known c) = Known (with_nat_status new_connection c)
+ct_facts_after_nat (New new_connection) NotLookedUp = NotLookedUp
+ct_facts_after_nat (New new_connection) Notrack = Notrack
+ct_facts_after_nat (New new_connection) trackings.Untracked = trackings.Untracked
+ct_facts_after_nat (New new_connection) Invalid = Invalid
+ct_facts_after_nat (Tracked connection) ct = ct
+ct_facts_after_nat (Related connection) ct = ct
+ct_facts_after_nat Invalid ct = ct
+ct_facts_after_nat Untracked ct = ct
+
+-- ---- what rules may read of its headers
+
+abbrev pub with_source_port : ℕ → Transport → Transport
+with_source_port port (transports.Tcp from to bits) = transports.Tcp port to bits
+with_source_port port (transports.Udp from to) = transports.Udp port to
+with_source_port port (transports.Icmp message) = transports.Icmp message
+with_source_port port transports.Other = transports.Other
+
+abbrev pub with_destination_port : ℕ → Transport → Transport
+with_destination_port port (transports.Tcp from to bits) = transports.Tcp from port bits
+with_destination_port port (transports.Udp from to) = transports.Udp from port
+with_destination_port port (transports.Icmp message) = transports.Icmp message
+with_destination_port port transports.Other = transports.Other
+
+abbrev pub with_source : Endpoint → Packet → Packet
+with_source e p = record p { source = e.address; transport = with_source_port e.port p.transport }
+
+abbrev pub with_destination : Endpoint → Packet → Packet
+with_destination e p = record p { destination = e.address; transport = with_destination_port e.port p.transport }
+
+-- an error comes from a host on the way, and goes to the one that sent the packet: its own addresses are translated
+-- where they are those of its connection's packets (RFC 5508, section 4.2)
+abbrev pub outer_source : TrackedConnection → ℕ → ℕ
+outer_source connection address = if address == (incoming connection).source.address then (outgoing connection).source.address else address
+
+abbrev pub outer_destination : TrackedConnection → ℕ → ℕ
+outer_destination connection address =
+    if address == (incoming connection).destination.address then (outgoing connection).destination.address else address
+
+-- going to where its connection leads by now
+abbrev pub packet_after_destination_nat : CtInfo → Packet → Packet
+packet_after_destination_nat (Tracked connection) p = with_destination (outgoing connection).destination p
+packet_after_destination_nat (Related connection) p = record p { destination = outer_destination connection p.destination }
+packet_after_destination_nat (New new_connection) p = with_destination new_connection.tuple.destination p
+packet_after_destination_nat Invalid p = p
+packet_after_destination_nat Untracked p = p
+
+-- coming from where its connection begins by now
+abbrev pub packet_after_source_nat : CtInfo → Packet → Packet
+packet_after_source_nat (Tracked connection) p = with_source (outgoing connection).source p
+packet_after_source_nat (Related connection) p = record p { source = outer_source connection p.source }
+packet_after_source_nat (New new_connection) p = with_source new_connection.tuple.source p
+packet_after_source_nat Invalid p = p
+packet_after_source_nat Untracked p = p
+
+-- once its destination was translated
+abbrev pub facts_after_destination_nat : CtInfo → Facts → Facts
+facts_after_destination_nat info f = record f { packet = packet_after_destination_nat info f.packet; ct = ct_facts_after_nat info f.ct }
+
+-- once its source was translated
+abbrev pub facts_after_source_nat : CtInfo → Facts → Facts
+facts_after_source_nat info f = record f { packet = packet_after_source_nat info f.packet; ct = ct_facts_after_nat info f.ct }
+
+-- ---- what becomes of its bytes
+
+-- nothing but its TTL is another
+abbrev pub ttl_only : ℕ → Change
+ttl_only ttl = record { source = None; destination = None; numbers = None; ttl = Some ttl; inner = None }
+
+-- a packet that leaves with this TTL has the tuple with which the packets of its connection leave; an error is then
+-- about one that came back with it
+abbrev pub change_of : CtInfo → List ℕ → ℕ → Change
+change_of (Tracked connection) packet ttl = between (outgoing connection) (Some ttl)
+change_of (Related connection) packet ttl = record {
+  source = Some (outer_source connection (source packet));
+  destination = Some (outer_destination connection (destination packet));
+  numbers = None;
+  ttl = Some ttl;
+  inner = Some (inverse (outgoing connection));
+}
+change_of (New new_connection) packet ttl = between new_connection.tuple (Some ttl)
+change_of Invalid packet ttl = ttl_only ttl
+change_of Untracked packet ttl = ttl_only ttl

@@ -1,0 +1,17 @@
+-- The mappings that are live: those that live connections were begun with.
+use Rattle.std.specs.Prelude.{List, [], ◌∷◌, ◌++◌, Option, Some, None}
+use Rattle.std.specs.List.{flat_map}
+use Rattle.ip_headers.specs.declared.tuple.Mapping.{Mapping}
+use Rattle.conntrack.specs.declared.connection.ConntrackEntry.{ConntrackEntry}
+
+abbrev pub listed : {A : Type 0} → Option A → List A
+listed None = []
+listed (Some x) = x ∷ []
+
+-- those that a connection was begun with, two at most: its source's, and the one by which its destination was found
+abbrev pub mappings_of : ConntrackEntry → List Mapping
+mappings_of h = listed h.source ++ listed h.dest
+
+-- a mapping is live as long as a connection is that was begun with it (RFC 4787, section 4.3)
+abbrev pub mappings_in : List ConntrackEntry → List Mapping
+mappings_in live = flat_map mappings_of live
