@@ -5,7 +5,7 @@ bench/stories.py            writes the rows
 bench/stories.py --check    tells where they differ, and writes nothing
 
 What becomes of each record is told by plain searches through lists, written apart from the program and in
-another language: by docs/CONNECTIONS.md through all earlier records of a story, by docs/TRANSLATION.md
+another language: by docs/SPEC.md, section 6, through all earlier records of a history, by its section 7
 through all connections that were begun, with the mappings that they were begun with. The rulesets are
 tracked.nft and translated.nft, and `outcome_of`, `aimed`, `asked` and `lets_through` tell the same in Python.
 Nothing here reads what the program writes.
