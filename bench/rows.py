@@ -83,7 +83,7 @@ def packet(words, behind=b"", ttl=64):
         return datagram(6, source, destination, load, ttl)
     if kind == "other":
         return datagram(int(what), source, destination, behind, ttl)
-    message = {"ask": 8, "answer": 0}.get(kind) if kind != "error" else int(what)
+    message = {"echo-request": 8, "echo-reply": 0}.get(kind) if kind != "error" else int(what)
     load = struct.pack(">BBHHH", message, 0, 0, (from_port or to_port) if kind != "error" else 0, 0) + behind
     return datagram(1, source, destination, load[:2] + struct.pack(">H", checksum(load)) + load[4:], ttl)
 

@@ -1,4 +1,4 @@
--- How many hold a mapping at most.
+-- Bounds on the number of holders of a mapping.
 use Rattle.std.proofs.Common.{◌≡◌, ℕ, ◌+◌, ◌≤◌, Bool, true, false, cond, List, [], ◌∷◌, sym, subst, arith}
 use Rattle.nat_mapping.specs.steps.Holders.{holders_cons}
 use Rattle.ip_headers.specs.declared.tuple.Mapping.{Mapping}
@@ -8,10 +8,18 @@ one_at_most : (b : Bool) → cond b 1 0 ≤ 1
 one_at_most true = omega arith
 one_at_most false = omega arith
 
-pub more : (old new : List Mapping) (x : Mapping) (n : ℕ) → HoldsSame (x ∷ old) new → ((m : Mapping) → holders_of m old ≤ n) → (m : Mapping) → holders_of m new ≤ n + 1
-more old new x n same few m = omega (arith, one_at_most (same_mapping m x), holders_cons m x old, same m, few m)
+pub more : (old new : List Mapping) (x : Mapping) (n : ℕ) → HoldsSame (x ∷ old) new
+    → ((m : Mapping) → holders_of m old ≤ n) → (m : Mapping) → holders_of m new ≤ n + 1
+more old new x n same few m = omega (
+  arith,
+  one_at_most (same_mapping m x),
+  holders_cons m x old,
+  same m,
+  few m,
+)
 
-pub fewer : (old new : List Mapping) (x : Mapping) (n : ℕ) → HoldsSame old (x ∷ new) → ((m : Mapping) → holders_of m old ≤ n) → (m : Mapping) → holders_of m new ≤ n
+pub fewer : (old new : List Mapping) (x : Mapping) (n : ℕ) → HoldsSame old (x ∷ new)
+    → ((m : Mapping) → holders_of m old ≤ n) → (m : Mapping) → holders_of m new ≤ n
 fewer old new x n same few m = omega (arith, holders_cons m x new, same m, few m)
 
 none_at_all : (m : Mapping) → holders_of m [] ≤ 0

@@ -1,18 +1,18 @@
-//! What is found in box files. What they are refused for is asked of the built program.
+//! What is found in box files. Refused box files are tested with the built program.
 use crate::support::check_row;
 use box_file::Plant;
 use std::alloc::{AllocError, Global};
 use std::process::Abort;
 
-/// A box with two interfaces and a route to everywhere.
+/// Two interfaces and a default route.
 const TWO: &[u8] = b"interface 2 lan 192.168.1.1/24
 interface 3 wan 203.0.113.1/24
 route 0.0.0.0/0 wan
 default lan
 ";
 
-/// A box with a second address, overlapping prefixes and an own multicast address.
-const SEVERAL: &[u8] = b"# the way out stands before its interface
+/// An interface with a second address, overlapping prefixes, and an own multicast address.
+const SEVERAL: &[u8] = b"# a route before its interface
 route 10.0.0.0/23 up
 interface 2 lan 10.0.0.1/24
 interface 3 wan 10.0.1.1/24
@@ -22,8 +22,8 @@ route 10.0.1.0/24 lan
 
 default wan";
 
-/// Lines, and the limits that they say: of UDP, of TCP that is established and that isn't, of echoes and of
-/// other protocols.
+/// `idle` lines, and the limits in seconds: UDP, established TCP, other TCP, echoes, other
+/// protocols.
 static IDLE_LIMITS: [(&[u8], [u32; 5]); 4] = [
     (b"", [300, 7440, 240, 60, 600]),
     (b"idle udp 120\n", [120, 7440, 240, 60, 600]),
@@ -37,7 +37,7 @@ static IDLE_LIMITS: [(&[u8], [u32; 5]); 4] = [
     ),
 ];
 
-/// The limits of a box that has these lines too.
+/// The idle limits of a box that has these lines too.
 fn idle_limits(alloc: Global, lines: &[u8]) -> Option<[u32; 5]> {
     let text = [TWO, lines].concat(alloc).ok()?;
     let idle = Plant::read(alloc, &text).ok()?.idle();
@@ -50,7 +50,7 @@ fn idle_limits(alloc: Global, lines: &[u8]) -> Option<[u32; 5]> {
     ])
 }
 
-/// Each kind has the limit of its line, and without one its usual limit.
+/// Each kind has the limit of its line, or else the default.
 #[test]
 fn idle_limits_are_read(rt: HostRuntime) {
     for (row, (lines, wanted)) in IDLE_LIMITS.iter().enumerate() {
@@ -58,18 +58,18 @@ fn idle_limits_are_read(rt: HostRuntime) {
     }
 }
 
-/// A box with as many routes as one may have, to addresses of their own.
+/// A box with the greatest number of routes, to different addresses.
 fn many_routes(alloc: Global) -> Result<String, AllocError> {
     let mut text = String::from_str(alloc, "interface 1 e1 192.168.1.1/24\ndefault e1\n")?;
-    for place in 0..1024u32 {
-        let third = place / 256;
-        let fourth = place % 256;
+    for index in 0..1024u32 {
+        let third = index / 256;
+        let fourth = index % 256;
         writeln!(text, "route 10.0.{third}.{fourth}/32 e1")?;
     }
     Ok(text)
 }
 
-/// An address, the interface by which it is reached, and the one that has it.
+/// An address, the output interface of its route, and the interface that has the address.
 type Reachability = ([u8; 4], Option<u32>, Option<u32>);
 
 static REACHED_BY_TWO: [Reachability; 12] = [
@@ -104,7 +104,7 @@ static REACHED_BY_MANY: [Reachability; 2] = [
     ([10, 0, 4, 0], None, None),
 ];
 
-/// Whether the box knows this way.
+/// Whether the box routes and owns the address as expected.
 fn is_known(plant: &Plant, expected: &Reachability) -> bool {
     let (groups, route, owner) = expected;
     let address = u32::from_be_bytes(*groups);
@@ -113,7 +113,7 @@ fn is_known(plant: &Plant, expected: &Reachability) -> bool {
         && plant.is_own(address) == owner.is_some()
 }
 
-/// The ways have to be found in the box.
+/// Checks all rows on the box.
 fn finds<R: Abort + AllocGlobal>(rt: &R, text: &[u8], rows: &[Reachability]) {
     let plant = Plant::read(rt.alloc(), text).expect(rt, "a box");
     for (row, expected) in rows.iter().enumerate() {
@@ -121,7 +121,7 @@ fn finds<R: Abort + AllocGlobal>(rt: &R, text: &[u8], rows: &[Reachability]) {
     }
 }
 
-/// The longest prefix tells the route, and of equal ones that of an interface or the first.
+/// The longest prefix decides the route; of equal ones, that of an interface or the first.
 #[test]
 fn routes_and_owners_are_found(rt: HostRuntime) {
     finds(&rt, TWO, &REACHED_BY_TWO);
@@ -130,8 +130,8 @@ fn routes_and_owners_are_found(rt: HostRuntime) {
     finds(&rt, many.as_bytes(), &REACHED_BY_MANY);
 }
 
-/// A box, the interface by which its packets enter, a word, the number of the interface of that
-/// name, and the interface's first address; None where there is no such interface.
+/// A box, its default input interface, an interface's name and index, and its first address; `None`
+/// if there is no such interface.
 type Named<'a> = (&'a [u8], u32, &'a [u8], u32, Option<u32>);
 
 static NAMES: [Named<'static>; 5] = [

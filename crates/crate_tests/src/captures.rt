@@ -1,4 +1,4 @@
-//! Captures as pcap-savefile(5) lays them out, read and written.
+//! Captures in the classic pcap format (draft-ietf-opsawg-pcap), read and written.
 ghost use Rattle.std.specs.Prelude.{◌≤◌, length};
 
 use crate::support::{bytes, check_row, repeated};
@@ -7,19 +7,19 @@ use std::alloc::{AllocError, Global};
 use std::io::{Read, Write};
 use std::process::Abort;
 
-/// Magic a1b2c3d4, which tells microseconds, version 2.4, LINKTYPE_RAW.
+/// Magic a1b2c3d4 (microseconds), version 2.4, LINKTYPE_RAW.
 const HEADER: &str = "d4c3b2a1020004000000000000000000ffff000065000000";
 
-/// At 1 s 500000 microseconds, 28 bytes.
+/// 1 s and 500000 microseconds, 28 bytes.
 const AT_1_5: &str = "0100000020a107001c0000001c000000";
 
 /// UDP from 192.168.1.10:5000 to 198.51.100.7:53, TTL 64.
 const PLAIN: &str = "4500001c0001000040118ee3c0a8010ac63364071388003500080000";
 
-/// A packet of one byte at 0 seconds, which is earlier; 4 bytes were on the wire.
+/// A packet of one byte at 0 s, which is earlier; its original length is 4.
 const EARLIER: &str = "0000000000000000010000000400000045";
 
-/// How many records there are, or the first fault.
+/// The number of records, or the first fault.
 fn count_until_fault<I: Read>(
     capture: &mut Capture,
     reader: &mut Counted<I>,
@@ -32,7 +32,7 @@ fn count_until_fault<I: Read>(
     Ok(9)
 }
 
-/// The same of a capture that is opened; None where a fault doesn't come again, or leaves a record.
+/// The same after opening the capture; `None` if a fault isn't reported again, or leaves a record.
 fn count_records<I: Read>(
     alloc: Global,
     reader: &mut Counted<I>,
@@ -60,20 +60,20 @@ const MALFORMED: Result<u64, CaptureError> = Err(CaptureError::Refused(CaptureFa
 
 const TORN_END: Result<u64, CaptureError> = Err(CaptureError::Refused(CaptureFault::TornEnd));
 
-/// The header of a record of 262,144 bytes, the most that one may have.
+/// The header of a record of 262,144 bytes, the greatest length.
 const LONGEST: &[u8] = &[0, 0, 0, 0, 0, 0, 0, 0, 0, 0, 4, 0, 0, 0, 0, 0];
 
-/// Of one byte more.
+/// One byte more.
 const LONGER: &[u8] = &[0, 0, 0, 0, 0, 0, 0, 0, 1, 0, 4, 0, 0, 0, 0, 0];
 
-/// The header of a record without a byte, at 999,999 microseconds.
+/// The header of an empty record at 999,999 microseconds.
 const LATEST: &[u8] = &[0, 0, 0, 0, 0x3f, 0x42, 0x0f, 0, 0, 0, 0, 0, 0, 0, 0, 0];
 
-/// At a microsecond more.
+/// One microsecond more.
 const LATER: &[u8] = &[0, 0, 0, 0, 0x40, 0x42, 0x0f, 0, 0, 0, 0, 0, 0, 0, 0, 0];
 
-/// A place of a capture of two records, the bytes that are put there, how long the capture is then,
-/// and how many records it has or why it is refused.
+/// An offset in a capture of two records, the bytes to put there, the capture's new length, and the
+/// number of its records or its fault.
 type Row = (usize, &'static [u8], usize, Result<u64, CaptureError>);
 
 static ROWS: [Row; 23] = [
@@ -83,14 +83,14 @@ static ROWS: [Row; 23] = [
     (20, &[0x71], 85, LINK_TYPE),
     // LINKTYPE_ETHERNET.
     (20, &[1], 85, Ok(2)),
-    // The high bits of the link type's field don't count.
+    // The high bits of the link type field are ignored.
     (23, &[0x14], 85, Ok(2)),
     // A fraction of 1,024,288.
     (30, &[0x0f], 85, MALFORMED),
     // Captured lengths of 65,564 and of 262,172.
     (34, &[1], 85, TORN_END),
     (34, &[4], 85, MALFORMED),
-    // The original length isn't used.
+    // The original length is ignored.
     (39, &[0xff], 85, Ok(2)),
     (0, &[], 0, TORN_END),
     (0, &[], 23, TORN_END),
@@ -100,7 +100,7 @@ static ROWS: [Row; 23] = [
     (0, &[], 68, Ok(1)),
     (0, &[], 84, TORN_END),
     (0, &[], 85, Ok(2)),
-    // As many bytes as the header tells, and one fewer.
+    // As many bytes as the header says, and one fewer.
     (24, LONGEST, 262_184, Ok(1)),
     (24, LONGEST, 262_183, TORN_END),
     (24, LONGER, 262_185, MALFORMED),
@@ -108,11 +108,11 @@ static ROWS: [Row; 23] = [
     (24, LATER, 40, MALFORMED),
 ];
 
-/// The capture that the row makes of the whole one.
+/// The capture with the row's change.
 fn changed(alloc: Global, whole: &[u8], row: &Row) -> Result<Vec<u8>, AllocError> {
-    let (place, put, length, _) = row;
+    let (offset, replacement, length, _) = row;
     let mut capture = whole.to_vec(alloc)?;
-    for (old, new) in capture.iter_mut().skip(*place).zip(*put) {
+    for (old, new) in capture.iter_mut().skip(*offset).zip(*replacement) {
         *old = *new;
     }
     capture.resize(*length, b'x')?;
@@ -130,7 +130,7 @@ fn records_are_counted_or_refused(rt: HostRuntime) {
     }
 }
 
-/// What is told where this read of 9 bytes fails, and how many calls there were.
+/// The answer if this read of 9 bytes fails, and the number of calls.
 fn read_slowly(
     alloc: Global,
     capture: &[u8],
@@ -142,12 +142,12 @@ fn read_slowly(
     (answer, reader.into_inner().calls())
 }
 
-/// Each read of 9 bytes fails in turn: that is answered, it is answered again, and nothing is read again.
+/// If a read fails, that is the answer, and the answer from then on; nothing is read again.
 #[test]
 fn a_failed_read_is_reported_again(rt: HostRuntime) {
     let parts = [HEADER, AT_1_5, PLAIN, AT_1_5, PLAIN];
     let capture = bytes(rt.alloc(), &parts).expect(&rt, "a capture");
-    // 112 bytes take 13 reads, and the end is seen by one more.
+    // 112 bytes take 13 reads, and one more sees the end.
     for fails in 0..14u8 {
         let row = usize::from(fails);
         let wanted = (Some(Err(CaptureError::Device)), u64::from(fails) + 1);
@@ -160,15 +160,15 @@ fn a_failed_read_is_reported_again(rt: HostRuntime) {
     );
 }
 
-/// How many packets wait in the buffer before one has no room.
+/// The number of packets that the buffer holds.
 const WAITING: usize = 2_048;
 
-/// Magic a1b23c4d, which tells nanoseconds, version 2.4, snaplen 262,144, LINKTYPE_LINUX_SLL2.
+/// Magic a1b23c4d (nanoseconds), version 2.4, snaplen 262,144, LINKTYPE_LINUX_SLL2.
 static OUT_HEADER: [u8; 24] = [
     0x4d, 0x3c, 0xb2, 0xa1, 2, 0, 4, 0, 0, 0, 0, 0, 0, 0, 0, 0, 0, 0, 4, 0, 0x14, 1, 0, 0,
 ];
 
-/// At 1 s 500000000 nanoseconds, 48 bytes, by interface 3; the packet begins at 36.
+/// 1 s and 500000000 nanoseconds, 48 bytes, interface 3; the packet starts at 36.
 static RECORD: [u8; 64] = [
     1, 0, 0, 0, 0, 0x65, 0xcd, 0x1d, 0x30, 0, 0, 0, 0x30, 0, 0, 0, 8, 0, 0, 0, 0, 0, 0, 3, 0, 1, 4,
     0, 0, 0, 0, 0, 0, 0, 0, 0, 0x45, 0x00, 0x00, 0x1c, 0x00, 0x01, 0x00, 0x00, 0x40, 0x11, 0x8e,
@@ -176,7 +176,7 @@ static RECORD: [u8; 64] = [
     0x00,
 ];
 
-/// What is written of the packets that wait, where the first write behind the header fails.
+/// What is written of the buffered packets if the first write after the header fails.
 fn written_after_failed_put<R: Abort + AllocGlobal>(rt: &R, packet: &[u8]) -> Vec<u8>
     requires { length packet.now ≤ 65535 }
 {
@@ -191,12 +191,12 @@ fn written_after_failed_put<R: Abort + AllocGlobal>(rt: &R, packet: &[u8]) -> Ve
         sink.put(&mut writer, &leaving).expect(rt, "room");
     }
     assert!(rt; sink.put(&mut writer, &leaving).is_err() && writer.failures() == 1);
-    // The call fails once; what waited is all there.
+    // The call fails once; all buffered packets are still there.
     sink.finish(&mut writer).expect(rt, "a write");
     writer.into_inner().into_inner()
 }
 
-/// A buffer that can't be drained keeps what waits.
+/// A failed flush of the buffer loses no packet.
 #[test]
 fn buffered_packets_survive_a_failed_put(rt: HostRuntime) {
     let wanted = repeated(rt.alloc(), &OUT_HEADER, &RECORD, WAITING, b"").expect(&rt, "memory");
@@ -204,7 +204,7 @@ fn buffered_packets_survive_a_failed_put(rt: HostRuntime) {
     assert!(rt; written.as_slice() == wanted.as_slice());
 }
 
-/// Of six calls of a writer the one of this number fails, and is counted alone.
+/// Whether the call of this number fails alone, of six calls of a writer, and is counted.
 fn counts_writes(alloc: Global, fails: usize) -> bool {
     let mut writer = Counted::new(Calls::new(Failing::new(Vec::new(alloc), fails)));
     let mut is_right = true;
@@ -219,7 +219,7 @@ fn counts_writes(alloc: Global, fails: usize) -> bool {
     is_right && writer.failures() == 1 && writer.into_inner().calls() == 6
 }
 
-/// So it is with a reader.
+/// The same for a reader.
 fn counts_reads(fails: usize) -> bool {
     let mut reader = Counted::new(Calls::new(Failing::new(&b"some bytes"[..], fails)));
     let mut is_right = true;
@@ -229,7 +229,7 @@ fn counts_reads(fails: usize) -> bool {
     is_right && reader.failures() == 1 && reader.into_inner().calls() == 6
 }
 
-/// Each call is handed on once, whether it fails or not, and only the one that fails is counted.
+/// Each call is passed on once, whether it fails or not; only a failed one is counted.
 #[test]
 fn a_counted_call_is_made_once(rt: HostRuntime) {
     for fails in 0..6usize {

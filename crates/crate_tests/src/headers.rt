@@ -1,10 +1,10 @@
-//! Packets read in place.
+//! IPv4 packets and their headers.
 use crate::support::{PACKET, bytes, check_row};
 use hex::FromHexError;
 use ip_headers::{Endpoint, HeaderFault, Kind, Transport, Tuple, View, ones_sum};
 use std::alloc::{AllocError, Global};
 
-/// The first is that of RFC 1071, section 3.
+/// The first is the example of RFC 1071, section 3.
 static SUMS: [(&[u8], u16); 5] = [
     (&[0x00, 0x01, 0xf2, 0x03, 0xf4, 0xf5, 0xf6, 0xf7], 0xddf2),
     (&[], 0),
@@ -20,18 +20,18 @@ fn sums(rt: HostRuntime) {
     }
 }
 
-/// The sum as the C code of RFC 1071, section 4.1, makes it.
+/// The sum by the C code of RFC 1071, section 4.1.
 fn plain_sum(bytes: &[u8]) -> u16 {
     let mut sum = 0u32;
-    for (place, byte) in bytes.iter().enumerate() {
-        let weight = if place % 2 == 0 { 256 } else { 1 };
+    for (index, byte) in bytes.iter().enumerate() {
+        let weight = if index % 2 == 0 { 256 } else { 1 };
         sum = sum.wrapping_add(u32::from(*byte) * weight);
     }
     let folded = (sum & 0xffff).wrapping_add(sum >> 16);
     (folded & 0xffff).wrapping_add(folded >> 16) as u16
 }
 
-/// Of each length, by blocks and what is left of one.
+/// Every length up to 200: blocks of the fast path, and their remainders.
 #[test]
 fn sums_of_each_length(rt: HostRuntime) {
     let mut bytes = Vec::new(rt.alloc());
@@ -42,7 +42,7 @@ fn sums_of_each_length(rt: HostRuntime) {
     }
 }
 
-/// From where the answer to a packet comes, and where it goes.
+/// The reply tuple of `PACKET`.
 static BACK: Tuple = Tuple {
     kind: Kind::Udp,
     source: Endpoint {
@@ -65,16 +65,17 @@ fn reads_in_place(rt: HostRuntime) {
     assert!(rt; view.tuple().map(Tuple::inverse) == Some(BACK));
 }
 
-/// The first fault of a packet that is written in hexadecimal digits.
+/// The first fault of a packet in hexadecimal digits.
 fn first_fault(alloc: Global, packet: &str) -> Result<Option<HeaderFault>, FromHexError> {
     let packet = hex::decode(alloc, packet)?;
     Ok(View::read(&packet).err())
 }
 
-/// Beginnings of packets, each with its first fault. Then packets of GRE without a payload, each test of a header
-/// at its limit and one past: 20 bytes and 19; versions 3 and 5; IHL 4; a total length of 19, and of 23 and 24
-/// behind options; a total length of one more than there is, and that byte; a checksum of one more and one less;
-/// DF, the reserved bit, MF, the offsets 1 and 8,191. The others are right in all else.
+/// Truncated packets with their first faults. Then GRE packets without a payload, each header test
+/// at its limit and one past it: 20 bytes and 19; versions 3 and 5; IHL 4; a total length of 19,
+/// and of 23 and 24 with options; a total length of one more than there is, and that byte; a
+/// checksum of one more and one less; DF, the reserved bit, MF, the offsets 1 and 8,191. All else
+/// is valid.
 static FAULTS: [(&str, Option<HeaderFault>); 27] = [
     (
         "4500001c0001000040118ee3c0a8010ac63364",
@@ -189,7 +190,7 @@ static WORDS: [(HeaderFault, &str); 8] = [
     (HeaderFault::Transport, "transport"),
 ];
 
-/// Whether the fault is told by this word.
+/// Whether the fault is displayed as this word.
 fn is_displayed_as(alloc: Global, fault: HeaderFault, word: &str) -> Result<bool, AllocError> {
     let text = format!(in alloc; "{fault}")?;
     Ok(text.as_str() == word)
@@ -206,7 +207,7 @@ fn faults_are_displayed(rt: HostRuntime) {
     }
 }
 
-/// The header of a packet from 192.168.1.10 to 198.51.100.7 with a payload of so many bytes.
+/// The header of a packet from 192.168.1.10 to 198.51.100.7 with a payload of this length.
 fn header(protocol: u8, length: u8) -> [u8; 20] {
     let [long, short] = (20 + u16::from(length)).to_be_bytes();
     let mut header = [
@@ -219,8 +220,8 @@ fn header(protocol: u8, length: u8) -> [u8; 20] {
     header
 }
 
-/// A packet whose payload begins so and goes on with zeros; and behind its end nine bytes that don't
-/// count.
+/// A packet whose payload has this beginning and then zeros; after its end there are nine bytes of
+/// padding.
 fn packet(
     alloc: Global,
     protocol: u8,
@@ -239,12 +240,12 @@ fn kind_and_ports(tuple: Option<Tuple>) -> Option<(Kind, u16, u16)> {
     Some((tuple.kind, tuple.source.port, tuple.destination.port))
 }
 
-/// What a payload is that begins so.
+/// A payload by its beginning, and how it is read.
 #[derive(Clone, Copy)]
 struct Payload {
     protocol: u8,
     beginning: &'static str,
-    /// It fits its protocol from this length on; `None` where it never does.
+    /// The least valid length; `None` if it is never valid.
     least: Option<u8>,
     transport: Transport,
     kind_and_ports: Option<(Kind, u16, u16)>,
@@ -273,7 +274,7 @@ const DATAGRAM: Payload = Payload {
     kind_and_ports: Some((Kind::Udp, 5000, 53)),
 };
 
-/// A message has 8 bytes and more, whatever its code.
+/// A message has at least 8 bytes, whatever its code.
 const ECHO: Payload = Payload {
     protocol: 1,
     beginning: "0809000012340001",
@@ -282,7 +283,8 @@ const ECHO: Payload = Payload {
     kind_and_ports: Some((Kind::EchoRequest, 0x1234, 0)),
 };
 
-/// Offsets of 5, 6, 15 and 4 words; lengths of 8, 9 and 7; an echo, its reply and a timestamp; GRE.
+/// Data offsets of 5, 6, 15 and 4 words; UDP lengths of 8, 9 and 7; an echo request, its reply and
+/// a timestamp; GRE.
 static PAYLOADS: [Payload; 11] = [
     SEGMENT,
     Payload {
@@ -333,10 +335,10 @@ static PAYLOADS: [Payload; 11] = [
     },
 ];
 
-/// A packet's protocol, its transport and its ends.
+/// A packet's protocol, its transport header, and the kind and ports of its tuple.
 type Found = (u8, Transport, Option<(Kind, u16, u16)>);
 
-/// What is read of a packet of so many bytes behind its header, or its fault.
+/// What is read of a packet with a payload of this length, or its fault.
 fn read(
     alloc: Global,
     payload: &Payload,
@@ -353,7 +355,7 @@ fn read(
     })
 }
 
-/// What has to be read of it.
+/// The expected answer.
 fn wanted(payload: &Payload, length: u8) -> Result<Found, HeaderFault> {
     match payload.least {
         Some(least) if least <= length => Ok((
@@ -365,7 +367,7 @@ fn wanted(payload: &Payload, length: u8) -> Result<Found, HeaderFault> {
     }
 }
 
-/// A packet that fits, or the fault of one that doesn't, at each length.
+/// Each payload at each length: valid, or with a fault.
 #[test]
 fn payloads_fit_their_protocol(rt: HostRuntime) {
     for (row, payload) in PAYLOADS.iter().enumerate() {
@@ -376,18 +378,17 @@ fn payloads_fit_their_protocol(rt: HostRuntime) {
     }
 }
 
-/// A message's type; of the datagram that follows its 8 bytes version and IHL, the flags and the
-/// offset, the protocol and what follows the addresses; from how many of its bytes on it is read, and
-/// the kind and the ports that it then has.
+/// An ICMP type; of the embedded datagram version and IHL, flags and offset, protocol, and the
+/// bytes after the addresses; the least length at which it is read, and its kind and ports.
 type Message = (
     &'static str,
     [&'static str; 4],
     Option<(u8, Kind, u16, u16)>,
 );
 
-/// A header without options and one of 24 bytes; MF, DF and the reserved bit; an echo, its reply, GRE.
-/// None: messages that are no errors, an inner timestamp and an inner error, offsets of 1 and of 1fff,
-/// version 6, a header of 16 bytes.
+/// A header without options and one of 24 bytes; MF, DF and the reserved bit; an echo request, its
+/// reply, GRE. `None`: messages that are no errors, an embedded timestamp and an embedded error,
+/// offsets of 1 and of 1fff, version 6, a header of 16 bytes.
 static MESSAGES: [Message; 15] = [
     (
         "03",
@@ -434,8 +435,8 @@ static MESSAGES: [Message; 15] = [
     ("03", ["44", "0000", "11", "00351388"], None),
 ];
 
-/// Whether a packet's message tells of a datagram of this kind with these ports, or of none, and is an
-/// error where it has to be one.
+/// Whether the message's embedded datagram is of this kind with these ports, or there is none; and
+/// whether it is an error, if it has to be one.
 fn reads_inner_tuple(
     packet: &[u8],
     is_error: bool,
@@ -445,7 +446,8 @@ fn reads_inner_tuple(
     Ok(kind_and_ports(view.inner_tuple()) == wanted && (view.is_error() || !is_error))
 }
 
-/// Whether so many bytes of the datagram are read so. Its total length, TTL and checksum are wrong.
+/// Whether this many bytes of the datagram are read as expected. Its total length, TTL and checksum
+/// are wrong.
 fn reads_inner_tuple_at(alloc: Global, row: &Message, length: u8) -> Result<bool, FromHexError> {
     let (message, [first, flags, protocol, rest], wanted) = row;
     let payload = [

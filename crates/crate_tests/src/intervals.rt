@@ -1,4 +1,4 @@
-//! Each table is built of its ranges, counted and asked.
+//! Interval tables: built, counted and searched.
 use crate::support::check_row;
 use set_intervals::{Intervals, Range, SetError};
 use std::alloc::{AllocError, Global};
@@ -6,7 +6,7 @@ use std::process::Abort;
 
 const MOST: u128 = u128::MAX;
 
-/// A table: its ranges with their values, how many runs it has, and what it has at some numbers.
+/// Ranges with their values, the number of runs, and the values at some keys.
 #[derive(Clone, Copy)]
 struct Row {
     ranges: &'static [(u128, u128, u32)],
@@ -25,7 +25,7 @@ fn pairs(alloc: Global, ranges: &[(u128, u128, u32)]) -> Result<Vec<(Range, u32)
     Ok(pairs)
 }
 
-/// Whether the table has so many runs, and these values.
+/// Whether the table has this number of runs, and these values.
 fn shows(table: &Intervals<u32>, row: &Row) -> bool {
     for (key, value) in row.values {
         if table.find(*key).copied() != *value {
@@ -35,9 +35,9 @@ fn shows(table: &Intervals<u32>, row: &Row) -> bool {
     table.count() == row.count
 }
 
-/// No range; all numbers; the least and the greatest; the addresses of three ranges that overlap or
-/// touch; a map of neighbours of which two agree; elements that agree where they overlap; every
-/// address.
+/// No range; all keys; the least and the greatest; three address ranges that overlap or touch;
+/// adjacent ranges of a map, of which two have equal values; overlapping ranges with equal values;
+/// all addresses.
 static ROWS: [Row; 7] = [
     Row {
         ranges: &[],
@@ -104,7 +104,7 @@ fn tables_have_what_their_ranges_say(rt: HostRuntime) {
     }
 }
 
-/// A range under two earlier ones, and one that begins under another's end.
+/// A range under two earlier ones, and one that starts under another's end.
 static LAYERS: Row = Row {
     ranges: &[(5, 10, 1), (0, 20, 2), (8, 30, 3), (30, 30, 4), (31, 31, 3)],
     count: 4,
@@ -131,7 +131,7 @@ fn the_first_range_with_a_number_wins(rt: HostRuntime) {
     assert!(rt; matches!(clash, Err(SetError::Clash)));
 }
 
-/// 60,000 ranges sixteen apart, in no order.
+/// 60,000 ranges sixteen apart, unsorted.
 fn many_pairs(alloc: Global) -> Result<Vec<(Range, u32)>, AllocError> {
     let mut pairs = Vec::new(alloc);
     for number in 0..60_000u32 {

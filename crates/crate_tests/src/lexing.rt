@@ -1,9 +1,9 @@
-//! Texts cut into tokens, and the faults of texts that aren't.
+//! The lexer: tokens and faults.
 use crate::support::{check_row, repeated};
 use nft_lexer::{LexError, LexFault, Punctuator, Token, TokenKind, lex};
 use std::alloc::Global;
 
-/// What a token is; a string with what stands between its quotes.
+/// The kind of a token, with its value.
 #[derive(Clone, Copy)]
 enum ExpectedKind {
     NewLine,
@@ -14,10 +14,10 @@ enum ExpectedKind {
     String(&'static [u8]),
 }
 
-/// A token's text, and what it is.
+/// A token's text and kind.
 type ExpectedToken = (&'static [u8], ExpectedKind);
 
-/// Many kinds of tokens.
+/// Tokens of all kinds.
 const MANY: &[ExpectedToken] = &[
     (b"tcp", ExpectedKind::Word),
     (b"dport", ExpectedKind::Word),
@@ -38,7 +38,7 @@ const MANY: &[ExpectedToken] = &[
     (b"x", ExpectedKind::Word),
 ];
 
-/// What is nearly one token.
+/// Texts that are nearly one token.
 const NEARLY: &[ExpectedToken] = &[
     (b"0", ExpectedKind::Number(0)),
     (b"X1", ExpectedKind::Word),
@@ -77,7 +77,7 @@ static LEXED: [(&[u8], &[ExpectedToken]); 4] = [
     (b"# x", &[]),
 ];
 
-/// Whether the token has this text and is this.
+/// Whether the token has this text and kind.
 fn is_expected(token: &Token, wanted: &ExpectedToken) -> bool {
     token.text == wanted.0
         && match (token.kind, wanted.1) {
@@ -91,7 +91,7 @@ fn is_expected(token: &Token, wanted: &ExpectedToken) -> bool {
         }
 }
 
-/// Whether the text is cut into these tokens.
+/// Whether the text has exactly these tokens.
 fn lexes_to(alloc: Global, text: &[u8], wanted: &[ExpectedToken]) -> Result<bool, LexError> {
     let tokens = lex(alloc, text)?;
     for (token, expected) in tokens.iter().zip(wanted) {
@@ -137,7 +137,7 @@ static PUNCTUATORS: [(&[u8], Punctuator); 21] = [
     (b">", Punctuator::Above),
 ];
 
-/// Whether the text is this mark alone.
+/// Whether the text is this punctuator alone.
 fn is_punctuator(alloc: Global, text: &[u8], mark: Punctuator) -> Result<bool, LexError> {
     let tokens = lex(alloc, text)?;
     Ok(match tokens.as_slice() {
@@ -201,7 +201,7 @@ fn first_faults_are_reported(rt: HostRuntime) {
     }
 }
 
-/// A text that is a beginning, so many times the same piece and an end; how many tokens it has, or its fault.
+/// A text as a beginning, a repeated piece and an end; the number of its tokens, or its fault.
 type Long = (
     &'static [u8],
     &'static [u8],

@@ -1,5 +1,5 @@
-//! Rooms below the engine, each by itself: texts read into trees, box files, captures, headers, tables of
-//! intervals and of rules, ports, mappings, and a packet sent on.
+//! Tests of the crates below the engine, each alone: lexer and parser, box files, captures,
+//! headers, interval and rule tables, ports, NAT mappings, and rewriting.
 #![tactic(auto)]
 
 #[cfg(test)]

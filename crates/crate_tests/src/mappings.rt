@@ -1,4 +1,4 @@
-//! Mappings held, found and released, and refused memory.
+//! NAT mappings: held, found, released, and with allocations refused.
 ghost use Rattle.std.specs.Prelude.{◌+◌, ◌<◌, ◌≤◌, length};
 ghost use Rattle.ip_headers.specs.declared.tuple.Mapping.{Mapping as Mapped};
 ghost use Rattle.nat_mapping.specs.Mappings.{holders_of};
@@ -12,9 +12,9 @@ use std::alloc::Global;
 use std::hash::RandomState;
 use std::process::Abort;
 
-/// The translator's own address, 203.0.113.1.
+/// The external address, 203.0.113.1.
 const E: u32 = 0xcb00_7101;
-/// Two hosts behind it.
+/// Two internal hosts.
 const A: u32 = 0xc0a8_010a;
 
 const A2: u32 = 0xc0a8_010b;
@@ -26,14 +26,14 @@ fn end(address: u32, port: u16) -> Endpoint {
     Endpoint { address, port }
 }
 
-/// A table that holds nothing.
+/// An empty table.
 fn empty(alloc: Global, hasher: RandomState) -> Mappings
     ensures few { (m : Mapped) → holders_of m result.held ≤ 0 }
 {
     Mappings::new(alloc, hasher)
 }
 
-/// Gives an internal endpoint its port at an external address, and holds the mapping to it.
+/// Chooses the external port of an internal endpoint, and holds the mapping.
 fn held(
     table: &mut Mappings,
     kind: Kind,
@@ -58,7 +58,7 @@ fn held(
     Ok(Some(port))
 }
 
-/// Releases the mapping behind an external endpoint, if there is one.
+/// Releases the mapping of an external endpoint, if there is one.
 fn released(table: &mut Mappings, kind: Kind, external: Endpoint, number: usize) -> bool
     requires few { (m : Mapped) → holders_of m table.old.held ≤ number }
     ensures few { (m : Mapped) → holders_of m table.new.held ≤ number }
@@ -77,26 +77,26 @@ fn released(table: &mut Mappings, kind: Kind, external: Endpoint, number: usize)
     }
 }
 
-/// An endpoint: an address and a port.
+/// An endpoint.
 type AddressPort = (u32, u16);
 
-/// A call of a table, with what it has to answer.
+/// A call with its expected answer.
 #[derive(Clone, Copy)]
 enum Call {
-    /// The mapping of an endpoint at the external address is held, and has this port.
+    /// The endpoint's mapping at the external address is held with this port.
     Hold(Kind, AddressPort, u16),
-    /// The mapping behind a port of the external address is released.
+    /// The mapping of an external port is released.
     Release(Kind, u16),
-    /// Which endpoint a port of the external address stands for.
+    /// The internal endpoint of an external port.
     Inbound(Kind, u16, Option<AddressPort>),
-    /// Which port an endpoint gets at an address, within a range.
+    /// The external port of an endpoint, within a range.
     Source(Kind, AddressPort, u32, Option<CandidateRange>, Result<u16, MapError>),
-    /// How many pools there are.
+    /// The number of pools.
     Pools(usize),
 }
 
-/// One internal endpoint has one port, whatever it sends to; a port isn't shared; the last holder
-/// frees it.
+/// Endpoint-independent mapping without port overloading (RFC 4787, section 4.1 and section 4.2.1);
+/// the last holder frees the port.
 static PORTS: [Call; 15] = [
     Call::Inbound(Kind::Udp, 5000, None),
     Call::Hold(Kind::Udp, (A, 5000), 5000),
@@ -115,7 +115,7 @@ static PORTS: [Call; 15] = [
     Call::Pools(2),
 ];
 
-/// Ports of one kind say nothing of those of another; a protocol without ports has one mapping.
+/// Kinds don't share ports; a protocol without ports has one mapping.
 static KINDS: [Call; 11] = [
     Call::Hold(Kind::Udp, (A, 5000), 5000),
     Call::Hold(Kind::Tcp, (A2, 5000), 5000),
@@ -130,13 +130,13 @@ static KINDS: [Call; 11] = [
     Call::Source(GRE, (A2, 0), E, None, Ok(0)),
 ];
 
-/// The port 5000 alone.
+/// The range of port 5000 alone.
 const ONE: Option<CandidateRange> = Some(CandidateRange {
     low: 5000,
     high: 5000,
 });
 
-/// Where all ports of a range are held there is none, but for one who has one already.
+/// If all ports of a range are held there is none, except for an endpoint that already has one.
 static RANGE: [Call; 6] = [
     Call::Source(Kind::Tcp, (A2, 5000), E, ONE, Ok(5000)),
     Call::Hold(Kind::Tcp, (A, 5000), 5000),
@@ -146,7 +146,7 @@ static RANGE: [Call; 6] = [
     Call::Source(Kind::Udp, (A2, 5000), E, ONE, Ok(5000)),
 ];
 
-/// Whether the table answers so.
+/// Whether the table answers as expected.
 fn answers(table: &mut Mappings, call: &Call, number: usize) -> bool
     requires number { number < 1000 }
     requires few { (m : Mapped) → holders_of m table.old.held ≤ number }
@@ -168,7 +168,7 @@ fn answers(table: &mut Mappings, call: &Call, number: usize) -> bool
     }
 }
 
-/// A table that held nothing has to answer each call so, one after another.
+/// Makes the calls one after another on an empty table.
 fn answers_all<R: Abort>(rt: &R, mut table: Mappings, calls: &[Call])
     requires short { length calls.now < 1000 }
     requires few { (m : Mapped) → holders_of m table.held ≤ 0 }
@@ -186,8 +186,8 @@ fn mappings_are_held_found_and_released(rt: HostRuntime) {
     answers_all(&rt, empty(rt.alloc(), hasher), &RANGE);
 }
 
-/// Whether a connection's two mappings are held at new addresses, with room reserved: nothing but the
-/// reserving may want memory, and where it does nothing has changed.
+/// Whether a connection's two mappings are held at new addresses, with capacity reserved. Only
+/// `reserve_one` may allocate, and if it is refused nothing has changed.
 fn holds_two(table: &mut Mappings, address: u32, number: usize) -> bool
     requires address { address < 1000 }
     requires number { number < 900 }
@@ -195,7 +195,7 @@ fn holds_two(table: &mut Mappings, address: u32, number: usize) -> bool
     ensures few { (m : Mapped) → holders_of m table.new.held ≤ number + 2 }
 {
     if table.reserve_one().is_err() {
-        // One call in all is refused.
+        // Only one allocation of the run is refused.
         let kept = table.inbound(Kind::Udp, end(E, 5000));
         if kept != Some(end(A, 5000)) || table.reserve_one().is_err() {
             return false;
@@ -215,7 +215,7 @@ fn connection<R: Abort>(rt: &R, table: &mut Mappings, address: u32, number: usiz
     check_row(rt, number, holds_two(table, address, number));
 }
 
-/// With each call for memory refused in turn.
+/// With each allocation refused in turn.
 #[test]
 fn only_reserving_wants_memory(rt: HostRuntime) {
     let hasher = RandomState::new(&rt).expect(&rt, "a hasher");

@@ -1,16 +1,16 @@
-//! Pools of ports and identifiers are asked for numbers, which are taken and given back.
+//! Pools of ports and identifiers: numbers are chosen, taken and given back.
 use crate::support::check_row;
 use port_pool::{CandidateRange, Order, Pool};
 use std::process::Abort;
 
-/// A call of a pool, with what it has to answer.
+/// A call with its expected answer.
 #[derive(Clone, Copy)]
 enum Call {
-    /// The number that is chosen for another, within a range.
+    /// The number chosen for this one, within a range.
     Choose(u16, Option<CandidateRange>, Option<u16>),
-    /// The same without a range, and it is taken.
+    /// The number chosen for this one without a range, which is then taken.
     Take(u16, u16),
-    /// A number that is taken is given back.
+    /// A taken number is given back.
     Give(u16),
     IsUnused(bool),
 }
@@ -45,8 +45,8 @@ static OF_ZERO: [Call; 4] = [
     Call::IsUnused(true),
 ];
 
-/// Once every port of the class and parity of 1024 is taken: none is left for 1024, one for 1025, and one that
-/// is given is found, wherever it lies.
+/// With all even ports from 1024 on taken: none is left for 1024, one for 1025, and a port that is
+/// given back is found wherever it is.
 static OF_A_PARITY: [Call; 7] = [
     Call::Choose(1024, None, None),
     Call::Choose(65_534, None, None),
@@ -57,7 +57,7 @@ static OF_A_PARITY: [Call; 7] = [
     Call::Choose(65_534, None, Some(40_000)),
 ];
 
-/// Whether this number is chosen for another; it is taken then.
+/// Whether this number is chosen for the other; it is then taken.
 fn takes(pool: &mut Pool, number: u16, wanted: u16) -> bool {
     let Some(chosen) = pool.choose(number, None) else {
         return false;
@@ -66,7 +66,7 @@ fn takes(pool: &mut Pool, number: u16, wanted: u16) -> bool {
     chosen == wanted && pool.is_taken(chosen)
 }
 
-/// Whether the pool answers so.
+/// Whether the pool answers as expected.
 fn answers(pool: &mut Pool, call: &Call) -> bool {
     match *call {
         Call::Choose(number, range, wanted) => pool.choose(number, range) == wanted,
@@ -82,7 +82,7 @@ fn answers(pool: &mut Pool, call: &Call) -> bool {
     }
 }
 
-/// Each call has to be answered so, one after another.
+/// Makes the calls one after another.
 fn answers_all<R: Abort>(rt: &R, pool: &mut Pool, calls: &[Call]) {
     for (row, call) in calls.iter().enumerate() {
         check_row(rt, row, answers(pool, call));

@@ -1,15 +1,15 @@
-//! Parts of rulesets, each read at its place.
+//! Productions of the grammar, each at its position.
 use crate::support::check_row;
 use nft_lexer::{Token, lex};
 use nft_rules::{anysel, elems, pairs, rule};
 use nft_tree::{Memory, Selector};
 use std::alloc::Global;
 
-/// Where the rule at a place ends, how many statements it has, and whether it has a comment.
+/// The position after a rule, the number of its statements, and whether it has a comment.
 type RuleAt = Option<(usize, usize, bool)>;
 
-fn rule_at(alloc: Global, tokens: &[Token], place: usize) -> Result<RuleAt, Memory> {
-    match rule(alloc, tokens, place)? {
+fn rule_at(alloc: Global, tokens: &[Token], at: usize) -> Result<RuleAt, Memory> {
+    match rule(alloc, tokens, at)? {
         Some((rule, end)) => Ok(Some((end, rule.statements.len(), rule.comment.is_some()))),
         None => Ok(None),
     }
@@ -21,30 +21,30 @@ static RULES: [(usize, RuleAt); 4] = [(1, None), (2, Some((11, 3, true))), (12, 
 fn a_rule_is_read_up_to_its_end(rt: HostRuntime) {
     let text = b"accept; tcp dport 22 log prefix \"in\" drop comment \"no\" } drop";
     let tokens = lex(rt.alloc(), text).expect(&rt, "tokens");
-    for &(place, wanted) in &RULES {
-        let found = rule_at(rt.alloc(), &tokens, place);
-        check_row(&rt, place, found.ok() == Some(wanted));
+    for &(at, wanted) in &RULES {
+        let found = rule_at(rt.alloc(), &tokens, at);
+        check_row(&rt, at, found.ok() == Some(wanted));
     }
 }
 
-/// Where the brace behind a list is, and how many members the list has.
+/// The position of a list's closing brace, and the list's length.
 type ListAt = Option<(usize, usize)>;
 
-fn list_at(alloc: Global, tokens: &[Token], place: usize) -> Result<ListAt, Memory> {
-    match elems(alloc, tokens, place)? {
+fn list_at(alloc: Global, tokens: &[Token], at: usize) -> Result<ListAt, Memory> {
+    match elems(alloc, tokens, at)? {
         Some((found, brace)) => Ok(Some((brace, found.len()))),
         None => Ok(None),
     }
 }
 
-fn pairs_at(alloc: Global, tokens: &[Token], place: usize) -> Result<ListAt, Memory> {
-    match pairs(alloc, tokens, place)? {
+fn pairs_at(alloc: Global, tokens: &[Token], at: usize) -> Result<ListAt, Memory> {
+    match pairs(alloc, tokens, at)? {
         Some((found, brace)) => Ok(Some((brace, found.len()))),
         None => Ok(None),
     }
 }
 
-/// How many tokens are there, and a place.
+/// The number of tokens, a position, and the expected answer.
 static LISTS: [(usize, usize, ListAt); 4] = [
     (11, 0, None),
     (11, 1, Some((10, 2))),
@@ -57,9 +57,9 @@ fn a_list_is_read_up_to_its_brace(rt: HostRuntime) {
     let text = b"{ 22,\n10.0.0.0/8 comment \"ten\", }";
     let tokens = lex(rt.alloc(), text).expect(&rt, "tokens");
     assert!(rt; tokens.len() == 11);
-    for (row, &(count, place, wanted)) in LISTS.iter().enumerate() {
+    for (row, &(count, at, wanted)) in LISTS.iter().enumerate() {
         let there = tokens.get(..count).unwrap_or(&[]);
-        let found = list_at(rt.alloc(), there, place);
+        let found = list_at(rt.alloc(), there, at);
         check_row(&rt, row, found.ok() == Some(wanted));
     }
 }
@@ -70,16 +70,16 @@ static PAIRS: [(usize, ListAt); 3] = [(0, Some((9, 2))), (6, Some((9, 1))), (8, 
 fn pairs_are_read_up_to_their_brace(rt: HostRuntime) {
     let text = b"1-9 : 10.0.0.1, 10 : drop }";
     let tokens = lex(rt.alloc(), text).expect(&rt, "tokens");
-    for &(place, wanted) in &PAIRS {
-        let found = pairs_at(rt.alloc(), &tokens, place);
-        check_row(&rt, place, found.ok() == Some(wanted));
+    for &(at, wanted) in &PAIRS {
+        let found = pairs_at(rt.alloc(), &tokens, at);
+        check_row(&rt, at, found.ok() == Some(wanted));
     }
 }
 
-/// Whether the selector is read that stands at a place of `meta iifname ct state , iif`, or none is.
-fn is_read(tokens: &[Token], place: usize) -> bool {
-    let found = anysel(tokens, place);
-    match place {
+/// Whether `anysel` answers as expected at a position of `meta iifname ct state , iif`.
+fn is_read(tokens: &[Token], at: usize) -> bool {
+    let found = anysel(tokens, at);
+    match at {
         0 | 1 => matches!(found, Some((Selector::InputName, 2))),
         2 => matches!(found, Some((Selector::CtState, 4))),
         5 => matches!(found, Some((Selector::InputIndex, 6))),
@@ -91,7 +91,7 @@ fn is_read(tokens: &[Token], place: usize) -> bool {
 fn a_selector_is_read_whatever_follows(rt: HostRuntime) {
     let text = b"meta iifname ct state , iif";
     let tokens = lex(rt.alloc(), text).expect(&rt, "tokens");
-    for place in 0..7 {
-        check_row(&rt, place, is_read(&tokens, place));
+    for at in 0..7 {
+        check_row(&rt, at, is_read(&tokens, at));
     }
 }

@@ -1,10 +1,10 @@
-//! A packet as it is sent on, behind what the buffer held.
+//! A rewritten packet, appended to a buffer.
 use crate::support::PACKET;
 use ip_headers::View;
 use rewrite::{Change, PortsOrIdentifier, emit};
 use std::alloc::{AllocError, Global};
 
-/// From 203.0.113.1, port 5002, one hop further.
+/// Source 203.0.113.1:5002, TTL 63.
 static CHANGE: Change = Change {
     source: Some(0xcb00_7101),
     destination: None,
@@ -13,7 +13,7 @@ static CHANGE: Change = Change {
     inner: None,
 };
 
-/// The byte that the buffer held, and the packet so changed.
+/// The byte that the buffer held, and the rewritten packet.
 static SENT: [u8; 29] = [
     0xaa, 0x45, 0x00, 0x00, 0x1c, 0x00, 0x01, 0x00, 0x00, 0x3f, 0x11, 0x15, 0x94, 0xcb, 0x00, 0x71,
     0x01, 0xc6, 0x33, 0x64, 0x07, 0x13, 0x8a, 0x00, 0x35, 0x00, 0x08, 0x00, 0x00,

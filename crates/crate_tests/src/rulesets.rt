@@ -1,12 +1,12 @@
-//! Texts that are rulesets, read and copied, and texts that aren't cut into tokens, each with its line. Which
-//! tree a text spells is proved; which texts are refused otherwise is asked of the built program.
+//! Rulesets: parsed and copied, and lexical faults with their lines. Which tree a text spells is
+//! proved; syntax faults are tested with the built program.
 use crate::support::{check_row, repeated};
 use nft_lexer::LexFault;
 use nft_parser::{ParseError, TextFault, parse};
 use nft_tree::{Family, Ruleset};
 use std::alloc::Global;
 
-/// What the text is refused for.
+/// The fault of the text.
 fn fault(alloc: Global, text: &[u8]) -> Result<Option<TextFault>, ParseError> {
     match parse(alloc, text) {
         Ok(_) => Ok(None),
@@ -75,10 +75,10 @@ chain web {
 }
 }";
 
-/// A table's family and name, how many items it has, and how many rules its first chain has.
+/// A table's family and name, the number of its items, and the number of rules in its first chain.
 type Shape<'a> = (Family, &'a [u8], usize, usize);
 
-/// A table may have a family for its name.
+/// A table's name may be a family's.
 static SHAPES: [(&[u8], Shape<'static>); 7] = [
     (b"table ip { }", (Family::Ip, b"ip", 0, 0)),
     (b"table ip6 { }", (Family::Ip, b"ip6", 0, 0)),
@@ -91,7 +91,7 @@ static SHAPES: [(&[u8], Shape<'static>); 7] = [
 
 static LONG: Shape<'static> = (Family::Ip, b"t", 1, 5_000);
 
-/// Whether the ruleset has one table, of this shape.
+/// Whether the ruleset is one table of this shape.
 fn has(ruleset: &Ruleset, shape: &Shape<'_>) -> bool {
     let (family, name, items, rules) = *shape;
     let [table] = ruleset.tables.as_slice() else {
@@ -107,13 +107,13 @@ fn has(ruleset: &Ruleset, shape: &Shape<'_>) -> bool {
         && count == rules
 }
 
-/// Whether the text is read as a ruleset of this shape, and its copy has it too.
+/// Whether the text is parsed as a ruleset of this shape, and its copy has it too.
 fn is_read(alloc: Global, text: &[u8], shape: &Shape<'_>) -> Result<bool, ParseError> {
     let ruleset = parse(alloc, text)?;
     Ok(has(&ruleset, shape) && has(&ruleset.try_clone()?, shape))
 }
 
-/// Listings, other forms and thousands of rules.
+/// Listings, other forms, and thousands of rules.
 #[test]
 fn texts_are_read_and_copied(rt: HostRuntime) {
     for (row, (text, shape)) in SHAPES.iter().enumerate() {

@@ -1,4 +1,4 @@
-//! Tables of rules are asked for the next one and for the first one.
+//! Rule tables: the next rule of a key, and the first one.
 use crate::support::check_row;
 use seek_table::{FirstTable, KeyRange, SeekTable};
 use std::alloc::{AllocError, Global};
@@ -6,7 +6,7 @@ use std::process::Abort;
 
 const MOST: u32 = u32::MAX;
 
-/// The rules by their numbers: nested ranges, a number twice, the least and the greatest one.
+/// Rules by their ranges: nested ones, one twice, the least and the greatest key.
 static RULES: [(u32, u32); 6] = [
     (10, 29),
     (20, 20),
@@ -16,7 +16,7 @@ static RULES: [(u32, u32); 6] = [
     (MOST, MOST),
 ];
 
-/// A number, the rule from which on is sought, and what is found.
+/// A key, the rule to search from, and the answer.
 static NEXT: [(u32, u32, Option<u32>); 9] = [
     (9, 0, Some(2)),
     (10, 0, Some(0)),
@@ -29,10 +29,10 @@ static NEXT: [(u32, u32, Option<u32>); 9] = [
     (MOST, 3, Some(5)),
 ];
 
-/// Rules with numbers between them that none has.
+/// Rules with gaps between them.
 static APART: [(u32, u32); 6] = [(9, 8), (20, 20), (30, 39), (30, 34), (20, 20), (MOST, MOST)];
 
-/// A number, and the first rule that has it.
+/// A key, and the first rule of it.
 type First = (u32, Option<u32>);
 
 static FIRST_APART: [First; 7] = [
@@ -47,8 +47,8 @@ static FIRST_APART: [First; 7] = [
 
 static FIRST_OF_NONE: [First; 1] = [(0, None)];
 
-/// As many rules as a chain may have; each has the numbers of all before it, and one more at both
-/// ends.
+/// The greatest number of rules of a chain; each range contains all before it, and one more key at
+/// both ends.
 const NESTED: u32 = 16_384;
 
 static FIRST_NESTED: [First; 4] = [
@@ -68,7 +68,7 @@ fn pairs_of(alloc: Global, rules: &[(u32, u32)]) -> Result<Vec<(KeyRange, u32)>,
     Ok(pairs)
 }
 
-/// The table of the rules, if it has so few hits.
+/// The table of the rules, if it has at most this many entries.
 fn table_of(alloc: Global, most: usize) -> Result<Option<SeekTable>, AllocError> {
     SeekTable::build(alloc, &pairs_of(alloc, &RULES)?, most)
 }
@@ -84,7 +84,7 @@ fn the_next_rule_is_found(rt: HostRuntime) {
     assert!(rt; none.is_none());
 }
 
-/// The table of the pairs has to find these.
+/// Checks all rows on the table of the pairs.
 fn finds<R: Abort + AllocGlobal>(rt: &R, pairs: &[(KeyRange, u32)], rows: &[First]) {
     let table = FirstTable::build(rt.alloc(), pairs).expect(rt, "a table");
     for (row, &(key, wanted)) in rows.iter().enumerate() {
@@ -92,7 +92,7 @@ fn finds<R: Abort + AllocGlobal>(rt: &R, pairs: &[(KeyRange, u32)], rows: &[Firs
     }
 }
 
-/// Which rules of a table are the first ones.
+/// The rules that are the first of some key.
 fn first_rules(alloc: Global, pairs: &[(KeyRange, u32)]) -> Result<Vec<u32>, AllocError> {
     FirstTable::build(alloc, pairs)?.rules(alloc)
 }

@@ -1,4 +1,4 @@
-//! What tests share: a packet, bytes and texts of pieces, and rows that have to hold.
+//! Shared by the tests: a packet, bytes, repeated texts, and checks of rows.
 use hex::FromHexError;
 use std::alloc::{AllocError, Global};
 use std::process::Abort;
@@ -9,12 +9,12 @@ pub static PACKET: [u8; 28] = [
     0xc6, 0x33, 0x64, 0x07, 0x13, 0x88, 0x00, 0x35, 0x00, 0x08, 0x00, 0x00,
 ];
 
-/// The bytes of these hexadecimal texts, one after another.
+/// The bytes of the concatenated hexadecimal strings.
 pub fn bytes(alloc: Global, parts: &[&str]) -> Result<Vec<u8>, FromHexError> {
     hex::decode(alloc, parts.concat(alloc)?)
 }
 
-/// A beginning, so many times the same piece, and an end.
+/// A beginning, a piece repeated, and an end.
 pub fn repeated(
     alloc: Global,
     beginning: &[u8],
@@ -26,7 +26,7 @@ pub fn repeated(
     [beginning, &pieces, end].concat(alloc)
 }
 
-/// What a row says has to hold.
+/// Fails with the row's number if it isn't right.
 pub fn check_row<R: Abort>(rt: &R, row: usize, is_right: bool) {
     assert!(rt; is_right, "row {row}");
 }

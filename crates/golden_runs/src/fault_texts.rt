@@ -1,25 +1,24 @@
-//! What is told of faults. Each text of `data/faults` but a few has a fault behind some lines that are right, and
+//! Diagnostics of faults. Each text of `data/faults` but a few has a fault after some valid lines;
 //! `lines.txt` has what `--explain` and `--all` print for it, below a line `== NAME`.
 //!
-//! Rulesets are judged on the box `box.txt`, boxes under the ruleset `whole.nft`; of captures the place is
-//! told.
+//! Rulesets are judged on the box `box.txt`, box files with the ruleset `whole.nft`; of a capture
+//! the fault's position is printed.
 use anyhow::Result;
 use engine::judge;
 use fault_search::{SourcePaths, Sources, all_faults, capture_location, explained};
 use std::alloc::{AllocError, Global};
 use std::fs;
 
-/// What stands before the name of each text in the stored lines.
+/// The mark before the name of each text in the expected lines.
 const HEAD: &str = "\n== ";
 
-/// A ruleset of blanks that is too long: it has no file.
+/// A ruleset of blanks that is too long; there is no file of it.
 const LONG: &str = "long.nft";
 
 /// One byte more than a ruleset may have.
 const LONG_BYTES: usize = 1_048_577;
 
-/// Tells of each text of which something else is told than what is stored, and answers how many texts there
-/// are.
+/// Prints each difference from the expected lines, and gives the number of texts.
 pub fn compare_all(rt: &HostRuntime, stored: &str) -> Result<u64> {
     let mut number: u64 = 0;
     let parts = stored.strip_suffix('\n').unwrap_or(stored);
@@ -30,21 +29,21 @@ pub fn compare_all(rt: &HostRuntime, stored: &str) -> Result<u64> {
     Ok(number)
 }
 
-/// Compares what is told of a text with what is stored: its name, and the lines below.
+/// Compares the diagnostics of a text with the expected ones: its name, and the lines below.
 fn compare(rt: &HostRuntime, part: &str) -> Result<()> {
     let (name, lines) = part.split_once('\n').unwrap_or((part, ""));
-    let told = told(rt, name)?;
-    if told.as_str() != lines {
+    let actual = diagnostics(rt, name)?;
+    if actual.as_str() != lines {
         println!(rt;
-            "{name}: what is told is\n{}\ninstead of\n{lines}",
-            told.as_str()
+            "{name}: the diagnostics are\n{}\ninstead of\n{lines}",
+            actual.as_str()
         )?;
     }
     Ok(())
 }
 
-/// What is told of the text of this name.
-fn told(rt: &HostRuntime, name: &str) -> Result<String> {
+/// The diagnostics of the text of this name.
+fn diagnostics(rt: &HostRuntime, name: &str) -> Result<String> {
     if name.ends_with(".pcap") {
         return capture_fault_location(rt, name);
     }
@@ -78,12 +77,12 @@ fn paths_of(name: &str) -> SourcePaths<'_> {
     }
 }
 
-/// Where the file of this name is.
+/// The path of the file of this name.
 fn path(alloc: Global, name: &str) -> Result<String, AllocError> {
     format!(in alloc; "faults/{name}")
 }
 
-/// What is told of a ruleset on a box.
+/// The diagnostics of a ruleset on a box.
 fn diagnostics_of_texts(alloc: Global, sources: Sources<'_>) -> Result<String, AllocError> {
     let Err(fault) = judge(alloc, sources.rules, sources.plant) else {
         return String::from_str(alloc, "accepted");
@@ -93,11 +92,11 @@ fn diagnostics_of_texts(alloc: Global, sources: Sources<'_>) -> Result<String, A
     format!(in alloc; "nftrun: {fault}\n{}\n{}", lines.as_str(), faults.as_str())
 }
 
-/// Where a capture isn't read further.
+/// The position at which a capture is refused.
 fn capture_fault_location(rt: &HostRuntime, name: &str) -> Result<String> {
     let file = fs::open(rt, path(rt.alloc(), name)?.as_str())?;
     Ok(match capture_location(rt.alloc(), file) {
-        Some(place) => format!(in rt.alloc(); "{place}")?,
+        Some(location) => format!(in rt.alloc(); "{location}")?,
         None => String::from_str(rt.alloc(), "read whole")?,
     })
 }

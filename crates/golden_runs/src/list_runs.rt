@@ -1,5 +1,5 @@
-//! Runs that keep their connections in a plain list. They take each record as `engine::run` does, whose
-//! connections stand in slots that are found by hashed tuples.
+//! Runs with the plain list tracker. They process each record as `engine::run` does, which has the
+//! aged tracker.
 use crate::rows::{Row, Written};
 use anyhow::Result;
 use box_file::Plant;
@@ -17,7 +17,7 @@ use stepping::Engine;
 /// The greatest number of records in a capture.
 const MOST_RECORDS: u64 = 4_294_967_296;
 
-/// What a run writes.
+/// The outputs of a run.
 #[derive(Drop)]
 struct Outputs {
     numbers: Report,
@@ -47,7 +47,7 @@ impl Outputs {
     }
 }
 
-/// A run among the records of its capture, and what it has written.
+/// A run in progress, with its outputs.
 #[derive(Drop)]
 struct ListRun {
     engine: Engine<ListTracker>,
@@ -61,7 +61,7 @@ impl ListRun {
         Ok(ListRun { engine, outputs })
     }
 
-    /// Takes a record; no capture has more than so many.
+    /// Steps a record; no capture has more than this many.
     fn take(&mut self, record: &Record) -> Result<()> {
         if self.engine.records() < MOST_RECORDS && self.outputs.numbers.records() < MOST_RECORDS {
             self.engine.step(record)?;
@@ -75,7 +75,7 @@ impl ListRun {
         Ok(())
     }
 
-    /// Takes the records, and answers what they stop at; none at their end.
+    /// Steps the records; the fault at which they stop, `None` at their end.
     fn play<R: Read>(
         &mut self,
         records: &mut Capture,
@@ -94,7 +94,7 @@ impl ListRun {
         Ok(None)
     }
 
-    /// Takes the capture's records, which are read as the row says.
+    /// Steps the capture's records, read as the row says.
     fn run(&mut self, alloc: Global, row: &Row<'_>, capture: &[u8]) -> Result<()> {
         let mut reader = Counted::new(Failing::new(Slow::new(capture, row.pace), row.reads));
         let mut records = Capture::open(alloc, &mut reader)?;
@@ -102,14 +102,14 @@ impl ListRun {
         self.finish(stop)
     }
 
-    /// What it has written once they are taken.
+    /// The outputs of the whole run.
     fn written(mut self, alloc: Global, row: &Row<'_>, capture: &[u8]) -> Result<Written> {
         self.run(alloc, row, capture)?;
         Ok(self.outputs.written())
     }
 
-    /// Writes what is left, and the lines that come after the last record unless the records stop at a
-    /// fault; a torn end is none.
+    /// Writes what is left. The totals follow unless the records stop at a fault; a torn end is
+    /// none.
     fn finish(&mut self, stop: Option<CaptureError>) -> Result<()> {
         self.outputs.sink.finish(&mut self.outputs.sent)?;
         let rules = self.engine.rules();
@@ -127,7 +127,7 @@ impl ListRun {
     }
 }
 
-/// The box with these rules, before its first record; neither text is refused.
+/// The engine with these rules on this box, before its first record; neither text is refused.
 fn engine_of(
     alloc: Global,
     hasher: RandomState,
@@ -140,8 +140,7 @@ fn engine_of(
     Ok(Engine::new(alloc, hasher, checked)?)
 }
 
-/// What a run of the row writes with these rules on this box over the capture, none of which is refused before
-/// the first record.
+/// The outputs of the row's run; nothing is refused before the first record.
 pub fn run_listed(
     alloc: Global,
     hasher: RandomState,

@@ -1,26 +1,32 @@
-//! The program does what its words ask for, as `nftrun`: a run over a capture that is torn, into a file that
-//! is longer than what is written. Then OUT's bytes are printed, and in the end its status is handed on.
+//! Runs the program as `nftrun`, with the arguments of `args`: over a capture with a torn end, into
+//! a file that is longer than the output. Then it prints OUT's bytes; in the end it exits with the
+//! program's status.
 //!
-//! Between the two come runs that are written down in `data/`, each with the packets that leave and the report
-//! that it has to give, and texts with what is told of their faults (`faults`): it tells of each that gives
-//! something else, and how many there were.
+//! Between the two, it makes the runs of `data/*.rows`, each with its expected packets and report,
+//! and the texts of `data/faults` with their expected diagnostics (`fault_texts`). It prints each
+//! difference, and how many there were.
 //!
-//! A file of rows has a line `row NAME` for each, and below it `rules FILE`, or `nft RULESET` once or more,
-//! where each of these has to give the same; `box FILE` where that isn't `box.txt`; `trace` where one is
-//! asked for; a line `in ..` for each record and a line `out ..` for each packet that leaves, as
-//! `notation` has them, or bytes behind them in hexadecimal digits, `captured ..` and `written ..`, also the
-//! capture's `header ..`; `leaves ..` for each record of which `passes NUMBER ..` tells that its packet leaves
-//! so; `line ..` for each line of the report before the totals, and the totals that aren't 0; `records` and
-//! `passed` are the numbers of the lines `in` and `out` where they aren't told. A run ends with `done`, or
-//! with `status ..`; with `broken ..` there are no totals, and with `refused ..` nothing is written at all.
-//! `pace NUMBER`: each call gives or takes so many bytes at most, and `slowly`: 1, 2, 3, 5 or 7 at most have
-//! to give the same. `reads NUMBER`: so many calls of the reader work, and the next one fails.
+//! A file of rows has a line `row NAME` for each row, and below it:
 //!
-//! Each row that isn't refused before its first record is run once more with its connections in a plain list
-//! (`listed`), in place of the slots in which runs keep them, and has to write the same bytes.
+//! * `rules FILE`, or `nft RULESET` once or more, all of which must give the same;
+//! * `box FILE` where that isn't `box.txt`;
+//! * `trace` for a run with a trace;
+//! * `in ..` for each record and `out ..` for each forwarded packet, in the form of `notation`, or
+//!   bytes after them in hexadecimal digits, `captured ..` and `written ..`, and the capture's
+//!   `header ..`;
+//! * `leaves ..`, a record's packet as it leaves if `passes NUMBER ..` has its number;
+//! * `line ..` for each line of the report before the totals, and the totals that aren't 0
+//!   (`records` and `passed` are by default the numbers of lines `in` and `out`);
+//! * `status ..` if the run ends with another status than `done`; `broken ..` if there are no
+//!   totals then, and `refused ..` if nothing at all is written;
+//! * `pace NUMBER`, the most bytes of a call; `slowly`, if 1, 2, 3, 5 and 7 must give the same;
+//!   `reads NUMBER`, the calls of the reader before one fails.
 //!
-//! `again NAME` begins a row with the records of the one before, of which the same leave, and `anew NAME` one
-//! with those records, of which none leaves. `#` begins a comment.
+//! Each row that isn't refused before its first record is run once more with the plain list tracker
+//! (`list_runs`), and must write the same bytes.
+//!
+//! `again NAME` starts a row with the records of the one before and the same output, `anew NAME`
+//! one with those records and no output. `#` starts a comment.
 #![tactic(auto)]
 
 mod fault_texts;
@@ -38,7 +44,7 @@ use std::hash::RandomState;
 use std::process::ExitCode;
 use std::{fs, str};
 
-/// OUT of the run of the program.
+/// OUT of the program's run.
 const OUTPUT: &str = "longer.pcap";
 
 /// The files of rows.
@@ -52,10 +58,10 @@ static FILES: [&str; 10] = [
     "ends.rows",
     "reports.rows",
     "rules.rows",
-    "stories.rows",
+    "histories.rows",
 ];
 
-/// What is told of faults.
+/// The expected diagnostics.
 const FAULT_LINES: &str = "faults/lines.txt";
 
 fn main(rt: HostRuntime) -> Result<ExitCode> {
@@ -80,11 +86,11 @@ fn print_sent(rt: &HostRuntime) -> Result<()> {
 fn run_file(rt: &HostRuntime, file: &str) -> Result<()> {
     let text = fs::read_to_string(rt, file)?;
     let Counts { runs, listed } = run_all(rt, text.as_str())?;
-    println!(rt; "{file}: {runs} runs, {listed} over a list too")?;
+    println!(rt; "{file}: {runs} runs, {listed} with the list tracker too")?;
     Ok(())
 }
 
-/// Compares what is told of faults.
+/// Compares the diagnostics of all texts.
 fn compare_texts(rt: &HostRuntime) -> Result<()> {
     let stored = fs::read_to_string(rt, FAULT_LINES)?;
     let texts = compare_all(rt, stored.as_str())?;
@@ -92,14 +98,14 @@ fn compare_texts(rt: &HostRuntime) -> Result<()> {
     Ok(())
 }
 
-/// How many rows a text has, and how many of them were run over a list of connections too.
+/// The number of rows in a file, and of those that were also run with the list tracker.
 #[derive(Clone, Copy)]
 struct Counts {
     runs: u64,
     listed: u64,
 }
 
-/// Reads the rows of a text, and runs each.
+/// Reads the rows of a file, and runs each.
 #[derive(Drop)]
 struct RowReader<'t> {
     counts: Counts,
@@ -108,7 +114,7 @@ struct RowReader<'t> {
 }
 
 impl<'t> RowReader<'t> {
-    /// Runs the row that is open.
+    /// Runs the row that was read.
     fn run(&mut self, rt: &HostRuntime) -> Result<()> {
         if let Some(row) = &self.open {
             try_row(rt, row)?;
@@ -120,7 +126,8 @@ impl<'t> RowReader<'t> {
         Ok(())
     }
 
-    /// Takes one line of the row that is open, or runs that and opens the next one.
+    /// Takes a line: one of the current row, or the start of the next one, which runs the current
+    /// row.
     fn take(&mut self, rt: &HostRuntime, line: &'t str) -> Result<()> {
         let (word, name) = line.split_once(' ').unwrap_or((line, ""));
         if !matches!(word, "row" | "again" | "anew") {
@@ -135,7 +142,7 @@ impl<'t> RowReader<'t> {
         Ok(())
     }
 
-    /// Takes one line of the row that is open.
+    /// Takes a line of the current row.
     fn take_line(&mut self, rt: &HostRuntime, line: &'t str) -> Result<()> {
         if let Some(open) = &mut self.open {
             if !line.starts_with('#') && !open.take(rt.alloc(), line)? {
@@ -146,7 +153,7 @@ impl<'t> RowReader<'t> {
     }
 }
 
-/// Runs all rows of a text.
+/// Runs all rows of a file.
 fn run_all(rt: &HostRuntime, text: &str) -> Result<Counts> {
     let counts = Counts { runs: 0, listed: 0 };
     let mut reader = RowReader { counts, open: None };
@@ -171,10 +178,10 @@ fn try_row(rt: &HostRuntime, row: &Row<'_>) -> Result<()> {
     Ok(())
 }
 
-/// How many bytes each call of a slow run takes or gives at most.
+/// The most bytes of a call in a slow run.
 static PACES: [usize; 5] = [1, 2, 3, 5, 7];
 
-/// Runs a row with these rules, at each pace that it asks for.
+/// Runs a row with these rules, at each of its paces.
 fn try_rules(rt: &HostRuntime, row: &Row<'_>, rules: &[u8], plant: &[u8]) -> Result<()> {
     let capture = row.capture(rt.alloc())?;
     run_on_both_trackers(rt, row, rules, plant, &capture)?;
@@ -184,7 +191,7 @@ fn try_rules(rt: &HostRuntime, row: &Row<'_>, rules: &[u8], plant: &[u8]) -> Res
     Ok(())
 }
 
-/// Runs a row with these rules, and unless it is refused over a list of connections too.
+/// Runs a row with these rules, with both trackers unless it is refused.
 fn run_on_both_trackers(
     rt: &HostRuntime,
     row: &Row<'_>,
@@ -192,14 +199,14 @@ fn run_on_both_trackers(
     plant: &[u8],
     capture: &[u8],
 ) -> Result<()> {
-    // Drawn anew for each row: no answer depends on them.
+    // New keys for each row: no result depends on them.
     let hasher = RandomState::new(rt)?;
     let given = run_over(rt.alloc(), hasher, row, rules, plant, capture, row.pace);
     compare(rt, row, &given)?;
     if !row.is_refused() {
         let written = run_listed(rt.alloc(), hasher, row, rules, plant, capture)?;
         if written != given.written {
-            println!(rt; "{}: something else is written over a list", row.name)?;
+            println!(rt; "{}: the list tracker gives another output", row.name)?;
         }
     }
     Ok(())
@@ -221,7 +228,7 @@ fn try_slowly(
     Ok(())
 }
 
-/// Tells where a run gave something else.
+/// Prints the differences of a run from its row.
 fn compare(rt: &HostRuntime, row: &Row<'_>, given: &RunResult) -> Result<()> {
     compare_status(rt, row, given)?;
     compare_report(rt, row, &given.written.report)?;
@@ -231,7 +238,7 @@ fn compare(rt: &HostRuntime, row: &Row<'_>, given: &RunResult) -> Result<()> {
     Ok(())
 }
 
-/// Tells another status than the row's.
+/// Prints the status if it isn't the row's.
 fn compare_status(rt: &HostRuntime, row: &Row<'_>, given: &RunResult) -> Result<()> {
     let status = given.status.to_string(rt.alloc())?;
     if status.as_str().strip_prefix("nftrun: ") != Some(row.status) {
@@ -240,12 +247,12 @@ fn compare_status(rt: &HostRuntime, row: &Row<'_>, given: &RunResult) -> Result<
     Ok(())
 }
 
-/// Tells another report than the row's.
+/// Prints the report if it isn't the row's.
 fn compare_report(rt: &HostRuntime, row: &Row<'_>, report: &[u8]) -> Result<()> {
     let wanted = row.report(rt.alloc())?;
     if report != wanted.as_bytes() {
-        let told = str::from_utf8(report).unwrap_or("no text");
-        println!(rt; "{}: the report is\n{told}instead of\n{wanted}", row.name)?;
+        let actual = str::from_utf8(report).unwrap_or("no text");
+        println!(rt; "{}: the report is\n{actual}instead of\n{wanted}", row.name)?;
     }
     Ok(())
 }

@@ -1,9 +1,9 @@
-//! How records, packets that leave and totals are written down: a line each, words between blanks.
+//! The notation for records and forwarded packets: one a line, in words between blanks.
 use crate::packets::{EmbeddedDatagram, Flow, Packet, PacketEndpoint, Payload};
 use crate::records::{InputRecord, LAN, OutputPacket, WAN};
 use std::str::SplitWhitespace;
 
-/// `in MOMENT INTERFACE PACKET`: a moment is seconds, or seconds, a dot and nine digits.
+/// `in TIME INTERFACE PACKET`: a time is seconds, or seconds, a dot and nine digits.
 pub fn input_record(words: &mut SplitWhitespace<'_>) -> Option<InputRecord> {
     let (seconds, nanoseconds) = moment(words.next()?)?;
     let interface = match words.next()? {
@@ -19,11 +19,11 @@ pub fn input_record(words: &mut SplitWhitespace<'_>) -> Option<InputRecord> {
     })
 }
 
-/// `out PLACE [END > END [about END > END]]`
+/// `out INDEX [ENDPOINT > ENDPOINT [about ENDPOINT > ENDPOINT]]`
 pub fn output_packet(words: &mut SplitWhitespace<'_>) -> Option<OutputPacket> {
-    let place = words.next()?.parse::<usize>().ok()?;
+    let index = words.next()?.parse::<usize>().ok()?;
     let mut output_packet = OutputPacket {
-        place,
+        index,
         endpoints: None,
         about: None,
     };
@@ -48,8 +48,8 @@ fn moment(word: &str) -> Option<(u32, u32)> {
     }
 }
 
-/// `LOAD END > END [ttl NUMBER] [about LOAD END > END [kept BYTES]]`, or `none`. A TTL that isn't given
-/// is 64; what isn't said to be cut is told whole.
+/// `PAYLOAD ENDPOINT > ENDPOINT [ttl NUMBER] [about PAYLOAD ENDPOINT > ENDPOINT [kept BYTES]]`, or
+/// `none`. The default TTL is 64; an embedded datagram is whole by default.
 fn packet(words: &mut SplitWhitespace<'_>) -> Option<Option<Packet>> {
     let word = words.next()?;
     if word == "none" {
@@ -98,7 +98,7 @@ fn flow(word: &str, words: &mut SplitWhitespace<'_>) -> Option<Flow> {
     Some(Flow { payload, from, to })
 }
 
-/// `udp`, `tcp:FLAGS`, `ask`, `answer`, `error:TYPE` of ICMP, `other:PROTOCOL`.
+/// `udp`, `tcp:FLAGS`, `echo-request`, `echo-reply`, `error:TYPE` (ICMP), `other:PROTOCOL`.
 fn payload(word: &str) -> Option<Payload> {
     match word.split_once(':') {
         Some(("tcp", bits)) => Some(Payload::Tcp(control_bits(bits)?)),
@@ -107,14 +107,14 @@ fn payload(word: &str) -> Option<Payload> {
         Some(_) => None,
         None => match word {
             "udp" => Some(Payload::Udp),
-            "ask" => Some(Payload::EchoRequest),
-            "answer" => Some(Payload::EchoReply),
+            "echo-request" => Some(Payload::EchoRequest),
+            "echo-reply" => Some(Payload::EchoReply),
             _ => None,
         },
     }
 }
 
-/// The control bits of TCP, a letter each.
+/// The control bits of TCP, one letter each.
 fn control_bits(letters: &str) -> Option<u8> {
     let mut bits = 0;
     for letter in letters.bytes() {
@@ -131,7 +131,7 @@ fn control_bits(letters: &str) -> Option<u8> {
     Some(bits)
 }
 
-/// `END > END`
+/// `ENDPOINT > ENDPOINT`
 fn endpoints(
     word: &str,
     words: &mut SplitWhitespace<'_>,
@@ -157,7 +157,7 @@ fn end(word: &str) -> Option<PacketEndpoint> {
     }
 }
 
-/// Four numbers with dots between them, the first one highest.
+/// A dotted quad, the first octet the most significant.
 fn address(word: &str) -> Option<u32> {
     let mut groups = word.split('.');
     let bytes = [

@@ -1,32 +1,31 @@
-//! Packets, as they come and as they leave, built byte by byte of what they carry.
+//! Packets, received and forwarded, built byte by byte.
 use ip_headers::ones_sum;
 use std::alloc::{AllocError, Global};
 
-/// An end of a packet: its address and its port. The identifier of an echo is the port of the end
-/// that asks.
+/// An endpoint: address and port. The identifier of an echo is the requesting endpoint's port.
 #[derive(Clone, Copy)]
 pub struct PacketEndpoint {
     pub address: u32,
     pub port: u16,
 }
 
-/// What a packet carries behind its addresses.
+/// The payload of an IPv4 packet.
 #[derive(Clone, Copy)]
 pub enum Payload {
     Udp,
     /// With these control bits.
     Tcp(u8),
-    /// An ICMP echo.
+    /// An ICMP echo request.
     EchoRequest,
-    /// Its reply.
+    /// An ICMP echo reply.
     EchoReply,
     /// An ICMP error of this type.
     Error(u8),
-    /// Nothing, by this protocol.
+    /// No data, of this protocol.
     Other(u8),
 }
 
-/// A packet without data, by what it carries and the ends between which it goes.
+/// A packet without data: its payload and its endpoints.
 #[derive(Clone, Copy)]
 pub struct Flow {
     pub payload: Payload,
@@ -34,7 +33,7 @@ pub struct Flow {
     pub to: PacketEndpoint,
 }
 
-/// What an ICMP error tells of the packet that it is about: its first bytes, so many at most.
+/// The datagram embedded in an ICMP error, cut to this many bytes.
 #[derive(Clone, Copy)]
 pub struct EmbeddedDatagram {
     pub flow: Flow,
@@ -50,7 +49,7 @@ pub struct Packet {
 }
 
 impl Payload {
-    /// The number of the protocol.
+    /// The protocol number.
     fn protocol(self) -> u8 {
         match self {
             Payload::Udp => 17,
@@ -62,7 +61,7 @@ impl Payload {
 }
 
 impl Packet {
-    /// Its bytes, with checksums that are right.
+    /// The packet's bytes, with valid checksums.
     pub fn bytes(&self, alloc: Global) -> Result<Vec<u8>, AllocError> {
         let behind = match &self.about {
             Some(about) => about.bytes(alloc)?,
@@ -74,8 +73,8 @@ impl Packet {
 }
 
 impl EmbeddedDatagram {
-    /// The bytes that are told of a packet that had one hop left. Of a protocol without ports or an
-    /// identifier 8 bytes are told too.
+    /// The bytes of an embedded datagram, which has TTL 1. A protocol without ports or an
+    /// identifier has 8 bytes of data.
     fn bytes(&self, alloc: Global) -> Result<Vec<u8>, AllocError> {
         let carried = carried(alloc, &self.flow, &[0; 8])?;
         let mut all = datagram(alloc, &self.flow, 1, &carried)?;
@@ -84,7 +83,7 @@ impl EmbeddedDatagram {
     }
 }
 
-/// The length of the datagram that carries this.
+/// The total length of a datagram with this payload.
 fn length_of(carried: &[u8]) -> u16 {
     match u16::try_from(carried.len()) {
         Ok(length) => length.saturating_add(20),
@@ -92,7 +91,7 @@ fn length_of(carried: &[u8]) -> u16 {
     }
 }
 
-/// A datagram of IPv4 with a header of 20 bytes (RFC 791, section 3.1).
+/// An IPv4 datagram with a header of 20 bytes (RFC 791, section 3.1).
 fn datagram(alloc: Global, flow: &Flow, ttl: u8, carried: &[u8]) -> Result<Vec<u8>, AllocError> {
     let [l0, l1] = length_of(carried).to_be_bytes();
     let [s0, s1, s2, s3] = flow.from.address.to_be_bytes();
@@ -110,8 +109,8 @@ fn datagram(alloc: Global, flow: &Flow, ttl: u8, carried: &[u8]) -> Result<Vec<u
     Ok(all)
 }
 
-/// What stands behind the header; `behind` is what stands behind the 8 bytes of an ICMP error, or is
-/// all that another protocol carries.
+/// The payload's bytes; `behind` comes after the 8 bytes of an ICMP error, or is all of another
+/// protocol's payload.
 fn carried(alloc: Global, flow: &Flow, behind: &[u8]) -> Result<Vec<u8>, AllocError> {
     let mut all = Vec::new(alloc);
     match flow.payload {
@@ -125,8 +124,7 @@ fn carried(alloc: Global, flow: &Flow, behind: &[u8]) -> Result<Vec<u8>, AllocEr
     Ok(all)
 }
 
-/// The header of UDP behind what its checksum covers before it: addresses, protocol and length
-/// (RFC 768).
+/// The UDP header after its pseudo header: addresses, protocol and length (RFC 768).
 fn udp(from: PacketEndpoint, to: PacketEndpoint) -> [u8; 20] {
     let [s0, s1, s2, s3] = from.address.to_be_bytes();
     let [d0, d1, d2, d3] = to.address.to_be_bytes();
@@ -136,7 +134,7 @@ fn udp(from: PacketEndpoint, to: PacketEndpoint) -> [u8; 20] {
         s0, s1, s2, s3, d0, d1, d2, d3, 0, 17, 0, 8, f0, f1, t0, t1, 0, 8, 0, 0,
     ];
     let right = 0xffff - ones_sum(&covered);
-    // 0 would tell that there is none.
+    // 0 would mean that there is no checksum.
     let written = if right == 0 { 0xffff } else { right };
     let [high, low] = written.to_be_bytes();
     covered[18] = high;
@@ -144,7 +142,7 @@ fn udp(from: PacketEndpoint, to: PacketEndpoint) -> [u8; 20] {
     covered
 }
 
-/// The header of TCP, likewise (RFC 9293, section 3.1).
+/// The TCP header after its pseudo header (RFC 9293, section 3.1).
 fn tcp(from: PacketEndpoint, to: PacketEndpoint, flags: u8) -> [u8; 32] {
     let [s0, s1, s2, s3] = from.address.to_be_bytes();
     let [d0, d1, d2, d3] = to.address.to_be_bytes();
@@ -160,7 +158,7 @@ fn tcp(from: PacketEndpoint, to: PacketEndpoint, flags: u8) -> [u8; 32] {
     covered
 }
 
-/// An ICMP echo, or its reply (RFC 792).
+/// An ICMP echo request or reply (RFC 792).
 fn echo(message: u8, identifier: u16) -> [u8; 8] {
     let [i0, i1] = identifier.to_be_bytes();
     let mut all = [message, 0, 0, 0, i0, i1, 0, 1];
@@ -170,7 +168,7 @@ fn echo(message: u8, identifier: u16) -> [u8; 8] {
     all
 }
 
-/// Appends an ICMP error, behind whose 8 bytes stands this (RFC 792).
+/// Appends an ICMP error with this datagram after its 8 bytes (RFC 792).
 fn put_error(
     alloc: Global,
     all: &mut Vec<u8>,

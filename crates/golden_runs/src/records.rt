@@ -1,34 +1,34 @@
-//! Captures: records as they come, and as their packets leave.
+//! Captures: records received, and records of forwarded packets.
 use crate::packets::{EmbeddedDatagram, Flow, Packet, PacketEndpoint};
 use std::alloc::{AllocError, Global};
 
-/// The indexes of the interfaces `lan` and `wan` of the box.
+/// The indexes of the box's interfaces `lan` and `wan`.
 pub const LAN: u32 = 2;
 
 pub const WAN: u32 = 3;
 
-/// A record of a cooked capture.
+/// A record of an SLL2 capture.
 #[derive(Clone, Copy)]
 pub struct InputRecord {
-    /// Its moment: seconds, and nanoseconds below one.
+    /// Its time: seconds, and nanoseconds below one second.
     pub seconds: u32,
     pub nanoseconds: u32,
-    /// The index of the interface that it came in by.
+    /// The index of the input interface.
     pub interface: u32,
-    /// None: the record carries no packet of IPv4.
+    /// `None`: the record has no IPv4 packet.
     pub packet: Option<Packet>,
 }
 
-/// A packet that leaves: the place of its record, from 0, and the ends between which it goes then,
-/// where they are others; of an ICMP error also those of the packet that it is about.
+/// A forwarded packet: the index of its record, counted from 0; its new endpoints, if they change;
+/// those of its embedded datagram, for an ICMP error.
 #[derive(Clone, Copy)]
 pub struct OutputPacket {
-    pub place: usize,
+    pub index: usize,
     pub endpoints: Option<(PacketEndpoint, PacketEndpoint)>,
     pub about: Option<(PacketEndpoint, PacketEndpoint)>,
 }
 
-/// The interface that leads to an address: `lan` for 192.168.1.0/24, else `wan`.
+/// The output interface for an address: `lan` for 192.168.1.0/24, else `wan`.
 fn output_interface(address: u32) -> u32 {
     if address / 256 == 0x00c0_a801 {
         LAN
@@ -38,7 +38,7 @@ fn output_interface(address: u32) -> u32 {
 }
 
 impl InputRecord {
-    /// Appends the header of the record of this packet.
+    /// Appends the record header of this packet.
     fn put_header(&self, all: &mut Vec<u8>, packet: &[u8]) -> Result<(), AllocError> {
         let length = u32::try_from(packet.len()).unwrap_or(u32::MAX);
         let captured = length.saturating_add(20);
@@ -48,7 +48,7 @@ impl InputRecord {
         all.extend_from_slice(&captured.to_le_bytes())
     }
 
-    /// Appends the record as it comes.
+    /// Appends the record as received.
     pub fn put(&self, alloc: Global, all: &mut Vec<u8>) -> Result<(), AllocError> {
         match &self.packet {
             Some(packet) => self.put_cooked(all, [8, 0], &packet.bytes(alloc)?),
@@ -56,7 +56,7 @@ impl InputRecord {
         }
     }
 
-    /// Appends the record of a packet of this protocol, as it comes.
+    /// Appends the record of a packet with this EtherType, as received.
     fn put_cooked(
         &self,
         all: &mut Vec<u8>,
@@ -72,7 +72,7 @@ impl InputRecord {
         all.extend_from_slice(packet)
     }
 
-    /// Appends the record of its packet as it leaves: with its TTL lowered.
+    /// Appends the record of the forwarded packet, with its TTL decremented.
     pub fn put_forwarded(
         &self,
         alloc: Global,
@@ -102,7 +102,7 @@ impl InputRecord {
     }
 }
 
-/// A packet between other ends, where any are given.
+/// The flow with new endpoints, if there are any.
 fn between(flow: Flow, endpoints: Option<(PacketEndpoint, PacketEndpoint)>) -> Flow {
     match endpoints {
         Some((from, to)) => Flow {
@@ -114,8 +114,8 @@ fn between(flow: Flow, endpoints: Option<(PacketEndpoint, PacketEndpoint)>) -> F
     }
 }
 
-/// The lowest byte first, nanoseconds, version 2.4, LINKTYPE_LINUX_SLL2; snaplen 65,535, and as it is
-/// written 262,144.
+/// Little endian, nanoseconds, version 2.4, LINKTYPE_LINUX_SLL2; snaplen 65,535, and 262,144 of the
+/// output.
 pub static IN_HEADER: [u8; 24] = [
     0x4d, 0x3c, 0xb2, 0xa1, 2, 0, 4, 0, 0, 0, 0, 0, 0, 0, 0, 0, 0xff, 0xff, 0, 0, 20, 1, 0, 0,
 ];
@@ -124,7 +124,7 @@ static OUT_HEADER: [u8; 24] = [
     0x4d, 0x3c, 0xb2, 0xa1, 2, 0, 4, 0, 0, 0, 0, 0, 0, 0, 0, 0, 0, 0, 4, 0, 20, 1, 0, 0,
 ];
 
-/// A capture of these records behind a header.
+/// A capture of these records after a header.
 pub fn capture(
     alloc: Global,
     header: &[u8],
@@ -138,7 +138,7 @@ pub fn capture(
     Ok(all)
 }
 
-/// The capture that is written where these leave.
+/// The capture of the forwarded packets.
 pub fn output_capture(
     alloc: Global,
     input_record: &[InputRecord],
@@ -147,7 +147,7 @@ pub fn output_capture(
     let mut all = Vec::new(alloc);
     all.extend_from_slice(&OUT_HEADER)?;
     for one in output_packet {
-        if let Some(record) = input_record.get(one.place) {
+        if let Some(record) = input_record.get(one.index) {
             record.put_forwarded(alloc, &mut all, one)?;
         }
     }

@@ -1,4 +1,4 @@
-//! Runs that are written down, each with what it has to give.
+//! Rows: runs with their expected outputs.
 use crate::notation::{input_record, output_packet};
 use crate::records::{IN_HEADER, InputRecord, OutputPacket, capture, output_capture};
 use engine::run;
@@ -8,7 +8,7 @@ use std::alloc::{AllocError, Global};
 use std::hash::RandomState;
 use std::str::SplitWhitespace;
 
-/// The totals of a report, in their order.
+/// The totals of a report, in order.
 static TOTALS: [&str; 23] = [
     "records",
     "passed",
@@ -35,60 +35,59 @@ static TOTALS: [&str; 23] = [
     "torn",
 ];
 
-/// What a run leaves behind the lines that it tells of its records.
+/// What a run writes after the lines of its records.
 #[derive(Clone, Copy)]
 pub enum Ending {
     /// The totals.
     Totals,
-    /// Nothing: a record is refused.
+    /// Nothing, because a record is refused.
     Nothing,
-    /// The run is refused before anything is written, the header of a capture too.
+    /// Nothing at all, not even a capture's header: the run is refused before.
     Refused,
 }
 
-/// A run, and what it has to give.
+/// A run and its expected outputs.
 #[derive(Drop)]
 pub struct Row<'t> {
     pub name: &'t str,
-    /// The file that has its rules, if one has, and the one that has its box.
+    /// The file of its rules, if there is one, and the file of its box.
     pub rules: Option<&'t str>,
     pub plant: &'t str,
-    /// Rulesets of one line each, all of which have to give the same.
+    /// Rulesets of one line each, which must all give the same.
     pub rulesets: Vec<&'t str>,
-    /// Whether a trace is asked for.
+    /// Whether the run has a trace.
     pub trace: bool,
-    /// How many bytes a call takes or gives at most, and whether fewer have to give the same.
+    /// The most bytes of a call, and whether fewer must give the same.
     pub pace: usize,
     pub slowly: bool,
-    /// How many calls of the reader work, before one fails.
+    /// The calls of the reader before one fails.
     pub reads: usize,
-    /// How the program would end.
+    /// The expected status.
     pub status: &'t str,
     ending: Ending,
-    /// The header of the capture, where it is another one than usual.
+    /// The capture's header, if it isn't the default.
     header: Option<Vec<u8>>,
     input_record: Vec<InputRecord>,
     output_packet: Vec<OutputPacket>,
-    /// Bytes behind those of the records that come and of those that leave.
+    /// Bytes after the records received, and after those forwarded.
     captured: Vec<u8>,
     written: Vec<u8>,
-    /// The records of packets, as they leave if they do.
+    /// The packets' records as they leave, if they do.
     leaving: Vec<Vec<u8>>,
     /// The lines of the report before the totals.
     lines: String,
-    /// The totals that aren't 0, and where they aren't the numbers of `input_record` and `output_packet` those of records
-    /// and of packets that leave: lines.
+    /// Lines of totals that aren't 0, and of `records` and `passed` where they aren't the default.
     totals: Vec<&'t str>,
 }
 
-/// What a run writes.
+/// The outputs of a run.
 #[derive(Drop, PartialEq)]
 pub struct Written {
     pub sent: Vec<u8>,
     pub report: Vec<u8>,
 }
 
-/// What a run gives.
+/// The result of a run.
 #[derive(Drop)]
 pub struct RunResult {
     pub status: Status,
@@ -119,7 +118,7 @@ impl<'t> Row<'t> {
         }
     }
 
-    /// Another row with the same records, of which the same leave.
+    /// Starts another row with the same records and the same output.
     pub fn again(&mut self, alloc: Global, name: &'t str) {
         self.name = name;
         self.rules = None;
@@ -134,14 +133,14 @@ impl<'t> Row<'t> {
         self.totals = Vec::new(alloc);
     }
 
-    /// Another row with the same records, of which none leaves.
+    /// Starts another row with the same records and no output.
     pub fn anew(&mut self, alloc: Global, name: &'t str) {
         self.again(alloc, name);
         self.output_packet = Vec::new(alloc);
         self.written = Vec::new(alloc);
     }
 
-    /// Takes one line of the row; `false` where it can't be read.
+    /// Takes a line of the row; `false` if it can't be read.
     pub fn take(&mut self, alloc: Global, line: &'t str) -> Result<bool, AllocError> {
         let mut words = line.split_whitespace();
         match words.next() {
@@ -155,7 +154,7 @@ impl<'t> Row<'t> {
         }
     }
 
-    /// Takes a record that comes.
+    /// Takes a record.
     fn take_input(&mut self, mut words: SplitWhitespace<'_>) -> Result<bool, AllocError> {
         match input_record(&mut words) {
             Some(one) => self.input_record.push(one)?,
@@ -164,7 +163,7 @@ impl<'t> Row<'t> {
         Ok(true)
     }
 
-    /// Takes a packet that leaves.
+    /// Takes a forwarded packet.
     fn take_output(&mut self, mut words: SplitWhitespace<'_>) -> Result<bool, AllocError> {
         match output_packet(&mut words) {
             Some(one) => self.output_packet.push(one)?,
@@ -180,7 +179,7 @@ impl<'t> Row<'t> {
         Ok(true)
     }
 
-    /// Takes what is told of the run as a whole: how it is made, how it ends, or a total.
+    /// Takes a setting of the run, its status, or a total.
     fn take_setting(
         &mut self,
         word: &str,
@@ -203,13 +202,13 @@ impl<'t> Row<'t> {
         Ok(true)
     }
 
-    /// It ends with this status.
+    /// Sets the status and the ending.
     fn end(&mut self, status: &'t str, ending: Ending) {
         self.status = status;
         self.ending = ending;
     }
 
-    /// Takes a line with a word and bytes; `false` where it can't be read.
+    /// Takes a line of a word and bytes; `false` if it can't be read.
     fn take_bytes(&mut self, alloc: Global, line: &str) -> Result<bool, AllocError> {
         let (word, digits) = line.split_once(' ').unwrap_or((line, ""));
         let bytes = match hex::decode(alloc, digits) {
@@ -225,7 +224,7 @@ impl<'t> Row<'t> {
         Ok(true)
     }
 
-    /// The packets with these numbers leave; `false` where there is none.
+    /// The packets of these numbers leave; `false` if there is no such packet.
     fn pass(&mut self, words: SplitWhitespace<'_>) -> Result<bool, AllocError> {
         for word in words {
             let Ok(number) = word.parse::<usize>() else {
@@ -239,7 +238,7 @@ impl<'t> Row<'t> {
         Ok(true)
     }
 
-    /// The capture that comes.
+    /// The input capture.
     pub fn capture(&self, alloc: Global) -> Result<Vec<u8>, AllocError> {
         let header = match &self.header {
             Some(header) => header.as_slice(),
@@ -250,7 +249,7 @@ impl<'t> Row<'t> {
         Ok(all)
     }
 
-    /// The capture that is to be written.
+    /// The expected output capture.
     pub fn sent(&self, alloc: Global) -> Result<Vec<u8>, AllocError> {
         if let Ending::Refused = self.ending {
             return Ok(Vec::new(alloc));
@@ -260,7 +259,7 @@ impl<'t> Row<'t> {
         Ok(all)
     }
 
-    /// The report that is to be written.
+    /// The expected report.
     pub fn report(&self, alloc: Global) -> Result<String, AllocError> {
         match self.ending {
             Ending::Totals => self.with_totals(alloc),
@@ -268,12 +267,12 @@ impl<'t> Row<'t> {
         }
     }
 
-    /// Whether it is refused before its first record.
+    /// Whether the run is refused before its first record.
     pub fn is_refused(&self) -> bool {
         matches!(self.ending, Ending::Refused)
     }
 
-    /// The lines and the totals behind them.
+    /// The lines, and the totals after them.
     fn with_totals(&self, alloc: Global) -> Result<String, AllocError> {
         let mut text = self.lines.clone()?;
         for &name in &TOTALS {
@@ -288,7 +287,7 @@ impl<'t> Row<'t> {
         Ok(text)
     }
 
-    /// Appends a total that isn't told: the number of the records that come or of the packets that leave, or 0.
+    /// Appends a default total: the number of records or of forwarded packets, or 0.
     fn push_count(&self, alloc: Global, text: &mut String, name: &str) -> Result<(), AllocError> {
         let count = match name {
             "records" => self.input_record.len(),
@@ -298,7 +297,7 @@ impl<'t> Row<'t> {
         text.push_str(count.to_string(alloc)?.as_str())
     }
 
-    /// The total of this name, as it is written, if it is.
+    /// The total of this name, if the row has it.
     fn total(&self, name: &str) -> Option<&str> {
         for line in &self.totals {
             if let Some(number) = line.strip_prefix(name) {
@@ -309,7 +308,7 @@ impl<'t> Row<'t> {
     }
 }
 
-/// The number that is the next word; 0 where it is none.
+/// The next word as a number; 0 if it is none.
 fn number(words: &mut SplitWhitespace<'_>) -> usize {
     match words.next() {
         Some(word) => word.parse::<usize>().unwrap_or(0),
@@ -317,13 +316,12 @@ fn number(words: &mut SplitWhitespace<'_>) -> usize {
     }
 }
 
-/// What stands in a line behind its first word.
+/// The line after its first word.
 fn rest<'t>(line: &'t str, word: &str) -> &'t str {
     line.strip_prefix(word).unwrap_or("")
 }
 
-/// A run of the row with these rules on this box over the capture, of which each call takes or gives so
-/// many bytes at most.
+/// Runs the row with these rules on this box over the capture, with at most this many bytes a call.
 pub fn run_over(
     alloc: Global,
     hasher: RandomState,

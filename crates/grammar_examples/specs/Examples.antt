@@ -1,4 +1,4 @@
--- Texts by their tokens, and the trees that they mean.
+-- Examples of the grammar: texts as their tokens, and their trees (own).
 use Rattle.std.specs.Prelude.{List, [], ◌∷◌, Some, None, codes, true, false}
 use Rattle.nft_lexer.specs.declared.token.Punctuator.TheVariants.{OpenBrace, CloseBrace, OpenParenthesis, CloseParenthesis}
 use Rattle.nft_lexer.specs.declared.token.Punctuator.TheVariants.{Comma, Semicolon, Colon, Dot, Slash, Minus, Plus, Equals}
@@ -29,23 +29,23 @@ use Rattle.nft_tree.specs.Tree as tree
 use Rattle.nft_tree.specs.Tree.{Text, ValueTree, RangeTree, VerdictTree, ElementTree, PairTree, SetRefTree, Statement}
 use Rattle.nft_tree.specs.Tree.{RuleTree, SetTree, MapTree, HeadTree, ChainTree, TableTree}
 
--- a rule with no comment
+-- A rule without a comment.
 abbrev pub uncommented : List Statement → RuleTree
 uncommented ss = record { statements = ss; comment = None }
 
--- a comparison for equality with one value
+-- A comparison of equality with one value.
 abbrev pub equals : Selector → ValueTree → Statement
 equals s v = tree.matching (tree.compare s operators.Equal (tree.one v))
 
--- the value of a selector is in a set
+-- A lookup of one selector in a set.
 abbrev pub is_in : Selector → SetRefTree → Statement
 is_in s set = tree.matching (tree.is_in (s ∷ []) set)
 
--- an element with no comment that is one value, a range or a prefix
+-- An element without a comment: a value, a range or a prefix.
 abbrev pub element : RangeTree → ElementTree
 element r = record { key = tree.single r; comment = None }
 
--- a pair with no comment of a word and a verdict
+-- A pair of a word and a verdict, without a comment.
 abbrev pub verdict_pair : Text → VerdictTree → PairTree
 verdict_pair w v = record { key = tree.one (tree.word w); comment = None; value = tree.to_verdict v }
 
@@ -70,7 +70,8 @@ port_is_not_22 = uncommented (
 -- meta l4proto { icmp, ipv6-icmp } accept
 abbrev pub either_icmp_tokens : List Terminal → List Terminal
 either_icmp_tokens rest =
-    word (codes "meta") ∷ word (codes "l4proto") ∷ punctuator OpenBrace ∷ word (codes "icmp") ∷ punctuator Comma
+    word (codes "meta") ∷ word (codes "l4proto") ∷ punctuator OpenBrace ∷ word (codes "icmp")
+    ∷ punctuator Comma
     ∷ word (codes "ipv6-icmp") ∷ punctuator CloseBrace ∷ word (codes "accept") ∷ rest
 
 abbrev pub either_icmp : RuleTree
@@ -87,19 +88,22 @@ abbrev pub from_loopback_tokens : List Terminal → List Terminal
 from_loopback_tokens rest = word (codes "iifname") ∷ string (codes "lo") ∷ word (codes "accept") ∷ rest
 
 abbrev pub from_loopback : RuleTree
-from_loopback = uncommented (equals selectors.InputName (tree.string (codes "lo")) ∷ tree.verdict tree.accept ∷ [])
+from_loopback = uncommented (equals selectors.InputName (tree.string (codes "lo")) ∷ tree.verdict tree.accept
+    ∷ [])
 
 -- iifname accept accept
 abbrev pub from_accept_tokens : List Terminal → List Terminal
 from_accept_tokens rest = word (codes "iifname") ∷ word (codes "accept") ∷ word (codes "accept") ∷ rest
 
 abbrev pub from_accept : RuleTree
-from_accept = uncommented (equals selectors.InputName (tree.word (codes "accept")) ∷ tree.verdict tree.accept ∷ [])
+from_accept = uncommented (equals selectors.InputName (tree.word (codes "accept")) ∷ tree.verdict tree.accept
+    ∷ [])
 
 -- ct state established,related accept
 abbrev pub known_connection_tokens : List Terminal → List Terminal
 known_connection_tokens rest =
-    word (codes "ct") ∷ word (codes "state") ∷ word (codes "established") ∷ punctuator Comma ∷ word (codes "related")
+    word (codes "ct") ∷ word (codes "state") ∷ word (codes "established") ∷ punctuator Comma
+    ∷ word (codes "related")
     ∷ word (codes "accept") ∷ rest
 
 abbrev pub known_connection : RuleTree
@@ -127,8 +131,10 @@ verdict_by_source = uncommented (tree.verdict_map selectors.IpSource (tree.named
 abbrev pub web_from_lan_tokens : List Terminal → List Terminal
 web_from_lan_tokens rest =
     word (codes "ip") ∷ word (codes "saddr") ∷ punctuator At ∷ word (codes "lan4") ∷ word (codes "tcp")
-    ∷ word (codes "dport") ∷ punctuator OpenBrace ∷ number 22 ∷ punctuator Comma ∷ number 80 ∷ punctuator Minus ∷ number 443
-    ∷ punctuator CloseBrace ∷ word (codes "counter") ∷ word (codes "packets") ∷ number 12 ∷ word (codes "bytes")
+    ∷ word (codes "dport") ∷ punctuator OpenBrace ∷ number 22 ∷ punctuator Comma ∷ number 80
+    ∷ punctuator Minus ∷ number 443
+    ∷ punctuator CloseBrace ∷ word (codes "counter") ∷ word (codes "packets") ∷ number 12
+    ∷ word (codes "bytes")
     ∷ number 840 ∷ word (codes "accept") ∷ word (codes "comment") ∷ string (codes "in") ∷ rest
 
 abbrev pub web_from_lan : RuleTree
@@ -148,9 +154,12 @@ web_from_lan = record {
 -- ct state vmap { invalid : drop, established : accept, related : accept }
 abbrev pub verdict_by_state_tokens : List Terminal → List Terminal
 verdict_by_state_tokens rest =
-    word (codes "ct") ∷ word (codes "state") ∷ word (codes "vmap") ∷ punctuator OpenBrace ∷ word (codes "invalid")
-    ∷ punctuator Colon ∷ word (codes "drop") ∷ punctuator Comma ∷ word (codes "established") ∷ punctuator Colon ∷ word (codes "accept")
-    ∷ punctuator Comma ∷ word (codes "related") ∷ punctuator Colon ∷ word (codes "accept") ∷ punctuator CloseBrace ∷ rest
+    word (codes "ct") ∷ word (codes "state") ∷ word (codes "vmap") ∷ punctuator OpenBrace
+    ∷ word (codes "invalid")
+    ∷ punctuator Colon ∷ word (codes "drop") ∷ punctuator Comma ∷ word (codes "established")
+    ∷ punctuator Colon ∷ word (codes "accept")
+    ∷ punctuator Comma ∷ word (codes "related") ∷ punctuator Colon ∷ word (codes "accept")
+    ∷ punctuator CloseBrace ∷ rest
 
 abbrev pub verdict_by_state : RuleTree
 verdict_by_state = uncommented (
@@ -164,14 +173,17 @@ verdict_by_state = uncommented (
 -- tcp flags & (syn | ack) == syn drop
 abbrev pub opening_by_mask_tokens : List Terminal → List Terminal
 opening_by_mask_tokens rest =
-    word (codes "tcp") ∷ word (codes "flags") ∷ punctuator Ampersand ∷ punctuator OpenParenthesis ∷ word (codes "syn")
-    ∷ punctuator Bar ∷ word (codes "ack") ∷ punctuator CloseParenthesis ∷ punctuator EqualTo ∷ word (codes "syn") ∷ word (codes "drop")
+    word (codes "tcp") ∷ word (codes "flags") ∷ punctuator Ampersand ∷ punctuator OpenParenthesis
+    ∷ word (codes "syn")
+    ∷ punctuator Bar ∷ word (codes "ack") ∷ punctuator CloseParenthesis ∷ punctuator EqualTo
+    ∷ word (codes "syn") ∷ word (codes "drop")
     ∷ rest
 
 -- tcp flags syn / syn,ack drop
 abbrev pub opening_by_slash_tokens : List Terminal → List Terminal
 opening_by_slash_tokens rest =
-    word (codes "tcp") ∷ word (codes "flags") ∷ word (codes "syn") ∷ punctuator Slash ∷ word (codes "syn") ∷ punctuator Comma
+    word (codes "tcp") ∷ word (codes "flags") ∷ word (codes "syn") ∷ punctuator Slash ∷ word (codes "syn")
+    ∷ punctuator Comma
     ∷ word (codes "ack") ∷ word (codes "drop") ∷ rest
 
 abbrev pub opening : RuleTree
@@ -185,13 +197,17 @@ opening = uncommented (
 -- ip daddr . udp dport { 198.51.100.7 . 53 } accept
 abbrev pub to_name_server_tokens : List Terminal → List Terminal
 to_name_server_tokens rest =
-    word (codes "ip") ∷ word (codes "daddr") ∷ punctuator Dot ∷ word (codes "udp") ∷ word (codes "dport") ∷ punctuator OpenBrace
+    word (codes "ip") ∷ word (codes "daddr") ∷ punctuator Dot ∷ word (codes "udp") ∷ word (codes "dport")
+    ∷ punctuator OpenBrace
     ∷ address 0xC6336407 ∷ punctuator Dot ∷ number 53 ∷ punctuator CloseBrace ∷ word (codes "accept") ∷ rest
 
 abbrev pub to_name_server : RuleTree
 to_name_server = uncommented (
     tree.matching (tree.is_in (selectors.IpDestination ∷ selectors.UdpDestination ∷ [])
-    (tree.elements (record { key = tree.joined (tree.address 0xC6336407 ∷ tree.number 53 ∷ []); comment = None } ∷
+    (tree.elements (record {
+      key = tree.joined (tree.address 0xC6336407 ∷ tree.number 53 ∷ []);
+      comment = None;
+    } ∷
     [])))
     ∷ tree.verdict tree.accept ∷ [])
 
@@ -201,22 +217,26 @@ masqueraded_tokens rest = word (codes "oifname") ∷ string (codes "wan") ∷ wo
 
 abbrev pub masqueraded : RuleTree
 masqueraded =
-    uncommented (equals selectors.OutputName (tree.string (codes "wan")) ∷ tree.nat (tree.masquerade None) ∷ [])
+    uncommented (equals selectors.OutputName (tree.string (codes "wan")) ∷ tree.nat (tree.masquerade None)
+    ∷ [])
 
 -- snat to 203.0.113.1:1024-1025
 abbrev pub translated_source_tokens : List Terminal → List Terminal
 translated_source_tokens rest =
-    word (codes "snat") ∷ word (codes "to") ∷ address 0xCB007101 ∷ punctuator Colon ∷ number 1024 ∷ punctuator Minus
+    word (codes "snat") ∷ word (codes "to") ∷ address 0xCB007101 ∷ punctuator Colon ∷ number 1024
+    ∷ punctuator Minus
     ∷ number 1025 ∷ rest
 
 abbrev pub translated_source : RuleTree
 translated_source =
-    uncommented (tree.nat (tree.source (tree.source_address 0xCB007101 (Some (port_ranges.Between 1024 1025)))) ∷ [])
+    uncommented (tree.nat (tree.source (tree.source_address 0xCB007101
+    (Some (port_ranges.Between 1024 1025)))) ∷ [])
 
 -- meta mark set ct mark
 abbrev pub mark_from_connection_tokens : List Terminal → List Terminal
 mark_from_connection_tokens rest =
-    word (codes "meta") ∷ word (codes "mark") ∷ word (codes "set") ∷ word (codes "ct") ∷ word (codes "mark") ∷ rest
+    word (codes "meta") ∷ word (codes "mark") ∷ word (codes "set") ∷ word (codes "ct") ∷ word (codes "mark")
+    ∷ rest
 
 abbrev pub mark_from_connection : RuleTree
 mark_from_connection = uncommented (tree.set_mark mark_fields.Meta (tree.mark_of mark_fields.Ct) ∷ [])
@@ -231,8 +251,10 @@ connection_marked = uncommented (tree.set_mark mark_fields.Ct (tree.constant 7) 
 -- tcp flags & (fin | syn) != 0 continue
 abbrev pub some_flag_tokens : List Terminal → List Terminal
 some_flag_tokens rest =
-    word (codes "tcp") ∷ word (codes "flags") ∷ punctuator Ampersand ∷ punctuator OpenParenthesis ∷ word (codes "fin")
-    ∷ punctuator Bar ∷ word (codes "syn") ∷ punctuator CloseParenthesis ∷ punctuator NotEqualTo ∷ number 0 ∷ word (codes "continue")
+    word (codes "tcp") ∷ word (codes "flags") ∷ punctuator Ampersand ∷ punctuator OpenParenthesis
+    ∷ word (codes "fin")
+    ∷ punctuator Bar ∷ word (codes "syn") ∷ punctuator CloseParenthesis ∷ punctuator NotEqualTo ∷ number 0
+    ∷ word (codes "continue")
     ∷ rest
 
 abbrev pub some_flag : RuleTree
@@ -246,8 +268,10 @@ some_flag = uncommented (
 -- tcp flags == syn,ack ct status != dnat drop
 abbrev pub syn_ack_tokens : List Terminal → List Terminal
 syn_ack_tokens rest =
-    word (codes "tcp") ∷ word (codes "flags") ∷ punctuator EqualTo ∷ word (codes "syn") ∷ punctuator Comma ∷ word (codes "ack")
-    ∷ word (codes "ct") ∷ word (codes "status") ∷ punctuator NotEqualTo ∷ word (codes "dnat") ∷ word (codes "drop") ∷ rest
+    word (codes "tcp") ∷ word (codes "flags") ∷ punctuator EqualTo ∷ word (codes "syn") ∷ punctuator Comma
+    ∷ word (codes "ack")
+    ∷ word (codes "ct") ∷ word (codes "status") ∷ punctuator NotEqualTo ∷ word (codes "dnat")
+    ∷ word (codes "drop") ∷ rest
 
 abbrev pub syn_ack : RuleTree
 syn_ack = uncommented (
@@ -260,7 +284,8 @@ syn_ack = uncommented (
 abbrev pub mark_by_source_tokens : List Terminal → List Terminal
 mark_by_source_tokens rest =
     word (codes "meta") ∷ word (codes "mark") ∷ word (codes "set") ∷ word (codes "ip") ∷ word (codes "saddr")
-    ∷ word (codes "map") ∷ punctuator OpenBrace ∷ address 0x0A000001 ∷ punctuator Minus ∷ address 0x0A000009 ∷ punctuator Colon
+    ∷ word (codes "map") ∷ punctuator OpenBrace ∷ address 0x0A000001 ∷ punctuator Minus ∷ address 0x0A000009
+    ∷ punctuator Colon
     ∷ number 16 ∷ punctuator CloseBrace ∷ word (codes "counter") ∷ rest
 
 abbrev pub mark_by_source : RuleTree
@@ -278,7 +303,8 @@ mark_by_source = uncommented (
 
 -- udp dport 53 notrack
 abbrev pub names_untracked_tokens : List Terminal → List Terminal
-names_untracked_tokens rest = word (codes "udp") ∷ word (codes "dport") ∷ number 53 ∷ word (codes "notrack") ∷ rest
+names_untracked_tokens rest = word (codes "udp") ∷ word (codes "dport") ∷ number 53 ∷ word (codes "notrack")
+    ∷ rest
 
 abbrev pub names_untracked : RuleTree
 names_untracked = uncommented (equals selectors.UdpDestination (tree.number 53) ∷ tree.notrack ∷ [])
@@ -286,9 +312,11 @@ names_untracked = uncommented (equals selectors.UdpDestination (tree.number 53) 
 -- ip saddr != 10.0.0.0/8 tcp sport >= 1024 log prefix "high" redirect to :8080
 abbrev pub outside_logged_tokens : List Terminal → List Terminal
 outside_logged_tokens rest =
-    word (codes "ip") ∷ word (codes "saddr") ∷ punctuator NotEqualTo ∷ address 0x0A000000 ∷ punctuator Slash ∷ number 8
+    word (codes "ip") ∷ word (codes "saddr") ∷ punctuator NotEqualTo ∷ address 0x0A000000 ∷ punctuator Slash
+    ∷ number 8
     ∷ word (codes "tcp") ∷ word (codes "sport") ∷ punctuator AtLeast ∷ number 1024 ∷ word (codes "log")
-    ∷ word (codes "prefix") ∷ string (codes "high") ∷ word (codes "redirect") ∷ word (codes "to") ∷ punctuator Colon
+    ∷ word (codes "prefix") ∷ string (codes "high") ∷ word (codes "redirect") ∷ word (codes "to")
+    ∷ punctuator Colon
     ∷ number 8080 ∷ rest
 
 abbrev pub outside_logged : RuleTree
@@ -321,7 +349,8 @@ local_network_tokens rest =
     ∷ word (codes "type") ∷ word (codes "ipv4_addr") ∷ newline
     ∷ word (codes "flags") ∷ word (codes "interval") ∷ newline
     ∷ word (codes "auto-merge") ∷ newline
-    ∷ word (codes "elements") ∷ punctuator Equals ∷ punctuator OpenBrace ∷ address 0x0A000000 ∷ punctuator Slash ∷ number 8
+    ∷ word (codes "elements") ∷ punctuator Equals ∷ punctuator OpenBrace ∷ address 0x0A000000
+    ∷ punctuator Slash ∷ number 8
     ∷ punctuator CloseBrace ∷ newline
     ∷ punctuator CloseBrace ∷ rest
 
@@ -339,18 +368,26 @@ local_network = record {
 -- 10.0.0.1 . 22 comment "first"
 abbrev pub guest_elements : List ElementTree
 guest_elements =
-    record { key = tree.joined (tree.address 0x0A000001 ∷ tree.number 22 ∷ []); comment = Some (codes "first") } ∷ []
+    record {
+      key = tree.joined (tree.address 0x0A000001 ∷ tree.number 22 ∷ []);
+      comment = Some (codes "first");
+    } ∷ []
 
--- set guests { typeof ip saddr . tcp dport; flags constant, interval; size 10; comment "by port"; elements = {
--- 10.0.0.1 . 22 comment "first", }; }
+-- set guests { typeof ip saddr . tcp dport; flags constant, interval; size 10; comment "by port";
+-- elements = { 10.0.0.1 . 22 comment "first", }; }
 abbrev pub guests_tokens : List Terminal → List Terminal
 guests_tokens rest =
-    word (codes "set") ∷ word (codes "guests") ∷ punctuator OpenBrace ∷ word (codes "typeof") ∷ word (codes "ip")
+    word (codes "set") ∷ word (codes "guests") ∷ punctuator OpenBrace ∷ word (codes "typeof")
+    ∷ word (codes "ip")
     ∷ word (codes "saddr") ∷ punctuator Dot ∷ word (codes "tcp") ∷ word (codes "dport") ∷ punctuator Semicolon
-    ∷ word (codes "flags") ∷ word (codes "constant") ∷ punctuator Comma ∷ word (codes "interval") ∷ punctuator Semicolon
-    ∷ word (codes "size") ∷ number 10 ∷ punctuator Semicolon ∷ word (codes "comment") ∷ string (codes "by port")
-    ∷ punctuator Semicolon ∷ word (codes "elements") ∷ punctuator Equals ∷ punctuator OpenBrace ∷ address 0x0A000001 ∷ punctuator Dot
-    ∷ number 22 ∷ word (codes "comment") ∷ string (codes "first") ∷ punctuator Comma ∷ punctuator CloseBrace ∷ punctuator Semicolon
+    ∷ word (codes "flags") ∷ word (codes "constant") ∷ punctuator Comma ∷ word (codes "interval")
+    ∷ punctuator Semicolon
+    ∷ word (codes "size") ∷ number 10 ∷ punctuator Semicolon ∷ word (codes "comment")
+    ∷ string (codes "by port")
+    ∷ punctuator Semicolon ∷ word (codes "elements") ∷ punctuator Equals ∷ punctuator OpenBrace
+    ∷ address 0x0A000001 ∷ punctuator Dot
+    ∷ number 22 ∷ word (codes "comment") ∷ string (codes "first") ∷ punctuator Comma ∷ punctuator CloseBrace
+    ∷ punctuator Semicolon
     ∷ punctuator CloseBrace ∷ rest
 
 abbrev pub guests : SetTree
@@ -378,10 +415,14 @@ interface_pairs =
 -- map by_interface { elements = { "lo" : goto b, eth0 : drop }; typeof iifname : verdict }
 abbrev pub by_interface_tokens : List Terminal → List Terminal
 by_interface_tokens rest =
-    word (codes "map") ∷ word (codes "by_interface") ∷ punctuator OpenBrace ∷ word (codes "elements") ∷ punctuator Equals
-    ∷ punctuator OpenBrace ∷ string (codes "lo") ∷ punctuator Colon ∷ word (codes "goto") ∷ word (codes "b") ∷ punctuator Comma
-    ∷ word (codes "eth0") ∷ punctuator Colon ∷ word (codes "drop") ∷ punctuator CloseBrace ∷ punctuator Semicolon
-    ∷ word (codes "typeof") ∷ word (codes "iifname") ∷ punctuator Colon ∷ word (codes "verdict") ∷ punctuator CloseBrace ∷ rest
+    word (codes "map") ∷ word (codes "by_interface") ∷ punctuator OpenBrace ∷ word (codes "elements")
+    ∷ punctuator Equals
+    ∷ punctuator OpenBrace ∷ string (codes "lo") ∷ punctuator Colon ∷ word (codes "goto") ∷ word (codes "b")
+    ∷ punctuator Comma
+    ∷ word (codes "eth0") ∷ punctuator Colon ∷ word (codes "drop") ∷ punctuator CloseBrace
+    ∷ punctuator Semicolon
+    ∷ word (codes "typeof") ∷ word (codes "iifname") ∷ punctuator Colon ∷ word (codes "verdict")
+    ∷ punctuator CloseBrace ∷ rest
 
 abbrev pub by_interface : MapTree
 by_interface = record {
@@ -397,7 +438,8 @@ by_interface = record {
 -- chain watch { type filter hook forward priority -150; jump b; ip saddr 10.0.0.1 - 10.0.0.9 drop; }
 abbrev pub watch_tokens : List Terminal → List Terminal
 watch_tokens rest =
-    word (codes "chain") ∷ word (codes "watch") ∷ punctuator OpenBrace ∷ word (codes "type") ∷ word (codes "filter")
+    word (codes "chain") ∷ word (codes "watch") ∷ punctuator OpenBrace ∷ word (codes "type")
+    ∷ word (codes "filter")
     ∷ word (codes "hook") ∷ word (codes "forward") ∷ word (codes "priority") ∷ punctuator Minus ∷ number 150
     ∷ punctuator Semicolon ∷ word (codes "jump") ∷ word (codes "b") ∷ punctuator Semicolon ∷ word (codes "ip")
     ∷ word (codes "saddr") ∷ address 0x0A000001 ∷ punctuator Minus ∷ address 0x0A000009 ∷ word (codes "drop")
@@ -424,7 +466,7 @@ watch = record {
       ∷ [];
 }
 
--- the head of a filter chain with a policy, at the priority `filter`
+-- A filter chain's hook specification at priority `filter`, with a policy.
 abbrev pub filter_head : Hook → Policy → HeadTree
 filter_head hook policy = record {
   kind = chain_kinds.Filter;
@@ -445,7 +487,8 @@ loopback_only_tokens =
     word (codes "table") ∷ word (codes "inet") ∷ word (codes "filter") ∷ punctuator OpenBrace ∷ newline
     ∷ word (codes "chain") ∷ word (codes "input") ∷ punctuator OpenBrace ∷ newline
     ∷ word (codes "type") ∷ word (codes "filter") ∷ word (codes "hook") ∷ word (codes "input")
-    ∷ word (codes "priority") ∷ word (codes "filter") ∷ punctuator Semicolon ∷ word (codes "policy") ∷ word (codes "drop")
+    ∷ word (codes "priority") ∷ word (codes "filter") ∷ punctuator Semicolon ∷ word (codes "policy")
+    ∷ word (codes "drop")
     ∷ punctuator Semicolon ∷ newline
     ∷ word (codes "iifname") ∷ string (codes "lo") ∷ word (codes "accept") ∷ newline
     ∷ punctuator CloseBrace ∷ newline
@@ -505,24 +548,32 @@ filter_listing_tokens =
     ∷ word (codes "type") ∷ word (codes "ipv4_addr") ∷ newline
     ∷ word (codes "flags") ∷ word (codes "interval") ∷ newline
     ∷ word (codes "auto-merge") ∷ newline
-    ∷ word (codes "elements") ∷ punctuator Equals ∷ punctuator OpenBrace ∷ address 0x0A000000 ∷ punctuator Slash ∷ number 8 ∷ punctuator Comma
+    ∷ word (codes "elements") ∷ punctuator Equals ∷ punctuator OpenBrace ∷ address 0x0A000000
+    ∷ punctuator Slash ∷ number 8 ∷ punctuator Comma
     ∷ newline
     ∷ address 0xC0A80000 ∷ punctuator Slash ∷ number 16 ∷ punctuator CloseBrace ∷ newline
     ∷ punctuator CloseBrace ∷ newline
     ∷ newline
     ∷ word (codes "chain") ∷ word (codes "input") ∷ punctuator OpenBrace ∷ newline
     ∷ word (codes "type") ∷ word (codes "filter") ∷ word (codes "hook") ∷ word (codes "input")
-    ∷ word (codes "priority") ∷ word (codes "filter") ∷ punctuator Semicolon ∷ word (codes "policy") ∷ word (codes "drop")
+    ∷ word (codes "priority") ∷ word (codes "filter") ∷ punctuator Semicolon ∷ word (codes "policy")
+    ∷ word (codes "drop")
     ∷ punctuator Semicolon ∷ newline
-    ∷ word (codes "ct") ∷ word (codes "state") ∷ word (codes "vmap") ∷ punctuator OpenBrace ∷ word (codes "invalid")
-    ∷ punctuator Colon ∷ word (codes "drop") ∷ punctuator Comma ∷ word (codes "established") ∷ punctuator Colon ∷ word (codes "accept")
-    ∷ punctuator Comma ∷ word (codes "related") ∷ punctuator Colon ∷ word (codes "accept") ∷ punctuator CloseBrace ∷ newline
+    ∷ word (codes "ct") ∷ word (codes "state") ∷ word (codes "vmap") ∷ punctuator OpenBrace
+    ∷ word (codes "invalid")
+    ∷ punctuator Colon ∷ word (codes "drop") ∷ punctuator Comma ∷ word (codes "established")
+    ∷ punctuator Colon ∷ word (codes "accept")
+    ∷ punctuator Comma ∷ word (codes "related") ∷ punctuator Colon ∷ word (codes "accept")
+    ∷ punctuator CloseBrace ∷ newline
     ∷ word (codes "iifname") ∷ string (codes "lo") ∷ word (codes "accept") ∷ newline
     ∷ word (codes "ip") ∷ word (codes "saddr") ∷ punctuator At ∷ word (codes "lan4") ∷ word (codes "tcp")
-    ∷ word (codes "dport") ∷ punctuator OpenBrace ∷ number 22 ∷ punctuator Comma ∷ number 80 ∷ punctuator Minus ∷ number 443
-    ∷ punctuator CloseBrace ∷ word (codes "counter") ∷ word (codes "packets") ∷ number 12 ∷ word (codes "bytes")
+    ∷ word (codes "dport") ∷ punctuator OpenBrace ∷ number 22 ∷ punctuator Comma ∷ number 80
+    ∷ punctuator Minus ∷ number 443
+    ∷ punctuator CloseBrace ∷ word (codes "counter") ∷ word (codes "packets") ∷ number 12
+    ∷ word (codes "bytes")
     ∷ number 840 ∷ word (codes "accept") ∷ word (codes "comment") ∷ string (codes "in") ∷ newline
-    ∷ word (codes "meta") ∷ word (codes "l4proto") ∷ punctuator OpenBrace ∷ word (codes "icmp") ∷ punctuator Comma
+    ∷ word (codes "meta") ∷ word (codes "l4proto") ∷ punctuator OpenBrace ∷ word (codes "icmp")
+    ∷ punctuator Comma
     ∷ word (codes "ipv6-icmp") ∷ punctuator CloseBrace ∷ word (codes "accept") ∷ newline
     ∷ punctuator CloseBrace ∷ newline
     ∷ punctuator CloseBrace ∷ newline
@@ -553,7 +604,11 @@ web_servers =
       comment = Some (codes "front");
       value = tree.to_value (tree.address 0x0A000001);
     }
-    ∷ record { key = tree.one (tree.number 443); comment = None; value = tree.to_value (tree.address 0x0A000002) }
+    ∷ record {
+      key = tree.one (tree.number 443);
+      comment = None;
+      value = tree.to_value (tree.address 0x0A000002);
+    }
     ∷ []
 
 -- flush ruleset
@@ -575,17 +630,22 @@ translation_tokens =
     ∷ newline
     ∷ word (codes "table") ∷ word (codes "ip") ∷ word (codes "nat") ∷ punctuator OpenBrace ∷ newline
     ∷ word (codes "comment") ∷ string (codes "translation") ∷ newline
-    ∷ word (codes "map") ∷ word (codes "web") ∷ punctuator OpenBrace ∷ word (codes "type") ∷ word (codes "inet_service")
-    ∷ punctuator Colon ∷ word (codes "ipv4_addr") ∷ punctuator Semicolon ∷ word (codes "elements") ∷ punctuator Equals ∷ punctuator OpenBrace
-    ∷ number 80 ∷ word (codes "comment") ∷ string (codes "front") ∷ punctuator Colon ∷ address 0x0A000001 ∷ punctuator Comma
-    ∷ number 443 ∷ punctuator Colon ∷ address 0x0A000002 ∷ punctuator CloseBrace ∷ punctuator CloseBrace ∷ newline
+    ∷ word (codes "map") ∷ word (codes "web") ∷ punctuator OpenBrace ∷ word (codes "type")
+    ∷ word (codes "inet_service")
+    ∷ punctuator Colon ∷ word (codes "ipv4_addr") ∷ punctuator Semicolon ∷ word (codes "elements")
+    ∷ punctuator Equals ∷ punctuator OpenBrace
+    ∷ number 80 ∷ word (codes "comment") ∷ string (codes "front") ∷ punctuator Colon ∷ address 0x0A000001
+    ∷ punctuator Comma
+    ∷ number 443 ∷ punctuator Colon ∷ address 0x0A000002 ∷ punctuator CloseBrace ∷ punctuator CloseBrace
+    ∷ newline
     ∷ word (codes "chain") ∷ word (codes "in") ∷ punctuator OpenBrace ∷ newline
     ∷ word (codes "comment") ∷ string (codes "from outside") ∷ newline
     ∷ word (codes "type") ∷ word (codes "nat") ∷ word (codes "hook") ∷ word (codes "prerouting")
     ∷ word (codes "priority") ∷ word (codes "dstnat") ∷ punctuator Plus ∷ number 10 ∷ newline
     ∷ word (codes "comment") ∷ string (codes "before routing") ∷ newline
     ∷ newline
-    ∷ word (codes "meta") ∷ word (codes "iifname") ∷ string (codes "wan") ∷ word (codes "dnat") ∷ word (codes "ip")
+    ∷ word (codes "meta") ∷ word (codes "iifname") ∷ string (codes "wan") ∷ word (codes "dnat")
+    ∷ word (codes "ip")
     ∷ word (codes "to") ∷ word (codes "tcp") ∷ word (codes "dport") ∷ word (codes "map") ∷ punctuator At
     ∷ word (codes "web") ∷ punctuator Semicolon ∷ word (codes "return") ∷ newline
     ∷ punctuator CloseBrace ∷ newline

@@ -1,5 +1,5 @@
-//! Texts of the whole language with the trees that they spell, and texts that spell none: trials of
-//! the definitions of the grammar, each a law.
+//! Examples of the grammar, each a law: texts with the trees that they spell, and texts that spell
+//! none.
 #![tactic(auto)]
 
 pub mod examples;

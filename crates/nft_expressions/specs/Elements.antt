@@ -1,4 +1,5 @@
--- What spells values, elements of sets and of maps, and references to them.
+-- Values, elements of sets and maps, and references to both (nft(8), "Sets", "Maps", "Elements", "Verdict
+-- statement"; the EBNF is (own), as in docs/LANGUAGE.md).
 use Rattle.std.specs.Prelude.{◌≡◌, List, [], ◌∷◌, ◌++◌, ◌⊎◌, Option, codes, Bool, true, false, ◌||◌, not}
 use Rattle.std.specs.Str.{bytes_eq}
 use Rattle.nft_lexer.specs.declared.token.Punctuator.TheVariants.{OpenBrace, CloseBrace, Comma, Colon, Dot, Slash, Minus, At}
@@ -44,7 +45,7 @@ range = record {
   empty = false;
 }
 
--- no mark stands here that would go on with a range
+-- No punctuator is here that would continue a range.
 abbrev pub EndsRange : List Terminal → Type 0
 EndsRange = NoneOf (punctuator Minus ∷ punctuator Slash ∷ [])
 
@@ -54,7 +55,8 @@ next_value = punctuation Dot ▹ value
 
 -- key = one | value "." value {"." value}
 abbrev pub keys : Grammar KeyTree
-keys = made tree.single range ∣ made (λ x. tree.joined (x.0 ∷ x.1.0 ∷ x.1.1)) (value ⨾ next_value ⨾ many next_value)
+keys = made tree.single range ∣ made (λ x. tree.joined (x.0 ∷ x.1.0 ∷ x.1.1))
+    (value ⨾ next_value ⨾ many next_value)
 
 unfoldable pub key : Grammar KeyTree
 key = record {
@@ -92,7 +94,7 @@ is_verdict_word w =
     bytes_eq w (codes "accept") || bytes_eq w (codes "drop") || bytes_eq w (codes "continue")
     || bytes_eq w (codes "return") || bytes_eq w (codes "jump") || bytes_eq w (codes "goto")
 
--- a word that is data of a map is no word of a verdict
+-- A word that starts a verdict is no value of a map's data.
 abbrev pub is_data_value : ValueTree → Bool
 is_data_value (tree.number n) = true
 is_data_value (tree.address a) = true
@@ -105,13 +107,15 @@ map_data = made tree.to_verdict verdict ∣ made tree.to_value (passing is_data_
 
 -- pair = one ["comment" STRING] ":" (verdict | value)
 unfoldable pub pair : Grammar PairTree
-pair = made (λ x. record { key = x.0; comment = x.1.0; value = x.1.1 }) (range ⨾ comment ⨾ punctuation Colon ▹ map_data)
+pair = made (λ x. record { key = x.0; comment = x.1.0; value = x.1.1 })
+    (range ⨾ comment ⨾ punctuation Colon ▹ map_data)
 
 -- x {"," x} [","]
 abbrev pub CommaSeparated : {A : Type 0} → Grammar A → List A → List Terminal → List Terminal → Type 0
-CommaSeparated p xs from to = (a : List Terminal) × Separated (punctuation Comma) p xs from a × ((a ≡ to) ⊎ (a ≡ punctuator Comma ∷ to))
+CommaSeparated p xs from to = (a : List Terminal) × Separated (punctuation Comma) p xs from a
+    × ((a ≡ to) ⊎ (a ≡ punctuator Comma ∷ to))
 
--- a list up to the brace that closes it: the tokens before the brace, the newlines among them skipped, are the list
+-- A list up to its closing brace: the tokens before the brace, without newlines, spell the list.
 pub record BracedList {A : Type 0} (p : Grammar A) (xs : List A) (from to : List Terminal) : Type 0 where
   pub inner : List Terminal
   pub after : List Terminal
@@ -121,9 +125,15 @@ pub record BracedList {A : Type 0} (p : Grammar A) (xs : List A) (from to : List
 
 abbrev pub up_to_brace : {A : Type 0} → Grammar A → Grammar (List A)
 up_to_brace p =
-    record { spells = BracedList p; read = up_to_brace_at p.read; first = line ∷ p.first; follow = []; empty = false }
+    record {
+      spells = BracedList p;
+      read = up_to_brace_at p.read;
+      first = line ∷ p.first;
+      follow = [];
+      empty = false;
+    }
 
--- elems and pairs, with the brace after them
+-- elems and pairs, up to the closing brace
 unfoldable pub elements : Grammar (List ElementTree)
 elements = up_to_brace element
 
@@ -138,7 +148,8 @@ SpellsPairs = pairs.spells
 
 -- "@" NAME | "{" x "}"
 abbrev pub reference : {A B : Type 0} → (Text → B) → (A → B) → Grammar A → Grammar B
-reference named listed p = made named (punctuation At ▹ a_word) ∣ made listed (punctuation OpenBrace ▹ p ◃ punctuation CloseBrace)
+reference named listed p = made named (punctuation At ▹ a_word)
+    ∣ made listed (punctuation OpenBrace ▹ p ◃ punctuation CloseBrace)
 
 -- setref = "@" NAME | "{" elems "}"
 unfoldable pub set_ref : Grammar SetRefTree

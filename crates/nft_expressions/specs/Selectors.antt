@@ -1,49 +1,55 @@
--- What spells a selector (nft(8), "Payload expressions", "Meta expressions", "Conntrack expressions").
+-- Selectors (nft(8), "Payload expressions", "Meta expressions", "Conntrack expressions").
 use Rattle.std.specs.Prelude.{ℕ, List, [], ◌∷◌, codes, Bool, true, false, Option, Some, None, is_some}
 use Rattle.nft_lexer.specs.declared.token.Punctuator.TheVariants.{Dot}
 use Rattle.nft_lexer.specs.Terminal.{Terminal}
 use Rattle.nft_tree.specs.declared.selector.Selector.{Selector}
-use Rattle.nft_tree.specs.declared.selector.Selector.TheVariants as kinds
+use Rattle.nft_tree.specs.declared.selector.Selector.TheVariants as fields
 use Rattle.nft_tree.specs.declared.selector.ValueType.{ValueType}
 use Rattle.nft_tree.specs.declared.selector.ValueType.TheVariants.{InterfaceName, InterfaceIndex}
 use Rattle.nft_tree.specs.ValueTypes.{entry_in, words_of, selector_type}
 use Rattle.token_reader.specs.Grammar.{Grammar, keyword, punctuation, one_of, separated, ◌▹◌, ◌∣◌}
 
--- words, and the selectors that they name
+-- The keywords after `ip`, and so on, each with its selector.
 abbrev pub in_ip : List (List ℕ × Selector)
 in_ip =
-    (codes "saddr", kinds.IpSource) ∷ (codes "daddr", kinds.IpDestination) ∷ (codes "protocol", kinds.IpProtocol) ∷
-    (codes "ttl", kinds.IpTtl)
-    ∷ (codes "length", kinds.IpLength) ∷ []
+    (codes "saddr", fields.IpSource) ∷ (codes "daddr", fields.IpDestination)
+    ∷ (codes "protocol", fields.IpProtocol) ∷
+    (codes "ttl", fields.IpTtl)
+    ∷ (codes "length", fields.IpLength) ∷ []
 
 abbrev pub in_meta : List (List ℕ × Selector)
 in_meta =
-    (codes "l4proto", kinds.MetaProtocol) ∷ (codes "length", kinds.MetaLength) ∷ (codes "mark", kinds.MetaMark) ∷
-    (codes "nfproto", kinds.MetaFamily)
-    ∷ (codes "iifname", kinds.InputName) ∷ (codes "oifname", kinds.OutputName) ∷ (codes "iif", kinds.InputIndex) ∷
-    (codes "oif", kinds.OutputIndex) ∷ []
+    (codes "l4proto", fields.MetaProtocol) ∷ (codes "length", fields.MetaLength)
+    ∷ (codes "mark", fields.MetaMark) ∷
+    (codes "nfproto", fields.MetaFamily)
+    ∷ (codes "iifname", fields.InputName) ∷ (codes "oifname", fields.OutputName)
+    ∷ (codes "iif", fields.InputIndex) ∷
+    (codes "oif", fields.OutputIndex) ∷ []
 
 abbrev pub in_tcp : List (List ℕ × Selector)
 in_tcp =
-    (codes "sport", kinds.TcpSource) ∷ (codes "dport", kinds.TcpDestination) ∷ (codes "flags", kinds.TcpFlags) ∷ []
+    (codes "sport", fields.TcpSource) ∷ (codes "dport", fields.TcpDestination)
+    ∷ (codes "flags", fields.TcpFlags) ∷ []
 
 abbrev pub in_udp : List (List ℕ × Selector)
-in_udp = (codes "sport", kinds.UdpSource) ∷ (codes "dport", kinds.UdpDestination) ∷ []
+in_udp = (codes "sport", fields.UdpSource) ∷ (codes "dport", fields.UdpDestination) ∷ []
 
 abbrev pub in_th : List (List ℕ × Selector)
-in_th = (codes "sport", kinds.TransportSource) ∷ (codes "dport", kinds.TransportDestination) ∷ []
+in_th = (codes "sport", fields.TransportSource) ∷ (codes "dport", fields.TransportDestination) ∷ []
 
 abbrev pub in_icmp : List (List ℕ × Selector)
-in_icmp = (codes "type", kinds.IcmpType) ∷ []
+in_icmp = (codes "type", fields.IcmpType) ∷ []
 
 abbrev pub in_ct : List (List ℕ × Selector)
-in_ct = (codes "mark", kinds.CtMark) ∷ (codes "state", kinds.CtState) ∷ (codes "direction", kinds.CtDirection) ∷
-    (codes "status", kinds.CtStatus) ∷ []
+in_ct = (codes "mark", fields.CtMark) ∷ (codes "state", fields.CtState)
+    ∷ (codes "direction", fields.CtDirection) ∷
+    (codes "status", fields.CtStatus) ∷ []
 
--- those that stand without `meta`, too
+-- The selectors that may be written without `meta`.
 abbrev pub without_meta : List (List ℕ × Selector)
-without_meta = (codes "iifname", kinds.InputName) ∷ (codes "oifname", kinds.OutputName) ∷ (codes "iif", kinds.InputIndex) ∷
-    (codes "oif", kinds.OutputIndex) ∷ []
+without_meta = (codes "iifname", fields.InputName) ∷ (codes "oifname", fields.OutputName)
+    ∷ (codes "iif", fields.InputIndex) ∷
+    (codes "oif", fields.OutputIndex) ∷ []
 
 -- anysel
 unfoldable pub selector : Grammar Selector
@@ -64,17 +70,17 @@ SpellsSelector = selector.spells
 unfoldable pub selectors : Grammar (List Selector)
 selectors = separated (punctuation Dot) selector
 
--- no further selector stands here that would go on with others
+-- No further selector of a concatenation is here.
 abbrev pub EndsSelectors : List Terminal → Type 0
 EndsSelectors ts = (s : Selector) (to : List Terminal) → (punctuation Dot ▹ selector).spells s ts to → ⊥
 
--- a type lists the word; any word is the name of an interface
+-- The word is a symbolic constant of the data type; any word is an interface's name.
 abbrev pub is_word_of : Option ValueType → List ℕ → Bool
 is_word_of None w = false
 is_word_of (Some InterfaceName) w = true
 is_word_of (Some InterfaceIndex) w = true
 is_word_of (Some t) w = is_some (entry_in (words_of t) w)
 
--- the type of what the selector reads lists the word
+-- The word is a symbolic constant of what the selector reads.
 abbrev pub is_word_for : Selector → List ℕ → Bool
 is_word_for s w = is_word_of (selector_type s) w

@@ -1,4 +1,4 @@
-//! Selectors, and selectors joined by dots.
+//! Selectors and concatenations of selectors.
 ghost use Rattle.std.specs.Prelude.{◌≡◌, List, IfOk, IfSome, IsSomeAnd};
 ghost use Rattle.nft_lexer.specs.Terminal.{Terminal};
 ghost use Rattle.nft_tree.specs.declared.selector.Selector.{Selector};
@@ -11,16 +11,20 @@ use nft_tree::{Memory, Selector};
 use std::alloc::Global;
 use token_reader::{Dot, Production, after_word, one_of, separated};
 
-/// The one selector at this place, whatever follows it, and where it ends; none where no selector
-/// stands here.
+/// The selector at `at`, whatever follows it, and the position after it; `None` if none is spelled
+/// here.
 pub fn anysel(tokens: &[Token], at: usize) -> Option<(Selector, usize)>
-    // What is read is spelled here.
-    ensures found { IfSome result (λ x. SpellsSelector x.0 (remaining tokens.now at) (remaining tokens.now x.1)) }
-    // It ends behind this place, within the tokens.
+    // Soundness: the answer is spelled here.
+    ensures found { IfSome result (λ x.
+        SpellsSelector x.0 (remaining tokens.now at) (remaining tokens.now x.1)) }
+    // The position is after `at`, and within the tokens.
     ensures within { IfSome result (λ x. IsAfter tokens.now at x.1) }
-    // What is spelled here is read: there is no other selector, and where nothing is read there is none.
-    ensures only { (s : Selector) (to : List Terminal) → SpellsSelector s (remaining tokens.now at) to → IsSomeAnd result (λ x. (x.0 ≡ s) × (remaining tokens.now x.1 ≡ to)) }
-    // It is what reading from left to right gives.
+    // Completeness: what is spelled here is the answer; so it is unique, and `None` means that
+    // there is none.
+    ensures only { (s : Selector) (to : List Terminal)
+        → SpellsSelector s (remaining tokens.now at) to
+        → IsSomeAnd result (λ x. (x.0 ≡ s) × (remaining tokens.now x.1 ≡ to)) }
+    // The answer is what the production's parser gives.
     ensures read { IsRead (λ s. s) selector.read tokens.now at result }
 {
     selector(tokens, at)
@@ -75,19 +79,27 @@ impl Production for AnySelector {
     }
 }
 
-/// The selectors at this place, joined by dots, as many as stand there, and where they end; none
-/// where no selector stands here.
+/// The concatenation of selectors at `at`, as long as it goes, and the position after it; `None` if
+/// none is spelled here.
+///
+/// # Errors
+///
+/// `Memory` if an allocation was refused.
 #[tactic(auto, unfolding(crate::specs::Selectors::selectors))]
 pub fn selectors(
     alloc: Global,
     tokens: &[Token],
     at: usize,
 ) -> Result<Option<(Vec<Selector>, usize)>, Memory>
-    // What is read is spelled here.
-    ensures found { IfOk result (λ o. IfSome o (λ x. selectors.spells x.0.items (remaining tokens.now at) (remaining tokens.now x.1))) }
-    // What is spelled here, with no further selector after it, is read.
-    ensures only { (ss : List Selector) (to : List Terminal) → selectors.spells ss (remaining tokens.now at) to → EndsSelectors to → IfOk result (λ o. IsSomeAnd o (λ x. (x.0.items ≡ ss) × (remaining tokens.now x.1 ≡ to))) }
-    // It is what reading from left to right gives.
+    // Soundness: the answer is spelled here.
+    ensures found { IfOk result (λ o.
+        IfSome o (λ x. selectors.spells x.0.items (remaining tokens.now at)
+        (remaining tokens.now x.1))) }
+    // Completeness: what is spelled here, with no further selector after it, is the answer.
+    ensures only { (ss : List Selector) (to : List Terminal)
+        → selectors.spells ss (remaining tokens.now at) to → EndsSelectors to
+        → IfOk result (λ o. IsSomeAnd o (λ x. (x.0.items ≡ ss) × (remaining tokens.now x.1 ≡ to))) }
+    // The answer is what the production's parser gives.
     ensures read { IfOk result (IsRead (λ found. found.items) selectors.read tokens.now at) }
 {
     separated::<Dot, AnySelector>(alloc, tokens, at, 1)

@@ -1,4 +1,4 @@
-//! Lists up to the brace that closes them.
+//! Lists in braces.
 ghost use Rattle.std.specs.Prelude.{◌≡◌, ◌+◌, ◌-◌, ◌<◌, ◌≤◌, Some, drop, length, map, take, option_map, IfOk, IfSome};
 ghost use Rattle.nft_lexer.specs.Terminal.{terminal_of, terminals};
 ghost use Rattle.token_reader.specs.Readers.{IsRead, remaining};
@@ -9,15 +9,15 @@ use nft_tree::Memory;
 use std::alloc::Global;
 use token_reader::{Comma, Production, after_punctuator, found, separated};
 
-/// A part of a list between braces.
+/// A production for the parts of a list in braces.
 pub(crate) trait InBraces: Production {
-    /// The fewest tokens that one takes, with the comma after it. Only the room that a list has
-    /// before it grows comes from this.
+    /// The fewest tokens of a part, with the comma after it: sizes the list before it is read, and
+    /// means nothing else.
     fn fewest_tokens() -> usize
         ensures { 0 < result };
 }
 
-/// The token here, unless it is a closing brace, and the place after it.
+/// The token at `at`, unless it is a closing brace, and the position after it.
 fn inside<'t>(tokens: &[Token<'t>], at: usize) -> Option<(Token<'t>, usize)>
     ensures { IsRead (λ t. terminal_of t.kind t.text.now) inside_at tokens.now at result }
 {
@@ -28,14 +28,15 @@ fn inside<'t>(tokens: &[Token<'t>], at: usize) -> Option<(Token<'t>, usize)>
     }
 }
 
-/// The tokens from this place up to the first closing brace, the newlines among them left out,
-/// and the place of that brace, or the end where there is none.
+/// The tokens from `at` up to the first closing brace, without newlines, and the position of that
+/// brace, or the end if there is none.
 fn enclosed<'t>(
     alloc: Global,
     tokens: &[Token<'t>],
     at: usize,
 ) -> Result<(Vec<Token<'t>>, usize), Memory>
-    ensures read { IfOk result (λ x. enclosed_at (remaining tokens.now at) ≡ at_brace (terminals x.0.items) (remaining tokens.now x.1)) }
+    ensures read { IfOk result (λ x. enclosed_at (remaining tokens.now at)
+        ≡ at_brace (terminals x.0.items) (remaining tokens.now x.1)) }
     ensures within { IfOk result (λ x. at + length x.0.items ≤ x.1) }
 {
     let mut kept = Vec::new(alloc);
@@ -50,9 +51,10 @@ fn enclosed<'t>(
     Ok((kept, here))
 }
 
-/// The place after the token here, unless that is a newline or a closing brace.
+/// The position after the token at `at`, unless it is a newline or a closing brace.
 fn after_plain(tokens: &[Token], at: usize) -> Option<usize>
-    ensures read { option_map (remaining tokens.now) result ≡ after_plain (remaining tokens.now at) }
+    ensures read { option_map (remaining tokens.now) result
+        ≡ after_plain (remaining tokens.now at) }
     ensures next { IfSome result (λ end. end ≡ at + 1) }
 {
     match tokens.get(at)?.kind {
@@ -61,9 +63,10 @@ fn after_plain(tokens: &[Token], at: usize) -> Option<usize>
     }
 }
 
-/// The place of the first closing brace, where no newline stands between here and it.
+/// The position of the first closing brace, if no newline comes before it.
 fn unbroken(tokens: &[Token], at: usize) -> Option<usize>
-    ensures read { IfSome result (λ brace. enclosed_at (remaining tokens.now at) ≡ Some (terminals (take (brace - at) (drop at tokens.now)), remaining tokens.now brace)) }
+    ensures read { IfSome result (λ brace. enclosed_at (remaining tokens.now at)
+        ≡ Some (terminals (take (brace - at) (drop at tokens.now)), remaining tokens.now brace)) }
     ensures within { IfSome result (λ brace. (at ≤ brace) × (brace ≤ length tokens.now)) }
 {
     let mut here = at;
@@ -80,7 +83,8 @@ fn comma_separated<P: InBraces>(
     alloc: Global,
     tokens: &[Token],
 ) -> Result<Option<Vec<P::Item>>, Memory>
-    ensures read { IfOk result (λ o. option_map (λ found. map P.tree found.items) o ≡ comma_separated_at P.read_at (terminals tokens.now)) }
+    ensures read { IfOk result (λ o. option_map (λ found. map P.tree found.items) o
+        ≡ comma_separated_at P.read_at (terminals tokens.now)) }
     ensures some { IfOk result (λ o. IfSome o (λ _. 0 < length tokens.now)) }
 {
     let room = tokens.len().div_ceil(P::fewest_tokens());
@@ -91,14 +95,15 @@ fn comma_separated<P: InBraces>(
     Ok(Some(found))
 }
 
-/// x {"," x} [","] up to the brace that closes it, newlines skipped, and the place of that brace.
+/// x {"," x} [","] up to the closing brace, newlines skipped, and the position of that brace.
 #[tactic(auto, unfolding(crate::specs::steps::Reading::up_to_brace_at))]
 pub(crate) fn up_to_brace<P: InBraces>(
     alloc: Global,
     tokens: &[Token],
     at: usize,
 ) -> Result<Option<(Vec<P::Item>, usize)>, Memory>
-    ensures { IfOk result (IsRead (λ found. map P.tree found.items) (up_to_brace_at P.read_at) tokens.now at) }
+    ensures { IfOk result (IsRead (λ found. map P.tree found.items) (up_to_brace_at P.read_at)
+        tokens.now at) }
 {
     if let Some(brace) = unbroken(tokens, at) {
         let found = found!(comma_separated::<P>(alloc, &tokens[at..brace])?);

@@ -1,4 +1,4 @@
-//! Elements of sets.
+//! Elements of sets (nft(8), "Elements").
 ghost use Rattle.std.specs.Prelude.{◌≡◌, ◌≤◌, length, IfOk};
 ghost use Rattle.nft_tree.specs.Tree.{ElementTree, ValueTree, element_tree, key_tree, value_tree};
 ghost use Rattle.token_reader.specs.Readers.{remaining};
@@ -29,7 +29,7 @@ impl Production for NextValue {
     }
 }
 
-/// The key that begins with the value, and the place after it.
+/// The key that starts with this value, and the position after it.
 #[tactic(auto, unfolding(crate::specs::steps::Reading::key_after, crate::specs::steps::Reading::joined_after))]
 fn key_after(
     alloc: Global,
@@ -37,8 +37,10 @@ fn key_after(
     at: usize,
     first: Value,
 ) -> Result<(Key, usize), Memory>
-    ensures read { IfOk result (λ x. (key_tree x.0, remaining tokens.now x.1) ≡ key_after (value_tree first) (remaining tokens.now at)) }
-    ensures within { IfOk result (λ x. (at ≤ x.1) × (at ≤ length tokens.now → x.1 ≤ length tokens.now)) }
+    ensures read { IfOk result (λ x. (key_tree x.0, remaining tokens.now x.1)
+        ≡ key_after (value_tree first) (remaining tokens.now at)) }
+    ensures within { IfOk result (λ x. (at ≤ x.1)
+        × (at ≤ length tokens.now → x.1 ≤ length tokens.now)) }
 {
     let Some((second, at)) = NextValue::read(alloc, tokens, at)? else {
         let (range, end) = range_after(alloc, tokens, at, first)?;
@@ -70,7 +72,7 @@ impl Production for SetElement {
         at: usize,
     ) -> Result<Option<(Element, usize)>, Memory> {
         let (first, at) = found!(value(alloc, tokens, at)?);
-        // Most elements are a value alone.
+        // Most elements are a single value.
         if after_punctuator(tokens, at, Punctuator::Comma).is_some() {
             let key = Key::Single(ValueRange::One(first));
             return Ok(Some((Element { key, comment: None }, at)));

@@ -1,5 +1,5 @@
-//! Reads what rules are made of: selectors, values and ranges, elements of sets and of maps,
-//! references to both, and verdicts (nft(8), "Expressions", "Sets", "Maps", "Verdict statement").
+//! The parts of rules: selectors, values and ranges, elements of sets and maps, references to both,
+//! and verdicts (nft(8), "Expressions", "Sets", "Maps", "Verdict statement").
 #![tactic(auto)]
 
 mod any_selector;

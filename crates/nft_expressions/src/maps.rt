@@ -1,6 +1,6 @@
-//! Elements of maps.
+//! Elements of maps (nft(8), "Maps").
 ghost use Rattle.std.specs.Prelude.{◌≡◌, option_map, IfOk};
-ghost use Rattle.nft_lexer.specs.declared.token.Punctuator.TheVariants as marks;
+ghost use Rattle.nft_lexer.specs.declared.token.Punctuator.TheVariants as punctuators;
 ghost use Rattle.nft_tree.specs.Tree.{PairTree, data_tree, pair_tree, range_tree, value_tree};
 ghost use Rattle.token_reader.specs.Grammar.{punctuation, ◌⨾◌, ◌◃◌};
 ghost use Rattle.token_reader.specs.Readers.{IsRead};
@@ -14,7 +14,7 @@ use nft_tree::{Data, Memory, Pair, Value, ValueRange};
 use std::alloc::Global;
 use token_reader::{Production, after_punctuator, found};
 
-/// Whether the value may be data of a map: no word that a verdict begins with is.
+/// Whether the value may be data of a map: a word that starts a verdict may not.
 fn is_data_value(value: &Value) -> bool
     ensures { result ≡ is_data_value (value_tree value.now) }
 {
@@ -45,17 +45,18 @@ fn map_data(alloc: Global, tokens: &[Token], at: usize) -> Result<Option<(Data, 
     Ok(Some((Data::Value(value), at)))
 }
 
-/// The key of a pair, with its comment: one ["comment" STRING] ":"
+/// one ["comment" STRING] ":", the key of a pair with its comment
 #[tactic(auto, unfolding(crate::specs::Elements::range, crate::specs::Elements::comment, crate::specs::steps::Reading::range_after, crate::specs::steps::Reading::one_or_prefix))]
 fn map_key(
     alloc: Global,
     tokens: &[Token],
     at: usize,
 ) -> Result<Option<((ValueRange, Option<Vec<u8>>), usize)>, Memory>
-    ensures { IfOk result (IsRead (λ k. (range_tree k.0, option_map (λ c. c.items) k.1)) (range ⨾ comment ◃ punctuation marks.Colon).read tokens.now at) }
+    ensures { IfOk result (IsRead (λ k. (range_tree k.0, option_map (λ c. c.items) k.1))
+        (range ⨾ comment ◃ punctuation punctuators.Colon).read tokens.now at) }
 {
     let (first, at) = found!(value(alloc, tokens, at)?);
-    // Most keys are a value alone, and have no comment.
+    // Most keys are a single value without a comment.
     if let Some(at) = after_punctuator(tokens, at, Punctuator::Colon) {
         return Ok(Some(((ValueRange::One(first), None), at)));
     }

@@ -1,6 +1,6 @@
-//! Sets and maps by name, or by their elements between braces.
+//! References to sets and maps, named or anonymous.
 ghost use Rattle.std.specs.Prelude.{map, IfOk};
-ghost use Rattle.nft_lexer.specs.declared.token.Punctuator.TheVariants as marks;
+ghost use Rattle.nft_lexer.specs.declared.token.Punctuator.TheVariants as punctuators;
 ghost use Rattle.nft_tree.specs.Tree.{map_ref_tree, set_ref_tree};
 ghost use Rattle.token_reader.specs.Grammar.{a_word, punctuation, ◌▹◌};
 ghost use Rattle.token_reader.specs.Readers.{Anything, IsRead, Reads};
@@ -17,7 +17,7 @@ use token_reader::{after_punctuator, found, word};
 
 /// "@" NAME
 fn name<'t>(tokens: &[Token<'t>], at: usize) -> Option<(&'t [u8], usize)>
-    ensures { IsRead (λ x. x.now) (punctuation marks.At ▹ a_word).read tokens.now at result }
+    ensures { IsRead (λ x. x.now) (punctuation punctuators.At ▹ a_word).read tokens.now at result }
 {
     let at = after_punctuator(tokens, at, Punctuator::At)?;
     word(tokens, at)
@@ -30,7 +30,8 @@ fn braced<P: InBraces>(
     tokens: &[Token],
     at: usize,
 ) -> Result<Option<(Vec<P::Item>, usize)>, Memory>
-    ensures { IfOk result (IsRead (λ found. map P.tree found.items) (braced_at P.read_at) tokens.now at) }
+    ensures { IfOk result (IsRead (λ found. map P.tree found.items) (braced_at P.read_at)
+        tokens.now at) }
 {
     let at = found!(after_punctuator(tokens, at, Punctuator::OpenBrace));
     let (found, at) = found!(up_to_brace::<P>(alloc, tokens, at)?);
@@ -38,17 +39,21 @@ fn braced<P: InBraces>(
     Ok(Some((found, at)))
 }
 
-/// The set at this place, by its name or by its elements between braces, and where it ends; none
-/// where no set stands here.
+/// The set at `at`, named or anonymous, and the position after it; `None` if none is spelled here.
+///
+/// # Errors
+///
+/// `Memory` if an allocation was refused.
 #[tactic(auto, unfolding(crate::specs::Elements::set_ref, crate::specs::Elements::elements, crate::specs::steps::Reading::braced_at))]
 pub fn set_ref(
     alloc: Global,
     tokens: &[Token],
     at: usize,
 ) -> Result<Option<(SetRef, usize)>, Memory>
-    // What is read is spelled here, and what is spelled here is read: there is no other.
+    // Soundness and completeness: the answer is spelled here, and what is spelled here is the
+    // answer.
     ensures reads { IfOk result (Reads set_ref Anything set_ref_tree tokens.now at) }
-    // It is what reading from left to right gives.
+    // The answer is what the production's parser gives.
     ensures read { IfOk result (IsRead set_ref_tree set_ref.read tokens.now at) }
 {
     if let Some((name, at)) = name(tokens, at) {
@@ -58,17 +63,21 @@ pub fn set_ref(
     Ok(Some((SetRef::Anonymous(elements), at)))
 }
 
-/// The map at this place, by its name or by its pairs between braces, and where it ends; none where
-/// no map stands here.
+/// The map at `at`, named or anonymous, and the position after it; `None` if none is spelled here.
+///
+/// # Errors
+///
+/// `Memory` if an allocation was refused.
 #[tactic(auto, unfolding(crate::specs::Elements::map_ref, crate::specs::Elements::pairs, crate::specs::steps::Reading::braced_at))]
 pub fn map_ref(
     alloc: Global,
     tokens: &[Token],
     at: usize,
 ) -> Result<Option<(MapRef, usize)>, Memory>
-    // What is read is spelled here, and what is spelled here is read: there is no other.
+    // Soundness and completeness: the answer is spelled here, and what is spelled here is the
+    // answer.
     ensures reads { IfOk result (Reads map_ref Anything map_ref_tree tokens.now at) }
-    // It is what reading from left to right gives.
+    // The answer is what the production's parser gives.
     ensures read { IfOk result (IsRead map_ref_tree map_ref.read tokens.now at) }
 {
     if let Some((name, at)) = name(tokens, at) {

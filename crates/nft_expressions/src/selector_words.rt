@@ -1,8 +1,8 @@
-//! The words that selectors are spelled with.
+//! The keywords of selectors.
 
 use nft_tree::Selector;
 
-/// Words, and the selectors that they name.
+/// Keywords, each with its selector.
 pub(crate) type Named<const N: usize> = [(&'static [u8], Selector); N];
 
 pub(crate) static IN_IP: Named<5> = [
@@ -49,7 +49,7 @@ pub(crate) static IN_CT: Named<4> = [
     (b"status", Selector::CtStatus),
 ];
 
-/// Those that stand without `meta`, too.
+/// The selectors that may be written without `meta`.
 pub(crate) static WITHOUT_META: Named<4> = [
     (b"iifname", Selector::InputName),
     (b"oifname", Selector::OutputName),

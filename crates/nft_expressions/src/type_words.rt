@@ -1,11 +1,11 @@
-//! The words that a selector's type lists.
+//! Symbolic constants of selectors.
 ghost use Rattle.std.specs.Prelude.{◌≡◌};
 ghost use Rattle.nft_expressions.specs.Selectors.{is_word_for};
 
 use nft_tree::{Selector, ValueType};
 
-/// Whether the type of what the selector reads lists the word; any word is the name of an
-/// interface, and a type without a name lists none.
+/// Whether the word is a symbolic constant of what the selector reads. Any word is an interface's
+/// name; a plain integer has no constants.
 pub fn type_has_word(selector: Selector, word: &[u8]) -> bool
     ensures { result ≡ is_word_for selector word.now }
 {

@@ -11,7 +11,7 @@ use nft_tree::{Memory, Value, ValueRange};
 use std::alloc::Global;
 use token_reader::{after_punctuator, found, number_after, string_after};
 
-/// The bytes, boxed.
+/// A boxed copy of the bytes.
 fn boxed(alloc: Global, bytes: &[u8]) -> Result<Box<Vec<u8>>, Memory>
     ensures { IfOk result (λ text. text.value.items ≡ bytes.now) }
 {
@@ -37,7 +37,7 @@ pub(crate) fn value(
     Ok(Some((value, at + 1)))
 }
 
-/// The value behind the mark, where both stand here, and the place after it.
+/// The value after this punctuator, if both are at `at`, and the position after it.
 pub(crate) fn value_after(
     alloc: Global,
     tokens: &[Token],
@@ -50,10 +50,11 @@ pub(crate) fn value_after(
     value(alloc, tokens, at)
 }
 
-/// The value, or the prefix that begins with it, and the place after it.
+/// The value, or the prefix that starts with it, and the position after it.
 #[tactic(auto, unfolding(crate::specs::steps::Reading::one_or_prefix))]
 fn one_or_prefix(tokens: &[Token], at: usize, first: Value) -> (ValueRange, usize)
-    ensures read { (range_tree result.0, remaining tokens.now result.1) ≡ one_or_prefix (value_tree first) (remaining tokens.now at) }
+    ensures read { (range_tree result.0, remaining tokens.now result.1)
+        ≡ one_or_prefix (value_tree first) (remaining tokens.now at) }
     ensures within { (at ≤ result.1) × (at ≤ length tokens.now → result.1 ≤ length tokens.now) }
 {
     match (first, number_after(tokens, at, Punctuator::Slash)) {
@@ -65,7 +66,7 @@ fn one_or_prefix(tokens: &[Token], at: usize, first: Value) -> (ValueRange, usiz
     }
 }
 
-/// The range that begins with the value, and the place after it.
+/// The range that starts with this value, and the position after it.
 #[tactic(auto, unfolding(crate::specs::steps::Reading::range_after))]
 pub(crate) fn range_after(
     alloc: Global,
@@ -73,8 +74,10 @@ pub(crate) fn range_after(
     at: usize,
     first: Value,
 ) -> Result<(ValueRange, usize), Memory>
-    ensures read { IfOk result (λ x. (range_tree x.0, remaining tokens.now x.1) ≡ range_after (value_tree first) (remaining tokens.now at)) }
-    ensures within { IfOk result (λ x. (at ≤ x.1) × (at ≤ length tokens.now → x.1 ≤ length tokens.now)) }
+    ensures read { IfOk result (λ x. (range_tree x.0, remaining tokens.now x.1)
+        ≡ range_after (value_tree first) (remaining tokens.now at)) }
+    ensures within { IfOk result (λ x. (at ≤ x.1)
+        × (at ≤ length tokens.now → x.1 ≤ length tokens.now)) }
 {
     if let Some((high, end)) = value_after(alloc, tokens, at, Punctuator::Minus)? {
         return Ok((ValueRange::Between(first, high), end));
@@ -82,36 +85,47 @@ pub(crate) fn range_after(
     Ok(one_or_prefix(tokens, at, first))
 }
 
-/// The value, the range of two values or the prefix at this place, and where it ends; none where
-/// no value stands here.
+/// The value, range or prefix at `at`, and the position after it; `None` if none is spelled here.
+///
+/// # Errors
+///
+/// `Memory` if an allocation was refused.
 #[tactic(auto, unfolding(crate::specs::Elements::range))]
 pub fn range(
     alloc: Global,
     tokens: &[Token],
     at: usize,
 ) -> Result<Option<(ValueRange, usize)>, Memory>
-    // What is read is spelled here, and what is spelled here, with nothing after it that goes on with it, is read.
+    // Soundness and completeness: what is spelled here, with no token after it that continues it,
+    // is the answer.
     ensures reads { IfOk result (Reads range EndsRange range_tree tokens.now at) }
-    // It is what reading from left to right gives.
+    // The answer is what the production's parser gives.
     ensures read { IfOk result (IsRead range_tree range.read tokens.now at) }
 {
     let (first, at) = found!(value(alloc, tokens, at)?);
     Ok(Some(range_after(alloc, tokens, at, first)?))
 }
 
-/// The comment at this place, or none, and the place after it.
+/// The comment at `at`, if there is one, and the position after it.
+///
+/// # Errors
+///
+/// `Memory` if an allocation was refused.
 #[tactic(auto, unfolding(crate::specs::Elements::comment))]
 pub fn comment(
     alloc: Global,
     tokens: &[Token],
     at: usize,
 ) -> Result<(Option<Vec<u8>>, usize), Memory>
-    // What is read is spelled here, and what is spelled here, with no comment after it, is read.
-    ensures reads { IfOk result (λ x. Reads comment EndsComment (option_map (λ c. c.items)) tokens.now at (Some x)) }
-    // From a place within the tokens it ends within them.
-    ensures within { IfOk result (λ x. (at ≤ x.1) × (at ≤ length tokens.now → x.1 ≤ length tokens.now)) }
-    // It is what reading from left to right gives.
-    ensures read { IfOk result (λ x. Some (option_map (λ c. c.items) x.0, remaining tokens.now x.1) ≡ comment.read (remaining tokens.now at)) }
+    // Soundness and completeness: what is spelled here, with no comment after it, is the answer.
+    ensures reads { IfOk result (λ x.
+        Reads comment EndsComment (option_map (λ c. c.items)) tokens.now at (Some x)) }
+    // From a position within the tokens it ends within them.
+    ensures within { IfOk result (λ x. (at ≤ x.1)
+        × (at ≤ length tokens.now → x.1 ≤ length tokens.now)) }
+    // The answer is what the production's parser gives.
+    ensures read { IfOk result (λ x. Some (option_map (λ c. c.items) x.0, remaining tokens.now x.1)
+        ≡ comment.read (remaining tokens.now at)) }
 {
     match string_after(tokens, at, b"comment") {
         Some((text, after)) => Ok((Some(Vec::from_slice(alloc, text)?), after)),

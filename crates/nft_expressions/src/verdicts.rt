@@ -1,4 +1,4 @@
-//! Verdicts.
+//! Verdicts (nft(8), "Verdict statement").
 ghost use Rattle.std.specs.Prelude.{IfOk};
 ghost use Rattle.nft_tree.specs.Tree.{verdict_tree};
 ghost use Rattle.token_reader.specs.Grammar.{a_word, keyword, one_of, ◌▹◌};
@@ -27,14 +27,15 @@ fn verdict_keyword(tokens: &[Token], at: usize) -> Option<(Verdict, usize)>
     Some((Verdict::Return, at))
 }
 
-/// The name behind this word, where both stand here, and the place after it.
+/// The name after this word, if both are at `at`, and the position after it.
 fn name_after(
     alloc: Global,
     tokens: &[Token],
     at: usize,
     before: &[u8],
 ) -> Result<Option<(Vec<u8>, usize)>, Memory>
-    ensures { IfOk result (IsRead (λ name. name.items) (keyword before.now ▹ a_word).read tokens.now at) }
+    ensures { IfOk result (IsRead (λ name. name.items) (keyword before.now ▹ a_word).read
+        tokens.now at) }
 {
     let at = found!(after_word(tokens, at, before));
     let (name, at) = found!(word(tokens, at));
@@ -50,7 +51,7 @@ pub(crate) fn read_verdict(
 ) -> Result<Option<(Verdict, usize)>, Memory>
     ensures { IfOk result (IsRead verdict_tree verdict.read tokens.now at) }
 {
-    // Most data of maps are no words, and then no keyword is tried.
+    // Most data of maps are no words; then no keyword is tried.
     found!(word(tokens, at));
     if let Some(verdict_data) = verdict_keyword(tokens, at) {
         return Ok(Some(verdict_data));
@@ -62,16 +63,21 @@ pub(crate) fn read_verdict(
     Ok(Some((Verdict::Goto(name), at)))
 }
 
-/// The one verdict at this place, whatever follows it, and where it ends; none where no verdict
-/// stands here.
+/// The verdict at `at`, whatever follows it, and the position after it; `None` if none is spelled
+/// here.
+///
+/// # Errors
+///
+/// `Memory` if an allocation was refused.
 pub fn verdict(
     alloc: Global,
     tokens: &[Token],
     at: usize,
 ) -> Result<Option<(Verdict, usize)>, Memory>
-    // What is read is spelled here, and what is spelled here is read: there is no other verdict.
+    // Soundness and completeness: the answer is spelled here, and what is spelled here is the
+    // answer.
     ensures reads { IfOk result (Reads verdict Anything verdict_tree tokens.now at) }
-    // It is what reading from left to right gives.
+    // The answer is what the production's parser gives.
     ensures read { IfOk result (IsRead verdict_tree verdict.read tokens.now at) }
 {
     read_verdict(alloc, tokens, at)

@@ -1,4 +1,4 @@
--- What is read is the longest piece, and there is one.
+-- What the reader gives is the longest lexeme, and it gives one wherever there is one.
 use Rattle.std.proofs.Common.{◌≡◌, ◌≢◌, ℕ, suc, ◌+◌, ◌-◌, ◌<◌, ◌≤◌, Bool, true, false, ◌==◌, List, [], ◌∷◌, ◌++◌, length, take, drop, Option, Some, None, inl, inr, refl, sym, ap, subst, ◌∙◌, append_assoc, arith, rules}
 use Rattle.std.specs.Prelude.{IfSome, IsSomeAnd, IsTrue, MatchResult, Result, Err, slice_index}
 use Rattle.std.specs.Char.{is_ascii_digit, is_ascii_hexdigit}
@@ -16,19 +16,20 @@ use Rattle.nft_lexer.specs.declared.lexeme.Class.TheVariants as classes
 use Rattle.nft_lexer.specs.declared.lexing.Fault.{Fault}
 use Rattle.nft_lexer.specs.declared.lexing.Fault.TheVariants as faults
 use Rattle.nft_lexer.specs.Terminal.{LexedToken}
-use Rattle.nft_lexer.specs.Lexing.{Lexeme, blank, line_continuation, comment, line_end, name, digits, hexadecimal, dotted_quad, quoted, punctuation, is_blank, begins_word, continues_word, is_no_newline, is_string_byte, punctuator_text, IsDigits, SpellsLexeme, IsLongestLexeme, HasTokens, BeginsNoLexeme, IsFaultAt}
+use Rattle.nft_lexer.specs.Lexing.{Lexeme, blank, line_continuation, comment, line_end, name, digits, hexadecimal, dotted_quad, quoted, punctuation, is_blank, begins_word, continues_word, is_no_newline, is_string_byte, punctuator_text, IsDigits, SpellsLexeme, IsLongestLexeme, HasTokens, BeginsNoLexeme, no_lexeme, open_string, no_token, IsFaultAt}
 use Rattle.nft_lexer.specs.steps.Reading.{◌>>=◌, class_of, punctuator_from, short_punctuators, long_punctuators, after_byte, front, behind, run_at, is_zero, hexadecimal_at, next_octet_at, dotted_quad_at, number_at, quoted_at, long_punctuator_at, punctuator_at, class_at, lexeme_at, scanned_kind, meaning, next_at, at_line, ScansOne}
 use Rattle.nft_lexer.proofs.Numbers.{bind_found, view_found, by_test, meaning_found, meaning_only}
 
 -- ---- options
 
-else_found : {A : Type 0} (Q : A → Type 0) (o d : Option A) → IfSome o Q → IfSome d Q → IfSome (option_or o d) Q
+else_found : {A : Type 0} (Q : A → Type 0) (o d : Option A) → IfSome o Q → IfSome d Q
+    → IfSome (option_or o d) Q
 else_found Q None d h k = k
 else_found Q (Some x) d h k = h
 
 -- ---- runs
 
--- the bytes of the front pass
+-- All bytes of the leading run pass the test.
 front_all : (test : ℕ → Bool) (ts : List ℕ) → list_all test (front test ts) ≡ true
 front_all test [] = refl
 front_all test (b ∷ bs) =
@@ -42,53 +43,62 @@ front_behind test ts = sym (take-append-drop (prefix_len test ts) ts)
 behind_short : (test : ℕ → Bool) (ts : List ℕ) → length (behind test ts) ≤ length ts
 behind_short test ts = omega (arith, length-drop (prefix_len test ts) ts)
 
--- bytes that pass go before the front of what follows them
-passed : (test : ℕ → Bool) (xs rest : List ℕ) → list_all test xs ≡ true → prefix_len test (xs ++ rest) ≡ length xs + prefix_len test rest
+-- Passing bytes before a text lengthen its leading run.
+passed : (test : ℕ → Bool) (xs rest : List ℕ) → list_all test xs ≡ true
+    → prefix_len test (xs ++ rest) ≡ length xs + prefix_len test rest
 passed test [] rest all = omega arith
 passed test (x ∷ xs) rest all =
     let lexemes = and_parts (test x) (list_all test xs) all in
     let others = passed test xs rest lexemes.1 in
     rw lexemes.0 (omega arith)
 
-front_more : (test : ℕ → Bool) (xs rest : List ℕ) → list_all test xs ≡ true → front test (xs ++ rest) ≡ xs ++ front test rest
+front_more : (test : ℕ → Bool) (xs rest : List ℕ) → list_all test xs ≡ true
+    → front test (xs ++ rest) ≡ xs ++ front test rest
 front_more test xs rest all = rw (passed test xs rest all) (take-append-add xs rest (prefix_len test rest))
 
-behind_more : (test : ℕ → Bool) (xs rest : List ℕ) → list_all test xs ≡ true → behind test (xs ++ rest) ≡ behind test rest
+behind_more : (test : ℕ → Bool) (xs rest : List ℕ) → list_all test xs ≡ true
+    → behind test (xs ++ rest) ≡ behind test rest
 behind_more test xs rest all = rw (passed test xs rest all) (drop-append-add xs rest (prefix_len test rest))
 
 abbrev IsRun : (ℕ → Bool) → List ℕ → Type 0
 IsRun test bytes = (bytes ≢ []) × IsTrue (list_all test bytes)
 
-run_found : (test : ℕ → Bool) (ts : List ℕ) → IfSome (run_at test ts) (λ x. (ts ≡ x.0 ++ x.1) × IsRun test x.0)
+run_found : (test : ℕ → Bool) (ts : List ℕ)
+    → IfSome (run_at test ts) (λ x. (ts ≡ x.0 ++ x.1) × IsRun test x.0)
 unfolding run_at
 run_found test [] = tt
 run_found test (b ∷ bs) =
-    by_test (λ o. IfSome o (λ x. (b ∷ bs ≡ x.0 ++ x.1) × IsRun test x.0)) (test b) (Some (b ∷ front test bs, behind test bs)) None
-    (λ e. (ap (λ (t : List ℕ). b ∷ t) (front_behind test bs), ((λ n. absurd cc), rw e (front_all test bs)))) (λ _. tt)
+    by_test (λ o. IfSome o (λ x. (b ∷ bs ≡ x.0 ++ x.1) × IsRun test x.0)) (test b)
+    (Some (b ∷ front test bs, behind test bs)) None
+    (λ e. (ap (λ (t : List ℕ). b ∷ t) (front_behind test bs), ((λ n. absurd cc), rw e (front_all test bs))))
+    (λ _. tt)
 
--- a run is read together with the bytes that go on with it
-run_more : (test : ℕ → Bool) (ds rest : List ℕ) → IsRun test ds → run_at test (ds ++ rest) ≡ Some (ds ++ front test rest, behind test rest)
+-- A run is read together with the bytes that continue it.
+run_more : (test : ℕ → Bool) (ds rest : List ℕ) → IsRun test ds
+    → run_at test (ds ++ rest) ≡ Some (ds ++ front test rest, behind test rest)
 unfolding run_at
 run_more test [] rest s = absurd (s.0 refl)
 run_more test (b ∷ bs) rest s =
     let lexemes = and_parts (test b) (list_all test bs) s.1 in
     rw (lexemes.0, front_more test bs rest lexemes.1, behind_more test bs rest lexemes.1) refl
 
-run_exact : (test : ℕ → Bool) (ds rest : List ℕ) → IsRun test ds → prefix_len test rest ≡ 0 → run_at test (ds ++ rest) ≡ Some (ds, rest)
+run_exact : (test : ℕ → Bool) (ds rest : List ℕ) → IsRun test ds → prefix_len test rest ≡ 0
+    → run_at test (ds ++ rest) ≡ Some (ds, rest)
 run_exact test ds rest s none = run_more test ds rest s ∙ rw (none, append-nil ds) refl
 
 byte_found : (k : ℕ) (ts : List ℕ) → IfSome (after_byte k ts) (λ r. ts ≡ k ∷ r)
 byte_found k [] = tt
 byte_found k (b ∷ bs) =
-    by_test (λ o. IfSome o (λ r. b ∷ bs ≡ k ∷ r)) (b == k) (Some bs) None (λ e. ap (λ (x : ℕ). x ∷ bs) (eqb-true b k e)) (λ _. tt)
+    by_test (λ o. IfSome o (λ r. b ∷ bs ≡ k ∷ r)) (b == k) (Some bs) None
+    (λ e. ap (λ (x : ℕ). x ∷ bs) (eqb-true b k e)) (λ _. tt)
 
--- ---- what is read is spelled
+-- ---- soundness: what is read is spelled
 
--- the piece is spelled in front, and this follows it
+-- The text starts with a spelling of the lexeme, and this is the rest.
 abbrev pub SpellsFront : Lexeme → List ℕ → List ℕ → Type 0
 SpellsFront p ts rest = (bytes : List ℕ) × (ts ≡ bytes ++ rest) × SpellsLexeme p bytes
 
--- so it is of digits and what follows them, of which it takes something
+-- The same for digits and the text after them, of which the lexeme takes at least a byte.
 abbrev Onward : List ℕ → List ℕ → Lexeme × List ℕ → Type 0
 Onward first ts x = SpellsFront x.0 (first ++ ts) x.1 × (length x.1 < length ts)
 
@@ -101,17 +111,21 @@ hexadecimal_found : (first ts : List ℕ) → IfSome (hexadecimal_at first ts) (
 unfolding hexadecimal_at
 hexadecimal_found first ts =
     bind_found _ (after_byte 120 ts) _ (byte_found 120 ts) (λ r er.
-    by_test (λ o. IfSome (o >>= (λ x. Some (hexadecimal x.0, x.1))) (Onward first ts)) (is_zero first) (run_at is_ascii_hexdigit r) None (λ zero.
-    bind_found _ (run_at is_ascii_hexdigit r) _ (run_found is_ascii_hexdigit r) (λ x h.
-    ((48 ∷ 120 ∷ x.0, rw (zero_is first zero, er, h.0) refl, (refl, h.1)), omega (arith, ap length er, ap length h.0, length-append x.0 x.1)))) (λ _. tt))
+    by_test (λ o. IfSome (o >>= (λ x. Some (hexadecimal x.0, x.1))) (Onward first ts)) (is_zero first)
+    (run_at is_ascii_hexdigit r) None (λ zero.
+    bind_found _ (run_at is_ascii_hexdigit r) _ (run_found is_ascii_hexdigit r) (λ x h. (
+      (48 ∷ 120 ∷ x.0, rw (zero_is first zero, er, h.0) refl, (refl, h.1)),
+      omega (arith, ap length er, ap length h.0, length-append x.0 x.1),
+    ))) (λ _. tt))
 
 octet_found : (ts : List ℕ) → IfSome (next_octet_at ts) (λ x. (ts ≡ 46 ∷ (x.0 ++ x.1)) × IsDigits x.0)
 unfolding next_octet_at
 octet_found ts =
     bind_found _ (after_byte 46 ts) (run_at is_ascii_digit) (byte_found 46 ts) (λ r er.
-    IfSome_weaker (run_at is_ascii_digit r) _ _ (λ x h. (er ∙ ap (λ (t : List ℕ). 46 ∷ t) h.0, h.1)) (run_found is_ascii_digit r))
+    IfSome_weaker (run_at is_ascii_digit r) _ _ (λ x h. (er ∙ ap (λ (t : List ℕ). 46 ∷ t) h.0, h.1))
+    (run_found is_ascii_digit r))
 
--- what follows the first of four groups, grouped from the right
+-- The text after the first of four octets, associated to the right.
 abbrev octets_after : (b c d rest : List ℕ) → List ℕ
 octets_after b c d rest = 46 ∷ (b ++ (46 ∷ (c ++ (46 ∷ (d ++ rest)))))
 
@@ -124,27 +138,46 @@ dotted_quad_found first ts s =
     bind_found _ (next_octet_at ts) _ (octet_found ts) (λ b hb.
     bind_found _ (next_octet_at b.1) _ (octet_found b.1) (λ c hc.
     bind_found _ (next_octet_at c.1) _ (octet_found c.1) (λ d hd.
-    let all : ts ≡ octets_after b.0 c.0 d.0 d.1 = hb.0 ∙ ap (λ (t : List ℕ). 46 ∷ (b.0 ++ t)) (hc.0 ∙ ap (λ (t : List ℕ). 46 ∷ (c.0 ++ t)) hd.0) in (
-      (_, ap (λ (t : List ℕ). first ++ t) all ∙ sym (regroup first b.0 c.0 d.0 d.1), (refl, s, hb.1, hc.1, hd.1)),
-      omega (arith, ap length hb.0, ap length hc.0, ap length hd.0, length-append b.0 b.1, length-append c.0 c.1, length-append d.0 d.1),
+    let all : ts ≡ octets_after b.0 c.0 d.0 d.1 =
+    hb.0 ∙ ap (λ (t : List ℕ). 46 ∷ (b.0 ++ t)) (hc.0 ∙ ap (λ (t : List ℕ). 46 ∷ (c.0 ++ t)) hd.0) in (
+      (
+        _,
+        ap (λ (t : List ℕ). first ++ t) all
+            ∙ sym (regroup first b.0 c.0 d.0 d.1),
+        (refl, s, hb.1, hc.1, hd.1),
+      ),
+      omega (
+        arith,
+        ap length hb.0,
+        ap length hc.0,
+        ap length hd.0,
+        length-append b.0 b.1,
+        length-append c.0 c.1,
+        length-append d.0 d.1,
+      ),
     ))))
 
 number_found : (ts : List ℕ) → IfSome (number_at ts) (λ x. SpellsFront x.0 ts x.1)
 unfolding number_at
 number_found ts =
     bind_found _ (run_at is_ascii_digit ts) _ (run_found is_ascii_digit ts) (λ a h.
-    rw h.0 (else_found _ (hexadecimal_at a.0 a.1) _ (IfSome_weaker _ _ _ (λ x (g : Onward a.0 a.1 x). g.0) (hexadecimal_found a.0 a.1))
-    (else_found _ (dotted_quad_at a.0 a.1) _ (IfSome_weaker _ _ _ (λ x (g : Onward a.0 a.1 x). g.0) (dotted_quad_found a.0 a.1 h.1))
+    rw h.0 (else_found _ (hexadecimal_at a.0 a.1)
+    _ (IfSome_weaker _ _ _ (λ x (g : Onward a.0 a.1 x). g.0) (hexadecimal_found a.0 a.1))
+    (else_found _ (dotted_quad_at a.0 a.1)
+    _ (IfSome_weaker _ _ _ (λ x (g : Onward a.0 a.1 x). g.0) (dotted_quad_found a.0 a.1 h.1))
     (a.0, refl, (refl, h.1)))))
 
 abbrev EndIn : List ℕ → List Punctuator → Type 0
 EndIn t ms = AllByRecursion (λ m. punctuator_text m ≡ slice_index (punctuator_text m) 0 ∷ t) ms
 
-punctuator_found : (t : List ℕ) (b : ℕ) (ms : List Punctuator) → EndIn t ms → IfSome (punctuator_from b ms) (λ m. punctuator_text m ≡ b ∷ t)
+punctuator_found : (t : List ℕ) (b : ℕ) (ms : List Punctuator) → EndIn t ms
+    → IfSome (punctuator_from b ms) (λ m. punctuator_text m ≡ b ∷ t)
 punctuator_found t b [] all = tt
 punctuator_found t b (m ∷ ms) all =
-    by_test (λ o. IfSome o (λ m. punctuator_text m ≡ b ∷ t)) (b == slice_index (punctuator_text m) 0) (Some m) (punctuator_from b ms)
-    (λ e. all.0 ∙ ap (λ (x : ℕ). x ∷ t) (sym (eqb-true b (slice_index (punctuator_text m) 0) e))) (λ _. punctuator_found t b ms all.1)
+    by_test (λ o. IfSome o (λ m. punctuator_text m ≡ b ∷ t)) (b == slice_index (punctuator_text m) 0) (Some m)
+    (punctuator_from b ms)
+    (λ e. all.0 ∙ ap (λ (x : ℕ). x ∷ t) (sym (eqb-true b (slice_index (punctuator_text m) 0) e)))
+    (λ _. punctuator_found t b ms all.1)
 
 punctuators_found : (b : ℕ) (bs : List ℕ) → IfSome (punctuator_at b bs) (λ x. SpellsFront x.0 (b ∷ bs) x.1)
 unfolding punctuator_at long_punctuator_at
@@ -152,17 +185,24 @@ punctuators_found b bs =
     let long : EndIn (61 ∷ []) long_punctuators = search rules in
     let short : EndIn [] short_punctuators = search rules in
     else_found _ (long_punctuator_at b bs) _
-    (bind_found _ (punctuator_from b long_punctuators) _ (punctuator_found (61 ∷ []) b long_punctuators long) (λ m e.
-    bind_found _ (after_byte 61 bs) _ (byte_found 61 bs) (λ r er. (b ∷ 61 ∷ [], ap (λ (t : List ℕ). b ∷ t) er, sym e))))
-    (view_found _ (punctuator_from b short_punctuators) _ (punctuator_found [] b short_punctuators short) (λ m e. (b ∷ [], refl, sym e)))
+    (bind_found _ (punctuator_from b long_punctuators) _ (punctuator_found (61 ∷ []) b long_punctuators long)
+    (λ m e.
+    bind_found _ (after_byte 61 bs) _ (byte_found 61 bs)
+    (λ r er. (b ∷ 61 ∷ [], ap (λ (t : List ℕ). b ∷ t) er, sym e))))
+    (view_found _ (punctuator_from b short_punctuators) _ (punctuator_found [] b short_punctuators short)
+    (λ m e. (b ∷ [], refl, sym e)))
 
 quoted_found : (ts : List ℕ) → IfSome (quoted_at ts) (λ x. SpellsFront x.0 (34 ∷ ts) x.1)
 unfolding quoted_at
 quoted_found ts =
     let s = front is_string_byte ts in
-    view_found _ (after_byte 34 (behind is_string_byte ts)) _ (byte_found 34 (behind is_string_byte ts)) (λ r e.
-    let all : ts ≡ s ++ 34 ∷ r = front_behind is_string_byte ts ∙ ap (λ (t : List ℕ). s ++ t) e in
-    (34 ∷ (s ++ 34 ∷ []), ap (λ (t : List ℕ). 34 ∷ t) (all ∙ sym (append_assoc s (34 ∷ []) r)), (refl, front_all is_string_byte ts)))
+    view_found _ (after_byte 34 (behind is_string_byte ts)) _ (byte_found 34 (behind is_string_byte ts))
+    (λ r e.
+    let all : ts ≡ s ++ 34 ∷ r = front_behind is_string_byte ts ∙ ap (λ (t : List ℕ). s ++ t) e in (
+      34 ∷ (s ++ 34 ∷ []),
+      ap (λ (t : List ℕ). 34 ∷ t) (all ∙ sym (append_assoc s (34 ∷ []) r)),
+      (refl, front_all is_string_byte ts),
+    ))
 
 abbrev Found : ℕ → List ℕ → Class → Type 0
 Found b bs k = IfSome (class_at k b bs) (λ x. SpellsFront x.0 (b ∷ bs) x.1)
@@ -171,29 +211,39 @@ class_found : (b : ℕ) (bs : List ℕ) → Found b bs (class_of b)
 unfolding class_at
 class_found b bs =
     by_test (Found b bs) (is_ascii_digit b) classes.Digit _ (λ _. number_found (b ∷ bs)) (λ _.
-    by_test (Found b bs) (begins_word b) classes.Letter _ (λ e.
-    (b ∷ front continues_word bs, ap (λ (t : List ℕ). b ∷ t) (front_behind continues_word bs), (refl, (e, front_all continues_word bs)))) (λ _.
+    by_test (Found b bs) (begins_word b) classes.Letter _ (λ e. (
+      b ∷ front continues_word bs,
+      ap (λ (t : List ℕ). b ∷ t) (front_behind continues_word bs),
+      (refl, (e, front_all continues_word bs)),
+    )) (λ _.
     by_test (Found b bs) (is_blank b) classes.Blank _ (λ e. (b ∷ [], refl, (b, refl, e))) (λ _.
-    by_test (Found b bs) (b == 10) classes.LineEnd _ (λ e. (b ∷ [], refl, ap (λ (x : ℕ). x ∷ []) (eqb-true b 10 e))) (λ _.
-    by_test (Found b bs) (b == 92) classes.Backslash _ (λ e. view_found _ (after_byte 10 bs) (λ r. (line_continuation, r)) (byte_found 10 bs) (λ r h.
+    by_test (Found b bs) (b == 10) classes.LineEnd
+    _ (λ e. (b ∷ [], refl, ap (λ (x : ℕ). x ∷ []) (eqb-true b 10 e))) (λ _.
+    by_test (Found b bs) (b == 92) classes.Backslash
+    _ (λ e. view_found _ (after_byte 10 bs) (λ r. (line_continuation, r)) (byte_found 10 bs) (λ r h.
     (b ∷ 10 ∷ [], ap (λ (t : List ℕ). b ∷ t) h, ap (λ (x : ℕ). x ∷ 10 ∷ []) (eqb-true b 92 e)))) (λ _.
-    by_test (Found b bs) (b == 35) classes.Hash _ (λ e.
-    (b ∷ front is_no_newline bs, ap (λ (t : List ℕ). b ∷ t) (front_behind is_no_newline bs), (ap (λ (x : ℕ). x ∷ front is_no_newline bs) (eqb-true b 35 e), front_all is_no_newline bs))) (λ _.
-    by_test (Found b bs) (b == 34) classes.Quote _ (λ e. rw (eqb-true b 34 e) (quoted_found bs)) (λ _. punctuators_found b bs)))))))
+    by_test (Found b bs) (b == 35) classes.Hash _ (λ e. (
+      b ∷ front is_no_newline bs,
+      ap (λ (t : List ℕ). b ∷ t) (front_behind is_no_newline bs),
+      (ap (λ (x : ℕ). x ∷ front is_no_newline bs) (eqb-true b 35 e), front_all is_no_newline bs),
+    )) (λ _.
+    by_test (Found b bs) (b == 34) classes.Quote _ (λ e. rw (eqb-true b 34 e) (quoted_found bs))
+    (λ _. punctuators_found b bs)))))))
 
 lexeme_spelled : (ts : List ℕ) → IfSome (lexeme_at ts) (λ x. SpellsFront x.0 ts x.1)
 unfolding lexeme_at
 lexeme_spelled [] = tt
 lexeme_spelled (b ∷ bs) = class_found b bs
 
--- ---- each spelling is read, as far as it goes or farther
+-- ---- completeness: each spelling is read, or a longer one
 
--- a reading that leaves no more than this, and where this is nothing is of this piece
+-- The reader leaves at most this text; where it leaves exactly this, it gives this lexeme.
 abbrev Reads : Lexeme → List ℕ → Option (Lexeme × List ℕ) → Type 0
 Reads p rest o = IsSomeAnd o (λ x. (length x.1 ≤ length rest) × (rest ≡ [] → x.0 ≡ p))
 
--- the piece with all that goes on with it
-with_all : (test : ℕ → Bool) (f : List ℕ → Lexeme) (xs rest : List ℕ) → Reads (f xs) rest (Some (f (xs ++ front test rest), behind test rest))
+-- The lexeme together with all bytes that continue it.
+with_all : (test : ℕ → Bool) (f : List ℕ → Lexeme) (xs rest : List ℕ)
+    → Reads (f xs) rest (Some (f (xs ++ front test rest), behind test rest))
 with_all test f xs rest = (behind_short test rest, λ e. ap f (rw e (append-nil xs)))
 
 no_digit : (b : ℕ) → begins_word b ≡ true → is_ascii_digit b ≡ false
@@ -207,8 +257,9 @@ unfolding lexeme_at class_at
 digit_read [] rest s = absurd (s.0 refl)
 digit_read (b ∷ bs) rest s = rw (and_parts (is_ascii_digit b) (list_all is_ascii_digit bs) s.1).0 refl
 
--- what takes some of what follows the digits comes before the digits alone
-else_reads : (p : Lexeme) (first ts rest : List ℕ) (o d : Option (Lexeme × List ℕ)) → IfSome o (Onward first ts) → length ts ≤ length rest → Reads p rest d → Reads p rest (option_or o d)
+-- An alternative that takes bytes after the digits is tried before the digits alone.
+else_reads : (p : Lexeme) (first ts rest : List ℕ) (o d : Option (Lexeme × List ℕ))
+    → IfSome o (Onward first ts) → length ts ≤ length rest → Reads p rest d → Reads p rest (option_or o d)
 else_reads p first ts rest None d h le r = r
 else_reads p first ts rest (Some x) d h le r =
     let less : length x.1 < length ts = h.1 in
@@ -226,30 +277,48 @@ number_reads n rest s =
     (else_reads (digits n) first ts rest (dotted_quad_at first ts) _ (dotted_quad_found first ts all.1) le
     (with_all is_ascii_digit digits n rest)))
 
-hexadecimal_read : (n rest : List ℕ) → IsRun is_ascii_hexdigit n → lexeme_at (48 ∷ 120 ∷ (n ++ rest)) ≡ Some (hexadecimal (n ++ front is_ascii_hexdigit rest), behind is_ascii_hexdigit rest)
+hexadecimal_read : (n rest : List ℕ) → IsRun is_ascii_hexdigit n
+    → lexeme_at (48 ∷ 120 ∷ (n ++ rest)) ≡ Some
+    (hexadecimal (n ++ front is_ascii_hexdigit rest), behind is_ascii_hexdigit rest)
 unfolding lexeme_at class_at number_at run_at hexadecimal_at
 hexadecimal_read n rest s = rw (run_more is_ascii_hexdigit n rest s) refl
 
 dotted_quad_read : (a b c d rest : List ℕ) → IsDigits a → IsDigits b → IsDigits c → IsDigits d
-    → lexeme_at (a ++ octets_after b c d rest) ≡ Some (dotted_quad a b c (d ++ front is_ascii_digit rest), behind is_ascii_digit rest)
+    → lexeme_at (a ++ octets_after b c d rest)
+    ≡ Some (dotted_quad a b c (d ++ front is_ascii_digit rest), behind is_ascii_digit rest)
 unfolding number_at hexadecimal_at dotted_quad_at next_octet_at
 dotted_quad_read a b c d rest sa sb sc sd =
     let last = 46 ∷ (d ++ rest) in
     let third = 46 ∷ (c ++ last) in
     digit_read a (octets_after b c d rest) sa
-    ∙ rw (run_exact is_ascii_digit a (46 ∷ (b ++ third)) sa refl, run_exact is_ascii_digit b third sb refl, run_exact is_ascii_digit c last sc refl, run_more is_ascii_digit d rest sd) refl
+    ∙ rw (
+      run_exact is_ascii_digit a (46 ∷ (b ++ third)) sa refl,
+      run_exact is_ascii_digit b third sb refl,
+      run_exact is_ascii_digit c last sc refl,
+      run_more is_ascii_digit d rest sd,
+    ) refl
 
-string_read : (s rest : List ℕ) → list_all is_string_byte s ≡ true → quoted_at (s ++ 34 ∷ rest) ≡ Some (quoted s, rest)
+string_read : (s rest : List ℕ) → list_all is_string_byte s ≡ true
+    → quoted_at (s ++ 34 ∷ rest) ≡ Some (quoted s, rest)
 unfolding quoted_at
-string_read s rest all = rw (front_more is_string_byte s (34 ∷ rest) all, behind_more is_string_byte s (34 ∷ rest) all, append-nil s) refl
+string_read s rest all = rw (
+  front_more is_string_byte s (34 ∷ rest) all,
+  behind_more is_string_byte s (34 ∷ rest) all,
+  append-nil s,
+) refl
 
--- a mark before an equals sign that may stand there
-punctuation_reads : (long m : Punctuator) (rest : List ℕ) → Reads (punctuation m) rest (option_or (after_byte 61 rest >>= (λ r. Some (punctuation long, r))) (Some (punctuation m, rest)))
+-- A punctuator of one byte, where one with `=` after it may follow.
+punctuation_reads : (long m : Punctuator) (rest : List ℕ)
+    → Reads (punctuation m) rest (option_or (after_byte 61 rest >>= (λ r. Some (punctuation long, r)))
+    (Some (punctuation m, rest)))
 punctuation_reads long m [] = (omega arith, λ _. refl)
 punctuation_reads long m (b ∷ bs) =
-    by_test (λ o. Reads (punctuation m) (b ∷ bs) (option_or (o >>= (λ r. Some (punctuation long, r))) (Some (punctuation m, b ∷ bs)))) (b == 61) (Some bs) None (λ _. (omega arith, λ e. absurd cc)) (λ _. (omega arith, λ _. refl))
+    by_test (λ o. Reads (punctuation m) (b ∷ bs)
+    (option_or (o >>= (λ r. Some (punctuation long, r))) (Some (punctuation m, b ∷ bs)))) (b == 61)
+    (Some bs) None (λ _. (omega arith, λ e. absurd cc)) (λ _. (omega arith, λ _. refl))
 
-punctuators_read : (m : Punctuator) (rest : List ℕ) → Reads (punctuation m) rest (lexeme_at (punctuator_text m ++ rest))
+punctuators_read : (m : Punctuator) (rest : List ℕ)
+    → Reads (punctuation m) rest (lexeme_at (punctuator_text m ++ rest))
 unfolding lexeme_at class_at punctuator_at long_punctuator_at
 punctuators_read Equals rest = punctuation_reads EqualTo Equals rest
 punctuators_read Below rest = punctuation_reads AtMost Below rest
@@ -258,45 +327,71 @@ punctuators_read m rest = (omega arith, λ _. refl)
 
 reads : (p : Lexeme) (bytes rest : List ℕ) → SpellsLexeme p bytes → Reads p rest (lexeme_at (bytes ++ rest))
 unfolding lexeme_at class_at
-reads blank bytes rest s = let apart = blank_apart s.0 s.2 in rw (s.1, apart.0, apart.1, s.2) (omega arith, λ _. refl)
+reads blank bytes rest s = let apart = blank_apart s.0 s.2 in
+    rw (s.1, apart.0, apart.1, s.2) (omega arith, λ _. refl)
 reads line_continuation bytes rest s = rw s (omega arith, λ _. refl)
-reads (comment c) bytes rest s = rw (s.0, front_more is_no_newline c rest s.1, behind_more is_no_newline c rest s.1) (with_all is_no_newline comment c rest)
+reads (comment c) bytes rest s = rw (
+  s.0,
+  front_more is_no_newline c rest s.1,
+  behind_more is_no_newline c rest s.1,
+) (with_all is_no_newline comment c rest)
 reads line_end bytes rest s = rw s (omega arith, λ _. refl)
 reads (name []) bytes rest s = absurd s.1
-reads (name (b ∷ bs)) bytes rest s = rw (s.0, no_digit b s.1.0, s.1.0, front_more continues_word bs rest s.1.1, behind_more continues_word bs rest s.1.1) (with_all continues_word (λ t. name (b ∷ t)) bs rest)
+reads (name (b ∷ bs)) bytes rest s = rw (
+  s.0,
+  no_digit b s.1.0,
+  s.1.0,
+  front_more continues_word bs rest s.1.1,
+  behind_more continues_word bs rest s.1.1,
+)
+    (with_all continues_word (λ t. name (b ∷ t)) bs rest)
 reads (digits n) bytes rest s = rw (s.0, digit_read n rest s.1) (number_reads n rest s.1)
-reads (hexadecimal n) bytes rest s = rw (s.0, hexadecimal_read n rest s.1) (with_all is_ascii_hexdigit hexadecimal n rest)
-reads (dotted_quad a b c d) bytes rest s = rw (s.0, regroup a b c d rest, dotted_quad_read a b c d rest s.1 s.2 s.3 s.4) (with_all is_ascii_digit (dotted_quad a b c) d rest)
-reads (quoted t) bytes rest s = rw (s.0, append_assoc t (34 ∷ []) rest, string_read t rest s.1) (omega arith, λ _. refl)
+reads (hexadecimal n) bytes rest s = rw (s.0, hexadecimal_read n rest s.1)
+    (with_all is_ascii_hexdigit hexadecimal n rest)
+reads (dotted_quad a b c d) bytes rest s =
+    rw (s.0, regroup a b c d rest, dotted_quad_read a b c d rest s.1 s.2 s.3 s.4)
+    (with_all is_ascii_digit (dotted_quad a b c) d rest)
+reads (quoted t) bytes rest s = rw (s.0, append_assoc t (34 ∷ []) rest, string_read t rest s.1)
+    (omega arith, λ _. refl)
 reads (punctuation m) bytes rest s = rw s (punctuators_read m rest)
 
 both_read : (p q : Lexeme) (o : Option (Lexeme × List ℕ)) → Reads p [] o → Reads q [] o → p ≡ q
 both_read p q None h k = absurd h
 both_read p q (Some x) h k = sym (h.1 refl) ∙ k.1 refl
 
--- bytes spell one piece
+-- Bytes spell at most one lexeme.
 one_lexeme : (p q : Lexeme) (bytes : List ℕ) → SpellsLexeme p bytes → SpellsLexeme q bytes → p ≡ q
 one_lexeme p q bytes s t = both_read p q (lexeme_at (bytes ++ [])) (reads p bytes [] s) (reads q bytes [] t)
 
--- ---- the longest piece
+-- ---- the longest lexeme
 
-reaches : (q : Lexeme) (ts others rest : List ℕ) → SpellsLexeme q others → ts ≡ others ++ rest → IsSomeAnd (lexeme_at ts) (λ x. length x.1 ≤ length rest)
+reaches : (q : Lexeme) (ts others rest : List ℕ) → SpellsLexeme q others → ts ≡ others ++ rest
+    → IsSomeAnd (lexeme_at ts) (λ x. length x.1 ≤ length rest)
 reaches q ts others rest s split =
     elim (option_cases (lexeme_at ts)) [
       | inl e ↦ let h = reads q others rest s in absurd (rw (sym split, e) at h)
       | inr w ↦ let h = reads q others rest s in let g = rw (sym split, w.1) at h in rw w.1 g.0
     ]
 
-pub lexeme_is_longest : (ts : List ℕ) (x : Lexeme × List ℕ) → lexeme_at ts ≡ Some x → (bytes : List ℕ) × IsLongestLexeme x.0 bytes ts x.1
+pub lexeme_is_longest : (ts : List ℕ) (x : Lexeme × List ℕ) → lexeme_at ts ≡ Some x
+    → (bytes : List ℕ) × IsLongestLexeme x.0 bytes ts x.1
 lexeme_is_longest ts x e =
-    let there : SpellsFront x.0 ts x.1 = IfSome_at (lexeme_at ts) (λ x. SpellsFront x.0 ts x.1) x e (lexeme_spelled ts) in (
+    let there : SpellsFront x.0 ts x.1 =
+    IfSome_at (lexeme_at ts) (λ x. SpellsFront x.0 ts x.1) x e (lexeme_spelled ts) in (
       there.0,
       record {
         joined = there.1;
         spelled = there.2;
         longest = λ q others rest s split.
             let less : length x.1 ≤ length rest = rw e at (reaches q ts others rest s split) in
-            omega (arith, less, ap length there.1, ap length split, length-append there.0 x.1, length-append others rest);
+            omega (
+              arith,
+              less,
+              ap length there.1,
+              ap length split,
+              length-append there.0 x.1,
+              length-append others rest,
+            );
       },
     )
 
@@ -306,24 +401,27 @@ same_front xs ys vs ws e n = (
   sym (drop_at xs vs (length xs) refl) ∙ ap (drop (length xs)) e ∙ drop_at ys ws (length xs) (sym n),
 )
 
--- one piece stands at a place
-pub longest_lexeme_unique : (p q : Lexeme) (bytes others from to rest : List ℕ) → IsLongestLexeme p bytes from to → IsLongestLexeme q others from rest → (p ≡ q) × (bytes ≡ others) × (to ≡ rest)
+-- At a position there is at most one longest lexeme.
+pub longest_lexeme_unique : (p q : Lexeme) (bytes others from to rest : List ℕ)
+    → IsLongestLexeme p bytes from to → IsLongestLexeme q others from rest
+    → (p ≡ q) × (bytes ≡ others) × (to ≡ rest)
 longest_lexeme_unique p q bytes others from to rest s t =
     let more : length bytes ≤ length others = t.longest p bytes to s.spelled s.joined in
     let less : length others ≤ length bytes = s.longest q others rest t.spelled t.joined in
     let same = same_front bytes others to rest (sym s.joined ∙ t.joined) (omega arith) in
     (one_lexeme p q bytes s.spelled (subst (SpellsLexeme q) (sym same.0) t.spelled), same.0, same.1)
 
-pub tokens_unique : (p : Lexeme) (bytes : List ℕ) (xs ys : List LexedToken) → SpellsLexeme p bytes → HasTokens p bytes xs → HasTokens p bytes ys → xs ≡ ys
+pub tokens_unique : (p : Lexeme) (bytes : List ℕ) (xs ys : List LexedToken) → SpellsLexeme p bytes
+    → HasTokens p bytes xs → HasTokens p bytes ys → xs ≡ ys
 tokens_unique p bytes xs ys s m n = cc (meaning_only p bytes xs s m, meaning_only p bytes ys s n)
 
--- ---- what is read, against what stands
+-- ---- the next token or fault
 
--- where none is read none begins
+-- Where the reader gives none, no lexeme starts.
 none_begins : (ts : List ℕ) → lexeme_at ts ≡ None → BeginsNoLexeme ts
 none_begins ts e q others after s joined = rw e at (reaches q ts others after s joined)
 
--- the bytes before a rest
+-- The bytes before a suffix of the text.
 pub before : (ts bytes rest : List ℕ) → ts ≡ bytes ++ rest → take (length ts - length rest) ts ≡ bytes
 before ts bytes rest e =
     let n : length ts - length rest ≡ length bytes = omega (arith, ap length e, length-append bytes rest) in
@@ -339,7 +437,8 @@ lexeme_within ts =
     ]
 
 abbrev pub IsNextOrFault : List ℕ → Result (List LexedToken × List ℕ) Fault → Type 0
-IsNextOrFault ts r = MatchResult r (λ x. ScansOne ts x.0 x.1) (λ fault. (line : ℕ) → IsFaultAt ts line (at_line fault line))
+IsNextOrFault ts r = MatchResult r (λ x. ScansOne ts x.0 x.1)
+    (λ fault. (line : ℕ) → IsFaultAt ts line (at_line fault line))
 
 pub next_is : (ts : List ℕ) → 0 < length ts → IsNextOrFault ts (next_at ts)
 unfolding next_at
@@ -348,14 +447,25 @@ next_is (b ∷ bs) some =
     elim (option_cases (lexeme_at (b ∷ bs))) [
       | inl none ↦
           let begins = none_begins (b ∷ bs) none in
-          rw none (by_test (λ fault. IsNextOrFault (b ∷ bs) (Err fault)) (b == 34) faults.OpenString faults.Byte (λ e line. inr (inl (eqb-true b 34 e, begins, refl))) (λ e line. inl (eqb-false b 34 e, begins, refl)))
+          rw none (by_test (λ fault. IsNextOrFault (b ∷ bs) (Err fault)) (b == 34) faults.OpenString
+          faults.Byte (λ e line. open_string (eqb-true b 34 e) begins refl)
+          (λ e line. no_lexeme (eqb-false b 34 e) begins refl))
       | inr w ↦
           let there = lexeme_is_longest (b ∷ bs) w.0 w.1 in
           let bytes = before (b ∷ bs) there.0 w.0.1 there.1.joined in
           elim (option_cases (meaning w.0.0 there.0)) [
             | inl none ↦
-                rw (w.1, bytes, none) (λ line. inr (inr (w.0.0, there.0, w.0.1, there.1, (λ tokens m. let meant = meaning_only w.0.0 there.0 tokens there.1.spelled m in absurd (cc (none, meant))), refl)))
+                rw (w.1, bytes, none) (λ line.
+                no_token w.0.0 there.0 w.0.1 there.1
+                (λ tokens m. let meant = meaning_only w.0.0 there.0 tokens there.1.spelled m in
+                absurd (cc (none, meant))) refl)
             | inr m ↦
-                rw (w.1, bytes, m.1) (w.0.0, there.0, there.1, IfSome_at (meaning w.0.0 there.0) (λ xs. HasTokens w.0.0 there.0 xs) m.0 m.1 (meaning_found w.0.0 there.0 there.1.spelled))
+                rw (w.1, bytes, m.1) (
+                  w.0.0,
+                  there.0,
+                  there.1,
+                  IfSome_at (meaning w.0.0 there.0) (λ xs. HasTokens w.0.0 there.0 xs) m.0 m.1
+                      (meaning_found w.0.0 there.0 there.1.spelled),
+                )
           ]
     ]

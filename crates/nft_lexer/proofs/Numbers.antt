@@ -1,4 +1,4 @@
--- Digits as numbers, and the tokens of pieces.
+-- The values of digits, and the tokens of lexemes.
 use Rattle.std.proofs.Common.{◌≡◌, ◌≢◌, ℕ, zero, suc, ◌+◌, ◌-◌, ◌*◌, ◌/◌, ◌%◌, ◌^◌, ◌<◌, ◌≤◌, Bool, true, false, cond, ◌&&◌, ◌==◌, List, [], ◌∷◌, ◌++◌, length, take, drop, get_or, Some, None, Option, inl, inr, refl, sym, ap, ◌∙◌, arith, rules}
 use Rattle.std.specs.Prelude.{IfSome, nat_lt, option_map}
 use Rattle.std.specs.Char.{is_ascii_digit, is_ascii_hexdigit, digit_value}
@@ -18,28 +18,32 @@ use Rattle.nft_lexer.specs.steps.Reading.{◌>>=◌, has_leading_zero, below, va
 
 -- ---- options
 
-pub bind_found : {A B : Type 0} {P : A → Type 0} (Q : B → Type 0) (o : Option A) (f : A → Option B) → IfSome o P → ((x : A) → P x → IfSome (f x) Q) → IfSome (o >>= f) Q
+pub bind_found : {A B : Type 0} {P : A → Type 0} (Q : B → Type 0) (o : Option A) (f : A → Option B)
+    → IfSome o P → ((x : A) → P x → IfSome (f x) Q) → IfSome (o >>= f) Q
 bind_found Q None f h k = tt
 bind_found Q (Some x) f h k = k x h
 
-pub view_found : {A B : Type 0} {P : A → Type 0} (Q : B → Type 0) (o : Option A) (f : A → B) → IfSome o P → ((x : A) → P x → Q (f x)) → IfSome (option_map f o) Q
+pub view_found : {A B : Type 0} {P : A → Type 0} (Q : B → Type 0) (o : Option A) (f : A → B) → IfSome o P
+    → ((x : A) → P x → Q (f x)) → IfSome (option_map f o) Q
 view_found Q None f h k = tt
 view_found Q (Some x) f h k = k x h
 
--- what holds both where a test passes and where it fails
-pub by_test : {A : Type 0} (P : A → Type 0) (b : Bool) (x y : A) → (b ≡ true → P x) → (b ≡ false → P y) → P (cond b x y)
+-- What holds of both branches holds of the conditional.
+pub by_test : {A : Type 0} (P : A → Type 0) (b : Bool) (x y : A) → (b ≡ true → P x) → (b ≡ false → P y)
+    → P (cond b x y)
 by_test P true x y h k = h refl
 by_test P false x y h k = k refl
 
--- ---- the number that digits write
+-- ---- the value of digits
 
--- more digits write no less
+-- More digits never make a smaller number.
 grows : (radix n : ℕ) (ds : List ℕ) → 1 ≤ radix → n ≤ digits_value_after radix n ds
 grows radix n [] some = omega arith
 grows zero n (b ∷ bs) some = absurd (omega arith)
 grows (suc r) n (b ∷ bs) some = omega (arith, grows (suc r) (n * suc r + digit_value b) bs some)
 
-value_is : (radix n : ℕ) (ds : List ℕ) → 1 ≤ radix → AllDigits radix ds → n < 2 ^ 64 → value_after radix n ds ≡ below (2 ^ 64) (digits_value_after radix n ds)
+value_is : (radix n : ℕ) (ds : List ℕ) → 1 ≤ radix → AllDigits radix ds → n < 2 ^ 64
+    → value_after radix n ds ≡ below (2 ^ 64) (digits_value_after radix n ds)
 unfolding value_after
 value_is radix n [] some all less = rw (lt-ltb n (2 ^ 64) less) refl
 value_is radix n (b ∷ bs) some all less =
@@ -48,12 +52,14 @@ value_is radix n (b ∷ bs) some all less =
     elim (cases_lt next (2 ^ 64)) [
       | inl fits ↦ rw (digit, lt-ltb next (2 ^ 64) fits) (value_is radix next bs some all.1 fits)
       | inr large ↦
-          let most : 2 ^ 64 ≤ digits_value_after radix next bs = omega (arith, large, grows radix next bs some) in
+          let most : 2 ^ 64 ≤ digits_value_after radix next bs =
+          omega (arith, large, grows radix next bs some) in
           rw (digit, le-ltb next (2 ^ 64) large, le-ltb (digits_value_after radix next bs) (2 ^ 64) most) refl
     ]
 
 below_found : (most n : ℕ) → IfSome (below most n) (λ m. (m ≡ n) × (m < most))
-below_found most n = elim (cases_lt n most) [ inl less ↦ rw (lt-ltb n most less) (refl, less) | inr large ↦ rw (le-ltb n most large) tt ]
+below_found most n = elim (cases_lt n most)
+    [ inl less ↦ rw (lt-ltb n most less) (refl, less) | inr large ↦ rw (le-ltb n most large) tt ]
 
 below_only : (most n : ℕ) → n < most → below most n ≡ Some n
 below_only most n less = rw (lt-ltb n most less) refl
@@ -91,13 +97,16 @@ not_leading n first h = grind (arith, nat_tests)
 one_digit : (n first : ℕ) → 0 < n → (1 < n → first ≢ 48) → first ≡ 48 → n ≡ 1
 one_digit n first some h e = grind (arith, nat_tests)
 
-decimal_found : (ds : List ℕ) → IsDigits ds → IfSome (decimal_at ds) (λ n. IsValidDecimal ds × (n ≡ digits_value 10 ds))
+decimal_found : (ds : List ℕ) → IsDigits ds
+    → IfSome (decimal_at ds) (λ n. IsValidDecimal ds × (n ≡ digits_value 10 ds))
 unfolding decimal_at
 decimal_found ds s =
-    by_test (λ o. IfSome o (λ n. IsValidDecimal ds × (n ≡ digits_value 10 ds))) (has_leading_zero ds) None (value_after 10 0 ds) (λ _. tt) (λ plain.
+    by_test (λ o. IfSome o (λ n. IsValidDecimal ds × (n ≡ digits_value 10 ds))) (has_leading_zero ds) None
+    (value_after 10 0 ds) (λ _. tt) (λ plain.
     rw (decimal_is ds s) (IfSome_weaker (below (2 ^ 64) (digits_value 10 ds)) _ _ (λ n h.
     let less : n < 2 ^ 64 = h.1 in
-    ((no_leading (length ds) (get_or ds 0 0) plain, rw h.0 at less), h.0)) (below_found (2 ^ 64) (digits_value 10 ds))))
+    ((no_leading (length ds) (get_or ds 0 0) plain, rw h.0 at less), h.0))
+    (below_found (2 ^ 64) (digits_value 10 ds))))
 
 decimal_only : (ds : List ℕ) → IsDigits ds → IsValidDecimal ds → decimal_at ds ≡ Some (digits_value 10 ds)
 unfolding decimal_at
@@ -105,15 +114,18 @@ decimal_only ds s m =
     let plain : has_leading_zero ds ≡ false = not_leading (length ds) (get_or ds 0 0) m.0 in
     rw (plain, decimal_is ds s, below_only (2 ^ 64) (digits_value 10 ds) m.1) refl
 
--- ---- groups
+-- ---- octets
 
 octet_found : (ds : List ℕ) → IsDigits ds → IfSome (octet_at ds) (λ n. (n < 256) × (ds ≡ decimal n))
 unfolding octet_at
 octet_found ds s =
     bind_found _ (decimal_at ds) _ (decimal_found ds s) (λ n h.
     IfSome_weaker (below 256 n) _ _ (λ m g.
-    let many = some_length ds s.0 in
-    (g.1, sym (ap decimal (g.0 ∙ h.1) ∙ decimal-digits_value own ds s.1 many (one_digit (length ds) (get_or ds 0 0) many h.0.0) h.0.1))) (below_found 256 n))
+    let many = some_length ds s.0 in (
+      g.1,
+      sym (ap decimal (g.0 ∙ h.1) ∙ decimal-digits_value own ds s.1 many
+          (one_digit (length ds) (get_or ds 0 0) many h.0.0) h.0.1),
+    )) (below_found 256 n))
 
 valid_decimal : (n : ℕ) → n < 256 → IsValidDecimal (decimal n)
 valid_decimal zero less =
@@ -132,61 +144,99 @@ octet_only ds n s less e =
 
 -- ---- addresses
 
--- the number of the groups, and its groups
-joined : (a b c d : ℕ) → a < 256 → b < 256 → c < 256 → d < 256 → (let n = a * 16777216 + b * 65536 + c * 256 + d in (n < 2 ^ 32) × (n / 16777216 ≡ a) × (n / 65536 % 256 ≡ b) × (n / 256 % 256 ≡ c) × (n % 256 ≡ d))
+-- Four octets as a 32-bit number, and the octets of that number.
+joined : (a b c d : ℕ) → a < 256 → b < 256 → c < 256 → d < 256
+    → (let n = a * 16777216 + b * 65536 + c * 256 + d in
+    (n < 2 ^ 32) × (n / 16777216 ≡ a) × (n / 65536 % 256 ≡ b) × (n / 256 % 256 ≡ c) × (n % 256 ≡ d))
 joined a b c d la lb lc ld = (omega arith, omega arith, omega arith, omega arith, omega arith)
 
-address_found : (a b c d : List ℕ) → IsDigits a → IsDigits b → IsDigits c → IsDigits d → IfSome (address_at a b c d) (AreOctets a b c d)
+address_found : (a b c d : List ℕ) → IsDigits a → IsDigits b → IsDigits c → IsDigits d
+    → IfSome (address_at a b c d) (AreOctets a b c d)
 unfolding address_of octet_at
 address_found a b c d sa sb sc sd =
     bind_found _ (octet_at a) _ (octet_found a sa) (λ w hw.
     bind_found _ (octet_at b) _ (octet_found b sb) (λ x hx.
     bind_found _ (octet_at c) _ (octet_found c sc) (λ y hy.
     bind_found _ (octet_at d) _ (octet_found d sd) (λ z hz.
-    let all = joined w x y z hw.0 hx.0 hy.0 hz.0 in
-    (all.0, hw.1 ∙ ap decimal (sym all.1), hx.1 ∙ ap decimal (sym all.2), hy.1 ∙ ap decimal (sym all.3), hz.1 ∙ ap decimal (sym all.4))))))
+    let all = joined w x y z hw.0 hx.0 hy.0 hz.0 in (
+      all.0,
+      hw.1 ∙ ap decimal (sym all.1),
+      hx.1 ∙ ap decimal (sym all.2),
+      hy.1 ∙ ap decimal (sym all.3),
+      hz.1
+          ∙ ap decimal (sym all.4),
+    )))))
 
-address_only : (a b c d : List ℕ) (n : ℕ) → IsDigits a → IsDigits b → IsDigits c → IsDigits d → AreOctets a b c d n → address_at a b c d ≡ Some n
+address_only : (a b c d : List ℕ) (n : ℕ) → IsDigits a → IsDigits b → IsDigits c → IsDigits d
+    → AreOctets a b c d n → address_at a b c d ≡ Some n
 unfolding address_of octet_at
 address_only a b c d n sa sb sc sd m =
     let small : n < 2 ^ 32 = m.0 in
-    let whole : n / 16777216 * 16777216 + n / 65536 % 256 * 65536 + n / 256 % 256 * 256 + n % 256 ≡ n = omega arith in
-    rw (octet_only a (n / 16777216) sa (omega arith) m.1, octet_only b (n / 65536 % 256) sb (omega arith) m.2, octet_only c (n / 256 % 256) sc (omega arith) m.3, octet_only d (n % 256) sd (omega arith) m.4) (ap (λ (k : ℕ). Some k) whole)
+    let whole : n / 16777216 * 16777216 + n / 65536 % 256 * 65536 + n / 256 % 256 * 256 + n % 256 ≡ n =
+    omega arith in
+    rw (
+      octet_only a (n / 16777216) sa (omega arith) m.1,
+      octet_only b (n / 65536 % 256) sb (omega arith) m.2,
+      octet_only c (n / 256 % 256) sc (omega arith) m.3,
+      octet_only d (n % 256) sd (omega arith) m.4,
+    )
+    (ap (λ (k : ℕ). Some k) whole)
 
--- ---- the tokens of pieces
+-- ---- the tokens of lexemes
 
--- the bytes between the quotes of a string
+-- The bytes between the quotes of a string.
 between : (s bytes : List ℕ) → bytes ≡ 34 ∷ s ++ 34 ∷ [] → take (length bytes - 2) (drop 1 bytes) ≡ s
 between s bytes e =
     let long : length (34 ∷ s ++ 34 ∷ []) - 2 ≡ length s = omega (arith, length-append s (34 ∷ [])) in
     rw (e, long) (take-append_seam s (34 ∷ []))
 
-as_number : (o : Option ℕ) (bytes : List ℕ) → tokens_of (number_kind o) bytes ≡ option_map (λ v. one (number v) bytes) o
+as_number : (o : Option ℕ) (bytes : List ℕ)
+    → tokens_of (number_kind o) bytes ≡ option_map (λ v. one (number v) bytes) o
 as_number None bytes = refl
 as_number (Some n) bytes = refl
 
-as_address : (o : Option ℕ) (bytes : List ℕ) → tokens_of (address_kind o) bytes ≡ option_map (λ v. one (address v) bytes) o
+as_address : (o : Option ℕ) (bytes : List ℕ)
+    → tokens_of (address_kind o) bytes ≡ option_map (λ v. one (address v) bytes) o
 as_address None bytes = refl
 as_address (Some a) bytes = refl
 
-pub meaning_found : (p : Lexeme) (bytes : List ℕ) → SpellsLexeme p bytes → IfSome (meaning p bytes) (λ tokens. HasTokens p bytes tokens)
+pub meaning_found : (p : Lexeme) (bytes : List ℕ) → SpellsLexeme p bytes
+    → IfSome (meaning p bytes) (λ tokens. HasTokens p bytes tokens)
 meaning_found (name w) bytes s = ap (λ (t : List ℕ). one (word t) bytes) s.0
-meaning_found (digits n) bytes s = rw (as_number (decimal_at n) bytes) (view_found _ (decimal_at n) (λ v. one (number v) bytes) (decimal_found n s.1) (λ v h. (h.0, ap (λ (k : ℕ). one (number k) bytes) h.1)))
+meaning_found (digits n) bytes s = rw (as_number (decimal_at n) bytes)
+    (view_found _ (decimal_at n) (λ v. one (number v) bytes) (decimal_found n s.1)
+    (λ v h. (h.0, ap (λ (k : ℕ). one (number k) bytes) h.1)))
 meaning_found (hexadecimal n) bytes s =
-    rw (as_number (value_after 16 0 n) bytes, hexadecimal_is n s.1) (view_found _ (below (2 ^ 64) (digits_value 16 n)) (λ v. one (number v) bytes) (below_found (2 ^ 64) (digits_value 16 n)) (λ v h.
+    rw (as_number (value_after 16 0 n) bytes, hexadecimal_is n s.1)
+    (view_found _ (below (2 ^ 64) (digits_value 16 n)) (λ v. one (number v) bytes)
+    (below_found (2 ^ 64) (digits_value 16 n)) (λ v h.
     let less : v < 2 ^ 64 = h.1 in
     (rw h.0 at less, ap (λ (k : ℕ). one (number k) bytes) h.0)))
-meaning_found (dotted_quad a b c d) bytes s = rw (as_address (address_at a b c d) bytes) (view_found _ (address_at a b c d) (λ v. one (address v) bytes) (address_found a b c d s.1 s.2 s.3 s.4) (λ n h. (n, h, refl)))
+meaning_found (dotted_quad a b c d) bytes s =
+    rw (as_address (address_at a b c d) bytes)
+    (view_found _ (address_at a b c d) (λ v. one (address v) bytes) (address_found a b c d s.1 s.2 s.3 s.4)
+    (λ n h. (n, h, refl)))
 meaning_found (quoted q) bytes s = ap (λ (t : List ℕ). one (string t) bytes) (between q bytes s.0)
 meaning_found p bytes s = refl
 
 some_of : {A : Type 0} (x y : A) → x ≡ y → ◌≡◌ {A = Option A} (Some y) (Some x)
 some_of x y e = ap (λ z. Some z) (sym e)
 
-pub meaning_only : (p : Lexeme) (bytes : List ℕ) (tokens : List LexedToken) → SpellsLexeme p bytes → HasTokens p bytes tokens → meaning p bytes ≡ Some tokens
-meaning_only (name w) bytes tokens s m = some_of tokens _ (m ∙ ap (λ (t : List ℕ). one (word t) bytes) (sym s.0))
-meaning_only (digits n) bytes tokens s m = rw (as_number (decimal_at n) bytes, decimal_only n s.1 m.0) (some_of tokens _ m.1)
-meaning_only (hexadecimal n) bytes tokens s m = rw (as_number (value_after 16 0 n) bytes, hexadecimal_is n s.1, below_only (2 ^ 64) (digits_value 16 n) m.0) (some_of tokens _ m.1)
-meaning_only (dotted_quad a b c d) bytes tokens s m = rw (as_address (address_at a b c d) bytes, address_only a b c d m.0 s.1 s.2 s.3 s.4 m.1) (some_of tokens _ m.2)
-meaning_only (quoted q) bytes tokens s m = some_of tokens _ (m ∙ ap (λ (t : List ℕ). one (string t) bytes) (sym (between q bytes s.0)))
+pub meaning_only : (p : Lexeme) (bytes : List ℕ) (tokens : List LexedToken) → SpellsLexeme p bytes
+    → HasTokens p bytes tokens → meaning p bytes ≡ Some tokens
+meaning_only (name w) bytes tokens s m =
+    some_of tokens _ (m ∙ ap (λ (t : List ℕ). one (word t) bytes) (sym s.0))
+meaning_only (digits n) bytes tokens s m =
+    rw (as_number (decimal_at n) bytes, decimal_only n s.1 m.0) (some_of tokens _ m.1)
+meaning_only (hexadecimal n) bytes tokens s m =
+    rw (
+      as_number (value_after 16 0 n) bytes,
+      hexadecimal_is n s.1,
+      below_only (2 ^ 64) (digits_value 16 n) m.0,
+    ) (some_of tokens _ m.1)
+meaning_only (dotted_quad a b c d) bytes tokens s m =
+    rw (as_address (address_at a b c d) bytes, address_only a b c d m.0 s.1 s.2 s.3 s.4 m.1)
+    (some_of tokens _ m.2)
+meaning_only (quoted q) bytes tokens s m =
+    some_of tokens _ (m ∙ ap (λ (t : List ℕ). one (string t) bytes) (sym (between q bytes s.0)))
 meaning_only p bytes tokens s m = some_of tokens _ m

@@ -1,4 +1,4 @@
--- A text has one cutting or one first fault.
+-- A text has one tokenization or one first fault.
 use Rattle.std.proofs.Common.{◌≡◌, ℕ, zero, suc, ◌-◌, ◌<◌, ◌≤◌, List, [], ◌∷◌, ◌++◌, length, take, ◌⊎◌, inl, inr, refl, sym, ap, subst, ◌∙◌, append_assoc, arith}
 use Rattle.std.specs.Prelude.{Result, Ok, Err, IfOk, IfErr, MatchResult}
 use Rattle.std.proofs.lemmas.Bool.{cases_lt}
@@ -10,11 +10,11 @@ use Rattle.nft_lexer.specs.declared.fault.LexError.TheVariants.{Refused, Memory}
 use Rattle.nft_lexer.specs.declared.token.Punctuator.{Punctuator}
 use Rattle.nft_lexer.specs.declared.token.Punctuator.TheVariants.{OpenBrace}
 use Rattle.nft_lexer.specs.Terminal.{LexedToken}
-use Rattle.nft_lexer.specs.Lexing.{Lexeme, blank, line_continuation, line_end, name, digits, dotted_quad, punctuation, SpellsLexeme, IsLongestLexeme, HasTokens, ScansInto, TokenizesTo, BeginsNoLexeme, IsFaultAt, FirstFault, HasLexFault, MOST_BYTES, line_after, punctuator_text}
+use Rattle.nft_lexer.specs.Lexing.{Lexeme, blank, line_continuation, line_end, name, digits, dotted_quad, punctuation, SpellsLexeme, IsLongestLexeme, HasTokens, ScansInto, TokenizesTo, BeginsNoLexeme, no_lexeme, open_string, no_token, IsFaultAt, FirstFault, HasLexFault, MOST_BYTES, line_after, punctuator_text}
 use Rattle.nft_lexer.specs.steps.Reading.{ScansOne, IfRefused, next_at, at_line}
 use Rattle.nft_lexer.proofs.Lexemes.{longest_lexeme_unique, tokens_unique, before, next_is}
 
--- ---- where a cutting ends
+-- ---- where a scan ends
 
 punctuator_some : (m : Punctuator) → 0 < length (punctuator_text m)
 punctuator_some OpenBrace = omega arith
@@ -24,18 +24,22 @@ spelled_some : (p : Lexeme) (bytes : List ℕ) → SpellsLexeme p bytes → 0 < 
 spelled_some blank bytes s = omega (arith, ap length s.1)
 spelled_some (name []) bytes s = absurd s.1
 spelled_some (digits []) bytes s = absurd (s.1.0 refl)
-spelled_some (dotted_quad a b c d) bytes s = omega (arith, ap length s.0, length-append (a ++ 46 ∷ b ++ 46 ∷ c) (46 ∷ d))
+spelled_some (dotted_quad a b c d) bytes s =
+    omega (arith, ap length s.0, length-append (a ++ 46 ∷ b ++ 46 ∷ c) (46 ∷ d))
 spelled_some (punctuation m) bytes s = omega (arith, ap length s, punctuator_some m)
 spelled_some line_continuation bytes s = omega (arith, ap length s)
 spelled_some line_end bytes s = omega (arith, ap length s)
 spelled_some p bytes s = omega (arith, ap length s.0)
 
-lexeme_shortens : (p : Lexeme) (bytes from to : List ℕ) → IsLongestLexeme p bytes from to → length to < length from
-lexeme_shortens p bytes from to s = omega (arith, spelled_some p bytes s.spelled, ap length s.joined, length-append bytes to)
+lexeme_shortens : (p : Lexeme) (bytes from to : List ℕ) → IsLongestLexeme p bytes from to
+    → length to < length from
+lexeme_shortens p bytes from to s = omega
+    (arith, spelled_some p bytes s.spelled, ap length s.joined, length-append bytes to)
 
--- no piece that means anything stands here
+-- No lexeme with tokens is here.
 abbrev NoneScans : List ℕ → Type 0
-NoneScans rest = (p : Lexeme) (bytes to : List ℕ) (tokens : List LexedToken) → IsLongestLexeme p bytes rest to → HasTokens p bytes tokens → ⊥
+NoneScans rest = (p : Lexeme) (bytes to : List ℕ) (tokens : List LexedToken) → IsLongestLexeme p bytes rest to
+    → HasTokens p bytes tokens → ⊥
 
 end_stops : NoneScans []
 end_stops p bytes to tokens s m = omega (arith, lexeme_shortens p bytes [] to s)
@@ -45,25 +49,33 @@ none_stops rest none p bytes to tokens s m = none p bytes to s.spelled s.joined
 
 fault_stops : (rest : List ℕ) (line : ℕ) (fault : LexFault) → IsFaultAt rest line fault → NoneScans rest
 fault_stops [] line fault f = absurd f
-fault_stops (b ∷ bs) line fault (inl f) = none_stops (b ∷ bs) f.1
-fault_stops (b ∷ bs) line fault (inr (inl f)) = none_stops (b ∷ bs) f.1
-fault_stops (b ∷ bs) line fault (inr (inr f)) = λ p bytes to tokens s m.
-    let same = longest_lexeme_unique p f.0 bytes f.1 (b ∷ bs) to f.2 s f.3 in
-    let there : HasTokens f.0 bytes tokens = subst (λ (q : Lexeme). HasTokens q bytes tokens) same.0 m in
-    f.4 tokens (subst (λ (t : List ℕ). HasTokens f.0 t tokens) same.1 there)
+fault_stops (b ∷ bs) line fault (no_lexeme other none is) = none_stops (b ∷ bs) none
+fault_stops (b ∷ bs) line fault (open_string quote none is) = none_stops (b ∷ bs) none
+fault_stops (b ∷ bs) line fault (no_token q others after longest none is) = λ p bytes to tokens s m.
+    let same = longest_lexeme_unique p q bytes others (b ∷ bs) to after s longest in
+    let there : HasTokens q bytes tokens = subst (λ (r : Lexeme). HasTokens r bytes tokens) same.0 m in
+    none tokens (subst (λ (t : List ℕ). HasTokens q t tokens) same.1 there)
 
--- two cuttings as far as they go are one
-one_scan : (ps qs : List Lexeme) (from to rest : List ℕ) (xs ys : List LexedToken) → ScansInto ps from to xs → ScansInto qs from rest ys → NoneScans to → NoneScans rest → (xs ≡ ys) × (to ≡ rest)
+-- Two scans that go as far as they can are equal.
+one_scan : (ps qs : List Lexeme) (from to rest : List ℕ) (xs ys : List LexedToken) → ScansInto ps from to xs
+    → ScansInto qs from rest ys → NoneScans to → NoneScans rest → (xs ≡ ys) × (to ≡ rest)
 one_scan [] [] from to rest xs ys c d stop halt = (c.1 ∙ sym d.1, sym c.0 ∙ d.0)
-one_scan [] (q ∷ qs) from to rest xs ys c d stop halt = absurd (stop q d.0 d.1 d.2 (subst (λ (t : List ℕ). IsLongestLexeme q d.0 t d.1) c.0 d.4) d.5)
-one_scan (p ∷ ps) [] from to rest xs ys c d stop halt = absurd (halt p c.0 c.1 c.2 (subst (λ (t : List ℕ). IsLongestLexeme p c.0 t c.1) d.0 c.4) c.5)
+one_scan [] (q ∷ qs) from to rest xs ys c d stop halt =
+    absurd (stop q d.0 d.1 d.2 (subst (λ (t : List ℕ). IsLongestLexeme q d.0 t d.1) c.0 d.4) d.5)
+one_scan (p ∷ ps) [] from to rest xs ys c d stop halt =
+    absurd (halt p c.0 c.1 c.2 (subst (λ (t : List ℕ). IsLongestLexeme p c.0 t c.1) d.0 c.4) c.5)
 one_scan (p ∷ ps) (q ∷ qs) from to rest xs ys c d stop halt =
     let same = longest_lexeme_unique p q c.0 d.0 from c.1 d.1 c.4 d.4 in
-    let means : HasTokens p c.0 d.2 = subst (λ (r : Lexeme). HasTokens r c.0 d.2) (sym same.0) (subst (λ (t : List ℕ). HasTokens q t d.2) (sym same.1) d.5) in
+    let means : HasTokens p c.0 d.2 = subst (λ (r : Lexeme). HasTokens r c.0 d.2) (sym same.0)
+    (subst (λ (t : List ℕ). HasTokens q t d.2) (sym same.1) d.5) in
     let front : c.2 ≡ d.2 = tokens_unique p c.0 c.2 d.2 c.4.spelled c.5 means in
-    let ahead : ScansInto qs c.1 rest d.3 = subst (λ (t : List ℕ). ScansInto qs t rest d.3) (sym same.2) d.7 in
-    let others = one_scan ps qs c.1 to rest c.3 d.3 c.7 ahead stop halt in
-    (c.6 ∙ ap (λ (t : List LexedToken). t ++ c.3) front ∙ ap (λ (t : List LexedToken). d.2 ++ t) others.0 ∙ sym d.6, others.1)
+    let ahead : ScansInto qs c.1 rest d.3 =
+    subst (λ (t : List ℕ). ScansInto qs t rest d.3) (sym same.2) d.7 in
+    let others = one_scan ps qs c.1 to rest c.3 d.3 c.7 ahead stop halt in (
+      c.6 ∙ ap (λ (t : List LexedToken). t ++ c.3) front ∙ ap (λ (t : List LexedToken). d.2 ++ t) others.0
+          ∙ sym d.6,
+      others.1,
+    )
 
 -- ---- the laws
 
@@ -74,38 +86,54 @@ no_fault_at_end : (rest : List ℕ) (line : ℕ) (fault : LexFault) → [] ≡ r
 no_fault_at_end [] line fault e f = f
 no_fault_at_end (b ∷ bs) line fault e f = absurd cc
 
-pub faultless : (text : List ℕ) (xs : List LexedToken) (fault : LexFault) → TokenizesTo text xs → HasLexFault text fault → ⊥
+pub faultless : (text : List ℕ) (xs : List LexedToken) (fault : LexFault) → TokenizesTo text xs
+    → HasLexFault text fault → ⊥
 faultless text xs fault c (inl f) = omega (arith, c.fits, f.0)
 faultless text xs fault c (inr f) =
-    let same = one_scan c.lexemes f.lexemes text [] f.rest xs f.tokens c.scan f.scan end_stops (fault_stops f.rest (line_after f.done) fault f.faulty) in
+    let same = one_scan c.lexemes f.lexemes text [] f.rest xs f.tokens c.scan f.scan end_stops
+    (fault_stops f.rest (line_after f.done) fault f.faulty) in
     no_fault_at_end f.rest (line_after f.done) fault same.1 f.faulty
 
-one_fault_at : (rest : List ℕ) (line : ℕ) (first second : LexFault) → IsFaultAt rest line first → IsFaultAt rest line second → first ≡ second
+one_fault_at : (rest : List ℕ) (line : ℕ) (first second : LexFault) → IsFaultAt rest line first
+    → IsFaultAt rest line second → first ≡ second
 one_fault_at [] line first second f g = absurd f
-one_fault_at (b ∷ bs) line first second (inl f) (inl g) = f.2 ∙ sym g.2
-one_fault_at (b ∷ bs) line first second (inl f) (inr (inl g)) = absurd (f.0 g.0)
-one_fault_at (b ∷ bs) line first second (inl f) (inr (inr g)) = absurd (f.1 g.0 g.1 g.2 g.3.spelled g.3.joined)
-one_fault_at (b ∷ bs) line first second (inr (inl f)) (inl g) = absurd (g.0 f.0)
-one_fault_at (b ∷ bs) line first second (inr (inl f)) (inr (inl g)) = f.2 ∙ sym g.2
-one_fault_at (b ∷ bs) line first second (inr (inl f)) (inr (inr g)) = absurd (f.1 g.0 g.1 g.2 g.3.spelled g.3.joined)
-one_fault_at (b ∷ bs) line first second (inr (inr f)) (inl g) = absurd (g.1 f.0 f.1 f.2 f.3.spelled f.3.joined)
-one_fault_at (b ∷ bs) line first second (inr (inr f)) (inr (inl g)) = absurd (g.1 f.0 f.1 f.2 f.3.spelled f.3.joined)
-one_fault_at (b ∷ bs) line first second (inr (inr f)) (inr (inr g)) = f.5 ∙ sym g.5
+one_fault_at (b ∷ bs) line first second (no_lexeme other none is) (no_lexeme q n e) = is ∙ sym e
+one_fault_at (b ∷ bs) line first second (no_lexeme other none is) (open_string q n e) = absurd (other q)
+one_fault_at (b ∷ bs) line first second (no_lexeme other none is) (no_token p bytes to s n e) =
+    absurd (none p bytes to s.spelled s.joined)
+one_fault_at (b ∷ bs) line first second (open_string quote none is) (no_lexeme q n e) = absurd (q quote)
+one_fault_at (b ∷ bs) line first second (open_string quote none is) (open_string q n e) = is ∙ sym e
+one_fault_at (b ∷ bs) line first second (open_string quote none is) (no_token p bytes to s n e) =
+    absurd (none p bytes to s.spelled s.joined)
+one_fault_at (b ∷ bs) line first second (no_token p bytes to s none is) (no_lexeme q n e) =
+    absurd (n p bytes to s.spelled s.joined)
+one_fault_at (b ∷ bs) line first second (no_token p bytes to s none is) (open_string q n e) =
+    absurd (n p bytes to s.spelled s.joined)
+one_fault_at (b ∷ bs) line first second (no_token p bytes to s none is) (no_token q others after r n e) =
+    is ∙ sym e
 
-one_first : (text : List ℕ) (first second : LexFault) → FirstFault text first → FirstFault text second → first ≡ second
+one_first : (text : List ℕ) (first second : LexFault) → FirstFault text first → FirstFault text second
+    → first ≡ second
 one_first text first second f g =
-    let same = one_scan f.lexemes g.lexemes text f.rest g.rest f.tokens g.tokens f.scan g.scan (fault_stops f.rest (line_after f.done) first f.faulty) (fault_stops g.rest (line_after g.done) second g.faulty) in
-    let done : f.done ≡ g.done = sym (before text f.done f.rest f.joined) ∙ ap (λ (t : List ℕ). take (length text - length t) text) same.1 ∙ before text g.done g.rest g.joined in
-    let there : IsFaultAt f.rest (line_after f.done) second = subst (λ (t : List ℕ). IsFaultAt f.rest (line_after t) second) (sym done) (subst (λ (t : List ℕ). IsFaultAt t (line_after g.done) second) (sym same.1) g.faulty) in
+    let same = one_scan f.lexemes g.lexemes text f.rest g.rest f.tokens g.tokens f.scan g.scan
+    (fault_stops f.rest (line_after f.done) first f.faulty)
+    (fault_stops g.rest (line_after g.done) second g.faulty) in
+    let done : f.done ≡ g.done = sym (before text f.done f.rest f.joined)
+    ∙ ap (λ (t : List ℕ). take (length text - length t) text) same.1
+    ∙ before text g.done g.rest g.joined in
+    let there : IsFaultAt f.rest (line_after f.done) second =
+    subst (λ (t : List ℕ). IsFaultAt f.rest (line_after t) second) (sym done)
+    (subst (λ (t : List ℕ). IsFaultAt t (line_after g.done) second) (sym same.1) g.faulty) in
     one_fault_at f.rest (line_after f.done) first second f.faulty there
 
-pub one_fault : (text : List ℕ) (first second : LexFault) → HasLexFault text first → HasLexFault text second → first ≡ second
+pub one_fault : (text : List ℕ) (first second : LexFault) → HasLexFault text first → HasLexFault text second
+    → first ≡ second
 one_fault text first second (inl f) (inl g) = f.1 ∙ sym g.1
 one_fault text first second (inl f) (inr g) = absurd (omega (arith, f.0, g.fits))
 one_fault text first second (inr f) (inl g) = absurd (omega (arith, g.0, f.fits))
 one_fault text first second (inr f) (inr g) = one_first text first second f g
 
--- ---- a cutting as far as it has come
+-- ---- a scan in progress
 
 pub record ScannedUpTo (text rest : List ℕ) (tokens : List LexedToken) : Type 0 where
   pub lexemes : List Lexeme
@@ -116,51 +144,100 @@ pub record ScannedUpTo (text rest : List ℕ) (tokens : List LexedToken) : Type 
 pub reached_none : (text : List ℕ) → ScannedUpTo text text []
 reached_none text = record { lexemes = []; done = []; joined = refl; scan = (refl, refl) }
 
-scan_push : (ps : List Lexeme) (from mid to : List ℕ) (xs new : List LexedToken) (p : Lexeme) (bytes : List ℕ) → ScansInto ps from mid xs → IsLongestLexeme p bytes mid to → HasTokens p bytes new → ScansInto (ps ++ p ∷ []) from to (xs ++ new)
-scan_push [] from mid to xs new p bytes c s m =
-    (bytes, to, new, [], subst (λ (t : List ℕ). IsLongestLexeme p bytes t to) (sym c.0) s, m, ap (λ (t : List LexedToken). t ++ new) c.1 ∙ sym (append-nil new), (refl, refl))
-scan_push (q ∷ qs) from mid to xs new p bytes c s m =
-    (c.0, c.1, c.2, c.3 ++ new, c.4, c.5, ap (λ (t : List LexedToken). t ++ new) c.6 ∙ append_assoc c.2 c.3 new, scan_push qs c.1 mid to c.3 new p bytes c.7 s m)
+scan_push : (ps : List Lexeme) (from mid to : List ℕ) (xs new : List LexedToken) (p : Lexeme) (bytes : List ℕ)
+    → ScansInto ps from mid xs → IsLongestLexeme p bytes mid to → HasTokens p bytes new
+    → ScansInto (ps ++ p ∷ []) from to (xs ++ new)
+scan_push [] from mid to xs new p bytes c s m = (
+  bytes,
+  to,
+  new,
+  [],
+  subst (λ (t : List ℕ). IsLongestLexeme p bytes t to) (sym c.0) s,
+  m,
+  ap (λ (t : List LexedToken). t ++ new) c.1 ∙ sym (append-nil new),
+  (refl, refl),
+)
+scan_push (q ∷ qs) from mid to xs new p bytes c s m = (
+  c.0,
+  c.1,
+  c.2,
+  c.3 ++ new,
+  c.4,
+  c.5,
+  ap (λ (t : List LexedToken). t ++ new) c.6
+      ∙ append_assoc c.2 c.3 new,
+  scan_push qs c.1 mid to c.3 new p bytes c.7 s m,
+)
 
-pub reached_push : (text rest after : List ℕ) (tokens new : List LexedToken) → ScannedUpTo text rest tokens → ScansOne rest new after → ScannedUpTo text after (tokens ++ new)
+pub reached_push : (text rest after : List ℕ) (tokens new : List LexedToken) → ScannedUpTo text rest tokens
+    → ScansOne rest new after → ScannedUpTo text after (tokens ++ new)
 reached_push text rest after tokens new r x =
-    let joined = r.joined ∙ ap (λ (t : List ℕ). r.done ++ t) x.2.joined ∙ sym (append_assoc r.done x.1 after) in
-    record { lexemes = r.lexemes ++ x.0 ∷ []; done = r.done ++ x.1; joined = joined; scan = scan_push r.lexemes text rest after tokens new x.0 x.1 r.scan x.2 x.3 }
+    let joined = r.joined ∙ ap (λ (t : List ℕ). r.done ++ t) x.2.joined
+    ∙ sym (append_assoc r.done x.1 after) in
+    record {
+      lexemes = r.lexemes ++ x.0 ∷ [];
+      done = r.done ++ x.1;
+      joined = joined;
+      scan = scan_push r.lexemes text rest after tokens new x.0 x.1 r.scan x.2 x.3;
+    }
 
-pub passes_less : (from to : List ℕ) (tokens : List LexedToken) → ScansOne from tokens to → length to < length from
+pub passes_less : (from to : List ℕ) (tokens : List LexedToken) → ScansOne from tokens to
+    → length to < length from
 passes_less from to tokens x = lexeme_shortens x.0 x.1 from to x.2
 
-pub reached_within : (text rest : List ℕ) (tokens : List LexedToken) → ScannedUpTo text rest tokens → length rest ≤ length text
-reached_within text rest tokens r = omega (arith, ap length r.joined, length-append r.done rest)
+pub reached_all : (text rest : List ℕ) (tokens : List LexedToken) → length text ≤ MOST_BYTES → length rest ≡ 0
+    → ScannedUpTo text rest tokens → TokenizesTo text tokens
+reached_all text rest tokens fits nothing r = record {
+  fits = fits;
+  lexemes = r.lexemes;
+  scan = subst (λ (t : List ℕ). ScansInto r.lexemes text t tokens) (nil_from_length rest nothing) r.scan;
+}
 
-pub reached_all : (text rest : List ℕ) (tokens : List LexedToken) → length text ≤ MOST_BYTES → length rest ≡ 0 → ScannedUpTo text rest tokens → TokenizesTo text tokens
-reached_all text rest tokens fits nothing r = record { fits = fits; lexemes = r.lexemes; scan = subst (λ (t : List ℕ). ScansInto r.lexemes text t tokens) (nil_from_length rest nothing) r.scan }
+fault_there : (text rest : List ℕ) (tokens : List LexedToken) (fault : LexFault) → length text ≤ MOST_BYTES
+    → (r : ScannedUpTo text rest tokens) → IsFaultAt rest (line_after r.done) fault → FirstFault text fault
+fault_there text rest tokens fault fits r f = record {
+  fits = fits;
+  lexemes = r.lexemes;
+  done = r.done;
+  rest = rest;
+  tokens = tokens;
+  joined = r.joined;
+  scan = r.scan;
+  faulty = f;
+}
 
-fault_there : (text rest : List ℕ) (tokens : List LexedToken) (fault : LexFault) → length text ≤ MOST_BYTES → (r : ScannedUpTo text rest tokens) → IsFaultAt rest (line_after r.done) fault → FirstFault text fault
-fault_there text rest tokens fault fits r f = record { fits = fits; lexemes = r.lexemes; done = r.done; rest = rest; tokens = tokens; joined = r.joined; scan = r.scan; faulty = f }
-
-pub reached_fault : (text rest : List ℕ) (tokens : List LexedToken) (fault : LexFault) → length text ≤ MOST_BYTES → ScannedUpTo text rest tokens → IsFaultAt rest (line_after (take (length text - length rest) text)) fault → FirstFault text fault
+pub reached_fault : (text rest : List ℕ) (tokens : List LexedToken) (fault : LexFault)
+    → length text ≤ MOST_BYTES → ScannedUpTo text rest tokens
+    → IsFaultAt rest (line_after (take (length text - length rest) text)) fault → FirstFault text fault
 reached_fault text rest tokens fault fits r f =
-    fault_there text rest tokens fault fits r (subst (λ (t : List ℕ). IsFaultAt rest (line_after t) fault) (before text r.done rest r.joined) f)
+    fault_there text rest tokens fault fits r
+    (subst (λ (t : List ℕ). IsFaultAt rest (line_after t) fault) (before text r.done rest r.joined) f)
 
--- ---- there is a cutting or a first fault
+-- ---- a text has a tokenization or a fault
 
 abbrev pub HasAnswer : List ℕ → Type 0
-HasAnswer text = ((tokens : List LexedToken) × TokenizesTo text tokens) ⊎ ((fault : LexFault) × HasLexFault text fault)
+HasAnswer text = ((tokens : List LexedToken) × TokenizesTo text tokens)
+    ⊎ ((fault : LexFault) × HasLexFault text fault)
 
-outcome : {A E : Type 0} (P : A → Type 0) (Q : E → Type 0) (r : Result A E) → MatchResult r P Q → ((x : A) × P x) ⊎ ((e : E) × Q e)
+outcome : {A E : Type 0} (P : A → Type 0) (Q : E → Type 0) (r : Result A E) → MatchResult r P Q
+    → ((x : A) × P x) ⊎ ((e : E) × Q e)
 outcome P Q (Ok x) m = inl (x, m)
 outcome P Q (Err e) m = inr (e, m)
 
-some_from : (n : ℕ) (text rest : List ℕ) (tokens : List LexedToken) → length text ≤ MOST_BYTES → length rest ≤ n → ScannedUpTo text rest tokens → HasAnswer text
+some_from : (n : ℕ) (text rest : List ℕ) (tokens : List LexedToken) → length text ≤ MOST_BYTES
+    → length rest ≤ n → ScannedUpTo text rest tokens → HasAnswer text
 some_from n text [] tokens fits le r = inl (tokens, reached_all text [] tokens fits refl r)
 some_from zero text (b ∷ bs) tokens fits le r = absurd (omega arith)
 some_from (suc n) text (b ∷ bs) tokens fits le r =
     elim (outcome _ _ (next_at (b ∷ bs)) (next_is (b ∷ bs) (omega arith))) [
       | inl x ↦
           let less : length x.0.1 < length (b ∷ bs) = passes_less (b ∷ bs) x.0.1 x.0.0 x.1 in
-          some_from n text x.0.1 (tokens ++ x.0.0) fits (omega arith) (reached_push text (b ∷ bs) x.0.1 tokens x.0.0 r x.1)
-      | inr f ↦ inr (at_line f.0 (line_after r.done), inr (fault_there text (b ∷ bs) tokens _ fits r (f.1 (line_after r.done))))
+          some_from n text x.0.1 (tokens ++ x.0.0) fits (omega arith)
+          (reached_push text (b ∷ bs) x.0.1 tokens x.0.0 r x.1)
+      | inr f ↦ inr (
+        at_line f.0 (line_after r.done),
+        inr (fault_there text (b ∷ bs) tokens _ fits r (f.1 (line_after r.done))),
+      )
     ]
 
 pub some_answer : (text : List ℕ) → HasAnswer text
@@ -172,26 +249,25 @@ some_answer text =
 
 -- ---- answers for a text that isn't too long
 
-pub answer_only : {V : Type 0} (view : V → List LexedToken) (text : List ℕ) (r : Result V LexError) → IfOk r (λ v. TokenizesTo text (view v)) → IfErr r (IfRefused (FirstFault text))
-    → (tokens : List LexedToken) → TokenizesTo text tokens → MatchResult r (λ v. view v ≡ tokens) (λ e. e ≡ Memory)
+pub answer_only : {V : Type 0} (view : V → List LexedToken) (text : List ℕ) (r : Result V LexError)
+    → IfOk r (λ v. TokenizesTo text (view v)) → IfErr r (IfRefused (FirstFault text))
+    → (tokens : List LexedToken) → TokenizesTo text tokens
+    → MatchResult r (λ v. view v ≡ tokens) (λ e. e ≡ Memory)
 answer_only view text (Ok v) found refused tokens c = one text (view v) tokens found c
 answer_only view text (Err Memory) found refused tokens c = refl
-answer_only view text (Err (Refused fault)) found refused tokens c = absurd (faultless text tokens fault c (inr refused))
+answer_only view text (Err (Refused fault)) found refused tokens c =
+    absurd (faultless text tokens fault c (inr refused))
 
-pub fault_answer : {V : Type 0} (text : List ℕ) (r : Result V LexError) → IfErr r (IfRefused (FirstFault text)) → (fault : LexFault) → r ≡ Err (Refused fault) → HasLexFault text fault
+pub fault_answer : {V : Type 0} (text : List ℕ) (r : Result V LexError)
+    → IfErr r (IfRefused (FirstFault text)) → (fault : LexFault) → r ≡ Err (Refused fault)
+    → HasLexFault text fault
 fault_answer text r refused fault e = inr (rw e at refused)
 
-pub fault_only : {V : Type 0} (view : V → List LexedToken) (text : List ℕ) (r : Result V LexError) → IfOk r (λ v. TokenizesTo text (view v)) → IfErr r (IfRefused (FirstFault text))
-    → (fault : LexFault) → HasLexFault text fault → MatchResult r (λ _. ⊥) (λ e. (e ≡ Refused fault) ⊎ (e ≡ Memory))
+pub fault_only : {V : Type 0} (view : V → List LexedToken) (text : List ℕ) (r : Result V LexError)
+    → IfOk r (λ v. TokenizesTo text (view v)) → IfErr r (IfRefused (FirstFault text))
+    → (fault : LexFault) → HasLexFault text fault
+    → MatchResult r (λ _. ⊥) (λ e. (e ≡ Refused fault) ⊎ (e ≡ Memory))
 fault_only view text (Ok v) found refused fault h = faultless text (view v) fault found h
 fault_only view text (Err Memory) found refused fault h = inr refl
-fault_only view text (Err (Refused first)) found refused fault h = inl (ap Refused (one_fault text first fault (inr refused) h))
-
-not_long_at : (rest : List ℕ) (line : ℕ) → IsFaultAt rest line TooLong → ⊥
-not_long_at [] line f = f
-not_long_at (b ∷ bs) line (inl f) = absurd (cc f.2)
-not_long_at (b ∷ bs) line (inr (inl f)) = absurd (cc f.2)
-not_long_at (b ∷ bs) line (inr (inr f)) = absurd (cc f.5)
-
-pub not_long : {V : Type 0} (text : List ℕ) (r : Result V LexError) → IfErr r (IfRefused (FirstFault text)) → r ≡ Err (Refused TooLong) → ⊥
-not_long text r refused e = let f = rw e at refused in not_long_at f.rest (line_after f.done) f.faulty
+fault_only view text (Err (Refused first)) found refused fault h =
+    inl (ap Refused (one_fault text first fault (inr refused) h))

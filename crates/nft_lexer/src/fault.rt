@@ -1,33 +1,33 @@
-//! Why a text isn't cut into tokens.
+//! Lexical errors.
 use std::alloc::AllocError;
 use thiserror::Error;
 
-/// What is wrong with a text. Of a text within the limit it is the fault that stands first, with
-/// its line, counted from 1.
+/// A lexical fault. In a text that isn't too long it is the first one, with its line counted from
+/// 1.
 #[derive(Clone, Copy, Debug, PartialEq, Error)]
 pub enum LexFault {
-    /// A byte that begins no token.
+    /// A byte that starts no token.
     #[error("E01")]
     Byte { line: u32 },
-    /// A string without its end on its line.
+    /// A string that isn't closed on its line.
     #[error("E02")]
     OpenString { line: u32 },
-    /// A number over 2^64 - 1, a decimal number of several digits that begins with 0, or a group
-    /// of an address over 255 or with a leading zero.
+    /// A number over 2^64 - 1, a decimal number with a leading zero, or an octet of an address that
+    /// is over 255 or has a leading zero.
     #[error("E03")]
     Number { line: u32 },
-    /// The text has more than 1,048,576 bytes.
+    /// A text of more than 1,048,576 bytes.
     #[error("E04")]
     TooLong,
 }
 
-/// Why `lex` gives no tokens.
+/// The error of `lex`.
 #[derive(Clone, Copy, Debug, Error)]
 pub enum LexError {
     /// The text has this fault.
     #[error("{0}")]
     Refused(LexFault),
-    /// There was no room to grow.
+    /// An allocation was refused.
     #[error("memory")]
     Memory,
 }

@@ -1,5 +1,4 @@
-//! The pieces of a text: blanks, comments, and tokens by their shapes (nft(8), "Lexical
-//! conventions").
+//! Lexemes: blanks, comments, and the spellings of tokens (nft(8), "Lexical conventions").
 ghost use Rattle.std.specs.Prelude.{◌≡◌, ◌≤◌, length, option_map};
 ghost use Rattle.std.specs.List.{prefix_len};
 ghost use Rattle.nft_lexer.specs.Lexing.{continues_word, punctuation, is_string_byte};
@@ -8,7 +7,7 @@ ghost use Rattle.nft_lexer.specs.steps.Reading.{address_kind, after_byte, behind
 use crate::number::{address, leading_digits, value};
 use crate::token::{Punctuator, TokenKind};
 
-/// What pieces a byte may begin.
+/// Bytes by the lexemes that they may start.
 #[derive(Clone, Copy)]
 pub(crate) enum Class {
     Blank,
@@ -21,24 +20,24 @@ pub(crate) enum Class {
     Other,
 }
 
-/// What a run of bytes is of.
+/// A run of bytes, by its members.
 #[derive(Clone, Copy)]
 enum Run {
     Word,
-    /// All up to the line's end.
+    /// All bytes before the newline.
     Line,
-    /// All up to the next quote or the line's end.
+    /// All bytes before the next quote or the newline.
     String,
     Hexadecimal,
 }
 
-/// The piece in front of a text.
+/// A lexeme by its token.
 #[derive(Clone, Copy)]
 pub(crate) enum LexemeKind {
-    /// No token: a blank, a line's end after a backslash, or a comment.
+    /// No token: a blank, a backslash with the newline after it, or a comment.
     Blank,
     Token(TokenKind),
-    /// Digits or groups of digits that are neither a number nor an address.
+    /// Digits, or octets with dots, that are no valid number or address.
     InvalidNumber,
 }
 
@@ -57,7 +56,7 @@ fn class_of(byte: u8) -> Class
     }
 }
 
-/// The mark that the byte alone is.
+/// The punctuator that is this byte.
 fn punctuator_of(byte: u8) -> Option<Punctuator>
     ensures { result ≡ punctuator_from byte short_punctuators }
 {
@@ -83,7 +82,7 @@ fn punctuator_of(byte: u8) -> Option<Punctuator>
     }
 }
 
-/// The mark that the byte and an equals sign are.
+/// The punctuator that is this byte and `=`.
 fn punctuator_before_equals(byte: u8) -> Option<Punctuator>
     ensures { result ≡ punctuator_from byte long_punctuators }
 {
@@ -96,14 +95,14 @@ fn punctuator_before_equals(byte: u8) -> Option<Punctuator>
     }
 }
 
-/// Whether the byte goes on with a word that has begun.
+/// Whether the byte continues a word.
 fn continues_word(byte: u8) -> bool
     ensures { result ≡ continues_word byte }
 {
     byte.is_ascii_alphanumeric() || byte == b'_' || byte == b'-' || byte == b'.' || byte == b'/'
 }
 
-/// Whether the byte goes on with a run.
+/// Whether the byte continues the run.
 fn continues_run(run: Run, byte: u8) -> bool
     ensures { result ≡ continues_run run byte }
 {
@@ -115,7 +114,7 @@ fn continues_run(run: Run, byte: u8) -> bool
     }
 }
 
-/// How many bytes in front go on with the run.
+/// The length of the leading run.
 fn run_length(run: Run, text: &[u8]) -> usize
     ensures value { result ≡ prefix_len (continues_run run) text.now }
     ensures within { result ≤ length text.now }
@@ -125,10 +124,11 @@ fn run_length(run: Run, text: &[u8]) -> usize
         .count()
 }
 
-/// All the bytes in front that go on with the run, one at least, and what follows them.
+/// The leading run, at least one byte, and the rest of the text.
 #[tactic(auto, unfolding(crate::specs::steps::Reading::run_at))]
 fn some_run<'t>(run: Run, text: &'t [u8]) -> Option<(&'t [u8], &'t [u8])>
-    ensures { option_map (λ x. (x.0.now, x.1.now)) result ≡ run_at (continues_run run) text.entry.now }
+    ensures { option_map (λ x. (x.0.now, x.1.now)) result
+        ≡ run_at (continues_run run) text.entry.now }
 {
     let [first, rest @ ..] = text else {
         return None;
@@ -139,7 +139,7 @@ fn some_run<'t>(run: Run, text: &'t [u8]) -> Option<(&'t [u8], &'t [u8])>
     Some(text.split_at(1 + run_length(run, rest)))
 }
 
-/// The number, as a piece.
+/// The kind of a number with this value.
 fn number_kind(number: Option<u64>) -> LexemeKind
     ensures { result ≡ number_kind number }
 {
@@ -149,7 +149,7 @@ fn number_kind(number: Option<u64>) -> LexemeKind
     }
 }
 
-/// The address, as a piece.
+/// The kind of an address with this value.
 fn address_kind(address: Option<u32>) -> LexemeKind
     ensures { result ≡ address_kind address }
 {
@@ -165,10 +165,11 @@ fn is_zero(digits: &[u8]) -> bool
     digits.len() == 1 && digits[0] == b'0'
 }
 
-/// The hexadecimal number whose digits before its `x` are these, and what follows it.
+/// The hexadecimal number whose digits before the `x` are these, and the rest of the text.
 #[tactic(auto, unfolding(crate::specs::steps::Reading::hexadecimal_at))]
 fn hexadecimal<'t>(first: &'t [u8], text: &'t [u8]) -> Option<(LexemeKind, &'t [u8])>
-    ensures { option_map (λ x. (x.0, x.1.now)) result ≡ scanned_kind (hexadecimal_at first.entry.now text.entry.now) }
+    ensures { option_map (λ x. (x.0, x.1.now)) result
+        ≡ scanned_kind (hexadecimal_at first.entry.now text.entry.now) }
 {
     let [b'x', rest @ ..] = text else {
         return None;
@@ -180,7 +181,7 @@ fn hexadecimal<'t>(first: &'t [u8], text: &'t [u8]) -> Option<(LexemeKind, &'t [
     Some((number_kind(value(digits, 16)), rest))
 }
 
-/// The number of the digits after a dot, and what follows them.
+/// The value of the digits after a dot, and the rest of the text.
 #[tactic(auto, unfolding(crate::specs::steps::Reading::octet_after))]
 fn next_octet<'t>(text: &'t [u8]) -> Option<(Option<u64>, &'t [u8])>
     ensures { option_map (λ x. (x.0, x.1.now)) result ≡ octet_after text.entry.now }
@@ -192,8 +193,8 @@ fn next_octet<'t>(text: &'t [u8]) -> Option<(Option<u64>, &'t [u8])>
     Some((digits.number, rest))
 }
 
-/// The address of four groups of which the first is this number, and what follows them. The last
-/// takes all the digits that stand there.
+/// The address whose first octet has this value, and the rest of the text. The last octet takes all
+/// digits that follow.
 #[tactic(auto, unfolding(crate::specs::steps::Reading::octets_after))]
 fn address_after_octet<'t>(first: Option<u64>, text: &'t [u8]) -> Option<(LexemeKind, &'t [u8])>
     ensures { option_map (λ x. (x.0, x.1.now)) result ≡ octets_after first text.entry.now }
@@ -204,9 +205,8 @@ fn address_after_octet<'t>(first: Option<u64>, text: &'t [u8]) -> Option<(Lexeme
     Some((address_kind(address(first, second, third, fourth)), rest))
 }
 
-/// The number or the address in front, and what follows it.
-///
-/// Digits stand first in each: what follows them tells which it is.
+/// The leading number or address, and the rest of the text. Both start with digits; what follows
+/// them decides.
 #[tactic(auto, unfolding(crate::specs::steps::Reading::numeral_at))]
 fn number<'t>(text: &'t [u8]) -> Option<(LexemeKind, &'t [u8])>
     ensures { option_map (λ x. (x.0, x.1.now)) result ≡ numeral_at text.entry.now }
@@ -221,9 +221,10 @@ fn number<'t>(text: &'t [u8]) -> Option<(LexemeKind, &'t [u8])>
     Some((number_kind(digits.number), rest))
 }
 
-/// What follows the string whose first quote stands before the text.
+/// The rest of the text after a string whose first quote is before it.
 fn after_string<'t>(text: &'t [u8]) -> Option<&'t [u8]>
-    ensures { option_map (λ rest. rest.now) result ≡ after_byte 34 (behind is_string_byte text.entry.now) }
+    ensures { option_map (λ rest. rest.now) result
+        ≡ after_byte 34 (behind is_string_byte text.entry.now) }
 {
     let [b'"', rest @ ..] = &text[run_length(Run::String, text)..] else {
         return None;
@@ -231,10 +232,11 @@ fn after_string<'t>(text: &'t [u8]) -> Option<&'t [u8]>
     Some(rest)
 }
 
-/// The mark that the byte before the text and an equals sign in front are, and what follows it.
+/// The punctuator of the byte before the text and a leading `=`, and the rest of the text.
 #[tactic(auto, unfolding(crate::specs::steps::Reading::long_punctuator_at))]
 fn long_punctuator<'t>(first: u8, text: &'t [u8]) -> Option<(Punctuator, &'t [u8])>
-    ensures { option_map (λ x. (punctuation x.0, x.1.now)) result ≡ long_punctuator_at first text.entry.now }
+    ensures { option_map (λ x. (punctuation x.0, x.1.now)) result
+        ≡ long_punctuator_at first text.entry.now }
 {
     let punctuator = punctuator_before_equals(first)?;
     let [b'=', rest @ ..] = text else {
@@ -243,11 +245,12 @@ fn long_punctuator<'t>(first: u8, text: &'t [u8]) -> Option<(Punctuator, &'t [u8
     Some((punctuator, rest))
 }
 
-/// The mark that begins with the byte before the text, of two bytes where they are one, and what
-/// follows it.
+/// The punctuator that starts with the byte before the text, of two bytes where that is one, and
+/// the rest of the text.
 #[tactic(auto, unfolding(crate::specs::steps::Reading::punctuator_at))]
 fn punctuator<'t>(first: u8, text: &'t [u8]) -> Option<(Punctuator, &'t [u8])>
-    ensures { option_map (λ x. (punctuation x.0, x.1.now)) result ≡ punctuator_at first text.entry.now }
+    ensures { option_map (λ x. (punctuation x.0, x.1.now)) result
+        ≡ punctuator_at first text.entry.now }
 {
     if let Some(found) = long_punctuator(first, text) {
         return Some(found);
@@ -255,7 +258,7 @@ fn punctuator<'t>(first: u8, text: &'t [u8]) -> Option<(Punctuator, &'t [u8])>
     Some((punctuator_of(first)?, text))
 }
 
-/// The longest piece in front, and what follows it.
+/// The longest leading lexeme, and the rest of the text.
 #[tactic(auto, using(crate::specs::steps::Values::numeral_is), unfolding(crate::specs::steps::Reading::lexeme_at, crate::specs::steps::Reading::class_at, crate::specs::steps::Reading::quoted_at))]
 pub(crate) fn next_lexeme<'t>(text: &'t [u8]) -> Option<(LexemeKind, &'t [u8])>
     ensures { option_map (λ x. (x.0, x.1.now)) result ≡ scanned_kind (lexeme_at text.entry.now) }

@@ -1,4 +1,4 @@
-//! The cutting of a text.
+//! The lexer's main loop.
 ghost use Rattle.std.specs.Prelude.{◌≡◌, ◌<◌, ◌≤◌, ◌↔◌, ◌⊎◌, ◌++◌, Err, IfOk, IfErr, OnOk, List, length, map, ok_or, MatchResult};
 ghost use Rattle.nft_lexer.specs.declared.fault.LexFault.{LexFault};
 ghost use Rattle.nft_lexer.specs.Terminal.{LexedToken, spelled};
@@ -10,10 +10,10 @@ use crate::lexeme::{LexemeKind, next_lexeme};
 use crate::token::Token;
 use std::alloc::{AllocError, Global};
 
-/// More bytes than this are no ruleset.
+/// The greatest size of a ruleset in bytes.
 const MOST_BYTES: usize = 1_048_576;
 
-/// Why no token is read.
+/// A fault without its line.
 #[derive(Clone, Copy)]
 enum Fault {
     Byte,
@@ -32,7 +32,7 @@ fn at_line(fault: Fault, line: u32) -> LexFault
     }
 }
 
-/// The line of what follows these bytes, from 1.
+/// The number of the line after these bytes, counted from 1.
 fn line_after(done: &[u8]) -> u32
     requires { length done.now ≤ MOST_BYTES }
     ensures { result ≡ line_after done.now }
@@ -40,9 +40,10 @@ fn line_after(done: &[u8]) -> u32
     done.iter().filter(|byte| **byte == b'\n').count() as u32 + 1
 }
 
-/// The token that the piece with these bytes is: a blank is none.
+/// The token of a lexeme with these bytes; `None` for a blank.
 fn token<'t>(lexeme: LexemeKind, text: &'t [u8]) -> Result<Option<Token<'t>>, Fault>
-    ensures { map_ok (listed spelled) result ≡ ok_or (tokens_of lexeme text.entry.now) Fault.Number }
+    ensures { map_ok (listed spelled) result
+        ≡ ok_or (tokens_of lexeme text.entry.now) Fault.Number }
 {
     match lexeme {
         LexemeKind::Blank => Ok(None),
@@ -51,7 +52,7 @@ fn token<'t>(lexeme: LexemeKind, text: &'t [u8]) -> Result<Option<Token<'t>>, Fa
     }
 }
 
-/// The piece in front as a token, if it is one, and what follows it.
+/// The token of the leading lexeme, if it has one, and the rest of the text.
 #[tactic(auto, unfolding(crate::specs::steps::Reading::next_at))]
 fn next<'t>(text: &'t [u8]) -> Result<(Option<Token<'t>>, &'t [u8]), Fault>
     requires { 0 < length text.now }
@@ -70,7 +71,8 @@ fn next<'t>(text: &'t [u8]) -> Result<(Option<Token<'t>>, &'t [u8]), Fault>
 
 /// Appends the token, if there is one.
 fn append<'t>(found: &mut Vec<Token<'t>>, token: Option<Token<'t>>) -> Result<(), AllocError>
-    ensures { OnOk result (map spelled found.new.items ≡ map spelled found.old.items ++ listed spelled token.entry) }
+    ensures { OnOk result (map spelled found.new.items ≡ map spelled found.old.items
+        ++ listed spelled token.entry) }
 {
     if let Some(token) = token {
         found.push(token)?;
@@ -78,13 +80,13 @@ fn append<'t>(found: &mut Vec<Token<'t>>, token: Option<Token<'t>>) -> Result<()
     Ok(())
 }
 
-/// The tokens of the text, or its first fault. The line is counted only where it is told.
+/// The tokens of the text, or its first fault. Lines are counted only for a fault.
 fn tokens<'t>(alloc: Global, text: &'t [u8]) -> Result<Vec<Token<'t>>, LexError>
     requires { length text.now ≤ MOST_BYTES }
     ensures found { IfOk result (λ tokens. TokenizesTo text.entry.now (map spelled tokens.items)) }
     ensures fault { IfErr result (IfRefused (FirstFault text.entry.now)) }
 {
-    // Few texts have more than a token for two bytes.
+    // Few texts have more than one token for two bytes.
     let mut found = Vec::with_capacity(alloc, text.len() / 2)?;
     let mut rest = text;
     while !rest.is_empty() {
@@ -101,21 +103,31 @@ fn tokens<'t>(alloc: Global, text: &'t [u8]) -> Result<Vec<Token<'t>>, LexError>
     Ok(found)
 }
 
-/// The one cutting of the text into longest tokens, blanks and comments left out.
+/// Splits the text of a ruleset into tokens by longest match, without blanks and comments (nft(8),
+/// "Lexical conventions").
 ///
-/// `TooLong` comes before anything else; else the first fault of the text is told, with its line.
-/// `Memory` may come in place of any answer but `TooLong`.
+/// # Errors
+///
+/// `Refused(TooLong)` if the text has more than 1,048,576 bytes; otherwise `Refused` with the first
+/// fault of the text and its line. `Memory` if an allocation was refused, possible in place of any
+/// answer but `TooLong`.
 pub fn lex<'t>(alloc: Global, text: &'t [u8]) -> Result<Vec<Token<'t>>, LexError>
-    // What is answered is the cutting of the text.
+    // The tokens are a tokenization of the text.
     ensures found { IfOk result (λ tokens. TokenizesTo text.entry.now (map spelled tokens.items)) }
-    // A cutting of the text is the one answered, want of memory aside: it is the only one.
-    ensures only { (tokens : List LexedToken) → TokenizesTo text.entry.now tokens → MatchResult result (λ answer. map spelled answer.items ≡ tokens) (λ error. error ≡ LexError.Memory) }
-    // A fault that is answered is the text's first.
-    ensures fault { (fault : LexFault) → result ≡ Err (LexError.Refused fault) → HasLexFault text.entry.now fault }
-    // The text's first fault is the one answered, want of memory aside.
-    ensures only_fault { (fault : LexFault) → HasLexFault text.entry.now fault → MatchResult result (λ _. ⊥) (λ error. (error ≡ LexError.Refused fault) ⊎ (error ≡ LexError.Memory)) }
-    // A text that is too long is told before anything else.
-    ensures long { (result ≡ Err (LexError.Refused LexFault.TooLong)) ↔ (MOST_BYTES < length text.entry.now) }
+    // The tokenization is unique: if the text has one, it is the answer, unless memory runs out.
+    ensures only { (tokens : List LexedToken) → TokenizesTo text.entry.now tokens
+        → MatchResult result (λ answer. map spelled answer.items ≡ tokens)
+        (λ error. error ≡ LexError.Memory) }
+    // A fault in the answer is the text's first.
+    ensures fault { (fault : LexFault) → result ≡ Err (LexError.Refused fault)
+        → HasLexFault text.entry.now fault }
+    // If the text has a fault, that is the answer, unless memory runs out.
+    ensures only_fault { (fault : LexFault) → HasLexFault text.entry.now fault
+        → MatchResult result (λ _. ⊥) (λ error. (error ≡ LexError.Refused fault)
+        ⊎ (error ≡ LexError.Memory)) }
+    // `TooLong` is the answer exactly for a text that is too long.
+    ensures long { (result ≡ Err (LexError.Refused LexFault.TooLong))
+        ↔ (MOST_BYTES < length text.entry.now) }
 {
     if text.len() > MOST_BYTES {
         return Err(LexError::Refused(LexFault::TooLong));

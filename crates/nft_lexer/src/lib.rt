@@ -1,4 +1,4 @@
-//! Cuts the text of a ruleset into tokens (nft(8), "Lexical conventions").
+//! The lexer: splits the text of a ruleset into tokens (nft(8), "Lexical conventions").
 #![tactic(auto)]
 
 mod fault;

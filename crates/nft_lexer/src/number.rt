@@ -1,17 +1,17 @@
-//! What digits say.
+//! Digits and their values.
 ghost use Rattle.std.specs.Prelude.{◌≡◌, ◌≤◌, ◌<◌, ◌^◌, length, option_map};
 ghost use Rattle.std.specs.Char.{is_ascii_digit};
 ghost use Rattle.std.specs.List.{prefix_len};
 ghost use Rattle.nft_lexer.specs.steps.Reading.{address_of, byte_of, digit_at, digits_at, front, has_leading_zero, value_after, with_digit};
 
-/// Decimal digits, and the number below 2^64 that they say with no leading zero.
+/// Decimal digits with their value: `None` if it exceeds 64 bits or has a leading zero.
 #[derive(Clone, Copy)]
 pub(crate) struct Digits<'t> {
     pub text: &'t [u8],
     pub number: Option<u64>,
 }
 
-/// The number below 2^64 that the digit says after those of this number.
+/// The number with one more digit, if it fits 64 bits.
 fn with_digit(number: u64, byte: u8, radix: u32) -> Option<u64>
     requires { (2 ≤ radix) × (radix ≤ 36) }
     ensures { result ≡ with_digit radix number byte }
@@ -22,7 +22,7 @@ fn with_digit(number: u64, byte: u8, radix: u32) -> Option<u64>
         .checked_add(u64::from(digit))
 }
 
-/// The number below 2^64 that the digits say, after any zeros.
+/// The value of the digits, if it fits 64 bits.
 #[tactic(auto, unfolding(crate::specs::steps::Reading::value_after))]
 pub(crate) fn value(digits: &[u8], radix: u32) -> Option<u64>
     requires { (2 ≤ radix) × (radix ≤ 36) }
@@ -37,14 +37,14 @@ pub(crate) fn value(digits: &[u8], radix: u32) -> Option<u64>
     Some(number)
 }
 
-/// Whether more than one digit stands there and the first is a zero.
+/// Whether there is more than one digit and the first is a zero.
 fn has_leading_zero(digits: &[u8]) -> bool
     ensures { result ≡ has_leading_zero digits.now }
 {
     digits.len() > 1 && digits[0] == b'0'
 }
 
-/// The digit in front, and what follows it.
+/// The leading digit, and the rest of the text.
 fn digit<'t>(text: &'t [u8]) -> Option<(u8, &'t [u8])>
     ensures { option_map (λ x. (x.0, x.1.now)) result ≡ digit_at text.entry.now }
 {
@@ -54,7 +54,7 @@ fn digit<'t>(text: &'t [u8]) -> Option<(u8, &'t [u8])>
     }
 }
 
-/// How many digits stand in front.
+/// The number of leading digits.
 fn count_digits(text: &[u8]) -> usize
     ensures value { result ≡ prefix_len is_ascii_digit text.now }
     ensures within { result ≤ length text.now }
@@ -62,8 +62,8 @@ fn count_digits(text: &[u8]) -> usize
     text.iter().take_while(|byte| byte.is_ascii_digit()).count()
 }
 
-/// How many digits stand in front, and the number below 2^64 that they say, after any zeros. They
-/// are gone through once, and counted again only where the number is too large.
+/// The number of leading digits, and their value if it fits 64 bits. One pass; the digits are
+/// counted again only if the value is too large.
 fn digits_in_front(text: &[u8]) -> (usize, Option<u64>)
     ensures count { result.0 ≡ prefix_len is_ascii_digit text.now }
     ensures within { result.0 ≤ length text.now }
@@ -81,10 +81,11 @@ fn digits_in_front(text: &[u8]) -> (usize, Option<u64>)
     (text.len() - rest.len(), Some(number))
 }
 
-/// All the digits in front, one at least, and what follows them.
+/// The leading digits, at least one, and the rest of the text.
 #[tactic(auto, using(crate::specs::steps::Values::run_is), unfolding(crate::specs::steps::Reading::digits_at, crate::specs::steps::Reading::decimal_at))]
 pub(crate) fn leading_digits<'t>(text: &'t [u8]) -> Option<(Digits<'t>, &'t [u8])>
-    ensures { option_map (λ x. (x.0.text.now, x.0.number, x.1.now)) result ≡ digits_at text.entry.now }
+    ensures { option_map (λ x. (x.0.text.now, x.0.number, x.1.now)) result
+        ≡ digits_at text.entry.now }
 {
     let (count, number) = digits_in_front(text);
     if count == 0 {
@@ -105,14 +106,14 @@ pub(crate) fn leading_digits<'t>(text: &'t [u8]) -> Option<(Digits<'t>, &'t [u8]
     ))
 }
 
-/// The number as one from 0 to 255.
+/// The number as an octet.
 fn octet(number: Option<u64>) -> Option<u8>
     ensures { result ≡ byte_of number }
 {
     u8::try_from(number?).ok()
 }
 
-/// The address that the groups say, the first its highest byte.
+/// The address with these octets, the first the most significant.
 #[tactic(auto, unfolding(crate::specs::steps::Reading::address_of))]
 pub(crate) fn address(
     first: Option<u64>,

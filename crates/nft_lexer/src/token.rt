@@ -1,7 +1,7 @@
-//! Tokens of a ruleset's text.
+//! Tokens.
 ghost use Rattle.std.specs.Prelude.{◌≡◌, ◌-◌, drop, length, take};
 
-/// A mark of one byte or two.
+/// A punctuator of one or two bytes.
 #[derive(Clone, Copy, PartialEq)]
 pub enum Punctuator {
     /// `{`
@@ -48,22 +48,22 @@ pub enum Punctuator {
     Above,
 }
 
-/// What a token is.
+/// The kind of a token, with its value.
 #[derive(Clone, Copy)]
 pub enum TokenKind {
     NewLine,
     Punctuator(Punctuator),
-    /// The bytes are the token's text.
+    /// A word: its bytes are the token's text.
     Word,
-    /// Its value, written in decimal digits or, after `0x`, in hexadecimal ones.
+    /// A number: decimal digits, or `0x` and hexadecimal digits.
     Number(u64),
-    /// An IPv4 address, its first group the highest byte.
+    /// An IPv4 address in host byte order: the first octet is the most significant.
     Address(u32),
-    /// Its bytes stand between the two quotes that the token's text begins and ends with.
+    /// A string: the token's text includes both quotes.
     String,
 }
 
-/// A token: its slice of the source, and what it is.
+/// A token: its slice of the text, and its kind.
 #[derive(Clone, Copy)]
 pub struct Token<'t> {
     pub text: &'t [u8],
@@ -71,7 +71,7 @@ pub struct Token<'t> {
 }
 
 impl<'t> Token<'t> {
-    /// The bytes between the quotes, where the token is a string: all but the first and the last.
+    /// The bytes between the quotes of a string token: all but the first and the last byte.
     pub fn between_quotes(self) -> &'t [u8]
         ensures { result.now ≡ take (length self.entry.text.now - 2) (drop 1 self.entry.text.now) }
     {

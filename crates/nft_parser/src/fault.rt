@@ -1,29 +1,29 @@
-//! Why a text is no ruleset.
+//! Errors of the parser.
 use nft_lexer::{LexError, LexFault};
 use nft_tree::Memory;
 use thiserror::Error;
 
-/// What is wrong with a text.
+/// The fault of a text that is no ruleset.
 #[derive(Clone, Copy, Debug, PartialEq, Error)]
 pub enum TextFault {
-    /// It isn't cut into tokens.
+    /// The text has no tokenization.
     #[error("{0}")]
     Lexical(LexFault),
-    /// No tree is spelled by the tokens.
+    /// The tokens spell no ruleset.
     #[error("E05")]
     Syntax,
-    /// No tree is spelled by the tokens, and one of them is a word of nft(8) that is left out.
+    /// The tokens spell no ruleset, and one of them is a word of nft(8) that isn't supported.
     #[error("E06")]
     Unsupported,
 }
 
-/// Why `parse` gives no tree.
+/// The error of `parse`.
 #[derive(Clone, Copy, Debug, Error)]
 pub enum ParseError {
     /// The text has this fault.
     #[error("{0}")]
     Refused(TextFault),
-    /// There was no room to grow.
+    /// An allocation was refused.
     #[error("memory")]
     Memory,
 }

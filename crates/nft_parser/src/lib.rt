@@ -1,4 +1,4 @@
-//! Reads the text of a ruleset into its tree (nft(8)).
+//! The parser: the syntax tree of a ruleset's text (nft(8)).
 #![tactic(auto)]
 
 mod fault;

@@ -1,4 +1,4 @@
-//! From a text to its tree.
+//! From a text to its syntax tree.
 ghost use Rattle.std.specs.Prelude.{◌≡◌, ◌<◌, ◌↔◌, ◌⊎◌, ℕ, List, length, Err, IfOk, MatchResult};
 ghost use Rattle.nft_lexer.specs.declared.fault.LexFault.{LexFault};
 ghost use Rattle.nft_lexer.specs.Terminal.{terminals};
@@ -17,22 +17,31 @@ use nft_rulesets::{has_unsupported, ruleset};
 use nft_tree::Ruleset;
 use std::alloc::Global;
 
-/// The one tree that the text spells (nft(8)).
+/// Parses the text of a ruleset (nft(8), the profile of docs/LANGUAGE.md).
 ///
-/// `TooLong` comes before anything else; else the first fault of the tokens, with its line; else
-/// `Unsupported` or `Syntax` where no tree is spelled. `Memory` may come in place of any answer but
-/// `TooLong`.
+/// # Errors
+///
+/// `Refused(Lexical(TooLong))` if the text has more than 1,048,576 bytes; otherwise the first
+/// lexical fault, with its line; otherwise `Unsupported` or `Syntax` if the tokens spell no
+/// ruleset. `Memory` if an allocation was refused, possible in place of any answer but `TooLong`.
 pub fn parse(alloc: Global, text: &[u8]) -> Result<Ruleset, ParseError>
-    // What is answered is spelled by the text.
+    // Soundness: the text spells the answer.
     ensures found { IfOk result (λ answer. Spells (tables_of answer) text.now) }
-    // A tree that the text spells is the one answered, want of memory aside: it is the only one.
-    ensures only { (tree : List TableTree) → Spells tree text.now → MatchResult result (λ answer. tables_of answer ≡ tree) (λ error. error ≡ ParseError.Memory) }
-    // A fault that is answered is the text's.
-    ensures fault { (fault : TextFault) → result ≡ Err (ParseError.Refused fault) → HasTextFault text.now fault }
-    // The text's fault is the one answered, want of memory aside.
-    ensures only_fault { (fault : TextFault) → HasTextFault text.now fault → MatchResult result (λ _. ⊥) (λ error. (error ≡ ParseError.Refused fault) ⊎ (error ≡ ParseError.Memory)) }
-    // A text that is too long is told before anything else.
-    ensures long { (result ≡ Err (ParseError.Refused (TextFault.Lexical LexFault.TooLong))) ↔ (MOST_BYTES < length text.now) }
+    // Completeness: if the text spells a ruleset, that is the answer, unless memory runs out; so it
+    // is unique.
+    ensures only { (tree : List TableTree) → Spells tree text.now
+        → MatchResult result (λ answer. tables_of answer ≡ tree)
+        (λ error. error ≡ ParseError.Memory) }
+    // A fault in the answer is the text's.
+    ensures fault { (fault : TextFault) → result ≡ Err (ParseError.Refused fault)
+        → HasTextFault text.now fault }
+    // If the text has a fault, that is the answer, unless memory runs out.
+    ensures only_fault { (fault : TextFault) → HasTextFault text.now fault
+        → MatchResult result (λ _. ⊥) (λ error. (error ≡ ParseError.Refused fault)
+        ⊎ (error ≡ ParseError.Memory)) }
+    // `TooLong` is the answer exactly for a text that is too long.
+    ensures long { (result ≡ Err (ParseError.Refused (TextFault.Lexical LexFault.TooLong)))
+        ↔ (MOST_BYTES < length text.now) }
 {
     one_tree();
     one_fault();
@@ -43,7 +52,7 @@ pub fn parse(alloc: Global, text: &[u8]) -> Result<Ruleset, ParseError>
     }
 }
 
-/// The fault of the tokens, which spell no tree.
+/// The fault of tokens that spell no ruleset.
 fn refusal(tokens: &[Token]) -> TextFault
     ensures { result ≡ refusal (has_unsupported (terminals tokens.now)) }
 {

@@ -1,4 +1,4 @@
--- What spells a rule (nft(8), "Rules", "Statements").
+-- Rules (nft(8), "Rules", "Statements"; the EBNF is (own), as in docs/LANGUAGE.md).
 use Rattle.std.specs.Prelude.{ℕ, List, ◌∷◌, Option, Some, None, option_map, codes, IsTrue, [], false, cond}
 use Rattle.std.specs.Option.{unwrap_or}
 use Rattle.nft_lexer.specs.declared.token.Punctuator.TheVariants.{Colon, Minus}
@@ -38,7 +38,8 @@ operand =
 
 -- ports = NUM ["-" NUM]
 unfoldable pub ports : Grammar PortRange
-ports = made (λ x. unwrap_or (option_map (Between x.0) x.1) (One x.0)) (a_number ⨾ maybe (punctuation Minus ▹ a_number))
+ports = made (λ x. unwrap_or (option_map (Between x.0) x.1) (One x.0))
+    (a_number ⨾ maybe (punctuation Minus ▹ a_number))
 
 -- ["ip"] "to"
 unfoldable pub to_word : Grammar Unit
@@ -47,15 +48,19 @@ to_word = keyword (codes "to") ∣ keyword (codes "ip") ▹ keyword (codes "to")
 -- ADDR [":" port] | look
 abbrev pub target : {A B : Type 0} → (ℕ → Option A → B) → (MapLookupTree → B) → Grammar A → Grammar B
 target at_address map_looked_up port =
-    made (λ x. at_address x.0 x.1) (an_address ⨾ maybe (punctuation Colon ▹ port)) ∣ made map_looked_up map_lookup
+    made (λ x. at_address x.0 x.1) (an_address ⨾ maybe (punctuation Colon ▹ port))
+    ∣ made map_looked_up map_lookup
 
 unfoldable pub nat : Grammar NatTree
 nat =
     made tree.source (keyword (codes "snat") ▹ to_word ▹ target tree.source_address tree.source_lookup ports)
-    ∣ made tree.destination (keyword (codes "dnat") ▹ to_word ▹ target tree.destination_address tree.destination_lookup
+    ∣ made tree.destination (keyword (codes "dnat") ▹ to_word ▹ target tree.destination_address
+    tree.destination_lookup
     a_number)
-    ∣ made tree.masquerade (keyword (codes "masquerade") ▹ maybe (keyword (codes "to") ▹ punctuation Colon ▹ ports))
-    ∣ made tree.redirect (keyword (codes "redirect") ▹ maybe (keyword (codes "to") ▹ punctuation Colon ▹ a_number))
+    ∣ made tree.masquerade (keyword (codes "masquerade") ▹ maybe
+    (keyword (codes "to") ▹ punctuation Colon ▹ ports))
+    ∣ made tree.redirect (keyword (codes "redirect") ▹ maybe
+    (keyword (codes "to") ▹ punctuation Colon ▹ a_number))
 
 -- "counter" ["packets" NUM "bytes" NUM]
 unfoldable pub counter : Grammar Statement
@@ -75,7 +80,8 @@ notrack = made (λ _. tree.notrack) (keyword (codes "notrack"))
 -- ("meta" | "ct") "mark" "set" operand
 unfoldable pub set_mark : Grammar Statement
 set_mark =
-    named (λ x. option_map (λ m. tree.set_mark m x.1) (mark_field x.0)) (selector ⨾ keyword (codes "set") ▹ operand)
+    named (λ x. option_map (λ m. tree.set_mark m x.1) (mark_field x.0))
+    (selector ⨾ keyword (codes "set") ▹ operand)
 
 -- anysel "vmap" mapref
 unfoldable pub verdict_map : Grammar Statement
@@ -93,11 +99,11 @@ rule = made (λ x. record { statements = x.0 ∷ x.1.0; comment = x.1.1 }) (stat
 abbrev pub SpellsRule : RuleTree → List Terminal → List Terminal → Type 0
 SpellsRule = rule.spells
 
--- a newline, a semicolon or a closing brace stands in front
+-- The first token is a newline, a semicolon or a closing brace.
 abbrev pub IsRuleEnd : List Terminal → Type 0
 IsRuleEnd ts = IsTrue (is_rule_end ts)
 
--- a rule with its end after it
+-- A rule, and what ends it after it.
 abbrev pub SpellsEndedRule : RuleTree → List Terminal → List Terminal → Type 0
 SpellsEndedRule r from to = SpellsRule r from to × IsRuleEnd to
 

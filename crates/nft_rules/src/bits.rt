@@ -1,4 +1,4 @@
-//! The named bits of `ct state` and `ct status`.
+//! The bits of `ct state` and `ct status` (nft(8), "Conntrack expressions").
 ghost use Rattle.std.specs.Prelude.{ℕ, IfOk, List, map};
 ghost use Rattle.std.specs.List.{list_all};
 ghost use Rattle.nft_tree.specs.Tree.{match_tree};
@@ -35,7 +35,7 @@ impl Production for Word {
     }
 }
 
-/// WORD {"," WORD}, each a word that the selector's type lists
+/// WORD {"," WORD}, each a symbolic constant of the selector's type
 #[tactic(auto, unfolding(crate::specs::Matches::words))]
 fn words(
     alloc: Global,
@@ -43,7 +43,8 @@ fn words(
     at: usize,
     selector: Selector,
 ) -> Result<Option<(Vec<Vec<u8>>, usize)>, Memory>
-    ensures { IfOk result (IsRead (λ found. map (λ w. w.items) found.items) (passing (list_all (is_word_for selector)) words).read tokens.now at) }
+    ensures { IfOk result (IsRead (λ found. map (λ w. w.items) found.items)
+        (passing (list_all (is_word_for selector)) words).read tokens.now at) }
 {
     let (words, at) = found!(separated::<Comma, Word>(alloc, tokens, at, 1)?);
     for word in &words {

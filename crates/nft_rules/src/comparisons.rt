@@ -1,4 +1,4 @@
-//! Comparisons of what a selector reads with values.
+//! Comparisons of a selector with a value, a range or a prefix.
 ghost use Rattle.std.specs.Prelude.{◌≡◌, IfOk};
 ghost use Rattle.nft_tree.specs.Tree.{match_tree, value_tree};
 ghost use Rattle.token_reader.specs.Readers.{IsRead};
@@ -11,7 +11,7 @@ use nft_tree::{Match, Memory, Operator, Selector, Value, ValueRange};
 use std::alloc::Global;
 use token_reader::found;
 
-/// Whether the value, if it is a word, is one that the selector's type lists.
+/// Whether the value, if it is a word, is a symbolic constant of the selector's type.
 fn is_value_for(selector: Selector, value: &Value) -> bool
     ensures { result ≡ is_value_for selector (value_tree value.now) }
 {
@@ -21,7 +21,7 @@ fn is_value_for(selector: Selector, value: &Value) -> bool
     }
 }
 
-/// [op] one, each word of it listed; none is `==`
+/// [op] one, each word a symbolic constant; without an operator it is `==`
 #[tactic(auto, unfolding(crate::specs::Matches::comparison))]
 pub(crate) fn comparison(
     alloc: Global,

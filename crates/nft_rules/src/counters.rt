@@ -1,4 +1,5 @@
-//! Counters, logs and `notrack`.
+//! Counters, logs and `notrack` (nft(8), "Counter statement", "Log statement", "Notrack
+//! statement").
 #![tactic(auto, unfolding(crate::specs::Rules::counter, crate::specs::Rules::log, crate::specs::Rules::notrack))]
 
 ghost use Rattle.std.specs.Prelude.{IfOk};

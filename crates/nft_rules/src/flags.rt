@@ -1,4 +1,4 @@
-//! The flags of TCP.
+//! TCP flags.
 ghost use Rattle.std.specs.Prelude.{◌≡◌, IfOk, map};
 ghost use Rattle.std.specs.List.{list_all};
 ghost use Rattle.nft_lexer.specs.declared.token.Punctuator.TheVariants.{Bar, Comma};
@@ -84,7 +84,8 @@ fn flag_group(
     tokens: &[Token],
     at: usize,
 ) -> Result<Option<(Vec<Flag>, usize)>, Memory>
-    ensures { IfOk result (IsRead (λ found. map flag_tree found.items) flag_group.read tokens.now at) }
+    ensures { IfOk result (IsRead (λ found. map flag_tree found.items) flag_group.read
+        tokens.now at) }
 {
     if let Some(found) = flags(alloc, tokens, at)? {
         return Ok(Some(found));
@@ -95,9 +96,10 @@ fn flag_group(
     Ok(Some((flags, at)))
 }
 
-/// The match that these flags are wanted of the mask's, or that others are.
+/// The match that of the mask's flags exactly the wanted ones are set, or its negation.
 fn masked_by(equal: bool, mask: Vec<Flag>, wanted: Vec<Flag>) -> Match
-    ensures { match_tree result ≡ masked_by equal (map flag_tree mask.items) (map flag_tree wanted.items) }
+    ensures { match_tree result ≡ masked_by equal (map flag_tree mask.items)
+        (map flag_tree wanted.items) }
 {
     let masked = Masked { wanted, mask };
     if equal {

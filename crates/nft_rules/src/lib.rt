@@ -1,8 +1,8 @@
-//! Reads rules: their matches, which test what a selector reads of a packet, and their other
-//! statements (nft(8), "Rules", "Expressions", "Statements").
+//! Rules: matches, which test what a selector reads of a packet, and other statements (nft(8),
+//! "Rules", "Expressions", "Statements").
 //!
-//! The selectors of a match are read first. What follows them tells the rest: a set, or a test of
-//! the one selector's own kind (bits, TCP's flags, or a comparison).
+//! The selectors of a match are read first. The tokens after them decide the rest: a set lookup, or
+//! a test of the one selector by its kind (bits, TCP flags or a comparison).
 #![tactic(auto)]
 
 mod bits;

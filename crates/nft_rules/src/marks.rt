@@ -1,4 +1,5 @@
-//! What is looked up in maps, and what marks are set to.
+//! Map lookups, and the operands of mark statements (nft(8), "Meta statement", "Conntrack
+//! statement").
 #![tactic(auto, unfolding(crate::specs::Rules::map_lookup, crate::specs::Rules::operand))]
 
 ghost use Rattle.std.specs.Prelude.{◌≡◌, IfOk};
@@ -26,7 +27,7 @@ pub(crate) fn map_lookup(
     Ok(Some((MapLookup { selector, map }, at)))
 }
 
-/// The mark that the selector reads.
+/// The mark that the selector reads, if it reads one.
 pub(crate) fn mark_field(selector: Selector) -> Option<MarkField>
     ensures { result ≡ mark_field selector }
 {

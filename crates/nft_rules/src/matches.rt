@@ -1,4 +1,4 @@
-//! Matches.
+//! Matches (nft(8), "Expressions").
 ghost use Rattle.std.specs.Prelude.{◌≡◌, ◌∷◌, IfOk};
 ghost use Rattle.nft_lexer.specs.declared.token.Punctuator.TheVariants.{Dot};
 ghost use Rattle.nft_tree.specs.declared.selector.Selector.{Selector};
@@ -41,7 +41,7 @@ impl Production for NextSelector {
     }
 }
 
-/// The first selector, and those that are joined to it.
+/// The concatenation of the first selector and the others.
 fn concatenation(
     alloc: Global,
     first: Selector,
@@ -55,7 +55,7 @@ fn concatenation(
     Ok(selectors)
 }
 
-/// ["==" | "!="] setref, behind the first selector and those that are joined to it
+/// ["==" | "!="] setref, after the concatenation of the first selector and the others
 #[tactic(auto, unfolding(crate::specs::Matches::set_test))]
 fn set_test(
     alloc: Global,
@@ -77,7 +77,7 @@ fn set_test(
     Ok(Some((test, at)))
 }
 
-/// What tests the one selector.
+/// The test of one selector.
 #[tactic(auto, unfolding(crate::specs::Matches::one_test))]
 fn one_test(
     alloc: Global,
@@ -97,8 +97,8 @@ fn one_test(
 
 /// match = sel [op] one | keys ["==" | "!="] setref | bits and flags
 ///
-/// The match that begins with the selector before this place, and where it ends; none where no
-/// match goes on here.
+/// The match that starts with the selector before `at`, and the position after it; `None` if none
+/// goes on here.
 #[tactic(auto, unfolding(crate::specs::steps::Reading::match_after))]
 pub(crate) fn match_after(
     alloc: Global,

@@ -1,4 +1,4 @@
-//! Translation of addresses.
+//! NAT statements (nft(8), "NAT statements").
 #![tactic(auto, unfolding(crate::specs::Rules::ports, crate::specs::Rules::to_word, crate::specs::Rules::nat))]
 
 ghost use Rattle.std.specs.Prelude.{codes, option_map, IfOk};
@@ -27,7 +27,8 @@ fn colon_ports(tokens: &[Token], at: usize) -> Option<(PortRange, usize)>
 
 /// This word, and ["ip"] "to"
 fn after_to(tokens: &[Token], at: usize, word: &[u8]) -> Option<usize>
-    ensures { IsRead (λ u. u) (keyword word.now ▹ to_word).read tokens.now at (option_map (λ end. (tt, end)) result) }
+    ensures { IsRead (λ u. u) (keyword word.now ▹ to_word).read tokens.now at
+        (option_map (λ end. (tt, end)) result) }
 {
     let at = after_word(tokens, at, word)?;
     if let Some(at) = after_word(tokens, at, b"to") {
@@ -39,7 +40,9 @@ fn after_to(tokens: &[Token], at: usize, word: &[u8]) -> Option<usize>
 
 /// "snat" ["ip"] "to" (ADDR [":" ports] | look)
 fn snat(alloc: Global, tokens: &[Token], at: usize) -> Result<Option<(SourceTarget, usize)>, Memory>
-    ensures { IfOk result (IsRead source_tree (keyword (codes "snat") ▹ to_word ▹ target source_address source_lookup ports).read tokens.now at) }
+    ensures { IfOk result (IsRead source_tree
+        (keyword (codes "snat") ▹ to_word ▹ target source_address source_lookup ports).read
+        tokens.now at) }
 {
     let at = found!(after_to(tokens, at, b"snat"));
     if let Some((address, end)) = address(tokens, at) {
@@ -58,7 +61,9 @@ fn dnat(
     tokens: &[Token],
     at: usize,
 ) -> Result<Option<(DestinationTarget, usize)>, Memory>
-    ensures { IfOk result (IsRead destination_tree (keyword (codes "dnat") ▹ to_word ▹ target destination_address destination_lookup a_number).read tokens.now at) }
+    ensures { IfOk result (IsRead destination_tree
+        (keyword (codes "dnat") ▹ to_word ▹ target destination_address destination_lookup
+        a_number).read tokens.now at) }
 {
     let at = found!(after_to(tokens, at, b"dnat"));
     if let Some((address, end)) = address(tokens, at) {

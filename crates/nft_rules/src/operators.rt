@@ -1,4 +1,4 @@
-//! Signs that tell how a value, a set or bits are compared.
+//! Comparison operators.
 ghost use Rattle.std.specs.Prelude.{◌≡◌, ◌≤◌, Some, length};
 ghost use Rattle.token_reader.specs.Grammar.{maybe};
 ghost use Rattle.token_reader.specs.Readers.{IsRead, remaining};
@@ -24,10 +24,11 @@ pub(crate) fn operator(tokens: &[Token], at: usize) -> Option<(Operator, usize)>
     Some((operator, at + 1))
 }
 
-/// ["==" | "!="]: whether it is `==`
+/// ["==" | "!="], as whether it is `==`
 #[tactic(auto, unfolding(crate::specs::Matches::equality))]
 pub(crate) fn equality_if(tokens: &[Token], at: usize) -> (Option<bool>, usize)
-    ensures read { Some (result.0, remaining tokens.now result.1) ≡ (maybe equality).read (remaining tokens.now at) }
+    ensures read { Some (result.0, remaining tokens.now result.1)
+        ≡ (maybe equality).read (remaining tokens.now at) }
     ensures within { (at ≤ result.1) × (at ≤ length tokens.now → result.1 ≤ length tokens.now) }
 {
     match tokens.get(at) {

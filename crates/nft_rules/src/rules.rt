@@ -1,4 +1,4 @@
-//! Rules.
+//! Rules (nft(8), "Rules").
 ghost use Rattle.std.specs.Prelude.{◌≡◌, List, IfOk, IfSome, IsSomeAnd};
 ghost use Rattle.nft_lexer.specs.Terminal.{Terminal};
 ghost use Rattle.nft_tree.specs.Tree.{RuleTree, rule_tree};
@@ -12,7 +12,7 @@ use nft_tree::{Memory, Rule};
 use std::alloc::Global;
 use token_reader::{Production, found, is_rule_end, more};
 
-/// stmt {stmt} ["comment" STRING], with what ends a rule after it.
+/// stmt {stmt} ["comment" STRING], with the end of the rule after it
 #[tactic(auto, unfolding(crate::specs::Rules::rule, crate::specs::Rules::ended_rule))]
 fn read_ended_rule(
     alloc: Global,
@@ -22,7 +22,8 @@ fn read_ended_rule(
     ensures { IfOk result (IsRead rule_tree ended_rule.read tokens.now at) }
 {
     let (first, at) = found!(AnyStatement::read(alloc, tokens, at)?);
-    // Most rules have one statement or two; a vector that grows would take room for four.
+    // Most rules have one or two statements; a vector that grows would start with capacity for
+    // four.
     let room = if is_rule_end(tokens, at) { 1 } else { 2 };
     let mut statements = Vec::with_capacity(alloc, room)?;
     statements.push(first)?;
@@ -40,16 +41,26 @@ fn read_ended_rule(
     )))
 }
 
-/// The one rule at this place with a newline, a semicolon or a closing brace after it, and where
-/// it ends; none where no rule is spelled so.
+/// The rule at `at`, if a newline, a semicolon or a closing brace ends it, and the position of that
+/// token; `None` if none is spelled here.
+///
+/// # Errors
+///
+/// `Memory` if an allocation was refused.
 pub fn rule(alloc: Global, tokens: &[Token], at: usize) -> Result<Option<(Rule, usize)>, Memory>
-    // What is read is spelled so, with an end after it.
-    ensures found { IfOk result (λ o. IfSome o (λ x. SpellsEndedRule (rule_tree x.0) (remaining tokens.now at) (remaining tokens.now x.1))) }
-    // What is spelled so is read: there is no other rule, and where nothing is read there is none.
-    ensures only { (r : RuleTree) (to : List Terminal) → SpellsEndedRule r (remaining tokens.now at) to → IfOk result (λ o. IsSomeAnd o (λ x. (rule_tree x.0 ≡ r) × (remaining tokens.now x.1 ≡ to))) }
-    // It ends behind this place, within the tokens.
+    // Soundness: the answer is spelled here, and ended.
+    ensures found { IfOk result (λ o.
+        IfSome o (λ x. SpellsEndedRule (rule_tree x.0) (remaining tokens.now at)
+        (remaining tokens.now x.1))) }
+    // Completeness: what is spelled so is the answer; so it is unique, and `None` means that there
+    // is none.
+    ensures only { (r : RuleTree) (to : List Terminal)
+        → SpellsEndedRule r (remaining tokens.now at) to
+        → IfOk result (λ o. IsSomeAnd o (λ x. (rule_tree x.0 ≡ r)
+        × (remaining tokens.now x.1 ≡ to))) }
+    // The position is after `at`, and within the tokens.
     ensures within { IfOk result (λ o. IfSome o (λ x. IsAfter tokens.now at x.1)) }
-    // It is what a reading from left to right gives.
+    // The answer is what the production's parser gives.
     ensures read { IfOk result (IsRead rule_tree ended_rule.read tokens.now at) }
 {
     read_ended_rule(alloc, tokens, at)

@@ -1,4 +1,4 @@
-//! Statements.
+//! Statements (nft(8), "Statements").
 ghost use Rattle.std.specs.Prelude.{IfOk};
 ghost use Rattle.nft_tree.specs.Tree.{Statement, matching, statement};
 ghost use Rattle.token_reader.specs.Grammar.{made, ◌∣◌};
@@ -18,14 +18,15 @@ use token_reader::{Production, after_word, found, word};
 
 /// ("meta" | "ct") "mark" "set" operand | anysel "vmap" mapref | match
 ///
-/// The selector is read once: what stands behind it tells the rest.
+/// The selector is read once; the tokens after it decide the rest.
 #[tactic(auto, unfolding(crate::specs::Rules::set_mark, crate::specs::Rules::verdict_map, crate::specs::Matches::matching, crate::specs::steps::Reading::match_after))]
 fn selector_statement(
     alloc: Global,
     tokens: &[Token],
     at: usize,
 ) -> Result<Option<(Stmt, usize)>, Memory>
-    ensures { IfOk result (IsRead statement (rules.set_mark ∣ rules.verdict_map ∣ made matching matches.matching).read tokens.now at) }
+    ensures { IfOk result (IsRead statement
+        (rules.set_mark ∣ rules.verdict_map ∣ made matching matches.matching).read tokens.now at) }
 {
     let (selector, at) = found!(anysel(tokens, at));
     if let Some(after) = after_word(tokens, at, b"set")
@@ -57,7 +58,7 @@ impl Production for AnyStatement {
 
     #[tactic(auto, using(crate::specs::steps::Laws::no_statement), unfolding(crate::specs::Rules::statement))]
     fn read(alloc: Global, tokens: &[Token], at: usize) -> Result<Option<(Stmt, usize)>, Memory> {
-        // Where no word stands, as at the end of a rule, no keyword is tried.
+        // Without a word, as at the end of a rule, no keyword is tried.
         found!(word(tokens, at));
         if let Some(found) = counter(tokens, at) {
             return Ok(Some(found));

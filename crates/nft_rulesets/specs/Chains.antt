@@ -1,7 +1,7 @@
--- What spells a chain (nft(8), "Chains").
+-- Chains (nft(8), "Chains"; the EBNF is (own), as in docs/LANGUAGE.md).
 use Rattle.std.specs.Prelude.{ℕ, List, [], ◌∷◌, Option, Some, None, codes}
 use Rattle.std.specs.Option.{unwrap_or}
-use Rattle.nft_lexer.specs.declared.token.Punctuator.TheVariants as marks
+use Rattle.nft_lexer.specs.declared.token.Punctuator.TheVariants as punctuators
 use Rattle.nft_tree.specs.declared.chain.Hook.{Hook}
 use Rattle.nft_tree.specs.declared.chain.Priority.{Priority}
 use Rattle.nft_tree.specs.declared.chain.PriorityName.{PriorityName}
@@ -40,7 +40,8 @@ priority_words =
 
 -- ("+" | "-") NUM
 unfoldable pub offset : Grammar (OffsetSign × ℕ)
-offset = (made (λ u. Plus) (punctuation marks.Plus) ∣ made (λ u. Minus) (punctuation marks.Minus)) ⨾ a_number
+offset = (made (λ u. Plus) (punctuation punctuators.Plus) ∣ made (λ u. Minus) (punctuation punctuators.Minus))
+    ⨾ a_number
 
 abbrev pub named_priority : PriorityName × Option (OffsetSign × ℕ) → Priority
 named_priority (name, None) = Named name
@@ -49,19 +50,29 @@ named_priority (name, Some by) = Offset name by.0 by.1
 -- prio = ["-"] NUM | pname [("+" | "-") NUM]
 unfoldable pub priority : Grammar Priority
 priority =
-    made (Number Plus) a_number ∣ made (Number Minus) (punctuation marks.Minus ▹ a_number) ∣ made named_priority
+    made (Number Plus) a_number ∣ made (Number Minus) (punctuation punctuators.Minus ▹ a_number)
+    ∣ made named_priority
     (one_of priority_words ⨾ maybe offset)
 
 -- "policy" ("accept" | "drop") end {end}
 unfoldable pub policy : Grammar Policy
 policy =
-    keyword (codes "policy") ▹ one_of ((codes "accept", policies.Accept) ∷ (codes "drop", policies.Drop) ∷ []) ◃
+    keyword (codes "policy") ▹ one_of ((codes "accept", policies.Accept) ∷ (codes "drop", policies.Drop) ∷ [])
+    ◃
     some_ends
 
--- head = "type" ("filter" | "nat") "hook" hook "priority" prio end {end} ["policy" ..], and the notes after it
+-- head = "type" ("filter" | "nat") "hook" hook "priority" prio end {end} ["policy" ..], and the comments
+-- after it
 unfoldable pub head : Grammar HeadTree
-head = made (λ x. record { kind = x.0; hook = x.1.0; priority = x.1.1.0; policy = x.1.1.1.0; notes = x.1.1.1.1 }) (
-    keyword (codes "type") ▹ one_of ((codes "filter", chain_kinds.Filter) ∷ (codes "nat", chain_kinds.Nat) ∷ [])
+head = made (λ x. record {
+  kind = x.0;
+  hook = x.1.0;
+  priority = x.1.1.0;
+  policy = x.1.1.1.0;
+  notes = x.1.1.1.1;
+}) (
+    keyword (codes "type") ▹ one_of ((codes "filter", chain_kinds.Filter) ∷ (codes "nat", chain_kinds.Nat)
+    ∷ [])
     ⨾ keyword (codes "hook") ▹ one_of hook_names ⨾ keyword (codes "priority") ▹ priority
     ⨾ some_ends ▹ maybe policy ⨾ many note)
 
@@ -73,5 +84,5 @@ rules = made (λ rs. unwrap_or rs []) (maybe (lines ended_rule))
 unfoldable pub chain : Grammar ChainTree
 chain =
     made (λ x. record { name = x.0; notes = x.1.0; head = x.1.1.0; rules = x.1.1.1 })
-    (keyword (codes "chain") ▹ a_word ⨾ punctuation marks.OpenBrace ▹ ends ▹ many note ⨾ maybe head
-    ⨾ rules ◃ punctuation marks.CloseBrace)
+    (keyword (codes "chain") ▹ a_word ⨾ punctuation punctuators.OpenBrace ▹ ends ▹ many note ⨾ maybe head
+    ⨾ rules ◃ punctuation punctuators.CloseBrace)

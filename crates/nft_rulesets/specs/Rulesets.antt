@@ -1,7 +1,7 @@
--- What spells a ruleset (nft(8), "Ruleset", "Tables").
+-- Tables and rulesets (nft(8), "Ruleset", "Tables"; the EBNF is (own), as in docs/LANGUAGE.md).
 use Rattle.std.specs.Prelude.{List, [], ◌∷◌, ◌++◌, false, codes}
 use Rattle.std.specs.Option.{unwrap_or}
-use Rattle.nft_lexer.specs.declared.token.Punctuator.TheVariants as marks
+use Rattle.nft_lexer.specs.declared.token.Punctuator.TheVariants as punctuators
 use Rattle.nft_lexer.specs.Terminal.{Terminal}
 use Rattle.nft_tree.specs.declared.ruleset.Family.{Family}
 use Rattle.nft_tree.specs.declared.ruleset.Family.TheVariants.{Ip, Inet}
@@ -14,12 +14,13 @@ use Rattle.nft_rulesets.specs.Chains.{comment, chain}
 
 -- item = "comment" STRING | chain | set | map
 unfoldable pub item : Grammar ItemTree
-item = made tree.comment comment ∣ made tree.chain chain ∣ made tree.set named_set ∣ made tree.map_item named_map
+item = made tree.comment comment ∣ made tree.chain chain ∣ made tree.set named_set
+    ∣ made tree.map_item named_map
 
 abbrev pub families : List (Text × Family)
 families = (codes "ip", Ip) ∷ (codes "inet", Inet) ∷ []
 
--- ["ip" | "inet"] NAME: none is ip, and a table may have the name of a family
+-- ["ip" | "inet"] NAME: the default is ip, and a table's name may be a family's
 unfoldable pub table_name : Grammar (Family × Text)
 table_name = record {
   spells = (made (λ x. (unwrap_or x.0 Ip, x.1)) (maybe (one_of families) ⨾ a_word)).spells;
@@ -33,7 +34,8 @@ table_name = record {
 unfoldable pub table : Grammar TableTree
 table =
     made (λ x. record { family = x.0.0; name = x.0.1; items = x.1 })
-    (keyword (codes "table") ▹ table_name ⨾ punctuation marks.OpenBrace ▹ ends ▹ many (item ◃ ends) ◃ punctuation marks.CloseBrace)
+    (keyword (codes "table") ▹ table_name ⨾ punctuation punctuators.OpenBrace ▹ ends ▹ many (item ◃ ends) ◃
+    punctuation punctuators.CloseBrace)
 
 -- "flush" "ruleset" end {end}
 unfoldable pub flush : Grammar Unit
@@ -43,6 +45,6 @@ flush = keyword (codes "flush") ▹ keyword (codes "ruleset") ▹ some_ends
 unfoldable pub whole_ruleset : Grammar (List TableTree)
 whole_ruleset = ends ▹ made (λ o. tt) (maybe flush) ▹ many (table ◃ ends)
 
--- all of the tokens
+-- All of the tokens spell the ruleset.
 abbrev pub SpellsRuleset : List TableTree → List Terminal → Type 0
 SpellsRuleset tables tokens = whole_ruleset.spells tables tokens []

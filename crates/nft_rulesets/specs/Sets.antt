@@ -1,4 +1,4 @@
--- What spells a set or a map with a name (nft(8), "Sets", "Maps").
+-- Named sets and maps (nft(8), "Sets", "Maps"; the EBNF is (own), as in docs/LANGUAGE.md).
 use Rattle.std.specs.Prelude.{ℕ, List, [], ◌∷◌, Option, Some, None, option_map, option_and_then, Bool, true, false}
 use Rattle.std.specs.Prelude.{cond, codes}
 use Rattle.std.specs.Str.{bytes_eq}
@@ -20,7 +20,7 @@ use Rattle.token_reader.specs.Grammar.{separated, lines, ◌⨾◌, ◌▹◌, �
 use Rattle.nft_expressions.specs.Selectors.{selector, selectors}
 use Rattle.nft_expressions.specs.Elements as lists
 
--- one field of a set or a map
+-- A field of a set or a map: K is the type of its key, E of its elements.
 pub data Field (K E : Type 0) : Type 0 where
   key : K → Field K E
   flags : List SetFlag → Field K E
@@ -29,11 +29,11 @@ pub data Field (K E : Type 0) : Type 0 where
   comment : Text → Field K E
   elements : E → Field K E
 
--- what stands in fields: key, flags, size, whether they merge, comment, elements
+-- The values of the fields: key, flags, size, auto-merge, comment, elements.
 abbrev pub FieldValues : Type 0 → Type 0 → Type 0
 FieldValues K E = Option K × Option (List SetFlag) × Option ℕ × Bool × Option Text × Option E
 
--- one field more, unless one of its kind is there
+-- The values with one more field; none if that field is already there.
 abbrev pub with_field : {K E : Type 0} → Field K E → FieldValues K E → Option (FieldValues K E)
 with_field (key k) (None, fs, n, merge, text, es) = Some (Some k, fs, n, merge, text, es)
 with_field (flags fs) (k, None, n, merge, text, es) = Some (k, Some fs, n, merge, text, es)
@@ -47,11 +47,11 @@ abbrev pub with_fields : {K E : Type 0} → List (Field K E) → FieldValues K E
 with_fields [] all = Some all
 with_fields (f ∷ fs) all = option_and_then (with_fields fs) (with_field f all)
 
--- the fields in any order, none twice
+-- The values of fields in any order; none if a field is there twice.
 abbrev pub collect_fields : {K E : Type 0} → List (Field K E) → Option (FieldValues K E)
 collect_fields fs = with_fields fs (None, None, None, false, None, None)
 
--- the name of a type
+-- The name of a data type.
 unfoldable pub value_type : Grammar ValueType
 value_type = named type_named a_word
 
@@ -62,7 +62,8 @@ value_types = separated (punctuation Dot) value_type
 -- "type" TYPE {"." TYPE} | "typeof" keys
 unfoldable pub set_type : Grammar SetTypeTree
 set_type =
-    keyword (codes "type") ▹ made tree.types value_types ∣ keyword (codes "typeof") ▹ made tree.selectors selectors
+    keyword (codes "type") ▹ made tree.types value_types
+    ∣ keyword (codes "typeof") ▹ made tree.selectors selectors
 
 -- TYPE | "verdict"
 unfoldable pub data_type : Grammar TypeOrVerdict
@@ -80,7 +81,8 @@ data_selector =
 unfoldable pub map_type : Grammar MapType
 map_type =
     made (λ x. map_types.Types x.0 x.1) (keyword (codes "type") ▹ value_type ⨾ punctuation Colon ▹ data_type)
-    ∣ made (λ x. map_types.Selectors x.0 x.1) (keyword (codes "typeof") ▹ selector ⨾ punctuation Colon ▹ data_selector)
+    ∣ made (λ x. map_types.Selectors x.0 x.1)
+    (keyword (codes "typeof") ▹ selector ⨾ punctuation Colon ▹ data_selector)
 
 -- "flags" sflag {"," sflag}
 unfoldable pub set_flags : Grammar (List SetFlag)
@@ -88,32 +90,50 @@ set_flags =
     keyword (codes "flags") ▹ separated (punctuation Comma)
     (one_of ((codes "constant", Constant) ∷ (codes "interval", Interval) ∷ []))
 
--- a field but the key
+-- A field other than the key.
 unfoldable pub other_field : {K E : Type 0} → Grammar E → Grammar (Field K E)
 other_field e =
     made flags set_flags
     ∣ made size (keyword (codes "size") ▹ a_number)
     ∣ made (λ u. auto_merge) (keyword (codes "auto-merge"))
     ∣ made comment (keyword (codes "comment") ▹ a_string)
-    ∣ made elements (keyword (codes "elements") ▹ punctuation Equals ▹ punctuation OpenBrace ▹ e ◃ punctuation CloseBrace)
+    ∣ made elements (keyword (codes "elements") ▹ punctuation Equals ▹ punctuation OpenBrace ▹ e ◃ punctuation
+    CloseBrace)
 
--- a field, with such a key and such elements
+-- A field, given the productions of its key and its elements.
 unfoldable pub any_field : {K E : Type 0} → Grammar K → Grammar E → Grammar (Field K E)
 any_field k e = made key k ∣ other_field e
 
 -- NAME "{" {end} field {end {end} field} {end} "}"
 unfoldable pub block : {K E : Type 0} → Grammar K → Grammar E → Grammar (Text × FieldValues K E)
-block k e = a_word ⨾ named collect_fields (punctuation OpenBrace ▹ ends ▹ lines (any_field k e) ◃ punctuation CloseBrace)
+block k e = a_word ⨾ named collect_fields
+    (punctuation OpenBrace ▹ ends ▹ lines (any_field k e) ◃ punctuation CloseBrace)
 
--- what they make, where a key is among them
+-- The set or map of these values, if a key is among them.
 abbrev pub set_of : Text × FieldValues SetTypeTree (List tree.ElementTree) → Option SetTree
 set_of (name, (Some k, fs, n, merge, text, es)) =
-    Some (record { name = name; key = k; flags = fs; size = n; auto_merge = merge; comment = text; elements = es })
+    Some (record {
+      name = name;
+      key = k;
+      flags = fs;
+      size = n;
+      auto_merge = merge;
+      comment = text;
+      elements = es;
+    })
 set_of _ = None
 
 abbrev pub map_of : Text × FieldValues MapType (List tree.PairTree) → Option MapTree
 map_of (name, (Some k, fs, n, merge, text, es)) =
-    Some (record { name = name; types = k; flags = fs; size = n; auto_merge = merge; comment = text; elements = es })
+    Some (record {
+      name = name;
+      types = k;
+      flags = fs;
+      size = n;
+      auto_merge = merge;
+      comment = text;
+      elements = es;
+    })
 map_of _ = None
 
 -- set = "set" NAME "{" .. "}"

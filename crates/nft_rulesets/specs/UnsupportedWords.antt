@@ -1,4 +1,4 @@
--- The fault of tokens that spell no ruleset: whether one of them is a word that the language leaves out.
+-- Words of nft(8) that this profile doesn't support (own): they decide between E05 and E06.
 use Rattle.std.specs.Prelude.{List, [], ◌∷◌, Bool, false, codes}
 use Rattle.std.specs.List.{list_any}
 use Rattle.std.specs.Str.{bytes_eq}
@@ -6,24 +6,27 @@ use Rattle.nft_lexer.specs.Terminal as terminals
 use Rattle.nft_lexer.specs.Terminal.{Terminal}
 use Rattle.nft_tree.specs.Tree.{Text}
 
--- words of nft(8) that this profile leaves out
+-- The unsupported words.
 abbrev pub unsupported : List Text
 unsupported =
     codes "define" ∷ codes "undefine" ∷ codes "redefine" ∷ codes "include" ∷ codes "add" ∷ codes "create" ∷
     codes "insert" ∷ codes "replace" ∷ codes "delete"
     ∷ codes "destroy" ∷ codes "list" ∷ codes "reset" ∷ codes "rename" ∷ codes "monitor" ∷ codes "ip6" ∷
     codes "icmpv6" ∷ codes "arp" ∷ codes "bridge" ∷ codes "netdev"
-    ∷ codes "ether" ∷ codes "vlan" ∷ codes "reject" ∷ codes "limit" ∷ codes "quota" ∷ codes "queue" ∷ codes "dup" ∷
+    ∷ codes "ether" ∷ codes "vlan" ∷ codes "reject" ∷ codes "limit" ∷ codes "quota" ∷ codes "queue"
+    ∷ codes "dup" ∷
     codes "fwd" ∷ codes "tproxy" ∷ codes "synproxy"
-    ∷ codes "flowtable" ∷ codes "flow" ∷ codes "helper" ∷ codes "expectation" ∷ codes "timeout" ∷ codes "expires" ∷
+    ∷ codes "flowtable" ∷ codes "flow" ∷ codes "helper" ∷ codes "expectation" ∷ codes "timeout"
+    ∷ codes "expires" ∷
     codes "dynamic" ∷ codes "gc-interval" ∷ codes "numgen"
-    ∷ codes "jhash" ∷ codes "symhash" ∷ codes "fib" ∷ codes "rt" ∷ codes "socket" ∷ codes "osf" ∷ codes "random" ∷
+    ∷ codes "jhash" ∷ codes "symhash" ∷ codes "fib" ∷ codes "rt" ∷ codes "socket" ∷ codes "osf"
+    ∷ codes "random" ∷
     codes "fully-random" ∷ codes "persistent" ∷ codes "dscp" ∷ []
 
 abbrev pub is_unsupported : Terminal → Bool
 is_unsupported (terminals.word w) = list_any (bytes_eq w) unsupported
 is_unsupported _ = false
 
--- some word of the tokens is left out
+-- Some token is an unsupported word.
 abbrev pub has_unsupported : List Terminal → Bool
 has_unsupported ts = list_any is_unsupported ts

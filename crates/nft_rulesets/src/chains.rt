@@ -1,4 +1,4 @@
-//! Chains and their rules.
+//! Chains and their rules (nft(8), "Chains").
 ghost use Rattle.std.specs.Prelude.{IfOk};
 ghost use Rattle.nft_tree.specs.Tree.{RuleTree, rule_tree, chain_tree};
 ghost use Rattle.token_reader.specs.Readers.{IsRead};

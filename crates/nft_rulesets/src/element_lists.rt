@@ -1,4 +1,4 @@
-//! The elements of sets and of maps, as parts of a grammar.
+//! Lists of elements and of pairs, as productions.
 ghost use Rattle.std.specs.Prelude.{List, map};
 ghost use Rattle.nft_tree.specs.Tree.{ElementTree, PairTree, element_tree, pair_tree};
 ghost use Rattle.nft_expressions.specs.Elements.{elements, pairs};

@@ -1,4 +1,4 @@
-//! The fields of sets and maps, which stand in any order.
+//! The fields of sets and maps, in any order (nft(8), "Sets", "Maps").
 ghost use Rattle.std.specs.Prelude.{◌≡◌, Some, None, IfOk, codes, if◌then◌else◌, map, option_map};
 ghost use Rattle.std.specs.Option.{is_none};
 ghost use Rattle.token_reader.specs.Grammar.{keyword, punctuation, ◌▹◌, ◌◃◌};
@@ -31,7 +31,7 @@ pub(crate) enum Field<K, E> {
     Elements(E),
 }
 
-/// What the fields say together.
+/// The values of the fields.
 #[derive(Drop)]
 pub(crate) struct Fields<K, E> {
     pub(crate) key: Option<K>,
@@ -42,20 +42,21 @@ pub(crate) struct Fields<K, E> {
     pub(crate) elements: Option<E>,
 }
 
-/// Puts the value in its place, and says whether the place was empty.
-fn set_once<T: Drop>(place: &mut Option<T>, value: T) -> bool
-    ensures after { place.new ≡ Some value }
-    ensures first { result ≡ is_none place.old }
+/// Sets an empty slot; `false` if it was full.
+fn set_once<T: Drop>(slot: &mut Option<T>, value: T) -> bool
+    ensures after { slot.new ≡ Some value }
+    ensures first { result ≡ is_none slot.old }
 {
-    place.replace(value).is_none()
+    slot.replace(value).is_none()
 }
 
-/// Puts the field to the others, and says whether it is the first of its kind.
+/// Adds the field to the values; `false` if it was already there.
 fn set_field<K: Production, E: Production>(
     all: &mut Fields<K::Item, E::Item>,
     field: Field<K::Item, E::Item>,
 ) -> bool
-    ensures { (if result then Some (fields_tree K.tree E.tree all.new) else None) ≡ with_field (field_tree K.tree E.tree field) (fields_tree K.tree E.tree all.old) }
+    ensures { (if result then Some (fields_tree K.tree E.tree all.new) else None)
+        ≡ with_field (field_tree K.tree E.tree field) (fields_tree K.tree E.tree all.old) }
 {
     match field {
         Field::Key(key) => set_once(&mut all.key, key),
@@ -86,7 +87,9 @@ fn elements_field<E: Production>(
     tokens: &[Token],
     at: usize,
 ) -> Result<Option<(E::Item, usize)>, Memory>
-    ensures { IfOk result (IsRead E.tree (keyword (codes "elements") ▹ punctuation Equals ▹ punctuation OpenBrace ▹ read_by E.read_at ◃ punctuation CloseBrace).read tokens.now at) }
+    ensures { IfOk result (IsRead E.tree
+        (keyword (codes "elements") ▹ punctuation Equals ▹ punctuation OpenBrace ▹ read_by E.read_at
+        ◃ punctuation CloseBrace).read tokens.now at) }
 {
     let at = found!(after_word(tokens, at, b"elements"));
     let at = found!(after_punctuator(tokens, at, Punctuator::Equals));
@@ -138,11 +141,12 @@ impl<K: Production, E: Production> Production for AnyField<K, E> {
     }
 }
 
-/// What the fields say together, where no two are of one kind.
+/// The values of the fields; `None` if a field is there twice.
 fn collect_fields<K: Production, E: Production>(
     fields: Vec<Field<K::Item, E::Item>>,
 ) -> Option<Fields<K::Item, E::Item>>
-    ensures { option_map (fields_tree K.tree E.tree) result ≡ collect_fields (map (field_tree K.tree E.tree) fields.items) }
+    ensures { option_map (fields_tree K.tree E.tree) result
+        ≡ collect_fields (map (field_tree K.tree E.tree) fields.items) }
 {
     let mut all = Fields {
         key: None,
@@ -168,7 +172,8 @@ pub(crate) fn block<K: Production, E: Production>(
     at: usize,
     kind: &[u8],
 ) -> Result<Option<((Vec<u8>, Fields<K::Item, E::Item>), usize)>, Memory>
-    ensures { IfOk result (IsRead (λ x. (x.0.items, fields_tree K.tree E.tree x.1)) (keyword kind.now ▹ block (read_by K.read_at) (read_by E.read_at)).read tokens.now at) }
+    ensures { IfOk result (IsRead (λ x. (x.0.items, fields_tree K.tree E.tree x.1))
+        (keyword kind.now ▹ block (read_by K.read_at) (read_by E.read_at)).read tokens.now at) }
 {
     let at = found!(after_word(tokens, at, kind));
     let (name, at) = found!(word(tokens, at));

@@ -1,4 +1,4 @@
-//! The flags of sets and maps.
+//! The flags of sets and maps (nft(8), "Sets").
 ghost use Rattle.std.specs.Prelude.{codes, [], ◌∷◌};
 ghost use Rattle.nft_tree.specs.declared.set.SetFlag.{SetFlag};
 ghost use Rattle.nft_tree.specs.declared.set.SetFlag.TheVariants.{Constant, Interval};

@@ -1,4 +1,4 @@
-//! The head of a base chain.
+//! The hook specification of a base chain (nft(8), "Chains").
 ghost use Rattle.std.specs.Prelude.{IfOk};
 ghost use Rattle.nft_tree.specs.Tree.{head_tree};
 ghost use Rattle.token_reader.specs.Readers.{IsRead};
@@ -59,13 +59,13 @@ fn priority(tokens: &[Token], at: usize) -> Option<(Priority, usize)>
     }
     let (name, at) = one_of(tokens, at, &PRIORITIES)?;
     match offset(tokens, at) {
-        Some(((punctuation, by), at)) => Some((Priority::Offset(name, punctuation, by), at)),
+        Some(((sign, by), at)) => Some((Priority::Offset(name, sign, by), at)),
         None => Some((Priority::Named(name), at)),
     }
 }
 
-/// "type" ("filter" | "nat") "hook" hook "priority" prio end {end} ["policy" ..], and the notes
-/// after it.
+/// "type" ("filter" | "nat") "hook" hook "priority" prio end {end} ["policy" ..], and the comments
+/// after it
 #[tactic(auto, unfolding(crate::specs::Chains::head, crate::specs::Chains::policy))]
 pub(crate) fn head(
     alloc: Global,

@@ -1,5 +1,5 @@
-//! Reads tables, with their chains, sets and maps, and whole rulesets (nft(8), "Ruleset", "Tables",
-//! "Chains", "Sets", "Maps"), and finds words of nft(8) that the language leaves out.
+//! Tables with their chains, sets and maps, and whole rulesets (nft(8), "Ruleset", "Tables",
+//! "Chains", "Sets", "Maps"); words of nft(8) that this profile doesn't support.
 #![tactic(auto)]
 
 mod chains;

@@ -1,4 +1,4 @@
-//! Comments that stand alone.
+//! Comments of tables, chains and hook specifications.
 ghost use Rattle.nft_tree.specs.Tree.{Text};
 ghost use Rattle.nft_rulesets.specs.Chains.{note};
 

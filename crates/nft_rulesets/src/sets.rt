@@ -1,4 +1,4 @@
-//! Sets and maps.
+//! Named sets and maps.
 ghost use Rattle.std.specs.Prelude.{IfOk};
 ghost use Rattle.nft_tree.specs.Tree.{map_tree, set_tree};
 ghost use Rattle.token_reader.specs.Readers.{IsRead};

@@ -1,4 +1,4 @@
-//! Tables and what they hold, and rulesets.
+//! Tables, their items, and rulesets.
 ghost use Rattle.std.specs.Prelude.{◌≡◌, List, IfOk, IfSome, IsSomeAnd};
 ghost use Rattle.std.specs.Option.{option_map};
 ghost use Rattle.nft_lexer.specs.Terminal.{terminals};
@@ -49,7 +49,7 @@ impl Production for NextItem {
     }
 }
 
-/// ["ip" | "inet"] NAME: a table may have the name of a family.
+/// ["ip" | "inet"] NAME; a table's name may be a family's
 #[tactic(auto, unfolding(crate::specs::Rulesets::table_name))]
 fn table_name<'t>(tokens: &[Token<'t>], at: usize) -> Option<((Family, &'t [u8]), usize)>
     ensures { IsRead (λ x. (x.0, x.1.now)) table_name.read tokens.now at result }
@@ -93,7 +93,7 @@ impl Production for NextTable {
     }
 }
 
-/// {end} ["flush" "ruleset" end {end}] {table {end}}, all of the tokens.
+/// {end} ["flush" "ruleset" end {end}] {table {end}}, all of the tokens
 #[tactic(auto, unfolding(crate::specs::steps::Laws::ruleset_at, crate::specs::Rulesets::whole_ruleset, crate::specs::Rulesets::flush))]
 fn whole(alloc: Global, tokens: &[Token]) -> Result<Option<Ruleset>, Memory>
     ensures { IfOk result (λ o. option_map tables_of o ≡ ruleset_at (terminals tokens.now)) }
@@ -114,13 +114,20 @@ fn whole(alloc: Global, tokens: &[Token]) -> Result<Option<Ruleset>, Memory>
     Ok(Some(Ruleset { tables }))
 }
 
-/// The one ruleset that the tokens spell, all of them; none where they spell none.
+/// The ruleset that all of the tokens spell; `None` if they spell none.
+///
+/// # Errors
+///
+/// `Memory` if an allocation was refused.
 pub fn ruleset(alloc: Global, tokens: &[Token]) -> Result<Option<Ruleset>, Memory>
-    // What is read is spelled by the tokens.
-    ensures found { IfOk result (λ o. IfSome o (λ read. SpellsRuleset (tables_of read) (terminals tokens.now))) }
-    // What they spell is read: there is no other ruleset, and where nothing is read there is none.
-    ensures only { (tables : List TableTree) → SpellsRuleset tables (terminals tokens.now) → IfOk result (λ o. IsSomeAnd o (λ read. tables_of read ≡ tables)) }
-    // It is what a reading from left to right gives.
+    // Soundness: the tokens spell the answer.
+    ensures found { IfOk result (λ o.
+        IfSome o (λ read. SpellsRuleset (tables_of read) (terminals tokens.now))) }
+    // Completeness: what they spell is the answer; so it is unique, and `None` means that there is
+    // none.
+    ensures only { (tables : List TableTree) → SpellsRuleset tables (terminals tokens.now)
+        → IfOk result (λ o. IsSomeAnd o (λ read. tables_of read ≡ tables)) }
+    // The answer is what the production's parser gives.
     ensures read { IfOk result (λ o. option_map tables_of o ≡ ruleset_at (terminals tokens.now)) }
 {
     whole(alloc, tokens)

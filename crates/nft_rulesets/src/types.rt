@@ -1,4 +1,4 @@
-//! The types of a set's elements, and of a map's keys and data.
+//! The types of keys and data.
 ghost use Rattle.nft_tree.specs.declared.selector.ValueType.{ValueType};
 ghost use Rattle.nft_tree.specs.declared.set.MapType.{MapType};
 ghost use Rattle.nft_tree.specs.Tree.{SetTypeTree, set_type_tree};

@@ -1,4 +1,4 @@
-//! Words of nft(8) that the language leaves out.
+//! Words of nft(8) that this profile doesn't support.
 ghost use Rattle.std.specs.Prelude.{◌≡◌};
 ghost use Rattle.nft_lexer.specs.Terminal.{terminal_of, terminals};
 ghost use Rattle.nft_rulesets.specs.UnsupportedWords.{has_unsupported, is_unsupported};
@@ -56,7 +56,7 @@ static UNSUPPORTED: [&[u8]; 48] = [
     b"dscp",
 ];
 
-/// Whether the token is a word that the language leaves out.
+/// Whether the token is an unsupported word.
 fn is_unsupported(token: &Token) -> bool
     ensures { result ≡ is_unsupported (terminal_of token.now.kind token.now.text.now) }
 {
@@ -66,7 +66,7 @@ fn is_unsupported(token: &Token) -> bool
     }
 }
 
-/// Whether one of the tokens is a word that the language leaves out.
+/// Whether some token is an unsupported word.
 pub fn has_unsupported(tokens: &[Token]) -> bool
     ensures { result ≡ has_unsupported (terminals tokens.now) }
 {

@@ -1,4 +1,4 @@
--- The numbers of priorities (nft(8), "Chains", the table of standard priority names).
+-- Priorities as numbers (nft(8), "Chains", the table of standard priority names).
 use Rattle.std.specs.Prelude.{ℤ, pos, negsuc, ◌+ℤ◌, ◌-ℤ◌}
 use Rattle.nft_tree.specs.declared.chain.Priority.{Priority}
 use Rattle.nft_tree.specs.declared.chain.PriorityName.{PriorityName}
@@ -6,7 +6,8 @@ use Rattle.nft_tree.specs.declared.chain.Priority.TheVariants as priorities
 use Rattle.nft_tree.specs.declared.chain.PriorityName.TheVariants as priority_names
 use Rattle.nft_tree.specs.declared.chain.OffsetSign.TheVariants as offset_signs
 
--- the destination is translated at -100, the source at 100
+-- The priorities of destination and source NAT (NF_IP_PRI_NAT_DST and NF_IP_PRI_NAT_SRC of
+-- linux/netfilter_ipv4.h).
 abbrev pub DSTNAT : ℤ
 DSTNAT = negsuc 99
 
@@ -21,11 +22,13 @@ name_number priority_names.Filter = pos 0
 name_number priority_names.Security = pos 50
 name_number priority_names.SrcNat = SRCNAT
 
--- a connection is looked for at -200 (NF_IP_PRI_CONNTRACK of linux/netfilter_ipv4.h); this is the next
+-- The first priority after the conntrack lookup, which is at -200 (NF_IP_PRI_CONNTRACK of
+-- linux/netfilter_ipv4.h).
 abbrev pub AFTER_CONNTRACK : ℤ
 AFTER_CONNTRACK = negsuc 198
 
--- the number of a priority, which may be out of the 32 bits that it is to have
+-- A priority as a number. It may exceed the 32 bits that the kernel has for it; rule_check refuses such a
+-- ruleset.
 abbrev pub priority_number : Priority → ℤ
 priority_number (priorities.Number offset_signs.Plus n) = pos n
 priority_number (priorities.Number offset_signs.Minus n) = pos 0 -ℤ pos n

@@ -1,4 +1,6 @@
--- Trees without where they lie in memory: what contracts compare. A type that holds no vector is its own mirror.
+-- The abstract syntax tree of a ruleset, without where its vectors are in memory: what contracts compare. A
+-- type that holds no vector stands for itself. The forms are those of nft(8): "Tables", "Chains", "Rules",
+-- "Sets", "Maps", "Elements", "Expressions" and "Statements".
 use Rattle.std.specs.Prelude.{ℕ, Bool, List, map, Option}
 use Rattle.std.specs.Option.{option_map}
 use Rattle.nft_tree.specs.declared.ruleset.Ruleset.{Ruleset}
@@ -59,11 +61,11 @@ use Rattle.nft_tree.specs.declared.statement.BitTest.{BitTest}
 use Rattle.nft_tree.specs.declared.statement.Flag.{Flag}
 use Rattle.nft_tree.specs.declared.statement.Flag.TheVariants as flag_kinds
 
--- the bytes of a name or a text
+-- The bytes of a name or a string.
 abbrev pub Text : Type 0
 Text = List ℕ
 
--- ---- mirrors
+-- ---- nodes
 
 pub data ValueTree : Type 0 where
   number : ℕ → ValueTree
@@ -206,7 +208,7 @@ pub record TableTree : Type 0 where
   pub name : Text
   pub items : List ItemTree
 
--- ---- what each value of the code shows
+-- ---- the models of the code's values
 
 abbrev pub value_tree : Value → ValueTree
 value_tree (values.Number n) = number n
@@ -240,7 +242,11 @@ data_tree (datas.Value v) = to_value (value_tree v)
 
 abbrev pub pair_tree : Pair → PairTree
 pair_tree p =
-    record { key = range_tree p.key; comment = option_map (λ c. c.items) p.comment; value = data_tree p.value }
+    record {
+      key = range_tree p.key;
+      comment = option_map (λ c. c.items) p.comment;
+      value = data_tree p.value;
+    }
 
 abbrev pub set_ref_tree : SetRef → SetRefTree
 set_ref_tree (set_refs.Named name) = named_set name.items
@@ -298,7 +304,10 @@ statement (stmts.Verdict v) = verdict (verdict_tree v)
 statement (stmts.Nat n) = nat (nat_tree n)
 
 abbrev pub rule_tree : Rule → RuleTree
-rule_tree r = record { statements = map statement r.statements.items; comment = option_map (λ c. c.items) r.comment }
+rule_tree r = record {
+  statements = map statement r.statements.items;
+  comment = option_map (λ c. c.items) r.comment;
+}
 
 abbrev pub head_tree : Head → HeadTree
 head_tree h =
@@ -358,6 +367,6 @@ item_tree (items.Map m) = map_item (map_tree m)
 abbrev pub table_tree : Table → TableTree
 table_tree t = record { family = t.family; name = t.name.items; items = map item_tree t.items.items }
 
--- a ruleset is its tables
+-- A ruleset is the list of its tables.
 abbrev pub tables_of : Ruleset → List TableTree
 tables_of r = map table_tree r.tables.items

@@ -1,4 +1,5 @@
--- The types of what selectors read, how wide they are, and the numbers that words stand for.
+-- Data types: which one a selector reads, its width, and its symbolic constants (nft(8), "Data types" and the
+-- expressions' sections; constants and widths as `nft describe` lists them).
 use Rattle.std.specs.Prelude.{ℕ, List, [], ◌∷◌, Option, Some, None, cond, codes}
 use Rattle.std.specs.Borrow.{Bor}
 use Rattle.std.specs.Str.{bytes_eq}
@@ -7,18 +8,18 @@ use Rattle.nft_tree.specs.declared.selector.Selector.TheVariants as selectors
 use Rattle.nft_tree.specs.declared.selector.ValueType.{ValueType}
 use Rattle.nft_tree.specs.declared.selector.ValueType.TheVariants as value_types
 
--- what a list has under a name: that of its first entry with the name
+-- The value of the first entry with this name.
 abbrev pub entry_in : {A : Type 0} → List (List ℕ × A) → List ℕ → Option A
 entry_in [] name = None
 entry_in (entry ∷ rest) name = cond (bytes_eq entry.0 name) (Some entry.1) (entry_in rest name)
 
--- a pair of a reference to a name and what it means, without the reference
+-- An entry of a static table, without the reference to its name.
 abbrev pub entry_of : {A : Type 0} → Bor (List ℕ) × A → List ℕ × A
 entry_of pair = (pair.0.now, pair.1)
 
--- ---- types
+-- ---- data types
 
--- the types, each with its name
+-- The data types by their names (nft(8), "Data types").
 abbrev pub named_types : List (List ℕ × ValueType)
 named_types =
     (codes "ipv4_addr", value_types.Address)
@@ -35,11 +36,11 @@ named_types =
     ∷ (codes "ct_status", value_types.CtStatus)
     ∷ []
 
--- the type of a name
+-- The data type of this name.
 abbrev pub type_named : List ℕ → Option ValueType
 type_named = entry_in named_types
 
--- the width of a type in bits
+-- The width of a data type in bits (nft(8), "Data types").
 abbrev pub type_width : ValueType → ℕ
 type_width value_types.Address = 32
 type_width value_types.Protocol = 8
@@ -56,7 +57,8 @@ type_width value_types.CtStatus = 32
 
 -- ---- selectors
 
--- the type of what a selector reads; none where the type has no name
+-- The data type of what a selector reads; none for `ip ttl`, `ip length` and `meta length`, whose type is a
+-- plain integer (nft(8), "Payload expressions", "Meta expressions", "Conntrack expressions").
 abbrev pub selector_type : Selector → Option ValueType
 selector_type selectors.IpSource = Some value_types.Address
 selector_type selectors.IpDestination = Some value_types.Address
@@ -84,7 +86,7 @@ selector_type selectors.CtState = Some value_types.CtState
 selector_type selectors.CtDirection = Some value_types.CtDirection
 selector_type selectors.CtStatus = Some value_types.CtStatus
 
--- the width in bits of what a selector reads
+-- The width in bits of what a selector reads (the same sections).
 abbrev pub selector_width : Selector → ℕ
 selector_width selectors.IpSource = 32
 selector_width selectors.IpDestination = 32
@@ -114,8 +116,8 @@ selector_width selectors.CtStatus = 32
 
 -- ---- bits
 
--- the bits of a connection's state (NF_CT_STATE_INVALID_BIT, NF_CT_STATE_BIT and
--- NF_CT_STATE_UNTRACKED_BIT of linux/netfilter/nf_conntrack_common.h)
+-- The bits of `ct state` (NF_CT_STATE_INVALID_BIT, NF_CT_STATE_BIT and NF_CT_STATE_UNTRACKED_BIT of
+-- linux/netfilter/nf_conntrack_common.h).
 abbrev pub STATE_INVALID : ℕ
 STATE_INVALID = 1
 
@@ -131,7 +133,7 @@ STATE_NEW = 8
 abbrev pub STATE_UNTRACKED : ℕ
 STATE_UNTRACKED = 64
 
--- the bits of its status (IPS_SEEN_REPLY, IPS_SRC_NAT and IPS_DST_NAT there)
+-- The bits of `ct status` (IPS_SEEN_REPLY, IPS_SRC_NAT and IPS_DST_NAT of the same header).
 abbrev pub STATUS_SEEN_REPLY : ℕ
 STATUS_SEEN_REPLY = 2
 
@@ -141,9 +143,9 @@ STATUS_SNAT = 16
 abbrev pub STATUS_DNAT : ℕ
 STATUS_DNAT = 32
 
--- ---- words
+-- ---- symbolic constants
 
--- the words that a type lists, each with the number that it stands for
+-- The symbolic constants of a data type (`nft describe TYPE`; services: (own), six of /etc/services).
 abbrev pub words_of : ValueType → List (List ℕ × ℕ)
 words_of value_types.Address = []
 words_of value_types.Protocol =
@@ -210,6 +212,6 @@ words_of value_types.CtStatus =
     ∷ (codes "dnat", STATUS_DNAT)
     ∷ []
 
--- the number that a word stands for
+-- The number of a symbolic constant.
 abbrev pub number_in : List (List ℕ × ℕ) → List ℕ → Option ℕ
 number_in = entry_in

@@ -1,25 +1,25 @@
-//! Chains and rules.
+//! Chains and rules (nft(8), "Chains", "Rules").
 use crate::statement::Stmt;
 
-/// A chain: `chain NAME { .. }`. With a head it is a base chain.
+/// A chain: `chain NAME { .. }`. It is a base chain if it has a head.
 #[derive(Drop)]
 pub struct Chain {
     pub name: Vec<u8>,
-    /// The comments before the head, or before the rules of a chain without one.
+    /// The comments before the head, or before the rules of a regular chain.
     pub notes: Vec<Vec<u8>>,
     pub head: Option<Head>,
     /// In text order.
     pub rules: Vec<Rule>,
 }
 
-/// What makes a chain a base chain: `type KIND hook HOOK priority PRIORITY; policy POLICY;`.
+/// A base chain's hook specification: `type TYPE hook HOOK priority PRIORITY; policy POLICY;`.
 #[derive(Drop)]
 pub struct Head {
     pub kind: ChainKind,
     pub hook: Hook,
     pub priority: Priority,
     pub policy: Option<Policy>,
-    /// The comments after it.
+    /// The comments after the policy.
     pub notes: Vec<Vec<u8>>,
 }
 
@@ -30,7 +30,7 @@ pub enum ChainKind {
     Nat,
 }
 
-/// Where a base chain sees packets.
+/// The netfilter hook that a base chain is attached to.
 #[derive(Clone, Copy)]
 pub enum Hook {
     Prerouting,
@@ -40,25 +40,25 @@ pub enum Hook {
     Postrouting,
 }
 
-/// The priority of a base chain: lower ones run first.
+/// The priority of a base chain: on one hook, lower ones run first.
 #[derive(Clone, Copy)]
 pub enum Priority {
-    /// A number, or the negative of one.
+    /// A number with its sign.
     Number(OffsetSign, u64),
-    /// A name alone.
+    /// A standard name, such as `filter`.
     Named(PriorityName),
-    /// A name and a number added to it or taken from it.
+    /// A standard name with an offset, such as `filter + 10`.
     Offset(PriorityName, OffsetSign, u64),
 }
 
-/// Whether a number is added or taken away.
+/// The sign of a number or an offset.
 #[derive(Clone, Copy)]
 pub enum OffsetSign {
     Plus,
     Minus,
 }
 
-/// The names of priorities.
+/// The standard priority names, each with its number (nft(8), "Chains").
 #[derive(Clone, Copy)]
 pub enum PriorityName {
     /// -300
@@ -75,7 +75,7 @@ pub enum PriorityName {
     SrcNat,
 }
 
-/// What a base chain decides of a packet that comes to its end.
+/// The verdict of a base chain on a packet that reaches its end.
 #[derive(Clone, Copy)]
 pub enum Policy {
     Accept,

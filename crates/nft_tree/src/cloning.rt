@@ -1,6 +1,5 @@
-//! Copies of trees.
-//!
-//! A copy equals its source in all that contracts compare; only memory can keep one from being made.
+//! Copies of trees. A copy equals its source in all that contracts compare; making one fails only
+//! when memory runs out.
 ghost use Rattle.nft_tree.specs.Tree.{ElementTree, FlagTree, ItemTree, PairTree, RuleTree, Statement, TableTree, ValueTree, chain_tree, data_tree, destination_tree, element_tree, flag_tree, head_tree, item_tree, key_tree, map_lookup_tree, map_ref_tree, map_tree, match_tree, nat_tree, operand_tree, pair_tree, range_tree, rule_tree, set_ref_tree, set_tree, set_type_tree, source_tree, statement, table_tree, tables_of, value_tree, verdict_tree};
 ghost use Rattle.std.specs.Prelude.{◌≡◌, map, IfOk};
 
@@ -14,7 +13,11 @@ use crate::tree_nodes::{TreeNode, copies};
 use crate::values::{Value, ValueRange};
 
 impl Ruleset {
-    /// A copy of the ruleset, or `Memory` where there was no room for one.
+    /// A copy of the ruleset.
+    ///
+    /// # Errors
+    ///
+    /// `Memory` if an allocation was refused.
     pub fn try_clone(&self) -> Result<Ruleset, Memory>
         ensures { IfOk result (λ copy. tables_of copy ≡ tables_of self.now) }
     {
@@ -25,7 +28,11 @@ impl Ruleset {
 }
 
 impl Table {
-    /// A copy of the table, or `Memory` where there was no room for one.
+    /// A copy of the table.
+    ///
+    /// # Errors
+    ///
+    /// `Memory` if an allocation was refused.
     pub fn try_clone(&self) -> Result<Table, Memory>
         ensures { IfOk result (λ copy. table_tree copy ≡ table_tree self.now) }
     {
@@ -48,7 +55,11 @@ impl TreeNode for Table {
 }
 
 impl Item {
-    /// A copy of the item, or `Memory` where there was no room for one.
+    /// A copy of the item.
+    ///
+    /// # Errors
+    ///
+    /// `Memory` if an allocation was refused.
     pub fn try_clone(&self) -> Result<Item, Memory>
         ensures { IfOk result (λ copy. item_tree copy ≡ item_tree self.now) }
     {
@@ -72,7 +83,11 @@ impl TreeNode for Item {
 }
 
 impl Chain {
-    /// A copy of the chain, or `Memory` where there was no room for one.
+    /// A copy of the chain.
+    ///
+    /// # Errors
+    ///
+    /// `Memory` if an allocation was refused.
     pub fn try_clone(&self) -> Result<Chain, Memory>
         ensures { IfOk result (λ copy. chain_tree copy ≡ chain_tree self.now) }
     {
@@ -90,7 +105,11 @@ impl Chain {
 }
 
 impl Head {
-    /// A copy of the head, or `Memory` where there was no room for one.
+    /// A copy of the head.
+    ///
+    /// # Errors
+    ///
+    /// `Memory` if an allocation was refused.
     pub fn try_clone(&self) -> Result<Head, Memory>
         ensures { IfOk result (λ copy. head_tree copy ≡ head_tree self.now) }
     {
@@ -105,7 +124,11 @@ impl Head {
 }
 
 impl Rule {
-    /// A copy of the rule, or `Memory` where there was no room for one.
+    /// A copy of the rule.
+    ///
+    /// # Errors
+    ///
+    /// `Memory` if an allocation was refused.
     pub fn try_clone(&self) -> Result<Rule, Memory>
         ensures { IfOk result (λ copy. rule_tree copy ≡ rule_tree self.now) }
     {
@@ -127,7 +150,11 @@ impl TreeNode for Rule {
 }
 
 impl Stmt {
-    /// A copy of the statement, or `Memory` where there was no room for one.
+    /// A copy of the statement.
+    ///
+    /// # Errors
+    ///
+    /// `Memory` if an allocation was refused.
     pub fn try_clone(&self) -> Result<Stmt, Memory>
         ensures { IfOk result (λ copy. statement copy ≡ statement self.now) }
     {
@@ -155,7 +182,11 @@ impl TreeNode for Stmt {
 }
 
 impl Match {
-    /// A copy of the match, or `Memory` where there was no room for one.
+    /// A copy of the match.
+    ///
+    /// # Errors
+    ///
+    /// `Memory` if an allocation was refused.
     pub fn try_clone(&self) -> Result<Match, Memory>
         ensures { IfOk result (λ copy. match_tree copy ≡ match_tree self.now) }
     {
@@ -177,10 +208,16 @@ impl Match {
 }
 
 impl Masked {
-    /// A copy of the flags and their mask, or `Memory` where there was no room for one.
+    /// A copy of the flags and their mask.
+    ///
+    /// # Errors
+    ///
+    /// `Memory` if an allocation was refused.
     pub fn try_clone(&self) -> Result<Masked, Memory>
-        ensures wanted { IfOk result (λ copy. map flag_tree copy.wanted.items ≡ map flag_tree self.now.wanted.items) }
-        ensures mask { IfOk result (λ copy. map flag_tree copy.mask.items ≡ map flag_tree self.now.mask.items) }
+        ensures wanted { IfOk result
+            (λ copy. map flag_tree copy.wanted.items ≡ map flag_tree self.now.wanted.items) }
+        ensures mask { IfOk result (λ copy. map flag_tree copy.mask.items
+            ≡ map flag_tree self.now.mask.items) }
     {
         Ok(Masked {
             wanted: copies(&self.wanted)?,
@@ -190,7 +227,11 @@ impl Masked {
 }
 
 impl Flag {
-    /// A copy of the flag, or `Memory` where there was no room for one.
+    /// A copy of the flag.
+    ///
+    /// # Errors
+    ///
+    /// `Memory` if an allocation was refused.
     pub fn try_clone(&self) -> Result<Flag, Memory>
         ensures { IfOk result (λ copy. flag_tree copy ≡ flag_tree self.now) }
     {
@@ -212,7 +253,11 @@ impl TreeNode for Flag {
 }
 
 impl Operand {
-    /// A copy of the operand, or `Memory` where there was no room for one.
+    /// A copy of the operand.
+    ///
+    /// # Errors
+    ///
+    /// `Memory` if an allocation was refused.
     pub fn try_clone(&self) -> Result<Operand, Memory>
         ensures { IfOk result (λ copy. operand_tree copy ≡ operand_tree self.now) }
     {
@@ -225,7 +270,11 @@ impl Operand {
 }
 
 impl MapLookup {
-    /// A copy of the look-up, or `Memory` where there was no room for one.
+    /// A copy of the lookup.
+    ///
+    /// # Errors
+    ///
+    /// `Memory` if an allocation was refused.
     pub fn try_clone(&self) -> Result<MapLookup, Memory>
         ensures { IfOk result (λ copy. map_lookup_tree copy ≡ map_lookup_tree self.now) }
     {
@@ -237,7 +286,11 @@ impl MapLookup {
 }
 
 impl MapRef {
-    /// A copy of the map's name or elements, or `Memory` where there was no room for one.
+    /// A copy of the reference.
+    ///
+    /// # Errors
+    ///
+    /// `Memory` if an allocation was refused.
     pub fn try_clone(&self) -> Result<MapRef, Memory>
         ensures { IfOk result (λ copy. map_ref_tree copy ≡ map_ref_tree self.now) }
     {
@@ -249,7 +302,11 @@ impl MapRef {
 }
 
 impl SetRef {
-    /// A copy of the set's name or elements, or `Memory` where there was no room for one.
+    /// A copy of the reference.
+    ///
+    /// # Errors
+    ///
+    /// `Memory` if an allocation was refused.
     pub fn try_clone(&self) -> Result<SetRef, Memory>
         ensures { IfOk result (λ copy. set_ref_tree copy ≡ set_ref_tree self.now) }
     {
@@ -261,7 +318,11 @@ impl SetRef {
 }
 
 impl Verdict {
-    /// A copy of the verdict, or `Memory` where there was no room for one.
+    /// A copy of the verdict.
+    ///
+    /// # Errors
+    ///
+    /// `Memory` if an allocation was refused.
     pub fn try_clone(&self) -> Result<Verdict, Memory>
         ensures { IfOk result (λ copy. verdict_tree copy ≡ verdict_tree self.now) }
     {
@@ -277,7 +338,11 @@ impl Verdict {
 }
 
 impl SetDecl {
-    /// A copy of the set, or `Memory` where there was no room for one.
+    /// A copy of the set.
+    ///
+    /// # Errors
+    ///
+    /// `Memory` if an allocation was refused.
     pub fn try_clone(&self) -> Result<SetDecl, Memory>
         ensures { IfOk result (λ copy. set_tree copy ≡ set_tree self.now) }
     {
@@ -298,7 +363,11 @@ impl SetDecl {
 }
 
 impl MapDecl {
-    /// A copy of the map, or `Memory` where there was no room for one.
+    /// A copy of the map.
+    ///
+    /// # Errors
+    ///
+    /// `Memory` if an allocation was refused.
     pub fn try_clone(&self) -> Result<MapDecl, Memory>
         ensures { IfOk result (λ copy. map_tree copy ≡ map_tree self.now) }
     {
@@ -319,7 +388,11 @@ impl MapDecl {
 }
 
 impl SetType {
-    /// A copy of the type, or `Memory` where there was no room for one.
+    /// A copy of the type.
+    ///
+    /// # Errors
+    ///
+    /// `Memory` if an allocation was refused.
     pub fn try_clone(&self) -> Result<SetType, Memory>
         ensures { IfOk result (λ copy. set_type_tree copy ≡ set_type_tree self.now) }
     {
@@ -331,7 +404,11 @@ impl SetType {
 }
 
 impl Element {
-    /// A copy of the element, or `Memory` where there was no room for one.
+    /// A copy of the element.
+    ///
+    /// # Errors
+    ///
+    /// `Memory` if an allocation was refused.
     pub fn try_clone(&self) -> Result<Element, Memory>
         ensures { IfOk result (λ copy. element_tree copy ≡ element_tree self.now) }
     {
@@ -353,7 +430,11 @@ impl TreeNode for Element {
 }
 
 impl Key {
-    /// A copy of the key, or `Memory` where there was no room for one.
+    /// A copy of the key.
+    ///
+    /// # Errors
+    ///
+    /// `Memory` if an allocation was refused.
     pub fn try_clone(&self) -> Result<Key, Memory>
         ensures { IfOk result (λ copy. key_tree copy ≡ key_tree self.now) }
     {
@@ -365,7 +446,11 @@ impl Key {
 }
 
 impl Pair {
-    /// A copy of the pair, or `Memory` where there was no room for one.
+    /// A copy of the pair.
+    ///
+    /// # Errors
+    ///
+    /// `Memory` if an allocation was refused.
     pub fn try_clone(&self) -> Result<Pair, Memory>
         ensures { IfOk result (λ copy. pair_tree copy ≡ pair_tree self.now) }
     {
@@ -388,7 +473,11 @@ impl TreeNode for Pair {
 }
 
 impl Data {
-    /// A copy of the data, or `Memory` where there was no room for one.
+    /// A copy of the data.
+    ///
+    /// # Errors
+    ///
+    /// `Memory` if an allocation was refused.
     pub fn try_clone(&self) -> Result<Data, Memory>
         ensures { IfOk result (λ copy. data_tree copy ≡ data_tree self.now) }
     {
@@ -400,7 +489,11 @@ impl Data {
 }
 
 impl ValueRange {
-    /// A copy of the range, or `Memory` where there was no room for one.
+    /// A copy of the range.
+    ///
+    /// # Errors
+    ///
+    /// `Memory` if an allocation was refused.
     pub fn try_clone(&self) -> Result<ValueRange, Memory>
         ensures { IfOk result (λ copy. range_tree copy ≡ range_tree self.now) }
     {
@@ -416,7 +509,11 @@ impl ValueRange {
 }
 
 impl Value {
-    /// A copy of the value, or `Memory` where there was no room for one.
+    /// A copy of the value.
+    ///
+    /// # Errors
+    ///
+    /// `Memory` if an allocation was refused.
     pub fn try_clone(&self) -> Result<Value, Memory>
         ensures { IfOk result (λ copy. value_tree copy ≡ value_tree self.now) }
     {
@@ -440,7 +537,11 @@ impl TreeNode for Value {
 }
 
 impl Nat {
-    /// A copy of the translation, or `Memory` where there was no room for one.
+    /// A copy of the NAT statement.
+    ///
+    /// # Errors
+    ///
+    /// `Memory` if an allocation was refused.
     pub fn try_clone(&self) -> Result<Nat, Memory>
         ensures { IfOk result (λ copy. nat_tree copy ≡ nat_tree self.now) }
     {
@@ -454,7 +555,11 @@ impl Nat {
 }
 
 impl SourceTarget {
-    /// A copy of the target, or `Memory` where there was no room for one.
+    /// A copy of the target.
+    ///
+    /// # Errors
+    ///
+    /// `Memory` if an allocation was refused.
     pub fn try_clone(&self) -> Result<SourceTarget, Memory>
         ensures { IfOk result (λ copy. source_tree copy ≡ source_tree self.now) }
     {
@@ -466,7 +571,11 @@ impl SourceTarget {
 }
 
 impl DestinationTarget {
-    /// A copy of the target, or `Memory` where there was no room for one.
+    /// A copy of the target.
+    ///
+    /// # Errors
+    ///
+    /// `Memory` if an allocation was refused.
     pub fn try_clone(&self) -> Result<DestinationTarget, Memory>
         ensures { IfOk result (λ copy. destination_tree copy ≡ destination_tree self.now) }
     {

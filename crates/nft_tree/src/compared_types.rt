@@ -1,4 +1,4 @@
-//! What counts of a type where two are compared.
+//! The types by which keys, data and operands are compared.
 ghost use Rattle.std.specs.Prelude.{◌≡◌, length, slice_get};
 ghost use Rattle.nft_tree.specs.ComparedTypes.{key_compared_types, map_data_compared_type, map_key_compared_type, selector_compared_type};
 ghost use Rattle.nft_tree.specs.Tree.{set_type_tree};
@@ -6,8 +6,8 @@ ghost use Rattle.nft_tree.specs.Tree.{set_type_tree};
 use crate::selector::{Selector, ValueType};
 use crate::set::{MapType, SelectorOrVerdict, SetType, TypeOrVerdict};
 
-/// A type by its name, or by its width in bits where it has none (`ip ttl`, `ip length`,
-/// `meta length`): two types are the same where these are.
+/// A data type by its name, or by its width in bits where it has none (`ip ttl`, `ip length`, `meta
+/// length`). Two values may be compared if these are equal.
 #[derive(Clone, Copy, PartialEq, Eq)]
 pub enum ComparedType {
     Named(ValueType),
@@ -15,7 +15,7 @@ pub enum ComparedType {
 }
 
 impl Selector {
-    /// The kind of what the selector reads.
+    /// The type of what the selector reads.
     pub fn kind(self) -> ComparedType
         ensures { result ≡ selector_compared_type self }
     {
@@ -27,7 +27,7 @@ impl Selector {
 }
 
 impl SetType {
-    /// How many parts the set's keys have.
+    /// The number of components of the set's key: more than one in a concatenation.
     pub fn parts(&self) -> usize
         ensures { result ≡ length (key_compared_types (set_type_tree self.now)) }
     {
@@ -37,7 +37,7 @@ impl SetType {
         }
     }
 
-    /// The kind of that part of the set's keys, counted from 0; `None` past the last.
+    /// The type of a component of the set's key, counted from 0; `None` past the last.
     pub fn kind(&self, part: usize) -> Option<ComparedType>
         ensures { result ≡ slice_get (key_compared_types (set_type_tree self.now)) part }
     {
@@ -49,7 +49,7 @@ impl SetType {
 }
 
 impl MapType {
-    /// The kind of the map's keys.
+    /// The type of the map's keys.
     pub fn key(self) -> ComparedType
         ensures { result ≡ map_key_compared_type self }
     {
@@ -59,7 +59,7 @@ impl MapType {
         }
     }
 
-    /// The kind of the map's data; `None` where they are verdicts.
+    /// The type of the map's data; `None` in a verdict map.
     pub fn data(self) -> Option<ComparedType>
         ensures { result ≡ map_data_compared_type self }
     {

@@ -1,8 +1,8 @@
-//! The tree of a ruleset, as a reader of nft(8) knows it.
+//! The abstract syntax tree of a ruleset (nft(8)).
 //!
-//! It holds what the text says and nothing of how it is spelled: no blanks, no line ends, no
-//! separators that mean the same. Contracts compare trees by their mirrors in `specs/Tree.antt`,
-//! which leave out where a vector lies in memory and how much room it has.
+//! It holds what the text means and nothing of its spelling: no blanks, newlines or equivalent
+//! separators. Contracts compare trees by their models in `specs/Tree.antt`, which leave out
+//! addresses and capacities.
 #![tactic(auto)]
 
 mod chain;

@@ -1,8 +1,8 @@
-//! Room in memory.
+//! Refused allocations.
 use std::alloc::{AllocError, AllocFailed};
 use thiserror::Error;
 
-/// There was no room to grow.
+/// An allocation was refused.
 #[derive(Clone, Copy, Debug, Drop, Error)]
 #[error("memory")]
 pub struct Memory;

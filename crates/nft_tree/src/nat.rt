@@ -1,34 +1,34 @@
-//! Translation of addresses.
+//! NAT statements (nft(8), "NAT statements").
 use crate::statement::MapLookup;
 
-/// A statement that translates.
+/// A NAT statement.
 #[derive(Drop)]
 pub enum Nat {
     /// `snat to`
     Source(SourceTarget),
     /// `dnat to`
     Destination(DestinationTarget),
-    /// `masquerade`, to the ports
+    /// `masquerade`, with the ports to choose from
     Masquerade(Option<PortRange>),
-    /// `redirect`, to the port
+    /// `redirect`, with the new destination port
     Redirect(Option<u64>),
 }
 
-/// What a source becomes.
+/// The new source of `snat`.
 #[derive(Drop)]
 pub enum SourceTarget {
     Address(u32, Option<PortRange>),
     MapLookup(MapLookup),
 }
 
-/// What a destination becomes.
+/// The new destination of `dnat`.
 #[derive(Drop)]
 pub enum DestinationTarget {
     Address(u32, Option<u64>),
     MapLookup(MapLookup),
 }
 
-/// A port, or the ports from one to another.
+/// A port, or a range of ports, both ends included.
 #[derive(Clone, Copy)]
 pub enum PortRange {
     One(u64),

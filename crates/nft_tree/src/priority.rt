@@ -1,11 +1,11 @@
-//! The numbers of priorities (nft(8), "Chains").
+//! Priorities as numbers (nft(8), "Chains").
 ghost use Rattle.std.specs.Prelude.{◌≡◌};
 ghost use Rattle.nft_tree.specs.Priorities.{name_number, priority_number};
 
 use crate::chain::{OffsetSign, Priority, PriorityName};
 
 impl PriorityName {
-    /// The number that the name stands for.
+    /// The number of the standard name.
     pub fn number(self) -> i128
         ensures { result ≡ name_number self }
     {
@@ -21,7 +21,7 @@ impl PriorityName {
 }
 
 impl Priority {
-    /// The number of the priority, which may be out of the 32 bits that it is to have.
+    /// The number of the priority. It may exceed the 32 bits that the kernel has for it.
     pub fn number(self) -> i128
         ensures { result ≡ priority_number self }
     {

@@ -1,8 +1,8 @@
-//! Rulesets and tables.
+//! Rulesets and tables (nft(8), "Ruleset", "Tables").
 use crate::chain::Chain;
 use crate::set::{MapDecl, SetDecl};
 
-/// All tables of a text, in text order.
+/// A ruleset: its tables, in text order.
 #[derive(Drop)]
 pub struct Ruleset {
     pub tables: Vec<Table>,
@@ -17,14 +17,14 @@ pub struct Table {
     pub items: Vec<Item>,
 }
 
-/// The packets that a table sees. A table without a family is of `ip`.
+/// The address family of a table. A table that names none has family `ip`.
 #[derive(Clone, Copy, PartialEq, Eq)]
 pub enum Family {
     Ip,
     Inet,
 }
 
-/// What a table holds.
+/// An item of a table.
 pub enum Item {
     /// `comment "TEXT"`
     Comment(Vec<u8>),
@@ -44,8 +44,8 @@ impl Drop for Item {
     }
 }
 
-/// The place of a rule: its table and its chain within the table from 0, in text order, and the
-/// rule's number within its chain, from 1.
+/// The number of a rule: its table and its chain within the table, both counted from 0 in text
+/// order, and the rule within its chain, counted from 1.
 #[derive(Clone, Copy)]
 pub struct RuleNo {
     pub table: u32,

@@ -1,6 +1,6 @@
-//! What matches read of a packet, and the types of values.
+//! Selectors, and the data types of what they read (nft(8), "Expressions", "Data types").
 
-/// What a match reads of a packet.
+/// The field of a packet, of its metadata or of its connection that a match reads.
 #[derive(Clone, Copy)]
 pub enum Selector {
     /// `ip saddr`
@@ -55,7 +55,7 @@ pub enum Selector {
     CtStatus,
 }
 
-/// The named types of values.
+/// A data type by its name (nft(8), "Data types").
 #[derive(Clone, Copy, PartialEq, Eq)]
 pub enum ValueType {
     /// `ipv4_addr`

@@ -1,9 +1,9 @@
-//! Sets, maps and their elements.
+//! Sets, maps and their elements (nft(8), "Sets", "Maps", "Elements").
 use crate::selector::{Selector, ValueType};
 use crate::statement::Verdict;
 use crate::values::{Value, ValueRange};
 
-/// A named set: `set NAME { .. }`. Its fields may stand in any order.
+/// A named set: `set NAME { .. }`. Its fields may be in any order.
 #[derive(Drop)]
 pub struct SetDecl {
     pub name: Vec<u8>,
@@ -15,7 +15,7 @@ pub struct SetDecl {
     pub elements: Option<Vec<Element>>,
 }
 
-/// A named map: `map NAME { .. }`. Its fields may stand in any order.
+/// A named map: `map NAME { .. }`. Its fields may be in any order.
 #[derive(Drop)]
 pub struct MapDecl {
     pub name: Vec<u8>,
@@ -27,7 +27,7 @@ pub struct MapDecl {
     pub elements: Option<Vec<Pair>>,
 }
 
-/// What a set's elements are: types by name, or those of selectors. More than one are joined.
+/// The type of a set's key: data types, or those of selectors. More than one is a concatenation.
 #[derive(Drop)]
 pub enum SetType {
     /// `type TYPE . TYPE`
@@ -36,7 +36,7 @@ pub enum SetType {
     Selectors(Vec<Selector>),
 }
 
-/// What a map's keys and data are.
+/// The types of a map's key and data.
 #[derive(Clone, Copy)]
 pub enum MapType {
     /// `type TYPE : TYPE`
@@ -45,25 +45,28 @@ pub enum MapType {
     Selectors(Selector, SelectorOrVerdict),
 }
 
+/// The type of a map's data, after `type`.
 #[derive(Clone, Copy)]
 pub enum TypeOrVerdict {
     Type(ValueType),
     Verdict,
 }
 
+/// The type of a map's data, after `typeof`.
 #[derive(Clone, Copy)]
 pub enum SelectorOrVerdict {
     Selector(Selector),
     Verdict,
 }
 
+/// A flag of a set or a map.
 #[derive(Clone, Copy)]
 pub enum SetFlag {
     Constant,
     Interval,
 }
 
-/// An element of a set, and its comment.
+/// An element of a set, with its comment.
 pub struct Element {
     pub key: Key,
     pub comment: Option<Vec<u8>>,
@@ -75,7 +78,7 @@ impl Drop for Element {
     }
 }
 
-/// What an element holds: a value, a range or a prefix, or values joined.
+/// The key of an element: a value, a range, a prefix or a concatenation of values.
 #[derive(Drop)]
 pub enum Key {
     Single(ValueRange),
@@ -83,7 +86,7 @@ pub enum Key {
     Joined(Vec<Value>),
 }
 
-/// An element of a map: a key, its comment, and the data.
+/// An element of a map: key, comment and data.
 pub struct Pair {
     pub key: ValueRange,
     pub comment: Option<Vec<u8>>,

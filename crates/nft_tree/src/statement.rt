@@ -1,13 +1,13 @@
-//! Statements of rules.
+//! Statements (nft(8), "Statements", "Expressions").
 use crate::nat::Nat;
 use crate::selector::Selector;
 use crate::set::{Element, Pair};
 use crate::values::ValueRange;
 
-/// One statement of a rule.
+/// A statement of a rule.
 pub enum Stmt {
     Match(Match),
-    /// `counter`, with its start
+    /// `counter`, with its initial value
     Counter(Option<CounterStart>),
     /// `log`, with its prefix
     Log(Option<Vec<u8>>),
@@ -21,8 +21,8 @@ pub enum Stmt {
     Nat(Nat),
 }
 
-/// Written out, as those of rules, items, elements and pairs, so that crates that drop lists of
-/// them prove no more than a call.
+/// Written out, as for rules, items, elements and pairs: a crate that drops a list of them then
+/// proves a call and not each field's drop.
 impl Drop for Stmt {
     fn drop(self) {
         match self {
@@ -38,21 +38,21 @@ impl Drop for Stmt {
     }
 }
 
-/// Where a counter begins: `packets NUMBER bytes NUMBER`.
+/// The initial value of a counter: `packets NUMBER bytes NUMBER`.
 #[derive(Clone, Copy)]
 pub struct CounterStart {
     pub packets: u64,
     pub bytes: u64,
 }
 
-/// The marks: the packet's and the connection's.
+/// The mark of the packet, or that of its connection.
 #[derive(Clone, Copy)]
 pub enum MarkField {
     Meta,
     Ct,
 }
 
-/// What a mark is set to.
+/// The new value of a mark.
 #[derive(Drop)]
 pub enum Operand {
     Number(u64),
@@ -60,28 +60,28 @@ pub enum Operand {
     MapLookup(MapLookup),
 }
 
-/// A look-up: `SELECTOR map MAP`.
+/// A map lookup: `SELECTOR map MAP`.
 #[derive(Drop)]
 pub struct MapLookup {
     pub selector: Selector,
     pub map: MapRef,
 }
 
-/// A map by its name, `@NAME`, or by its elements.
+/// A named map, `@NAME`, or an anonymous one.
 #[derive(Drop)]
 pub enum MapRef {
     Named(Vec<u8>),
     Anonymous(Vec<Pair>),
 }
 
-/// A set by its name, `@NAME`, or by its elements.
+/// A named set, `@NAME`, or an anonymous one.
 #[derive(Drop)]
 pub enum SetRef {
     Named(Vec<u8>),
     Anonymous(Vec<Element>),
 }
 
-/// What a rule decides of a packet.
+/// A verdict (nft(8), "Verdict statement").
 #[derive(Drop)]
 pub enum Verdict {
     Accept,
@@ -92,7 +92,7 @@ pub enum Verdict {
     Goto(Vec<u8>),
 }
 
-/// How a value is compared.
+/// A comparison operator.
 #[derive(Clone, Copy)]
 pub enum Operator {
     /// `==`, or no operator
@@ -109,28 +109,28 @@ pub enum Operator {
     AtLeast,
 }
 
-/// A test of a packet.
+/// A match: the test of a packet.
 #[derive(Drop)]
 pub enum Match {
     /// A selector against a value, a range or a prefix.
     Compare(Selector, Operator, ValueRange),
-    /// Selectors, joined, in a set.
+    /// A selector, or a concatenation of them, that is in a set.
     In(Vec<Selector>, SetRef),
-    /// Selectors, joined, in no element of a set.
+    /// A selector, or a concatenation of them, that is in no element of a set.
     NotIn(Vec<Selector>, SetRef),
     /// `ct state` or `ct status` against named bits.
     Bits(BitField, BitTest, Vec<Vec<u8>>),
-    /// `tcp flags FLAGS`: one of them at least is set.
+    /// `tcp flags FLAGS`: at least one of them is set.
     AnyFlag(Vec<Flag>),
-    /// `tcp flags == FLAGS`: these and no other are set.
+    /// `tcp flags == FLAGS`: exactly these are set.
     ExactFlags(Vec<Flag>),
-    /// `tcp flags WANTED / MASK`: of the mask's flags those wanted are set, and no other.
+    /// `tcp flags WANTED / MASK`: of the mask's flags, exactly the wanted ones are set.
     MaskedFlags(Masked),
-    /// The same with `!=`: not so.
+    /// `tcp flags != WANTED / MASK`, the negation.
     MaskedFlagsUnequal(Masked),
 }
 
-/// What bits are tested: those of `ct state` or of `ct status`.
+/// The bit field that is tested.
 #[derive(Clone, Copy)]
 pub enum BitField {
     State,
@@ -140,22 +140,22 @@ pub enum BitField {
 /// How bits are tested.
 #[derive(Clone, Copy)]
 pub enum BitTest {
-    /// No operator: one of the named bits at least is set.
+    /// No operator: at least one of the named bits is set.
     Any,
-    /// `==`: the value is all the named bits and no other.
+    /// `==`: exactly the named bits are set.
     Exactly,
     /// `!=`: none of the named bits is set.
     None,
 }
 
-/// Flags under a mask.
+/// TCP flags under a mask.
 #[derive(Drop)]
 pub struct Masked {
     pub wanted: Vec<Flag>,
     pub mask: Vec<Flag>,
 }
 
-/// A flag of TCP by its word, or bits by their number.
+/// A TCP flag by its name, or flags as a number.
 #[derive(Drop)]
 pub enum Flag {
     Word(Vec<u8>),

@@ -1,4 +1,4 @@
-//! What stands in a table, the rule of a number, and what a rule counts.
+//! A table's items by kind and number, and the initial values of counters.
 ghost use Rattle.std.specs.Prelude.{◌≡◌, slice_get};
 ghost use Rattle.std.specs.Option.{option_map};
 ghost use Rattle.nft_tree.specs.Tree.{chain_tree, item_tree, map_tree, rule_tree, set_tree, statement, table_tree, tables_of};
@@ -10,7 +10,7 @@ use crate::set::{MapDecl, SetDecl};
 use crate::statement::{CounterStart, Stmt};
 
 impl Item {
-    /// The chain that the item is, if it is one.
+    /// The chain, if the item is one.
     pub fn chain(&self) -> Option<&Chain>
         ensures { option_map (λ c. chain_tree c.now) result ≡ chain_in (item_tree self.now) }
     {
@@ -20,7 +20,7 @@ impl Item {
         }
     }
 
-    /// The set that the item is, if it is one.
+    /// The set, if the item is one.
     pub fn set(&self) -> Option<&SetDecl>
         ensures { option_map (λ s. set_tree s.now) result ≡ set_in (item_tree self.now) }
     {
@@ -30,7 +30,7 @@ impl Item {
         }
     }
 
-    /// The map that the item is, if it is one.
+    /// The map, if the item is one.
     pub fn map(&self) -> Option<&MapDecl>
         ensures { option_map (λ m. map_tree m.now) result ≡ map_in (item_tree self.now) }
     {
@@ -42,9 +42,10 @@ impl Item {
 }
 
 impl Table {
-    /// The chain of that number among the table's chains, from 0 in text order.
+    /// The table's chain of this number, counted from 0 in text order.
     pub fn chain(&self, number: usize) -> Option<&Chain>
-        ensures { option_map (λ c. chain_tree c.now) result ≡ slice_get (chains_of (table_tree self.now)) number }
+        ensures { option_map (λ c. chain_tree c.now) result
+            ≡ slice_get (chains_of (table_tree self.now)) number }
     {
         let mut left = number;
         for item in &self.items {
@@ -60,9 +61,10 @@ impl Table {
 }
 
 impl Chain {
-    /// The rule of that number, from 1.
+    /// The chain's rule of this number, counted from 1.
     pub fn rule(&self, number: usize) -> Option<&Rule>
-        ensures { option_map (λ r. rule_tree r.now) result ≡ numbered_from_one (chain_tree self.now).rules number }
+        ensures { option_map (λ r. rule_tree r.now) result
+            ≡ numbered_from_one (chain_tree self.now).rules number }
     {
         if number == 0 {
             return None;
@@ -72,25 +74,27 @@ impl Chain {
 }
 
 impl Ruleset {
-    /// The chain that holds the rule of that number.
+    /// The chain that holds the rule of this number.
     pub fn chain(&self, number: RuleNo) -> Option<&Chain>
-        ensures { option_map (λ c. chain_tree c.now) result ≡ chain_numbered (tables_of self.now) number }
+        ensures { option_map (λ c. chain_tree c.now) result
+            ≡ chain_numbered (tables_of self.now) number }
     {
         self.tables
             .get(number.table as usize)?
             .chain(number.chain as usize)
     }
 
-    /// The rule of that number.
+    /// The rule of this number.
     pub fn rule(&self, number: RuleNo) -> Option<&Rule>
-        ensures { option_map (λ r. rule_tree r.now) result ≡ rule_numbered (tables_of self.now) number }
+        ensures { option_map (λ r. rule_tree r.now) result
+            ≡ rule_numbered (tables_of self.now) number }
     {
         self.chain(number)?.rule(number.rule as usize)
     }
 }
 
 impl Stmt {
-    /// Where the statement begins to count, if it is a counter: at nothing where it has no start.
+    /// The initial packets and bytes, if the statement is a counter: zero where none are given.
     pub fn counter(&self) -> Option<CounterStart>
         ensures { result ≡ counter_in (statement self.now) }
     {

@@ -1,16 +1,14 @@
-//! Copies of lists.
-//!
-//! What a list holds shows a tree, and a copy of a list shows the same trees in the same order.
+//! Lists of tree nodes, and their copies.
 ghost use Rattle.nft_tree.specs.Tree.{Text};
 ghost use Rattle.std.specs.Prelude.{◌≡◌, map, IfOk};
 
 use crate::memory::Memory;
 
-/// What a list holds.
+/// An element of a list of the tree: it has a model, and can be copied.
 pub trait TreeNode: Drop {
     ghost Tree: { Type 0 };
 
-    /// What contracts compare of it.
+    /// The model: what contracts compare.
     ghost tree: { Self → Tree };
 
     fn try_copy(&self) -> Result<Self, Memory>
@@ -27,7 +25,7 @@ impl TreeNode for Vec<u8> {
     }
 }
 
-/// A list of copies.
+/// A copy of the list, element by element.
 pub(crate) fn copies<T: TreeNode>(items: &Vec<T>) -> Result<Vec<T>, Memory>
     ensures { IfOk result (λ copies. map T.tree copies.items ≡ map T.tree items.now.items) }
 {

@@ -1,5 +1,5 @@
-//! The types of values: which one a selector reads, how wide each is, and the numbers that their
-//! words stand for, as `nft describe` of nft(8) lists them.
+//! Data types: which one a selector reads, its width, and its symbolic constants, as `nft describe`
+//! lists them (nft(8), "Data types").
 ghost use Rattle.nft_tree.specs.ValueTypes.{entry_in, entry_of, type_named, type_width, selector_type, selector_width, words_of, number_in};
 ghost use Rattle.std.specs.Prelude.{◌≡◌, map, IfSome};
 
@@ -85,8 +85,8 @@ static CT_DIRECTIONS: [(&[u8], u32); 2] = [(b"original", 0), (b"reply", 1)];
 static CT_STATUSES: [(&[u8], u32); 3] = [(b"seen-reply", 2), (b"snat", 16), (b"dnat", 32)];
 
 impl Selector {
-    /// The type of what the selector reads; `None` where the type has no name (`ip ttl`,
-    /// `ip length`, `meta length`).
+    /// The data type of what the selector reads; `None` where it is a plain integer (`ip ttl`, `ip
+    /// length`, `meta length`).
     pub fn value_type(self) -> Option<ValueType>
         ensures { result ≡ selector_type self }
     {
@@ -112,7 +112,7 @@ impl Selector {
         }
     }
 
-    /// The width in bits of what the selector reads: that of its type, where the type has a name.
+    /// The width in bits of what the selector reads: that of its data type, if it has one.
     pub fn width(self) -> u32
         ensures table { result ≡ selector_width self }
         ensures by_type { IfSome (selector_type self) (λ value_type. result ≡ type_width value_type) }
@@ -147,7 +147,7 @@ impl Selector {
 }
 
 impl ValueType {
-    /// The type of that name, as in `type ipv4_addr`; `None` where no type has it.
+    /// The data type of this name, as in `type ipv4_addr`.
     pub fn named(name: &[u8]) -> Option<ValueType>
         ensures { result ≡ type_named name.now }
     {
@@ -174,15 +174,15 @@ impl ValueType {
         }
     }
 
-    /// The number that a word stands for in the type: `ssh` is 22 as an `inet_service`. `None`
-    /// where the type doesn't list the word.
+    /// The number of a symbolic constant: `ssh` is 22 as an `inet_service`. `None` if the type has
+    /// no such constant.
     pub fn number_of(self, word: &[u8]) -> Option<u32>
         ensures { result ≡ number_in (words_of self) word.now }
     {
         find(self.words(), word)
     }
 
-    /// The words that the type lists, each with the number that it stands for.
+    /// The symbolic constants of the type.
     fn words(self) -> &'static [(&'static [u8], u32)]
         ensures { map entry_of result.now ≡ words_of self }
     {
@@ -203,7 +203,7 @@ impl ValueType {
     }
 }
 
-/// What the first entry of the name means.
+/// The value of the first entry with this name.
 fn find<T: Copy>(entries: &[(&'static [u8], T)], name: &[u8]) -> Option<T>
     ensures { result ≡ entry_in (map entry_of entries.now) name.now }
 {

@@ -1,18 +1,18 @@
-//! Values as they are written.
+//! Literals.
 
-/// A value as it is written; what it stands for depends on its type. Texts are boxed since nearly
-/// all values are numbers and addresses, and lists of elements and rules are long.
+/// A literal; what it denotes depends on the data type. Words and strings are boxed, since nearly
+/// all literals are numbers and addresses and there are many of them.
 #[derive(Drop)]
 pub enum Value {
     Number(u64),
-    /// An IPv4 address, its first group the highest byte.
+    /// An IPv4 address in host byte order: the first octet is the most significant.
     Address(u32),
     Word(Box<Vec<u8>>),
     /// The bytes between the quotes.
     String(Box<Vec<u8>>),
 }
 
-/// One value, a range or a prefix.
+/// A literal, a range or a prefix.
 #[derive(Drop)]
 pub enum ValueRange {
     One(Value),

@@ -1,11 +1,11 @@
-//! How many rules and chains a ruleset has. Sums stop at `usize::MAX`, which no text reaches.
+//! The numbers of rules and chains. Sums saturate at `usize::MAX`, which no text reaches.
 ghost use Rattle.std.specs.Prelude.{◌≡◌, min};
 ghost use Rattle.nft_tree.specs.Tree.{item_tree, tables_of};
 ghost use Rattle.rule_limits.specs.Limits.{chain_count, item_chains, item_rules, rule_count};
 
 use nft_tree::{Item, Ruleset, sum};
 
-/// The rules of all chains.
+/// The number of rules in all chains.
 pub fn rule_count(tree: &Ruleset) -> usize
     ensures { result ≡ min (rule_count (tables_of tree.now)) usize.MAX }
 {
@@ -21,7 +21,7 @@ fn item_rules(item: &Item) -> usize
     }
 }
 
-/// The chains of all tables.
+/// The number of chains in all tables.
 pub fn chain_count(tree: &Ruleset) -> usize
     ensures { result ≡ min (chain_count (tables_of tree.now)) usize.MAX }
 {

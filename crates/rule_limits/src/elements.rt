@@ -1,5 +1,5 @@
-//! How many elements sets and maps have, those without a name included. Sums stop at `usize::MAX`,
-//! which is far over the limit.
+//! The numbers of elements of sets and maps, named and anonymous. Sums saturate at `usize::MAX`,
+//! far over the limit.
 ghost use Rattle.std.specs.Prelude.{◌≡◌, min};
 ghost use Rattle.nft_tree.specs.Tree.{item_tree, map_ref_tree, set_ref_tree, statement, tables_of};
 ghost use Rattle.rule_limits.specs.Limits.{element_count, item_elements, map_ref_elements, set_ref_elements, statement_elements};
@@ -9,14 +9,14 @@ use nft_tree::{
     Stmt, sum,
 };
 
-/// The elements of all sets and maps.
+/// The number of elements in all sets and maps.
 pub fn element_count(tree: &Ruleset) -> usize
     ensures { result ≡ min (element_count (tables_of tree.now)) usize.MAX }
 {
     sum(&tree.tables, |table| sum(&table.items, item_elements))
 }
 
-/// The elements of a set or a map with a name, or of those without one in a chain.
+/// The number of elements of a named set or map, or of the anonymous ones in a chain.
 fn item_elements(item: &Item) -> usize
     ensures { result ≡ min (item_elements (item_tree item.now)) usize.MAX }
 {
@@ -31,7 +31,7 @@ fn item_elements(item: &Item) -> usize
     }
 }
 
-/// The elements of the set or the map without a name in a statement.
+/// The number of elements of the anonymous set or map in a statement.
 fn statement_elements(stmt: &Stmt) -> usize
     ensures { result ≡ min (statement_elements (statement stmt.now)) usize.MAX }
 {

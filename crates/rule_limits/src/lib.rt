@@ -1,4 +1,4 @@
-//! How large a ruleset is, and may be.
+//! The size of a ruleset, and its limits.
 #![tactic(auto)]
 
 ghost use Rattle.std.specs.Prelude.{◌≡◌};
@@ -14,14 +14,14 @@ use elements::element_count;
 use nft_tree::Ruleset;
 use starts::some_start_too_high;
 
-/// A ruleset may have as many rules as this.
+/// The greatest number of rules.
 const MOST_RULES: usize = 16_384;
 
-/// The sets and maps of a ruleset may have as many elements as this.
+/// The greatest number of elements in all sets and maps.
 const MOST_ELEMENTS: usize = 65_536;
 
-/// Whether the ruleset has more than 16,384 rules, more than 65,536 elements in all its sets and
-/// maps, those without a name included, or a counter that starts over 2^62.
+/// Whether the ruleset has more than 16,384 rules, more than 65,536 elements in all sets and maps
+/// (anonymous ones included), or a counter with initial packets or bytes over 2^62.
 pub fn too_large(tree: &Ruleset) -> bool
     ensures { result ≡ too_large (tables_of tree.now) }
 {

@@ -1,14 +1,14 @@
-//! How high counters start.
+//! The initial values of counters.
 ghost use Rattle.std.specs.Prelude.{◌≡◌};
 ghost use Rattle.nft_tree.specs.Tree.{item_tree, statement, tables_of};
 ghost use Rattle.rule_limits.specs.Limits.{item_starts_too_high, some_start_too_high, starts_too_high};
 
 use nft_tree::{Item, Ruleset, Stmt, any};
 
-/// A counter may start as high as this.
+/// The greatest initial value of a counter: from there no run overflows 64 bits.
 const GREATEST_START: u64 = 1 << 62;
 
-/// Whether some counter starts over the greatest start.
+/// Whether some counter's initial value exceeds the limit.
 pub fn some_start_too_high(tree: &Ruleset) -> bool
     ensures { result ≡ some_start_too_high (tables_of tree.now) }
 {
@@ -27,7 +27,7 @@ fn item_starts_too_high(item: &Item) -> bool
     }
 }
 
-/// Whether the statement is a counter whose packets or bytes start too high.
+/// Whether the statement is a counter whose initial packets or bytes exceed the limit.
 fn starts_too_high(stmt: &Stmt) -> bool
     ensures { result ≡ starts_too_high (statement stmt.now) }
 {

@@ -1,4 +1,4 @@
-//! How few calls a run over thousands of records makes.
+//! A run over thousands of records makes few calls of its writers.
 use crate::support::{AT_1_5, BOX, HEADER, PLAIN, bytes, no_failures, run_over, shows};
 use hex::FromHexError;
 use std::alloc::{AllocError, Global};
@@ -7,7 +7,7 @@ use std::process::Abort;
 /// `PLAIN` from 192.168.1.11.
 const OTHER: &str = "4500001c0001000040118ee2c0a8010bc63364071388003500080000";
 
-/// A beginning, so many times the same piece, and an end.
+/// A beginning, a piece repeated, and an end.
 fn repeated(
     alloc: Global,
     beginning: &[u8],
@@ -19,14 +19,14 @@ fn repeated(
     [beginning, &pieces, end].concat(alloc)
 }
 
-/// 5,000 packets, by turns from one host and from another.
+/// 5,000 packets, from two hosts in turn.
 fn packets(alloc: Global) -> Result<Vec<u8>, FromHexError> {
     let header = bytes(alloc, &[HEADER])?;
     let pair = bytes(alloc, &[AT_1_5, PLAIN, AT_1_5, OTHER])?;
     Ok(repeated(alloc, &header, &pair, 2_500, b"")?)
 }
 
-/// 2,000 rules, of which only the last one matches, and drops what the first host sends.
+/// 2,000 rules of which only the last matches: it drops the first host's packets.
 fn rules(alloc: Global) -> Result<Vec<u8>, AllocError> {
     repeated(
         alloc,
@@ -37,7 +37,7 @@ fn rules(alloc: Global) -> Result<Vec<u8>, AllocError> {
     )
 }
 
-/// The calls of both writers in a run that goes through with all calls at once.
+/// The calls of both writers, in a run in which each call takes all bytes.
 fn calls<R: Abort + AllocGlobal>(rt: &R, rules: &[u8]) -> [u64; 2] {
     let capture = packets(rt.alloc()).expect(rt, "a capture");
     let device_settings = no_failures(usize::MAX);
@@ -48,8 +48,8 @@ fn calls<R: Abort + AllocGlobal>(rt: &R, rules: &[u8]) -> [u64; 2] {
     [sends, reports]
 }
 
-/// A packet that leaves takes 64 bytes, so 2,048 of them fill the sink's buffer of 131,072: there is a call for
-/// the header, one each time that the buffer is full, one for the rest, and a flush.
+/// A forwarded packet takes 64 bytes, so 2,048 of them fill the sink's buffer of 131,072: a call
+/// for the header, one for each full buffer, one for the rest, and a flush.
 #[test]
 fn thousands_of_records_take_few_calls(rt: HostRuntime) {
     assert!(&rt; calls(&rt, b"") == [5, 2]);

@@ -1,4 +1,4 @@
-//! The connections that an engine lists, whether it keeps them in a plain list or in slots as `run` does.
+//! The connections that an engine lists, with the plain list tracker and with the aged one.
 use crate::support::{BOX, bytes, hasher};
 use aged_tracker::AgedTracker;
 use box_file::Plant;
@@ -10,20 +10,20 @@ use rule_check::check;
 use std::process::Abort;
 use stepping::Engine;
 
-/// What leaves by `wan` gets a mark for its connection.
+/// Packets that leave by `wan` are masqueraded, and their connections marked.
 const ROUTER: &[u8] =
     b"table ip nat { chain post { type nat hook postrouting priority srcnat; oifname \"wan\" ct mark set 7 masquerade } }";
 
-/// Cooked headers: by `lan`, and by `wan`.
+/// SLL2 headers of packets from `lan` and from `wan`.
 const BY_LAN: &str = "0800000000000002000100060200000000010000";
 
 const BY_WAN: &str = "0800000000000003000100060200000000010000";
 
-/// A moment in nanoseconds, a link header and a packet.
+/// A time in nanoseconds, a link header and a packet.
 type Sent = (u64, &'static str, &'static str);
 
-/// From 192.168.1.11:6000 to 198.51.100.7:53; to the end 203.0.113.1:6000 that it then has outside from
-/// 192.168.1.10:5000, and from itself.
+/// From 192.168.1.11:6000 to 198.51.100.7:53; then to its external endpoint 203.0.113.1:6000, from
+/// 192.168.1.10:5000 and from itself.
 static TO_OWN_EXTERNAL: [Sent; 3] = [
     (
         0,
@@ -61,7 +61,7 @@ const BEFORE_THE_LIMIT: u64 = 299_999_999_999;
 
 const AT_THE_LIMIT: u64 = 300_000_000_000;
 
-/// 192.168.1.10:5000, .11:5000 and .11:6000, and the last one's end outside.
+/// 192.168.1.10:5000, .11:5000 and .11:6000, and the last one's external endpoint.
 const OTHER: Endpoint = Endpoint {
     address: 0xc0a8_010a,
     port: 5000,
@@ -97,13 +97,13 @@ const WEB_SERVER: Endpoint = Endpoint {
     port: 80,
 };
 
-/// A connection from inside: its kind, the end that began it and the one that it was sent to, the port
-/// that it has outside and the moment of its last packet.
+/// A connection from inside: its kind, its source and destination, its external port, and the time
+/// of its last packet.
 type Masqueraded = (Kind, Endpoint, Endpoint, u16, u64);
 
-/// The connections that are listed behind these records, in order of beginning: whatever it sends to, an
-/// internal end has one port outside; another host gets the next port of that parity, unless the first
-/// one's connection is over; a SYN opens a connection anew that was reset.
+/// The connections listed after these records, in the order of their creation. Whatever it sends
+/// to, an internal endpoint has one external port; another host gets the next port of that parity,
+/// unless the first one's connection has expired; a SYN recreates a connection that was reset.
 static LISTED: [(&[Sent], &[Masqueraded]); 4] = [
     (
         &[
@@ -134,7 +134,7 @@ static LISTED: [(&[Sent], &[Masqueraded]); 4] = [
     ),
 ];
 
-/// A router before its first record.
+/// A masquerading router, before its first record.
 fn router<R: Abort + AllocGlobal, T: Tracker>(rt: &R) -> Engine<T> {
     let hasher = hasher().expect(rt, "keys");
     let tree = parse(rt.alloc(), ROUTER).expect(rt, "rules");
@@ -143,7 +143,7 @@ fn router<R: Abort + AllocGlobal, T: Tracker>(rt: &R) -> Engine<T> {
     Engine::new(rt.alloc(), hasher, checked).expect(rt, "memory")
 }
 
-/// Takes a record, as long as there may be more.
+/// Steps a record, as long as there may be more.
 fn take<R: Abort + AllocGlobal, T: Tracker>(rt: &R, engine: &mut Engine<T>, sent: &Sent) {
     let (moment, link, packet) = *sent;
     let bytes = bytes(rt.alloc(), &[link, packet]).expect(rt, "a packet");
@@ -157,7 +157,7 @@ fn take<R: Abort + AllocGlobal, T: Tracker>(rt: &R, engine: &mut Engine<T>, sent
     }
 }
 
-/// What it lists behind these records.
+/// The connections that the engine lists after these records.
 fn listed_by<R: Abort + AllocGlobal, T: Tracker>(
     rt: &R,
     engine: &mut Engine<T>,
@@ -169,7 +169,7 @@ fn listed_by<R: Abort + AllocGlobal, T: Tracker>(
     engine.connections(rt.alloc()).expect(rt, "memory")
 }
 
-/// What a router lists behind these records.
+/// The connections that a router lists after these records.
 fn listed_after<R: Abort + AllocGlobal, T: Tracker>(rt: &R, records: &[Sent]) -> Vec<Connection> {
     let mut engine: Engine<T> = router(rt);
     listed_by(rt, &mut engine, records)
@@ -183,7 +183,7 @@ fn between(kind: Kind, source: Endpoint, destination: Endpoint) -> Tuple {
     }
 }
 
-/// The connection of a host inside that is masqueraded.
+/// A masqueraded connection of an internal host.
 fn masqueraded(connection: Masqueraded) -> Connection {
     let (kind, internal, peer, port, last) = connection;
     let external = Endpoint { port, ..EXTERNAL };
@@ -201,7 +201,7 @@ fn masqueraded(connection: Masqueraded) -> Connection {
     }
 }
 
-/// Whether just these are listed, in this order.
+/// Whether exactly these are listed, in this order.
 fn are_listed(all: &[Connection], expected: &[Masqueraded]) -> bool {
     all.len() == expected.len()
         && all.iter().zip(expected).all(|(connection, &expected_one)| *connection
@@ -218,7 +218,8 @@ fn live_connections_are_listed(rt: HostRuntime) {
     }
 }
 
-/// Whether a host, its neighbour and itself are listed, by the mapping of the host's end outside.
+/// Whether the host, its neighbour and itself are listed, by the mapping of the host's external
+/// endpoint.
 fn are_hairpins_to_the_own_host(all: &[Connection]) -> bool {
     if all.len() != 3 {
         return false;
@@ -242,8 +243,8 @@ fn are_hairpins_to_the_own_host(all: &[Connection]) -> bool {
         && all[2].dest == mapping
 }
 
-/// A host reaches its own end outside: packets back come as the first one does, and the connection
-/// is none that clashes with itself.
+/// Hairpinning to the host's own external endpoint: replies have the first packet's tuple, and the
+/// connection doesn't clash with itself.
 #[test]
 fn a_hairpin_to_the_own_host_is_listed(rt: HostRuntime) {
     let all = listed_after::<_, ListTracker>(&rt, &TO_OWN_EXTERNAL);

@@ -1,4 +1,5 @@
-//! Each call of the reader and of the two writers fails in turn: what was done stays done, and is told.
+//! Each call of the reader and of the two writers fails in turn: the run stops, reports it, and
+//! what was written stays.
 ghost use Rattle.std.specs.Prelude.{◌<◌};
 
 use crate::support::{
@@ -10,7 +11,7 @@ use std::io::ErrorKind;
 use std::process::Abort;
 use std::str;
 
-/// A run: its rules, whether it is traced, its capture, its line, and the capture that leaves.
+/// A run: rules, trace, capture, status line, and the capture written.
 #[derive(Clone, Copy)]
 pub struct Row {
     pub rules: &'static [u8],
@@ -20,7 +21,7 @@ pub struct Row {
     pub sent: &'static [&'static str],
 }
 
-/// Hosts of `lan` share the box's address, and nothing comes in that wasn't asked for.
+/// A masquerading firewall: hosts of `lan` share the box's address, and only replies come in.
 const ROUTER: &[u8] = b"table ip nat {
  chain post { type nat hook postrouting priority srcnat; policy accept;
   oifname \"wan\" masquerade
@@ -36,30 +37,30 @@ table ip fw {
 }
 ";
 
-/// Each packet that is forwarded is logged and traced.
+/// Each forwarded packet is logged and traced.
 const LOGS: &[u8] = b"table t { chain fwd { type filter hook forward priority 0; log accept; } }";
 
-/// Magic a1b23c4d, which tells nanoseconds, version 2.4, snaplen 65,535, LINKTYPE_LINUX_SLL2.
+/// Magic a1b23c4d (nanoseconds), version 2.4, snaplen 65,535, LINKTYPE_LINUX_SLL2.
 const COOKED: &str = "4d3cb2a1020004000000000000000000ffff000014010000";
 
-/// At 0 s a record of 48 bytes that came in by `lan`, and one that leaves by `wan`.
+/// Records of 48 bytes at 0 s: one from `lan`, and one that leaves by `wan`.
 const AT_0: &str = "000000000000000030000000300000000800000000000002000100060000000000000000";
 
 const OUT_AT_0: &str = "000000000000000030000000300000000800000000000003000104000000000000000000";
 
-/// UDP from 192.168.1.10:5000 to 198.51.100.7:53, and as it leaves from 203.0.113.1:5000.
+/// UDP from 192.168.1.10:5000 to 198.51.100.7:53, and the same forwarded from 203.0.113.1:5000.
 const QUESTION: &str = "4500001c0000000040118ee4c0a8010ac63364071388003500080000";
 
 const QUESTION_OUT: &str = "4500001c000000003f111595cb007101c63364071388003500080000";
 
-/// The answer to 203.0.113.1:5000, and as it leaves.
+/// The reply to 203.0.113.1:5000, and the same forwarded.
 const ANSWER: &str = "4500001c0000000040111495c6336407cb0071010035138800080000";
 
 const ANSWER_OUT: &str = "4500001c000000003f118fe4c6336407c0a8010a0035138800080000";
 
-/// A plain packet, and through the router; an answer just before its connection is over, and just then;
-/// one host's port to two hosts, and another host's; an ICMP error about a packet that left; a torn end;
-/// lines that are written while records are read.
+/// A packet without rules, and through the router; a reply just before its connection expires, and
+/// just then; one host's port to two hosts, and another host's; an ICMP error about a forwarded
+/// packet; a torn end; lines written during the run.
 pub static ROWS: [Row; 8] = [
     Row {
         rules: b"",
@@ -175,28 +176,28 @@ pub static ROWS: [Row; 8] = [
     },
 ];
 
-/// A read fails so.
+/// How a read fails.
 static READ_FAULTS: [Fault; 2] = [
     Fault::Error(ErrorKind::Other),
     Fault::Error(ErrorKind::Interrupted),
 ];
 
-/// A write, or a flush, fails so.
+/// How a write or a flush fails.
 static WRITE_FAULTS: [Fault; 3] = [
     Fault::Error(ErrorKind::Other),
     Fault::Error(ErrorKind::Interrupted),
     Fault::NoByte,
 ];
 
-/// How many bytes a call takes or gives at most while the reader (0), the writer of packets (1) or that of
-/// the report (2) fails: no line of a report is as long as three calls.
+/// The most bytes of a call while the reader (0), the packets' writer (1) or the report's (2)
+/// fails; no line of a report takes as many as three calls.
 fn most(device: usize) -> usize
     ensures { 0 < result }
 {
     if device == 2 { 37 } else { 13 }
 }
 
-/// So many calls of this device work, and the next one fails.
+/// This many calls of the device succeed, and the next one fails.
 fn device_settings(device: usize, fault: Fault, count: usize) -> DeviceSettings {
     let mut calls = [usize::MAX; 3];
     if device < 3 {
@@ -209,7 +210,7 @@ fn device_settings(device: usize, fault: Fault, count: usize) -> DeviceSettings 
     }
 }
 
-/// A run of the row over this capture.
+/// Runs the row over this capture.
 fn run_of(alloc: Global, row: &Row, capture: &[u8], device_settings: DeviceSettings) -> RunResult {
     run_over(alloc, row.rules, BOX, capture, row.trace, device_settings)
 }
@@ -223,8 +224,8 @@ fn lines_of(report: &[u8]) -> &[u8] {
     }
 }
 
-/// What is written is a beginning of what the whole run writes, and has no totals unless the report's
-/// own writer failed; then all packets are there.
+/// The outputs are beginnings of the whole run's, without totals unless the report's own writer
+/// failed; then all packets were written.
 fn is_beginning(given: &RunResult, whole: &RunResult, device: usize) -> bool {
     let has_totals = lines_of(&given.report).len() < given.report.len();
     let may_have = device == 2 && given.sent.len() == whole.sent.len();
@@ -233,7 +234,7 @@ fn is_beginning(given: &RunResult, whole: &RunResult, device: usize) -> bool {
         && (may_have || !has_totals)
 }
 
-/// The call of this number failed alone, and none was made again behind it.
+/// Exactly the call of this number failed, and it was the device's last.
 fn is_stopped<R: Abort + AllocGlobal>(
     rt: &R,
     given: &RunResult,
@@ -257,8 +258,8 @@ fn is_stopped<R: Abort + AllocGlobal>(
     );
 }
 
-/// This read fails, in each way: what is written is all that the whole records give that were read before.
-/// Whether there is such a read.
+/// This read fails, in each way; all records read whole before it were processed. Whether there is
+/// such a read.
 fn read_stops<R: Abort + AllocGlobal>(
     rt: &R,
     row: &Row,
@@ -314,7 +315,7 @@ fn write_stops<R: Abort + AllocGlobal>(
     is_made
 }
 
-/// What the row gives where all calls work.
+/// The result of the row if no call fails.
 fn whole_run<R: Abort + AllocGlobal>(
     rt: &R,
     row: &Row,
@@ -324,13 +325,13 @@ fn whole_run<R: Abort + AllocGlobal>(
     let whole = run_of(rt.alloc(), row, capture, no_failures(most(device)));
     shows(rt, whole.status, row.line);
     assert!(rt; whole.sent == bytes(rt.alloc(), row.sent).expect(rt, "packets"));
-    // The end is seen by one read more.
+    // One more read sees the end.
     let reads = capture.len().div_ceil(most(device)).saturating_add(1);
     assert!(rt; usize::try_from(whole.calls[0]) == Ok(reads));
     whole
 }
 
-/// Each call of the device fails in turn, up to runs that make no more.
+/// Each call of the device fails in turn, until a run makes no more calls.
 fn stops<R: Abort + AllocGlobal>(rt: &R, row: &Row, device: usize) {
     assert!(rt; device < 3);
     let capture = bytes(rt.alloc(), row.capture).expect(rt, "a capture");

@@ -1,4 +1,5 @@
-//! Whole runs with calls that fail or are counted; the connections that an engine lists; the program.
+//! Tests of whole runs: with calls that fail or are counted, with the connections that an engine
+//! lists, and of the program.
 #![tactic(auto)]
 
 #[cfg(test)]

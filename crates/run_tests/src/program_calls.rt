@@ -1,4 +1,4 @@
-//! The program over a host that records its calls, its words, and each line that it can print.
+//! The program on a host that records its calls; its arguments; and each line that it can print.
 use crate::support::{hasher, shows};
 use box_file::BoxFault;
 use clap::Error;
@@ -78,27 +78,27 @@ const REPORT_CALLS: &[&str] = &[
     "create file\n",
 ];
 
-/// How a host answers, and what the program has to do then.
+/// The answers of a host, and what the program must do then.
 #[derive(Clone, Copy)]
 struct Row {
     words: &'static [&'static str],
-    /// The calls of a run,
+    /// The calls of a run.
     calls: &'static [&'static str],
-    /// Which call fails, counted from 0, and of which kind its error is.
+    /// The call that fails, counted from 0, and the kind of its error.
     failing: Option<(usize, io::ErrorKind)>,
-    /// The path that leads to the same file
+    /// A second path to the file at `file`.
     same: &'static str,
-    /// as this one,
+    /// The path of a file.
     file: &'static str,
-    /// and whether that is a regular file.
+    /// Whether that is a regular file.
     is_regular: bool,
     outcome: Result<bool, RunFault>,
     judged: Result<Counts, RunFault>,
-    /// of which it makes the first so many,
+    /// The number of the first calls that the program makes.
     count: usize,
-    /// and then these,
+    /// The calls after those.
     last: &'static str,
-    /// and ends with this status.
+    /// The exit status.
     code: u8,
 }
 
@@ -139,7 +139,8 @@ const CHECKED: Row = Row {
     ..DONE
 };
 
-/// Answers as its row tells, and writes its calls down, a line each. A file holds its own path.
+/// A host that answers as its row says, and records its calls, one a line. A file's content is its
+/// path.
 #[derive(Drop)]
 struct Recorder {
     alloc: Global,
@@ -300,7 +301,7 @@ impl Host for Recorder {
     }
 }
 
-/// The calls that the program has to make.
+/// The calls that the program must make.
 fn wanted(alloc: Global, row: &Row) -> Result<Vec<u8>, AllocError> {
     let mut wanted = Vec::new(alloc);
     for call in row.calls.iter().take(row.count) {
@@ -310,7 +311,7 @@ fn wanted(alloc: Global, row: &Row) -> Result<Vec<u8>, AllocError> {
     Ok(wanted)
 }
 
-/// The program has to do what the row tells.
+/// Runs the program on the row's host, and checks its calls and its exit status.
 fn ends<R: Abort + AllocGlobal>(rt: &R, row: Row) {
     let mut host = Recorder {
         alloc: rt.alloc(),
@@ -323,11 +324,12 @@ fn ends<R: Abort + AllocGlobal>(rt: &R, row: Row) {
     assert!(rt; host.calls == wanted);
 }
 
-/// A run; one that tells each decision; one with a torn end; one that would write over a file that
-/// it reads, or over the report; one whose files are devices; one whose OUT isn't there, and one whose
-/// standard output isn't; words that can't be read; a fault of a run; a line that can't be told, which changes nothing; words that are no
-/// task, and help. A check; one that refuses; a box that can't be read; a line that can't be printed.
-/// What a fault means, where there is one and that is asked for; a path `--explain`; what a code means.
+/// A run; one with a trace; one with a torn end; runs that would overwrite a file that they read,
+/// or the report; one whose files are devices; one whose OUT doesn't exist, and one whose standard
+/// output doesn't; an argument that isn't UTF-8; a fault of a run; a line that can't be printed,
+/// which changes nothing; arguments that are no task, and help. A check; one that refuses; a box
+/// that can't be read; a line that can't be printed. An explanation, with and without a fault; a
+/// path `--explain`; the explanation of a code.
 static ROWS: [Row; 30] = [
     DONE,
     Row {
@@ -510,11 +512,10 @@ static ROWS: [Row; 30] = [
     },
 ];
 
-/// Runs whose report goes to a file: one that succeeds, and one that tells each decision; one that
-/// would write the report over a file that it reads, or over OUT, which may be found only once OUT
-/// is there, and one whose OUT is one of the files that it reads; one whose OUT goes where standard
-/// output goes; one whose files are devices; one whose FILE isn't there yet; a torn end, and a fault
-/// of the run.
+/// Runs with the report in a file: one that succeeds, and one with a trace; runs that would
+/// overwrite a file that they read, or OUT, which may exist only once it is created; one whose OUT
+/// is a file that it reads; one whose OUT is standard output; one whose files are devices; one
+/// whose FILE doesn't exist; a torn end, and a fault of the run.
 static REPORTS: [Row; 13] = [
     REPORTED,
     Row {
@@ -615,7 +616,7 @@ fn the_program_makes_these_calls(rt: HostRuntime) {
     }
 }
 
-/// Each call of a run in turn fails.
+/// Each call of a run fails in turn.
 fn stops<R: Abort + AllocGlobal>(rt: &R, done: Row, calls: usize) {
     for call in 0..calls {
         for (kind, last, code) in [
@@ -640,7 +641,7 @@ fn no_call_follows_one_that_failed(rt: HostRuntime) {
     stops(&rt, REPORTED, REPORT_CALLS.len());
 }
 
-/// Words, and the paths of the task that they ask for, or the kind and the exit status of the error.
+/// Arguments, and the paths of their task, or the kind and the exit status of the error.
 static WORDS: [(&[&str], Result<&str, (ErrorKind, i32)>); 37] = [
     (&["nftrun", "check", "r", "b"], Ok("r b")),
     (&["nftrun", "check", "--all", "r", "b"], Ok("r b all")),
@@ -774,7 +775,7 @@ static WORDS: [(&[&str], Result<&str, (ErrorKind, i32)>); 37] = [
     ),
 ];
 
-/// A task and its words, in one line.
+/// A task and its arguments, in one line.
 fn shown(alloc: Global, task: &Task<'_>) -> Result<String, AllocError> {
     match task {
         Task::Run(task) => {
@@ -795,7 +796,7 @@ fn shown(alloc: Global, task: &Task<'_>) -> Result<String, AllocError> {
     }
 }
 
-/// Whether the help of `run` names its paths, if that is what is told.
+/// Whether the help of `run`, if it is printed, names its paths.
 fn names_paths(alloc: Global, words: &[&str], error: &Error) -> Result<bool, AllocError> {
     let text = format!(in alloc; "{error}")?;
     let is_help_of_run = words.len() == 3 && error.exit_code() == 0;
@@ -819,7 +820,7 @@ fn words_ask_for_a_task_or_are_refused(rt: HostRuntime) {
     }
 }
 
-/// Each status, the line that the program can print, and the exit status.
+/// Each status, its line and its exit status.
 static STATUSES: [(Status, &str, u8); 28] = [
     (Status::Success, "nftrun: done", 0),
     (

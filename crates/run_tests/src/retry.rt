@@ -1,5 +1,5 @@
-//! A record that a step was refused memory for is stepped again. Nothing is refused here: `bench/refuse` runs
-//! this test over and over, and refuses each request of its steps in turn.
+//! A record whose step was refused memory is stepped again. Nothing is refused here: `bench/refuse`
+//! runs this test over and over, and refuses each request of its steps in turn.
 ghost use Rattle.std.specs.Prelude.{◌<◌};
 
 use crate::device_failures::{ROWS, Row};
@@ -22,11 +22,12 @@ use stepping::Engine;
 /// The greatest number of records in a capture.
 const MOST_RECORDS: u64 = 4_294_967_296;
 
-/// What an engine tells between two records.
+/// The state of an engine between two records, as its calls show it.
 #[derive(Drop)]
 struct EngineState {
     records: u64,
-    /// The number and the length of the last record, how many events it made, and whether it began a connection.
+    /// The last record's number and length, the number of its events, and whether it created a
+    /// connection.
     entry: Option<(u64, u16, usize, bool)>,
     packet: Vec<u8>,
     connections: Vec<Connection>,
@@ -52,8 +53,8 @@ fn is_same(one: &EngineState, other: &EngineState) -> bool {
         && one.connections == other.connections
 }
 
-/// Steps the record, and tells whether there was memory to take it. A file is opened before and behind the
-/// step, by which `bench/refuse` knows its requests from all others.
+/// Steps the record; whether there was memory for it. A file is opened before and after the step,
+/// so that `bench/refuse` can tell its requests from all others.
 fn try_step<R: Abort + AllocGlobal + Files>(
     rt: &R,
     engine: &mut Engine<AgedTracker>,
@@ -67,7 +68,7 @@ fn try_step<R: Abort + AllocGlobal + Files>(
     is_taken
 }
 
-/// The engine tells what it told before.
+/// The engine's state is as before.
 fn has_not_changed<R: Abort + AllocGlobal>(
     rt: &R,
     engine: &Engine<AgedTracker>,
@@ -77,8 +78,8 @@ fn has_not_changed<R: Abort + AllocGlobal>(
     assert!(rt; is_same(before, &after));
 }
 
-/// Steps the record, and once more where there was no memory to take it: the engine tells then what it told
-/// before.
+/// Steps the record, and once more if there was no memory for it; between the two the engine's
+/// state is as before.
 fn step_again<R: Abort + AllocGlobal + Files>(
     rt: &R,
     engine: &mut Engine<AgedTracker>,
@@ -96,7 +97,7 @@ fn step_again<R: Abort + AllocGlobal + Files>(
     }
 }
 
-/// What a run writes.
+/// The outputs of a run.
 #[derive(Drop)]
 struct Outputs {
     report: Report,
@@ -115,13 +116,13 @@ impl Outputs {
         }
     }
 
-    /// The packets that were written.
+    /// The packets written.
     fn packets(self) -> Vec<u8> {
         self.sent.into_inner()
     }
 }
 
-/// A run among its records.
+/// A run in progress.
 #[derive(Drop)]
 struct Replayed {
     engine: Engine<AgedTracker>,
@@ -135,7 +136,7 @@ impl Replayed {
         Replayed { engine, outputs }
     }
 
-    /// Steps the record, notes what is told of it, and puts the packet that it sends on.
+    /// Steps the record, notes its entry in the report, and writes the packet that it forwards.
     fn take<R: Abort + AllocGlobal + Files>(&mut self, rt: &R, record: &Record) {
         if self.engine.records() < MOST_RECORDS && self.outputs.report.records() < MOST_RECORDS {
             step_again(rt, &mut self.engine, record);
@@ -149,7 +150,7 @@ impl Replayed {
         }
     }
 
-    /// Takes each record of the capture, of which no row has so many as 9, and tells whether its end is torn.
+    /// Takes each record of the capture (no row has as many as 9); whether its end is torn.
     fn take_all<R: Abort + AllocGlobal + Files>(&mut self, rt: &R, capture: &[u8]) -> bool {
         let mut reader = Counted::new(capture);
         let mut records = Capture::open(rt.alloc(), &mut reader).expect(rt, "a capture");
@@ -179,7 +180,7 @@ impl Replayed {
         report_bytes.into_inner()
     }
 
-    /// The packets that it has sent.
+    /// The packets written.
     fn packets(self) -> Vec<u8> {
         self.outputs.packets()
     }
@@ -191,7 +192,7 @@ impl Replayed {
     }
 }
 
-/// The box with the row's rules, before its first record.
+/// The engine with the row's rules, before its first record.
 fn started<R: Abort + AllocGlobal>(rt: &R, row: &Row) -> Engine<AgedTracker> {
     let hasher = hasher().expect(rt, "keys");
     let tree = parse(rt.alloc(), row.rules).expect(rt, "rules");
@@ -200,7 +201,7 @@ fn started<R: Abort + AllocGlobal>(rt: &R, row: &Row) -> Engine<AgedTracker> {
     Engine::new(rt.alloc(), hasher, checked).expect(rt, "memory")
 }
 
-/// The packets that leave, and the report, where the row's records are stepped so.
+/// The packets and the report of the row, stepped so.
 fn packets_and_report<R: Abort + AllocGlobal + Files>(
     rt: &R,
     row: &Row,
@@ -211,7 +212,7 @@ fn packets_and_report<R: Abort + AllocGlobal + Files>(
     (replayed.packets(), report_bytes)
 }
 
-/// The packets and the report are those of a run.
+/// They are those of `engine::run`.
 fn replays<R: Abort + AllocGlobal + Files>(rt: &R, row: &Row) {
     let capture = bytes(rt.alloc(), row.capture).expect(rt, "a capture");
     let whole = run_over(

@@ -1,5 +1,5 @@
-//! What tests share: a packet and its records, texts of pieces, runs with slow and failing calls, and the
-//! line of a status.
+//! Shared by the tests: a packet and its records, runs with slow and failing calls, and the line of
+//! a status.
 use engine::{RunFault, run};
 use hex::FromHexError;
 use pcap_io::{Calls, Counted, Slow};
@@ -17,37 +17,37 @@ route 0.0.0.0/0 wan
 default lan
 ";
 
-/// Magic a1b2c3d4, which tells microseconds, version 2.4, LINKTYPE_RAW.
+/// Magic a1b2c3d4 (microseconds), version 2.4, LINKTYPE_RAW.
 pub const HEADER: &str = "d4c3b2a1020004000000000000000000ffff000065000000";
 
-/// Magic a1b23c4d, which tells nanoseconds, version 2.4, snaplen 262,144, LINKTYPE_LINUX_SLL2.
+/// Magic a1b23c4d (nanoseconds), version 2.4, snaplen 262,144, LINKTYPE_LINUX_SLL2.
 pub const OUT_HEADER: &str = "4d3cb2a10200040000000000000000000000040014010000";
 
-/// At 1 s 500000 microseconds, 28 bytes.
+/// 1 s and 500000 microseconds, 28 bytes.
 pub const AT_1_5: &str = "0100000020a107001c0000001c000000";
 
 /// UDP from 192.168.1.10:5000 to 198.51.100.7:53, TTL 64.
 pub const PLAIN: &str = "4500001c0001000040118ee3c0a8010ac63364071388003500080000";
 
-/// At 1 s 500000000 nanoseconds, 48 bytes, by interface 3.
+/// 1 s and 500000000 nanoseconds, 48 bytes, interface 3.
 pub const OUT_AT_1_5: &str =
     "010000000065cd1d30000000300000000800000000000003000104000000000000000000";
 
 /// `PLAIN` with TTL 63.
 pub const PLAIN_OUT: &str = "4500001c000100003f118fe3c0a8010ac63364071388003500080000";
 
-/// The bytes of these hexadecimal texts, one after another.
+/// The bytes of the concatenated hexadecimal strings.
 pub fn bytes(alloc: Global, parts: &[&str]) -> Result<Vec<u8>, FromHexError> {
     hex::decode(alloc, parts.concat(alloc)?)
 }
 
-/// A status has this line.
+/// The status has this line.
 pub fn shows<R: Abort + AllocGlobal>(rt: &R, status: Status, line: &str) {
     let text = format!(in rt.alloc(); "{status}").expect(rt, "memory");
     assert!(rt; text.as_str() == line, "{text}");
 }
 
-/// Leaves bytes as they are, so that the keys are the same in each run.
+/// A random source that leaves bytes as they are, so that all runs have the same keys.
 struct Fixed;
 
 impl RandomSource for Fixed {
@@ -56,7 +56,7 @@ impl RandomSource for Fixed {
     }
 }
 
-/// The keys by which tests hash. No answer depends on them.
+/// The hash keys of the tests. No result depends on them.
 pub fn hasher() -> io::Result<RandomState> {
     RandomState::new(&Fixed)
 }
@@ -64,24 +64,24 @@ pub fn hasher() -> io::Result<RandomState> {
 /// How a call fails.
 #[derive(Clone, Copy)]
 pub enum Fault {
-    /// With an error of this kind.
+    /// An error of this kind.
     Error(ErrorKind),
-    /// A write takes no byte.
+    /// A write that takes no byte.
     NoByte,
 }
 
-/// Works for so many calls (reads, writes and flushes), and then fails once. What it holds isn't told
-/// to the prover.
+/// A device that fails once, after a number of calls (reads, writes and flushes). The prover knows
+/// nothing of its contents.
 #[derive(Drop)]
 struct Faulty<T> {
     inner: T,
-    /// The greatest once it has failed.
+    /// The calls left before the failure; the greatest number once it has failed.
     calls: usize,
     fault: Fault,
 }
 
 impl<T> Faulty<T> {
-    /// Why this call fails, where it is the one that does.
+    /// The fault of this call, if it is the one that fails.
     fn fails(&mut self) -> Option<Fault> {
         if self.calls == 0 {
             self.calls = usize::MAX;
@@ -126,18 +126,19 @@ impl<W: Write> Write for Faulty<W> {
     }
 }
 
-/// How the reader and the two writers work.
+/// The settings of the reader and the two writers.
 #[derive(Clone, Copy)]
 pub struct DeviceSettings {
-    /// At most so many bytes a call.
+    /// The most bytes of a call.
     pub most: usize,
-    /// After so many calls one fails: of the reader, the writer of packets, the writer of the report,
+    /// The number of calls before one fails: of the reader, of the packets' writer and of the
+    /// report's.
     pub calls: [usize; 3],
-    /// and so.
+    /// How it fails.
     pub fault: Fault,
 }
 
-/// All calls work.
+/// No call fails.
 pub fn no_failures(most: usize) -> DeviceSettings {
     DeviceSettings {
         most,
@@ -146,17 +147,17 @@ pub fn no_failures(most: usize) -> DeviceSettings {
     }
 }
 
-/// What a run gives.
+/// The result of a run.
 pub struct RunResult {
-    /// What the program would end with.
+    /// The status of the program.
     pub status: Status,
-    /// What the writer of packets holds.
+    /// The packets written.
     pub sent: Vec<u8>,
-    /// What the writer of the report holds.
+    /// The report written.
     pub report: Vec<u8>,
-    /// How many calls failed, of all three.
+    /// The failed calls of each device.
     pub failures: [u64; 3],
-    /// How many calls of each there were, flushes too.
+    /// The calls of each device, including flushes.
     pub calls: [u64; 3],
 }
 
@@ -173,7 +174,7 @@ impl Drop for RunResult {
     }
 }
 
-/// This reader or writer, of which one call fails.
+/// A reader or writer of which one call fails.
 fn device<T>(
     inner: T,
     device_settings: DeviceSettings,
@@ -186,12 +187,12 @@ fn device<T>(
     }))
 }
 
-/// What a writer holds.
+/// The bytes of a writer.
 fn held(writer: Calls<Faulty<Slow<Vec<u8>>>>) -> Vec<u8> {
     writer.into_inner().inner.into_inner()
 }
 
-/// A run of these rules on this box over this capture.
+/// Runs these rules on this box over this capture.
 pub fn run_over(
     alloc: Global,
     rules: &[u8],

@@ -1,4 +1,4 @@
-pub mod Fronts
+pub mod Lookaheads
 pub mod Reading
 pub mod Parser
 pub mod Laws

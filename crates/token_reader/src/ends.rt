@@ -1,4 +1,4 @@
-//! Newlines and semicolons, which end what stands before them.
+//! Newlines and semicolons: they end statements and fields (nft(8), "Lexical conventions").
 
 ghost use Rattle.std.specs.Prelude.{◌≡◌, ◌≤◌, length, option_map, IfSome};
 ghost use Rattle.token_reader.specs.Readers.{IsAfter, remaining};
@@ -7,7 +7,7 @@ ghost use Rattle.token_reader.specs.steps.Reading.{after_end, after_ends, skip_e
 
 use nft_lexer::{Punctuator, Token, TokenKind};
 
-/// The place after the newline or semicolon, where one stands here.
+/// The position after the newline or semicolon at `at`.
 pub fn after_end(tokens: &[Token], at: usize) -> Option<usize>
     ensures read { option_map (remaining tokens.now) result ≡ after_end (remaining tokens.now at) }
     ensures within { IfSome result (IsAfter tokens.now at) }
@@ -18,7 +18,7 @@ pub fn after_end(tokens: &[Token], at: usize) -> Option<usize>
     }
 }
 
-/// The place after the newlines and semicolons that stand here.
+/// The position after all newlines and semicolons at `at`.
 pub fn skip_ends(tokens: &[Token], at: usize) -> usize
     ensures read { remaining tokens.now result ≡ skip_ends (remaining tokens.now at) }
     ensures within { (at ≤ result) × (at ≤ length tokens.now → result ≤ length tokens.now) }
@@ -30,7 +30,7 @@ pub fn skip_ends(tokens: &[Token], at: usize) -> usize
     here
 }
 
-/// The place after the newlines and semicolons that stand here, where one does.
+/// The same; `None` if there is none.
 pub fn after_ends(tokens: &[Token], at: usize) -> Option<usize>
     ensures read { option_map (remaining tokens.now) result ≡ after_ends (remaining tokens.now at) }
     ensures within { IfSome result (IsAfter tokens.now at) }
@@ -39,7 +39,7 @@ pub fn after_ends(tokens: &[Token], at: usize) -> Option<usize>
     Some(skip_ends(tokens, at))
 }
 
-/// Whether a newline, a semicolon or a closing brace stands here.
+/// Whether the token at `at` is a newline, a semicolon or a closing brace: what ends a rule.
 pub fn is_rule_end(tokens: &[Token], at: usize) -> bool
     ensures { result ≡ is_rule_end (remaining tokens.now at) }
 {

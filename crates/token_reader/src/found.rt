@@ -1,6 +1,6 @@
-//! One step of a reader.
+//! `found!`: `?` for functions that return `Result<Option<_>, _>`.
 
-/// What a step found; where it found nothing, the reader around it finds nothing.
+/// The value of an `Option`; `None` returns `Ok(None)` from the enclosing function.
 #[macro_export]
 macro_rules! found {
     ($step:expr) => {

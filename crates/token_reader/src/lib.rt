@@ -1,9 +1,9 @@
-//! Reads single tokens at a place, words of a table, and parts that stand one after the other.
+//! Parser combinators over the tokens: single tokens, keywords of a table, repetitions and lists.
 //!
-//! A place past the last token is one at which nothing stands; each place that a reader gives lies
-//! behind the one it began at, and within the tokens. `specs/Grammar.antt` says what a production
-//! is and how productions combine, for every grammar on these tokens; `specs/steps/Lawful.antt`
-//! proves that what is read by a combination is what it spells.
+//! A parsing function takes a position in the tokens (past the last token there is nothing) and
+//! gives a part and the position after it, which is greater and within the tokens.
+//! `specs/Grammar.antt` defines productions and their combinators; `specs/steps/Lawful.antt` proves
+//! that each combinator parses exactly what it spells.
 #![tactic(auto)]
 
 mod ends;

@@ -1,4 +1,4 @@
-//! Single tokens at a place.
+//! Single tokens.
 
 ghost use Rattle.std.specs.Prelude.{◌≡◌, option_map, IfSome};
 ghost use Rattle.token_reader.specs.Grammar.{a_number, a_string, keyword, punctuation, ◌▹◌};
@@ -7,9 +7,10 @@ ghost use Rattle.token_reader.specs.steps.Reading.{after_word, after_punctuator,
 
 use nft_lexer::{Punctuator, Token, TokenKind};
 
-/// The place after the word, where it stands here.
+/// The position after this word, if it is at `at`.
 pub fn after_word(tokens: &[Token], at: usize, word: &[u8]) -> Option<usize>
-    ensures read { option_map (remaining tokens.now) result ≡ after_word word.now (remaining tokens.now at) }
+    ensures read { option_map (remaining tokens.now) result
+        ≡ after_word word.now (remaining tokens.now at) }
     ensures within { IfSome result (IsAfter tokens.now at) }
 {
     let token = tokens.get(at)?;
@@ -19,9 +20,10 @@ pub fn after_word(tokens: &[Token], at: usize, word: &[u8]) -> Option<usize>
     }
 }
 
-/// The place after the mark, where it stands here.
+/// The position after this punctuator, if it is at `at`.
 pub fn after_punctuator(tokens: &[Token], at: usize, punctuator: Punctuator) -> Option<usize>
-    ensures read { option_map (remaining tokens.now) result ≡ after_punctuator punctuator (remaining tokens.now at) }
+    ensures read { option_map (remaining tokens.now) result
+        ≡ after_punctuator punctuator (remaining tokens.now at) }
     ensures within { IfSome result (IsAfter tokens.now at) }
 {
     match tokens.get(at)?.kind {
@@ -30,9 +32,10 @@ pub fn after_punctuator(tokens: &[Token], at: usize, punctuator: Punctuator) -> 
     }
 }
 
-/// The word here, and the place after it.
+/// The word at `at`, and the position after it.
 pub fn word<'t>(tokens: &[Token<'t>], at: usize) -> Option<(&'t [u8], usize)>
-    ensures read { option_map (λ x. (x.0.now, remaining tokens.now x.1)) result ≡ word_at (remaining tokens.now at) }
+    ensures read { option_map (λ x. (x.0.now, remaining tokens.now x.1)) result
+        ≡ word_at (remaining tokens.now at) }
     ensures within { IfSome result (λ x. IsAfter tokens.now at x.1) }
 {
     let token = tokens.get(at)?;
@@ -42,9 +45,10 @@ pub fn word<'t>(tokens: &[Token<'t>], at: usize) -> Option<(&'t [u8], usize)>
     }
 }
 
-/// The number here, and the place after it.
+/// The number at `at`, and the position after it.
 pub fn number(tokens: &[Token], at: usize) -> Option<(u64, usize)>
-    ensures read { option_map (λ x. (x.0, remaining tokens.now x.1)) result ≡ number_at (remaining tokens.now at) }
+    ensures read { option_map (λ x. (x.0, remaining tokens.now x.1)) result
+        ≡ number_at (remaining tokens.now at) }
     ensures within { IfSome result (λ x. IsAfter tokens.now at x.1) }
 {
     match tokens.get(at)?.kind {
@@ -53,9 +57,11 @@ pub fn number(tokens: &[Token], at: usize) -> Option<(u64, usize)>
     }
 }
 
-/// The IPv4 address here, its first group the highest byte, and the place after it.
+/// The IPv4 address at `at` in host byte order (the first octet is the most significant), and the
+/// position after it.
 pub fn address(tokens: &[Token], at: usize) -> Option<(u32, usize)>
-    ensures read { option_map (λ x. (x.0, remaining tokens.now x.1)) result ≡ address_at (remaining tokens.now at) }
+    ensures read { option_map (λ x. (x.0, remaining tokens.now x.1)) result
+        ≡ address_at (remaining tokens.now at) }
     ensures within { IfSome result (λ x. IsAfter tokens.now at x.1) }
 {
     match tokens.get(at)?.kind {
@@ -64,9 +70,10 @@ pub fn address(tokens: &[Token], at: usize) -> Option<(u32, usize)>
     }
 }
 
-/// The bytes between the quotes of the string here, and the place after it.
+/// The bytes between the quotes of the string at `at`, and the position after it.
 pub fn string<'t>(tokens: &[Token<'t>], at: usize) -> Option<(&'t [u8], usize)>
-    ensures read { option_map (λ x. (x.0.now, remaining tokens.now x.1)) result ≡ string_at (remaining tokens.now at) }
+    ensures read { option_map (λ x. (x.0.now, remaining tokens.now x.1)) result
+        ≡ string_at (remaining tokens.now at) }
     ensures within { IfSome result (λ x. IsAfter tokens.now at x.1) }
 {
     let token = tokens.get(at)?;
@@ -76,7 +83,7 @@ pub fn string<'t>(tokens: &[Token<'t>], at: usize) -> Option<(&'t [u8], usize)>
     }
 }
 
-/// The string after the word, where both stand here, and the place after it.
+/// The string after this word, if both are at `at`, and the position after it.
 pub fn string_after<'t>(tokens: &[Token<'t>], at: usize, word: &[u8]) -> Option<(&'t [u8], usize)>
     ensures { IsRead (λ x. x.now) (keyword word.now ▹ a_string).read tokens.now at result }
 {
@@ -84,7 +91,7 @@ pub fn string_after<'t>(tokens: &[Token<'t>], at: usize, word: &[u8]) -> Option<
     string(tokens, at)
 }
 
-/// The number after the mark, where both stand here, and the place after it.
+/// The number after this punctuator, if both are at `at`, and the position after it.
 pub fn number_after(tokens: &[Token], at: usize, punctuator: Punctuator) -> Option<(u64, usize)>
     ensures { IsRead (λ n. n) (punctuation punctuator ▹ a_number).read tokens.now at result }
 {

@@ -1,4 +1,4 @@
-//! Words that stand for values.
+//! Keywords with values.
 ghost use Rattle.std.specs.Prelude.{map};
 ghost use Rattle.token_reader.specs.Grammar.{one_of};
 ghost use Rattle.token_reader.specs.Readers.{IsRead};
@@ -7,7 +7,7 @@ ghost use Rattle.token_reader.specs.steps.Reading.{row_of};
 use crate::single::after_word;
 use nft_lexer::Token;
 
-/// What the word here stands for in the table, and the place after it.
+/// The value of the keyword at `at`, and the position after it.
 pub fn one_of<T: Copy>(
     tokens: &[Token],
     at: usize,

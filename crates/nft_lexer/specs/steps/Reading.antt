@@ -1,4 +1,4 @@
--- Reading what stands in front of a text: each gives it and what follows it.
+-- Readers: each gives the lexeme at the start of a text, and the rest of the text.
 use Rattle.std.specs.Prelude.{ℕ, ◌+◌, ◌-◌, ◌*◌, ◌^◌, List, [], ◌∷◌, length, take, drop, Bool, ◌==◌, nat_lt, ◌&&◌, Option, Some, None, option_and_then, option_map, option_to_list, ok_or, if◌then◌else◌, slice_index, Result, Ok, Err}
 use Rattle.std.specs.Char.{digit_value, is_ascii_digit, is_ascii_hexdigit}
 use Rattle.std.specs.List.{prefix_len}
@@ -9,7 +9,7 @@ use Rattle.nft_lexer.specs.declared.lexeme.Class.{Class}
 use Rattle.nft_lexer.specs.declared.lexeme.Class.TheVariants as classes
 use Rattle.nft_lexer.specs.declared.lexeme.LexemeKind.{LexemeKind}
 use Rattle.nft_lexer.specs.declared.lexeme.LexemeKind.TheVariants as lexeme_kinds
-use Rattle.nft_lexer.specs.declared.token.TokenKind.TheVariants as kinds
+use Rattle.nft_lexer.specs.declared.token.TokenKind.TheVariants as token_kinds
 use Rattle.nft_lexer.specs.declared.lexeme.Run.{Run}
 use Rattle.nft_lexer.specs.declared.lexeme.Run.TheVariants as runs
 use Rattle.nft_lexer.specs.declared.fault.LexError.{LexError}
@@ -38,41 +38,42 @@ class_of b =
     else (if b == 34 then classes.Quote
     else classes.Other))))))
 
--- whether a byte goes on with a run
+-- Whether a byte continues the run.
 abbrev pub continues_run : Run → ℕ → Bool
 continues_run runs.Word = continues_word
 continues_run runs.Line = is_no_newline
 continues_run runs.String = is_string_byte
 continues_run runs.Hexadecimal = is_ascii_hexdigit
 
--- the first of the marks that begins with the byte
+-- The first punctuator of the list that starts with the byte.
 abbrev pub punctuator_from : ℕ → List Punctuator → Option Punctuator
 punctuator_from b [] = None
 punctuator_from b (m ∷ ms) = if b == slice_index (punctuator_text m) 0 then Some m else punctuator_from b ms
 
 abbrev pub short_punctuators : List Punctuator
-short_punctuators = OpenBrace ∷ CloseBrace ∷ OpenParenthesis ∷ CloseParenthesis ∷ Comma ∷ Semicolon ∷ Colon ∷ Dot ∷ Slash ∷ Minus ∷ Plus ∷ Equals ∷ At ∷ Ampersand ∷ Bar ∷ Below ∷ Above ∷ []
+short_punctuators = OpenBrace ∷ CloseBrace ∷ OpenParenthesis ∷ CloseParenthesis ∷ Comma ∷ Semicolon ∷ Colon
+    ∷ Dot ∷ Slash ∷ Minus ∷ Plus ∷ Equals ∷ At ∷ Ampersand ∷ Bar ∷ Below ∷ Above ∷ []
 
--- each ends with an equals sign
+-- Each ends with `=`.
 abbrev pub long_punctuators : List Punctuator
 long_punctuators = EqualTo ∷ NotEqualTo ∷ AtMost ∷ AtLeast ∷ []
 
--- what follows this byte
+-- The text after this byte, if it comes first.
 abbrev pub after_byte : ℕ → List ℕ → Option (List ℕ)
 after_byte k [] = None
 after_byte k (b ∷ bs) = if b == k then Some bs else None
 
--- all the bytes in front that pass the test
+-- The leading bytes that pass the test.
 abbrev pub front : (ℕ → Bool) → List ℕ → List ℕ
 front test ts = take (prefix_len test ts) ts
 
--- what follows them
+-- The text after them.
 abbrev pub behind : (ℕ → Bool) → List ℕ → List ℕ
 behind test ts = drop (prefix_len test ts) ts
 
 -- ---- numbers and addresses
 
--- all the bytes in front that pass the test, one at least
+-- The leading bytes that pass the test, at least one.
 unfoldable pub run_at : (ℕ → Bool) → List ℕ → Option (List ℕ × List ℕ)
 run_at test [] = None
 run_at test (b ∷ bs) = if test b then Some (b ∷ front test bs, behind test bs) else None
@@ -80,18 +81,18 @@ run_at test (b ∷ bs) = if test b then Some (b ∷ front test bs, behind test b
 abbrev pub is_zero : List ℕ → Bool
 is_zero ds = length ds == 1 && slice_index ds 0 == 48
 
--- after these digits: where they are a zero, `x` and hexadecimal digits
+-- After the digits `first`: if they are a single zero, `x` and hexadecimal digits.
 unfoldable pub hexadecimal_at : List ℕ → List ℕ → Option (Lexeme × List ℕ)
 hexadecimal_at first ts = do
   r ← after_byte 120 ts
   x ← if is_zero first then run_at is_ascii_hexdigit r else None
   Some (hexadecimal x.0, x.1)
 
--- a dot and the digits after it
+-- A dot, and the digits after it.
 unfoldable pub next_octet_at : List ℕ → Option (List ℕ × List ℕ)
 next_octet_at ts = after_byte 46 ts >>= run_at is_ascii_digit
 
--- after these digits: three more groups
+-- After the digits `first`: three more octets.
 unfoldable pub dotted_quad_at : List ℕ → List ℕ → Option (Lexeme × List ℕ)
 dotted_quad_at first ts = do
   b ← next_octet_at ts
@@ -100,26 +101,29 @@ dotted_quad_at first ts = do
   Some (dotted_quad first b.0 c.0 d.0, d.1)
 
 unfoldable pub number_at : List ℕ → Option (Lexeme × List ℕ)
-number_at ts = run_at is_ascii_digit ts >>= (λ a. option_or (hexadecimal_at a.0 a.1) (option_or (dotted_quad_at a.0 a.1) (Some (digits a.0, a.1))))
+number_at ts = run_at is_ascii_digit ts
+    >>= (λ a. option_or (hexadecimal_at a.0 a.1)
+    (option_or (dotted_quad_at a.0 a.1) (Some (digits a.0, a.1))))
 
--- more than one digit, and the first is a zero
+-- More than one digit, of which the first is a zero.
 abbrev pub has_leading_zero : List ℕ → Bool
 has_leading_zero ds = nat_lt 1 (length ds) && slice_index ds 0 == 48
 
--- the number if it is below the bound
+-- The number, if it is below the bound.
 abbrev pub below : ℕ → ℕ → Option ℕ
 below most n = if nat_lt n most then Some n else None
 
--- the number that a digit writes after those of this number
+-- The number with one more digit, if it fits 64 bits.
 abbrev pub with_digit : ℕ → ℕ → ℕ → Option ℕ
-with_digit radix n b = if nat_lt (digit_value b) radix then below (2 ^ 64) (n * radix + digit_value b) else None
+with_digit radix n b = if nat_lt (digit_value b) radix then below (2 ^ 64) (n * radix + digit_value b)
+    else None
 
--- the number that the digits write after those of this number
+-- The number with these further digits, if it fits 64 bits.
 unfoldable pub value_after : ℕ → ℕ → List ℕ → Option ℕ
 value_after radix n [] = Some n
 value_after radix n (b ∷ bs) = with_digit radix n b >>= (λ m. value_after radix m bs)
 
--- the digit in front and what follows it
+-- The leading digit.
 abbrev pub digit_at : List ℕ → Option (ℕ × List ℕ)
 digit_at [] = None
 digit_at (b ∷ bs) = if is_ascii_digit b then Some (b, bs) else None
@@ -127,14 +131,14 @@ digit_at (b ∷ bs) = if is_ascii_digit b then Some (b, bs) else None
 unfoldable pub decimal_at : List ℕ → Option ℕ
 decimal_at ds = if has_leading_zero ds then None else value_after 10 0 ds
 
--- a number from 0 to 255
+-- The number, if it is at most 255.
 abbrev pub byte_of : Option ℕ → Option ℕ
 byte_of n = n >>= below 256
 
 unfoldable pub octet_at : List ℕ → Option ℕ
 octet_at ds = byte_of (decimal_at ds)
 
--- the address of which these are the groups, where each is a number
+-- The address with these octets, the first the most significant.
 unfoldable pub address_of : (first second third fourth : Option ℕ) → Option ℕ
 address_of first second third fourth = do
   a ← byte_of first
@@ -144,45 +148,46 @@ address_of first second third fourth = do
   Some (a * 16777216 + b * 65536 + c * 256 + d)
 
 abbrev pub address_at : (first second third fourth : List ℕ) → Option ℕ
-address_at first second third fourth = address_of (decimal_at first) (decimal_at second) (decimal_at third) (decimal_at fourth)
+address_at first second third fourth = address_of (decimal_at first) (decimal_at second) (decimal_at third)
+    (decimal_at fourth)
 
--- ---- what the code holds of a piece
+-- ---- the kinds of lexemes
 
--- numbers and addresses as the code's pieces
+-- Numbers and addresses, or the kind of a number that is out of range.
 abbrev pub number_kind : Option ℕ → LexemeKind
-number_kind (Some n) = lexeme_kinds.Token (kinds.Number n)
+number_kind (Some n) = lexeme_kinds.Token (token_kinds.Number n)
 number_kind None = lexeme_kinds.InvalidNumber
 
 abbrev pub address_kind : Option ℕ → LexemeKind
-address_kind (Some a) = lexeme_kinds.Token (kinds.Address a)
+address_kind (Some a) = lexeme_kinds.Token (token_kinds.Address a)
 address_kind None = lexeme_kinds.InvalidNumber
 
--- every piece as the code's
+-- What the code keeps of a lexeme.
 abbrev pub lexeme_kind : Lexeme → LexemeKind
-lexeme_kind line_end = lexeme_kinds.Token kinds.NewLine
-lexeme_kind (name w) = lexeme_kinds.Token kinds.Word
+lexeme_kind line_end = lexeme_kinds.Token token_kinds.NewLine
+lexeme_kind (name w) = lexeme_kinds.Token token_kinds.Word
 lexeme_kind (digits n) = number_kind (decimal_at n)
 lexeme_kind (hexadecimal n) = number_kind (value_after 16 0 n)
 lexeme_kind (dotted_quad a b c d) = address_kind (address_at a b c d)
-lexeme_kind (quoted s) = lexeme_kinds.Token kinds.String
-lexeme_kind (punctuation m) = lexeme_kinds.Token (kinds.Punctuator m)
+lexeme_kind (quoted s) = lexeme_kinds.Token token_kinds.String
+lexeme_kind (punctuation m) = lexeme_kinds.Token (token_kinds.Punctuator m)
 lexeme_kind p = lexeme_kinds.Blank
 
--- with what follows it
+-- The same, with the rest of the text.
 abbrev pub scanned_kind : Option (Lexeme × List ℕ) → Option (LexemeKind × List ℕ)
 scanned_kind o = option_map (λ x. (lexeme_kind x.0, x.1)) o
 
--- ---- numbers and addresses by their values
+-- ---- numbers and addresses with their values
 
--- all the digits in front, one at least, with their number
+-- The leading digits, at least one, with their value.
 unfoldable pub digits_at : List ℕ → Option (List ℕ × Option ℕ × List ℕ)
 digits_at ts = option_map (λ x. (x.0, decimal_at x.0, x.1)) (run_at is_ascii_digit ts)
 
--- a dot and the number of the digits after it
+-- A dot, and the value of the digits after it.
 unfoldable pub octet_after : List ℕ → Option (Option ℕ × List ℕ)
 octet_after ts = after_byte 46 ts >>= (λ r. option_map (λ x. (x.1, x.2)) (digits_at r))
 
--- after a group of this number: three more
+-- After an octet of this value: three more.
 unfoldable pub octets_after : Option ℕ → List ℕ → Option (LexemeKind × List ℕ)
 octets_after first ts = do
   b ← octet_after ts
@@ -190,17 +195,19 @@ octets_after first ts = do
   d ← octet_after c.1
   Some (address_kind (address_of first b.0 c.0 d.0), d.1)
 
--- the number or the address in front
+-- The leading number or address.
 unfoldable pub numeral_at : List ℕ → Option (LexemeKind × List ℕ)
-numeral_at ts = digits_at ts >>= (λ a. option_or (scanned_kind (hexadecimal_at a.0 a.2)) (option_or (octets_after a.1 a.2) (Some (number_kind a.1, a.2))))
+numeral_at ts = digits_at ts >>= (λ a. option_or (scanned_kind (hexadecimal_at a.0 a.2))
+    (option_or (octets_after a.1 a.2) (Some (number_kind a.1, a.2))))
 
--- ---- pieces
+-- ---- lexemes
 
--- what follows a quote: the bytes up to the next one, with no line's end before it
+-- After a quote: the bytes up to the next one on the line.
 unfoldable pub quoted_at : List ℕ → Option (Lexeme × List ℕ)
-quoted_at ts = option_map (λ r. (quoted (front is_string_byte ts), r)) (after_byte 34 (behind is_string_byte ts))
+quoted_at ts = option_map (λ r. (quoted (front is_string_byte ts), r))
+    (after_byte 34 (behind is_string_byte ts))
 
--- this byte and an equals sign
+-- This byte and `=`.
 unfoldable pub long_punctuator_at : ℕ → List ℕ → Option (Lexeme × List ℕ)
 long_punctuator_at b bs = do
   m ← punctuator_from b long_punctuators
@@ -208,9 +215,10 @@ long_punctuator_at b bs = do
   Some (punctuation m, r)
 
 unfoldable pub punctuator_at : ℕ → List ℕ → Option (Lexeme × List ℕ)
-punctuator_at b bs = option_or (long_punctuator_at b bs) (option_map (λ m. (punctuation m, bs)) (punctuator_from b short_punctuators))
+punctuator_at b bs = option_or (long_punctuator_at b bs)
+    (option_map (λ m. (punctuation m, bs)) (punctuator_from b short_punctuators))
 
--- the piece that begins with a byte of this class
+-- The lexeme that starts with a byte of this class.
 unfoldable pub class_at : Class → ℕ → List ℕ → Option (Lexeme × List ℕ)
 class_at classes.Blank b bs = Some (blank, bs)
 class_at classes.LineEnd b bs = Some (line_end, bs)
@@ -221,7 +229,7 @@ class_at classes.Digit b bs = number_at (b ∷ bs)
 class_at classes.Letter b bs = Some (name (b ∷ front continues_word bs), behind continues_word bs)
 class_at classes.Other b bs = punctuator_at b bs
 
--- the longest piece in front
+-- The longest leading lexeme.
 unfoldable pub lexeme_at : List ℕ → Option (Lexeme × List ℕ)
 lexeme_at [] = None
 lexeme_at (b ∷ bs) = class_at (class_of b) b bs
@@ -231,40 +239,43 @@ lexeme_at (b ∷ bs) = class_at (class_of b) b bs
 abbrev pub one : Terminal → List ℕ → List LexedToken
 one s bytes = record { terminal = s; text = bytes } ∷ []
 
--- the tokens that what the code holds of a piece with these bytes is
+-- The tokens of a lexeme of this kind with these bytes; none for an invalid number.
 abbrev pub tokens_of : LexemeKind → List ℕ → Option (List LexedToken)
 tokens_of lexeme_kinds.Blank bytes = Some []
 tokens_of (lexeme_kinds.Token k) bytes = Some (one (terminal_of k bytes) bytes)
 tokens_of lexeme_kinds.InvalidNumber bytes = None
 
--- the tokens of a piece with these bytes, if it has any meaning
+-- The tokens of a lexeme with these bytes.
 abbrev pub meaning : Lexeme → List ℕ → Option (List LexedToken)
 meaning p bytes = tokens_of (lexeme_kind p) bytes
 
 abbrev pub listed : {A B : Type 0} → (A → B) → Option A → List B
 listed f o = option_to_list (option_map f o)
 
--- the result as it is seen
+-- The result with its value mapped.
 abbrev pub map_ok : {A B : Type 0} → (A → B) → Result A Fault → Result B Fault
 map_ok f (Ok x) = Ok (f x)
 map_ok f (Err e) = Err e
 
--- the tokens of the longest piece in front and what follows it, or why there are none
+-- The tokens of the longest leading lexeme and the rest of the text, or the fault.
 unfoldable pub next_at : List ℕ → Result (List LexedToken × List ℕ) Fault
 next_at ts =
-    option_map_or (λ x. map_ok (λ tokens. (tokens, x.1)) (ok_or (tokens_of x.0 (take (length ts - length x.1) ts)) faults.Number)) (scanned_kind (lexeme_at ts))
+    option_map_or (λ x. map_ok (λ tokens. (tokens, x.1))
+    (ok_or (tokens_of x.0 (take (length ts - length x.1) ts)) faults.Number))
+    (scanned_kind (lexeme_at ts))
     (Err (if slice_index ts 0 == 34 then faults.OpenString else faults.Byte))
 
--- a piece from a place to another is these tokens
+-- From `from` to `to` there is one longest lexeme, with these tokens.
 abbrev pub ScansOne : List ℕ → List LexedToken → List ℕ → Type 0
-ScansOne from tokens to = (p : Lexeme) × (bytes : List ℕ) × IsLongestLexeme p bytes from to × HasTokens p bytes tokens
+ScansOne from tokens to = (p : Lexeme) × (bytes : List ℕ) × IsLongestLexeme p bytes from to
+    × HasTokens p bytes tokens
 
 abbrev pub at_line : Fault → ℕ → LexFault
 at_line faults.Byte line = lexical.Byte line
 at_line faults.OpenString line = lexical.OpenString line
 at_line faults.Number line = lexical.Number line
 
--- a fault that is told is one of these; want of memory may be told of any text
+-- The property holds of the fault, if the error is one; a refused allocation says nothing about the text.
 abbrev pub IfRefused : (LexFault → Type 0) → LexError → Type 0
 IfRefused P (Refused fault) = P fault
 IfRefused P Memory = Unit {0}

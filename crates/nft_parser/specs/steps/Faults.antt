@@ -1,4 +1,4 @@
--- What a refusal of the lexer is as a refusal of the parser, and why tokens that spell no tree are refused.
+-- The parser's error for an error of the lexer, and for tokens that spell no ruleset.
 use Rattle.std.specs.Prelude.{Bool, true, false}
 use Rattle.nft_lexer.specs.declared.fault.LexError.{LexError}
 use Rattle.nft_lexer.specs.declared.fault.LexError.TheVariants as lexical
@@ -11,7 +11,7 @@ abbrev pub of_lex_error : LexError → ParseError
 of_lex_error (lexical.Refused fault) = Refused (Lexical fault)
 of_lex_error lexical.Memory = Memory
 
--- the fault of tokens that spell no tree, by whether one of their words is left out
+-- The fault of tokens that spell no ruleset, by whether one of them is an unsupported word.
 abbrev pub refusal : Bool → TextFault
 refusal true = Unsupported
 refusal false = Syntax

@@ -1,4 +1,4 @@
--- What is read of a match behind its first selector.
+-- The rest of a match, after its first selector.
 use Rattle.std.specs.Prelude.{List, [], ◌∷◌, Option}
 use Rattle.nft_lexer.specs.declared.token.Punctuator.TheVariants.{Dot}
 use Rattle.nft_lexer.specs.Terminal.{Terminal}
@@ -10,4 +10,5 @@ use Rattle.nft_expressions.specs.Selectors.{selector}
 use Rattle.nft_rules.specs.Matches.{direct, set_test}
 
 unfoldable pub match_after : Selector → List Terminal → Option (MatchTree × List Terminal)
-match_after s ts = let keys = with_front (s ∷ []) (all_at (punctuation Dot ▹ selector).read ts) in (set_test keys.0 ∣ direct keys.0).read keys.1
+match_after s ts = let keys = with_front (s ∷ []) (all_at (punctuation Dot ▹ selector).read ts) in
+    (set_test keys.0 ∣ direct keys.0).read keys.1

@@ -1,4 +1,4 @@
--- Parts of which only the reading is told, for the code that takes any.
+-- A production of which only the parser is known, for code that is generic in it.
 use Rattle.std.specs.Prelude.{List, [], Option, false}
 use Rattle.nft_lexer.specs.Terminal.{Terminal}
 use Rattle.token_reader.specs.Grammar.{Grammar}

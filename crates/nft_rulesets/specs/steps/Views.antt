@@ -1,4 +1,4 @@
--- What the fields that are read show, without where they lie in memory.
+-- The models of fields.
 use Rattle.std.specs.Prelude.{option_map}
 use Rattle.nft_rulesets.specs.declared.fields.Field.TheVariants as fields
 use Rattle.nft_rulesets.specs.declared.fields.Field.{Field}
@@ -15,4 +15,11 @@ field_tree key elements (fields.Comment text) = trees.comment text.items
 field_tree key elements (fields.Elements es) = trees.elements (elements es)
 
 abbrev pub fields_tree : {K E T U : Type 0} → (K → T) → (E → U) → Fields K E → FieldValues T U
-fields_tree key elements c = (option_map key c.key, option_map (λ f. f.items) c.flags, c.size, c.auto_merge, option_map (λ t. t.items) c.comment, option_map elements c.elements)
+fields_tree key elements c = (
+  option_map key c.key,
+  option_map (λ f. f.items) c.flags,
+  c.size,
+  c.auto_merge,
+  option_map (λ t. t.items) c.comment,
+  option_map elements c.elements,
+)

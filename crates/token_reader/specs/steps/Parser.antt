@@ -1,10 +1,10 @@
--- How a production is read from left to right, and what stands before and behind its spellings.
+-- Deterministic parsers, each with the FIRST and FOLLOW sets of its production.
 use Rattle.std.specs.Prelude.{ℕ, List, [], ◌∷◌, ◌++◌, Bool, true, false, Option, Some, None, cond}
 use Rattle.nft_lexer.specs.declared.token.Punctuator.{Punctuator}
 use Rattle.nft_lexer.specs.declared.token.Punctuator.TheVariants.{Semicolon}
 use Rattle.nft_lexer.specs.Terminal.{Terminal}
 use Rattle.token_reader.specs.steps.Reading.{after_word, skip_ends}
-use Rattle.token_reader.specs.steps.Fronts.{Lookahead, line, this_punctuator, this_word}
+use Rattle.token_reader.specs.steps.Lookaheads.{Lookahead, line, this_punctuator, this_word}
 use Rattle.list_laws.specs.Options.{◌>>=◌}
 use Rattle.token_reader.specs.steps.Reading.{option_else, all_at, after_at, punctuation_at, some_ends_at, separated_at, lines_at}
 
@@ -14,7 +14,7 @@ pub record Parser (A : Type 0) : Type 0 where
   pub follow : List Lookahead
   pub empty : Bool
 
--- one token
+-- A single token.
 abbrev pub token : {A : Type 0} → (List Terminal → Option (A × List Terminal)) → Lookahead → Parser A
 token read front = record { read = read; first = front ∷ []; follow = []; empty = false }
 
@@ -28,7 +28,12 @@ abbrev pub end_lookaheads : List Lookahead
 end_lookaheads = line ∷ this_punctuator Semicolon ∷ []
 
 abbrev pub ends : Parser Unit
-ends = record { read = λ ts. Some (tt, skip_ends ts); first = end_lookaheads; follow = end_lookaheads; empty = true }
+ends = record {
+  read = λ ts. Some (tt, skip_ends ts);
+  first = end_lookaheads;
+  follow = end_lookaheads;
+  empty = true;
+}
 
 abbrev pub some_ends : Parser Unit
 some_ends = record { read = some_ends_at; first = end_lookaheads; follow = end_lookaheads; empty = false }
@@ -36,9 +41,15 @@ some_ends = record { read = some_ends_at; first = end_lookaheads; follow = end_l
 abbrev pub when : Bool → List Lookahead → List Lookahead
 when b fs = cond b fs []
 
--- the second after the first
-abbrev joined : {A B C : Type 0} → Parser A → Parser B → (List Terminal → Option (C × List Terminal)) → Parser C
-joined p q read = record { read = read; first = p.first ++ when p.empty q.first; follow = q.follow ++ when q.empty p.follow; empty = cond p.empty q.empty false }
+-- A sequence.
+abbrev joined : {A B C : Type 0} → Parser A → Parser B → (List Terminal → Option (C × List Terminal))
+    → Parser C
+joined p q read = record {
+  read = read;
+  first = p.first ++ when p.empty q.first;
+  follow = q.follow ++ when q.empty p.follow;
+  empty = cond p.empty q.empty false;
+}
 
 abbrev pub then_both : {A B : Type 0} → Parser A → Parser B → Parser (A × B)
 then_both p q = joined p q (λ ts. p.read ts >>= λ x. q.read x.1 >>= λ y. Some ((x.0, y.0), y.1))
@@ -50,15 +61,30 @@ abbrev pub then_first : {A : Type 0} → Parser A → Parser Unit → Parser A
 then_first p q = joined p q (λ ts. p.read ts >>= λ x. q.read x.1 >>= λ y. Some (x.0, y.1))
 
 abbrev pub either : {A : Type 0} → Parser A → Parser A → Parser A
-either p q = record { read = λ ts. option_else (p.read ts) (λ x. Some x) (q.read ts); first = p.first ++ q.first; follow = p.follow ++ (q.follow ++ when q.empty p.first); empty = q.empty }
+either p q = record {
+  read = λ ts. option_else (p.read ts) (λ x. Some x) (q.read ts);
+  first = p.first ++ q.first;
+  follow = p.follow ++ (q.follow ++ when q.empty p.first);
+  empty = q.empty;
+}
 
 abbrev pub maybe : {A : Type 0} → Parser A → Parser (Option A)
-maybe p = record { read = λ ts. option_else (p.read ts) (λ x. Some (Some x.0, x.1)) (Some (None, ts)); first = p.first; follow = p.follow ++ p.first; empty = true }
+maybe p = record {
+  read = λ ts. option_else (p.read ts) (λ x. Some (Some x.0, x.1)) (Some (None, ts));
+  first = p.first;
+  follow = p.follow ++ p.first;
+  empty = true;
+}
 
 abbrev pub many : {A : Type 0} → Parser A → Parser (List A)
-many p = record { read = λ ts. Some (all_at p.read ts); first = p.first; follow = p.follow ++ p.first; empty = true }
+many p = record {
+  read = λ ts. Some (all_at p.read ts);
+  first = p.first;
+  follow = p.follow ++ p.first;
+  empty = true;
+}
 
--- another thing made of what is read
+-- The result mapped.
 abbrev remade : {A B : Type 0} → Parser A → (A × List Terminal → Option (B × List Terminal)) → Parser B
 remade p f = record { read = λ ts. p.read ts >>= f; first = p.first; follow = p.follow; empty = p.empty }
 
@@ -75,7 +101,17 @@ abbrev pub nothing : {A : Type 0} → Parser A
 nothing = record { read = λ ts. None; first = []; follow = []; empty = false }
 
 abbrev pub separated : {A : Type 0} → Parser Unit → Parser A → Parser (List A)
-separated s p = record { read = separated_at s.read p.read; first = p.first; follow = s.first ++ p.follow; empty = false }
+separated s p = record {
+  read = separated_at s.read p.read;
+  first = p.first;
+  follow = s.first ++ p.follow;
+  empty = false;
+}
 
 abbrev pub lines : {A : Type 0} → Parser A → Parser (List A)
-lines p = record { read = lines_at p.read; first = p.first; follow = end_lookaheads ++ (p.first ++ p.follow); empty = false }
+lines p = record {
+  read = lines_at p.read;
+  first = p.first;
+  follow = end_lookaheads ++ (p.first ++ p.follow);
+  empty = false;
+}

@@ -1,15 +1,15 @@
--- Single tokens in front, and runs of ends: what is read is what stands there.
+-- Single tokens and runs of ends: the result of a reader is what is spelled.
 use Rattle.std.proofs.Common.{◌≡◌, ℕ, zero, suc, ◌<◌, ◌≤◌, true, ◌==◌, List, [], ◌∷◌, length, Option, Some, None, ◌⊎◌, inl, inr, refl, sym, ap, ◌∙◌, arith}
 use Rattle.std.proofs.lemmas.Bool.{and_parts, eqb-true}
 use Rattle.std.specs.Prelude.{IfSome, map}
 use Rattle.std.specs.Str.{bytes_eq}
 use Rattle.list_laws.specs.Options.{IfSome_cond}
 use Rattle.nft_lexer.specs.declared.token.Punctuator.{Punctuator}
-use Rattle.nft_lexer.specs.declared.token.Punctuator.TheVariants as marks
+use Rattle.nft_lexer.specs.declared.token.Punctuator.TheVariants as punctuators
 use Rattle.nft_lexer.specs.declared.token.Token.{Token}
 use Rattle.nft_lexer.specs.Terminal.{Terminal, newline, punctuator, word, number, address, string, terminal_of, terminals, terminals_of, spelled}
 use Rattle.token_reader.specs.Repeats.{SpellsEnd, EndsCounted, Ends, SomeEnds}
-use Rattle.token_reader.specs.steps.Fronts.{punctuator_tag}
+use Rattle.token_reader.specs.steps.Lookaheads.{punctuator_tag}
 use Rattle.token_reader.specs.steps.Reading.{after_word, after_punctuator, after_end, after_ends, word_at, number_at, address_at, string_at, skip_ends}
 
 pub bytes_eq-true : (v w : List ℕ) → bytes_eq v w ≡ true → v ≡ w
@@ -23,48 +23,57 @@ bytes_eq-true (x ∷ xs) (y ∷ ys) e =
     cc
 
 nth_punctuator : List Punctuator → ℕ → Punctuator
-nth_punctuator [] n = marks.Above
+nth_punctuator [] n = punctuators.Above
 nth_punctuator (m ∷ ms) zero = m
 nth_punctuator (m ∷ ms) (suc n) = nth_punctuator ms n
 
 punctuator_of_tag : ℕ → Punctuator
 punctuator_of_tag = nth_punctuator (
-    marks.OpenBrace ∷ marks.CloseBrace ∷ marks.OpenParenthesis ∷ marks.CloseParenthesis ∷ marks.Comma ∷ marks.Semicolon ∷ marks.Colon ∷ marks.Dot ∷ marks.Slash ∷ marks.Minus
-    ∷ marks.Plus ∷ marks.Equals ∷ marks.At ∷ marks.Ampersand ∷ marks.Bar ∷ marks.EqualTo ∷ marks.NotEqualTo ∷ marks.AtMost ∷ marks.AtLeast ∷ marks.Below ∷ marks.Above ∷ [])
+    punctuators.OpenBrace ∷ punctuators.CloseBrace ∷ punctuators.OpenParenthesis
+    ∷ punctuators.CloseParenthesis ∷ punctuators.Comma ∷ punctuators.Semicolon ∷ punctuators.Colon
+    ∷ punctuators.Dot ∷ punctuators.Slash ∷ punctuators.Minus
+    ∷ punctuators.Plus ∷ punctuators.Equals ∷ punctuators.At ∷ punctuators.Ampersand ∷ punctuators.Bar
+    ∷ punctuators.EqualTo ∷ punctuators.NotEqualTo ∷ punctuators.AtMost ∷ punctuators.AtLeast
+    ∷ punctuators.Below ∷ punctuators.Above ∷ [])
 
 punctuator_of_tag-punctuator_tag : (m : Punctuator) → punctuator_of_tag (punctuator_tag m) ≡ m
 unfolding punctuator_of_tag nth_punctuator
-punctuator_of_tag-punctuator_tag marks.OpenBrace = refl
-punctuator_of_tag-punctuator_tag marks.CloseBrace = refl
-punctuator_of_tag-punctuator_tag marks.OpenParenthesis = refl
-punctuator_of_tag-punctuator_tag marks.CloseParenthesis = refl
-punctuator_of_tag-punctuator_tag marks.Comma = refl
-punctuator_of_tag-punctuator_tag marks.Semicolon = refl
-punctuator_of_tag-punctuator_tag marks.Colon = refl
-punctuator_of_tag-punctuator_tag marks.Dot = refl
-punctuator_of_tag-punctuator_tag marks.Slash = refl
-punctuator_of_tag-punctuator_tag marks.Minus = refl
-punctuator_of_tag-punctuator_tag marks.Plus = refl
-punctuator_of_tag-punctuator_tag marks.Equals = refl
-punctuator_of_tag-punctuator_tag marks.At = refl
-punctuator_of_tag-punctuator_tag marks.Ampersand = refl
-punctuator_of_tag-punctuator_tag marks.Bar = refl
-punctuator_of_tag-punctuator_tag marks.EqualTo = refl
-punctuator_of_tag-punctuator_tag marks.NotEqualTo = refl
-punctuator_of_tag-punctuator_tag marks.AtMost = refl
-punctuator_of_tag-punctuator_tag marks.AtLeast = refl
-punctuator_of_tag-punctuator_tag marks.Below = refl
-punctuator_of_tag-punctuator_tag marks.Above = refl
+punctuator_of_tag-punctuator_tag punctuators.OpenBrace = refl
+punctuator_of_tag-punctuator_tag punctuators.CloseBrace = refl
+punctuator_of_tag-punctuator_tag punctuators.OpenParenthesis = refl
+punctuator_of_tag-punctuator_tag punctuators.CloseParenthesis = refl
+punctuator_of_tag-punctuator_tag punctuators.Comma = refl
+punctuator_of_tag-punctuator_tag punctuators.Semicolon = refl
+punctuator_of_tag-punctuator_tag punctuators.Colon = refl
+punctuator_of_tag-punctuator_tag punctuators.Dot = refl
+punctuator_of_tag-punctuator_tag punctuators.Slash = refl
+punctuator_of_tag-punctuator_tag punctuators.Minus = refl
+punctuator_of_tag-punctuator_tag punctuators.Plus = refl
+punctuator_of_tag-punctuator_tag punctuators.Equals = refl
+punctuator_of_tag-punctuator_tag punctuators.At = refl
+punctuator_of_tag-punctuator_tag punctuators.Ampersand = refl
+punctuator_of_tag-punctuator_tag punctuators.Bar = refl
+punctuator_of_tag-punctuator_tag punctuators.EqualTo = refl
+punctuator_of_tag-punctuator_tag punctuators.NotEqualTo = refl
+punctuator_of_tag-punctuator_tag punctuators.AtMost = refl
+punctuator_of_tag-punctuator_tag punctuators.AtLeast = refl
+punctuator_of_tag-punctuator_tag punctuators.Below = refl
+punctuator_of_tag-punctuator_tag punctuators.Above = refl
 
 pub same_punctuator : (m n : Punctuator) → punctuator_tag m ≡ punctuator_tag n → m ≡ n
-same_punctuator m n e = sym (punctuator_of_tag-punctuator_tag m) ∙ ap punctuator_of_tag e ∙ punctuator_of_tag-punctuator_tag n
+same_punctuator m n e = sym (punctuator_of_tag-punctuator_tag m) ∙ ap punctuator_of_tag e
+    ∙ punctuator_of_tag-punctuator_tag n
 
 pub word_after : (w : List ℕ) (ts : List Terminal) → IfSome (after_word w ts) (λ a. ts ≡ word w ∷ a)
-word_after w (word v ∷ ts) = IfSome_cond _ (bytes_eq v w) ts (λ e. ap (λ (t : List ℕ). word t ∷ ts) (bytes_eq-true v w e))
+word_after w (word v ∷ ts) = IfSome_cond _ (bytes_eq v w) ts
+    (λ e. ap (λ (t : List ℕ). word t ∷ ts) (bytes_eq-true v w e))
 word_after w ts = tt
 
-pub punctuator_after : (m : Punctuator) (ts : List Terminal) → IfSome (after_punctuator m ts) (λ a. ts ≡ punctuator m ∷ a)
-punctuator_after m (punctuator n ∷ ts) = IfSome_cond _ (punctuator_tag n == punctuator_tag m) ts (λ e. ap (λ (k : Punctuator). punctuator k ∷ ts) (same_punctuator n m (eqb-true _ _ e)))
+pub punctuator_after : (m : Punctuator) (ts : List Terminal)
+    → IfSome (after_punctuator m ts) (λ a. ts ≡ punctuator m ∷ a)
+punctuator_after m (punctuator n ∷ ts) =
+    IfSome_cond _ (punctuator_tag n == punctuator_tag m) ts
+    (λ e. ap (λ (k : Punctuator). punctuator k ∷ ts) (same_punctuator n m (eqb-true _ _ e)))
 punctuator_after m ts = tt
 
 pub word_found : (ts : List Terminal) → IfSome (word_at ts) (λ x. ts ≡ word x.0 ∷ x.1)
@@ -83,28 +92,31 @@ pub string_found : (ts : List Terminal) → IfSome (string_at ts) (λ x. ts ≡ 
 string_found (string s ∷ ts) = refl
 string_found ts = tt
 
--- the signs of tokens are those of the tokens as they are spelled
+-- The terminals of tokens, by way of the tokens of the model.
 pub terminals_of-spelled : (tokens : List Token) → terminals_of (map spelled tokens) ≡ terminals tokens
 terminals_of-spelled [] = refl
-terminals_of-spelled (t ∷ ts) = ap (λ (others : List Terminal). terminal_of t.kind t.text.now ∷ others) (terminals_of-spelled ts)
+terminals_of-spelled (t ∷ ts) = ap (λ (others : List Terminal). terminal_of t.kind t.text.now ∷ others)
+    (terminals_of-spelled ts)
 
 -- ---- ends
 
--- no end stands in front
+-- The first token is no end.
 abbrev pub NoEnd : List Terminal → Type 0
 NoEnd ts = after_end ts ≡ None
 
--- what stands in front is an end, or no end is skipped there
-ends_or_not : (ts : List Terminal) → ((a : List Terminal) × SpellsEnd ts a × (after_end ts ≡ Some a) × (skip_ends ts ≡ skip_ends a)) ⊎ ((after_end ts ≡ None) × (skip_ends ts ≡ ts))
+-- The first token is an end, or skipping ends changes nothing.
+ends_or_not : (ts : List Terminal) → ((a : List Terminal) × SpellsEnd ts a × (after_end ts ≡ Some a)
+    × (skip_ends ts ≡ skip_ends a)) ⊎ ((after_end ts ≡ None) × (skip_ends ts ≡ ts))
 ends_or_not (newline ∷ ts) = inl (ts, inl refl, refl, refl)
-ends_or_not (punctuator marks.Semicolon ∷ ts) = inl (ts, inr refl, refl, refl)
+ends_or_not (punctuator punctuators.Semicolon ∷ ts) = inl (ts, inr refl, refl, refl)
 ends_or_not ts = inr (refl, refl)
 
-end_only : (from to : List Terminal) → SpellsEnd from to → (after_end from ≡ Some to) × (skip_ends from ≡ skip_ends to) × (length from ≡ suc (length to))
+end_only : (from to : List Terminal) → SpellsEnd from to
+    → (after_end from ≡ Some to) × (skip_ends from ≡ skip_ends to) × (length from ≡ suc (length to))
 end_only from to (inl e) = rw e (refl, refl, refl)
 end_only from to (inr e) = rw e (refl, refl, refl)
 
--- the ends that are skipped are any number of ends
+-- The skipped ends are {end}.
 skipped_in : (n : ℕ) (ts : List Terminal) → length ts ≤ n → Ends ts (skip_ends ts)
 skipped_in n [] le = (0, refl)
 skipped_in zero (t ∷ ts) le = absurd (omega arith)
@@ -120,7 +132,7 @@ skipped_in (suc n) (t ∷ ts) le =
 pub ends_found : (ts : List Terminal) → Ends ts (skip_ends ts)
 ends_found ts = skipped_in (length ts) ts (omega arith)
 
--- where no end stands, none is skipped
+-- Where the first token is no end, none is skipped.
 none_skipped : (ts : List Terminal) → NoEnd ts → skip_ends ts ≡ ts
 none_skipped ts none =
     elim (ends_or_not ts) [
@@ -134,7 +146,7 @@ counted_only : (n : ℕ) (from to : List Terminal) → EndsCounted n from to →
 counted_only zero from to s none = ap skip_ends s ∙ none_skipped to none
 counted_only (suc n) from to s none = (end_only from s.0 s.1).1 ∙ counted_only n s.0 to s.2 none
 
--- any number of ends up to a place where none stands are those that are skipped
+-- {end} before a token that is no end is what is skipped.
 pub ends_only : (from to : List Terminal) → Ends from to → NoEnd to → skip_ends from ≡ to
 ends_only from to s none = counted_only s.0 from to s.1 none
 

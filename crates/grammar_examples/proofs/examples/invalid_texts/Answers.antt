@@ -15,10 +15,14 @@ use Rattle.grammar_examples.proofs.examples.invalid_texts.Goals as goal
 pub returns : goal.returns
 unfolding many_at verdict map_data elements ruleset_at whole_ruleset flush table
 returns c = record {
-  no_unended_flush = λ tables s. let e : None ≡ Some tables = ruleset_only tables (word (codes "flush") ∷ word (codes "ruleset") ∷ []) s in cc;
-  no_reject = λ v rest to s. let e : false ≡ true = begins verdict lawful_verdict refl v (word (codes "reject") ∷ rest) to s in cc;
-  no_plain_flags = λ op r from to s. let e : false ≡ true = (compares selectors.TcpFlags op r from to s).0 in cc;
-  no_unlisted_word = λ op from to s. let e : false ≡ true = (compares selectors.TcpDestination op (tree.one (tree.word (codes "telnet"))) from to s).1 in cc;
+  no_unended_flush = λ tables s. let e : None ≡ Some tables =
+      ruleset_only tables (word (codes "flush") ∷ word (codes "ruleset") ∷ []) s in cc;
+  no_reject = λ v rest to s. let e : false ≡ true =
+      begins verdict lawful_verdict refl v (word (codes "reject") ∷ rest) to s in cc;
+  no_plain_flags = λ op r from to s. let e : false ≡ true = (compares selectors.TcpFlags op r from to s).0 in
+      cc;
+  no_unlisted_word = λ op from to s. let e : false ≡ true =
+      (compares selectors.TcpDestination op (tree.one (tree.word (codes "telnet"))) from to s).1 in cc;
   no_verdict_as_value = λ from to s.
       elim s [
         | inl v ↦ let e = v.1 in cc

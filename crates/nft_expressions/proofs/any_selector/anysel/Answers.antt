@@ -7,8 +7,11 @@ use Rattle.nft_expressions.proofs.any_selector.anysel.Goals as goal
 
 pub returns-clause-found : goal.returns-clause-found
 unfolding selector
-returns-clause-found c = (reads_from lawful_selector Anything (λ ts e. refl) (λ s. s) c.args.tokens.now c.args.at c.selector.result c.selector.ensures).found
+returns-clause-found c = (reads_from lawful_selector Anything (λ ts e. refl) (λ s. s) c.args.tokens.now
+    c.args.at c.selector.result c.selector.ensures).found
 
 pub returns-clause-only : goal.returns-clause-only
 unfolding selector
-returns-clause-only c = λ s to spelled. (reads_from lawful_selector Anything (λ ts e. refl) (λ s. s) c.args.tokens.now c.args.at c.selector.result c.selector.ensures).only s to spelled tt
+returns-clause-only c = λ s to spelled.
+    (reads_from lawful_selector Anything (λ ts e. refl) (λ s. s) c.args.tokens.now c.args.at c.selector.result
+    c.selector.ensures).only s to spelled tt

@@ -5,10 +5,11 @@ use Rattle.nft_expressions.specs.steps.Braces.{behind_kept}
 use Rattle.nft_expressions.specs.steps.Reading.{enclosed_at}
 use Rattle.nft_expressions.proofs.between_braces.enclosed.Given as goal
 
--- what is kept stands before what is still enclosed
+-- The tokens kept so far come before those still enclosed.
 abbrev pub invariant-loop-token : goal.invariant-loop-token
 invariant-loop-token l = record {
-  read : behind_kept (terminals l.kept.items) (remaining l.tokens l.here) ≡ enclosed_at (remaining l.tokens l.at);
+  read : behind_kept (terminals l.kept.items) (remaining l.tokens l.here)
+      ≡ enclosed_at (remaining l.tokens l.at);
   within : l.at + length l.kept.items ≤ l.here;
 }
 

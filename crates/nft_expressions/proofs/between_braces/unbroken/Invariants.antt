@@ -4,10 +4,11 @@ use Rattle.nft_expressions.specs.steps.Braces.{behind_kept}
 use Rattle.nft_expressions.specs.steps.Reading.{enclosed_at}
 use Rattle.nft_expressions.proofs.between_braces.unbroken.Given as goal
 
--- all tokens so far stand before what is still enclosed
+-- All tokens so far come before those still enclosed.
 abbrev pub invariant-loop-after : goal.invariant-loop-after
 invariant-loop-after l = record {
-  read : enclosed_at (remaining l.tokens l.at) ≡ behind_kept (take (l.here - l.at) (remaining l.tokens l.at)) (remaining l.tokens l.here);
+  read : enclosed_at (remaining l.tokens l.at)
+      ≡ behind_kept (take (l.here - l.at) (remaining l.tokens l.at)) (remaining l.tokens l.here);
   rest : drop (l.here - l.at) (remaining l.tokens l.at) ≡ remaining l.tokens l.here;
   within : l.at ≤ l.here;
 }

@@ -9,9 +9,13 @@ use Rattle.nft_expressions.proofs.lists.elems.Goals as goal
 
 pub returns-clause-found : goal.returns-clause-found
 unfolding elements
-returns-clause-found c = IfOk-weaker c.up_to_brace.result _ _ (λ o r. r.found) (taking_reads lawful_elements Anything (λ ts e. refl) (λ found. map element_tree found.items) c.args.tokens.now c.args.at c.up_to_brace.result c.up_to_brace.ensures)
+returns-clause-found c = IfOk-weaker c.up_to_brace.result _ _ (λ o r. r.found)
+    (taking_reads lawful_elements Anything (λ ts e. refl) (λ found. map element_tree found.items)
+    c.args.tokens.now c.args.at c.up_to_brace.result c.up_to_brace.ensures)
 
 pub returns-clause-only : goal.returns-clause-only
 unfolding elements
 returns-clause-only c = λ xs to s.
-    IfOk-weaker c.up_to_brace.result _ _ (λ o r. r.only xs to s tt) (taking_reads lawful_elements Anything (λ ts e. refl) (λ found. map element_tree found.items) c.args.tokens.now c.args.at c.up_to_brace.result c.up_to_brace.ensures)
+    IfOk-weaker c.up_to_brace.result _ _ (λ o r. r.only xs to s tt)
+    (taking_reads lawful_elements Anything (λ ts e. refl) (λ found. map element_tree found.items)
+    c.args.tokens.now c.args.at c.up_to_brace.result c.up_to_brace.ensures)

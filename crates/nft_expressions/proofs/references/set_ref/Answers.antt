@@ -9,8 +9,10 @@ use Rattle.nft_expressions.proofs.references.set_ref.Goals as goal
 
 pub returns-clause-reads : goal.returns-clause-reads
 unfolding set_ref elements braced_at
-returns-clause-reads c = reads_from lawful_set_ref Anything (λ ts e. refl) set_ref_tree c.args.tokens.now c.args.at None (search rules)
+returns-clause-reads c = reads_from lawful_set_ref Anything (λ ts e. refl) set_ref_tree c.args.tokens.now
+    c.args.at None (search rules)
 
 pub returns-2-clause-reads : goal.returns-2-clause-reads
 unfolding set_ref elements braced_at
-returns-2-clause-reads c = reads_from lawful_set_ref Anything (λ ts e. refl) set_ref_tree c.args.tokens.now c.args.at _ (search rules)
+returns-2-clause-reads c = reads_from lawful_set_ref Anything (λ ts e. refl) set_ref_tree c.args.tokens.now
+    c.args.at _ (search rules)

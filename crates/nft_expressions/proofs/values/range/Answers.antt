@@ -8,4 +8,6 @@ use Rattle.nft_expressions.proofs.values.range.Goals as goal
 
 pub returns-2-clause-reads : goal.returns-2-clause-reads
 unfolding range
-returns-2-clause-reads c = reads_from lawful_range EndsRange (λ ts e. rw (no_punctuator Minus ts e.0, no_punctuator Slash ts e.1.0) refl) range_tree c.args.tokens.now c.args.at _ (search rules)
+returns-2-clause-reads c = reads_from lawful_range EndsRange
+    (λ ts e. rw (no_punctuator Minus ts e.0, no_punctuator Slash ts e.1.0) refl) range_tree c.args.tokens.now
+    c.args.at _ (search rules)

@@ -8,4 +8,5 @@ use Rattle.nft_expressions.proofs.verdicts.verdict.Goals as goal
 
 pub returns-clause-reads : goal.returns-clause-reads
 unfolding verdict
-returns-clause-reads c = taking_reads lawful_verdict Anything (λ ts e. refl) verdict_tree c.args.tokens.now c.args.at c.read_verdict.result c.read_verdict.ensures
+returns-clause-reads c = taking_reads lawful_verdict Anything (λ ts e. refl) verdict_tree c.args.tokens.now
+    c.args.at c.read_verdict.result c.read_verdict.ensures

@@ -9,19 +9,25 @@ use Rattle.nft_lexer.proofs.lexing.tokens.Goals as goal
 pub loop-rest-init : goal.loop-rest-init
 loop-rest-init c = rw c.in_ok-found.ensures.items (reached_none c.args.text.now)
 
-passed : (c : goal.In_ok-append) → ScansOne c.loop-rest.rest.now (listed spelled c.in-Ok.read.0) c.in-Ok.read.1.now
+passed : (c : goal.In_ok-append) → ScansOne c.loop-rest.rest.now (listed spelled c.in-Ok.read.0)
+    c.in-Ok.read.1.now
 passed c =
-    let some : 0 < length c.loop-rest.rest.now = grind (arith, nat_tests, c.is_empty.ensures, c.loop-rest-test.true) in
+    let some : 0 < length c.loop-rest.rest.now =
+    grind (arith, nat_tests, c.is_empty.ensures, c.loop-rest-test.true) in
     rw (sym c.in-Ok.ensures) at (next_is c.loop-rest.rest.now some)
 
 pub loop-rest-preserved : goal.loop-rest-preserved
-loop-rest-preserved c = rw c.in_ok-append.ensures (reached_push c.args.text.now c.loop-rest.rest.now c.in-Ok.read.1.now (map spelled c.loop-rest.found.items) _ c.loop-rest.invariant (passed c))
+loop-rest-preserved c = rw c.in_ok-append.ensures
+    (reached_push c.args.text.now c.loop-rest.rest.now c.in-Ok.read.1.now
+    (map spelled c.loop-rest.found.items) _ c.loop-rest.invariant (passed c))
 
 pub loop-rest-smaller : goal.loop-rest-smaller
 loop-rest-smaller c = passes_less c.loop-rest.rest.now c.in-Ok.read.1.now _ (passed c)
 
 pub returns-in-Err-clause-fault : goal.returns-in-Err-clause-fault
 returns-in-Err-clause-fault c =
-    let some : 0 < length c.loop-rest.rest.now = grind (arith, nat_tests, c.is_empty.ensures, c.loop-rest-test.true) in
+    let some : 0 < length c.loop-rest.rest.now =
+    grind (arith, nat_tests, c.is_empty.ensures, c.loop-rest-test.true) in
     let fault = rw (sym c.in-Err.ensures) at (next_is c.loop-rest.rest.now some) in
-    rw c.at_line.ensures (reached_fault c.args.text.now c.loop-rest.rest.now _ _ c.requires c.loop-rest.invariant (rw (sym c.line_after.ensures) (fault c.line_after.result)))
+    rw c.at_line.ensures (reached_fault c.args.text.now c.loop-rest.rest.now _ _ c.requires
+    c.loop-rest.invariant (rw (sym c.line_after.ensures) (fault c.line_after.result)))

@@ -19,6 +19,8 @@ returns c = λ text first second f s.
             | inl l ↦ absurd (c.one_tokenization.ensures.faultless text n.2.0 l.0 n.2.1 l.2)
             | inr m ↦
                 let same : n.2.0 ≡ m.2.0 = c.one_tokenization.ensures.one text n.2.0 m.2.0 n.2.1 m.2.1 in
-                n.1 ∙ ap refusal (sym n.2.3 ∙ ap (λ (tokens : List LexedToken). has_unsupported (terminals_of tokens)) same ∙ m.2.3) ∙ sym m.1
+                n.1 ∙ ap refusal (sym n.2.3
+                ∙ ap (λ (tokens : List LexedToken). has_unsupported (terminals_of tokens)) same ∙ m.2.3)
+                ∙ sym m.1
           ]
     ]

@@ -8,7 +8,8 @@ use Rattle.nft_parser.proofs.laws.one_tree.Goals as goal
 pub returns-clause-one : goal.returns-clause-one
 returns-clause-one c = λ text first second f s.
     let same : f.0 ≡ s.0 = c.one_tokenization.ensures.one text f.0 s.0 f.1 s.1 in
-    same_Some first second (sym (ruleset_only first (terminals_of f.0) f.2) ∙ ap (λ tokens. ruleset_at (terminals_of tokens)) same ∙ ruleset_only second (terminals_of s.0) s.2)
+    same_Some first second (sym (ruleset_only first (terminals_of f.0) f.2)
+    ∙ ap (λ tokens. ruleset_at (terminals_of tokens)) same ∙ ruleset_only second (terminals_of s.0) s.2)
 
 pub returns-clause-faultless : goal.returns-clause-faultless
 returns-clause-faultless c = λ text tree fault s h.

@@ -6,8 +6,10 @@ use Rattle.nft_expressions.specs.Selectors.{is_word_for}
 use Rattle.nft_rules.specs.Matches.{words}
 use Rattle.nft_rules.proofs.bits.words.Given as goal
 
--- the words before this one are listed
+-- The words before this one are symbolic constants.
 abbrev pub invariant-loop-word : goal.invariant-loop-word
 invariant-loop-word l =
     let texts = map (λ (w : Vec ℕ Global). w.items) in
-    (passing (list_all (is_word_for l.selector)) words).read (remaining l.tokens l.fn.at) ≡ cond (list_all (is_word_for l.selector) (texts (drop l.word-index l.word-items))) (Some (texts l.word-items, remaining l.tokens l.at)) None
+    (passing (list_all (is_word_for l.selector)) words).read (remaining l.tokens l.fn.at)
+    ≡ cond (list_all (is_word_for l.selector) (texts (drop l.word-index l.word-items)))
+    (Some (texts l.word-items, remaining l.tokens l.at)) None

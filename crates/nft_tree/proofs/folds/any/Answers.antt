@@ -6,5 +6,6 @@ use Rattle.nft_tree.proofs.folds.any.Goals as goal
 
 pub returns : goal.returns
 returns g c = λ passes k.
-    any_from_yields_List (λ x. passes (g.T.TreeNode.tree x)) _ _ c.any.result c.any.ensures.ran (YieldsList-from_slice c.args.items.now cc) (λ x b q h. (search of_calls, k x b (search of_calls)))
+    any_from_yields_List (λ x. passes (g.T.TreeNode.tree x)) _ _ c.any.result c.any.ensures.ran
+    (YieldsList-from_slice c.args.items.now cc) (λ x b q h. (search of_calls, k x b (search of_calls)))
     ∙ any_of_map passes g.T.TreeNode.tree c.args.items.now

@@ -8,8 +8,9 @@ use Rattle.token_reader.specs.steps.Reading.{after_punctuator}
 use Rattle.nft_expressions.specs.Elements.{range, comment, map_data, pair}
 use Rattle.nft_expressions.proofs.maps.MapPairProduction.read.Goals as goal
 
--- a pair is read as its key up to the colon, and its data
-in_two : (ts : List Terminal) → pair.read ts ≡ (range ⨾ comment ◃ punctuation Colon).read ts >>= λ k. map_data.read k.1 >>= λ d. Some (record { key = k.0.0; comment = k.0.1; value = d.0 }, d.1)
+-- A pair is its key up to the colon, and then its data.
+in_two : (ts : List Terminal) → pair.read ts ≡ (range ⨾ comment ◃ punctuation Colon).read ts
+    >>= λ k. map_data.read k.1 >>= λ d. Some (record { key = k.0.0; comment = k.0.1; value = d.0 }, d.1)
 unfolding pair
 in_two ts =
     elim (option_cases (range.read ts)) [
@@ -17,11 +18,12 @@ in_two ts =
       | inr key ↦ rw key.1
           (elim (option_cases (comment.read key.0.1)) [
             | inl none ↦ rw none refl
-            | inr said ↦ rw said.1
-                (elim (option_cases (after_punctuator Colon said.0.1)) [
+            | inr noted ↦ rw noted.1
+                (elim (option_cases (after_punctuator Colon noted.0.1)) [
                   | inl none ↦ rw none refl
                   | inr after ↦ rw after.1
-                      (elim (option_cases (map_data.read after.0)) [ inl none ↦ rw none refl | inr found ↦ rw found.1 refl ])
+                      (elim (option_cases (map_data.read after.0))
+                      [ inl none ↦ rw none refl | inr found ↦ rw found.1 refl ])
                 ])
           ])
     ]

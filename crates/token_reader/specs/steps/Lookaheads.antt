@@ -1,4 +1,4 @@
--- What stands in front of some tokens.
+-- Lookahead: the first token.
 use Rattle.std.specs.Prelude.{ℕ, List, ◌∷◌, Bool, true, false, ◌==◌}
 use Rattle.std.specs.List.{list_any}
 use Rattle.std.specs.Str.{bytes_eq}
@@ -8,11 +8,11 @@ use Rattle.nft_lexer.specs.contracts.token.Punctuator.{the_type}
 use Rattle.nft_lexer.specs.Terminal as terminals
 use Rattle.nft_lexer.specs.Terminal.{Terminal}
 
--- marks by number, to compare them
+-- Punctuators as numbers, to compare them.
 abbrev pub punctuator_tag : Punctuator → ℕ
 punctuator_tag = tag_of the_type
 
--- tokens that may stand in front
+-- A set of first tokens.
 pub data Lookahead : Type 0 where
   line : Lookahead
   this_punctuator : Punctuator → Lookahead
@@ -32,6 +32,6 @@ matches_lookahead (terminals.address a ∷ ts) any_address = true
 matches_lookahead (terminals.string s ∷ ts) any_string = true
 matches_lookahead ts f = false
 
--- one of these stands in front
+-- The first token is in one of these sets.
 abbrev pub begins_with : List Lookahead → List Terminal → Bool
 begins_with fs ts = list_any (matches_lookahead ts) fs

@@ -1,8 +1,8 @@
 #!/usr/bin/env python3
-"""Writes long stories, drawn by chance, with what a run has to make of them: rows of crates/golden_runs/data.
+"""Writes long random histories with the outputs that a run must give: rows of crates/golden_runs/data.
 
-bench/stories.py            writes the rows
-bench/stories.py --check    tells where they differ, and writes nothing
+bench/histories.py            writes the rows
+bench/histories.py --check    tells where they differ, and writes nothing
 
 What becomes of each record is told by plain searches through lists, written apart from the program and in
 another language: by docs/SPEC.md, section 6, through all earlier records of a history, by its section 7
@@ -18,7 +18,7 @@ RECORDS = 2000
 SECOND = 1_000_000_000
 FIN, SYN, RST, ACK = 1, 2, 4, 16
 LETTERS = ((SYN, "S"), (FIN, "F"), (RST, "R"), (ACK, "A"))
-BYTES = {"udp": 28, "tcp": 40, "ask": 28, "answer": 28, "gre": 20}
+BYTES = {"udp": 28, "tcp": 40, "echo-request": 28, "echo-reply": 28, "gre": 20}
 
 
 def address(text):
@@ -55,15 +55,15 @@ class Packet:
         self.kind, self.flags = load
         # The identifier of an echo is the port of the end that asks; other ends have no port.
         start, end = ends
-        if self.kind in ("answer", "gre"):
+        if self.kind in ("echo-reply", "gre"):
             start = (start[0], 0)
-        if self.kind in ("ask", "gre"):
+        if self.kind in ("echo-request", "gre"):
             end = (end[0], 0)
         self.ends = (start, end)
 
     @property
     def protocol(self):
-        return "echo" if self.kind in ("ask", "answer") else self.kind
+        return "echo" if self.kind in ("echo-request", "echo-reply") else self.kind
 
     @property
     def is_lone_syn(self):
@@ -122,7 +122,7 @@ def row(name, rules, plant, packets, left, told, totals):
 
 
 class Tracked:
-    """A record of a story in which nothing is translated, and what became of it."""
+    """A record of a history without NAT, and its outcome."""
 
     def __init__(self, packet):
         self.packet = packet
@@ -166,10 +166,10 @@ def lives(past, place, now):
 
 def tracked_belonging(past, packet):
     """The place of the connection to which a packet belongs, and whether in direction reply."""
-    for is_reply, ends, never in ((False, packet.ends, "answer"), (True, back(packet.ends), "ask")):
+    for is_reply, ends, never in ((False, packet.ends, "echo-reply"), (True, back(packet.ends), "echo-request")):
         for place, one in enumerate(past):
             is_alike = one.packet.ends == ends and one.packet.protocol == packet.protocol
-            if is_alike and packet.kind != never and one.packet.kind != "answer" and lives(past, place, packet.at):
+            if is_alike and packet.kind != never and one.packet.kind != "echo-reply" and lives(past, place, packet.at):
                 return place, is_reply
     return None
 
@@ -186,7 +186,7 @@ def track(past, packet):
         is_answered = one.is_reply or any(other.is_reply for other in earlier)
         one.state = "established" if is_answered else "new"
         one.had_mark = any(other.packet.ttl == MARKING for other in earlier)
-    elif packet.kind != "answer":
+    elif packet.kind != "echo-reply":
         connection, one.state = len(past), "new"
     else:
         return one
@@ -205,7 +205,7 @@ def tracked_packet(dice, at):
     by, ends = ("lan", (inside, outside)) if dice.roll(2) == 0 else ("wan", (outside, inside))
     ttl = {0: 1, 1: DROPPED, 2: MARKING}.get(dice.roll(16), 64)
     drawn = dice.roll(14)
-    others = {3: ("ask", 0), 4: ("answer", 0), 5: ("gre", 0), 8: ("tcp", SYN | ACK), 9: ("tcp", FIN | ACK), 10: ("tcp", RST)}
+    others = {3: ("echo-request", 0), 4: ("echo-reply", 0), 5: ("gre", 0), 8: ("tcp", SYN | ACK), 9: ("tcp", FIN | ACK), 10: ("tcp", RST)}
     load = others.get(drawn, ("udp", 0) if drawn < 3 else ("tcp", ACK) if drawn < 8 else ("tcp", SYN))
     return Packet(at, by, load, ends, ttl)
 
@@ -226,7 +226,7 @@ def counted(past):
         yield f"counter ip t fwd {rule} 1 packets {len(lengths)} bytes {sum(lengths)}"
 
 
-def tracked_story(seed):
+def tracked_history(seed):
     dice, second, past = Dice(seed), 0, []
     for _ in range(RECORDS):
         waited = dice.wait()
@@ -402,10 +402,10 @@ class Translated:
         packet = self.packet
         alike = [one for one in self.live if one.protocol == packet.protocol]
         for one in alike:
-            if packet.kind != "answer" and one.came == packet.ends:
+            if packet.kind != "echo-reply" and one.came == packet.ends:
                 return one, False
         for one in alike:
-            if packet.kind != "ask" and one.left == back(packet.ends):
+            if packet.kind != "echo-request" and one.left == back(packet.ends):
                 return one, True
         return None
 
@@ -419,7 +419,7 @@ def translate(packet, connections):
         going = Translated(packet, connections)
     if found:
         return going.within(*found), going.ends
-    if packet.kind == "answer":
+    if packet.kind == "echo-reply":
         return going.lead(), going.ends
     outcome, begun = going.begin()
     if begun:
@@ -436,7 +436,7 @@ def load(dice):
     drawn = dice.roll(16)
     if 7 <= drawn < 13:
         return tcp(dice)
-    return ({13: "ask", 14: "gre", 15: "answer"}.get(drawn, "udp"), 0)
+    return ({13: "echo-request", 14: "gre", 15: "echo-reply"}.get(drawn, "udp"), 0)
 
 
 def lately(dice, past):
@@ -445,7 +445,7 @@ def lately(dice, past):
     if place < 0 or past[place][1] != "left":
         return None
     packet, _, ends = past[place]
-    other = {"tcp": lambda: tcp(dice), "ask": lambda: ("answer", 0), "answer": lambda: ("ask", 0)}
+    other = {"tcp": lambda: tcp(dice), "echo-request": lambda: ("echo-reply", 0), "echo-reply": lambda: ("echo-request", 0)}
     answer = other[packet.kind]() if packet.kind in other else (packet.kind, 0)
     return ("lan" if is_inside(ends[1][0]) else "wan"), back(ends), answer
 
@@ -484,7 +484,7 @@ def any_packet(dice):
     return by, ends, load(dice)
 
 
-def translated_story(seed):
+def translated_history(seed):
     """About half of the records answer one that left."""
     dice, second, past, connections = Dice(seed), 0, [], []
     for _ in range(RECORDS):
@@ -526,17 +526,17 @@ def had_end_of(old, one):
 
 
 def rows():
-    head = ["# Written by bench/stories.py, which tells what becomes of each record by plain searches.", ""]
-    stories = [tracked_story(1), [""], translated_story(1), [""], translated_story(2)]
-    return "\n".join(sum(stories, head)) + "\n"
+    head = ["# Written by bench/histories.py, which predicts each outcome by plain searches of the history.", ""]
+    histories = [tracked_history(1), [""], translated_history(1), [""], translated_history(2)]
+    return "\n".join(sum(histories, head)) + "\n"
 
 
 def main(words):
-    path = os.path.join(DATA, "stories.rows")
+    path = os.path.join(DATA, "histories.rows")
     if words == ["--check"]:
         with open(path, encoding="utf-8") as it:
             if it.read() != rows():
-                print("crates/golden_runs/data/stories.rows differs from what bench/stories.py writes")
+                print("crates/golden_runs/data/histories.rows differs from what bench/histories.py writes")
                 return 1
         return 0
     with open(path, "w", encoding="utf-8") as it:
