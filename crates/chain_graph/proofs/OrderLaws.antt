@@ -1,4 +1,4 @@
--- How the search begins, and what it has found at its end.
+-- The initial state of the search, and its result.
 use Rattle.std.proofs.Common.{◌≡◌, ◌≢◌, ◌⊎◌, ℕ, zero, suc, ◌<◌, List, [], ◌∷◌, length, get_or, sym, refl, subst, ◌∙◌, inl, inr, ⊎_elim, arith, replicate, map, le_of_eq}
 use Rattle.std.specs.Prelude.{Contains}
 use Rattle.std.proofs.lemmas.Bool.{cases_lt}
