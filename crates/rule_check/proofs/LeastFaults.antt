@@ -1,4 +1,4 @@
--- What is told of the faults in their order.
+-- The least fault, stage by stage.
 use Rattle.std.proofs.Common.{◌≡◌, ◌≤◌, ◌<◌, ◌+◌, ◌⊎◌, ℕ, Bool, true, false, List, Option, Some, None, subst, inl, inr, arith}
 use Rattle.std.specs.Prelude.{IsTrue, ◌↔◌}
 use Rattle.std.proofs.lemmas.Bool.{cases_lt}
@@ -13,12 +13,12 @@ use Rattle.rule_check.proofs.Numbers.{below_16, from_one, same_number}
 pub not_true : (b : Bool) → b ≡ false → b ≡ true → ⊥
 not_true b e f = cc
 
--- what a test that fails decides isn't so
+-- a fault whose test fails is absent
 pub not_so : (b : Bool) (P : Type 0) → IsTrue b ↔ P → b ≡ false → P → ⊥
 not_so b P either e p = let f : b ≡ true = either.1 p in cc
 
 module _ (tables : List TableTree) (plant : PlantTree) where
-  -- one fault that the ruleset hasn't
+  -- one absent fault
   pub without : (fault : CheckFault) → (Wrong fault tables plant → ⊥) → HasNone (number fault) (number fault + 1) tables plant
   without fault not_it other from to wrong = not_it (subst (λ (f : CheckFault). Wrong f tables plant) (same_number other fault (omega (arith, from, to))) wrong)
 
@@ -29,14 +29,14 @@ module _ (tables : List TableTree) (plant : PlantTree) where
       by_number (inl low) = first fault from low wrong
       by_number (inr high) = second fault high to wrong
 
-  -- one more that it hasn't
+  -- one more absent fault
   pub more : (from : ℕ) (fault : CheckFault) → HasNone from (number fault) tables plant → (Wrong fault tables plant → ⊥) → HasNone from (number fault + 1) tables plant
   more from fault none not_it = and_then from (number fault) (number fault + 1) none (without fault not_it)
 
   pub none_yet : (from : ℕ) → HasNone from from tables plant
   none_yet from fault low high wrong = omega (arith, low, high)
 
-  -- the fault after faults that the ruleset hasn't
+  -- a fault after absent ones
   pub reported : (from : ℕ) (fault : CheckFault) (to : ℕ) → from ≤ number fault → number fault < to → HasNone from (number fault) tables plant → Wrong fault tables plant → IsLeastFaultIn from to tables plant (Some fault)
   reported from fault to low high none wrong = (low, high, wrong, none)
 
@@ -48,7 +48,7 @@ module _ (tables : List TableTree) (plant : PlantTree) where
       by_number other has (inl low) = absurd (none other (from_one other) low has)
       by_number other has (inr high) = high
 
-  -- behind faults that the ruleset hasn't the one that is told is the least
+  -- after absent faults, the reported one is the least
   pub least_reported : (from to : ℕ) (fault : CheckFault) (answer : Option CheckFault) → HasNone 1 from tables plant → answer ≡ Some fault → IsLeastFaultIn from to tables plant answer → LeastFault fault tables plant
   least_reported from to fault answer none is is_least =
       let t : IsLeastFaultIn from to tables plant (Some fault) = subst (λ (o : Option CheckFault). IsLeastFaultIn from to tables plant o) is is_least in
@@ -60,6 +60,6 @@ module _ (tables : List TableTree) (plant : PlantTree) where
   pub well_formed : HasNone 1 16 tables plant → WellFormed tables plant
   well_formed none fault wrong = none fault (from_one fault) (below_16 fault) wrong
 
--- at most one fault is the least
+-- the least fault is unique
 pub one_least : (tables : List TableTree) (plant : PlantTree) (fault other : CheckFault) → LeastFault fault tables plant → LeastFault other tables plant → fault ≡ other
 one_least tables plant fault other a b = same_number fault other (omega (arith, a.least other b.wrong, b.least fault a.wrong))

@@ -42,7 +42,7 @@ numbered_number faults.TooLarge = refl
 some_same : (a b : CheckFault) → Some a ≡ Some b → a ≡ b
 some_same a b e = cc
 
--- two faults of one number are one
+-- faults with the same number are equal
 pub same_number : (a b : CheckFault) → number a ≡ number b → a ≡ b
 same_number a b e = some_same a b (sym (numbered_number a) ∙ ap numbered e ∙ numbered_number b)
 

@@ -1,4 +1,5 @@
--- What is wrong with a ruleset on a box, in the order in which it is told.
+-- The faults of a ruleset on a box, N01 to N15, of which the one with the lowest number is reported. (own;
+-- each fault's definition has its source)
 use Rattle.std.specs.Prelude.{◌≡◌, ◌≤◌, ℕ, true, List}
 use Rattle.std.specs.List.{list_any}
 use Rattle.nft_tree.specs.Tree.{TableTree}
@@ -48,11 +49,11 @@ number faults.NoSuchInterface = 13
 number faults.StatementAfterVerdict = 14
 number faults.TooLarge = 15
 
--- the least of its faults
+-- the ruleset's fault with the lowest number
 pub record LeastFault (fault : CheckFault) (tables : List TableTree) (plant : PlantTree) : Type 0 where
   pub wrong : Wrong fault tables plant
   pub least : (other : CheckFault) → Wrong other tables plant → number fault ≤ number other
 
--- it has none
+-- the ruleset has no fault
 abbrev pub WellFormed : List TableTree → PlantTree → Type 0
 WellFormed tables plant = (fault : CheckFault) → Wrong fault tables plant → ⊥
