@@ -1,4 +1,4 @@
--- What happens in the first table, and how it ends.
+-- Expected events and results, in the first table.
 use Rattle.std.specs.Prelude.{ℕ, List, [], ◌∷◌}
 use Rattle.nft_tree.specs.declared.ruleset.RuleNo.{RuleNo}
 use Rattle.nft_tree.specs.declared.chain.Policy.{Policy}
@@ -43,7 +43,7 @@ translated t f es = record { verdict = endings.Translated t; facts = f; events =
 
 -- ---- one rule on forward
 
--- `MATCH drop`, beside items: the packet is dropped; it isn't
+-- the packet is dropped, or isn't, by a chain with the one rule `MATCH drop` beside other items of the table
 abbrev pub DropsBeside : List ItemTree → MatchTree → Facts → Type 0
 DropsBeside items m f =
     Forward box (one_table (forwards policies.Accept ((tree.matching m ∷ drop ∷ []) ∷ []) ∷ items)) f []
