@@ -25,14 +25,18 @@ module _ {A : Type 0} (P : A → Type 0) where
   some_cons x xs (inl p) later = inl (x, Contains-head x xs, p)
   some_cons x xs (inr no_p) (inl h) = inl (h.0, Contains-there x h.0 xs h.1, h.2)
   some_cons x xs (inr no_p) (inr none) =
-      inr (λ h. elim (Contains-cases x h.0 xs h.1) [ inl e ↦ no_p (subst P (sym e) h.2) | inr at ↦ none (h.0, at, h.2) ])
+      inr (λ h. elim (Contains-cases x h.0 xs h.1) [
+        | inl e ↦ no_p (subst P (sym e) h.2)
+        | inr at ↦ none (h.0, at, h.2)
+      ])
 
   -- a property of some element is decidable where it is decidable of each
   pub some_decided : (xs : List A) → ((x : A) → Contains xs x → Decided (P x))
       → Decided ((x : A) × Contains xs x × P x)
   some_decided [] each = inr (λ h. Contains-none h.0 h.1)
   some_decided (x ∷ xs) each =
-      some_cons x xs (each x (Contains-head x xs)) (some_decided xs (λ y at. each y (Contains-there x y xs at)))
+      some_cons x xs (each x (Contains-head x xs))
+      (some_decided xs (λ y at. each y (Contains-there x y xs at)))
 
 -- equivalent propositions are decidable together
 pub decided_as : {P Q : Type 0} → (P → Q) → (Q → P) → Decided P → Decided Q
@@ -57,4 +61,6 @@ texts_decided a b = by_test (bytes_eq a b) refl
     by_test : (t : Bool) → bytes_eq a b ≡ t → Decided (a ≡ b)
     by_test true e = inl ((bytes_eq-Decides a b).0 e)
     by_test false e =
-        inr (λ same. let yes_and_no : ◌≡◌ {A = Bool} true false = sym ((bytes_eq-Decides a b).1 same) ∙ e in absurd cc)
+        inr (λ same.
+        let yes_and_no : ◌≡◌ {A = Bool} true false = sym ((bytes_eq-Decides a b).1 same) ∙ e in
+        absurd cc)

@@ -49,7 +49,8 @@ All-front P xs x all k d h =
 
 pub All-last : {X : Type 0} (P : X → Type 0) (xs : List X) (x : X) → All P (xs ++ x ∷ []) → P x
 All-last P xs x all =
-    subst P (get_or_push xs x x (length xs) refl) (all (length xs) x (let n = length_push xs x in omega arith))
+    subst P (get_or_push xs x x (length xs) refl)
+    (all (length xs) x (let n = length_push xs x in omega arith))
 
 -- an element of a prefix has an index within that prefix
 pub take-index : (xs : List ℕ) (i x : ℕ) → i ≤ length xs → Contains (take i xs) x

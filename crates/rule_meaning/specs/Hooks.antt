@@ -169,7 +169,7 @@ abbrev pub PreroutingRaw : PlantTree → List TableTree → Traversal
 PreroutingRaw plant tables = Chains plant tables is_prerouting_raw
 
 -- the filter chains of a hook around its NAT step, which runs at this priority, before filter chains of the
--- same; a step that translates ends accepted, with the translated packet
+-- same (own); a step that translates ends accepted, with the translated packet
 abbrev pub AroundNat : PlantTree → List TableTree → (BaseChain → Bool) → ℤ → Traversal → Traversal
 AroundNat plant tables test limit step =
     Then (Chains plant tables (λ b. test b && is_below limit b))

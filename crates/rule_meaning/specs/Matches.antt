@@ -62,7 +62,7 @@ bit_type bit_fields.Status = types.CtStatus
 abbrev pub bits_of : BitField → List Text → ℕ
 bits_of field words = union (map (word_number (bit_type field)) words)
 
--- at least one of the bits; exactly these bits; none of them (own)
+-- at least one of the bits; exactly these bits; none of them, for `!=` (own)
 abbrev pub bits_pass : BitTest → ℕ → ℕ → Bool
 bits_pass bit_tests.Any bits n = not (bit_and n bits == 0)
 bits_pass bit_tests.Exactly bits n = n == bits

@@ -86,7 +86,9 @@ value selectors.TransportSource f = source_port_of f.packet.transport
 value selectors.TransportDestination f = destination_port_of f.packet.transport
 value selectors.TcpFlags f = tcp_flags_of f.packet.transport
 value selectors.IcmpType f = icmp_type_of f.packet.transport
+-- the input interface on every hook (own)
 value selectors.InputName f = Some f.input.name
+-- no output interface on prerouting and input (own)
 value selectors.OutputName f = option_map (λ i. i.name) f.output
 value selectors.InputIndex f = Some f.input.index
 value selectors.OutputIndex f = option_map (λ i. i.index) f.output

@@ -44,7 +44,8 @@ key_numbers plant ks (tree.joined vs) = option_map one_number (join 0 (parts pla
 
 -- ---- sets
 
--- some element contains the number
+-- some element contains the number. Overlapping elements are united; flags, size and auto-merge have no
+-- effect (own)
 abbrev pub elements_have : PlantTree → List ComparedType → List ElementTree → ℕ → Bool
 elements_have plant ks es n = list_any (λ e. spans (key_numbers plant ks e.key) n) es
 

@@ -1,4 +1,4 @@
--- Expected events and results, in the first table.
+-- Expected events and results, in the first table. (own)
 use Rattle.std.specs.Prelude.{ℕ, List, [], ◌∷◌}
 use Rattle.nft_tree.specs.declared.ruleset.RuleNo.{RuleNo}
 use Rattle.nft_tree.specs.declared.chain.Policy.{Policy}
@@ -12,7 +12,7 @@ use Rattle.rule_meaning.specs.declared.event.RuleVerdict.TheVariants as rule_ver
 use Rattle.rule_meaning.specs.declared.event.NatAction.{NatAction}
 use Rattle.rule_meaning.specs.declared.event.Event.{Event}
 use Rattle.rule_meaning.specs.declared.event.Event.TheVariants as events
-use Rattle.rule_meaning.specs.declared.event.HookVerdict.TheVariants as endings
+use Rattle.rule_meaning.specs.declared.event.HookVerdict.TheVariants as hook_verdicts
 use Rattle.rule_meaning.specs.Hooks.{HookResult, Forward}
 use Rattle.semantics_examples.specs.Fixtures.{box, one_table, forwards, drop}
 
@@ -29,17 +29,17 @@ counted c n k = events.Counted (statement_position c n k)
 abbrev pub took : ℕ → ℕ → RuleVerdict → Event
 took c n d = events.TookVerdict (rule c n) d
 
-abbrev pub closed : ℕ → Policy → Event
-closed c policy = events.TookPolicy (record { table = 0; chain = c }) policy
+abbrev pub took_policy : ℕ → Policy → Event
+took_policy c policy = events.TookPolicy (record { table = 0; chain = c }) policy
 
 abbrev pub accepted : Facts → List Event → HookResult
-accepted f es = record { verdict = endings.Accepted; facts = f; events = es }
+accepted f es = record { verdict = hook_verdicts.Accepted; facts = f; events = es }
 
 abbrev pub dropped : Facts → List Event → HookResult
-dropped f es = record { verdict = endings.Dropped; facts = f; events = es }
+dropped f es = record { verdict = hook_verdicts.Dropped; facts = f; events = es }
 
 abbrev pub translated : NatAction → Facts → List Event → HookResult
-translated t f es = record { verdict = endings.Translated t; facts = f; events = es }
+translated t f es = record { verdict = hook_verdicts.Translated t; facts = f; events = es }
 
 -- ---- one rule on forward
 
@@ -52,7 +52,7 @@ DropsBeside items m f =
 abbrev pub PassesBeside : List ItemTree → MatchTree → Facts → Type 0
 PassesBeside items m f =
     Forward box (one_table (forwards policies.Accept ((tree.matching m ∷ drop ∷ []) ∷ []) ∷ items)) f []
-    (accepted f (closed 0 policies.Accept ∷ []))
+    (accepted f (took_policy 0 policies.Accept ∷ []))
 
 abbrev pub Drops : MatchTree → Facts → Type 0
 Drops = DropsBeside []

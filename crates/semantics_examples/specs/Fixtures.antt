@@ -1,4 +1,4 @@
--- The box, the packets and the parts of rulesets of the examples.
+-- The box, the packets and the parts of rulesets of the examples. (own)
 use Rattle.std.specs.Prelude.{ℕ, ◌+◌, ◌*◌, ◌^◌, false, List, [], ◌∷◌, map, Option, Some, None, codes}
 use Rattle.nft_tree.specs.declared.ruleset.Family.TheVariants.{Ip}
 use Rattle.nft_tree.specs.declared.chain.ChainKind.{ChainKind}

@@ -23,7 +23,7 @@ ghost use Rattle.rule_meaning.specs.declared.facts.CtFacts.TheVariants as ct;
 ghost use Rattle.rule_meaning.specs.Hooks.{PreroutingRaw, Prerouting, Input, Forward, Postrouting, Translating};
 ghost use Rattle.rule_meaning.specs.Laws.{step_of};
 ghost use Rattle.semantics_examples.specs.Fixtures.{accept, address, addresses_set, arriving, at, base, new_connection, below_zero, box, counter, drop, forwards, from, icmp, in_state, ip, known, marked, number, numbers, one_table, plain, tcp, tracked, word};
-ghost use Rattle.semantics_examples.specs.Expected.{accepted, closed, counted, dropped, statement_position, took, translated, Drops, DropsBeside, Passes, PassesBeside};
+ghost use Rattle.semantics_examples.specs.Expected.{accepted, took_policy, counted, dropped, statement_position, took, translated, Drops, DropsBeside, Passes, PassesBeside};
 ghost use Rattle.semantics_examples.specs.Examples as examples;
 
 /// At the end of a chain that was jumped to (also after a goto within it) the next rule runs; at
@@ -35,7 +35,7 @@ pub fn jump_and_goto()
         ∷ took 2 2 rule_verdicts.Accept ∷ [])) }
     ensures goto { Forward box (examples.two_chains (tree.goto (codes "a"))) plain []
         (dropped plain (took 2 1 (rule_verdicts.Goto 0) ∷ counted 0 1 1
-        ∷ took 0 1 (rule_verdicts.Goto 1) ∷ counted 1 1 1 ∷ closed 2 policies.Drop ∷ [])) }
+        ∷ took 0 1 (rule_verdicts.Goto 1) ∷ counted 1 1 1 ∷ took_policy 2 policies.Drop ∷ [])) }
 {}
 
 /// `return` goes back to the rule after the jump, in a base chain to the policy; `continue` goes to
@@ -51,7 +51,7 @@ pub fn return_and_continue()
         (accepted plain (took 1 1 (rule_verdicts.Jump 0) ∷ took 0 1 rule_verdicts.Accept ∷ [])) }
     ensures to_policy { Forward box (one_table
         (forwards policies.Drop ((tree.verdict tree.return ∷ []) ∷ []) ∷ [])) plain []
-        (dropped plain (took 0 1 rule_verdicts.Return ∷ closed 0 policies.Drop ∷ [])) }
+        (dropped plain (took 0 1 rule_verdicts.Return ∷ took_policy 0 policies.Drop ∷ [])) }
 {}
 
 /// Base chains run in order of priority, at equal priority in text order; `accept` ends one of
@@ -74,10 +74,10 @@ pub fn two_base_chains()
 /// At the end of a base chain its policy applies, which is accept by default.
 pub fn policy_at_end()
     ensures drop { Forward box (one_table (forwards policies.Drop [] ∷ [])) plain []
-        (dropped plain (closed 0 policies.Drop ∷ [])) }
+        (dropped plain (took_policy 0 policies.Drop ∷ [])) }
     ensures not_given { Forward box (one_table
         (base (codes "fwd") kinds.Filter hooks.Forward (at 0) None [] ∷ [])) plain []
-        (accepted plain (closed 0 policies.Accept ∷ [])) }
+        (accepted plain (took_policy 0 policies.Accept ∷ [])) }
     ensures no_chain { Forward box (one_table []) plain [] (accepted plain []) }
 {}
 
@@ -87,11 +87,11 @@ pub fn counter_before_match()
     ensures before { Forward box (one_table
         (forwards policies.Accept ((counter
         ∷ tree.matching (examples.is selectors.IpSource (address (ip 10 0 0 1))) ∷ drop ∷ []) ∷ [])
-        ∷ [])) plain [] (accepted plain (counted 0 1 1 ∷ closed 0 policies.Accept ∷ [])) }
+        ∷ [])) plain [] (accepted plain (counted 0 1 1 ∷ took_policy 0 policies.Accept ∷ [])) }
     ensures behind { Forward box (one_table
         (forwards policies.Accept
         ((tree.matching (examples.is selectors.IpSource (address (ip 10 0 0 1))) ∷ counter ∷ drop
-        ∷ []) ∷ []) ∷ [])) plain [] (accepted plain (closed 0 policies.Accept ∷ [])) }
+        ∷ []) ∷ []) ∷ [])) plain [] (accepted plain (took_policy 0 policies.Accept ∷ [])) }
 {}
 
 /// `log prefix "x" accept`.
@@ -302,13 +302,14 @@ pub fn marks_written()
         (dropped (marked 7) (events.Marked marks.Meta 7 ∷ counted 0 1 2
         ∷ took 0 2 rule_verdicts.Drop ∷ [])) }
     ensures missing { Forward box (examples.marking marks.Meta (examples.seven_at 54)) plain []
-        (accepted plain (closed 0 policies.Accept ∷ [])) }
+        (accepted plain (took_policy 0 policies.Accept ∷ [])) }
     ensures of_connection { Forward box (examples.marking marks.Meta (tree.mark_of marks.Ct))
         (known (record new_connection { mark = 7 })) []
         (dropped (record (known (record new_connection { mark = 7 })) { mark = 7 })
         (events.Marked marks.Meta 7 ∷ counted 0 1 2 ∷ took 0 2 rule_verdicts.Drop ∷ [])) }
     ensures of_none { Forward box (examples.marking marks.Meta (tree.mark_of marks.Ct))
-        (tracked ct.Invalid) [] (accepted (tracked ct.Invalid) (closed 0 policies.Accept ∷ [])) }
+        (tracked ct.Invalid) [] (accepted (tracked ct.Invalid)
+        (took_policy 0 policies.Accept ∷ [])) }
 {}
 
 /// `ct mark set` writes the connection's mark; without a connection it does nothing, without an
@@ -316,23 +317,24 @@ pub fn marks_written()
 pub fn connections_marked()
     ensures known { Forward box (examples.marking marks.Ct (tree.constant 7)) plain []
         (accepted (known (record new_connection { mark = 7 }))
-        (events.Marked marks.Ct 7 ∷ counted 0 1 2 ∷ closed 0 policies.Accept ∷ [])) }
+        (events.Marked marks.Ct 7 ∷ counted 0 1 2 ∷ took_policy 0 policies.Accept ∷ [])) }
     ensures none { Forward box (examples.marking marks.Ct (tree.constant 7)) (tracked ct.Invalid) []
-        (accepted (tracked ct.Invalid) (counted 0 1 2 ∷ closed 0 policies.Accept ∷ [])) }
+        (accepted (tracked ct.Invalid) (counted 0 1 2 ∷ took_policy 0 policies.Accept ∷ [])) }
     ensures without_operand { Forward box (examples.marking marks.Ct (examples.seven_at 54))
-        (tracked ct.Invalid) [] (accepted (tracked ct.Invalid) (closed 0 policies.Accept ∷ [])) }
+        (tracked ct.Invalid) [] (accepted (tracked ct.Invalid)
+        (took_policy 0 policies.Accept ∷ [])) }
 {}
 
 /// `notrack counter`, and `notrack` again: before the conntrack lookup the first takes effect,
 /// after it neither. `ct state untracked` has a value only after the lookup.
 pub fn notrack_packets()
     ensures unknown { Forward box examples.untracking (tracked ct.NotLookedUp) []
-        (accepted (tracked ct.Notrack) (events.Untracked ∷ counted 0 1 2 ∷ closed 0 policies.Accept
-        ∷ [])) }
+        (accepted (tracked ct.Notrack) (events.Untracked ∷ counted 0 1 2
+        ∷ took_policy 0 policies.Accept ∷ [])) }
     ensures known { Forward box examples.untracking plain []
-        (accepted plain (counted 0 1 2 ∷ closed 0 policies.Accept ∷ [])) }
+        (accepted plain (counted 0 1 2 ∷ took_policy 0 policies.Accept ∷ [])) }
     ensures invalid { Forward box examples.untracking (tracked ct.Invalid) []
-        (accepted (tracked ct.Invalid) (counted 0 1 2 ∷ closed 0 policies.Accept ∷ [])) }
+        (accepted (tracked ct.Invalid) (counted 0 1 2 ∷ took_policy 0 policies.Accept ∷ [])) }
     ensures read { Drops (examples.state bit_tests.Any (codes "untracked" ∷ []))
         (tracked ct.Untracked) × Drops (examples.state bit_tests.None (codes "new" ∷ []))
         (tracked ct.Untracked) × Passes (examples.state bit_tests.Exactly
@@ -383,7 +385,7 @@ pub fn nat_actions()
     ensures missing { Translating hooks.Prerouting box
         (examples.translating hooks.Prerouting
         (tree.destination (tree.destination_lookup (examples.neighbour_at 54)))) plain []
-        (accepted plain (counted 0 1 1 ∷ closed 0 policies.Accept ∷ [])) }
+        (accepted plain (counted 0 1 1 ∷ took_policy 0 policies.Accept ∷ [])) }
 {}
 
 /// Chains of type nat run in order until one translates or drops; after an accept the next one
@@ -420,13 +422,13 @@ pub fn filter_chains_around_nat()
         (dropped (marked 7) (took 0 1 rule_verdicts.Drop ∷ []))
         × Prerouting box (examples.marked_dropped hooks.Prerouting (below_zero 101))
         (step_of examples.marks_seven) plain []
-        (accepted (marked 7) (closed 0 policies.Accept ∷ [])) }
+        (accepted (marked 7) (took_policy 0 policies.Accept ∷ [])) }
     ensures postrouting { Postrouting box (examples.marked_dropped hooks.Postrouting (at 100))
         (step_of examples.marks_seven) plain []
         (dropped (marked 7) (took 0 1 rule_verdicts.Drop ∷ []))
         × Postrouting box (examples.marked_dropped hooks.Postrouting (at 99))
         (step_of examples.marks_seven) plain []
-        (accepted (marked 7) (closed 0 policies.Accept ∷ [])) }
+        (accepted (marked 7) (took_policy 0 policies.Accept ∷ [])) }
 {}
 
 /// Filter chains on prerouting with priority -200 or below run before the conntrack lookup, and not
