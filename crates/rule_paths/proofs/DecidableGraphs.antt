@@ -6,7 +6,6 @@ use Rattle.list_laws.specs.Lists.{Contains-head}
 use Rattle.chain_graph.specs.Graph.{Call, NodeTree, chain, verdict_map, identity, calls_in, IsPath, jumps, HasCycle, HasPathOver, greatest, chain_cost, node_cost, Reaches}
 use Rattle.list_laws.specs.Decisions.{Decided, Contains-none, Contains-there, Contains-cases, some_decided, decided_as}
 
-
 -- all elements have the one property, or some element has the other
 all_or_some : {A : Type 0} (P Q : A → Type 0) → ((x : A) → P x ⊎ Q x) → (xs : List A) → ((x : A) → Contains xs x → P x) ⊎ ((x : A) × Contains xs x × Q x)
 all_or_some P Q each [] = inl (λ x at. absurd (Contains-none x at))
