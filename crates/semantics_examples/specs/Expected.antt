@@ -4,7 +4,7 @@ use Rattle.nft_tree.specs.declared.ruleset.RuleNo.{RuleNo}
 use Rattle.nft_tree.specs.declared.chain.Policy.{Policy}
 use Rattle.nft_tree.specs.declared.chain.Policy.TheVariants as policies
 use Rattle.nft_tree.specs.Tree as tree
-use Rattle.nft_tree.specs.Tree.{MatchTree, Statement, ItemTree}
+use Rattle.nft_tree.specs.Tree.{MatchTree, Statement, ItemTree, TableTree}
 use Rattle.rule_meaning.specs.declared.facts.Facts.{Facts}
 use Rattle.rule_meaning.specs.declared.event.StatementPosition.{StatementPosition}
 use Rattle.rule_meaning.specs.declared.event.RuleVerdict.{RuleVerdict}
@@ -41,18 +41,27 @@ dropped f es = record { verdict = hook_verdicts.Dropped; facts = f; events = es 
 abbrev pub translated : NatAction → Facts → List Event → HookResult
 translated t f es = record { verdict = hook_verdicts.Translated t; facts = f; events = es }
 
--- ---- one rule on forward
+-- ---- forwarding
 
--- the packet is dropped, or isn't, by a chain with the one rule `MATCH drop` beside other items of the table
+-- the filter chains on forward accept the packet as it is, with these events
+abbrev pub ForwardAccepts : List TableTree → Facts → List Event → Type 0
+ForwardAccepts tables f es = Forward box tables f [] (accepted f es)
+
+-- the filter chains on forward drop the packet, with these events
+abbrev pub ForwardDrops : List TableTree → Facts → List Event → Type 0
+ForwardDrops tables f es = Forward box tables f [] (dropped f es)
+
+-- a filter chain on forward with the one rule `MATCH drop`, beside other items of the table
+abbrev pub dropping_ruleset : List ItemTree → MatchTree → List TableTree
+dropping_ruleset items m = one_table (forwards policies.Accept ((tree.matching m ∷ drop ∷ []) ∷ []) ∷ items)
+
+-- this rule drops the packet
 abbrev pub DropsBeside : List ItemTree → MatchTree → Facts → Type 0
-DropsBeside items m f =
-    Forward box (one_table (forwards policies.Accept ((tree.matching m ∷ drop ∷ []) ∷ []) ∷ items)) f []
-    (dropped f (took 0 1 rule_verdicts.Drop ∷ []))
+DropsBeside items m f = ForwardDrops (dropping_ruleset items m) f (took 0 1 rule_verdicts.Drop ∷ [])
 
+-- it doesn't, and the policy accept applies
 abbrev pub PassesBeside : List ItemTree → MatchTree → Facts → Type 0
-PassesBeside items m f =
-    Forward box (one_table (forwards policies.Accept ((tree.matching m ∷ drop ∷ []) ∷ []) ∷ items)) f []
-    (accepted f (took_policy 0 policies.Accept ∷ []))
+PassesBeside items m f = ForwardAccepts (dropping_ruleset items m) f (took_policy 0 policies.Accept ∷ [])
 
 abbrev pub Drops : MatchTree → Facts → Type 0
 Drops = DropsBeside []

@@ -23,83 +23,80 @@ ghost use Rattle.rule_meaning.specs.declared.facts.CtFacts.TheVariants as ct;
 ghost use Rattle.rule_meaning.specs.Hooks.{PreroutingRaw, Prerouting, Input, Forward, Postrouting, Translating};
 ghost use Rattle.rule_meaning.specs.Laws.{step_of};
 ghost use Rattle.semantics_examples.specs.Fixtures.{accept, address, addresses_set, arriving, at, base, new_connection, below_zero, box, counter, drop, forwards, from, icmp, in_state, ip, known, marked, number, numbers, one_table, plain, tcp, tracked, word};
-ghost use Rattle.semantics_examples.specs.Expected.{accepted, took_policy, counted, dropped, statement_position, took, translated, Drops, DropsBeside, Passes, PassesBeside};
+ghost use Rattle.semantics_examples.specs.Expected.{accepted, counted, dropped, statement_position, took, took_policy, translated, Drops, DropsBeside, ForwardAccepts, ForwardDrops, Passes, PassesBeside};
 ghost use Rattle.semantics_examples.specs.Examples as examples;
 
 /// At the end of a chain that was jumped to (also after a goto within it) the next rule runs; at
 /// the end of one that the base chain went to by goto, the policy applies.
 pub fn jump_and_goto()
-    ensures jump { Forward box (examples.two_chains (tree.jump (codes "a"))) plain []
-        (accepted plain (took 2 1 (rule_verdicts.Jump 0) ∷ counted 0 1 1
-        ∷ took 0 1 (rule_verdicts.Goto 1) ∷ counted 1 1 1 ∷ counted 2 2 1
-        ∷ took 2 2 rule_verdicts.Accept ∷ [])) }
-    ensures goto { Forward box (examples.two_chains (tree.goto (codes "a"))) plain []
-        (dropped plain (took 2 1 (rule_verdicts.Goto 0) ∷ counted 0 1 1
-        ∷ took 0 1 (rule_verdicts.Goto 1) ∷ counted 1 1 1 ∷ took_policy 2 policies.Drop ∷ [])) }
+    ensures jump { ForwardAccepts (examples.two_chains (tree.jump (codes "a"))) plain
+        (took 2 1 (rule_verdicts.Jump 0) ∷ counted 0 1 1 ∷ took 0 1 (rule_verdicts.Goto 1)
+        ∷ counted 1 1 1 ∷ counted 2 2 1 ∷ took 2 2 rule_verdicts.Accept ∷ []) }
+    ensures goto { ForwardDrops (examples.two_chains (tree.goto (codes "a"))) plain
+        (took 2 1 (rule_verdicts.Goto 0) ∷ counted 0 1 1 ∷ took 0 1 (rule_verdicts.Goto 1)
+        ∷ counted 1 1 1 ∷ took_policy 2 policies.Drop ∷ []) }
 {}
 
 /// `return` goes back to the rule after the jump, in a base chain to the policy; `continue` goes to
 /// the next rule; `accept` ends the base chain, also in a chain that was jumped to.
 pub fn return_and_continue()
-    ensures back { Forward box (examples.called tree.return) plain []
-        (accepted plain (took 1 1 (rule_verdicts.Jump 0) ∷ took 0 1 rule_verdicts.Return
-        ∷ took 1 2 rule_verdicts.Continue ∷ took 1 3 rule_verdicts.Accept ∷ [])) }
-    ensures on { Forward box (examples.called tree.continue) plain []
-        (dropped plain (took 1 1 (rule_verdicts.Jump 0) ∷ took 0 1 rule_verdicts.Continue
-        ∷ took 0 2 rule_verdicts.Drop ∷ [])) }
-    ensures over { Forward box (examples.called tree.accept) plain []
-        (accepted plain (took 1 1 (rule_verdicts.Jump 0) ∷ took 0 1 rule_verdicts.Accept ∷ [])) }
-    ensures to_policy { Forward box (one_table
-        (forwards policies.Drop ((tree.verdict tree.return ∷ []) ∷ []) ∷ [])) plain []
-        (dropped plain (took 0 1 rule_verdicts.Return ∷ took_policy 0 policies.Drop ∷ [])) }
+    ensures back { ForwardAccepts (examples.called tree.return) plain
+        (took 1 1 (rule_verdicts.Jump 0) ∷ took 0 1 rule_verdicts.Return
+        ∷ took 1 2 rule_verdicts.Continue ∷ took 1 3 rule_verdicts.Accept ∷ []) }
+    ensures on { ForwardDrops (examples.called tree.continue) plain
+        (took 1 1 (rule_verdicts.Jump 0) ∷ took 0 1 rule_verdicts.Continue
+        ∷ took 0 2 rule_verdicts.Drop ∷ []) }
+    ensures over { ForwardAccepts (examples.called tree.accept) plain
+        (took 1 1 (rule_verdicts.Jump 0) ∷ took 0 1 rule_verdicts.Accept ∷ []) }
+    ensures to_policy { ForwardDrops (one_table
+        (forwards policies.Drop ((tree.verdict tree.return ∷ []) ∷ []) ∷ [])) plain
+        (took 0 1 rule_verdicts.Return ∷ took_policy 0 policies.Drop ∷ []) }
 {}
 
 /// Base chains run in order of priority, at equal priority in text order; `accept` ends one of
 /// them, `drop` all.
 pub fn two_base_chains()
-    ensures rising { Forward box (examples.accept_and_drop (at 0) (at 10)) plain []
-        (dropped plain (took 0 1 rule_verdicts.Accept ∷ took 1 1 rule_verdicts.Drop ∷ [])) }
-    ensures falling { Forward box (examples.accept_and_drop (at 10) (at 0)) plain []
-        (dropped plain (took 1 1 rule_verdicts.Drop ∷ [])) }
-    ensures equal { Forward box (examples.accept_and_drop (at 0) (at 0)) plain []
-        (dropped plain (took 0 1 rule_verdicts.Accept ∷ took 1 1 rule_verdicts.Drop ∷ [])) }
-    ensures below_zero { Forward box (examples.accept_and_drop (priorities.Named names.Filter)
-        (priorities.Offset names.Filter signs.Minus 5)) plain []
-        (dropped plain (took 1 1 rule_verdicts.Drop ∷ [])) }
-    ensures tables { Forward box examples.two_tables plain []
-        (dropped plain (took 0 1 rule_verdicts.Accept
-        ∷ events.TookVerdict (record { table = 1; chain = 0; rule = 1 }) rule_verdicts.Drop ∷ [])) }
+    ensures rising { ForwardDrops (examples.accept_and_drop (at 0) (at 10)) plain
+        (took 0 1 rule_verdicts.Accept ∷ took 1 1 rule_verdicts.Drop ∷ []) }
+    ensures falling { ForwardDrops (examples.accept_and_drop (at 10) (at 0)) plain
+        (took 1 1 rule_verdicts.Drop ∷ []) }
+    ensures equal { ForwardDrops (examples.accept_and_drop (at 0) (at 0)) plain
+        (took 0 1 rule_verdicts.Accept ∷ took 1 1 rule_verdicts.Drop ∷ []) }
+    ensures below_zero { ForwardDrops (examples.accept_and_drop (priorities.Named names.Filter)
+        (priorities.Offset names.Filter signs.Minus 5)) plain (took 1 1 rule_verdicts.Drop ∷ []) }
+    ensures tables { ForwardDrops examples.two_tables plain
+        (took 0 1 rule_verdicts.Accept ∷ events.TookVerdict
+        (record { table = 1; chain = 0; rule = 1 }) rule_verdicts.Drop ∷ []) }
 {}
 
 /// At the end of a base chain its policy applies, which is accept by default.
 pub fn policy_at_end()
-    ensures drop { Forward box (one_table (forwards policies.Drop [] ∷ [])) plain []
-        (dropped plain (took_policy 0 policies.Drop ∷ [])) }
-    ensures not_given { Forward box (one_table
-        (base (codes "fwd") kinds.Filter hooks.Forward (at 0) None [] ∷ [])) plain []
-        (accepted plain (took_policy 0 policies.Accept ∷ [])) }
-    ensures no_chain { Forward box (one_table []) plain [] (accepted plain []) }
+    ensures drop { ForwardDrops (one_table (forwards policies.Drop [] ∷ [])) plain
+        (took_policy 0 policies.Drop ∷ []) }
+    ensures not_given { ForwardAccepts
+        (one_table (base (codes "fwd") kinds.Filter hooks.Forward (at 0) None [] ∷ [])) plain
+        (took_policy 0 policies.Accept ∷ []) }
+    ensures no_chain { ForwardAccepts (one_table []) plain [] }
 {}
 
 /// `counter ip saddr 10.0.0.1 drop` counts every packet, `ip saddr 10.0.0.1 counter drop` only
 /// those that match.
 pub fn counter_before_match()
-    ensures before { Forward box (one_table
+    ensures before { ForwardAccepts (one_table
         (forwards policies.Accept ((counter
         ∷ tree.matching (examples.is selectors.IpSource (address (ip 10 0 0 1))) ∷ drop ∷ []) ∷ [])
-        ∷ [])) plain [] (accepted plain (counted 0 1 1 ∷ took_policy 0 policies.Accept ∷ [])) }
-    ensures behind { Forward box (one_table
+        ∷ [])) plain (counted 0 1 1 ∷ took_policy 0 policies.Accept ∷ []) }
+    ensures behind { ForwardAccepts (one_table
         (forwards policies.Accept
         ((tree.matching (examples.is selectors.IpSource (address (ip 10 0 0 1))) ∷ counter ∷ drop
-        ∷ []) ∷ []) ∷ [])) plain [] (accepted plain (took_policy 0 policies.Accept ∷ [])) }
+        ∷ []) ∷ []) ∷ [])) plain (took_policy 0 policies.Accept ∷ []) }
 {}
 
 /// `log prefix "x" accept`.
 pub fn logged()
-    ensures { Forward box
-        (one_table (forwards policies.Drop ((tree.log (Some (codes "x")) ∷ accept ∷ []) ∷ [])
-        ∷ [])) plain [] (accepted plain (events.Logged (statement_position 0 1 1)
-        ∷ took 0 1 rule_verdicts.Accept ∷ [])) }
+    ensures { ForwardAccepts (one_table
+        (forwards policies.Drop ((tree.log (Some (codes "x")) ∷ accept ∷ []) ∷ []) ∷ [])) plain
+        (events.Logged (statement_position 0 1 1) ∷ took 0 1 rule_verdicts.Accept ∷ []) }
 {}
 
 /// `tcp dport != 22 drop` needs a TCP port.
@@ -276,20 +273,20 @@ pub fn tcp_flags()
 
 /// `udp dport vmap { 53 : VERDICT }`; without an element or a value, the next rule runs.
 pub fn verdict_maps()
-    ensures found { Forward box (examples.chosen (examples.by_port 53 tree.accept)) plain []
-        (accepted plain (took 0 1 rule_verdicts.Accept ∷ [])) }
-    ensures missing { Forward box (examples.chosen (examples.by_port 54 tree.accept)) plain []
-        (dropped plain (took 0 2 rule_verdicts.Drop ∷ [])) }
-    ensures without_value { Forward box (examples.chosen (examples.by_port 53 tree.accept))
-        (tcp 53 2) [] (dropped (tcp 53 2) (took 0 2 rule_verdicts.Drop ∷ [])) }
-    ensures jump { Forward box (examples.chosen
-        (examples.by_port 53 (tree.jump (codes "b")))) plain []
-        (accepted plain (took 0 1 (rule_verdicts.Jump 1) ∷ took 1 1 rule_verdicts.Accept ∷ [])) }
-    ensures goto { Forward box (examples.chosen
-        (examples.by_port 53 (tree.goto (codes "b")))) plain []
-        (accepted plain (took 0 1 (rule_verdicts.Goto 1) ∷ took 1 1 rule_verdicts.Accept ∷ [])) }
-    ensures with_name { Forward box examples.chosen_by_name plain []
-        (accepted plain (took 0 1 (rule_verdicts.Jump 1) ∷ took 1 1 rule_verdicts.Accept ∷ [])) }
+    ensures found { ForwardAccepts (examples.chosen (examples.by_port 53 tree.accept)) plain
+        (took 0 1 rule_verdicts.Accept ∷ []) }
+    ensures missing { ForwardDrops (examples.chosen (examples.by_port 54 tree.accept)) plain
+        (took 0 2 rule_verdicts.Drop ∷ []) }
+    ensures without_value { ForwardDrops (examples.chosen (examples.by_port 53 tree.accept))
+        (tcp 53 2) (took 0 2 rule_verdicts.Drop ∷ []) }
+    ensures jump { ForwardAccepts (examples.chosen
+        (examples.by_port 53 (tree.jump (codes "b")))) plain
+        (took 0 1 (rule_verdicts.Jump 1) ∷ took 1 1 rule_verdicts.Accept ∷ []) }
+    ensures goto { ForwardAccepts (examples.chosen
+        (examples.by_port 53 (tree.goto (codes "b")))) plain
+        (took 0 1 (rule_verdicts.Goto 1) ∷ took 1 1 rule_verdicts.Accept ∷ []) }
+    ensures with_name { ForwardAccepts examples.chosen_by_name plain
+        (took 0 1 (rule_verdicts.Jump 1) ∷ took 1 1 rule_verdicts.Accept ∷ []) }
 {}
 
 /// `meta mark set` to a number, a connection's mark, or a map's data; without an operand the
@@ -301,15 +298,14 @@ pub fn marks_written()
     ensures found { Forward box (examples.marking marks.Meta (examples.seven_at 53)) plain []
         (dropped (marked 7) (events.Marked marks.Meta 7 ∷ counted 0 1 2
         ∷ took 0 2 rule_verdicts.Drop ∷ [])) }
-    ensures missing { Forward box (examples.marking marks.Meta (examples.seven_at 54)) plain []
-        (accepted plain (took_policy 0 policies.Accept ∷ [])) }
+    ensures missing { ForwardAccepts (examples.marking marks.Meta (examples.seven_at 54)) plain
+        (took_policy 0 policies.Accept ∷ []) }
     ensures of_connection { Forward box (examples.marking marks.Meta (tree.mark_of marks.Ct))
         (known (record new_connection { mark = 7 })) []
         (dropped (record (known (record new_connection { mark = 7 })) { mark = 7 })
         (events.Marked marks.Meta 7 ∷ counted 0 1 2 ∷ took 0 2 rule_verdicts.Drop ∷ [])) }
-    ensures of_none { Forward box (examples.marking marks.Meta (tree.mark_of marks.Ct))
-        (tracked ct.Invalid) [] (accepted (tracked ct.Invalid)
-        (took_policy 0 policies.Accept ∷ [])) }
+    ensures of_none { ForwardAccepts (examples.marking marks.Meta (tree.mark_of marks.Ct))
+        (tracked ct.Invalid) (took_policy 0 policies.Accept ∷ []) }
 {}
 
 /// `ct mark set` writes the connection's mark; without a connection it does nothing, without an
@@ -318,11 +314,10 @@ pub fn connections_marked()
     ensures known { Forward box (examples.marking marks.Ct (tree.constant 7)) plain []
         (accepted (known (record new_connection { mark = 7 }))
         (events.Marked marks.Ct 7 ∷ counted 0 1 2 ∷ took_policy 0 policies.Accept ∷ [])) }
-    ensures none { Forward box (examples.marking marks.Ct (tree.constant 7)) (tracked ct.Invalid) []
-        (accepted (tracked ct.Invalid) (counted 0 1 2 ∷ took_policy 0 policies.Accept ∷ [])) }
-    ensures without_operand { Forward box (examples.marking marks.Ct (examples.seven_at 54))
-        (tracked ct.Invalid) [] (accepted (tracked ct.Invalid)
-        (took_policy 0 policies.Accept ∷ [])) }
+    ensures none { ForwardAccepts (examples.marking marks.Ct (tree.constant 7)) (tracked ct.Invalid)
+        (counted 0 1 2 ∷ took_policy 0 policies.Accept ∷ []) }
+    ensures without_operand { ForwardAccepts (examples.marking marks.Ct (examples.seven_at 54))
+        (tracked ct.Invalid) (took_policy 0 policies.Accept ∷ []) }
 {}
 
 /// `notrack counter`, and `notrack` again: before the conntrack lookup the first takes effect,
@@ -331,10 +326,10 @@ pub fn notrack_packets()
     ensures unknown { Forward box examples.untracking (tracked ct.NotLookedUp) []
         (accepted (tracked ct.Notrack) (events.Untracked ∷ counted 0 1 2
         ∷ took_policy 0 policies.Accept ∷ [])) }
-    ensures known { Forward box examples.untracking plain []
-        (accepted plain (counted 0 1 2 ∷ took_policy 0 policies.Accept ∷ [])) }
-    ensures invalid { Forward box examples.untracking (tracked ct.Invalid) []
-        (accepted (tracked ct.Invalid) (counted 0 1 2 ∷ took_policy 0 policies.Accept ∷ [])) }
+    ensures known { ForwardAccepts examples.untracking plain
+        (counted 0 1 2 ∷ took_policy 0 policies.Accept ∷ []) }
+    ensures invalid { ForwardAccepts examples.untracking (tracked ct.Invalid)
+        (counted 0 1 2 ∷ took_policy 0 policies.Accept ∷ []) }
     ensures read { Drops (examples.state bit_tests.Any (codes "untracked" ∷ []))
         (tracked ct.Untracked) × Drops (examples.state bit_tests.None (codes "new" ∷ []))
         (tracked ct.Untracked) × Passes (examples.state bit_tests.Exactly
@@ -447,8 +442,8 @@ pub fn prerouting_raw_chains()
 pub fn input_and_forward()
     ensures input { Input box (examples.dropping hooks.Input (at 0)) plain []
         (dropped plain (took 0 1 rule_verdicts.Drop ∷ []))
-        × Forward box (examples.dropping hooks.Input (at 0)) plain [] (accepted plain []) }
-    ensures forward { Forward box (examples.dropping hooks.Forward (at 0)) plain []
-        (dropped plain (took 0 1 rule_verdicts.Drop ∷ []))
+        × ForwardAccepts (examples.dropping hooks.Input (at 0)) plain [] }
+    ensures forward { ForwardDrops (examples.dropping hooks.Forward (at 0)) plain
+        (took 0 1 rule_verdicts.Drop ∷ [])
         × Input box (examples.dropping hooks.Forward (at 0)) plain [] (accepted plain []) }
 {}

@@ -33,7 +33,8 @@ pub record AreTableFindings (t : TableTree) (found : TableFindings) : Type 0 whe
 pub record HaveCosts (tables : List TableTree) : Type 0 where
   pub costs : Graph → ℕ → ℕ
   pub are : (t : TableTree) → Contains tables t → IsCost (index_graph t) (costs (index_graph t))
-  pub represent : (t : TableTree) → Contains tables t → RepresentsNodes (node_of t) (index_of t) (index_graph t)
+  pub represent : (t : TableTree) → Contains tables t
+      → RepresentsNodes (node_of t) (index_of t) (index_graph t)
 
 -- the findings about the tables so far
 pub record AreFindingsSoFar (tables : List TableTree) (is_too_deep misplaces_nat : Bool) (cost : ℕ)
