@@ -11,7 +11,7 @@ use Rattle.rule_values.specs.Faults.{has_wrong_value, has_contradiction, names_u
 use Rattle.rule_check.specs.Chains.{has_misplaced_chain, has_unreachable_statement}
 use Rattle.rule_check.specs.declared.fault.CheckFault.{CheckFault}
 use Rattle.rule_check.specs.declared.fault.CheckFault.TheVariants as faults
-use Rattle.rule_check.specs.WellFormed.{Wrong, LeastFault, WellFormed, number}
+use Rattle.rule_check.specs.WellFormed.{Wrong, LeastFault, WellFormed, fault_number}
 use Rattle.rule_check.specs.steps.FaultRanges.{HasNone}
 use Rattle.rule_check.proofs.LeastFaults.{and_then, least, well_formed, without}
 
@@ -38,10 +38,10 @@ module _ (tables : List TableTree) (plant : PlantTree) where
   abbrev SoFar : ℕ → Type 0
   SoFar n = Found ⊎ HasNone 1 n tables plant
 
-  step : (fault : CheckFault) → Decided (Wrong fault tables plant) → SoFar (number fault) → SoFar (number fault + 1)
+  step : (fault : CheckFault) → Decided (Wrong fault tables plant) → SoFar (fault_number fault) → SoFar (fault_number fault + 1)
   step fault decided (inl found) = inl found
   step fault (inl wrong) (inr none) = inl (fault, least tables plant fault none wrong)
-  step fault (inr not_it) (inr none) = inr (and_then tables plant 1 (number fault) (number fault + 1) none (without tables plant fault not_it))
+  step fault (inr not_it) (inr none) = inr (and_then tables plant 1 (fault_number fault) (fault_number fault + 1) none (without tables plant fault not_it))
 
   start : SoFar 1
   start = inr (λ fault from to wrong. omega (arith, from, to))

@@ -20,9 +20,7 @@ is_nat kinds.Filter = false
 abbrev pub is_without_nat : Hook → Bool
 is_without_nat hooks.Input = true
 is_without_nat hooks.Forward = true
-is_without_nat hooks.Prerouting = false
-is_without_nat hooks.Output = false
-is_without_nat hooks.Postrouting = false
+is_without_nat _ = false
 
 -- type nat on input or forward, or with a priority of at most -200 (nft(8), "Chains": after connection
 -- tracking)

@@ -18,7 +18,7 @@ use Rattle.rule_meaning.specs.declared.event.ChainNo.{ChainNo}
 use Rattle.rule_meaning.specs.declared.event.Event.{Event}
 use Rattle.rule_meaning.specs.declared.event.Event.TheVariants.{TookPolicy}
 use Rattle.rule_meaning.specs.declared.event.HookVerdict.{HookVerdict}
-use Rattle.rule_meaning.specs.declared.event.HookVerdict.TheVariants.{Accepted, Dropped, Translated}
+use Rattle.rule_meaning.specs.declared.event.HookVerdict.TheVariants.{Accepted, Dropped}
 use Rattle.rule_meaning.specs.Runs.{table_program, at_rule, RunResult, at_end, over, Runs}
 
 -- ---- base chains
@@ -128,8 +128,7 @@ pub record RunsBaseChain (plant : PlantTree) (tables : List TableTree) (b : Base
 
 abbrev pub Continues : HookVerdict → Type 0
 Continues Accepted = Unit {0}
-Continues Dropped = ⊥
-Continues (Translated t) = ⊥
+Continues _ = ⊥
 
 abbrev pub Stops : HookVerdict → Type 0
 Stops verdict = Continues verdict → ⊥

@@ -46,11 +46,10 @@ state_bit states.Related = STATE_RELATED
 state_bit states.New = STATE_NEW
 
 abbrev pub ct_state : CtFacts → Option ℕ
-ct_state ct.NotLookedUp = None
-ct_state ct.Notrack = None
 ct_state ct.Untracked = Some STATE_UNTRACKED
 ct_state ct.Invalid = Some STATE_INVALID
 ct_state (ct.Known c) = Some (state_bit c.state)
+ct_state _ = None
 
 abbrev pub direction_number : CtDirection → ℕ
 direction_number directions.Original = 0

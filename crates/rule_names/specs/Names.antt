@@ -25,8 +25,7 @@ pub record HasDuplicate (names : List Text) : Type 0 where
 abbrev pub same_family : Family → Family → Bool
 same_family families.Ip families.Ip = true
 same_family families.Inet families.Inet = true
-same_family families.Ip families.Inet = false
-same_family families.Inet families.Ip = false
+same_family _ _ = false
 
 -- the names of the tables of a family
 abbrev pub table_names : Family → List TableTree → List Text
@@ -45,8 +44,7 @@ map_names t = map (λ m. m.name) (maps_of t)
 abbrev pub set_or_map_name : ItemTree → Option Text
 set_or_map_name (tree.set s) = Some s.name
 set_or_map_name (tree.map_item m) = Some m.name
-set_or_map_name (tree.comment text) = None
-set_or_map_name (tree.chain c) = None
+set_or_map_name _ = None
 
 -- sets and maps of a table share a namespace
 abbrev pub set_and_map_names : TableTree → List Text
@@ -118,8 +116,7 @@ some_of (Some xs) = xs
 abbrev pub item_targets : ItemTree → List Text
 item_targets (tree.chain c) = flat_map rule_targets c.rules
 item_targets (tree.map_item m) = pair_targets (some_of m.elements)
-item_targets (tree.comment text) = []
-item_targets (tree.set s) = []
+item_targets _ = []
 
 -- all chains that a table's rules and maps jump or go to, also those of maps that no rule uses
 abbrev pub targets_of : TableTree → List Text

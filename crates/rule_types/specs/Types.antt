@@ -38,14 +38,12 @@ same_type _ _ = false
 abbrev pub same_compared_type : ComparedType → ComparedType → Bool
 same_compared_type (Named a) (Named b) = same_type a b
 same_compared_type (Unnamed a) (Unnamed b) = a == b
-same_compared_type (Named a) (Unnamed b) = false
-same_compared_type (Unnamed a) (Named b) = false
+same_compared_type _ _ = false
 
 abbrev pub same_compared_types : List ComparedType → List ComparedType → Bool
 same_compared_types [] [] = true
 same_compared_types (a ∷ others) (b ∷ bs) = same_compared_type a b && same_compared_types others bs
-same_compared_types [] (b ∷ bs) = false
-same_compared_types (a ∷ others) [] = false
+same_compared_types _ _ = false
 
 abbrev pub compared_type_width : ComparedType → ℕ
 compared_type_width (Named t) = type_width t
@@ -63,8 +61,8 @@ abbrev pub is_ordered : ComparedType → Bool
 is_ordered (Named types.Address) = true
 is_ordered (Named types.Service) = true
 is_ordered (Named types.Mark) = true
-is_ordered (Named t) = false
 is_ordered (Unnamed width) = true
+is_ordered _ = false
 
 -- the types with ranges: those, inet_proto and icmp_type
 abbrev pub has_ranges : ComparedType → Bool
@@ -75,8 +73,7 @@ has_ranges k = is_ordered k
 -- a range of a type without ranges
 abbrev pub range_mismatches : ComparedType → RangeTree → Bool
 range_mismatches k (tree.between low high) = not (has_ranges k)
-range_mismatches k (tree.one v) = false
-range_mismatches k (tree.prefix a n) = false
+range_mismatches k _ = false
 
 -- ---- a selector against a value
 
@@ -85,13 +82,11 @@ is_order operators.Below = true
 is_order operators.Above = true
 is_order operators.AtMost = true
 is_order operators.AtLeast = true
-is_order operators.Equal = false
-is_order operators.Unequal = false
+is_order _ = false
 
 abbrev pub is_single : RangeTree → Bool
 is_single (tree.one v) = true
-is_single (tree.between low high) = false
-is_single (tree.prefix a n) = false
+is_single _ = false
 
 -- an order against a range or a prefix, or of a type without order; a range of a type without ranges
 abbrev pub compare_mismatches : Selector → Operator → RangeTree → Bool
@@ -139,9 +134,8 @@ match_mismatches t _ = false
 -- a verdict where a value is wanted, or the reverse
 abbrev pub data_mismatches : Option ComparedType → DataTree → Bool
 data_mismatches None (tree.to_verdict v) = false
-data_mismatches None (tree.to_value v) = true
-data_mismatches (Some k) (tree.to_verdict v) = true
 data_mismatches (Some k) (tree.to_value v) = false
+data_mismatches _ _ = true
 
 abbrev pub pair_mismatches : ComparedType → Option ComparedType → PairTree → Bool
 pair_mismatches key wanted p = range_mismatches key p.key || data_mismatches wanted p.value
@@ -154,8 +148,7 @@ map_mismatches m =
 abbrev pub same_data : Option ComparedType → Option ComparedType → Bool
 same_data None None = true
 same_data (Some a) (Some b) = same_compared_type a b
-same_data None (Some b) = false
-same_data (Some a) None = false
+same_data _ _ = false
 
 -- a map of another key type than the selector's, or of another data type than is wanted
 abbrev pub named_map_mismatches : ComparedType → Option ComparedType → Option SetTree → Option MapTree → Bool

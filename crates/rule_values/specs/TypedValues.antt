@@ -52,8 +52,7 @@ rule_maps r = flat_map statement_maps r.statements
 abbrev pub item_maps : ItemTree → List TypedMap
 item_maps (tree.chain c) = flat_map rule_maps c.rules
 item_maps (tree.map_item m) = declared_map m ∷ []
-item_maps (tree.set s) = []
-item_maps (tree.comment text) = []
+item_maps _ = []
 
 -- all maps of a table, also the anonymous ones
 abbrev pub maps_in : TableTree → List TypedMap
@@ -94,8 +93,7 @@ match_ranges _ = []
 
 abbrev pub data_ranges : Option ComparedType → DataTree → List TypedRange
 data_ranges (Some k) (tree.to_value v) = typed_value k v ∷ []
-data_ranges (Some k) (tree.to_verdict v) = []
-data_ranges None d = []
+data_ranges _ _ = []
 
 -- the keys and data of a map's elements
 abbrev pub map_ranges : TypedMap → List TypedRange
