@@ -5,7 +5,7 @@ use Rattle.std.specs.Option.{option_map, option_and_then, option_or}
 use Rattle.nft_tree.specs.declared.selector.Selector.{Selector}
 use Rattle.nft_tree.specs.declared.compared_types.ComparedType.{ComparedType}
 use Rattle.nft_tree.specs.Tree as tree
-use Rattle.nft_tree.specs.Tree.{VerdictTree, ValueTree, RangeTree, KeyTree, ElementTree, DataTree, PairTree}
+use Rattle.nft_tree.specs.Tree.{VerdictTree, ValueTree, KeyTree, ElementTree, DataTree, PairTree}
 use Rattle.nft_tree.specs.Tree.{SetRefTree, MapRefTree, SetTree, MapTree, TableTree}
 use Rattle.nft_tree.specs.ComparedTypes.{selector_compared_type, key_compared_types, map_key_compared_type}
 use Rattle.box_file.specs.Box.{PlantTree}

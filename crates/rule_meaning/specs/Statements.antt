@@ -12,7 +12,7 @@ use Rattle.nft_tree.specs.declared.nat.PortRange.{PortRange}
 use Rattle.nft_tree.specs.declared.nat.PortRange.TheVariants as port_ranges
 use Rattle.nft_tree.specs.Tree as tree
 use Rattle.nft_tree.specs.Tree.{Text, VerdictTree, MapLookupTree, OperandTree, SourceTree, DestinationTree, NatTree}
-use Rattle.nft_tree.specs.Tree.{MatchTree, Statement, TableTree}
+use Rattle.nft_tree.specs.Tree.{Statement, TableTree}
 use Rattle.nft_tree.specs.TableItems.{chains_of}
 use Rattle.rule_names.specs.Names.{index_in, chain_names}
 use Rattle.rule_meaning.specs.declared.facts.Facts.{Facts}

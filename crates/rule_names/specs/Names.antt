@@ -8,8 +8,8 @@ use Rattle.std.specs.Str.{bytes_eq}
 use Rattle.nft_tree.specs.declared.ruleset.Family.{Family}
 use Rattle.nft_tree.specs.declared.ruleset.Family.TheVariants as families
 use Rattle.nft_tree.specs.Tree as tree
-use Rattle.nft_tree.specs.Tree.{Text, VerdictTree, DataTree, PairTree, MapRefTree, SetRefTree, MatchTree, OperandTree}
-use Rattle.nft_tree.specs.Tree.{NatTree, Statement, RuleTree, ChainTree, SetTree, MapTree, ItemTree, TableTree}
+use Rattle.nft_tree.specs.Tree.{Text, VerdictTree, DataTree, PairTree, MapRefTree, SetRefTree}
+use Rattle.nft_tree.specs.Tree.{Statement, RuleTree, ChainTree, SetTree, MapTree, ItemTree, TableTree}
 use Rattle.nft_tree.specs.TableItems.{chains_of, sets_of, maps_of}
 
 -- ---- N01: duplicate names (own: nft merges declarations of the same name)

@@ -8,7 +8,7 @@ use Rattle.nft_tree.specs.declared.chain.ChainKind.TheVariants as kinds
 use Rattle.nft_tree.specs.declared.chain.Hook.{Hook}
 use Rattle.nft_tree.specs.declared.chain.Hook.TheVariants as hooks
 use Rattle.nft_tree.specs.Tree as tree
-use Rattle.nft_tree.specs.Tree.{Text, VerdictTree, DataTree, PairTree, Statement, RuleTree, HeadTree, ChainTree}
+use Rattle.nft_tree.specs.Tree.{Text, VerdictTree, DataTree, PairTree, Statement, HeadTree, ChainTree}
 use Rattle.nft_tree.specs.Tree.{MapTree, TableTree}
 use Rattle.nft_tree.specs.TableItems.{chains_of}
 use Rattle.rule_names.specs.Names.{chain_named, chain_names, map_named, some_of}

@@ -10,8 +10,8 @@ use Rattle.nft_tree.specs.declared.nat.PortRange.{PortRange}
 use Rattle.nft_tree.specs.declared.nat.PortRange.TheVariants as ports
 use Rattle.nft_tree.specs.declared.chain.Priority.{Priority}
 use Rattle.nft_tree.specs.Tree as tree
-use Rattle.nft_tree.specs.Tree.{Text, ValueTree, VerdictTree, DataTree, PairTree, FlagTree, MatchTree, SourceTree}
-use Rattle.nft_tree.specs.Tree.{DestinationTree, NatTree, Statement, RuleTree, HeadTree, ChainTree, ItemTree}
+use Rattle.nft_tree.specs.Tree.{VerdictTree, DataTree, PairTree, FlagTree, MatchTree, SourceTree}
+use Rattle.nft_tree.specs.Tree.{DestinationTree, NatTree, Statement, ChainTree, ItemTree}
 use Rattle.nft_tree.specs.Tree.{TableTree}
 use Rattle.nft_tree.specs.Priorities.{priority_number}
 use Rattle.box_file.specs.Box.{PlantTree, any_pair}

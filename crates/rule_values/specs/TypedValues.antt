@@ -7,7 +7,7 @@ use Rattle.nft_tree.specs.declared.compared_types.ComparedType.{ComparedType}
 use Rattle.nft_tree.specs.declared.compared_types.ComparedType.TheVariants.{Named}
 use Rattle.nft_tree.specs.Tree as tree
 use Rattle.nft_tree.specs.Tree.{ValueTree, RangeTree, KeyTree, ElementTree, DataTree, PairTree, SetRefTree, MapRefTree}
-use Rattle.nft_tree.specs.Tree.{MatchTree, Statement, RuleTree, SetTree, MapTree, ItemTree, TableTree}
+use Rattle.nft_tree.specs.Tree.{MatchTree, Statement, RuleTree, MapTree, ItemTree, TableTree}
 use Rattle.nft_tree.specs.ComparedTypes.{selector_compared_type, key_compared_types, map_key_compared_type, map_data_compared_type}
 
 abbrev pub some_of : {A : Type 0} → Option (List A) → List A

@@ -4,7 +4,7 @@ use Rattle.nft_tree.specs.declared.ruleset.RuleNo.{RuleNo}
 use Rattle.nft_tree.specs.declared.chain.Policy.{Policy}
 use Rattle.nft_tree.specs.declared.chain.Policy.TheVariants as policies
 use Rattle.nft_tree.specs.Tree as tree
-use Rattle.nft_tree.specs.Tree.{MatchTree, Statement, ItemTree, TableTree}
+use Rattle.nft_tree.specs.Tree.{MatchTree, ItemTree, TableTree}
 use Rattle.rule_meaning.specs.declared.facts.Facts.{Facts}
 use Rattle.rule_meaning.specs.declared.event.StatementPosition.{StatementPosition}
 use Rattle.rule_meaning.specs.declared.event.RuleVerdict.{RuleVerdict}

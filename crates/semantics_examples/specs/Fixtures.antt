@@ -13,7 +13,7 @@ use Rattle.nft_tree.specs.declared.set.MapType.TheVariants as map_types
 use Rattle.nft_tree.specs.declared.set.TypeOrVerdict.TheVariants as verdicts
 use Rattle.nft_tree.specs.declared.selector.ValueType.TheVariants as types
 use Rattle.nft_tree.specs.Tree as tree
-use Rattle.nft_tree.specs.Tree.{Text, RangeTree, ElementTree, DataTree, PairTree, MatchTree, Statement, RuleTree}
+use Rattle.nft_tree.specs.Tree.{Text, RangeTree, ElementTree, DataTree, PairTree, Statement, RuleTree}
 use Rattle.nft_tree.specs.Tree.{ItemTree, TableTree}
 use Rattle.box_file.specs.Box.{PlantTree}
 use Rattle.ip_headers.specs.declared.transport.Transport.{Transport}
