@@ -1,4 +1,4 @@
--- The sum of a chain's cost, and that nodes in order have costs.
+-- The cost of a chain as a sum, and that nodes in topological order have costs.
 use Rattle.std.proofs.Common.{◌≡◌, ℕ, zero, suc, ◌+◌, ◌-◌, ◌<◌, ◌≤◌, List, [], ◌∷◌, length, get_or, take, sym, refl, ap, subst, ◌∙◌, Vec, Global, arith, map, ◌^◌, drop}
 use Rattle.std.specs.Prelude.{Contains, flat_map}
 use Rattle.std.proofs.lemmas.List.{get_or_default, get_or-take, length-take-le, drop_more, drop_all}
@@ -33,7 +33,7 @@ pub node-saturated : (f h : ℕ → ℕ) (n : NodeTree ℕ) → ((e : Call ℕ) 
 node-saturated f h (chain ss) p = cost-saturated f h ss p
 node-saturated f h (verdict_map es) p = let same = greatest-saturated f h es p in omega arith
 
--- a saturating sum, and what is left
+-- a saturating sum so far, and the rest
 pub saturated-more : (sum sum' one g rest : ℕ) → sum ≤ 2 ^ 64 - 1 → one ≡ saturated (sum + 1) → sum' ≡ saturated (one + g) → saturated (sum' + rest) ≡ saturated (sum + (1 + g + rest))
 saturated-more sum sum' one g rest h p q = omega arith
 
@@ -70,12 +70,12 @@ pub node-same : (f h : ℕ → ℕ) (n : NodeTree ℕ) → ((e : Call ℕ) → C
 node-same f h (chain ss) p = cost-same f h ss p
 node-same f h (verdict_map es) p = greatest-same f h es p
 
--- the costs where paths of more calls than that count nothing
+-- the costs where calls deeper than that cost nothing
 abbrev pub cost_within : Graph → ℕ → ℕ → ℕ
 cost_within g zero c = 0
 cost_within g (suc n) c = node_cost (cost_within g n) (node_at g c)
 
--- a node at the place j of the order has its cost from j + 1 on
+-- the node at index j of the order has its cost from depth j + 1 on
 pub settled : (g : Graph) (o : List ℕ) → IsTopologicalOrder (targets_of g) o → (m j n : ℕ) → j < m → j < length o → j < n → cost_within g (suc n) (get_or o j 0) ≡ cost_within g n (get_or o j 0)
 settled g o is zero j n a l h = absurd (omega (arith, a))
 settled g o is (suc m) j zero a l h = absurd (omega (arith, h))

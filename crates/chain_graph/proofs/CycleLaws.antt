@@ -1,4 +1,4 @@
--- Paths of calls, and ways through their targets.
+-- Paths of calls, and paths of their targets.
 use Rattle.std.proofs.Common.{ℕ, List, [], ◌∷◌, sym, subst, ◌∙◌, map}
 use Rattle.chain_graph.specs.Graph.{Call, IsPath, HasCycle}
 use Rattle.chain_graph.specs.Nodes.{Graph, Calls, targets_of}

@@ -1,4 +1,4 @@
--- How deep a chain jumps, from how deep its targets do.
+-- The depth of a chain from the depths of its targets.
 use Rattle.std.proofs.Common.{◌≡◌, ◌⊎◌, ℕ, ◌+◌, ◌≤◌, List, [], ◌∷◌, ◌++◌, get_or, refl, ap, subst, ◌∙◌, inl, inr, ⊎_elim, arith, max}
 use Rattle.std.specs.Prelude.{Contains}
 use Rattle.std.proofs.lemmas.Bool.{cases_lt}

@@ -1,4 +1,4 @@
--- Nodes, their targets, and the nodes that stand before a node.
+-- Nodes, their targets, and the nodes before a node.
 use Rattle.std.proofs.Common.{◌≡◌, ℕ, zero, suc, ◌+◌, ◌<◌, List, [], ◌∷◌, ◌++◌, length, get_or, sym, refl, ap, subst, ◌∙◌, Vec, Global, arith, take, map, drop}
 use Rattle.std.specs.Prelude.{Contains, flat_map}
 use Rattle.std.proofs.lemmas.List.{get_or_default, length-map, drop_more}
@@ -52,7 +52,7 @@ pub within-of : (n : ℕ) (node : Node) → ((e : Call ℕ) → Contains (calls_
 within-of n (Chain v) range = λ k d l j x m. range (call_of (get_or (get_or v.items k d).items j x)) (flat-at v.items k d j x l m)
 within-of n (Map v) range = λ j x m. range (call_of (get_or v.items j x)) (Contains-map call_of v.items (get_or v.items j x) (Contains-get_or v.items j x m))
 
--- the calls of a node are to nodes
+-- the calls of a node are in range
 pub node-within : (nodes : List Node) (c n : ℕ) (node : Node) → c < length nodes → node ≡ get_or nodes c node → InRange (graph_of nodes) n → IsWithin n node
 node-within nodes c n node h e range = within-of n node (λ call k. range c call (subst (λ x. Contains (calls_in x) call) (sym (node-is nodes c node h e)) k))
 
@@ -63,7 +63,7 @@ calls-rest statements i s h e = ap (λ xs. flat_map identity (statements_of xs))
 pub order-before : (g : Graph) (order : List ℕ) (i c : ℕ) → IsTopologicalOrder (targets_of g) order → i < length order → c ≡ get_or order i c → (e : Call ℕ) → Calls g c e → Contains (take i order) e.to
 order-before g order i c o h e call k = o.after i call.to h (subst (λ x. HasEdge (targets_of g) x call.to) (e ∙ get_or_default order i c 0 h) (edge-of g c call k))
 
--- the node of this turn is one of the nodes
+-- the node of this iteration is in range
 pub inside-nodes : (nodes : List Node) (order : List ℕ) (i : ℕ) → IsTopologicalOrder (targets_of (graph_of nodes)) order → i < length order → get_or order i 0 < length nodes
 inside-nodes nodes order i o h =
     let below = o.below i 0 h in

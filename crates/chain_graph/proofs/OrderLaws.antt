@@ -1,4 +1,4 @@
--- How the search begins, and what it has found at its end.
+-- The initial state of the search, and its result.
 use Rattle.std.proofs.Common.{◌≡◌, ◌≢◌, ◌⊎◌, ℕ, zero, suc, ◌<◌, List, [], ◌∷◌, length, get_or, sym, refl, subst, ◌∙◌, inl, inr, ⊎_elim, arith, replicate, map, le_of_eq}
 use Rattle.std.specs.Prelude.{Contains}
 use Rattle.std.proofs.lemmas.Bool.{cases_lt}
@@ -8,7 +8,7 @@ use Rattle.chain_graph.specs.declared.search.Mark.TheVariants.{New, Open, Done}
 use Rattle.chain_graph.specs.Order.{HasEdge, IsTopologicalOrder}
 use Rattle.chain_graph.specs.steps.Search.{IsSound}
 use Rattle.chain_graph.specs.steps.Targets.{IsTargetPath, HasTargetCycle}
-use Rattle.list_laws.specs.Elements.{none-in-empty, empty-All, take-place}
+use Rattle.list_laws.specs.Elements.{none-in-empty, empty-All, take-index}
 
 pub get_or-lengths : (g : List (List ℕ)) (c : ℕ) → get_or (map length g) c 0 ≡ length (get_or g c [])
 get_or-lengths [] c = refl
@@ -55,10 +55,10 @@ all-done g marks left path order s none visited = record {
 
 pub reaching-before : (g : List (List ℕ)) (order : List ℕ) → IsTopologicalOrder g order → (i c b : ℕ) (cs : List ℕ) → i < length order → IsTargetPath g (get_or order i 0) (c ∷ cs) b → (j : ℕ) × (j < i) × (get_or order j 0 ≡ b)
 reaching-before g order o i c b [] h p =
-    let at = take-place order i c (omega arith) (o.after i c h p.0) in
+    let at = take-index order i c (omega arith) (o.after i c h p.0) in
     (at.0, at.1, at.2 ∙ p.1)
 reaching-before g order o i c b (d ∷ cs) h p =
-    let at = take-place order i c (omega arith) (o.after i c h p.0) in
+    let at = take-index order i c (omega arith) (o.after i c h p.0) in
     let l = at.1 in
     let more = reaching-before g order o at.0 d b cs (omega arith) (subst (λ x. IsTargetPath g x (d ∷ cs) b) (sym at.2) p.1) in
     let m = more.1 in

@@ -1,4 +1,4 @@
--- What leads to a marked chain.
+-- Reaching a marked node.
 use Rattle.std.proofs.Common.{◌≡◌, ℕ, List, [], ◌∷◌, ◌++◌, get_or, sym, refl, ap, ◌∙◌, ⊎_elim, arith, Bool, true, false, ◌||◌}
 use Rattle.std.specs.Prelude.{Contains, IsTrue, ◌↔◌}
 use Rattle.std.proofs.lemmas.Bool.{or_right, or_cases}

@@ -1,4 +1,4 @@
--- What each step of the search keeps.
+-- Each step preserves the search's invariant.
 use Rattle.std.proofs.Common.{◌≡◌, ◌≢◌, ◌⊎◌, ℕ, zero, suc, ◌+◌, ◌-◌, ◌<◌, ◌≤◌, List, [], ◌∷◌, ◌++◌, length, get_or, set, sym, refl, ap, subst, ◌∙◌, inl, inr, ⊎_elim, arith, length-set, get_or-set_same, get_or-set_other}
 use Rattle.std.specs.Prelude.{Contains}
 use Rattle.std.proofs.lemmas.Bool.{cases_eq, cases_lt}
@@ -116,7 +116,7 @@ pub IsTargetPath-more : (g : List (List ℕ)) (a : ℕ) (cs : List ℕ) (b c : �
 IsTargetPath-more g a [] b c p e = (subst (λ x. HasEdge g x c) (sym p) e, refl)
 IsTargetPath-more g a (d ∷ cs) b c p e = (p.0, IsTargetPath-more g d cs b c p.1 e)
 
--- along the path from its place j on
+-- along the path from index j on
 pub along : (g : List (List ℕ)) (path : List ℕ) → ((i : ℕ) → i + 1 < length path → HasEdge g (get_or path i 0) (get_or path (i + 1) 0)) → (j m : ℕ) → j + m < length path → (cs : List ℕ) × IsTargetPath g (get_or path j 0) cs (get_or path (j + m) 0)
 along g path chained j zero h = ([], ap (λ k. get_or path k 0) (let e : j ≡ j + 0 = omega arith in e))
 along g path chained j (suc m) h =
@@ -129,7 +129,7 @@ pub closed : (g : List (List ℕ)) (a : ℕ) (cs : List ℕ) (b : ℕ) → IsTar
 closed g a [] b p e = record { node = a; first = a; rest = []; path = (subst (λ x. HasEdge g x a) (sym p) e, refl) }
 closed g a (c ∷ cs) b p e = record { node = a; first = c; rest = cs ++ a ∷ []; path = (p.0, IsTargetPath-more g c cs b a p.1 e) }
 
--- the last node leads to one on the path
+-- the last node has an edge to one on the path
 pub visited_again : (g : List (List ℕ)) (marks : List Mark) (left rest order : List ℕ) (c t : ℕ) → IsSound g marks left (rest ++ c ∷ []) order → HasEdge g c t → get_or marks t New ≡ Open → HasTargetCycle g
 visited_again g marks left rest order c t s e is =
     let found = s.opened t is in

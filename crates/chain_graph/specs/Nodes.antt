@@ -1,4 +1,4 @@
--- Chains and verdict maps by index: the nodes of a graph.
+-- The call graph by index of its nodes. (own)
 use Rattle.std.specs.Prelude.{ℕ, ◌<◌, List, [], get_or, map, Contains, Vec}
 use Rattle.std.specs.declared.alloc.Global.{Global}
 use Rattle.chain_graph.specs.Graph.{Call, NodeTree, chain, verdict_map, calls_in}
@@ -22,21 +22,21 @@ node_of (Map calls) = verdict_map (map call_of calls.items)
 abbrev pub graph_of : List Node → Graph
 graph_of nodes = map node_of nodes
 
--- the node at place a
+-- the node with index a
 abbrev pub node_at : Graph → ℕ → NodeTree ℕ
 node_at g a = get_or g a (chain [])
 
--- the calls of the node at place a
+-- the calls of the node with index a
 abbrev pub calls_of : Graph → ℕ → List (Call ℕ)
 calls_of g a = calls_in (node_at g a)
 
 abbrev pub Calls : Graph → ℕ → Call ℕ → Type 0
 Calls g a e = Contains (calls_of g a) e
 
--- each of them is to one of n nodes
+-- all calls are to nodes with indices below n
 abbrev pub InRange : Graph → ℕ → Type 0
 InRange g n = (a : ℕ) (e : Call ℕ) → Calls g a e → e.to < n
 
--- the nodes that each node leads to
+-- the targets of each node
 abbrev pub targets_of : Graph → List (List ℕ)
 targets_of g = map (λ n. map (λ e. e.to) (calls_in n)) g

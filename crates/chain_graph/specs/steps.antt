@@ -1,4 +1,4 @@
--- What private functions give on the way: nothing that a public contract cites.
+-- Definitions for private contracts; no public contract cites them.
 pub mod Targets
 pub mod Search
 pub mod Passes

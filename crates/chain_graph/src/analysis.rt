@@ -1,4 +1,4 @@
-//! All that is known of nodes from the graph alone.
+//! The analysis of an acyclic graph: topological order, costs and depths.
 ghost use Rattle.std.specs.Prelude.{length, IfOk, MatchOption};
 ghost use Rattle.chain_graph.specs.Graph.{HasCycle};
 ghost use Rattle.chain_graph.specs.Nodes.{graph_of, InRange, Calls};
@@ -11,23 +11,23 @@ use crate::search::{SortResult, topological_sort};
 use crate::targets::all_targets;
 use std::alloc::{AllocError, Global};
 
-/// What is known of nodes that don't lead to themselves, by index.
+/// The analysis of a graph without cycles, by index of its nodes.
 #[derive(Debug, Drop)]
 pub struct GraphAnalysis {
-    /// Each node once, after all that it leads to.
+    /// A topological order: each node once, after all its targets.
     pub order: Vec<usize>,
-    /// What each node costs, or the greatest number: a chain for each statement 1 and what the
-    /// dearest node costs that it can lead to, a map what the dearest of its own costs.
+    /// The cost of each node, saturated at `u64::MAX`: of a chain, for each statement 1 and the
+    /// greatest cost among its targets; of a map, the greatest cost among its targets.
     pub costs: Vec<u64>,
-    /// The most jumps of a path from each node.
+    /// The most jumps on a path from each node.
     pub depths: Vec<u64>,
 }
 
-/// Judges chains and maps; `None` where one leads to itself.
+/// Analyzes the graph of chains and maps; `None` if it has a cycle.
 ///
 /// # Errors
 ///
-/// There was no room to grow.
+/// If an allocation fails.
 pub fn analyze(alloc: Global, nodes: &[Node]) -> Result<Option<GraphAnalysis>, AllocError>
     requires range { InRange (graph_of nodes.now) (length nodes.now) }
     ensures { IfOk result (λ analysis. MatchOption analysis (HasCycle (Calls (graph_of nodes.now)))

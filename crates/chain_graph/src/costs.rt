@@ -1,4 +1,5 @@
-//! What nodes cost. Numbers stop at the greatest, since a chain may cost far more.
+//! The cost of each node: the greatest number of statements that one packet can meet from there.
+//! Sums saturate at `u64::MAX`, since costs can grow exponentially with the number of chains.
 ghost use Rattle.std.specs.Prelude.{◌≡◌, ◌<◌, ℕ, All, length, map, slice_index, IfOk};
 ghost use Rattle.chain_graph.specs.Graph.{chain_cost, greatest, node_cost};
 ghost use Rattle.chain_graph.specs.Nodes.{call_of, statements_of, node_of, graph_of, targets_of, InRange};
@@ -9,7 +10,7 @@ ghost use Rattle.chain_graph.specs.steps.Passes.{IsWithin};
 use crate::node::{Edge, Node};
 use std::alloc::{AllocError, Global};
 
-/// The greatest cost of the calls' targets.
+/// The greatest cost among the calls' targets.
 fn greatest(costs: &[u64], calls: &[Edge]) -> u64
     requires { All (λ e. e.to < length costs.now) calls.now }
     ensures { result ≡ greatest (λ c. slice_index costs.now c) (map call_of calls.now) }
@@ -21,7 +22,7 @@ fn greatest(costs: &[u64], calls: &[Edge]) -> u64
     most
 }
 
-/// What a chain costs, or the greatest number.
+/// The cost of a chain, saturated.
 fn chain_cost(costs: &[u64], statements: &[Vec<Edge>]) -> u64
     requires { All (λ s. All (λ e. e.to < length costs.now) s.items) statements.now }
     ensures { result
@@ -34,7 +35,7 @@ fn chain_cost(costs: &[u64], statements: &[Vec<Edge>]) -> u64
     sum
 }
 
-/// What a node costs, or the greatest number.
+/// The cost of a node, saturated.
 fn node_cost(costs: &[u64], node: &Node) -> u64
     requires { IsWithin (length costs.now) node.now }
     ensures { result ≡ saturated (node_cost (λ c. slice_index costs.now c) (node_of node.now)) }
@@ -45,7 +46,7 @@ fn node_cost(costs: &[u64], node: &Node) -> u64
     }
 }
 
-/// What each node costs, or the greatest number.
+/// The cost of each node by index, saturated.
 pub fn node_costs(alloc: Global, nodes: &[Node], order: &[usize]) -> Result<Vec<u64>, AllocError>
     requires range { InRange (graph_of nodes.now) (length nodes.now) }
     requires order { IsTopologicalOrder (targets_of (graph_of nodes.now)) order.now }

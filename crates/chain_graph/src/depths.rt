@@ -1,4 +1,4 @@
-//! How deep nodes jump.
+//! The depth of each node: the most jumps on a path from it.
 ghost use Rattle.std.specs.Prelude.{◌≡◌, ◌<◌, ◌+◌, ℕ, All, length, map, slice_index, IfOk, flat_map};
 ghost use Rattle.chain_graph.specs.Graph.{calls_in, identity};
 ghost use Rattle.chain_graph.specs.Nodes.{call_of, statements_of, node_of, graph_of, targets_of, InRange};
@@ -9,7 +9,7 @@ ghost use Rattle.chain_graph.specs.steps.Passes.{deepest, jump_of, IsWithin};
 use crate::node::{Edge, Node};
 use std::alloc::{AllocError, Global};
 
-/// How deep a call goes, or the greatest number.
+/// The depth of a call, saturated.
 fn call_depth(depths: &[u64], call: &Edge) -> u64
     requires { call.now.to < length depths.now }
     ensures { result ≡ saturated (slice_index depths.now call.now.to + jump_of (call_of call.now)) }
@@ -22,7 +22,7 @@ fn call_depth(depths: &[u64], call: &Edge) -> u64
     }
 }
 
-/// How deep the deepest of the calls goes.
+/// The greatest depth among the calls.
 fn deepest_call(depths: &[u64], calls: &[Edge]) -> u64
     requires { All (λ e. e.to < length depths.now) calls.now }
     ensures { result ≡ deepest (λ c. slice_index depths.now c) (map call_of calls.now) }
@@ -34,11 +34,11 @@ fn deepest_call(depths: &[u64], calls: &[Edge]) -> u64
     most
 }
 
-/// How deep a chain jumps.
+/// The depth of a chain, saturated.
 fn chain_depth(depths: &[u64], statements: &[Vec<Edge>]) -> u64
     requires { All (λ s. All (λ e. e.to < length depths.now) s.items) statements.now }
-    ensures { result
-        ≡ deepest (λ c. slice_index depths.now c) (flat_map identity (statements_of statements.now)) }
+    ensures { result ≡ deepest (λ c. slice_index depths.now c)
+        (flat_map identity (statements_of statements.now)) }
 {
     let mut most = 0;
     for calls in statements {
@@ -47,7 +47,7 @@ fn chain_depth(depths: &[u64], statements: &[Vec<Edge>]) -> u64
     most
 }
 
-/// How deep a node jumps.
+/// The depth of a node, saturated.
 fn node_depth(depths: &[u64], node: &Node) -> u64
     requires { IsWithin (length depths.now) node.now }
     ensures { result ≡ deepest (λ c. slice_index depths.now c) (calls_in (node_of node.now)) }
@@ -58,7 +58,7 @@ fn node_depth(depths: &[u64], node: &Node) -> u64
     }
 }
 
-/// How deep each node jumps, or the greatest number.
+/// The depth of each node by index, saturated.
 pub fn node_depths(alloc: Global, nodes: &[Node], order: &[usize]) -> Result<Vec<u64>, AllocError>
     requires range { InRange (graph_of nodes.now) (length nodes.now) }
     requires order { IsTopologicalOrder (targets_of (graph_of nodes.now)) order.now }

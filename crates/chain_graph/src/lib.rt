@@ -1,8 +1,7 @@
-//! The graph of chains and verdict maps by index: an order of them, what they cost, how deep they
-//! jump, and which of them lead to which.
+//! The call graph of chains and verdict maps: topological order, costs, depths and reachability.
 //!
-//! Nothing recurs, and the time is in proportion to the graph, so that thousands of chains in a row
-//! are as safe as two.
+//! Nothing is recursive and all passes take linear time, so that a long row of chains can't
+//! overflow the stack.
 #![tactic(auto)]
 
 mod analysis;

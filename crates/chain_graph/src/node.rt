@@ -1,19 +1,19 @@
-//! What stands in the graph.
+//! Nodes and edges of the call graph.
 
-/// A verdict that leads to a node, or a statement that looks its verdict up in a map.
+/// A jump or goto verdict to a chain, or a statement's lookup in a verdict map.
 #[derive(Clone, Copy, Debug, PartialEq, Eq)]
 pub struct Edge {
-    /// The index of the node that it leads to.
+    /// The index of the target.
     pub to: usize,
-    /// Whether it's a jump. A goto isn't, nor is the way from a statement to a map.
+    /// Whether it is a jump, which pushes a return position. A goto doesn't, nor does a lookup.
     pub is_jump: bool,
 }
 
-/// What can lead on. A map has a node of its own, so that its elements stand once, however many
-/// statements look them up.
+/// A node of the call graph. A named map is a node of its own, so that its elements are stored once
+/// however many statements look them up.
 #[derive(Debug, Drop)]
 pub enum Node {
-    /// A chain: for each statement the edges that it can come to.
+    /// A chain: for each statement its edges.
     Chain(Vec<Vec<Edge>>),
     /// A verdict map: the edges of its elements.
     Map(Vec<Edge>),

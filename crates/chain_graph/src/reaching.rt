@@ -1,4 +1,4 @@
-//! Which nodes lead to marked ones.
+//! Which nodes reach a marked one.
 ghost use Rattle.std.specs.Prelude.{◌≡◌, ◌<◌, ℕ, All, length, map, get_or, false, IfOk, IsTrue, ◌↔◌, ◌||◌, flat_map};
 ghost use Rattle.chain_graph.specs.Graph.{calls_in, identity};
 ghost use Rattle.chain_graph.specs.Nodes.{call_of, statements_of, node_of, graph_of, targets_of, InRange};
@@ -9,7 +9,7 @@ ghost use Rattle.chain_graph.specs.steps.Passes.{some_call, IsWithin};
 use crate::node::{Edge, Node};
 use std::alloc::{AllocError, Global};
 
-/// Whether one of the calls leads on.
+/// Whether the target of one of the calls is reaching.
 fn some_call_reaches(reaching: &[bool], calls: &[Edge]) -> bool
     requires { All (λ e. e.to < length reaching.now) calls.now }
     ensures { result ≡ some_call (λ c. get_or reaching.now c false) (map call_of calls.now) }
@@ -22,11 +22,11 @@ fn some_call_reaches(reaching: &[bool], calls: &[Edge]) -> bool
     false
 }
 
-/// Whether one of the calls of a chain leads on.
+/// Whether the target of one of a chain's calls is reaching.
 fn some_statement_reaches(reaching: &[bool], statements: &[Vec<Edge>]) -> bool
     requires { All (λ s. All (λ e. e.to < length reaching.now) s.items) statements.now }
-    ensures { result
-        ≡ some_call (λ c. get_or reaching.now c false) (flat_map identity (statements_of statements.now)) }
+    ensures { result ≡ some_call (λ c. get_or reaching.now c false)
+        (flat_map identity (statements_of statements.now)) }
 {
     for calls in statements {
         if some_call_reaches(reaching, calls) {
@@ -36,7 +36,7 @@ fn some_statement_reaches(reaching: &[bool], statements: &[Vec<Edge>]) -> bool
     false
 }
 
-/// Whether one of the calls of a node leads on.
+/// Whether the target of one of a node's calls is reaching.
 fn some_call_of_node_reaches(reaching: &[bool], node: &Node) -> bool
     requires { IsWithin (length reaching.now) node.now }
     ensures { result ≡ some_call (λ c. get_or reaching.now c false) (calls_in (node_of node.now)) }
@@ -47,7 +47,7 @@ fn some_call_of_node_reaches(reaching: &[bool], node: &Node) -> bool
     }
 }
 
-/// Whether a node is marked or one of its calls leads on.
+/// Whether a node is marked or the target of one of its calls is reaching.
 fn node_reaches(is_marked: bool, reaching: &[bool], node: &Node) -> bool
     requires { IsWithin (length reaching.now) node.now }
     ensures { result ≡ is_marked
@@ -56,13 +56,13 @@ fn node_reaches(is_marked: bool, reaching: &[bool], node: &Node) -> bool
     is_marked || some_call_of_node_reaches(reaching, node)
 }
 
-/// Whether each node is marked or leads to a marked one.
+/// For each node, whether a path from it (of any length, also 0) ends in a marked node.
 ///
-/// The order is `analyze`'s, of the same nodes.
+/// `order` is a topological order of the nodes, as `analyze` returns it.
 ///
 /// # Errors
 ///
-/// There was no room to grow.
+/// If an allocation fails.
 pub fn reaches_marked(
     alloc: Global,
     nodes: &[Node],
@@ -74,7 +74,8 @@ pub fn reaches_marked(
     requires marked { length marked.now ≡ length nodes.now }
     ensures long { IfOk result (λ reaching. length reaching.items ≡ length nodes.now) }
     ensures reaching { IfOk result (λ reaching. (c : ℕ) → c < length nodes.now
-        → IsTrue (get_or reaching.items c false) ↔ ReachesMarked (graph_of nodes.now) marked.now c) }
+        → IsTrue (get_or reaching.items c false)
+        ↔ ReachesMarked (graph_of nodes.now) marked.now c) }
 {
     let mut reaching = vec![in alloc; false; nodes.len()]?;
     for &node in order {

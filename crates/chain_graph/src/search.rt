@@ -1,23 +1,20 @@
-//! A search through the nodes that never recurs: the nodes on the way stand in a vector.
-//!
-//! Where it comes upon a node of that way again, the way is itself the proof that a node leads to
-//! itself.
+//! Topological sort by depth-first search with an explicit stack (the `path`). Meeting a node that
+//! is on the path proves a cycle.
 ghost use Rattle.std.specs.Prelude.{◌≡◌, ◌<◌, ◌++◌, List, [], ◌∷◌, ℕ, length, IfOk};
 ghost use Rattle.chain_graph.specs.steps.Targets.{rows_of, TargetsInRange};
 ghost use Rattle.chain_graph.specs.steps.Search.{IsSearch, StepResult, VisitResult, IsSortResult};
 
 use std::alloc::{AllocError, Global};
 
-/// What the search finds.
 #[derive(Debug, Drop)]
 pub enum SortResult {
-    /// Each node once, after all that it leads to.
+    /// A topological order: each node once, after all its targets.
     Order(Vec<usize>),
-    /// Some node leads to itself.
+    /// The graph has a cycle.
     Cycle,
 }
 
-/// How far a node is searched.
+/// The state of a node in the search.
 #[derive(Clone, Copy, Debug, PartialEq, Eq)]
 enum Mark {
     New,
@@ -29,16 +26,16 @@ enum Mark {
 #[derive(Debug, Drop)]
 struct Search {
     marks: Vec<Mark>,
-    /// How many targets of each node aren't looked at yet. The last of them is looked at again once
-    /// it is done, and only then counted off.
+    /// For each node, how many of its targets are not done. They are visited from the last to the
+    /// first; a target is counted off when it is met again after it is done.
     left: Vec<usize>,
-    /// Each node leads to the next.
+    /// The stack: each node has an edge to the next.
     path: Vec<usize>,
-    /// The nodes that are done, each after all that it leads to.
+    /// The nodes that are done, each after all its targets.
     order: Vec<usize>,
 }
 
-/// No node is searched yet.
+/// The initial state: all nodes new.
 fn start(alloc: Global, targets: &[Vec<usize>]) -> Result<Search, AllocError>
     ensures search { IfOk result (λ search. IsSearch (rows_of targets.now) search) }
     ensures path { IfOk result (λ search. search.path.items ≡ []) }
@@ -58,8 +55,7 @@ fn start(alloc: Global, targets: &[Vec<usize>]) -> Result<Search, AllocError>
     })
 }
 
-/// Looks at one target of the path's last node, or ends the node. False where a node leads to
-/// itself.
+/// Advances the path's last node by one target, or finishes it. False if that shows a cycle.
 fn step(targets: &[Vec<usize>], search: &mut Search, last: usize) -> Result<bool, AllocError>
     requires range { TargetsInRange (rows_of targets.now) }
     requires search { IsSearch (rows_of targets.now) search.old }
@@ -90,7 +86,7 @@ fn step(targets: &[Vec<usize>], search: &mut Search, last: usize) -> Result<bool
     }
 }
 
-/// Searches all that a node leads to. False where a node leads to itself.
+/// Searches from a node. False if that shows a cycle.
 fn visit(targets: &[Vec<usize>], search: &mut Search, root: usize) -> Result<bool, AllocError>
     requires range { TargetsInRange (rows_of targets.now) }
     requires search { IsSearch (rows_of targets.now) search.old }
@@ -112,7 +108,7 @@ fn visit(targets: &[Vec<usize>], search: &mut Search, root: usize) -> Result<boo
     Ok(true)
 }
 
-/// Each node once, after all that it leads to, unless some node leads to itself.
+/// Sorts the nodes so that each comes after all its targets, unless there is a cycle.
 pub fn topological_sort(alloc: Global, targets: &[Vec<usize>]) -> Result<SortResult, AllocError>
     requires { TargetsInRange (rows_of targets.now) }
     ensures { IfOk result (λ found. IsSortResult (rows_of targets.now) found) }

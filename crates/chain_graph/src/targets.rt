@@ -1,4 +1,4 @@
-//! The nodes that nodes lead to, without how.
+//! The targets of each node, without the kind of call.
 ghost use Rattle.std.specs.Prelude.{◌≡◌, ◌++◌, map, IfOk, OnOk, flat_map};
 ghost use Rattle.chain_graph.specs.Graph.{calls_in, identity};
 ghost use Rattle.chain_graph.specs.Nodes.{call_of, statements_of, node_of, graph_of, targets_of};
@@ -7,7 +7,6 @@ ghost use Rattle.chain_graph.specs.steps.Targets.{rows_of};
 use crate::node::{Edge, Node};
 use std::alloc::{AllocError, Global};
 
-/// Adds the targets of the calls.
 fn add_targets(targets: &mut Vec<usize>, calls: &[Edge]) -> Result<(), AllocError>
     ensures { OnOk result (targets.new.items
         ≡ targets.old.items ++ map (λ e. e.to) (map call_of calls.now)) }
@@ -18,7 +17,6 @@ fn add_targets(targets: &mut Vec<usize>, calls: &[Edge]) -> Result<(), AllocErro
     Ok(())
 }
 
-/// Adds the targets of a chain.
 fn add_chain_targets(targets: &mut Vec<usize>, statements: &[Vec<Edge>]) -> Result<(), AllocError>
     ensures { OnOk result (targets.new.items
         ≡ targets.old.items ++ map (λ e. e.to) (flat_map identity (statements_of statements.now))) }
@@ -29,7 +27,6 @@ fn add_chain_targets(targets: &mut Vec<usize>, statements: &[Vec<Edge>]) -> Resu
     Ok(())
 }
 
-/// The targets of a node.
 fn node_targets(alloc: Global, node: &Node) -> Result<Vec<usize>, AllocError>
     ensures { IfOk result (λ targets. targets.items
         ≡ map (λ e. e.to) (calls_in (node_of node.now))) }
@@ -42,7 +39,7 @@ fn node_targets(alloc: Global, node: &Node) -> Result<Vec<usize>, AllocError>
     Ok(targets)
 }
 
-/// The targets of each node.
+/// The targets of each node, by index.
 pub fn all_targets(alloc: Global, nodes: &[Node]) -> Result<Vec<Vec<usize>>, AllocError>
     ensures { IfOk result (λ all. rows_of all.items ≡ targets_of (graph_of nodes.now)) }
 {

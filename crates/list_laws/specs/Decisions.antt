@@ -1,4 +1,4 @@
--- What is decided of the members of a list, and of texts.
+-- Decidability: of membership, of a property of some element, of `<` and of equal texts.
 use Rattle.std.proofs.Common.{◌≡◌, ◌⊎◌, ℕ, zero, suc, ◌<◌, ◌≤◌, Bool, true, false, nat_lt, List, [], ◌∷◌, length, get_or, refl, sym, ◌∙◌, subst, inl, inr, arith, Contains, ltb-true, ltb-false, bytes_eq}
 use Rattle.std.proofs.lemmas.Slice.Eq.{bytes_eq-Decides}
 use Rattle.list_laws.specs.Lists.{Contains-head}
@@ -20,19 +20,25 @@ Contains-cases y x xs at = by_index at.0 at.1 at.2
     by_index (suc k) within found = inr (k, omega arith, found)
 
 module _ {A : Type 0} (P : A → Type 0) where
-  some_cons : (x : A) (xs : List A) → Decided (P x) → Decided ((y : A) × Contains xs y × P y) → Decided ((y : A) × Contains (x ∷ xs) y × P y)
+  some_cons : (x : A) (xs : List A) → Decided (P x) → Decided ((y : A) × Contains xs y × P y)
+      → Decided ((y : A) × Contains (x ∷ xs) y × P y)
   some_cons x xs (inl p) later = inl (x, Contains-head x xs, p)
   some_cons x xs (inr no_p) (inl h) = inl (h.0, Contains-there x h.0 xs h.1, h.2)
   some_cons x xs (inr no_p) (inr none) =
-      inr (λ h. elim (Contains-cases x h.0 xs h.1) [ inl e ↦ no_p (subst P (sym e) h.2) | inr at ↦ none (h.0, at, h.2) ])
+      inr (λ h. elim (Contains-cases x h.0 xs h.1) [
+        | inl e ↦ no_p (subst P (sym e) h.2)
+        | inr at ↦ none (h.0, at, h.2)
+      ])
 
-  -- whether one of a list is so
-  pub some_decided : (xs : List A) → ((x : A) → Contains xs x → Decided (P x)) → Decided ((x : A) × Contains xs x × P x)
+  -- a property of some element is decidable where it is decidable of each
+  pub some_decided : (xs : List A) → ((x : A) → Contains xs x → Decided (P x))
+      → Decided ((x : A) × Contains xs x × P x)
   some_decided [] each = inr (λ h. Contains-none h.0 h.1)
   some_decided (x ∷ xs) each =
-      some_cons x xs (each x (Contains-head x xs)) (some_decided xs (λ y at. each y (Contains-there x y xs at)))
+      some_cons x xs (each x (Contains-head x xs))
+      (some_decided xs (λ y at. each y (Contains-there x y xs at)))
 
--- what is decided of one is decided of what says the same
+-- equivalent propositions are decidable together
 pub decided_as : {P Q : Type 0} → (P → Q) → (Q → P) → Decided P → Decided Q
 decided_as f g (inl p) = inl (f p)
 decided_as f g (inr no_p) = inr (λ q. no_p (g q))
@@ -54,4 +60,7 @@ texts_decided a b = by_test (bytes_eq a b) refl
   where
     by_test : (t : Bool) → bytes_eq a b ≡ t → Decided (a ≡ b)
     by_test true e = inl ((bytes_eq-Decides a b).0 e)
-    by_test false e = inr (λ same. let yes_and_no : ◌≡◌ {A = Bool} true false = sym ((bytes_eq-Decides a b).1 same) ∙ e in absurd cc)
+    by_test false e =
+        inr (λ same.
+        let yes_and_no : ◌≡◌ {A = Bool} true false = sym ((bytes_eq-Decides a b).1 same) ∙ e in
+        absurd cc)

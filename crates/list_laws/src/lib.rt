@@ -1,3 +1,3 @@
-//! Laws of lists, tests and options that the proofs of many crates rest on, beside those of the
-//! standard library.
+//! Lemmas about lists, booleans and options that several crates' proofs share, beyond the standard
+//! library's.
 #![tactic(auto)]

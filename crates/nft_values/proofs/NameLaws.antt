@@ -1,4 +1,4 @@
--- The star at the end of a name, and the number of a name's bytes.
+-- A trailing star, and names as numbers.
 use Rattle.std.proofs.Common.{◌≡◌, ℕ, zero, suc, ◌+◌, ◌-◌, ◌*◌, ◌^◌, ◌<◌, ◌≤◌, Bool, true, false, cond, List, [], ◌∷◌, ◌++◌, length, take, get_or, Some, None, refl, sym, ap, ◌∙◌, arith, inl, inr, length-append}
 use Rattle.std.specs.Prelude.{◌==◌, replicate}
 use Rattle.std.specs.Option.{option_map}
@@ -34,7 +34,7 @@ bytes-append : (so_far : ℕ) (bs : List ℕ) (b : ℕ) → bytes_number so_far 
 bytes-append so_far [] b = refl
 bytes-append so_far (x ∷ bs) b = bytes-append (so_far * 256 + x) bs b
 
--- the first bytes, the other byte for those wanting
+-- the first bytes, padded
 unfoldable pub padded_to : ℕ → ℕ → List ℕ → ℕ
 padded_to count fill n = bytes_number 0 (take count (n ++ replicate 16 fill))
 
@@ -75,7 +75,7 @@ room number byte at small b lt =
     let next : number * 256 + byte < 2 ^ (8 * at + 8) = rw eight (omega arith) in
     (rw same next, omega arith)
 
--- ---- the greatest fill
+-- ---- bounds of padded names
 
 replicated-le : (low high count m : ℕ) → low ≤ high → bytes_number low (take count (replicate m 0)) ≤ bytes_number high (take count (replicate m 255))
 replicated-le low high zero zero le = le

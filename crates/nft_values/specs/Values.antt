@@ -1,4 +1,4 @@
--- The values of each type, and the numbers that they stand for (nft(8), "Data types").
+-- The values of each type, and the numbers that they denote (nft(8), "Data types").
 use Rattle.std.specs.Prelude.{ℕ, ◌+◌, ◌*◌, ◌-◌, ◌/◌, ◌^◌, ◌==◌, ◌&&◌, ◌||◌, not, nat_lt, nat_le, Bool, true, false}
 use Rattle.std.specs.Prelude.{List, [], ◌∷◌, ◌++◌, length, take, replicate, Option, Some, None, unwrap_or, cond}
 use Rattle.std.specs.Prelude.{is_some}
@@ -15,12 +15,12 @@ use Rattle.set_intervals.specs.declared.range.Range.{Range}
 
 -- ---- types
 
--- the width in bits
+-- the width of the type's values in bits
 abbrev pub compared_type_width : ComparedType → ℕ
 compared_type_width (Named t) = type_width t
 compared_type_width (Unnamed width) = width
 
--- numbers are values of every type but ipv4_addr, ifname, ct_state and ct_status
+-- every type but ipv4_addr, ifname, ct_state and ct_status takes numbers
 abbrev pub takes_numbers : ComparedType → Bool
 takes_numbers (Named types.Address) = false
 takes_numbers (Named types.InterfaceName) = false
@@ -34,29 +34,29 @@ is_address _ = false
 
 -- ---- names of interfaces
 
--- a name of an interface: 1 to 15 bytes without a backslash
+-- 1 to 15 bytes (IFNAMSIZ with its zero is 16) without a backslash (own: nft(8) escapes with it)
 abbrev pub is_plain_name : Text → Bool
 is_plain_name n = nat_lt 0 (length n) && nat_lt (length n) 16 && list_all (λ b. not (b == 92)) n
 
--- what stands before a last `*`, if there is one
+-- what comes before a trailing `*`, if there is one
 abbrev pub wildcard_prefix : Text → Option Text
 wildcard_prefix [] = None
 wildcard_prefix (b ∷ []) = cond (b == 42) (Some []) None
 wildcard_prefix (b ∷ c ∷ cs) = option_map (λ rest. b ∷ rest) (wildcard_prefix (c ∷ cs))
 
--- a name, or the beginning of names with a `*` behind it
+-- an interface name, or a prefix of names followed by `*`
 abbrev pub is_interface_name : Text → Bool
 is_interface_name n = is_plain_name (unwrap_or (wildcard_prefix n) n)
 
 -- ---- values of a type
 
--- a word or a string as the name of an interface, whether or not there is one: any name is a value of iface_index
+-- a word or a string as an interface name; for iface_index any text is, whether or not the interface exists
 abbrev pub is_name_of : ComparedType → Text → Bool
 is_name_of (Named types.InterfaceName) n = is_interface_name n
 is_name_of (Named types.InterfaceIndex) n = true
 is_name_of _ n = false
 
--- the type lists the word
+-- the word is one of the type's symbolic constants
 abbrev pub lists_word : ComparedType → Text → Bool
 lists_word (Named t) w = is_some (number_in (words_of t) w)
 lists_word (Unnamed width) w = false
@@ -67,7 +67,7 @@ is_value k (tree.address a) = is_address k
 is_value k (tree.word w) = is_name_of k w || lists_word k w
 is_value k (tree.string s) = is_name_of k s
 
--- the interface of an index or a name is on the box; an index has 32 bits
+-- the interface of a value of type iface_index exists on the box; an index has 32 bits
 abbrev pub is_on_box : PlantTree → ComparedType → ValueTree → Bool
 is_on_box plant (Named types.InterfaceIndex) (tree.number n) = nat_lt n (2 ^ 32) && is_some (name_of plant n)
 is_on_box plant (Named types.InterfaceIndex) (tree.word w) = is_some (named plant w)
@@ -76,7 +76,7 @@ is_on_box plant _ v = true
 
 -- ---- numbers
 
--- the numbers from low to high
+-- the numbers from low to high, both included
 pub record Span : Type 0 where
   pub low : ℕ
   pub high : ℕ
@@ -87,21 +87,21 @@ span_of r = record { low = r.low; high = r.high }
 abbrev pub one_number : ℕ → Span
 one_number n = record { low = n; high = n }
 
--- bytes as a number, the first one highest
+-- bytes as a big-endian number, after those so far
 abbrev pub bytes_number : ℕ → List ℕ → ℕ
 bytes_number so_far [] = so_far
 bytes_number so_far (b ∷ bs) = bytes_number (so_far * 256 + b) bs
 
--- 16 bytes: those of the text, and as many of the other as are wanting
+-- the text padded to 16 bytes, as a big-endian number
 abbrev pub padded : ℕ → Text → ℕ
 padded fill n = bytes_number 0 (take 16 (n ++ replicate 16 fill))
 
--- a name is 16 bytes, filled with zeros; with a `*` it is all names that begin so
+-- a name is padded with zeros; one with a `*` denotes all names with the prefix
 abbrev pub name_span : Text → Option Text → Span
 name_span n None = one_number (padded 0 n)
 name_span n (Some beginning) = record { low = padded 0 beginning; high = padded 255 beginning }
 
--- the number of a word or a string: of an interface by its name or its index, of another type by the type's list
+-- the numbers of a word or a string: an interface name, an interface's index, or the type's symbolic constant
 abbrev pub text_span : PlantTree → ComparedType → Text → Span
 text_span plant (Named types.InterfaceName) n = name_span n (wildcard_prefix n)
 text_span plant (Named types.InterfaceIndex) n = one_number (unwrap_or (named plant n) 0)
@@ -116,10 +116,13 @@ value_span plant k (tree.string s) = text_span plant k s
 
 -- ---- ranges and prefixes
 
--- the addresses that agree with the address in the first bits
+-- the addresses that share the first n bits of a
 abbrev pub prefix_span : ℕ → ℕ → Span
 prefix_span a n =
-    record { low = a / 2 ^ (32 - n) * 2 ^ (32 - n); high = a / 2 ^ (32 - n) * 2 ^ (32 - n) + 2 ^ (32 - n) - 1 }
+    record {
+      low = a / 2 ^ (32 - n) * 2 ^ (32 - n);
+      high = a / 2 ^ (32 - n) * 2 ^ (32 - n) + 2 ^ (32 - n) - 1;
+    }
 
 abbrev pub range_span : PlantTree → ComparedType → RangeTree → Span
 range_span plant k (tree.one v) = value_span plant k v
@@ -127,7 +130,7 @@ range_span plant k (tree.between low high) =
     record { low = (value_span plant k low).low; high = (value_span plant k high).high }
 range_span plant k (tree.prefix a n) = prefix_span a n
 
--- a value; two values of which the second isn't the lower one; a prefix of at most 32 bits of an address
+-- a value of the type; two of them in ascending order; for addresses, a prefix of at most 32 bits
 abbrev pub is_range : PlantTree → ComparedType → RangeTree → Bool
 is_range plant k (tree.one v) = is_value k v
 is_range plant k (tree.between low high) =
@@ -139,7 +142,7 @@ is_range_on_box plant k (tree.one v) = is_on_box plant k v
 is_range_on_box plant k (tree.between low high) = is_on_box plant k low && is_on_box plant k high
 is_range_on_box plant k (tree.prefix a n) = true
 
--- the value stands for a number: a name of iface_index does so where an interface of the box has it
+-- the value denotes a number: a name of type iface_index only if the box has such an interface
 abbrev pub has_number : PlantTree → ComparedType → ValueTree → Bool
 has_number plant (Named types.InterfaceIndex) (tree.word w) = is_some (named plant w)
 has_number plant (Named types.InterfaceIndex) (tree.string s) = is_some (named plant s)
@@ -150,6 +153,6 @@ has_numbers plant k (tree.one v) = has_number plant k v
 has_numbers plant k (tree.between low high) = has_number plant k low && has_number plant k high
 has_numbers plant k (tree.prefix a n) = true
 
--- the numbers that a range stands for, if it is one of the type and stands for any
+-- the numbers that a range denotes, if it is one of the type and denotes any
 abbrev pub numbers_of : PlantTree → ComparedType → RangeTree → Option Span
 numbers_of plant k r = cond (is_range plant k r && has_numbers plant k r) (Some (range_span plant k r)) None

@@ -1,2 +1,2 @@
--- What only functions of this crate speak of.
+-- Definitions for private contracts; no public contract cites them.
 pub mod Bounds

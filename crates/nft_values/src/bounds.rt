@@ -1,14 +1,13 @@
-//! The least and the greatest of the numbers that something stands for.
+//! Bounds of the numbers that a value or range denotes.
 ghost use Rattle.std.specs.Prelude.{◌≡◌};
 
-/// From the one to the other, both included; `low` may be the greater, as of `20-10`.
+/// From `low` to `high`, both included. `low` may be the greater, as in `20-10`.
 #[derive(Clone, Copy)]
 pub struct Bounds {
     pub low: u128,
     pub high: u128,
 }
 
-/// The number alone.
 pub fn one_number(number: u128) -> Bounds
     ensures low { result.low ≡ number }
     ensures high { result.high ≡ number }

@@ -1,10 +1,10 @@
-//! What a type says of its values.
+//! Which values belong to a type.
 ghost use Rattle.std.specs.Prelude.{◌≡◌, ◌&&◌, ◌^◌, nat_lt};
 ghost use Rattle.nft_values.specs.Values.{is_address, compared_type_width, lists_word, takes_numbers};
 
 use nft_tree::{ComparedType, ValueType};
 
-/// The width of the type's values in bits.
+/// The width of the type's values, in bits.
 pub fn width(kind: ComparedType) -> u32
     ensures { result ≡ compared_type_width kind }
 {
@@ -14,7 +14,6 @@ pub fn width(kind: ComparedType) -> u32
     }
 }
 
-/// Whether numbers are values of the type.
 fn takes_numbers(kind: ComparedType) -> bool
     ensures { result ≡ takes_numbers kind }
 {
@@ -29,22 +28,22 @@ fn takes_numbers(kind: ComparedType) -> bool
     }
 }
 
-/// Whether the number has no more bits than that.
+/// Whether the number fits in `width` bits.
 fn fits(number: u64, width: u32) -> bool
     ensures { result ≡ nat_lt number (2 ^ width) }
 {
-    // A shift by more bits than the number has is no number.
+    // Shifting by 64 or more would overflow.
     width >= 64 || number >> width == 0
 }
 
-/// Whether the number is a value of the type.
+/// Whether the type takes numbers, and this one fits its width.
 pub fn is_number_of(kind: ComparedType, number: u64) -> bool
     ensures { result ≡ takes_numbers kind && nat_lt number (2 ^ compared_type_width kind) }
 {
     takes_numbers(kind) && fits(number, width(kind))
 }
 
-/// Whether addresses are values of the type.
+/// Whether the type is that of IPv4 addresses.
 pub fn is_address(kind: ComparedType) -> bool
     ensures { result ≡ is_address kind }
 {
@@ -54,7 +53,7 @@ pub fn is_address(kind: ComparedType) -> bool
     }
 }
 
-/// Whether the type lists the word.
+/// Whether the word is one of the type's symbolic constants.
 pub fn lists_word(kind: ComparedType, word: &[u8]) -> bool
     ensures { result ≡ lists_word kind word.now }
 {

@@ -1,7 +1,7 @@
-//! The values of each type, and the numbers that they stand for.
+//! The values of each type, and the numbers that they denote.
 //!
-//! A ruleset writes a value as a number, an address, a word or a string; what it stands for depends
-//! on the type where it stands (nft(8), "Data types"), and for names of interfaces on the box.
+//! A ruleset writes a value as a number, an address, a word or a string. What it denotes depends on
+//! the type that is expected there (nft(8), "Data types"), and for interface names also on the box.
 #![tactic(auto)]
 
 mod bounds;

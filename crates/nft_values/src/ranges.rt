@@ -1,4 +1,4 @@
-//! Ranges and prefixes, and the numbers that they stand for.
+//! Ranges and prefixes, and the numbers that they denote.
 ghost use Rattle.std.specs.Prelude.{◌≡◌, ◌<◌, ◌^◌, IfSome};
 ghost use Rattle.std.specs.Option.{option_map};
 ghost use Rattle.nft_tree.specs.Tree as tree;
@@ -13,11 +13,11 @@ use box_file::Plant;
 use nft_tree::{ComparedType, Value, ValueRange};
 use set_intervals::Range as Interval;
 
-/// How many bits an address has.
+/// The width of an IPv4 address, in bits.
 const ADDRESS_BITS: u64 = 32;
 
-/// Whether the range is one of the type: a value; two values, the second not the lower one; a prefix
-/// of at most 32 bits of an address.
+/// Whether the range is one of the type: a value of it; two values of it in ascending order; or,
+/// for addresses, a prefix of at most 32 bits.
 pub fn is_range(plant: &Plant, kind: ComparedType, range: &ValueRange) -> bool
     ensures { result ≡ is_range plant.now kind (range_tree range.now) }
 {
@@ -32,8 +32,8 @@ pub fn is_range(plant: &Plant, kind: ComparedType, range: &ValueRange) -> bool
     }
 }
 
-/// Whether the interfaces that a range of iface_index names are on the box; true of every other
-/// type.
+/// Whether the interfaces that a range of type iface_index names exist on the box; true for every
+/// other type.
 pub fn is_range_on_box(plant: &Plant, kind: ComparedType, range: &ValueRange) -> bool
     ensures { result ≡ is_range_on_box plant.now kind (range_tree range.now) }
 {
@@ -45,7 +45,7 @@ pub fn is_range_on_box(plant: &Plant, kind: ComparedType, range: &ValueRange) ->
     }
 }
 
-/// The addresses that agree with the address in its first bits.
+/// The addresses that share the address's first `length` bits.
 fn prefix_bounds(address: u32, length: u64) -> Bounds
     ensures { bounds_span result ≡ prefix_span address length }
 {
@@ -58,7 +58,7 @@ fn prefix_bounds(address: u32, length: u64) -> Bounds
     }
 }
 
-/// The numbers from the least to the greatest of the range, whether or not they are in order.
+/// The bounds of the range, in the order in which they are written.
 fn range_bounds(plant: &Plant, kind: ComparedType, range: &ValueRange) -> Bounds
     ensures { bounds_span result ≡ range_span plant.now kind (range_tree range.now) }
 {
@@ -72,8 +72,8 @@ fn range_bounds(plant: &Plant, kind: ComparedType, range: &ValueRange) -> Bounds
     }
 }
 
-/// Whether the values of a range of the type stand for numbers: no name of iface_index that no
-/// interface of the box has.
+/// Whether the values of the range denote numbers, which only an unknown interface name of type
+/// iface_index doesn't.
 fn has_numbers(plant: &Plant, kind: ComparedType, range: &ValueRange) -> bool
     ensures { result ≡ has_numbers plant.now kind (range_tree range.now) }
 {
@@ -85,8 +85,8 @@ fn has_numbers(plant: &Plant, kind: ComparedType, range: &ValueRange) -> bool
     }
 }
 
-/// The numbers that the range stands for; `None` where it isn't one of the type, or is the name of
-/// no interface of the box.
+/// The numbers that the range denotes; `None` if it isn't one of the type, or names an interface
+/// index that the box doesn't have.
 pub fn numbers_of(plant: &Plant, kind: ComparedType, range: &ValueRange) -> Option<Interval>
     ensures { option_map span_of result ≡ numbers_of plant.now kind (range_tree range.now) }
 {
@@ -97,9 +97,9 @@ pub fn numbers_of(plant: &Plant, kind: ComparedType, range: &ValueRange) -> Opti
     Interval::new(bounds.low, bounds.high)
 }
 
-/// The numbers that the value stands for: one, or those of all names that begin so where a `*` ends
-/// it. `None` where it isn't one of the type, or is the name of no interface of the box. They have no
-/// more bits than the type.
+/// The numbers that the value denotes: one, or for an interface name that ends in `*` those of all
+/// names with that prefix. They fit the type's width. `None` if it isn't a value of the type, or
+/// names an interface index that the box doesn't have.
 pub fn value_numbers(plant: &Plant, kind: ComparedType, value: &Value) -> Option<Interval>
     ensures numbers { option_map span_of result
         ≡ numbers_of plant.now kind (tree.one (value_tree value.now)) }

@@ -1,4 +1,4 @@
-//! Whether a value is one of its type, and the numbers that it stands for.
+//! Whether a value is one of its type, and the numbers that it denotes.
 ghost use Rattle.std.specs.Prelude.{◌≡◌, ◌<◌, ◌&&◌, ◌^◌, nat_lt, true, is_some};
 ghost use Rattle.box_file.specs.Box.{name_of};
 ghost use Rattle.nft_tree.specs.Tree.{value_tree};
@@ -11,8 +11,8 @@ use crate::names::{is_interface_name, name_bounds};
 use box_file::Plant;
 use nft_tree::{ComparedType, Value, ValueType};
 
-/// Whether the text is a name of an interface, and the type one of interfaces. Any name is a value
-/// of iface_index, whether or not there is an interface of that name.
+/// Whether the text is an interface name and the type one of interfaces. For iface_index any text
+/// is, whether or not such an interface exists.
 fn is_name_of(kind: ComparedType, name: &[u8]) -> bool
     ensures { result ≡ is_name_of kind name.now }
 {
@@ -23,7 +23,7 @@ fn is_name_of(kind: ComparedType, name: &[u8]) -> bool
     }
 }
 
-/// Whether the value is one of its type: not too wide, listed, well formed.
+/// Whether the value is one of the type: of a form that it takes, and within its width.
 pub fn is_value(kind: ComparedType, value: &Value) -> bool
     ensures { result ≡ is_value kind (value_tree value.now) }
 {
@@ -35,7 +35,7 @@ pub fn is_value(kind: ComparedType, value: &Value) -> bool
     }
 }
 
-/// Whether the number is that of an interface on the box.
+/// Whether the number is the index of an interface of the box.
 fn has_index(plant: &Plant, number: u64) -> bool
     ensures { result ≡ nat_lt number (2 ^ 32) && is_some (name_of plant.now number) }
 {
@@ -45,7 +45,8 @@ fn has_index(plant: &Plant, number: u64) -> bool
     }
 }
 
-/// Whether the interface that a value of iface_index names is on the box; true of every other type.
+/// Whether the interface that a value of type iface_index names exists on the box; true for every
+/// other type.
 pub fn is_on_box(plant: &Plant, kind: ComparedType, value: &Value) -> bool
     ensures { result ≡ is_on_box plant.now kind (value_tree value.now) }
 {
@@ -57,8 +58,8 @@ pub fn is_on_box(plant: &Plant, kind: ComparedType, value: &Value) -> bool
     }
 }
 
-/// Whether a value of its type stands for a number: a name of iface_index does so where an interface
-/// of the box has it, and all else does.
+/// Whether the value denotes a number: a name of type iface_index only if the box has such an
+/// interface, everything else always.
 pub fn has_number(plant: &Plant, kind: ComparedType, value: &Value) -> bool
     ensures { result ≡ has_number plant.now kind (value_tree value.now) }
 {
@@ -69,8 +70,8 @@ pub fn has_number(plant: &Plant, kind: ComparedType, value: &Value) -> bool
     }
 }
 
-/// The numbers of a word or a string: of an interface by its name or its index, of another type by
-/// the type's list. Of what is no value of the type it is 0.
+/// The numbers of a word or a string: an interface name, an interface's index, or the type's
+/// symbolic constant. What is no value of the type gives 0.
 fn text_bounds(plant: &Plant, kind: ComparedType, text: &[u8]) -> Bounds
     ensures span { bounds_span result ≡ text_span plant.now kind text.now }
     ensures fits { result.high < 2 ^ compared_type_width kind }
@@ -84,10 +85,11 @@ fn text_bounds(plant: &Plant, kind: ComparedType, text: &[u8]) -> Bounds
     one_number(u128::from(number.unwrap_or(0)))
 }
 
-/// The numbers of a value; a name that no interface of the box has stands for 0.
+/// The numbers of a value; 0 for an unknown interface name of type iface_index.
 pub fn value_bounds(plant: &Plant, kind: ComparedType, value: &Value) -> Bounds
     ensures span { bounds_span result ≡ value_span plant.now kind (value_tree value.now) }
-    ensures fits { is_value kind (value_tree value.now) ≡ true → result.high < 2 ^ compared_type_width kind }
+    ensures fits { is_value kind (value_tree value.now) ≡ true
+        → result.high < 2 ^ compared_type_width kind }
 {
     match value {
         Value::Number(number) => one_number(u128::from(*number)),

@@ -1,4 +1,4 @@
--- Any ruleset on any box is well formed, or has a least fault.
+-- Every ruleset is well formed on a box, or has a least fault.
 use Rattle.std.proofs.Common.{◌≡◌, ◌+◌, ◌⊎◌, ℕ, Bool, true, false, List, refl, inl, inr, arith}
 use Rattle.std.specs.List.{list_any}
 use Rattle.nft_tree.specs.Tree.{TableTree}
@@ -11,14 +11,14 @@ use Rattle.rule_values.specs.Faults.{has_wrong_value, has_contradiction, names_u
 use Rattle.rule_check.specs.Chains.{has_misplaced_chain, has_unreachable_statement}
 use Rattle.rule_check.specs.declared.fault.CheckFault.{CheckFault}
 use Rattle.rule_check.specs.declared.fault.CheckFault.TheVariants as faults
-use Rattle.rule_check.specs.WellFormed.{Wrong, LeastFault, WellFormed, number}
+use Rattle.rule_check.specs.WellFormed.{Wrong, LeastFault, WellFormed, fault_number}
 use Rattle.rule_check.specs.steps.FaultRanges.{HasNone}
-use Rattle.rule_check.proofs.Lesser.{and_then, least, well_formed, without}
+use Rattle.rule_check.proofs.LeastFaults.{and_then, least, well_formed, without}
 
 abbrev Decided : Type 0 → Type 0
 Decided P = P ⊎ (P → ⊥)
 
--- what the laws of names and paths say
+-- the statements of the laws of names and paths
 pub record Laws : Type 0 where
   pub names : (tables : List TableTree) → Decided (DuplicateName tables)
   pub cycles : (tables : List TableTree) → Decided (Cycles tables)
@@ -38,15 +38,15 @@ module _ (tables : List TableTree) (plant : PlantTree) where
   abbrev SoFar : ℕ → Type 0
   SoFar n = Found ⊎ HasNone 1 n tables plant
 
-  step : (fault : CheckFault) → Decided (Wrong fault tables plant) → SoFar (number fault) → SoFar (number fault + 1)
+  step : (fault : CheckFault) → Decided (Wrong fault tables plant) → SoFar (fault_number fault) → SoFar (fault_number fault + 1)
   step fault decided (inl found) = inl found
   step fault (inl wrong) (inr none) = inl (fault, least tables plant fault none wrong)
-  step fault (inr not_it) (inr none) = inr (and_then tables plant 1 (number fault) (number fault + 1) none (without tables plant fault not_it))
+  step fault (inr not_it) (inr none) = inr (and_then tables plant 1 (fault_number fault) (fault_number fault + 1) none (without tables plant fault not_it))
 
   start : SoFar 1
   start = inr (λ fault from to wrong. omega (arith, from, to))
 
-  -- where there may be a cycle it is told, and nothing is asked of paths
+  -- if there is a cycle it is reported, and paths are not analyzed
   paths : Laws → SoFar 4 → SoFar 7
   paths laws (inl found) = inl found
   paths laws (inr none) = by_cycles (laws.cycles tables)

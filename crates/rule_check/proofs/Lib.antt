@@ -1,5 +1,5 @@
 mod Numbers
-mod Lesser
+mod LeastFaults
 mod Stages
 mod Deciding
 mod Measures

@@ -1,4 +1,4 @@
--- Costs and depths of rulesets in which nothing is wrong.
+-- Costs and depths of well-formed rulesets.
 use Rattle.std.proofs.Common.{◌≡◌, ◌⊎◌, ℕ, suc, ◌+◌, ◌<◌, ◌≤◌, List, [], ◌∷◌, length, get_or, map, sum_by, Option, Some, None, refl, sym, ap, subst, ◌∙◌, inl, inr, arith, Vec, Global}
 use Rattle.std.specs.Prelude.{◌-◌, ◌^◌, min, Contains, slice_get, slice_index}
 use Rattle.std.specs.List.{zip}
@@ -19,7 +19,7 @@ use Rattle.rule_check.specs.declared.fault.CheckFault.TheVariants as faults
 use Rattle.rule_check.specs.WellFormed.{WellFormed}
 use Rattle.rule_check.specs.Checked.{AreRulesetCosts, IsChecked, base_part, base_sum, ruleset_sum, rows}
 
--- ---- from what is found
+-- ---- from the findings
 
 stands : (tables : List TableTree) (i : ℕ) (t : TableTree) → slice_get tables i ≡ Some t → Contains tables t
 stands tables i t at =
@@ -46,11 +46,11 @@ is_checked tables plant found fine known = record {
 
 -- ---- costs
 
--- as far as 64-bit numbers go
+-- saturation is the identity up to 64 bits
 abbrev capped : ℕ → ℕ
 capped n = min n (2 ^ 64 - 1)
 
--- a chain in its place costs what the list says
+-- the list has the cost of each chain at its index
 cost_at : (t : TableTree) (costs : List ℕ) (cost : Caller → ℕ) (j : ℕ) (c : ChainTree) → costs ≡ map (λ d. capped (cost (a_chain d.name))) (chains_of t) → slice_get (chains_of t) j ≡ Some c → slice_index costs j ≡ capped (cost (a_chain c.name))
 cost_at t costs cost j c is at =
     ap (λ xs. slice_index xs j) is ∙ get_or_from_slice_get (map (λ d. capped (cost (a_chain d.name))) (chains_of t)) j (capped (cost (a_chain c.name))) 0
@@ -70,7 +70,7 @@ parts_le cost (c ∷ cs) =
     let there = sum_by-cons (λ (d : ChainTree). base_cost cost d.name d.head) c cs in
     omega (arith, here, there, part_le cost c, parts_le cost cs)
 
--- by the list the base chains of a table cost no more than they cost
+-- the sum by the list is no more than the cost of the table's base chains
 table_le : (t : TableTree) (costs : List ℕ) (cost : Caller → ℕ) → AreChainCosts t costs → AreCosts t cost → base_sum t costs ≤ table_cost cost t
 table_le t costs cost are is = subst (λ xs. base_sum t xs ≤ table_cost cost t) (sym (are.are cost is)) (parts_le cost (chains_of t))
 
@@ -130,7 +130,7 @@ module _ (tables : List TableTree) (plant : PlantTree) (costs depths : List (Vec
       by_size : (MAX_JUMPS < depth) ⊎ (depth ≤ MAX_JUMPS) → depth ≤ MAX_JUMPS
       by_size (inl over) =
           let deep = has.deep in
-          absurd (k.fine faults.TooDeep (record { table = t; stands = at; deep = record { chain = name; stands = named; path = record { from = a_chain name; to = has.to; along = has.along; path = has.path; over = omega arith }; begins = refl } }))
+          absurd (k.fine faults.TooDeep (record { table = t; member = at; deep = record { chain = name; member = named; path = record { from = a_chain name; to = has.to; along = has.along; path = has.path; over = omega arith }; begins = refl } }))
       by_size (inr low) = low
 
   -- ---- past the end, and the same in any lists

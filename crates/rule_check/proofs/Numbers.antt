@@ -2,7 +2,7 @@
 use Rattle.std.proofs.Common.{◌≡◌, ◌==◌, ◌≤◌, ◌<◌, ℕ, Option, Some, None, cond, refl, sym, ap, ◌∙◌, arith}
 use Rattle.rule_check.specs.declared.fault.CheckFault.{CheckFault}
 use Rattle.rule_check.specs.declared.fault.CheckFault.TheVariants as faults
-use Rattle.rule_check.specs.WellFormed.{number}
+use Rattle.rule_check.specs.WellFormed.{fault_number}
 
 abbrev numbered : ℕ → Option CheckFault
 numbered n =
@@ -22,7 +22,7 @@ numbered n =
     cond (n == 14) (Some faults.StatementAfterVerdict) (
     cond (n == 15) (Some faults.TooLarge) None))))))))))))))
 
-numbered_number : (fault : CheckFault) → numbered (number fault) ≡ Some fault
+numbered_number : (fault : CheckFault) → numbered (fault_number fault) ≡ Some fault
 numbered_number faults.DuplicateName = refl
 numbered_number faults.NoSuchChain = refl
 numbered_number faults.NoSuchSet = refl
@@ -42,11 +42,11 @@ numbered_number faults.TooLarge = refl
 some_same : (a b : CheckFault) → Some a ≡ Some b → a ≡ b
 some_same a b e = cc
 
--- two faults of one number are one
-pub same_number : (a b : CheckFault) → number a ≡ number b → a ≡ b
+-- faults with the same number are equal
+pub same_number : (a b : CheckFault) → fault_number a ≡ fault_number b → a ≡ b
 same_number a b e = some_same a b (sym (numbered_number a) ∙ ap numbered e ∙ numbered_number b)
 
-pub from_one : (fault : CheckFault) → 1 ≤ number fault
+pub from_one : (fault : CheckFault) → 1 ≤ fault_number fault
 from_one faults.DuplicateName = omega arith
 from_one faults.NoSuchChain = omega arith
 from_one faults.NoSuchSet = omega arith
@@ -63,7 +63,7 @@ from_one faults.NoSuchInterface = omega arith
 from_one faults.StatementAfterVerdict = omega arith
 from_one faults.TooLarge = omega arith
 
-pub below_16 : (fault : CheckFault) → number fault < 16
+pub below_16 : (fault : CheckFault) → fault_number fault < 16
 below_16 faults.DuplicateName = omega arith
 below_16 faults.NoSuchChain = omega arith
 below_16 faults.NoSuchSet = omega arith

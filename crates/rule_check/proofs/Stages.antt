@@ -1,4 +1,4 @@
--- The stages of the judging, each behind faults that the ruleset hasn't.
+-- The stages of the checks, each after absent faults.
 use Rattle.std.proofs.Common.{◌≡◌, List, Option, Some, None, false, subst}
 use Rattle.std.specs.Prelude.{MatchOption}
 use Rattle.std.specs.List.{list_any}
@@ -12,9 +12,9 @@ use Rattle.rule_check.specs.declared.fault.CheckFault.{CheckFault}
 use Rattle.rule_check.specs.declared.fault.CheckFault.TheVariants as faults
 use Rattle.rule_check.specs.WellFormed.{WellFormed}
 use Rattle.rule_check.specs.steps.FaultRanges.{HasNone, IsLeastFaultIn}
-use Rattle.rule_check.proofs.Lesser.{more, none_reported, not_true, well_formed, without}
+use Rattle.rule_check.proofs.LeastFaults.{more, none_reported, not_true, well_formed, without}
 
--- ---- what an option says, where it is known
+-- ---- options with a known value
 
 pub at_none : {A : Type 0} (o : Option A) (P : Type 0) (Q : A → Type 0) → o ≡ None → MatchOption o P Q → P
 at_none {A = A} o P Q is h = subst (λ (p : Option A). MatchOption p P Q) is h

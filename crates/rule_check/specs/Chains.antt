@@ -1,4 +1,5 @@
--- Chains of type nat where they can't stand, and statements behind the end of a rule (nft(8), "Chains", "Statements").
+-- Chains of type nat that may not be there, and statements after the end of a rule (nft(8), "Chains",
+-- "Statements").
 use Rattle.std.specs.Prelude.{negsuc, int_le, ◌&&◌, ◌||◌, Bool, true, false, List, [], ◌∷◌, Option, Some, None}
 use Rattle.std.specs.List.{list_any}
 use Rattle.nft_tree.specs.declared.chain.ChainKind.{ChainKind}
@@ -15,15 +16,14 @@ abbrev pub is_nat : ChainKind → Bool
 is_nat kinds.Nat = true
 is_nat kinds.Filter = false
 
--- nothing is translated at the hook
+-- chains of type nat aren't allowed on the hook (own: nft(8) has them on input)
 abbrev pub is_without_nat : Hook → Bool
 is_without_nat hooks.Input = true
 is_without_nat hooks.Forward = true
-is_without_nat hooks.Prerouting = false
-is_without_nat hooks.Output = false
-is_without_nat hooks.Postrouting = false
+is_without_nat _ = false
 
--- type nat on input or forward, or with a priority of at most -200
+-- type nat on input or forward, or with a priority of at most -200 (nft(8), "Chains": after connection
+-- tracking)
 abbrev pub head_is_misplaced : Option HeadTree → Bool
 head_is_misplaced None = false
 head_is_misplaced (Some h) =
@@ -45,7 +45,7 @@ is_terminal (tree.verdict_map s m) = true
 is_terminal (tree.nat n) = true
 is_terminal _ = false
 
--- some statement that ends the rule isn't the last
+-- some terminal statement isn't the last
 abbrev pub has_statement_after_terminal : List Statement → Bool
 has_statement_after_terminal [] = false
 has_statement_after_terminal (s ∷ []) = false

@@ -1,4 +1,4 @@
--- What the check answers, and what is known of the chains of a ruleset in which nothing is wrong.
+-- The results of `check`, and what is known about the chains of a well-formed ruleset. (own)
 use Rattle.std.specs.Prelude.{◌≡◌, ℕ, ◌+◌, List, [], length, get_or, map, slice_get, sum_by, Option, Some, None, Vec}
 use Rattle.std.specs.List.{zip}
 use Rattle.std.specs.declared.alloc.Global.{Global}
@@ -11,45 +11,45 @@ use Rattle.rule_check.specs.WellFormed.{LeastFault, WellFormed}
 use Rattle.rule_check.specs.declared.fault.CheckError.{CheckError}
 use Rattle.rule_check.specs.declared.fault.CheckError.TheVariants.{Refused, Memory}
 
--- a ruleset, and the box that it was judged on
+-- a ruleset, and the box that it was checked for
 pub record CheckedTree : Type 0 where
   pub rules : List TableTree
   pub plant : PlantTree
 
--- an error is the least that is wrong with the ruleset, or none of the ruleset's
+-- a refusal has the ruleset's least fault; failed allocations say nothing about it
 abbrev pub IsCheckRefusal : List TableTree → PlantTree → CheckError → Type 0
 IsCheckRefusal tables plant (Refused fault) = LeastFault fault tables plant
 IsCheckRefusal tables plant Memory = Unit {0}
 
 -- ---- costs and depths
 
--- what the chains of a ruleset cost, table by table, each in text order
+-- the costs of the chains of a ruleset, by table and chain
 pub record AreRulesetCosts (tables : List TableTree) (costs : List (List ℕ)) : Type 0 where
   pub long : length costs ≡ length tables
   pub are : (i : ℕ) (t : TableTree) → slice_get tables i ≡ Some t → AreChainCosts t (get_or costs i [])
 
--- how many jumps lead on from its chains, likewise
+-- the depths of its chains, likewise
 pub record AreRulesetDepths (tables : List TableTree) (depths : List (List ℕ)) : Type 0 where
   pub long : length depths ≡ length tables
   pub are : (i : ℕ) (t : TableTree) → slice_get tables i ≡ Some t → AreChainDepths t (get_or depths i [])
 
--- what a chain adds to the cost of its table: a base chain 1 more than it costs, any other nothing
+-- what a chain adds to the cost of its table: a base chain its cost plus 1, any other nothing
 abbrev pub base_part : Option HeadTree → ℕ → ℕ
 base_part None cost = 0
 base_part (Some head) cost = 1 + cost
 
--- what the base chains of a table cost, 1 more each, by the costs of its chains
+-- the cost of a table's base chains, plus 1 for each, by the costs of its chains
 abbrev pub base_sum : TableTree → List ℕ → ℕ
 base_sum t costs = sum_by (λ p. base_part p.0.head p.1) (zip (chains_of t) costs)
 
--- what those of all tables cost
+-- the cost of a ruleset by the costs of its chains
 abbrev pub ruleset_sum : List TableTree → List (List ℕ) → ℕ
 ruleset_sum tables costs = sum_by (λ p. base_sum p.0 p.1) (zip tables costs)
 
 abbrev pub rows : List (Vec ℕ Global) → List (List ℕ)
 rows vecs = map (λ row. row.items) vecs
 
--- nothing is wrong with a ruleset on a box, these are its costs and depths, and all its tables have costs
+-- a ruleset is well formed on a box, these are its costs and depths, and its cost equations have a solution
 pub record IsChecked (tables : List TableTree) (plant : PlantTree)
     (its_costs its_depths : List (Vec ℕ Global)) : Type 0 where
   pub fine : WellFormed tables plant

@@ -1,4 +1,5 @@
--- What is wrong with a ruleset on a box, in the order in which it is told.
+-- The faults of a ruleset on a box, N01 to N15, of which the one with the lowest number is reported. (own;
+-- each fault's definition has its source)
 use Rattle.std.specs.Prelude.{◌≡◌, ◌≤◌, ℕ, true, List}
 use Rattle.std.specs.List.{list_any}
 use Rattle.nft_tree.specs.Tree.{TableTree}
@@ -31,28 +32,28 @@ Wrong faults.StatementAfterVerdict tables plant = list_any has_unreachable_state
 Wrong faults.TooLarge tables plant = too_large tables ≡ true
 
 -- N01 to N15
-abbrev pub number : CheckFault → ℕ
-number faults.DuplicateName = 1
-number faults.NoSuchChain = 2
-number faults.NoSuchSet = 3
-number faults.Cycle = 4
-number faults.TooDeep = 5
-number faults.TooCostly = 6
-number faults.BaseChainCalled = 7
-number faults.TypeMismatch = 8
-number faults.WrongValue = 9
-number faults.MisplacedNat = 10
-number faults.MisplacedNatChain = 11
-number faults.Contradiction = 12
-number faults.NoSuchInterface = 13
-number faults.StatementAfterVerdict = 14
-number faults.TooLarge = 15
+abbrev pub fault_number : CheckFault → ℕ
+fault_number faults.DuplicateName = 1
+fault_number faults.NoSuchChain = 2
+fault_number faults.NoSuchSet = 3
+fault_number faults.Cycle = 4
+fault_number faults.TooDeep = 5
+fault_number faults.TooCostly = 6
+fault_number faults.BaseChainCalled = 7
+fault_number faults.TypeMismatch = 8
+fault_number faults.WrongValue = 9
+fault_number faults.MisplacedNat = 10
+fault_number faults.MisplacedNatChain = 11
+fault_number faults.Contradiction = 12
+fault_number faults.NoSuchInterface = 13
+fault_number faults.StatementAfterVerdict = 14
+fault_number faults.TooLarge = 15
 
--- the least of its faults
+-- the ruleset's fault with the lowest number
 pub record LeastFault (fault : CheckFault) (tables : List TableTree) (plant : PlantTree) : Type 0 where
   pub wrong : Wrong fault tables plant
-  pub least : (other : CheckFault) → Wrong other tables plant → number fault ≤ number other
+  pub least : (other : CheckFault) → Wrong other tables plant → fault_number fault ≤ fault_number other
 
--- it has none
+-- the ruleset has no fault
 abbrev pub WellFormed : List TableTree → PlantTree → Type 0
 WellFormed tables plant = (fault : CheckFault) → Wrong fault tables plant → ⊥

@@ -1,2 +1,2 @@
--- What private functions give on the way: nothing that a public contract cites.
+-- Definitions for private contracts; no public contract cites them.
 pub mod FaultRanges

@@ -1,4 +1,4 @@
-//! The faults in their order, the least first.
+//! The checks, in order of their faults' numbers.
 ghost use Rattle.std.specs.Prelude.{◌≡◌, List, IfOk, IfErr};
 ghost use Rattle.nft_tree.specs.Tree.{tables_of};
 ghost use Rattle.box_file.specs.Box.{PlantTree};
@@ -21,7 +21,7 @@ use rule_types::has_type_mismatch;
 use rule_values::{has_contradiction, has_wrong_value, names_unknown_interface};
 use std::alloc::Global;
 
-/// What the jumps of a ruleset come to in which nothing is wrong, or the least that is.
+/// The analysis of a well-formed ruleset's jumps, or the ruleset's fault with the lowest number.
 pub(crate) fn analyze(alloc: Global, tree: &Ruleset, plant: &Plant) -> Result<Findings, CheckError>
     ensures fine { IfOk result (λ found. WellFormed (tables_of tree.now) plant.now) }
     ensures found { IfOk result (λ found. AreFindings (tables_of tree.now) found) }

@@ -1,4 +1,4 @@
-//! Rulesets in which nothing is wrong.
+//! Rulesets that passed all checks.
 ghost use Rattle.std.specs.Prelude.{◌≡◌, ◌<◌, ◌≤◌, ℕ, List, [], IfOk, IfErr, get_or, slice_get, slice_index};
 ghost use Rattle.nft_tree.specs.Tree.{ChainTree, HeadTree, TableTree, tables_of};
 ghost use Rattle.nft_tree.specs.TableItems.{chains_of};
@@ -14,8 +14,8 @@ use nft_tree::Ruleset;
 use std::alloc::Global;
 use std::marker::Model;
 
-/// A ruleset with the box that it was judged on, in which nothing is wrong: there is no other way
-/// to make one than to have it checked. It keeps what its chains cost and how deep they jump.
+/// A ruleset that passed all checks, with the box that it was checked for. `check` is the only way
+/// to make one. It keeps the costs and depths of its chains.
 pub struct Checked {
     tree: Ruleset,
     plant: Plant,
@@ -48,11 +48,16 @@ impl Model for Checked {
     ghost invariant = { λ c. IsChecked (tables_of c.tree) c.plant c.costs.items c.depths.items };
 }
 
-/// Judges a ruleset on a box: it is handed back checked exactly where nothing is wrong with it,
-/// want of memory aside, and otherwise the least of its faults is told (nft(8) and the limits of
-/// this profile). The arguments are dropped on `Err`.
+/// Checks a ruleset for a box (nft(8), and the limits of this profile). The arguments are dropped
+/// on `Err`.
+///
+/// # Errors
+///
+/// `Refused` with the fault of the lowest number if the ruleset has any, `Memory` if an allocation
+/// fails.
 pub fn check(alloc: Global, tree: Ruleset, plant: Plant) -> Result<Checked, CheckError>
-    ensures same { IfOk result (λ checked. checked ≡ record { rules = tables_of tree; plant = plant }) }
+    ensures same { IfOk result (λ checked. checked
+        ≡ record { rules = tables_of tree; plant = plant }) }
     ensures fine { IfOk result (λ checked. WellFormed (tables_of tree) plant) }
     ensures refused { IfErr result (λ error. IsCheckRefusal (tables_of tree) plant error) }
 {
@@ -66,58 +71,63 @@ pub fn check(alloc: Global, tree: Ruleset, plant: Plant) -> Result<Checked, Chec
 }
 
 impl Checked {
-    /// The ruleset.
     pub fn tree(&self) -> &Ruleset
         ensures { tables_of result.now ≡ self.now.rules }
     {
         &self.tree
     }
 
-    /// The box that it was judged on.
+    /// The box that it was checked for.
     pub fn plant(&self) -> &Plant
         ensures { result.now ≡ self.now.plant }
     {
         &self.plant
     }
 
-    /// What the chains of a table cost, in text order: for each statement 1 and the cost of what it
-    /// leads to; 2^64 - 1 stands for all that is more. A base chain costs less than 65,536. Empty
-    /// where there is no such table.
+    /// The costs of a table's chains, in text order: for each statement 1 and the greatest cost
+    /// among its targets, saturated at 2^64 - 1. A base chain costs less than 65,536. Empty if
+    /// there is no such table.
     pub fn costs(&self, table: usize) -> &[u64]
-        ensures costs { (t : TableTree) → slice_get self.now.rules table ≡ Some t → AreChainCosts t result.now }
-        ensures base { (t : TableTree) (j : ℕ) (c : ChainTree) (head : HeadTree) → slice_get self.now.rules table ≡ Some t
-            → slice_get (chains_of t) j ≡ Some c → c.head ≡ Some head → slice_index result.now j < MAX_COST }
-        // These are the table's costs in any lists of all costs, as `known_bounds` has them.
-        ensures same { (costs : List (List ℕ)) → AreRulesetCosts self.now.rules costs → result.now ≡ get_or costs table [] }
+        ensures costs { (t : TableTree) → slice_get self.now.rules table ≡ Some t
+            → AreChainCosts t result.now }
+        ensures base { (t : TableTree) (j : ℕ) (c : ChainTree) (head : HeadTree)
+            → slice_get self.now.rules table ≡ Some t → slice_get (chains_of t) j ≡ Some c
+            → c.head ≡ Some head → slice_index result.now j < MAX_COST }
+        // Any lists of all costs, as those of `known_bounds`, have these for the table.
+        ensures same { (costs : List (List ℕ)) → AreRulesetCosts self.now.rules costs
+            → result.now ≡ get_or costs table [] }
         ensures none { slice_get self.now.rules table ≡ None → result.now ≡ [] }
     {
         row(&self.costs, table)
     }
 
-    /// The most jumps of a path from each chain of a table, in text order: at most 16. Empty where
+    /// The most jumps on a path from each chain of a table, in text order: at most 16. Empty if
     /// there is no such table.
     pub fn depths(&self, table: usize) -> &[u64]
-        ensures depths { (t : TableTree) → slice_get self.now.rules table ≡ Some t → AreChainDepths t result.now }
+        ensures depths { (t : TableTree) → slice_get self.now.rules table ≡ Some t
+            → AreChainDepths t result.now }
         ensures shallow { (j : ℕ) → slice_index result.now j ≤ MAX_JUMPS }
         ensures none { slice_get self.now.rules table ≡ None → result.now ≡ [] }
     {
         row(&self.depths, table)
     }
 
-    /// What is known of a ruleset by its being checked: nothing is wrong with it, its chains have
-    /// costs, all base chains with 1 more each cost at most 65,536 together, and no path from a
-    /// chain has more than 16 jumps. It does nothing.
+    /// A lemma, which does nothing: a checked ruleset is well formed, its cost equations have a
+    /// solution, all base chains plus 1 for each cost at most 65,536 together, and no path from a
+    /// chain has more than 16 jumps.
     pub fn known_bounds(&self)
         ensures fine { WellFormed self.now.rules self.now.plant }
         ensures some { (costs : List (List ℕ)) × AreRulesetCosts self.now.rules costs }
-        ensures total { (costs : List (List ℕ)) → AreRulesetCosts self.now.rules costs → ruleset_sum self.now.rules costs ≤ MAX_COST }
-        ensures deep { (depths : List (List ℕ)) × AreRulesetDepths self.now.rules depths × ((i j : ℕ) → slice_index (get_or depths i []) j ≤ MAX_JUMPS) }
+        ensures total { (costs : List (List ℕ)) → AreRulesetCosts self.now.rules costs
+            → ruleset_sum self.now.rules costs ≤ MAX_COST }
+        ensures deep { (depths : List (List ℕ)) × AreRulesetDepths self.now.rules depths
+            × ((i j : ℕ) → slice_index (get_or depths i []) j ≤ MAX_JUMPS) }
     {
         let _ = &self.costs;
     }
 }
 
-/// The numbers of a table, none where there is no such table.
+/// The row of a table, empty if there is no such table.
 fn row(rows: &[Vec<u64>], table: usize) -> &[u64]
     ensures { result.now ≡ numbers_at rows.now table }
 {

@@ -1,17 +1,18 @@
-//! What a ruleset is refused for.
+//! The faults for which a ruleset is refused.
 use std::alloc::AllocError;
 use thiserror::Error;
 
-/// A fault of a ruleset that is spelled, on a box. They are told in this order, the least first.
+/// A fault of a parsed ruleset on a box. The one with the lowest number is reported.
 #[derive(Clone, Copy, Debug, Drop, Error)]
 pub enum CheckFault {
-    /// Two tables of one family, two chains of a table, or two sets or maps of a table have one name.
+    /// Two tables of one family, two chains of a table, or two sets or maps of a table have the
+    /// same name.
     #[error("N01")]
     DuplicateName,
-    /// A jump or a goto to a name that is no chain of the table.
+    /// A jump or goto to a name that is no chain of the table.
     #[error("N02")]
     NoSuchChain,
-    /// A name behind `@` that is no set or map of the table.
+    /// A name after `@` that is no set or map of the table.
     #[error("N03")]
     NoSuchSet,
     /// A cycle of jumps and gotos, those of verdict maps included.
@@ -20,31 +21,31 @@ pub enum CheckFault {
     /// A path from a chain with more than 16 jumps.
     #[error("N05")]
     TooDeep,
-    /// Base chains that cost over 65,536 together.
+    /// Base chains that cost more than 65,536 together.
     #[error("N06")]
     TooCostly,
-    /// A jump or a goto to a base chain.
+    /// A jump or goto to a base chain.
     #[error("N07")]
     BaseChainCalled,
-    /// Types that don't fit: of keys, data, orders, ranges or joined values.
+    /// Types that don't match: of keys, data, operators, ranges or concatenations.
     #[error("N08")]
     TypeMismatch,
-    /// A value that isn't of its type, or out of its bounds.
+    /// A value that isn't of its type, or a number out of range.
     #[error("N09")]
     WrongValue,
-    /// A NAT statement in a chain that is, or is reached from, a base chain where it has no place.
+    /// A NAT statement in a chain that is, or is reachable from, a base chain that may not have it.
     #[error("N10")]
     MisplacedNat,
-    /// A chain of type nat on a hook or with a priority that it can't have.
+    /// A chain of type nat on a hook or with a priority that it may not have.
     #[error("N11")]
     MisplacedNatChain,
-    /// Elements of a map that contradict each other.
+    /// Overlapping elements of a map with different data.
     #[error("N12")]
     Contradiction,
-    /// An interface that isn't on the box.
+    /// An interface that the box doesn't have.
     #[error("N13")]
     NoSuchInterface,
-    /// A statement behind one that ends the rule.
+    /// A statement after one that ends the rule.
     #[error("N14")]
     StatementAfterVerdict,
     /// More than 16,384 rules, more than 65,536 elements, or a counter that starts over 2^62.
@@ -52,13 +53,13 @@ pub enum CheckFault {
     TooLarge,
 }
 
-/// Why a ruleset isn't accepted.
+/// Why `check` fails.
 #[derive(Clone, Copy, Debug, Drop, Error)]
 pub enum CheckError {
-    /// The least that is wrong with it.
+    /// The ruleset's fault with the lowest number.
     #[error("{0}")]
     Refused(CheckFault),
-    /// There was no room to judge it.
+    /// An allocation failed.
     #[error("memory")]
     Memory,
 }

@@ -1,4 +1,4 @@
-//! Chains of type nat where they can't stand.
+//! Chains of type nat on hooks or with priorities that they may not have (N11).
 ghost use Rattle.std.specs.Prelude.{◌≡◌};
 ghost use Rattle.std.specs.List.{list_any};
 ghost use Rattle.std.specs.Option.{option_map};
@@ -7,10 +7,10 @@ ghost use Rattle.rule_check.specs.Chains.{has_misplaced_chain, head_is_misplaced
 
 use nft_tree::{ChainKind, Head, Hook, Item, Ruleset, any};
 
-/// A chain of type nat has a priority above this one, that of connection tracking.
+/// The priority of connection tracking (NF_IP_PRI_CONNTRACK). Chains of type nat must be above it.
 const TRACKING_PRIORITY: i128 = -200;
 
-/// Whether a chain of type nat stands on input or forward, or has a priority of at most -200.
+/// Whether a chain of type nat is on input or forward, or has a priority of at most -200.
 pub(crate) fn has_misplaced_chain(tree: &Ruleset) -> bool
     ensures { result ≡ list_any has_misplaced_chain (tables_of tree.now) }
 {
@@ -44,7 +44,7 @@ fn is_nat(kind: ChainKind) -> bool
     matches!(kind, ChainKind::Nat)
 }
 
-/// Whether nothing is translated at the hook.
+/// Whether chains of type nat are not allowed on the hook.
 fn is_without_nat(hook: Hook) -> bool
     ensures { result ≡ is_without_nat hook }
 {

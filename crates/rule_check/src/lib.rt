@@ -1,4 +1,4 @@
-//! Judges rulesets before they are loaded.
+//! Checks rulesets before they are loaded: names, jumps, types, values, NAT and limits.
 #![tactic(auto)]
 
 mod analysis;

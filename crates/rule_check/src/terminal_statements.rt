@@ -1,4 +1,4 @@
-//! Statements behind one that ends its rule.
+//! Statements after one that ends its rule (N14).
 ghost use Rattle.std.specs.Prelude.{◌≡◌, map};
 ghost use Rattle.std.specs.List.{list_any};
 ghost use Rattle.nft_tree.specs.Tree.{item_tree, statement, tables_of};
@@ -6,7 +6,7 @@ ghost use Rattle.rule_check.specs.Chains.{is_terminal, has_statement_after_termi
 
 use nft_tree::{Item, Ruleset, Stmt, any};
 
-/// Whether some rule goes on after a verdict, a verdict map or a NAT statement.
+/// Whether some rule has a statement after a verdict, a verdict map or a NAT statement.
 pub(crate) fn has_unreachable_statement(tree: &Ruleset) -> bool
     ensures { result ≡ list_any has_unreachable_statement (tables_of tree.now) }
 {

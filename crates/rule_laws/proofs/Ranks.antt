@@ -1,4 +1,4 @@
--- Costs and depths rank the program of a table.
+-- Costs and depths are a ranking of a table's program.
 use Rattle.std.proofs.Common.{◌≡◌, ℕ, zero, suc, ◌+◌, ◌<◌, ◌≤◌, Bool, true, false, cond, if◌then◌else◌, List, [], ◌∷◌, ◌++◌, length, get_or, map, flat_map, find, sum_by, slice_get, slice_index, Contains, Option, Some, None, is_some, unwrap_or, option_map, refl, sym, ap, ap₂, ◌∙◌, subst, ◌⊎◌, inl, inr, arith}
 use Rattle.std.specs.Str.{bytes_eq}
 use Rattle.std.proofs.lemmas.Bool.{cases_lt}
@@ -28,14 +28,14 @@ use Rattle.rule_laws.proofs.Verdicts as verdicts
 use Rattle.rule_laws.proofs.Verdicts.{Among, Chooses, decides}
 use Rattle.rule_laws.proofs.Tables.{placed, There, chains_there, Good, rules_good, rules_weigh, there_chosen, less_chosen}
 
--- ---- members
+-- ---- elements
 
 got_within : {A : Type 0} (xs : List A) (i : ℕ) (x : A) → slice_get xs i ≡ Some x → i < length xs
 got_within [] i x e = absurd cc
 got_within (y ∷ ys) zero x e = omega arith
 got_within (y ∷ ys) (suc i) x e = omega (arith, got_within ys i x e)
 
--- ---- a chain by its own name, where no two have one
+-- ---- a chain by its own name, where names are unique
 
 name_at : (cs : List ChainTree) (i : ℕ) (c : ChainTree) → slice_get cs i ≡ Some c → get_or (map (λ x. x.name) cs) i [] ≡ c.name
 name_at [] i c e = absurd cc
@@ -96,7 +96,7 @@ module _ (plant : PlantTree) (number : ℕ) (t : TableTree) where
   abbrev p : Program Statement
   p = table_program plant number t
 
-  -- ---- the way to the chain of a verdict
+  -- ---- the path to the chain of a verdict
 
   record CallPath (a : Caller) (e : Call Caller) : Type 0 where
     along : List (Call Caller)
@@ -126,7 +126,7 @@ module _ (plant : PlantTree) (number : ℕ) (t : TableTree) where
     sums_are [] = refl
     sums_are (r ∷ rs) = sum_by-cons (sum_by (weight_by cost)) r rs ∙ ap₂ (λ m n. m + n) (sum_is r) (sums_are rs)
 
-    -- what a chain of the table costs
+    -- the cost of a chain of the table
     costs_at : (i : ℕ) (c : ChainTree) → slice_get (chains_of t) i ≡ Some c → cost (a_chain c.name) ≡ sum_by (sum_by (weight_by cost)) (map (λ r. r.statements) c.rules)
     costs_at i c at = are (a_chain c.name) ∙ ap (λ o. node_cost cost (chain_node o)) (own_name (chains_of t) i c at once) ∙ sym (rules_weigh cost plant number t c.rules) ∙ sym (sums_are (map (λ r. r.statements) c.rules))
 
@@ -148,7 +148,7 @@ module _ (plant : PlantTree) (number : ℕ) (t : TableTree) where
         where
           by_test : (MAX_JUMPS < jumps es) ⊎ (jumps es ≤ MAX_JUMPS) → jumps es ≤ MAX_JUMPS
           by_test (inl over) =
-              absurd (deep (record { chain = c.name; stands = name_stands (chains_of t) i c at; path = record { from = a_chain c.name; to = b; along = es; path = path; over = omega (arith, over) }; begins = refl }))
+              absurd (deep (record { chain = c.name; member = name_stands (chains_of t) i c at; path = record { from = a_chain c.name; to = b; along = es; path = path; over = omega (arith, over) }; begins = refl }))
           by_test (inr within) = within
 
       deeper : (i j : ℕ) (c d : ChainTree) (es : List (Call Caller)) → slice_get (chains_of t) i ≡ Some c → slice_get (chains_of t) j ≡ Some d → IsPath (CallsOf t) (a_chain c.name) es (a_chain d.name) → slice_index depths j + jumps es ≤ slice_index depths i
@@ -164,7 +164,7 @@ module _ (plant : PlantTree) (number : ℕ) (t : TableTree) where
 
       -- ---- a statement of a chain
 
-      -- the chain of a name
+      -- the chain with a name
       record Target (name : Text) (i : ℕ) : Type 0 where
         chain : ChainTree
         stands : slice_get (chains_of t) i ≡ Some chain
@@ -186,7 +186,7 @@ module _ (plant : PlantTree) (number : ℕ) (t : TableTree) where
       good_in (r ∷ rs) rule s h has in_rule =
           elim (Contains-cases r rule rs has) [ inl e ↦ good_in_rule rule s (subst (GoodRule p (weight_by cost) (Good cost plant number t)) e h.0) in_rule | inr later ↦ good_in rs rule s h.1 later in_rule ]
 
-      -- what it leads to costs less, and is so much deeper
+      -- its target costs less, and is that much less deep
       abbrev Falls : ℕ → ℕ → Statement → ℕ → Type 0
       Falls c d s n = (chain_cost_by t cost d + 1 ≤ weight_by cost s) × (slice_index depths d + n ≤ slice_index depths c)
 

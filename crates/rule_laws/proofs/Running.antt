@@ -1,4 +1,4 @@
--- A program whose jumps and gotos lead to lighter chains comes to something from wherever a packet stands in it.
+-- A program whose jumps and gotos go to lighter chains terminates from every position.
 use Rattle.std.proofs.Common.{◌≡◌, ℕ, zero, suc, ◌+◌, ◌<◌, ◌≤◌, List, [], ◌∷◌, ◌++◌, Some, refl, arith}
 use Rattle.rule_meaning.specs.declared.facts.Facts.{Facts}
 use Rattle.rule_meaning.specs.declared.event.StatementPosition.{StatementPosition}
@@ -27,7 +27,7 @@ module _ {S : Type 0} (p : Program S) (weight : S → ℕ) (Good : S → Type 0)
   GoodRules [] = Unit {0}
   GoodRules (r ∷ rs) = GoodRule r × GoodRules rs
 
-  -- the chain of this number is lighter than the statement
+  -- the chain with this index is lighter than the statement
   pub record Lighter (s : S) (i : ℕ) : Type 0 where
     pub chain : List (List S)
     pub stands : p.rules_at i ≡ Some chain
@@ -46,14 +46,14 @@ module _ {S : Type 0} (p : Program S) (weight : S → ℕ) (Good : S → Type 0)
   abbrev pub Falls : Type 0
   Falls = (s : S) → Good s → (at : StatementPosition) (f : Facts) (d : RuleVerdict) → p.effect_of at s f ≡ give d → Leads s d
 
-  -- it comes to something
+  -- it terminates
   abbrev Comes : ℕ → ℕ → Remainder S → Facts → List Event → Type 0
   Comes c n l f es = (o : RunResult) × Runs p c n l f es o
 
   abbrev Next : ℕ → ℕ → List (List S) → Type 0
   Next c n rs = (f : Facts) (es : List Event) → Comes c (n + 1) (at_rule rs) f es
 
-  -- the chains that are lighter than this come to something
+  -- all chains lighter than this terminate
   abbrev Calls : ℕ → Type 0
   Calls most = (i : ℕ) (chain : List (List S)) → p.rules_at i ≡ Some chain → GoodRules chain → rules_weight chain < most → (f : Facts) (es : List Event) → Comes i 1 (at_rule chain) f es
 

@@ -1,4 +1,4 @@
--- Each list has an order: each element is put in before those that aren't less.
+-- Stable insertion sort: each element is inserted before those that aren't less.
 use Rattle.std.proofs.Common.{◌≡◌, ℕ, zero, suc, ◌+◌, ◌<◌, Bool, true, false, not, ◌&&◌, cond, List, [], ◌∷◌, length, get_or, filter, refl, ap, ◌∙◌, arith}
 use Rattle.std.specs.Cmp.{IsStrictWeakOrder}
 use Rattle.std.specs.List.Sorted.{IsSortedBy, IsStableBy, ties}
@@ -72,9 +72,9 @@ module _ {X : Type 0} (lt : X → X → Bool) where
     pub sorted : (xs : List X) → IsSortedBy lt (ordered xs)
     sorted xs = up_sorted (ordered xs) (up_ordered xs)
 
-    -- ---- what ties stays as it was
+    -- ---- stability
 
-    -- what is less than an element ties with nothing that the element ties with
+    -- what is less than an element doesn't tie with anything that the element ties with
     no_tie : (z x y : X) → ties lt z x ≡ true → lt y x ≡ true → ties lt z y ≡ false
     no_tie z x y tied less = by_tests (lt z x) (lt x z) (lt z y) (lt y z) refl refl refl refl tied
       where

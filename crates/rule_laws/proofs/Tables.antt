@@ -1,4 +1,4 @@
--- Statements of a table lead to lighter chains, where all chains that they name are there and each has a cost.
+-- The targets of a table's statements are lighter, if all named chains exist and the cost equations have a solution.
 use Rattle.std.proofs.Common.{◌≡◌, ℕ, suc, ◌+◌, ◌<◌, ◌≤◌, Bool, true, false, not, ◌||◌, cond, List, [], ◌∷◌, ◌++◌, length, map, flat_map, find, slice_get, Option, Some, None, is_some, unwrap_or, option_map, refl, sym, ap, ◌∙◌, subst, inl, inr, arith}
 use Rattle.std.specs.List.{filter_map, cons_option, list_any}
 use Rattle.std.specs.Str.{bytes_eq}
@@ -25,7 +25,7 @@ use Rattle.rule_laws.proofs.Verdicts.{Among, Chooses, Decides, decides}
 
 -- ---- a chain by its name
 
--- the place of the first of a name
+-- the index of the first element with a name
 pub record Placed (cs : List ChainTree) (name : Text) (c : ChainTree) : Type 0 where
   pub place : ℕ
   pub is : index_in name (map (λ x. x.name) cs) ≡ Some place
@@ -51,7 +51,7 @@ or_false true c e = (refl, e)
 or_false false c e = absurd cc
 
 module _ (t : TableTree) where
-  -- the names are those of chains of the table
+  -- all the names are chains of the table
   abbrev pub There : List Text → Type 0
   There [] = Unit {0}
   There (n ∷ ns) = (is_some (chain_named t n) ≡ true) × There ns
@@ -68,7 +68,7 @@ module _ (t : TableTree) where
   right [] ns h = h
   right (m ∷ ms) ns h = right ms ns h.1
 
-  -- of what each chain and each map of the table names
+  -- all names in the chains and maps of the table
   pub chains_there : (items : List ItemTree) → There (flat_map item_targets items) → Every (λ c. There (flat_map rule_targets c.rules)) (filter_map chain_in items)
   chains_there [] h = tt
   chains_there (tree.chain c ∷ items) h = (left (flat_map rule_targets c.rules) _ h, chains_there items (right (flat_map rule_targets c.rules) _ h))
@@ -136,7 +136,7 @@ module _ (cost : Caller → ℕ) where
             less = omega (arith, weighs, rules_weigh c.rules, less);
           }
 
-      -- the chain of a verdict that the statement can come to is there, and costs less
+      -- the target of each verdict of the statement exists, and costs less
       one_there : (o : Option Text) (ns : List Text) → There t (cons_option o ns) → There t (one_or_none o) × There t ns
       one_there None ns h = (tt, h)
       one_there (Some n) ns h = ((h.0, tt), h.1)

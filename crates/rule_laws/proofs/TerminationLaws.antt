@@ -1,4 +1,4 @@
--- Base chains and hooks of well-formed rulesets end.
+-- Base chains and hooks of well-formed rulesets terminate.
 use Rattle.std.proofs.Common.{◌≡◌, ◌⊎◌, ℕ, ℤ, suc, ◌+◌, Bool, List, [], ◌∷◌, map, flat_map, filter, slice_get, Contains, Option, Some, None, option_map, refl, ap, subst, inl, inr, arith}
 use Rattle.nft_tree.specs.Tree.{HeadTree, ChainTree, TableTree}
 use Rattle.nft_tree.specs.TableItems.{chains_of}
@@ -23,7 +23,7 @@ use Rattle.rule_laws.proofs.Tables.{There, chains_there, Good, rules_good, falls
 use Rattle.rule_laws.proofs.WellTables.{contained, whole}
 use Rattle.rule_laws.proofs.Sorting.{ordered, every_ordered, sorted, stable}
 
--- ---- where base chains stand
+-- ---- base chains of a ruleset
 
 record Stands (tables : List TableTree) (b : BaseChain) : Type 0 where
   table : TableTree
@@ -54,9 +54,9 @@ module _ (tables : List TableTree) where
   all_stand : Every (Stands tables) (base_chains_of tables)
   all_stand = tables_stand 0 tables (λ i x e. let on : i ≡ 0 + i = omega arith in subst (λ j. slice_get tables j ≡ Some x) on e)
 
--- ---- passages
+-- ---- traversals
 
--- what the law of costs says
+-- the statement of the law of costs
 abbrev pub SomeCosts : Type 0
 SomeCosts = (tables : List TableTree) (t : TableTree) → (Cycles tables → ⊥) → Contains tables t → (cost : Caller → ℕ) × AreCosts t cost
 

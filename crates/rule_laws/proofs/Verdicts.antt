@@ -1,4 +1,4 @@
--- The verdicts that a statement can come to.
+-- The possible verdicts of a statement.
 use Rattle.std.proofs.Common.{◌≡◌, ℕ, Bool, true, false, cond, List, [], ◌∷◌, map, Contains, Option, Some, None, option_and_then, refl, sym, subst}
 use Rattle.std.specs.Option.{option_or}
 use Rattle.list_laws.specs.Lists.{Contains-head}
@@ -30,13 +30,13 @@ abbrev pub Among : List PairTree → VerdictTree → Type 0
 Among ps v = Contains (map (λ p. p.value) ps) (tree.to_verdict v)
 
 module _ (t : TableTree) where
-  -- the verdict of a statement, or one of its map
+  -- the verdict of a statement, or one in its map
   pub data Chooses : Statement → VerdictTree → Type 0 where
     itself : {v : VerdictTree} → Chooses (tree.verdict v) v
     of_pairs : {x : Selector} {ps : List PairTree} {v : VerdictTree} → Among ps v → Chooses (tree.verdict_map x (tree.pairs ps)) v
     of_map : {x : Selector} {name : Text} (m : MapTree) {v : VerdictTree} → map_named t name ≡ Some m → Among (some_of m.elements) v → Chooses (tree.verdict_map x (tree.named_map name)) v
 
-  -- the chain that is jumped or gone to is one that the statement names
+  -- the target of a jump or goto is among the statement's targets
   abbrev pub Decides : Statement → RuleVerdict → Type 0
   Decides s (decisions.Jump i) = (name : Text) × (chain_number t name ≡ i) × Chooses s (tree.jump name)
   Decides s (decisions.Goto i) = (name : Text) × (chain_number t name ≡ i) × Chooses s (tree.goto name)
@@ -62,7 +62,7 @@ module _ (t : TableTree) where
 
   -- ---- maps
 
-  -- what is read of a list is among it
+  -- the data found in a list is in the list
   abbrev FromList : List PairTree → Option VerdictTree → Type 0
   FromList ps None = Unit {0}
   FromList ps (Some v) = Among ps v

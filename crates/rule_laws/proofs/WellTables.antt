@@ -1,4 +1,4 @@
--- What well-formed rulesets say of each of their tables.
+-- Consequences of well-formedness for each table.
 use Rattle.std.proofs.Common.{◌≡◌, ℕ, zero, suc, Bool, true, false, ◌||◌, List, [], ◌∷◌, slice_get, Contains, Some, unwrap_or, refl, ap, ◌∙◌, arith}
 use Rattle.std.specs.List.{list_any}
 use Rattle.std.proofs.lemmas.Bool.{false_from_ne_true}
@@ -29,13 +29,13 @@ module _ (tables : List TableTree) (plant : PlantTree) (well : WellFormed tables
   pub contained : Contains tables t
   contained = got_contained tables number t at
 
-  -- all chains that it names are there
+  -- all chains that it names exist
   pub whole : There t (targets_of t)
   whole = there t (targets_of t) (false_from_ne_true (jumps_to_unknown_chain t) (λ bad. well faults.NoSuchChain (got_passes jumps_to_unknown_chain tables number t at bad)))
 
-  -- no two of its chains have one name
+  -- its chains have distinct names
   pub once : HasDuplicate (chain_names t) → ⊥
   once r = well faults.DuplicateName (names.two_chains t contained r)
 
   pub shallow : HasDeepPath t → ⊥
-  shallow deep = well faults.TooDeep (record { table = t; stands = contained; deep = deep })
+  shallow deep = well faults.TooDeep (record { table = t; member = contained; deep = deep })

@@ -1,4 +1,4 @@
--- Costs and depths bound what a chain leads to: so no chain leads back to itself.
+-- Costs and depths as a ranking, which rules out that a chain reaches itself. (own)
 use Rattle.std.specs.Prelude.{◌≡◌, ℕ, ◌+◌, ◌≤◌, List, sum_by, slice_get, Contains, Option, Some, None}
 use Rattle.nft_tree.specs.Tree.{Statement, ChainTree, TableTree}
 use Rattle.nft_tree.specs.TableItems.{chains_of}
@@ -11,7 +11,7 @@ use Rattle.rule_meaning.specs.Statements.{give}
 use Rattle.rule_meaning.specs.Runs.{Program}
 
 module _ {S : Type 0} (p : Program S) where
-  -- the statement stands in the chain
+  -- the statement is one of the chain's
   pub record IsStatementOf (c : ℕ) (s : S) : Type 0 where
     pub rules : List (List S)
     pub has : p.rules_at c ≡ Some rules
@@ -19,17 +19,20 @@ module _ {S : Type 0} (p : Program S) where
     pub in_chain : Contains rules rule
     pub in_rule : Contains rule s
 
-  -- each statement weighs 1 and what it leads to at least, a chain costs what its statements weigh, a jump goes one
-  -- deeper
+  -- each statement weighs at least 1 plus the cost of its target, a chain costs at least the weight of its
+  -- statements, and a jump's target has a smaller depth
   pub record IsRanking (weight : S → ℕ) (cost depth : ℕ → ℕ) : Type 0 where
     pub some : (s : S) → 1 ≤ weight s
-    pub sums : (c : ℕ) (rules : List (List S)) → p.rules_at c ≡ Some rules → sum_by (sum_by weight) rules ≤ cost c
-    pub jumps : (c d : ℕ) (s : S) (at_place : StatementPosition) (f : Facts) → IsStatementOf c s → p.effect_of at_place s f ≡ give (Jump d)
+    pub sums : (c : ℕ) (rules : List (List S)) → p.rules_at c ≡ Some rules
+        → sum_by (sum_by weight) rules ≤ cost c
+    pub jumps : (c d : ℕ) (s : S) (at_place : StatementPosition) (f : Facts) → IsStatementOf c s
+        → p.effect_of at_place s f ≡ give (Jump d)
         → (cost d + 1 ≤ weight s) × (depth d + 1 ≤ depth c)
-    pub gotos : (c d : ℕ) (s : S) (at_place : StatementPosition) (f : Facts) → IsStatementOf c s → p.effect_of at_place s f ≡ give (Goto d)
+    pub gotos : (c d : ℕ) (s : S) (at_place : StatementPosition) (f : Facts) → IsStatementOf c s
+        → p.effect_of at_place s f ≡ give (Goto d)
         → (cost d + 1 ≤ weight s) × (depth d ≤ depth c)
 
--- what a statement weighs, where chains and maps cost this: 1 and the greatest of what it calls
+-- the weight of a statement: 1 and the greatest cost among its targets
 abbrev pub weight_by : (Caller → ℕ) → Statement → ℕ
 weight_by cost s = 1 + greatest cost (statement_calls s)
 
@@ -37,6 +40,6 @@ abbrev pub cost_of : (Caller → ℕ) → Option ChainTree → ℕ
 cost_of cost None = 0
 cost_of cost (Some c) = cost (a_chain c.name)
 
--- what the chain of a number costs
+-- the cost of the chain with index c
 abbrev pub chain_cost_by : TableTree → (Caller → ℕ) → ℕ → ℕ
 chain_cost_by t cost c = cost_of cost (slice_get (chains_of t) c)

@@ -1,4 +1,4 @@
-//! Laws of well-formed rulesets, each as the contract of a function that does nothing.
+//! Lemmas about well-formed rulesets, each as the contract of a function that does nothing.
 ghost use Rattle.std.specs.Prelude.{◌≡◌, ℕ, Bool, List, Contains, Some, slice_get, slice_index};
 ghost use Rattle.nft_tree.specs.declared.chain.Hook.{Hook};
 ghost use Rattle.nft_tree.specs.Tree.{TableTree};
@@ -15,11 +15,12 @@ ghost use Rattle.rule_laws.specs.Ranking.{IsRanking, weight_by, chain_cost_by};
 
 use rule_paths::costs_exist;
 
-/// In a well-formed ruleset each base chain and each hook ends, whatever rules may read of a packet
-/// and whatever happened before; a hook with a translation step, where that ends always.
+/// In a well-formed ruleset each base chain and each hook has a result, for all facts and events
+/// before; a hook around a NAT step, if that step always has one.
 pub fn hooks_terminate()
     ensures base { (tables : List TableTree) (plant : PlantTree) → WellFormed tables plant
-        → (b : BaseChain) → Contains (base_chains_of tables) b → Terminates (RunsBaseChain plant tables b) }
+        → (b : BaseChain) → Contains (base_chains_of tables) b
+        → Terminates (RunsBaseChain plant tables b) }
     ensures chains { (tables : List TableTree) (plant : PlantTree) → WellFormed tables plant
         → (test : BaseChain → Bool) → Terminates (Chains plant tables test) }
     ensures early { (tables : List TableTree) (plant : PlantTree) → WellFormed tables plant
@@ -44,11 +45,12 @@ pub fn hooks_terminate()
     costs_exist();
 }
 
-/// In a well-formed ruleset the costs and depths of chains rank the program of each table: a
-/// statement weighs more than what it leads to costs, and a jump leads to a chain that is less deep.
+/// In a well-formed ruleset the costs and depths of chains are a ranking of each table's program: a
+/// statement weighs more than its targets cost, and a jump's target has a smaller depth.
 pub fn costs_rank_chains()
     ensures { (tables : List TableTree) (plant : PlantTree) → WellFormed tables plant
-        → (number : ℕ) (t : TableTree) → slice_get tables number ≡ Some t
-        → (cost : Caller → ℕ) → AreCosts t cost → (depths : List ℕ) → AreChainDepths t depths
-        → IsRanking (table_program plant number t) (weight_by cost) (chain_cost_by t cost) (λ c. slice_index depths c) }
+        → (number : ℕ) (t : TableTree) → slice_get tables number ≡ Some t → (cost : Caller → ℕ)
+        → AreCosts t cost → (depths : List ℕ) → AreChainDepths t depths
+        → IsRanking (table_program plant number t) (weight_by cost) (chain_cost_by t cost)
+        (λ c. slice_index depths c) }
 {}

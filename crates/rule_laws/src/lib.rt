@@ -1,5 +1,5 @@
-//! What is known of well-formed rulesets: a packet comes to an end in them, whatever it is, since
-//! costs and depths rank their chains.
+//! Termination: in a well-formed ruleset every packet gets a result, since costs and depths are a
+//! ranking of its chains.
 #![tactic(auto)]
 
 mod laws;

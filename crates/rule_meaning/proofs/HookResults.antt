@@ -1,4 +1,4 @@
--- Base chains and hooks lead to one end.
+-- Base chains and hooks have at most one result.
 use Rattle.std.proofs.Common.{◌≡◌, ◌↔◌, ℤ, Bool, List, [], ◌∷◌, filter, Option, Some, sym, ap, ◌∙◌, subst}
 use Rattle.std.proofs.lemmas.Option.{same_Some}
 use Rattle.nft_tree.specs.Tree.{Statement, TableTree}
@@ -9,16 +9,16 @@ use Rattle.rule_meaning.specs.Runs.{table_program, at_rule, RunResult, Runs}
 use Rattle.rule_meaning.specs.Hooks as hooks
 use Rattle.rule_meaning.specs.Hooks.{BaseChain, InOrder, runs_before, HookResult, policy_of, with_policy, Traversal, RunsBaseChain, Continues, Stops, NoChain, Then, InTurn, Chains, base_chains_of}
 use Rattle.rule_meaning.specs.Laws.{step_of}
-use Rattle.rule_meaning.proofs.OneRun.{one_after}
-use Rattle.rule_meaning.proofs.Orders.{one_order}
+use Rattle.rule_meaning.proofs.Determinism.{one_after}
+use Rattle.rule_meaning.proofs.StableOrders.{one_order}
 use Rattle.rule_meaning.proofs.Priorities.{priorities}
 
 pub one_text_order : (text a b : List BaseChain) → InOrder text a → InOrder text b → a ≡ b
 one_text_order text a b first second = one_order runs_before priorities text a b first.rising first.stable second.rising second.stable
 
--- ---- passages
+-- ---- traversals
 
--- at most one end
+-- at most one result
 abbrev pub One : Traversal → Type 0
 One P = (f : Facts) (es : List Event) (hook_result other : HookResult) → P f es hook_result → P f es other → hook_result ≡ other
 
@@ -36,7 +36,7 @@ one_then first second one two f es hook_result other (hooks.stops r ends) (hooks
 one_then first second one two f es hook_result other (hooks.stops r ends) (hooks.stops r' ends') = one f es hook_result other r r'
 
 module _ (plant : PlantTree) (tables : List TableTree) where
-  -- what a run in this table says of an end
+  -- the result of a run in this table
   abbrev Same : BaseChain → Facts → List Event → HookResult → HookResult → TableTree → Type 0
   Same b f es hook_result other t = (rules : List (List Statement)) (after : RunResult) → (table_program plant b.number.table t).rules_at b.number.chain ≡ Some rules → Runs (table_program plant b.number.table t) b.number.chain 1 (at_rule rules) f es after → other ≡ with_policy b.number (policy_of b.head) after → hook_result ≡ other
 
@@ -59,7 +59,7 @@ module _ (plant : PlantTree) (tables : List TableTree) where
   pub one_around : (test : BaseChain → Bool) (limit : ℤ) (step : Traversal) → One step → One (hooks.AroundNat plant tables test limit step)
   one_around test limit step one = one_then _ _ (one_chains _) (one_then step _ one (one_chains _))
 
-  -- ---- what the first of base chains leaves to the others
+  -- ---- what the first base chain leaves to the others
 
   module _ (b : BaseChain) (bs : List BaseChain) (f : Facts) (es : List Event) (m hook_result : HookResult) (r : RunsBaseChain plant tables b f es m) where
     stopped : Stops m.verdict → Then (RunsBaseChain plant tables b) (InTurn plant tables bs) f es hook_result → hook_result ≡ m

@@ -1,7 +1,7 @@
-mod Opening
-mod OneRun
-mod Orders
+mod Inversion
+mod Determinism
+mod StableOrders
 pub mod Priorities
 mod HookResults
 mod Values
-mod Alike
+mod SameRuns

@@ -1,5 +1,5 @@
--- How a packet passes a hook: its base chains in order of priority (nft(8), "Chains"), each with its policy, and the
--- translation step among them.
+-- How a packet traverses a hook: its base chains in order of priority (nft(8), "Chains"), each with its
+-- policy, and the NAT step among them.
 use Rattle.std.specs.Prelude.{◌≡◌, ℕ, suc, ℤ, int_lt, not, ◌&&◌, Bool, true, false, List, [], ◌∷◌, ◌++◌}
 use Rattle.std.specs.Prelude.{filter, Option, Some, None, slice_get, unwrap_or}
 use Rattle.std.specs.List.Sorted.{IsSortedBy, IsStableBy}
@@ -18,28 +18,31 @@ use Rattle.rule_meaning.specs.declared.event.ChainNo.{ChainNo}
 use Rattle.rule_meaning.specs.declared.event.Event.{Event}
 use Rattle.rule_meaning.specs.declared.event.Event.TheVariants.{TookPolicy}
 use Rattle.rule_meaning.specs.declared.event.HookVerdict.{HookVerdict}
-use Rattle.rule_meaning.specs.declared.event.HookVerdict.TheVariants.{Accepted, Dropped, Translated}
+use Rattle.rule_meaning.specs.declared.event.HookVerdict.TheVariants.{Accepted, Dropped}
 use Rattle.rule_meaning.specs.Runs.{table_program, at_rule, RunResult, at_end, over, Runs}
 
 -- ---- base chains
 
--- a base chain: where it stands, and its head
+-- a base chain: its position and its head
 pub record BaseChain : Type 0 where
   pub number : ChainNo
   pub head : HeadTree
 
 abbrev pub base_chain_of : ℕ → ℕ → Option HeadTree → List BaseChain
 base_chain_of table chain None = []
-base_chain_of table chain (Some head) = record { number = record { table = table; chain = chain }; head = head } ∷ []
+base_chain_of table chain (Some head) =
+    record { number = record { table = table; chain = chain }; head = head } ∷ []
 
--- those among the chains of a table from the one of this number on
+-- the base chains among these chains of a table, of which the first has this index
 abbrev pub base_chains_from : ℕ → ℕ → List ChainTree → List BaseChain
 base_chains_from table chain [] = []
-base_chains_from table chain (c ∷ cs) = base_chain_of table chain c.head ++ base_chains_from table (suc chain) cs
+base_chains_from table chain (c ∷ cs) =
+    base_chain_of table chain c.head ++ base_chains_from table (suc chain) cs
 
 abbrev pub base_chains_of_tables : ℕ → List TableTree → List BaseChain
 base_chains_of_tables table [] = []
-base_chains_of_tables table (t ∷ ts) = base_chains_from table 0 (chains_of t) ++ base_chains_of_tables (suc table) ts
+base_chains_of_tables table (t ∷ ts) =
+    base_chains_from table 0 (chains_of t) ++ base_chains_of_tables (suc table) ts
 
 -- all base chains of a ruleset, in text order
 abbrev pub base_chains_of : List TableTree → List BaseChain
@@ -52,12 +55,13 @@ priority b = priority_number b.head.priority
 abbrev pub runs_before : BaseChain → BaseChain → Bool
 runs_before a b = int_lt (priority a) (priority b)
 
--- the same chains in order of priority, and of text where priorities are equal
+-- the chains sorted by priority; those of equal priority stay in text order (own: nft(8) leaves that order
+-- open)
 pub record InOrder (text order : List BaseChain) : Type 0 where
   pub rising : IsSortedBy runs_before order
   pub stable : IsStableBy runs_before text order
 
--- ---- where they run
+-- ---- hooks and chain types
 
 abbrev pub same_hook : Hook → Hook → Bool
 same_hook hooks.Prerouting hooks.Prerouting = true
@@ -84,9 +88,9 @@ nat_chains_on hook b = is_on_hook hook b && not (is_filter b.head.kind)
 abbrev pub is_below : ℤ → BaseChain → Bool
 is_below limit b = int_lt (priority b) limit
 
--- ---- how one ends
+-- ---- results
 
--- what rules and policies make of a packet: how the last base chain ended, what rules may read then, and all events
+-- the result of base chains for a packet: the verdict of the last one, the facts then, and all events
 pub record HookResult : Type 0 where
   pub verdict : HookVerdict
   pub facts : Facts
@@ -99,19 +103,19 @@ abbrev pub policy_verdict : Policy → HookVerdict
 policy_verdict policies.Accept = Accepted
 policy_verdict policies.Drop = Dropped
 
--- a packet that comes to the end of a base chain meets the policy
+-- the policy applies to a packet that reaches the end of a base chain
 abbrev pub with_policy : ChainNo → Policy → RunResult → HookResult
 with_policy number policy (at_end f es) =
     record { verdict = policy_verdict policy; facts = f; events = es ++ TookPolicy number policy ∷ [] }
 with_policy number policy (over verdict f es) = record { verdict = verdict; facts = f; events = es }
 
--- a relation between what rules may read and the events before, and how it ends
+-- a relation between the facts and events before and the result
 abbrev pub Traversal : Type 1
 Traversal = Facts → List Event → HookResult → Type 0
 
--- the packet runs through a base chain of the ruleset
-pub record RunsBaseChain (plant : PlantTree) (tables : List TableTree) (b : BaseChain) (f : Facts) (es : List Event)
-    (hook_result : HookResult) : Type 0 where
+-- a packet runs through a base chain of the ruleset
+pub record RunsBaseChain (plant : PlantTree) (tables : List TableTree) (b : BaseChain) (f : Facts)
+    (es : List Event) (hook_result : HookResult) : Type 0 where
   pub table : TableTree
   pub stands : slice_get tables b.number.table ≡ Some table
   pub rules : List (List Statement)
@@ -120,55 +124,57 @@ pub record RunsBaseChain (plant : PlantTree) (tables : List TableTree) (b : Base
   pub runs : Runs (table_program plant b.number.table table) b.number.chain 1 (at_rule rules) f es after
   pub is : hook_result ≡ with_policy b.number (policy_of b.head) after
 
--- ---- one after another
+-- ---- sequences
 
 abbrev pub Continues : HookVerdict → Type 0
 Continues Accepted = Unit {0}
-Continues Dropped = ⊥
-Continues (Translated t) = ⊥
+Continues _ = ⊥
 
 abbrev pub Stops : HookVerdict → Type 0
 Stops verdict = Continues verdict → ⊥
 
--- nothing is done
+-- no chain: the packet is accepted unchanged
 abbrev pub NoChain : Traversal
 NoChain f es hook_result = hook_result ≡ record { verdict = Accepted; facts = f; events = es }
 
--- the second follows where the first goes on
-pub data Then (first second : Traversal) (f : Facts) (es : List Event) (hook_result : HookResult) : Type 0 where
-  goes_on : (between : HookResult) → first f es between → Continues between.verdict → second between.facts between.events hook_result
+-- the first, and then, if it accepts, the second
+pub data Then (first second : Traversal) (f : Facts) (es : List Event)
+    (hook_result : HookResult) : Type 0 where
+  goes_on : (between : HookResult) → first f es between → Continues between.verdict
+      → second between.facts between.events hook_result
       → Then first second f es hook_result
   stops : first f es hook_result → Stops hook_result.verdict → Then first second f es hook_result
 
--- base chains in turn: an accept ends one of them, a drop or a translation all
+-- base chains one after the other: an accept ends one of them, a drop or a NAT statement all
 abbrev pub InTurn : PlantTree → List TableTree → List BaseChain → Traversal
 InTurn plant tables [] = NoChain
 InTurn plant tables (b ∷ bs) = Then (RunsBaseChain plant tables b) (InTurn plant tables bs)
 
--- all base chains that pass the test, in order of priority and of text
-pub record Chains (plant : PlantTree) (tables : List TableTree) (test : BaseChain → Bool) (f : Facts) (es : List Event)
-    (hook_result : HookResult) : Type 0 where
+-- all base chains that pass the test, in order of priority
+pub record Chains (plant : PlantTree) (tables : List TableTree) (test : BaseChain → Bool) (f : Facts)
+    (es : List Event) (hook_result : HookResult) : Type 0 where
   pub order : List BaseChain
   pub in_order : InOrder (filter test (base_chains_of tables)) order
   pub run : InTurn plant tables order f es hook_result
 
 -- ---- hooks
 
--- filter chains on prerouting of priority -200 and below run before a connection is looked for
+-- filter chains on prerouting with a priority of -200 or below run before the conntrack lookup
+-- (NF_IP_PRI_CONNTRACK is -200; own: -200 itself counts as before)
 abbrev pub is_prerouting_raw : BaseChain → Bool
 is_prerouting_raw b = filter_chains_on hooks.Prerouting b && is_below AFTER_CONNTRACK b
 
 abbrev pub PreroutingRaw : PlantTree → List TableTree → Traversal
 PreroutingRaw plant tables = Chains plant tables is_prerouting_raw
 
--- the filter chains of a hook on both sides of its translation step, which stands at this priority, before the chains
--- of the same; a step that translates hands on the packet as translated: it ends accepted
+-- the filter chains of a hook around its NAT step, which runs at this priority, before filter chains of the
+-- same (own); a step that translates ends accepted, with the translated packet
 abbrev pub AroundNat : PlantTree → List TableTree → (BaseChain → Bool) → ℤ → Traversal → Traversal
 AroundNat plant tables test limit step =
     Then (Chains plant tables (λ b. test b && is_below limit b))
     (Then step (Chains plant tables (λ b. test b && not (is_below limit b))))
 
--- the destination is translated at dstnat
+-- destination NAT runs at dstnat, -100 (nft(8), "Chains")
 abbrev pub Prerouting : PlantTree → List TableTree → Traversal → Traversal
 Prerouting plant tables step =
     AroundNat plant tables (λ b. filter_chains_on hooks.Prerouting b && not (is_prerouting_raw b)) DSTNAT step
@@ -179,10 +185,11 @@ Input plant tables = Chains plant tables (filter_chains_on hooks.Input)
 abbrev pub Forward : PlantTree → List TableTree → Traversal
 Forward plant tables = Chains plant tables (filter_chains_on hooks.Forward)
 
--- the source is translated at srcnat
+-- source NAT runs at srcnat, 100 (nft(8), "Chains")
 abbrev pub Postrouting : PlantTree → List TableTree → Traversal → Traversal
 Postrouting plant tables step = AroundNat plant tables (filter_chains_on hooks.Postrouting) SRCNAT step
 
--- a translation step runs the chains of type nat until a statement translates
+-- the NAT step of a hook runs its chains of type nat, until a NAT statement applies (nft(8), "NAT
+-- statements")
 abbrev pub Translating : Hook → PlantTree → List TableTree → Traversal
 Translating hook plant tables = Chains plant tables (nat_chains_on hook)

@@ -1,5 +1,5 @@
--- When a match holds of a packet, operator by operator (nft(8), "Expressions", "TCP header expression", "Conntrack
--- expressions"). One whose selector reads nothing never holds.
+-- When a match holds for a packet, operator by operator (nft(8), "Expressions", "TCP header expression",
+-- "Conntrack expressions"). If its selector has no value it fails, under every operator.
 use Rattle.std.specs.Prelude.{ℕ, ◌==◌, nat_lt, nat_le, bit_and, bit_or, not, Bool, false, List, fold, map, Option}
 use Rattle.std.specs.Prelude.{Some, None, unwrap_or}
 use Rattle.nft_tree.specs.declared.selector.Selector.{Selector}
@@ -36,18 +36,18 @@ compares operators.Above span n = nat_lt span.high n
 compares operators.AtMost span n = nat_le n span.high
 compares operators.AtLeast span n = nat_le span.low n
 
--- what stands for no number holds of none
+-- a range that denotes no numbers never matches
 abbrev pub compares_with : Operator → Option Span → ℕ → Bool
 compares_with o None n = false
 compares_with o (Some span) n = compares o span n
 
 -- ---- bits
 
--- all bits of the numbers
+-- the bitwise or of the numbers
 abbrev pub union : List ℕ → ℕ
 union = fold bit_or 0
 
--- the number that the type's list has for a word
+-- the number of the type's symbolic constant
 abbrev pub word_number : ValueType → Text → ℕ
 word_number t w = unwrap_or (number_in (words_of t) w) 0
 
@@ -62,7 +62,7 @@ bit_type bit_fields.Status = types.CtStatus
 abbrev pub bits_of : BitField → List Text → ℕ
 bits_of field words = union (map (word_number (bit_type field)) words)
 
--- one of the bits at least; these bits and no other; none of them
+-- at least one of the bits; exactly these bits; none of them, for `!=` (own)
 abbrev pub bits_pass : BitTest → ℕ → ℕ → Bool
 bits_pass bit_tests.Any bits n = not (bit_and n bits == 0)
 bits_pass bit_tests.Exactly bits n = n == bits
@@ -79,14 +79,16 @@ flags_of fs = union (map flag_number fs)
 -- ---- matches
 
 abbrev pub holds : Scope → MatchTree → Facts → Bool
-holds scope (tree.compare s o r) f = tests (value s f) (compares_with o (numbers_of scope.plant (selector_compared_type s) r))
+holds scope (tree.compare s o r) f =
+    tests (value s f) (compares_with o (numbers_of scope.plant (selector_compared_type s) r))
 holds scope (tree.is_in ss set) f = tests (joined_value ss f) (set_has scope ss set)
 holds scope (tree.not_in ss set) f = tests (joined_value ss f) (λ n. not (set_has scope ss set n))
 holds scope (tree.bits field test words) f =
     tests (value (bit_selector field) f) (bits_pass test (bits_of field words))
-holds scope (tree.any_flag fs) f = tests (value selectors.TcpFlags f) (λ n. not (bit_and n (flags_of fs) == 0))
+holds scope (tree.any_flag fs) f =
+    tests (value selectors.TcpFlags f) (λ n. not (bit_and n (flags_of fs) == 0))
 holds scope (tree.exact_flags fs) f = tests (value selectors.TcpFlags f) (λ n. n == flags_of fs)
--- of the mask's flags those wanted are set, and no other
+-- of the flags in the mask exactly the wanted ones are set
 holds scope (tree.masked_flags wanted mask) f =
     tests (value selectors.TcpFlags f) (λ n. bit_and n (flags_of mask) == flags_of wanted)
 holds scope (tree.masked_flags_unequal wanted mask) f =

@@ -1,4 +1,5 @@
--- What selectors read of a packet (nft(8), "Payload expressions", "Meta expressions", "Conntrack expressions").
+-- The value of each selector for a packet (nft(8), "Payload expressions", "Meta expressions", "Conntrack
+-- expressions").
 use Rattle.std.specs.Prelude.{ℕ, ◌+◌, ◌*◌, ◌^◌, List, [], ◌∷◌, map, Option, Some, None, cond}
 use Rattle.std.specs.Option.{option_map, option_and_then}
 use Rattle.nft_tree.specs.declared.selector.Selector.{Selector}
@@ -18,7 +19,7 @@ use Rattle.rule_meaning.specs.declared.facts.CtState.TheVariants as states
 use Rattle.rule_meaning.specs.declared.facts.CtDirection.{CtDirection}
 use Rattle.rule_meaning.specs.declared.facts.CtDirection.TheVariants as directions
 
--- ---- ports: nothing for another protocol
+-- ---- ports: no value for other protocols
 
 abbrev pub tcp_source : Transport → Option ℕ
 tcp_source (transports.Tcp source destination flags) = Some source
@@ -36,8 +37,8 @@ abbrev pub udp_destination : Transport → Option ℕ
 udp_destination (transports.Udp source destination) = Some destination
 udp_destination _ = None
 
--- ---- the connection: an invalid or an untracked packet has a state and nothing else; before the place at which one is
--- looked for there is nothing
+-- ---- the connection. An invalid or untracked packet has a state and nothing else; before the lookup it has
+-- no state either
 
 abbrev pub state_bit : CtState → ℕ
 state_bit states.Established = STATE_ESTABLISHED
@@ -45,17 +46,16 @@ state_bit states.Related = STATE_RELATED
 state_bit states.New = STATE_NEW
 
 abbrev pub ct_state : CtFacts → Option ℕ
-ct_state ct.NotLookedUp = None
-ct_state ct.Notrack = None
 ct_state ct.Untracked = Some STATE_UNTRACKED
 ct_state ct.Invalid = Some STATE_INVALID
 ct_state (ct.Known c) = Some (state_bit c.state)
+ct_state _ = None
 
 abbrev pub direction_number : CtDirection → ℕ
 direction_number directions.Original = 0
 direction_number directions.Reply = 1
 
--- what is read of a connection, where there is one
+-- a field of the connection, if there is one
 abbrev pub of_connection : (ConnectionFacts → ℕ) → CtFacts → Option ℕ
 of_connection field (ct.Known c) = Some (field c)
 of_connection field _ = None
@@ -80,12 +80,14 @@ value selectors.TcpSource f = tcp_source f.packet.transport
 value selectors.TcpDestination f = tcp_destination f.packet.transport
 value selectors.UdpSource f = udp_source f.packet.transport
 value selectors.UdpDestination f = udp_destination f.packet.transport
--- `th` is TCP and UDP alone
+-- `th` for TCP and UDP only (own)
 value selectors.TransportSource f = source_port_of f.packet.transport
 value selectors.TransportDestination f = destination_port_of f.packet.transport
 value selectors.TcpFlags f = tcp_flags_of f.packet.transport
 value selectors.IcmpType f = icmp_type_of f.packet.transport
+-- the input interface on every hook (own)
 value selectors.InputName f = Some f.input.name
+-- no output interface on prerouting and input (own)
 value selectors.OutputName f = option_map (λ i. i.name) f.output
 value selectors.InputIndex f = Some f.input.index
 value selectors.OutputIndex f = option_map (λ i. i.index) f.output
@@ -97,10 +99,10 @@ value selectors.CtState f = ct_state f.ct
 value selectors.CtDirection f = of_connection (λ c. direction_number c.direction) f.ct
 value selectors.CtStatus f = of_connection status_bits f.ct
 
--- ---- joined selectors
+-- ---- concatenations
 
--- numbers side by side behind a first one, each of so many bits, the first one highest; nothing where one of them is
--- nothing
+-- the bits of numbers of these widths one after the other, behind `high`, the first one highest; no value if
+-- one of them has none
 abbrev pub join : ℕ → List (ℕ × Option ℕ) → Option ℕ
 join high [] = Some high
 join high (part ∷ parts) = option_and_then (λ n. join (high * 2 ^ part.0 + n) parts) part.1

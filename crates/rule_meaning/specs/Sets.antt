@@ -1,11 +1,11 @@
--- Sets are sets of numbers, maps give something for numbers (nft(8), "Sets", "Maps", "Data types").
+-- Sets as sets of numbers, and maps as partial functions of numbers (nft(8), "Sets", "Maps", "Data types").
 use Rattle.std.specs.Prelude.{ℕ, nat_le, ◌&&◌, Bool, false, cond, List, [], ◌∷◌, map, Option, Some, None}
 use Rattle.std.specs.List.{list_any}
 use Rattle.std.specs.Option.{option_map, option_and_then, option_or}
 use Rattle.nft_tree.specs.declared.selector.Selector.{Selector}
 use Rattle.nft_tree.specs.declared.compared_types.ComparedType.{ComparedType}
 use Rattle.nft_tree.specs.Tree as tree
-use Rattle.nft_tree.specs.Tree.{VerdictTree, ValueTree, RangeTree, KeyTree, ElementTree, DataTree, PairTree}
+use Rattle.nft_tree.specs.Tree.{VerdictTree, ValueTree, KeyTree, ElementTree, DataTree, PairTree}
 use Rattle.nft_tree.specs.Tree.{SetRefTree, MapRefTree, SetTree, MapTree, TableTree}
 use Rattle.nft_tree.specs.ComparedTypes.{selector_compared_type, key_compared_types, map_key_compared_type}
 use Rattle.box_file.specs.Box.{PlantTree}
@@ -14,29 +14,29 @@ use Rattle.rule_names.specs.Names.{set_named, map_named, some_of}
 use Rattle.rule_meaning.specs.declared.facts.Facts.{Facts}
 use Rattle.rule_meaning.specs.Selectors.{value, join}
 
--- the box that rules stand on, and the table that they stand in
+-- the context of a rule: the box, and the rule's table
 pub record Scope : Type 0 where
   pub plant : PlantTree
   pub table : TableTree
 
--- ---- the numbers of what is written
+-- ---- the numbers that keys denote
 
--- the number lies in the span; in none it doesn't
+-- the number lies in the span
 abbrev pub spans : Option Span → ℕ → Bool
 spans None n = false
 spans (Some span) n = nat_le span.low n && nat_le n span.high
 
--- the number that a value of a type stands for
+-- the number that a value of a type denotes
 abbrev pub number_of : PlantTree → ComparedType → ValueTree → Option ℕ
 number_of plant k v = option_map (λ span. span.low) (numbers_of plant k (tree.one v))
 
--- joined values, part by part; nothing where there are more of the one than of the other
+-- the parts of a concatenation with their widths; no value if there are more of the one than of the other
 abbrev pub parts : PlantTree → List ComparedType → List ValueTree → List (ℕ × Option ℕ)
 parts plant [] [] = []
 parts plant (k ∷ ks) (v ∷ vs) = (compared_type_width k, number_of plant k v) ∷ parts plant ks vs
 parts plant _ _ = (0, None) ∷ []
 
--- the numbers that a key of these types stands for
+-- the numbers that a key of these types denotes
 abbrev pub key_numbers : PlantTree → List ComparedType → KeyTree → Option Span
 key_numbers plant (k ∷ []) (tree.single r) = numbers_of plant k r
 key_numbers plant _ (tree.single r) = None
@@ -44,7 +44,8 @@ key_numbers plant ks (tree.joined vs) = option_map one_number (join 0 (parts pla
 
 -- ---- sets
 
--- some element stands for the number
+-- some element contains the number. Overlapping elements are united; flags, size and auto-merge have no
+-- effect (own)
 abbrev pub elements_have : PlantTree → List ComparedType → List ElementTree → ℕ → Bool
 elements_have plant ks es n = list_any (λ e. spans (key_numbers plant ks e.key) n) es
 
@@ -52,12 +53,12 @@ abbrev pub declared_has : PlantTree → Option SetTree → ℕ → Bool
 declared_has plant None n = false
 declared_has plant (Some s) n = elements_have plant (key_compared_types s.key) (some_of s.elements) n
 
--- a set with a name is the table's, of the types that it is declared with; one without is of the selectors'
+-- a named set has the types that it declares, an anonymous one those of the selectors
 abbrev pub set_has : Scope → List Selector → SetRefTree → ℕ → Bool
 set_has scope ss (tree.named_set name) n = declared_has scope.plant (set_named scope.table name) n
 set_has scope ss (tree.elements es) n = elements_have scope.plant (map selector_compared_type ss) es n
 
--- ---- maps: what an element gives is read from its data, a verdict or a number
+-- ---- maps: `read` takes a verdict or a number from an element's data
 
 abbrev pub data_verdict : DataTree → Option VerdictTree
 data_verdict (tree.to_verdict v) = Some v
@@ -68,22 +69,27 @@ abbrev pub data_number : PlantTree → ComparedType → DataTree → Option ℕ
 data_number plant k (tree.to_value v) = number_of plant k v
 data_number plant k (tree.to_verdict v) = None
 
-abbrev pub pair_gives : {A : Type 0} → (DataTree → Option A) → PlantTree → ComparedType → ℕ → PairTree → Option A
+abbrev pub pair_gives : {A : Type 0} → (DataTree → Option A) → PlantTree → ComparedType → ℕ → PairTree
+    → Option A
 pair_gives read plant k n p = cond (spans (numbers_of plant k p.key) n) (read p.value) None
 
--- what an element gives that stands for the number: where several do, they give the same, or the ruleset is refused
-abbrev pub pairs_give : {A : Type 0} → (DataTree → Option A) → PlantTree → ComparedType → List PairTree → ℕ → Option A
+-- the data of the first element that contains the number (overlapping ones with different data are refused,
+-- N12)
+abbrev pub pairs_give : {A : Type 0} → (DataTree → Option A) → PlantTree → ComparedType → List PairTree → ℕ
+    → Option A
 pairs_give read plant k [] n = None
 pairs_give read plant k (p ∷ ps) n = option_or (pair_gives read plant k n p) (pairs_give read plant k ps n)
 
 abbrev pub declared_gives : {A : Type 0} → (DataTree → Option A) → PlantTree → Option MapTree → ℕ → Option A
 declared_gives read plant None n = None
-declared_gives read plant (Some m) n = pairs_give read plant (map_key_compared_type m.types) (some_of m.elements) n
+declared_gives read plant (Some m) n =
+    pairs_give read plant (map_key_compared_type m.types) (some_of m.elements) n
 
 abbrev pub map_gives : {A : Type 0} → (DataTree → Option A) → Scope → Selector → MapRefTree → ℕ → Option A
-map_gives read scope s (tree.named_map name) n = declared_gives read scope.plant (map_named scope.table name) n
+map_gives read scope s (tree.named_map name) n =
+    declared_gives read scope.plant (map_named scope.table name) n
 map_gives read scope s (tree.pairs ps) n = pairs_give read scope.plant (selector_compared_type s) ps n
 
--- what a map gives for what the selector reads
+-- the data of a map for the selector's value
 abbrev pub looked_up : {A : Type 0} → (DataTree → Option A) → Scope → Selector → MapRefTree → Facts → Option A
 looked_up read scope s m f = option_and_then (map_gives read scope s m) (value s f)

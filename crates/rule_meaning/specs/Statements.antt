@@ -1,4 +1,4 @@
--- What each statement of a rule says of a packet (nft(8), "Statements").
+-- The effect of each statement of a rule on a packet (nft(8), "Statements").
 use Rattle.std.specs.Prelude.{ℕ, Bool, true, false, length, Option, Some, None, unwrap_or}
 use Rattle.std.specs.Option.{option_map}
 use Rattle.nft_tree.specs.declared.selector.Selector.{Selector}
@@ -12,7 +12,7 @@ use Rattle.nft_tree.specs.declared.nat.PortRange.{PortRange}
 use Rattle.nft_tree.specs.declared.nat.PortRange.TheVariants as port_ranges
 use Rattle.nft_tree.specs.Tree as tree
 use Rattle.nft_tree.specs.Tree.{Text, VerdictTree, MapLookupTree, OperandTree, SourceTree, DestinationTree, NatTree}
-use Rattle.nft_tree.specs.Tree.{MatchTree, Statement, TableTree}
+use Rattle.nft_tree.specs.Tree.{Statement, TableTree}
 use Rattle.nft_tree.specs.TableItems.{chains_of}
 use Rattle.rule_names.specs.Names.{index_in, chain_names}
 use Rattle.rule_meaning.specs.declared.facts.Facts.{Facts}
@@ -30,29 +30,29 @@ use Rattle.rule_meaning.specs.Selectors.{value}
 use Rattle.rule_meaning.specs.Sets.{Scope, looked_up, data_verdict, data_number}
 use Rattle.rule_meaning.specs.Matches.{holds}
 
--- what a statement says
+-- the effect of a statement
 pub data StatementEffect : Type 0 where
-  -- the next statement follows
+  -- the next statement runs
   pass : StatementEffect
-  -- the rule is over, the next one follows
+  -- the rule ends, and the next one runs
   fail : StatementEffect
-  -- something happens, and what rules may read is this from now on; the next statement follows
+  -- an event; the next statement runs with these facts
   note : (event : Event) (facts : Facts) → StatementEffect
-  -- the rule decides
+  -- the rule gives a verdict
   give : (verdict : RuleVerdict) → StatementEffect
 
 abbrev pub passes_if : Bool → StatementEffect
 passes_if true = pass
 passes_if false = fail
 
--- a statement without the value that it asks for fails
+-- a statement fails if its operand has no value
 abbrev pub with_value : {A : Type 0} → (A → StatementEffect) → Option A → StatementEffect
-with_value statement_effect None = fail
-with_value statement_effect (Some x) = statement_effect x
+with_value effect None = fail
+with_value effect (Some x) = effect x
 
 -- ---- verdicts
 
--- a chain by its number; a name that no chain has is none's
+-- the index of the chain with the name; for an unknown name, one past the last
 abbrev pub chain_number : TableTree → Text → ℕ
 chain_number t name = unwrap_or (index_in name (chain_names t)) (length (chains_of t))
 
@@ -70,7 +70,7 @@ abbrev pub mark_selector : MarkField → Selector
 mark_selector marks.Meta = selectors.MetaMark
 mark_selector marks.Ct = selectors.CtMark
 
--- what a map gives for what a selector reads, as a number of the type
+-- the number, of this type, that a map has for a selector's value
 abbrev pub look_number : Scope → ValueType → MapLookupTree → Facts → Option ℕ
 look_number scope t l f = looked_up (data_number scope.plant (Named t)) scope l.selector l.map f
 
@@ -79,7 +79,7 @@ operand_number scope (tree.constant n) f = Some n
 operand_number scope (tree.mark_of field) f = value (mark_selector field) f
 operand_number scope (tree.looked_up l) f = look_number scope types.Mark l f
 
--- the connection's mark is written where there is a connection; where there is none nothing is done
+-- `ct mark set` writes the connection's mark if there is a connection, and else does nothing (own)
 abbrev pub writes_connection : Facts → CtFacts → ℕ → StatementEffect
 writes_connection f (ct.Known c) n =
     note (events.Marked marks.Ct n) (record f { ct = ct.Known (record c { mark = n }) })
@@ -91,12 +91,12 @@ writes marks.Ct f n = writes_connection f f.ct n
 
 -- ---- notrack
 
--- a packet whose connection hasn't been looked for yet has none looked for; behind that place it is too late
+-- `notrack` prevents the conntrack lookup that is yet to come; after the lookup it does nothing
 abbrev pub sets_notrack : Facts → CtFacts → StatementEffect
 sets_notrack f ct.NotLookedUp = note events.Untracked (record f { ct = ct.Notrack })
 sets_notrack f _ = pass
 
--- ---- translation
+-- ---- NAT
 
 abbrev pub ports_of : PortRange → PortInterval
 ports_of (port_ranges.One n) = record { low = n; high = n }
@@ -125,8 +125,10 @@ statement_effect scope statement_position (tree.matching m) f = passes_if (holds
 statement_effect scope statement_position (tree.counter start) f = note (events.Counted statement_position) f
 statement_effect scope statement_position (tree.log text) f = note (events.Logged statement_position) f
 statement_effect scope statement_position tree.notrack f = sets_notrack f f.ct
-statement_effect scope statement_position (tree.set_mark field operand) f = with_value (writes field f) (operand_number scope operand f)
+statement_effect scope statement_position (tree.set_mark field operand) f =
+    with_value (writes field f) (operand_number scope operand f)
 statement_effect scope statement_position (tree.verdict_map s m) f =
     with_value (λ v. give (rule_verdict_of scope.table v)) (looked_up data_verdict scope s m f)
 statement_effect scope statement_position (tree.verdict v) f = give (rule_verdict_of scope.table v)
-statement_effect scope statement_position (tree.nat n) f = with_value (λ t. give (rule_verdicts.Translate t)) (nat_action_of scope n f)
+statement_effect scope statement_position (tree.nat n) f =
+    with_value (λ t. give (rule_verdicts.Translate t)) (nat_action_of scope n f)

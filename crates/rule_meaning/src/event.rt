@@ -1,22 +1,22 @@
-//! What rules decide, what happens on the way, and how it ends.
+//! Verdicts of rules, events, and results of base chains.
 use crate::facts::Facts;
 use nft_tree::{MarkField, Policy, RuleNo};
 
-/// The place of a chain: its table, and its number among the chains of the table, both from 0.
+/// The position of a chain: its table, and its index among the table's chains, both from 0.
 #[derive(Clone, Copy)]
 pub struct ChainNo {
     pub table: u32,
     pub chain: u32,
 }
 
-/// The place of a statement: its rule, and its number within the rule, from 1.
+/// The position of a statement: its rule, and its number within the rule, from 1.
 #[derive(Clone, Copy)]
 pub struct StatementPosition {
     pub rule: RuleNo,
     pub statement: u32,
 }
 
-/// What a rule decides of a packet. Chains go by their number within the table, from 0.
+/// The verdict of a rule. Chains are given by their index within the table, from 0.
 #[derive(Clone, Copy, PartialEq, Eq)]
 pub enum RuleVerdict {
     Accept,
@@ -28,58 +28,58 @@ pub enum RuleVerdict {
     Translate(NatAction),
 }
 
-/// What a statement translates a packet to.
+/// What a NAT statement requests.
 #[derive(Clone, Copy, PartialEq, Eq)]
 pub enum NatAction {
-    /// `snat`: the source, to an address and, if any are given, one of the ports.
+    /// `snat`: the source becomes the address and, if ports are given, one of them.
     Source(u32, Option<PortInterval>),
-    /// `dnat`: the destination, to an address and, if one is given, a port.
+    /// `dnat`: the destination becomes the address and, if one is given, the port.
     Destination(u32, Option<u16>),
-    /// `masquerade`: the source, to the address of the interface that it leaves by.
+    /// `masquerade`: the source becomes the address of the output interface.
     Masquerade(Option<PortInterval>),
-    /// `redirect`: the destination, to the address of the interface that it entered by.
+    /// `redirect`: the destination becomes the address of the input interface.
     Redirect(Option<u16>),
 }
 
-/// The ports from one to another, both included.
+/// The ports from `low` to `high`, both included.
 #[derive(Clone, Copy, PartialEq, Eq)]
 pub struct PortInterval {
     pub low: u16,
     pub high: u16,
 }
 
-/// What happens while rules run.
+/// An event while rules run.
 #[derive(Clone, Copy)]
 pub enum Event {
     /// A counter counted the packet.
     Counted(StatementPosition),
-    /// A `log` statement told of it.
+    /// A `log` statement logged it.
     Logged(StatementPosition),
-    /// A `notrack` statement had it pass untracked.
+    /// A `notrack` statement took effect: there will be no conntrack lookup.
     Untracked,
-    /// A mark was written.
+    /// A mark was set.
     Marked(MarkField, u32),
-    /// A rule decided.
+    /// A rule gave a verdict.
     TookVerdict(RuleNo, RuleVerdict),
-    /// A base chain came to its end, and its policy was taken.
+    /// A packet reached the end of a base chain, whose policy applies.
     TookPolicy(ChainNo, Policy),
 }
 
-/// How a base chain ends.
+/// The verdict of a base chain.
 #[derive(Clone, Copy)]
 pub enum HookVerdict {
-    /// The packet goes on to the next base chain.
+    /// The packet continues with the next base chain.
     Accepted,
-    /// It goes no further.
+    /// The packet is dropped.
     Dropped,
-    /// It is translated.
+    /// A NAT statement applies to the packet.
     Translated(NatAction),
 }
 
-/// How a base chain ends, and what rules may read from then on.
+/// The result of a base chain: its verdict, and the facts from then on.
 #[derive(Clone, Copy)]
 pub struct ChainResult {
     pub verdict: HookVerdict,
-    /// With the marks that were written.
+    /// With the marks that were set.
     pub facts: Facts,
 }

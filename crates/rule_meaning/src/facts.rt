@@ -1,29 +1,29 @@
-//! What rules may read.
+//! What rules can read of a packet.
 use ip_headers::Transport;
 
-/// All that rules may read of a packet.
+/// Everything that rules can read of a packet.
 #[derive(Clone, Copy)]
 pub struct Facts {
     pub packet: Packet,
-    /// The interface that the packet entered by.
+    /// The input interface.
     pub input: Interface,
-    /// The interface that it leaves by; none where that isn't known yet, or it is for the box.
+    /// The output interface; `None` before routing, and for packets to the box itself.
     pub output: Option<Interface>,
     /// The packet's mark.
     pub mark: u32,
     pub ct: CtFacts,
 }
 
-/// The fields of a packet's headers, as translated so far.
+/// The header fields of a packet, as translated so far.
 #[derive(Clone, Copy)]
 pub struct Packet {
-    /// The source address, its first group the highest byte.
+    /// The source address, big-endian: its first octet is the highest byte.
     pub source: u32,
-    /// The destination address, its first group the highest byte.
+    /// The destination address, big-endian.
     pub destination: u32,
-    /// The number of its protocol.
+    /// The protocol number.
     pub protocol: u8,
-    /// The time to live, as lowered so far.
+    /// The time to live, as decremented so far.
     pub ttl: u8,
     /// The total length, in bytes.
     pub length: u16,
@@ -33,57 +33,57 @@ pub struct Packet {
 /// An interface.
 #[derive(Clone, Copy)]
 pub struct Interface {
-    /// Its index, as the kernel counts interfaces.
+    /// Its interface index (ifindex).
     pub index: u32,
-    /// Its name as a number of 16 bytes: the name's, the first one highest, and zeros behind them.
+    /// Its name, padded with zeros to 16 bytes, as a big-endian number.
     pub name: u128,
 }
 
-/// What is known of a packet's connection.
+/// What rules can read of a packet's connection.
 #[derive(Clone, Copy)]
 pub enum CtFacts {
-    /// Nothing: it hasn't been looked for yet.
+    /// Nothing: the conntrack lookup is yet to come.
     NotLookedUp,
-    /// Nothing: it isn't to be looked for.
+    /// Nothing: a `notrack` statement has ruled out the lookup to come.
     Notrack,
-    /// Nothing: it wasn't looked for.
+    /// The lookup was skipped: `ct state untracked`.
     Untracked,
-    /// The packet belongs to none and begins none.
+    /// The packet belongs to no connection and creates none: `ct state invalid`.
     Invalid,
-    /// The packet belongs to one, begins one, or tells of an error of one.
+    /// The packet belongs to a connection, creates one, or is an ICMP error about one.
     Known(ConnectionFacts),
 }
 
-/// A packet's connection.
+/// What rules can read of a packet's connection, where there is one.
 #[derive(Clone, Copy)]
 pub struct ConnectionFacts {
     pub state: CtState,
     pub direction: CtDirection,
     /// The connection's mark.
     pub mark: u32,
-    /// A packet of the direction reply has been seen.
+    /// A packet in reply direction has been seen (IPS_SEEN_REPLY).
     pub seen_reply: bool,
-    /// Its source is translated.
+    /// Its source is translated (IPS_SRC_NAT).
     pub source_translated: bool,
-    /// Its destination is translated.
+    /// Its destination is translated (IPS_DST_NAT).
     pub destination_translated: bool,
 }
 
-/// How a packet stands to its connection.
+/// The `ct state` of a packet with a connection.
 #[derive(Clone, Copy)]
 pub enum CtState {
     /// Packets have been seen in both directions.
     Established,
-    /// It tells of an error of the connection.
+    /// The packet is an ICMP error about the connection.
     Related,
-    /// It begins the connection, or none has answered it yet.
+    /// The packet creates the connection, or there was no reply yet.
     New,
 }
 
-/// The directions of a connection.
+/// The direction of a packet within its connection.
 #[derive(Clone, Copy)]
 pub enum CtDirection {
-    /// That of the packet that began it.
+    /// That of the connection's first packet.
     Original,
     Reply,
 }

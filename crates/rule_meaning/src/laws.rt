@@ -1,4 +1,4 @@
-//! Laws of what rules mean, each as the contract of a function that does nothing.
+//! Properties of the semantics of rules, each as the contract of a function that does nothing.
 ghost use Rattle.std.specs.Prelude.{◌≡◌, ◌↔◌, ℕ, Bool, false, List, ◌∷◌, Contains, Option, None};
 ghost use Rattle.nft_tree.specs.declared.chain.Hook.{Hook};
 ghost use Rattle.nft_tree.specs.declared.selector.Selector.{Selector};
@@ -13,18 +13,18 @@ ghost use Rattle.rule_meaning.specs.Runs.{Program};
 ghost use Rattle.rule_meaning.specs.Hooks.{BaseChain, InOrder, HookResult, RunsBaseChain, Continues, Stops, NoChain, InTurn, Chains, PreroutingRaw, Prerouting, Input, Forward, Postrouting, Translating};
 ghost use Rattle.rule_meaning.specs.Laws.{AtMostOneRun, AtMostOneResult, step_of, selectors_of, EmptyJump, CounterCounts, UnreachedHasNoEffect};
 
-/// What is left of a chain leads to one thing at most, whatever the program.
+/// Running the remainder of a chain is deterministic.
 pub fn run_unique()
     ensures { (p : Program Statement) → AtMostOneRun p }
 {}
 
-/// The same of programs of any other statements.
+/// The same for programs over any other type of statements.
 pub fn run_unique_for<S>()
     ensures { (p : Program S) → AtMostOneRun p }
 {}
 
-/// Base chains have one order at most, and each of them, base chains in turn and hooks have one end
-/// at most; hooks with a translation step that has one at most have so too.
+/// The order of base chains is unique, and base chains, sequences of them and hooks have at most
+/// one result; hooks around a NAT step too, if that has at most one.
 pub fn hook_result_unique()
     ensures order { (text order other : List BaseChain) → InOrder text order → InOrder text other
         → order ≡ other }
@@ -54,34 +54,38 @@ pub fn hook_result_unique()
         → AtMostOneResult (Translating hook plant tables) }
 {}
 
-/// A match doesn't hold where one of the selectors that it reads reads nothing.
+/// A match fails if one of its selectors has no value.
 pub fn match_needs_value()
-    ensures { (scope : Scope) (m : MatchTree) (s : Selector) (f : Facts) → Contains (selectors_of m) s
+    ensures { (scope : Scope) (m : MatchTree) (s : Selector) (f : Facts)
+        → Contains (selectors_of m) s
         → value s f ≡ None → holds scope m f ≡ false }
 {}
 
-/// A base chain that ends in a drop or in a translation ends all.
+/// After a base chain that drops or translates, no further one runs.
 pub fn drop_ends_hook()
-    ensures { (plant : PlantTree) (tables : List TableTree) (b : BaseChain) (bs : List BaseChain) (f : Facts)
-        (es : List Event) (between hook_result : HookResult) → RunsBaseChain plant tables b f es between
-        → Stops between.verdict → InTurn plant tables (b ∷ bs) f es hook_result ↔ (hook_result ≡ between) }
+    ensures { (plant : PlantTree) (tables : List TableTree) (b : BaseChain) (bs : List BaseChain)
+        (f : Facts) (es : List Event) (between hook_result : HookResult)
+        → RunsBaseChain plant tables b f es between → Stops between.verdict
+        → InTurn plant tables (b ∷ bs) f es hook_result ↔ (hook_result ≡ between) }
 {}
 
-/// A base chain that ends in an accept ends by itself: the others go on from there.
+/// After a base chain that accepts, the next ones run with its facts and events.
 pub fn accept_ends_chain()
-    ensures { (plant : PlantTree) (tables : List TableTree) (b : BaseChain) (bs : List BaseChain) (f : Facts)
-        (es : List Event) (between hook_result : HookResult) → RunsBaseChain plant tables b f es between
-        → Continues between.verdict → InTurn plant tables (b ∷ bs) f es hook_result
+    ensures { (plant : PlantTree) (tables : List TableTree) (b : BaseChain) (bs : List BaseChain)
+        (f : Facts) (es : List Event) (between hook_result : HookResult)
+        → RunsBaseChain plant tables b f es between → Continues between.verdict
+        → InTurn plant tables (b ∷ bs) f es hook_result
         ↔ InTurn plant tables bs between.facts between.events hook_result }
 {}
 
-/// A jump to a chain without rules leaves nothing but its event.
+/// A jump to a chain without rules has no effect but its event.
 pub fn empty_chain_jump()
     ensures { (p : Program Statement) → EmptyJump p }
 {}
 
-/// A counter counts exactly the packets that come through all statements before it in its rule.
+/// A counter counts exactly the packets that pass all statements before it in its rule.
 pub fn counters_count()
     ensures seen { (plant : PlantTree) (number : ℕ) (t : TableTree) → CounterCounts plant number t }
-    ensures unseen { (plant : PlantTree) (number : ℕ) (t : TableTree) → UnreachedHasNoEffect plant number t }
+    ensures unseen { (plant : PlantTree) (number : ℕ) (t : TableTree)
+        → UnreachedHasNoEffect plant number t }
 {}

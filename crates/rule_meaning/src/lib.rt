@@ -1,6 +1,6 @@
-//! What rules mean: what they read of a packet, what each statement says, how chains run and hooks
-//! are passed. The definitions stand in `specs/`; here are the words that they share with the code:
-//! facts, decisions, events and outcomes.
+//! The semantics of rules: what selectors read, what statements do, how chains run and hooks are
+//! traversed. The definitions are in `specs/`; the code has the types that they share with the
+//! implementation.
 #![tactic(auto)]
 
 mod event;

@@ -1,4 +1,4 @@
--- An item more in a table.
+-- One more item in a table.
 use Rattle.std.proofs.Common.{◌≡◌, ℕ, ◌+◌, ◌<◌, List, [], ◌∷◌, ◌++◌, Bool, true, false, length, get_or, map, take, drop, sym, ap, ap₂, ◌∙◌, subst, inl, inr, ⊎_elim}
 use Rattle.std.specs.Borrow.{Bor}
 use Rattle.std.specs.List.{filter_map}
@@ -21,13 +21,13 @@ use Rattle.rule_names.proofs.Items.{sets-repeat, maps-repeat}
 use Rattle.rule_names.proofs.Lists.{map-around}
 use Rattle.rule_names.proofs.Duplicates.{repeats-on}
 
--- what follows names that repeat
+-- a list with a duplicate has one when it is longer
 pub repeats-in-on : (items more : List ItemTree) → HasDuplicateIn items → HasDuplicateIn (items ++ more)
 repeats-in-on items more = ⊎_elim
     (λ r. inl (simp (filter_map-append, map-append) (repeats-on (map (λ c. c.name) (filter_map chain_in items)) (map (λ c. c.name) (filter_map chain_in more)) r)))
     (λ r. inr (simp filter_map-append (repeats-on (filter_map set_or_map_name items) (filter_map set_or_map_name more) r)))
 
--- of one kind
+-- items of one kind
 module _ {T X : Type 0} (view : T → X) (name_of : X → Text) (xs : List X) (all : List (Bor T)) (names : List Text) (known : AreNamed view name_of xs all names) (a : Bor T) (name : Text) (is : name ≡ name_of (view a.now)) where
   names-more : names ++ name ∷ [] ≡ map name_of (xs ++ view a.now ∷ [])
   names-more = ap₂ (λ ns n. ns ++ n ∷ []) known.named is ∙ sym (map-append name_of xs (view a.now ∷ []))
@@ -62,7 +62,7 @@ module _ (items : List ItemTree) (old : NamedItems) (held : Represents items old
   }
   chain-added c name is new false added = inl (simp filter_map-append (named-duplicate chain_tree (λ c. c.name) _ _ _ held.chains c name is added.1))
 
-  -- a name that sets and maps share
+  -- the names that sets and maps share
   shared-more : (shared name : Text) → shared ≡ name → old.sets_and_maps ++ shared ∷ [] ≡ filter_map set_or_map_name items ++ name ∷ []
   shared-more shared name is = ap₂ (λ ns n. ns ++ n ∷ []) held.both is
 
@@ -91,7 +91,7 @@ module _ (items : List ItemTree) (old : NamedItems) (held : Represents items old
   map-added m shared own is is_own both new_both new false added =
       inr (maps-repeat (items ++ tree.map_item (map_tree m.now) ∷ []) (simp filter_map-append (named-duplicate map_tree (λ m. m.name) _ _ _ held.maps m own is_own added.1)))
 
--- of a table that is read in text order
+-- items in text order
 module _ (items : List Item) (i : ℕ) (x : Item) (inside : i < length items) (is : x ≡ get_or items i x) (n : NamedItems) (fresh : Bool) where
   pub item-held : fresh ≡ true → RepresentsOrHasDuplicate (map item_tree (take i items) ++ item_tree x ∷ []) n fresh → Represents (map item_tree (take (i + 1) items)) n
   item-held t h = subst (λ xs. Represents xs n) (sym (map-more item_tree items i x inside is)) (subst (RepresentsOrHasDuplicate (map item_tree (take i items) ++ item_tree x ∷ []) n) t h)

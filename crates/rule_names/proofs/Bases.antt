@@ -1,4 +1,4 @@
--- The base chain of a name.
+-- Looking up a base chain.
 use Rattle.std.proofs.Common.{◌≡◌, List, [], ◌∷◌, Bool, true, false, ◌||◌, ◌&&◌, cond, Option, Some, None, map, sym, refl, ap, ◌∙◌, subst, ⊎_elim, arith}
 use Rattle.std.specs.Prelude.{is_some}
 use Rattle.std.specs.List.{list_any}
@@ -10,7 +10,7 @@ use Rattle.std.proofs.Math.Bool.{or-false}
 use Rattle.nft_tree.specs.Tree.{Text, ChainTree}
 use Rattle.rule_names.specs.Names.{HasDuplicate}
 use Rattle.rule_names.proofs.Duplicates.{Among, among-more, repeats-here, repeats-more}
-use Rattle.rule_names.proofs.Places.{first_named}
+use Rattle.rule_names.proofs.IndexLookup.{first_named}
 
 -- the chain is a base chain
 abbrev pub is_base : Option ChainTree → Bool
@@ -42,7 +42,7 @@ pub base-step : (b : Bool) (c : ChainTree) (rest : Bool) (o : Option ChainTree) 
 base-step true c rest o e f = ap (λ r. is_some c.head || r) (f refl) ∙ or-false (is_some c.head)
 base-step false c rest o e f = e
 
--- where no name stands twice, a base chain has the name if the chain of that name is one
+-- without duplicate names, a base chain has the name exactly if the chain with that name is one
 pub any-base : (cs : List ChainTree) (name : Text) → (HasDuplicate (names cs) → ⊥) → list_any (base_named name) cs ≡ is_base (first_named (λ c. c.name) name cs)
 any-base [] name apart = refl
 any-base (c ∷ cs) name apart =

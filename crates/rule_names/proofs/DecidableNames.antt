@@ -1,4 +1,4 @@
--- Whether a name stands twice is decided.
+-- Whether some name is declared twice is decidable.
 use Rattle.std.proofs.Common.{◌≡◌, ◌⊎◌, List, [], ◌∷◌, Bool, true, false, refl, inl, inr, ⊎_elim, Contains}
 use Rattle.std.specs.List.{list_any}
 use Rattle.std.specs.Str.{bytes_eq}

@@ -1,4 +1,4 @@
--- Names that stand twice.
+-- Duplicate names in lists.
 use Rattle.std.proofs.Common.{◌≡◌, ◌⊎◌, ℕ, zero, suc, ◌<◌, List, [], ◌∷◌, ◌++◌, Bool, true, false, ◌||◌, not, length, get_or, sym, refl, ap, ◌∙◌, inl, inr, ⊎_elim, subst, arith}
 use Rattle.std.specs.Prelude.{if◌then◌else◌}
 use Rattle.std.specs.Borrow.{Bor}
@@ -13,7 +13,7 @@ use Rattle.rule_names.specs.Names.{HasDuplicate}
 use Rattle.rule_names.specs.steps.Index.{IsAdded, texts}
 use Rattle.rule_names.proofs.Texts.{named}
 
--- the name stands in the list
+-- the list contains the name
 pub record Among (names : List Text) (name : Text) : Type 0 where
   pub index : ℕ
   pub within : index < length names
@@ -49,7 +49,7 @@ repeats-split n names r = repeats-at n names r.first r.second r.apart r.within r
 pub repeats-none : HasDuplicate [] → ⊥
 repeats-none r = let w = r.within in omega arith
 
--- ---- a name more
+-- ---- one more name
 
 pub any-named : (names : List Text) (name : Text) → list_any (bytes_eq name) names ≡ true → Among names name
 any-named [] name t = cc
@@ -114,7 +114,7 @@ repeats-on names more r =
       same = get_or_append_left names more [] r.first (omega arith) ∙ r.same ∙ sym (get_or_append_left names more [] r.second w);
     }
 
--- a key more
+-- one more key
 pub key-added : (keys new : List (Bor Text)) (key : Bor Text) (stands fresh : Bool) → list_any (named key.now) keys ≡ stands → fresh ≡ not stands → new ≡ (if stands then keys else keys ++ key ∷ []) → (HasDuplicate (texts keys) → ⊥) → IsAdded (texts keys) key.now (texts new) fresh × (HasDuplicate (texts new) → ⊥)
 key-added keys new key true fresh t f is apart = (
   subst (IsAdded (texts keys) key.now (texts new)) (sym f) (among-front (texts keys) key.now [] (any-named (texts keys) key.now (sym (any_of_map (bytes_eq key.now) (λ k. k.now) keys) ∙ t))),

@@ -1,4 +1,4 @@
--- A set or a map that stands twice stands twice among sets and maps.
+-- A duplicate set or a duplicate map is a duplicate among sets and maps.
 use Rattle.std.proofs.Common.{List, [], ◌∷◌, map, sym, subst, ⊎_elim}
 use Rattle.std.specs.List.{filter_map}
 use Rattle.nft_tree.specs.Tree as tree

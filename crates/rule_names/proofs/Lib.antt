@@ -1,7 +1,7 @@
 pub mod Texts
 pub mod Duplicates
 pub mod Lists
-pub mod Places
+pub mod IndexLookup
 pub mod Items
 pub mod Additions
 pub mod Bases

@@ -1,4 +1,4 @@
--- Names that stand twice in a ruleset.
+-- Duplicate names in a ruleset.
 use Rattle.std.proofs.Common.{◌≡◌, ℕ, ◌+◌, ◌<◌, Bool, true, false, List, [], ◌∷◌, ◌++◌, cond, length, get_or, map, take, drop, Option, Some, None, Result, Ok, Err, refl, sym, ap, ◌∙◌, subst, ⊎_elim}
 use denote.Enum.Bare.{sameb}
 use Rattle.std.specs.Prelude.{All, IsTrue, IfOk, IfSome, MatchOption}
@@ -18,9 +18,9 @@ use Rattle.rule_names.proofs.Duplicates.{repeats-on}
 pub is-not-true : (b : Bool) → b ≡ false → IsTrue b → ⊥
 is-not-true b e h = let q : true ≡ false = sym h ∙ e in cc
 
--- ---- a table more
+-- ---- one more table
 
--- what `==` gives
+-- the result of `==`
 pub same-family : (f g : Family) → sameb the_type f g ≡ same_family f g
 same-family families.Ip families.Ip = refl
 same-family families.Inet families.Inet = refl
@@ -48,7 +48,7 @@ module _ (family : Family) (tables : List Table) (i : ℕ) (x : Table) (inside :
 -- ---- all tables
 
 pub some-duplicate : (tables : List TableTree) → SomeTableHasDuplicate tables → DuplicateName tables
-some-duplicate tables s = ⊎_elim (λ r. two_chains s.table s.stands r) (λ r. two_sets_or_maps s.table s.stands r) s.duplicate
+some-duplicate tables s = ⊎_elim (λ r. two_chains s.table s.member r) (λ r. two_sets_or_maps s.table s.member r) s.duplicate
 
 pub none-duplicate : (tables : List TableTree) → (HasDuplicate (table_names families.Ip tables) → ⊥) → (HasDuplicate (table_names families.Inet tables) → ⊥) → All HasUniqueNames tables → DuplicateName tables → ⊥
 none-duplicate tables ip inet all (two_tables families.Ip r) = ip r

@@ -1,4 +1,4 @@
--- Tests over lists that are made of lists.
+-- `any` over lists of lists.
 use Rattle.std.proofs.Common.{◌≡◌, Bool, true, false, ◌||◌, List, [], ◌∷◌, Option, Some, None, sym, refl, ap, ◌∙◌}
 use Rattle.std.specs.Prelude.{flat_map}
 use Rattle.std.specs.List.{list_any, filter_map, cons_option}

@@ -1,4 +1,4 @@
--- Names that are the same, and their places.
+-- Equal names, and indices of names.
 use Rattle.std.proofs.Common.{◌≡◌, ℕ, suc, ◌+◌, List, [], ◌∷◌, Bool, true, false, cond, Option, Some, None, sym, refl, ap, ◌∙◌, arith}
 use Rattle.std.specs.Prelude.{position, nat_eq}
 use Rattle.std.specs.Borrow.{Bor}

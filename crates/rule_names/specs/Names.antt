@@ -1,4 +1,5 @@
--- Names of tables, chains, sets and maps, and where a ruleset uses them (nft(8), "Tables", "Chains", "Sets", "Maps").
+-- Names of tables, chains, sets and maps, and references to them (nft(8), "Tables", "Chains", "Sets",
+-- "Maps").
 use Rattle.std.specs.Prelude.{◌≡◌, ℕ, suc, ◌<◌, ◌&&◌, cond, Bool, true, false, not, List, [], ◌∷◌, length, get_or, map}
 use Rattle.std.specs.Prelude.{filter, find, flat_map, Contains, Option, Some, None, is_some}
 use Rattle.std.specs.List.{filter_map, list_any}
@@ -7,13 +8,13 @@ use Rattle.std.specs.Str.{bytes_eq}
 use Rattle.nft_tree.specs.declared.ruleset.Family.{Family}
 use Rattle.nft_tree.specs.declared.ruleset.Family.TheVariants as families
 use Rattle.nft_tree.specs.Tree as tree
-use Rattle.nft_tree.specs.Tree.{Text, VerdictTree, DataTree, PairTree, MapRefTree, SetRefTree, MatchTree, OperandTree}
-use Rattle.nft_tree.specs.Tree.{NatTree, Statement, RuleTree, ChainTree, SetTree, MapTree, ItemTree, TableTree}
+use Rattle.nft_tree.specs.Tree.{Text, VerdictTree, DataTree, PairTree, MapRefTree, SetRefTree}
+use Rattle.nft_tree.specs.Tree.{Statement, RuleTree, ChainTree, SetTree, MapTree, ItemTree, TableTree}
 use Rattle.nft_tree.specs.TableItems.{chains_of, sets_of, maps_of}
 
--- ---- N01: names that stand twice
+-- ---- N01: duplicate names (own: nft merges declarations of the same name)
 
--- two places of a list hold the same name
+-- two elements of the list are the same name
 pub record HasDuplicate (names : List Text) : Type 0 where
   pub first : ℕ
   pub second : ℕ
@@ -24,8 +25,7 @@ pub record HasDuplicate (names : List Text) : Type 0 where
 abbrev pub same_family : Family → Family → Bool
 same_family families.Ip families.Ip = true
 same_family families.Inet families.Inet = true
-same_family families.Ip families.Inet = false
-same_family families.Inet families.Ip = false
+same_family _ _ = false
 
 -- the names of the tables of a family
 abbrev pub table_names : Family → List TableTree → List Text
@@ -44,25 +44,25 @@ map_names t = map (λ m. m.name) (maps_of t)
 abbrev pub set_or_map_name : ItemTree → Option Text
 set_or_map_name (tree.set s) = Some s.name
 set_or_map_name (tree.map_item m) = Some m.name
-set_or_map_name (tree.comment text) = None
-set_or_map_name (tree.chain c) = None
+set_or_map_name _ = None
 
--- sets and maps of a table share their names
+-- sets and maps of a table share a namespace
 abbrev pub set_and_map_names : TableTree → List Text
 set_and_map_names t = filter_map set_or_map_name t.items
 
--- two tables of one family have one name; so have two chains of a table, or two sets or maps of a table
+-- two tables of one family have the same name, or two chains of a table, or two sets or maps of a table
 pub data DuplicateName (tables : List TableTree) : Type 0 where
   two_tables : (family : Family) → HasDuplicate (table_names family tables) → DuplicateName tables
   two_chains : (t : TableTree) → Contains tables t → HasDuplicate (chain_names t) → DuplicateName tables
-  two_sets_or_maps : (t : TableTree) → Contains tables t → HasDuplicate (set_and_map_names t) → DuplicateName tables
+  two_sets_or_maps : (t : TableTree) → Contains tables t → HasDuplicate (set_and_map_names t)
+      → DuplicateName tables
 
--- ---- what has a name
+-- ---- lookup by name
 
 abbrev pub chain_named : TableTree → Text → Option ChainTree
 chain_named t name = find (λ c. bytes_eq c.name name) (chains_of t)
 
--- the first place of a name in a list
+-- the index of the first occurrence of a name
 abbrev pub index_in : Text → List Text → Option ℕ
 index_in name [] = None
 index_in name (n ∷ ns) = cond (bytes_eq n name) (Some 0) (option_map suc (index_in name ns))
@@ -88,7 +88,7 @@ data_target (tree.to_value v) = None
 abbrev pub pair_targets : List PairTree → List Text
 pair_targets ps = filter_map (λ p. data_target p.value) ps
 
--- of a map without a name; one with a name stands for itself
+-- those of an anonymous map; a named map is an item of its own
 abbrev pub map_ref_targets : MapRefTree → List Text
 map_ref_targets (tree.named_map name) = []
 map_ref_targets (tree.pairs ps) = pair_targets ps
@@ -97,7 +97,7 @@ abbrev pub one_or_none : Option Text → List Text
 one_or_none None = []
 one_or_none (Some name) = name ∷ []
 
--- the names that a statement jumps or goes to, itself or in the data of its map
+-- the chains that a statement jumps or goes to, directly or by the data of an anonymous map
 abbrev pub statement_targets : Statement → List Text
 statement_targets (tree.verdict v) = one_or_none (target_of v)
 statement_targets (tree.verdict_map s m) = map_ref_targets m
@@ -116,14 +116,13 @@ some_of (Some xs) = xs
 abbrev pub item_targets : ItemTree → List Text
 item_targets (tree.chain c) = flat_map rule_targets c.rules
 item_targets (tree.map_item m) = pair_targets (some_of m.elements)
-item_targets (tree.comment text) = []
-item_targets (tree.set s) = []
+item_targets _ = []
 
--- all names that a table jumps or goes to: in its rules and in the data of its maps, also of those that no rule uses
+-- all chains that a table's rules and maps jump or go to, also those of maps that no rule uses
 abbrev pub targets_of : TableTree → List Text
 targets_of t = flat_map item_targets t.items
 
--- N02: a jump or a goto to a name that is no chain of the table
+-- N02: a jump or goto to a name that is no chain of the table
 abbrev pub jumps_to_unknown_chain : TableTree → Bool
 jumps_to_unknown_chain t = list_any (λ name. not (is_some (chain_named t name))) (targets_of t)
 
@@ -131,11 +130,11 @@ jumps_to_unknown_chain t = list_any (λ name. not (is_some (chain_named t name))
 abbrev pub is_base_chain : TableTree → Text → Bool
 is_base_chain t name = list_any (λ c. bytes_eq c.name name && is_some c.head) (chains_of t)
 
--- N07: a jump or a goto to a base chain
+-- N07: a jump or goto to a base chain
 abbrev pub jumps_to_base_chain : TableTree → Bool
 jumps_to_base_chain t = list_any (is_base_chain t) (targets_of t)
 
--- ---- sets and maps by their names
+-- ---- references to sets and maps
 
 abbrev pub set_ref_names : SetRefTree → List Text
 set_ref_names (tree.named_set name) = name ∷ []
@@ -145,7 +144,7 @@ abbrev pub map_ref_names : MapRefTree → List Text
 map_ref_names (tree.named_map name) = name ∷ []
 map_ref_names (tree.pairs ps) = []
 
--- the names behind `@` in a statement
+-- the names after `@` in a statement
 abbrev pub statement_references : Statement → List Text
 statement_references (tree.matching (tree.is_in ss set)) = set_ref_names set
 statement_references (tree.matching (tree.not_in ss set)) = set_ref_names set
@@ -168,6 +167,6 @@ references_of t = flat_map item_references t.items
 abbrev pub is_set_or_map : TableTree → Text → Bool
 is_set_or_map t name = list_any (bytes_eq name) (set_and_map_names t)
 
--- N03: a name behind `@` that is no set or map of the table
+-- N03: a name after `@` that is no set or map of the table
 abbrev pub refers_to_unknown_set : TableTree → Bool
 refers_to_unknown_set t = list_any (λ name. not (is_set_or_map t name)) (references_of t)

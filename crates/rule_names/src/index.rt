@@ -1,4 +1,4 @@
-//! Names by their hashes.
+//! A hashed set of names that remembers their order.
 ghost use Rattle.std.specs.Prelude.{◌≡◌, [], IfOk};
 ghost use Rattle.std.specs.List.{list_any};
 ghost use Rattle.std.specs.Str.{bytes_eq};
@@ -9,7 +9,7 @@ use indexmap::IndexSet;
 use std::alloc::{AllocError, Global};
 use std::marker::Model;
 
-/// Names, no two the same, each with its place.
+/// Distinct names, each with its index in order of insertion.
 pub(crate) struct NameIndex<'t> {
     names: IndexSet<&'t [u8]>,
 }
@@ -35,7 +35,6 @@ impl<'t> Model for NameIndex<'t> {
 }
 
 impl<'t> NameIndex<'t> {
-    /// The index of no names.
     pub(crate) fn new(alloc: Global) -> NameIndex<'t>
         ensures { result ≡ [] }
     {
@@ -44,14 +43,14 @@ impl<'t> NameIndex<'t> {
         }
     }
 
-    /// Adds the name after the others; false where it stands already.
+    /// Adds the name at the end; false if it is there already.
     pub(crate) fn add(&mut self, name: &'t [u8]) -> Result<bool, AllocError>
         ensures { IfOk result (IsAdded self.old name.now self.new) }
     {
         Ok(self.names.insert(name)?)
     }
 
-    /// The place of the name.
+    /// The index of the name, from 0.
     pub(crate) fn index(&self, name: &[u8]) -> Option<usize>
         ensures { result ≡ index_in name.now self.now }
     {

@@ -1,9 +1,9 @@
-//! Laws of names, each as the contract of a function that does nothing.
+//! Lemmas about names, each as the contract of a function that does nothing.
 ghost use Rattle.std.specs.Prelude.{◌⊎◌, List};
 ghost use Rattle.nft_tree.specs.Tree.{TableTree};
 ghost use Rattle.rule_names.specs.Names.{DuplicateName};
 
-/// Of any tables it is decided whether a name stands twice.
+/// Whether some name is declared twice is decidable.
 pub fn duplicate_names_decidable()
     ensures { (tables : List TableTree) → DuplicateName tables ⊎ (DuplicateName tables → ⊥) }
 {}

@@ -1,4 +1,4 @@
-//! What stands under the names of a ruleset, and where it uses them.
+//! Name resolution: what the names of a ruleset's tables, chains, sets and maps refer to.
 #![tactic(auto)]
 
 mod index;

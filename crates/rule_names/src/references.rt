@@ -1,4 +1,4 @@
-//! What a table refers to by `@`.
+//! References to sets and maps (`@name`).
 ghost use Rattle.std.specs.Prelude.{◌≡◌, flat_map, map};
 ghost use Rattle.std.specs.List.{list_any};
 ghost use Rattle.nft_tree.specs.Tree.{item_tree, map_ref_tree, rule_tree, set_ref_tree, statement};
@@ -53,7 +53,8 @@ fn rule_refers_to_unknown_set(names: &TableNames, rule: &Rule) -> bool
 }
 
 fn rules_refer_to_unknown_set(names: &TableNames, rules: &[Rule]) -> bool
-    ensures { result ≡ list_any (is_unknown names.now) (flat_map rule_references (map rule_tree rules.now)) }
+    ensures { result ≡ list_any (is_unknown names.now)
+        (flat_map rule_references (map rule_tree rules.now)) }
 {
     rules
         .iter()
@@ -79,7 +80,7 @@ fn table_refers_to_unknown_set(names: &TableNames) -> bool
         .any(|item| item_refers_to_unknown_set(names, item))
 }
 
-/// Whether a rule names by `@` what is no set and no map of its table.
+/// Whether a rule refers by `@` to a name that is no set or map of its table (N03).
 pub fn refers_to_unknown_set(names: &[TableNames]) -> bool
     ensures { result ≡ list_any refers_to_unknown_set names.now }
 {

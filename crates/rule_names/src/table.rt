@@ -1,4 +1,4 @@
-//! The names of tables.
+//! Tables with lookup of their chains, sets and maps by name.
 ghost use Rattle.std.specs.Prelude.{◌≡◌, ◌↔◌, List, [], ◌∷◌, ◌++◌, All, IsTrue, is_some, map, IfOk, IfSome, MatchOption};
 ghost use Rattle.std.specs.Option.{option_map};
 ghost use Rattle.nft_tree.specs.Tree.{ItemTree, chain_tree, item_tree, map_tree, set_tree, table_tree, tables_of};
@@ -12,7 +12,7 @@ use nft_tree::{Chain, Family, Item, MapDecl, Ruleset, SetDecl, Table};
 use std::alloc::{AllocError, Global};
 use std::marker::Model;
 
-/// The chains, the sets or the maps of a table, in text order, and their names.
+/// The chains, the sets or the maps of a table, in text order, with lookup by name.
 #[derive(Drop)]
 struct Named<'t, T> {
     all: Vec<&'t T>,
@@ -30,16 +30,16 @@ impl<'t, T> Named<'t, T> {
         }
     }
 
-    /// Adds the item after the others; false where its name stands already, and then it is the
-    /// last that may be added.
+    /// Adds the item at the end; false if its name is taken. Nothing may be added after that.
     fn add(&mut self, name: &'t [u8], item: &'t T) -> Result<bool, AllocError>
-        ensures { IfOk result (λ fresh. (self.new.all.items ≡ self.old.all.items ++ item.entry ∷ []) × IsAdded self.old.names name.now self.new.names fresh) }
+        ensures { IfOk result (λ fresh. (self.new.all.items ≡ self.old.all.items ++ item.entry ∷ [])
+            × IsAdded self.old.names name.now self.new.names fresh) }
     {
         self.all.push(item)?;
         self.names.add(name)
     }
 
-    /// The item of that name.
+    /// The item with that name.
     fn get(&self, name: &[u8]) -> Option<&'t T>
         ensures { result ≡ at_index self.now.all.items (index_in name.now self.now.names) }
     {
@@ -48,7 +48,7 @@ impl<'t, T> Named<'t, T> {
     }
 }
 
-/// The items of a table by their kinds and names. Sets and maps share their names.
+/// The items of a table by kind and name. Sets and maps share a namespace.
 struct NamedItems<'t> {
     chains: Named<'t, Chain>,
     sets: Named<'t, SetDecl>,
@@ -80,9 +80,10 @@ impl<'t> NamedItems<'t> {
         }
     }
 
-    /// Adds the item after the others; false where its name stands already.
+    /// Adds the item at the end; false if its name is taken.
     fn add(&mut self, item: &'t Item) -> Result<bool, AllocError>
-        ensures { (items : List ItemTree) → Represents items self.old → IfOk result (RepresentsOrHasDuplicate (items ++ item_tree item.now ∷ []) self.new) }
+        ensures { (items : List ItemTree) → Represents items self.old
+            → IfOk result (RepresentsOrHasDuplicate (items ++ item_tree item.now ∷ []) self.new) }
     {
         match item {
             Item::Comment(_) => Ok(true),
@@ -103,7 +104,7 @@ impl<'t> NamedItems<'t> {
     }
 }
 
-/// What stands under the names of a table, each looked up by its hash.
+/// A table with lookup of its chains, sets and maps by name, in constant time.
 #[derive(Drop)]
 pub struct TableNames<'t> {
     table: &'t Table,
@@ -122,9 +123,10 @@ impl<'t> Model for TableNames<'t> {
 }
 
 impl<'t> TableNames<'t> {
-    /// The names of the table; `None` where one stands twice in it.
+    /// Indexes the table; `None` if a name is declared twice in it.
     fn new(alloc: Global, table: &'t Table) -> Result<Option<TableNames<'t>>, AllocError>
-        ensures is { IfOk result (λ o. MatchOption o (HasDuplicateIn (table_tree table.now).items) (λ names. names ≡ table_tree table.now)) }
+        ensures is { IfOk result (λ o. MatchOption o (HasDuplicateIn (table_tree table.now).items)
+            (λ names. names ≡ table_tree table.now)) }
         ensures apart { IfOk result (λ o. IfSome o HasUniqueNames) }
     {
         let mut items = NamedItems::new(alloc);
@@ -136,7 +138,6 @@ impl<'t> TableNames<'t> {
         Ok(Some(TableNames { table, items }))
     }
 
-    /// The table.
     pub fn table(&self) -> &'t Table
         ensures { table_tree result.now ≡ self.now }
     {
@@ -167,42 +168,42 @@ impl<'t> TableNames<'t> {
         &self.items.maps.all
     }
 
-    /// The place of the chain of that name among the table's chains, from 0.
+    /// The index of the chain with that name among the table's chains, from 0.
     pub fn chain_index(&self, name: &[u8]) -> Option<usize>
         ensures { result ≡ index_in name.now (chain_names self.now) }
     {
         self.items.chains.names.index(name)
     }
 
-    /// The place of the set of that name among the table's sets, from 0.
+    /// The index of the set with that name among the table's sets, from 0.
     pub fn set_index(&self, name: &[u8]) -> Option<usize>
         ensures { result ≡ index_in name.now (set_names self.now) }
     {
         self.items.sets.names.index(name)
     }
 
-    /// The place of the map of that name among the table's maps, from 0.
+    /// The index of the map with that name among the table's maps, from 0.
     pub fn map_index(&self, name: &[u8]) -> Option<usize>
         ensures { result ≡ index_in name.now (map_names self.now) }
     {
         self.items.maps.names.index(name)
     }
 
-    /// The set of that name.
+    /// The set with that name.
     pub fn set(&self, name: &[u8]) -> Option<&'t SetDecl>
         ensures { option_map (λ s. set_tree s.now) result ≡ set_named self.now name.now }
     {
         self.items.sets.get(name)
     }
 
-    /// The map of that name.
+    /// The map with that name.
     pub fn map(&self, name: &[u8]) -> Option<&'t MapDecl>
         ensures { option_map (λ m. map_tree m.now) result ≡ map_named self.now name.now }
     {
         self.items.maps.get(name)
     }
 
-    /// The chain of that name.
+    /// The chain with that name.
     fn chain(&self, name: &[u8]) -> Option<&'t Chain>
         ensures found { option_map (λ c. chain_tree c.now) result ≡ chain_named self.now name.now }
         ensures apart { HasDuplicate (chain_names self.now) → ⊥ }
@@ -235,9 +236,10 @@ impl<'t> TableNames<'t> {
     }
 }
 
-/// Whether two tables of the family have one name.
+/// Whether two tables of the family have the same name.
 fn has_duplicate_table(alloc: Global, tables: &[Table], family: Family) -> Result<bool, AllocError>
-    ensures { IfOk result (λ duplicate. IsTrue duplicate ↔ HasDuplicate (table_names family (map table_tree tables.now))) }
+    ensures { IfOk result (λ duplicate. IsTrue duplicate
+        ↔ HasDuplicate (table_names family (map table_tree tables.now))) }
 {
     let mut names = NameIndex::new(alloc);
     for table in tables {
@@ -250,12 +252,13 @@ fn has_duplicate_table(alloc: Global, tables: &[Table], family: Family) -> Resul
     Ok(false)
 }
 
-/// The tables with their names; `None` where a name stands twice within one.
+/// Indexes each table; `None` if a name is declared twice within one.
 fn names_in_each<'t>(
     alloc: Global,
     tables: &'t [Table],
 ) -> Result<Option<Vec<TableNames<'t>>>, AllocError>
-    ensures is { IfOk result (λ o. MatchOption o (SomeTableHasDuplicate (map table_tree tables.now)) (λ names. names.items ≡ map table_tree tables.now)) }
+    ensures is { IfOk result (λ o. MatchOption o (SomeTableHasDuplicate (map table_tree tables.now))
+        (λ names. names.items ≡ map table_tree tables.now)) }
     ensures apart { IfOk result (λ o. IfSome o (λ names. All HasUniqueNames names.items)) }
 {
     let mut names = Vec::with_capacity(alloc, tables.len())?;
@@ -268,14 +271,20 @@ fn names_in_each<'t>(
     Ok(Some(names))
 }
 
-/// The tables with their names; `None` where two tables of one family have one name, or two
-/// chains of a table, or two sets or maps of a table.
+/// Indexes the tables of a ruleset by name. `None` if two tables of one family, two chains of a
+/// table, or two sets or maps of a table have the same name (N01).
+///
+/// # Errors
+///
+/// If an allocation fails.
 pub fn names_of<'t>(
     alloc: Global,
     tree: &'t Ruleset,
 ) -> Result<Option<Vec<TableNames<'t>>>, AllocError>
-    ensures names { IfOk result (λ answer. MatchOption answer (DuplicateName (tables_of tree.now)) (λ names. names.items ≡ tables_of tree.now)) }
-    ensures apart { IfOk result (λ answer. IfSome answer (λ _. DuplicateName (tables_of tree.now) → ⊥)) }
+    ensures names { IfOk result (λ answer. MatchOption answer (DuplicateName (tables_of tree.now))
+        (λ names. names.items ≡ tables_of tree.now)) }
+    ensures apart { IfOk result (λ answer. IfSome answer (λ _. DuplicateName (tables_of tree.now)
+        → ⊥)) }
 {
     if has_duplicate_table(alloc, &tree.tables, Family::Ip)? {
         return Ok(None);

@@ -1,4 +1,4 @@
-//! What a table jumps or goes to.
+//! The targets of jumps and gotos.
 ghost use Rattle.std.specs.Prelude.{◌≡◌, flat_map, map};
 ghost use Rattle.std.specs.List.{list_any};
 ghost use Rattle.nft_tree.specs.Tree.{item_tree, map_ref_tree, pair_tree, rule_tree, statement, verdict_tree};
@@ -11,12 +11,12 @@ use nft_tree::{
     SourceTarget, Stmt, Verdict,
 };
 
-/// What is asked of each name that a table jumps or goes to.
+/// A test of the target of a jump or goto.
 #[derive(Clone, Copy)]
 enum TargetTest {
-    /// Whether it is the name of no chain of the table.
+    /// It is no chain of the table.
     IsNoChain,
-    /// Whether it is the name of a base chain.
+    /// It is a base chain.
     IsBaseChain,
 }
 
@@ -31,7 +31,8 @@ impl TargetTest {
     }
 
     fn of_verdict(self, names: &TableNames, verdict: &Verdict) -> bool
-        ensures { result ≡ list_any (passes self names.now) (one_or_none (target_of (verdict_tree verdict.now))) }
+        ensures { result ≡ list_any (passes self names.now)
+            (one_or_none (target_of (verdict_tree verdict.now))) }
     {
         match verdict {
             Verdict::Jump(name) | Verdict::Goto(name) => self.passes(names, name),
@@ -40,7 +41,8 @@ impl TargetTest {
     }
 
     fn of_pair(self, names: &TableNames, pair: &Pair) -> bool
-        ensures { result ≡ list_any (passes self names.now) (one_or_none (data_target (pair_tree pair.now).value)) }
+        ensures { result ≡ list_any (passes self names.now)
+            (one_or_none (data_target (pair_tree pair.now).value)) }
     {
         match &pair.value {
             Data::Verdict(verdict) => self.of_verdict(names, verdict),
@@ -49,14 +51,16 @@ impl TargetTest {
     }
 
     fn of_pairs(self, names: &TableNames, pairs: &[Pair]) -> bool
-        ensures { result ≡ list_any (passes self names.now) (pair_targets (map pair_tree pairs.now)) }
+        ensures { result ≡ list_any (passes self names.now)
+            (pair_targets (map pair_tree pairs.now)) }
     {
         pairs.iter().any(|pair| self.of_pair(names, pair))
     }
 
-    /// Of the data of a map without a name.
+    /// Tests the data of an anonymous map.
     fn of_map_ref(self, names: &TableNames, map: &MapRef) -> bool
-        ensures { result ≡ list_any (passes self names.now) (map_ref_targets (map_ref_tree map.now)) }
+        ensures { result ≡ list_any (passes self names.now)
+            (map_ref_targets (map_ref_tree map.now)) }
     {
         match map {
             MapRef::Named(_) => false,
@@ -65,7 +69,8 @@ impl TargetTest {
     }
 
     fn of_statement(self, names: &TableNames, stmt: &Stmt) -> bool
-        ensures { result ≡ list_any (passes self names.now) (statement_targets (statement stmt.now)) }
+        ensures { result ≡ list_any (passes self names.now)
+            (statement_targets (statement stmt.now)) }
     {
         match stmt {
             Stmt::Verdict(verdict) => self.of_verdict(names, verdict),
@@ -88,12 +93,13 @@ impl TargetTest {
     }
 
     fn of_rules(self, names: &TableNames, rules: &[Rule]) -> bool
-        ensures { result ≡ list_any (passes self names.now) (flat_map rule_targets (map rule_tree rules.now)) }
+        ensures { result ≡ list_any (passes self names.now)
+            (flat_map rule_targets (map rule_tree rules.now)) }
     {
         rules.iter().any(|rule| self.of_rule(names, rule))
     }
 
-    /// Of the rules of a chain, or of the data of a map, whether a rule uses it or not.
+    /// Tests the rules of a chain, or the data of a map, also if no rule uses the map.
     fn of_item(self, names: &TableNames, item: &Item) -> bool
         ensures { result ≡ list_any (passes self names.now) (item_targets (item_tree item.now)) }
     {
@@ -120,8 +126,7 @@ impl TargetTest {
     }
 }
 
-/// Whether a table jumps or goes to a name that is no chain of it, in a rule or in the data of a
-/// map.
+/// Whether a rule or a map element jumps or goes to a name that is no chain of its table (N02).
 pub fn jumps_to_unknown_chain(names: &[TableNames]) -> bool
     ensures { result ≡ list_any jumps_to_unknown_chain names.now }
 {
@@ -130,7 +135,7 @@ pub fn jumps_to_unknown_chain(names: &[TableNames]) -> bool
         .any(|table| TargetTest::IsNoChain.of_table(table))
 }
 
-/// Whether a table jumps or goes to a base chain, in a rule or in the data of a map.
+/// Whether a rule or a map element jumps or goes to a base chain (N07).
 pub fn jumps_to_base_chain(names: &[TableNames]) -> bool
     ensures { result ≡ list_any jumps_to_base_chain names.now }
 {

@@ -1,13 +1,12 @@
--- What is decided of nodes of which finitely many call: whether there is a cycle; and where there is none, whether a path has so many jumps, whether it comes to a node that fits, and what each node costs.
+-- Decidability for graphs with finitely many callers: of cycles; and if there are none, of paths with so many jumps and
+-- of reachability. Also costs.
 use Rattle.std.proofs.Common.{◌≡◌, ◌⊎◌, ℕ, zero, suc, ◌+◌, ◌<◌, ◌≤◌, max, Bool, true, false, if◌then◌else◌, List, [], ◌∷◌, length, flat_map, refl, sym, ap, ap₂, subst, ◌∙◌, inl, inr, arith, Contains}
 use Rattle.std.proofs.lemmas.List.Elements.{Contains-append_left, Contains-append_right}
 use Rattle.list_laws.specs.Lists.{Contains-head}
 use Rattle.chain_graph.specs.Graph.{Call, NodeTree, chain, verdict_map, identity, calls_in, IsPath, jumps, HasCycle, HasPathOver, greatest, chain_cost, node_cost, Reaches}
 use Rattle.list_laws.specs.Decisions.{Decided, Contains-none, Contains-there, Contains-cases, some_decided, decided_as}
 
--- ---- lists
-
--- all of a list are so, or some is otherwise
+-- all elements have the one property, or some element has the other
 all_or_some : {A : Type 0} (P Q : A → Type 0) → ((x : A) → P x ⊎ Q x) → (xs : List A) → ((x : A) → Contains xs x → P x) ⊎ ((x : A) × Contains xs x × Q x)
 all_or_some P Q each [] = inl (λ x at. absurd (Contains-none x at))
 all_or_some {A} P Q each (x ∷ xs) = step (each x) (all_or_some P Q each xs)
@@ -17,7 +16,7 @@ all_or_some {A} P Q each (x ∷ xs) = step (each x) (all_or_some P Q each xs)
     step (inl p) (inr h) = inr (h.0, Contains-there x h.0 xs h.1, h.2)
     step (inl p) (inl all) = inl (λ y at. elim (Contains-cases x y xs at) [ inl e ↦ subst P e p | inr later ↦ all y later ])
 
--- a list without one of its members
+-- a list without one of its elements
 removed : {A : Type 0} (x : A) (xs : List A) → Contains xs x → (rest : List A) × (suc (length rest) ≡ length xs) × ((z : A) → (z ≡ x → ⊥) → Contains xs z → Contains rest z)
 removed x [] at = absurd (Contains-none x at)
 removed {A} x (y ∷ ys) at = step (Contains-cases y x ys at) (removed x ys)
@@ -28,7 +27,7 @@ removed {A} x (y ∷ ys) at = step (Contains-cases y x ys at) (removed x ys)
         let r = later there in
         (y ∷ r.0, ap suc r.1, λ z other in_all. elim (Contains-cases y z ys in_all) [ inl e ↦ subst (Contains (y ∷ r.0)) e (Contains-head y r.0) | inr in_rest ↦ Contains-there y z r.0 (r.2 z other in_rest) ])
 
--- ---- costs that agree on what is called
+-- ---- cost functions that agree on all targets
 
 module _ {K : Type 0} (f g : K → ℕ) where
   greatest_same : (es : List (Call K)) → ((e : Call K) → Contains es e → f e.to ≡ g e.to) → greatest f es ≡ greatest g es
@@ -44,7 +43,7 @@ module _ {K : Type 0} (f g : K → ℕ) where
   node_cost_same (chain ss) same = chain_cost_same ss same
   node_cost_same (verdict_map es) same = greatest_same es same
 
--- ---- the jumps that are left behind a call
+-- ---- the jumps left after a call
 
 abbrev left_of : Bool → ℕ → ℕ
 left_of true j = j
@@ -62,12 +61,12 @@ module _ {K : Type 0} (node : K → NodeTree K) where
   abbrev Calls : K → Call K → Type 0
   Calls a e = Contains (calls_in (node a)) e
 
-  -- each path from a node has fewer calls
+  -- all paths from a node have fewer calls
   abbrev pub Bounded : ℕ → K → Type 0
   Bounded zero a = ⊥
   Bounded (suc m) a = (e : Call K) → Calls a e → Bounded m e.to
 
-  -- a path from a node has as many
+  -- some path from a node has as many calls
   abbrev Long : ℕ → K → Type 0
   Long zero a = Unit {0}
   Long (suc m) a = (e : Call K) × Calls a e × Long m e.to
@@ -76,7 +75,7 @@ module _ {K : Type 0} (node : K → NodeTree K) where
   bounded_or_long zero a = inr tt
   bounded_or_long (suc m) a = all_or_some (λ e. Bounded m e.to) (λ e. Long m e.to) (λ e. bounded_or_long m e.to) (calls_in (node a))
 
-  -- ---- where each path is bounded there is no cycle
+  -- ---- where all paths are bounded there is no cycle
 
   bounded_more : (m : ℕ) (a : K) → Bounded m a → Bounded (suc m) a
   bounded_more zero a bound = absurd bound
@@ -108,7 +107,7 @@ module _ {K : Type 0} (node : K → NodeTree K) where
   one_cost f g of_f of_g zero a bound = absurd bound
   one_cost f g of_f of_g (suc m) a bound = of_f a ∙ node_cost_same f g (node a) (λ e at. one_cost f g of_f of_g m e.to (bound e at)) ∙ sym (of_g a)
 
-  -- ---- paths with so many jumps
+  -- ---- paths with at least so many jumps
 
   abbrev Deep : ℕ → K → Type 0
   Deep j a = (es : List (Call K)) × (b : K) × IsPath Calls a es b × (j ≤ jumps es)
@@ -152,15 +151,15 @@ module _ {K : Type 0} (node : K → NodeTree K) where
     reach_decided (suc m) a bound =
         reach_step a (fits_decided a) (some_decided (λ e. Reaches Calls Fits e.to) (calls_in (node a)) (λ e at. reach_decided m e.to (bound e at)))
 
-  -- ---- a path that is longer than the nodes that call has a cycle
+  -- ---- a path with more calls than there are callers has a cycle
 
   module _ (same_decided : (a b : K) → Decided (a ≡ b)) where
-    -- none of a path's nodes but the last is this one
+    -- the node isn't on the path, except perhaps at its end
     abbrev Avoids : K → (m : ℕ) (a : K) → Long m a → Type 0
     Avoids x zero a w = Unit {0}
     Avoids x (suc m) a w = (a ≡ x → ⊥) × Avoids x m w.0.to w.2
 
-    -- each is one of these
+    -- all nodes of the path are in the list
     abbrev Within : List K → (m : ℕ) (a : K) → Long m a → Type 0
     Within left zero a w = Unit {0}
     Within left (suc m) a w = Contains left a × Within left m w.0.to w.2
@@ -191,7 +190,7 @@ module _ {K : Type 0} (node : K → NodeTree K) where
             let shorter : length r.0 < m = omega (arith, r.1) in
             later r.0 w.0.to w.2 (within_less a left r.0 r.2 m w.0.to w.2 avoids within.1) shorter
 
-    -- ---- the nodes that call
+    -- ---- callers
 
     module _ (callers : List K) (is_caller : (a : K) (e : Call K) → Calls a e → Contains callers a) where
       all_within : (m : ℕ) (a : K) (w : Long m a) → Within callers m a w

@@ -1,4 +1,4 @@
--- What is decided of the jumps and gotos of tables.
+-- Decidability of cycles, depth, cost and misplaced NAT statements.
 use Rattle.std.proofs.Common.{◌≡◌, ◌⊎◌, ℕ, suc, ◌+◌, ◌<◌, Bool, true, false, cond, List, [], ◌∷◌, ◌++◌, map, length, sum_by, find, Option, Some, None, refl, sym, ap, ap₂, subst, ◌∙◌, inl, inr, Contains, bytes_eq}
 use Rattle.std.proofs.lemmas.List.Elements.{Contains-append_left, Contains-append_right}
 use Rattle.std.proofs.lemmas.List.Sums.{sum_by-cons}
@@ -59,10 +59,10 @@ is_caller t (a_map name) e at =
 
 pub cycles : (tables : List TableTree) → Cycles tables ⊎ (Cycles tables → ⊥)
 cycles tables =
-    decided_as (λ h. record { table = h.0; stands = h.1; cycle = h.2 }) (λ c. (c.table, c.stands, c.cycle)) (some_decided (λ t. HasCycle (CallsOf t)) tables (λ t at. cycle_decided (node_of t) callers_decided (callers t) (is_caller t)))
+    decided_as (λ h. record { table = h.0; member = h.1; cycle = h.2 }) (λ c. (c.table, c.member, c.cycle)) (some_decided (λ t. HasCycle (CallsOf t)) tables (λ t at. cycle_decided (node_of t) callers_decided (callers t) (is_caller t)))
 
 acyclic_table : (tables : List TableTree) → (Cycles tables → ⊥) → (t : TableTree) → Contains tables t → HasCycle (CallsOf t) → ⊥
-acyclic_table tables acyclic t at c = acyclic (record { table = t; stands = at; cycle = c })
+acyclic_table tables acyclic t at c = acyclic (record { table = t; member = at; cycle = c })
 
 abbrev bound : TableTree → ℕ
 bound t = suc (length (callers t))
@@ -74,12 +74,12 @@ bounds t acyclic = all_bounded (node_of t) callers_decided (callers t) (is_calle
 
 deep_path : (t : TableTree) → (HasCycle (CallsOf t) → ⊥) → Decided (HasDeepPath t)
 deep_path t acyclic =
-    decided_as (λ h. record { chain = h.0; stands = h.1; path = h.2.0; begins = h.2.1 }) (λ d. (d.chain, d.stands, (d.path, d.begins)))
+    decided_as (λ h. record { chain = h.0; member = h.1; path = h.2.0; begins = h.2.1 }) (λ d. (d.chain, d.member, (d.path, d.begins)))
     (some_decided (λ name. (p : HasPathOver MAX_JUMPS (CallsOf t)) × (p.from ≡ a_chain name)) (chain_names t) (λ name at. path_decided (node_of t) callers_decided (callers t) (is_caller t) MAX_JUMPS acyclic (a_chain name)))
 
 pub deep : (tables : List TableTree) → (Cycles tables → ⊥) → TooDeep tables ⊎ (TooDeep tables → ⊥)
 deep tables acyclic =
-    decided_as (λ h. record { table = h.0; stands = h.1; deep = h.2 }) (λ d. (d.table, d.stands, d.deep)) (some_decided HasDeepPath tables (λ t at. deep_path t (acyclic_table tables acyclic t at)))
+    decided_as (λ h. record { table = h.0; member = h.1; deep = h.2 }) (λ d. (d.table, d.member, d.deep)) (some_decided HasDeepPath tables (λ t at. deep_path t (acyclic_table tables acyclic t at)))
 
 -- ---- cost
 
@@ -105,7 +105,7 @@ costs_of t acyclic = costs_are (node_of t) (bound t) (bounds t acyclic)
 pub costs_exist : (tables : List TableTree) (t : TableTree) → (Cycles tables → ⊥) → Contains tables t → (f : Caller → ℕ) × AreCosts t f
 costs_exist tables t acyclic at = (cost_of t, costs_of t (acyclic_table tables acyclic t at))
 
--- a table has one cost
+-- the cost of a table is unique
 one_table_cost : (t : TableTree) → (HasCycle (CallsOf t) → ⊥) → (f : Caller → ℕ) → AreCosts t f → table_cost f t ≡ table_cost (cost_of t) t
 one_table_cost t acyclic f are = table_cost_same f (cost_of t) (λ a. one_cost (node_of t) f (cost_of t) are (costs_of t acyclic) (bound t) a (bounds t acyclic a)) t
 
@@ -124,7 +124,7 @@ of_costly tables acyclic w =
 pub costly : (tables : List TableTree) → (Cycles tables → ⊥) → TooCostly tables ⊎ (TooCostly tables → ⊥)
 costly tables acyclic = decided_as (to_costly tables acyclic) (of_costly tables acyclic) (less_decided MAX_COST (whole_cost tables))
 
--- ---- NAT statements without a place
+-- ---- misplaced NAT statements
 
 is_decided : (b v : Bool) → Decided (b ≡ v)
 is_decided true true = inl refl
@@ -147,11 +147,11 @@ module _ (test : Statement → Bool) (may : ChainKind → Hook → Bool) (t : Ta
 
   to_misplaces : (c : ChainTree) × Contains (chains_of t) c × ReachesMisplaced c.name c.head → Misplaces test may t
   unfolding Leads
-  to_misplaces h = record { base = h.0; stands = h.1; head = h.2.0; is_base = h.2.1; may_not = h.2.2; reaching = h.2.3 }
+  to_misplaces h = record { base = h.0; member = h.1; head = h.2.0; is_base = h.2.1; may_not = h.2.2; reaching = h.2.3 }
 
   of_misplaces : Misplaces test may t → (c : ChainTree) × Contains (chains_of t) c × ReachesMisplaced c.name c.head
   unfolding Leads
-  of_misplaces m = (m.base, m.stands, (m.head, m.is_base, m.may_not, m.reaching))
+  of_misplaces m = (m.base, m.member, (m.head, m.is_base, m.may_not, m.reaching))
 
   leads_decided : (HasCycle (CallsOf t) → ⊥) → (name : Text) → Decided (Leads name)
   unfolding Leads

@@ -1,4 +1,4 @@
--- Names, their places, and the graph of a table by number.
+-- Names, their indices, and the call graph of a table by index.
 use Rattle.std.proofs.Common.{◌≡◌, ◌⊎◌, ℕ, zero, suc, ◌+◌, ◌-◌, ◌<◌, List, [], ◌∷◌, ◌++◌, Some, None, Bool, true, false, cond, length, get_or, map, sym, refl, ap, subst, ◌∙◌, inl, inr, ⊎_elim, arith}
 use Rattle.std.specs.Prelude.{find}
 use Rattle.std.specs.Option.{option_map}
@@ -27,7 +27,7 @@ bool-cases true = inl refl
 bool-cases false = inr refl
 
 module _ {A : Type 0} (name_of : A → Text) where
-  -- what stands first under a name
+  -- the first element with a name
   pub record Found (xs : List A) (name : Text) : Type 0 where
     pub index : ℕ
     pub item : A
@@ -79,7 +79,7 @@ module _ {A : Type 0} (name_of : A → Text) where
   pub name-at : (xs : List A) (i : ℕ) (x : A) → i < length xs → get_or xs i x ≡ x → get_or (map name_of xs) i [] ≡ name_of x
   name-at xs i x h e = get_or_default (map name_of xs) i [] (name_of x) (let n = length-map xs name_of in omega arith) ∙ get_or-map name_of xs i x ∙ ap name_of e
 
-  -- a name that stands is found
+  -- a name in the list is found
   pub not-missing-at : (y : A) (xs : List A) (name : Text) (i : ℕ) (x : A) → i < length (y ∷ xs) → get_or (y ∷ xs) i x ≡ x → name_of x ≡ name → bytes_eq (name_of y) name ≡ false → ((j : ℕ) → j < length xs → get_or xs j x ≡ x → Found xs name) → Found (y ∷ xs) name
   not-missing-at y xs name zero x h e named f later = let t : bytes_eq (name_of y) name ≡ true = ap (λ n. bytes_eq n name) (ap name_of e ∙ named) ∙ text-refl name in let q : true ≡ false = sym t ∙ f in cc
   not-missing-at y xs name (suc i) x h e named f later = found-later y xs name f (later i (omega (arith, h)) e)
@@ -91,7 +91,7 @@ module _ {A : Type 0} (name_of : A → Text) where
       (λ f. not-missing-at y xs name i x h e named f (λ j l k. found-at xs name j x l k named))
       (bool-cases (bytes_eq (name_of y) name))
 
-  -- where no name stands twice, each is at its own place
+  -- without duplicates, the index of an element's name is the element's
   pub own-index : (xs : List A) → (HasDuplicate (map name_of xs) → ⊥) → (i : ℕ) (x : A) → i < length xs → get_or xs i x ≡ x → index_in (name_of x) (map name_of xs) ≡ Some i
   own-index xs apart i x h e =
       let r = found-at xs (name_of x) i x h e refl in
@@ -155,7 +155,7 @@ module _ (t : TableTree) where
       let k = length-append (map (map_at t) (maps_of t)) missing_nodes in
       omega arith
 
-  -- ---- names to numbers
+  -- ---- names to indices
 
   abbrev pub FoundChain : Text → Type 0
   FoundChain name = Found (λ (c : ChainTree). c.name) (chains_of t) name
@@ -241,7 +241,7 @@ module _ (t : TableTree) where
       (look-map x)
 
   module _ (chains_apart : HasDuplicate (chain_names t) → ⊥) (maps_apart : HasDuplicate (map_names t) → ⊥) where
-    -- the place of a chain is its number
+    -- the index of a chain in the table is that in the graph
     pub chain-number : (i : ℕ) (c : ChainTree) → i < chain_count t → get_or (chains_of t) i c ≡ c → index_of t (a_chain c.name) ≡ i
     chain-number i c h e = ap (index_or 0 (chain_count t + map_count t)) (own-index (λ (c : ChainTree). c.name) (chains_of t) chains_apart i c h e) ∙ omega arith
 
@@ -264,5 +264,5 @@ module _ (t : TableTree) where
         subst (λ k. ((a : Caller) × (index_of t a ≡ k)) ⊎ IsEmptyNode (node_at (index_graph t) k)) is (back-rest (i - chain_count t)))
         (cases_lt i (chain_count t))
 
-    pub stands : RepresentsNodes (node_of t) (index_of t) (index_graph t)
-    stands = record { node = node-of; inside = inside; back = back; apart = apart }
+    pub represents : RepresentsNodes (node_of t) (index_of t) (index_graph t)
+    represents = record { node = node-of; inside = inside; back = back; apart = apart }

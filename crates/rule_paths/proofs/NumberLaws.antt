@@ -1,4 +1,4 @@
--- Paths, costs and marks by number and by what the nodes are known by.
+-- Paths, costs and marks in a graph by index and by the nodes' keys.
 use Rattle.std.proofs.Common.{◌≡◌, ◌⊎◌, ℕ, ◌+◌, ◌≤◌, max, List, [], ◌∷◌, ◌++◌, Bool, true, false, length, get_or, map, sym, refl, ap, ap₂, subst, ◌∙◌, inl, inr, ⊎_elim, arith}
 use Rattle.std.specs.Prelude.{Contains, flat_map}
 use Rattle.std.proofs.lemmas.List.{map-append}
@@ -83,7 +83,7 @@ module _ {K : Type 0} (nodes : K → NodeTree K) (number : K → ℕ) (g : Graph
   path-down a [] b p = ap number p
   path-down a (e ∷ es) b p = (call-down a e p.0, path-down e.to es b p.1)
 
-  -- a path by number is one of the nodes
+  -- a path by index is one by keys
   pub record Up (a : K) (xs : List (Call ℕ)) (j : ℕ) : Type 0 where
     pub along : List (Call K)
     pub to : K
@@ -98,7 +98,7 @@ module _ {K : Type 0} (nodes : K → NodeTree K) (number : K → ℕ) (g : Graph
       let more = path-up c.0.to xs j (subst (λ i. IsPath (Calls g) i xs j) (sym (ap (λ e. e.to) c.2)) p.1) in
       record { along = c.0 ∷ more.along; to = more.to; path = (c.1, more.path); ends = more.ends; same = ap₂ (λ y ys. y ∷ ys) c.2 more.same }
 
-  -- what calls has a name
+  -- a node with calls has a key
   pub caller : (i : ℕ) (x : Call ℕ) → Calls g i x → (a : K) × (number a ≡ i)
   caller i x h = ⊎_elim (λ p. p) (λ e. absurd (none-empty (node_at g i) x e h)) (s.back i)
 
@@ -147,7 +147,7 @@ module _ {K : Type 0} (nodes : K → NodeTree K) (number : K → ℕ) (g : Graph
   abbrev pub cost_if : (K → ℕ) → (i : ℕ) → ((a : K) × (number a ≡ i)) ⊎ IsEmptyNode (node_at g i) → ℕ
   cost_if f i back = ⊎_elim (λ p. f p.0) (λ e. 0) back
 
-  -- what a number costs, if its name costs f
+  -- the cost of an index, where keys cost f
   pub cost_by : (K → ℕ) → ℕ → ℕ
   cost_by f i = cost_if f i (s.back i)
 

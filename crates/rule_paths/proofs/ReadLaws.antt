@@ -1,4 +1,4 @@
--- Lists that loops read and fill, an element at a time.
+-- Lists that loops read and fill element by element.
 use Rattle.std.proofs.Common.{◌≡◌, ℕ, zero, suc, ◌+◌, ◌<◌, List, [], ◌∷◌, ◌++◌, Option, Some, None, Bool, true, false, cond, ◌||◌, length, get_or, map, take, sym, refl, ap, ap₂, ◌∙◌, arith}
 use Rattle.std.specs.Prelude.{flat_map, sum_by}
 use Rattle.std.specs.Borrow.{Bor}
@@ -36,7 +36,7 @@ pub any-flat : {X Y : Type 0} (p : Y → Bool) (f : X → List Y) (xs : List X) 
 any-flat p f [] = refl
 any-flat p f (x ∷ xs) = list_any-append p (f x) (flat_map f xs) ∙ ap (λ b. list_any p (f x) || b) (any-flat p f xs)
 
--- ---- places of names
+-- ---- indices of names
 
 pub index-below-at : (name n : Text) (ns : List Text) (b : Bool) (o : Option ℕ) (i : ℕ) → cond b (Some 0) (option_map suc o) ≡ Some i → ((j : ℕ) → o ≡ Some j → j < length ns) → i < length (n ∷ ns)
 index-below-at name n ns true o zero e later = omega arith
@@ -78,7 +78,7 @@ module _ (t : TableTree) (costs : List ℕ) (s : AreChainCosts t costs) (cost : 
 pub chain-is : (cs : List (Bor Chain)) (ts : List ChainTree) (i : ℕ) (c : Bor Chain) → map (λ c. chain_tree c.now) cs ≡ ts → c ≡ get_or cs i c → chain_tree c.now ≡ get_or ts i (chain_tree c.now)
 chain-is cs ts i c e is = map-at (λ (c : Bor Chain). chain_tree c.now) cs i c is ∙ ap (λ xs. get_or xs i (chain_tree c.now)) e
 
--- ---- base chains that lead wrong
+-- ---- base chains that reach misplaced NAT statements
 
 module _ (kind : NatKind) (cs : List (Bor Chain)) (reaching : List Bool) (i : ℕ) (c : Bor Chain) (h : i < length cs) (is : c ≡ get_or cs i c) where
   pub wrong-here : may_not_translate kind (chain_tree c.now).head ≡ true → get_or reaching i false ≡ true → ReachesMisplaced kind (map (λ c. chain_tree c.now) cs) reaching
@@ -99,7 +99,7 @@ module _ (kind : NatKind) (cs : List (Bor Chain)) (reaching : List Bool) (i : �
   pub not-led : get_or reaching i false ≡ false → (base : ChainTree) → base ≡ get_or (map (λ c. chain_tree c.now) cs) i base → may_not_translate kind base.head ≡ true → get_or reaching i false ≡ true → ⊥
   not-led none base e not_allowed on = let q : true ≡ false = sym on ∙ none in cc
 
--- two nodes more
+-- two more nodes
 pub two-more : {X Y : Type 0} (f : X → Y) (xs ys zs : List X) (x y : X) (cs ms : List Y) → map f xs ≡ cs ++ ms → ys ≡ xs ++ x ∷ [] → zs ≡ ys ++ y ∷ [] → map f zs ≡ cs ++ (ms ++ f x ∷ f y ∷ [])
 two-more f xs ys zs x y cs ms e p q =
     ap (map f) (q ∙ ap (λ l. l ++ y ∷ []) p) ∙ map-append f (xs ++ x ∷ []) (y ∷ []) ∙ ap (λ l. l ++ f y ∷ []) (map-append f xs (x ∷ []) ∙ ap (λ l. l ++ f x ∷ []) e)

@@ -1,4 +1,4 @@
--- From what is found of each table to what is found of all.
+-- From the findings about each table to those about all.
 use Rattle.std.proofs.Common.{◌≡◌, ◌⊎◌, ℕ, ◌+◌, ◌<◌, List, [], ◌∷◌, ◌++◌, Bool, true, false, ◌||◌, length, get_or, map, take, sym, refl, ap, ap₂, subst, ◌∙◌, inl, inr, ⊎_elim, arith, Vec, Global, ltb-true, lt-ltb}
 use Rattle.std.specs.Prelude.{Contains, IsTrue, ◌↔◌, ◌&&◌, if◌then◌else◌, nat_eq, nat_lt}
 use Rattle.std.specs.Bool.{Decides}
@@ -24,7 +24,7 @@ use Rattle.rule_paths.specs.steps.Tables.{MisplacesAs, MisplacesIn, AreTableFind
 use Rattle.rule_paths.proofs.NumberLaws.{costs-up}
 use Rattle.rule_paths.proofs.IndexLaws.{bool-cases}
 
--- ---- graphs are compared, so that each has one cost
+-- ---- equality of graphs is decidable, so that equal graphs get the same costs
 
 pub and-first : (a b : Bool) → a && b ≡ true → a ≡ true
 and-first true b h = refl
@@ -86,13 +86,13 @@ graph-decides g h = slice_eq-Decides node-decides g h (graph_eq g h) refl
 -- ---- costs of all tables
 
 pub no-costs : HaveCosts []
-no-costs = record { costs = λ g i. 0; are = λ t h. let l = h.1 in absurd (omega arith); stand = λ t h. let l = h.1 in absurd (omega arith) }
+no-costs = record { costs = λ g i. 0; are = λ t h. let l = h.1 in absurd (omega arith); represent = λ t h. let l = h.1 in absurd (omega arith) }
 
 abbrev pub with_graph : (Graph → ℕ → ℕ) → Graph → (ℕ → ℕ) → Graph → ℕ → ℕ
 with_graph costs g cost h = if graph_eq h g then cost else costs h
 
 pub costs-more : (ts : List TableTree) (t : TableTree) → HaveCosts ts → RepresentsNodes (node_of t) (index_of t) (index_graph t) → (cost : ℕ → ℕ) → IsCost (index_graph t) cost → HaveCosts (ts ++ t ∷ [])
-costs-more ts t have stands cost is = record {
+costs-more ts t have represents cost is = record {
   costs = with_graph have.costs (index_graph t) cost;
   are = λ u h. ⊎_elim
       (λ same. subst (IsCost (index_graph u)) (sym (ap (λ b. if b then cost else have.costs (index_graph u)) same)) (subst (λ g. IsCost g cost) (sym ((graph-decides (index_graph u) (index_graph t)).0 same)) is))
@@ -101,40 +101,40 @@ costs-more ts t have stands cost is = record {
       (λ e. let q : true ≡ false = sym ((graph-decides (index_graph u) (index_graph t)).1 (ap index_graph (sym e))) ∙ other in cc)
       (Contains-push_cases ts t u h)))
       (bool-cases (graph_eq (index_graph u) (index_graph t)));
-  stand = λ u h. ⊎_elim (λ k. have.stand u k) (λ e. subst (λ v. RepresentsNodes (node_of v) (index_of v) (index_graph v)) e stands) (Contains-push_cases ts t u h);
+  represent = λ u h. ⊎_elim (λ k. have.represent u k) (λ e. subst (λ v. RepresentsNodes (node_of v) (index_of v) (index_graph v)) e represents) (Contains-push_cases ts t u h);
 }
 
--- what a table costs by name
+-- the cost of a table by names
 pub are-costs : (ts : List TableTree) (have : HaveCosts ts) (t : TableTree) → Contains ts t → AreCosts t (λ a. have.costs (index_graph t) (index_of t a))
-are-costs ts have t h = costs-up (node_of t) (index_of t) (index_graph t) (have.stand t h) (have.costs (index_graph t)) (have.are t h)
+are-costs ts have t h = costs-up (node_of t) (index_of t) (index_graph t) (have.represent t h) (have.costs (index_graph t)) (have.are t h)
 
--- ---- one table more
+-- ---- one more table
 
 module _ (ts : List TableTree) (t : TableTree) where
-  pub stands-before : (u : TableTree) → Contains ts u → Contains (ts ++ t ∷ []) u
-  stands-before u h = Contains-append_left ts (t ∷ []) u h
+  pub member-before : (u : TableTree) → Contains ts u → Contains (ts ++ t ∷ []) u
+  member-before u h = Contains-append_left ts (t ∷ []) u h
 
   pub acyclic-more : (Cycles ts → ⊥) → (HasCycle (CallsOf t) → ⊥) → Cycles (ts ++ t ∷ []) → ⊥
   acyclic-more before now k = ⊎_elim
-      (λ h. before (record { table = k.table; stands = h; cycle = k.cycle }))
+      (λ h. before (record { table = k.table; member = h; cycle = k.cycle }))
       (λ e. now (subst (λ u. HasCycle (CallsOf u)) (sym e) k.cycle))
-      (Contains-push_cases ts t k.table k.stands)
+      (Contains-push_cases ts t k.table k.member)
 
   pub deep-more : (a b : Bool) → (IsTrue a ↔ TooDeep ts) → (IsTrue b ↔ HasDeepPath t) → IsTrue (a || b) ↔ TooDeep (ts ++ t ∷ [])
   deep-more a b p q = (
     λ h. ⊎_elim
-        (λ k. let d = p.0 k in record { table = d.table; stands = stands-before d.table d.stands; deep = d.deep })
-        (λ k. record { table = t; stands = Contains-push ts t; deep = q.0 k })
+        (λ k. let d = p.0 k in record { table = d.table; member = member-before d.table d.member; deep = d.deep })
+        (λ k. record { table = t; member = Contains-push ts t; deep = q.0 k })
         (or_cases a b h),
     λ d. ⊎_elim
-        (λ h. or_left a b (p.1 (record { table = d.table; stands = h; deep = d.deep })))
+        (λ h. or_left a b (p.1 (record { table = d.table; member = h; deep = d.deep })))
         (λ e. or_right a b (q.1 (subst HasDeepPath (sym e) d.deep)))
-        (Contains-push_cases ts t d.table d.stands),
+        (Contains-push_cases ts t d.table d.member),
   )
 
   pub nat-before : MisplacedNat ts → MisplacedNat (ts ++ t ∷ [])
-  nat-before (misplaced_source u h m) = misplaced_source u (stands-before u h) m
-  nat-before (misplaced_destination u h m) = misplaced_destination u (stands-before u h) m
+  nat-before (misplaced_source u h m) = misplaced_source u (member-before u h) m
+  nat-before (misplaced_destination u h m) = misplaced_destination u (member-before u h) m
 
   pub nat-now : MisplacesIn t → MisplacedNat (ts ++ t ∷ [])
   nat-now (inl m) = misplaced_source t (Contains-push ts t) m
@@ -156,7 +156,7 @@ module _ (ts : List TableTree) (t : TableTree) where
     λ m. ⊎_elim (λ k. or_left a b (p.1 k)) (λ k. or_right a b (q.1 k)) (nat-cases m),
   )
 
-  -- what holds of the numbers of each table
+  -- the rows of each table
   pub rows-more : (P : TableTree → List ℕ → Type 0) (rows : List (Vec ℕ Global)) (row : Vec ℕ Global) → length rows ≡ length ts
       → ((i : ℕ) (u : TableTree) → i < length ts → u ≡ get_or ts i u → P u (numbers_at rows i)) → P t row.items
       → (i : ℕ) (u : TableTree) → i < length (ts ++ t ∷ []) → u ≡ get_or (ts ++ t ∷ []) i u → P u (numbers_at (rows ++ row ∷ []) i)
@@ -179,8 +179,8 @@ no-nat (misplaced_destination u h m) = let l = h.1 in omega (arith, l)
 
 pub none-so-far : AreFindingsSoFar [] false false 0 [] []
 none-so-far = record {
-  acyclic = λ k. let l = k.stands.1 in absurd (omega arith);
-  deep = (λ h. cc, λ d. let l = d.stands.1 in absurd (omega arith));
+  acyclic = λ k. let l = k.member.1 in absurd (omega arith);
+  deep = (λ h. cc, λ d. let l = d.member.1 in absurd (omega arith));
   nat = (λ h. cc, λ m. absurd (no-nat m));
   have_costs = no-costs;
   sum = λ cost_of are. omega arith;
@@ -193,7 +193,7 @@ none-so-far = record {
 module _ (ts : List TableTree) (t : TableTree) (deep misplaced : Bool) (cost : ℕ) (costs depths : List (Vec ℕ Global)) (found : TableFindings) (s : AreFindingsSoFar ts deep misplaced cost costs depths) (f : AreTableFindings t found) where
   pub sum-more : (cost_of : TableTree → Caller → ℕ) → AreAllCosts (ts ++ t ∷ []) cost_of → saturated (cost + found.base_cost) ≡ saturated (ruleset_cost cost_of (ts ++ t ∷ []))
   sum-more cost_of are =
-      let before = s.sum cost_of (λ u h. are u (stands-before ts t u h)) in
+      let before = s.sum cost_of (λ u h. are u (member-before ts t u h)) in
       let now = f.base_cost (cost_of t) (are t (Contains-push ts t)) in
       let all = sum_by_push (λ u. table_cost (cost_of u) u) ts t in
       omega arith
@@ -203,7 +203,7 @@ module _ (ts : List TableTree) (t : TableTree) (deep misplaced : Bool) (cost : �
     acyclic = acyclic-more ts t s.acyclic f.acyclic;
     deep = deep-more ts t deep found.is_too_deep s.deep f.deep;
     nat = nat-more ts t misplaced found.misplaces_nat s.nat f.nat;
-    have_costs = (let has = f.has_costs in costs-more ts t s.have_costs f.stands has.0 has.1);
+    have_costs = (let has = f.has_costs in costs-more ts t s.have_costs f.represents has.0 has.1);
     sum = sum-more;
     costs_long = length_push costs found.costs ∙ ap (λ n. n + 1) s.costs_long ∙ sym (length_push ts t);
     chain_costs = rows-more ts t AreChainCosts costs found.costs s.costs_long s.chain_costs f.costs;
@@ -211,7 +211,7 @@ module _ (ts : List TableTree) (t : TableTree) (deep misplaced : Bool) (cost : �
     chain_depths = rows-more ts t AreChainDepths depths found.depths s.depths_long s.chain_depths f.depths;
   }
 
--- ---- what the sum says
+-- ---- the sum of costs
 
 module _ (ts : List TableTree) (have : HaveCosts ts) (cost : ℕ) (sum : (cost_of : TableTree → Caller → ℕ) → AreAllCosts ts cost_of → cost ≡ saturated (ruleset_cost cost_of ts)) where
   pub too-costly : MAX_COST < cost → TooCostly ts
@@ -222,10 +222,10 @@ module _ (ts : List TableTree) (have : HaveCosts ts) (cost : ℕ) (sum : (cost_o
   pub is-costly : TooCostly ts → MAX_COST < cost
   is-costly k = let is = sum k.cost k.are in let over = k.over in omega arith
 
--- ---- the end
+-- ---- all tables
 
 pub cycle-found : (tables : List TableTree) (t : TableTree) → Contains tables t → HasCycle (CallsOf t) → Cycles tables
-cycle-found tables t h k = record { table = t; stands = h; cycle = k }
+cycle-found tables t h k = record { table = t; member = h; cycle = k }
 
 pub all-found : (tables : List TableTree) (cost : ℕ) (found : Findings) → AreFindingsSoFar tables found.is_too_deep found.misplaces_nat cost found.costs.items found.depths.items → found.is_too_costly ≡ nat_lt MAX_COST cost → AreFindings tables found
 all-found tables cost found s e = record {

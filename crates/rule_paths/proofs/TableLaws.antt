@@ -1,4 +1,4 @@
--- What the graph of a table says of its chains.
+-- From the graph of a table to its chains.
 use Rattle.std.proofs.Common.{◌≡◌, ℕ, zero, suc, ◌-◌, ◌<◌, ◌≤◌, List, [], ◌∷◌, Option, Some, None, Bool, true, false, ◌||◌, not, length, get_or, map, take, replicate, sym, refl, ap, subst, ◌∙◌, inl, inr, ⊎_elim, arith, ltb-true, lt-ltb, get_or-take}
 use Rattle.std.specs.Prelude.{IsTrue, nat_lt, ◌↔◌}
 use Rattle.std.specs.List.{list_any}
@@ -23,12 +23,12 @@ use Rattle.rule_paths.specs.steps.Index.{chain_count, index_of, index_graph, IsT
 use Rattle.rule_paths.specs.steps.Tables.{MisplacesAs, MisplacesIn, AreTableFindings}
 use Rattle.rule_paths.specs.declared.table.TableFindings.{TableFindings}
 use Rattle.rule_paths.proofs.NumberLaws.{cycle-down, costs-up, costs-down, cost_by, cost-named, most-up, deep-path, reaching-up, reaching-down}
-use Rattle.rule_paths.proofs.IndexLaws.{stands, chain-number, graph-long, name-at, no-chain, look-chain, look-map, chain-found, chain-missing, map-found, map-missing}
+use Rattle.rule_paths.proofs.IndexLaws.{represents, chain-number, graph-long, name-at, no-chain, look-chain, look-map, chain-found, chain-missing, map-found, map-missing}
 
 pub table-graph : (t : TableTree) (g : Graph) → g ≡ index_graph t → (HasDuplicate (chain_names t) → ⊥) → (HasDuplicate (map_names t) → ⊥) → IsTableGraph t g
 table-graph t g e chains maps = record {
   is = e;
-  stands = subst (RepresentsNodes (node_of t) (index_of t)) (sym e) (stands t chains maps);
+  represents = subst (RepresentsNodes (node_of t) (index_of t)) (sym e) (represents t chains maps);
   chains_first = λ i h.
       let c : ChainTree = get_or (chains_of t) i no-chain in
       let is : get_or (chains_of t) i c ≡ c = get_or_default (chains_of t) i c no-chain h in
@@ -60,19 +60,19 @@ module _ (t : TableTree) (depths : List ℕ) (known : AreChainDepths t depths) w
       let n = length-map (chains_of t) (λ (c : ChainTree). c.name) in
       record {
         chain = name;
-        stands = Contains-at (chain_names t) i [] name (omega arith) refl;
+        member = Contains-at (chain_names t) i [] name (omega arith) refl;
         path = record { from = a_chain name; to = has.to; along = has.along; path = has.path; over = omega arith };
         begins = refl;
       }
 
   deep-at : HasDeepPath t → (i : ℕ) × (i < length depths) × (16 < get_or depths i 0)
   deep-at k =
-      let i : ℕ = k.stands.0 in
-      let l : i < length (chain_names t) = k.stands.1 in
+      let i : ℕ = k.member.0 in
+      let l : i < length (chain_names t) = k.member.1 in
       let long = known.long in
       let n = length-map (chains_of t) (λ (c : ChainTree). c.name) in
       let h : i < length depths = omega arith in
-      let named : get_or (chain_names t) i [] ≡ k.chain = get_or_default (chain_names t) i [] k.chain l ∙ k.stands.2 in
+      let named : get_or (chain_names t) i [] ≡ k.chain = get_or_default (chain_names t) i [] k.chain l ∙ k.member.2 in
       let has : HasDepth t k.path.from (get_or depths i 0) = subst (λ a. HasDepth t a (get_or depths i 0)) (ap a_chain named ∙ sym k.begins) (known.are i h) in
       let most = has.most k.path.to k.path.along k.path.path in
       let over = k.path.over in
@@ -99,8 +99,8 @@ module _ (t : TableTree) (g : Graph) (s : IsTableGraph t g) where
             let a : Caller = a_chain (get_or (chain_names t) j []) in
             let depth : ℕ = get_or (take (chain_count t) depths) j 0 in
             let d : IsDepth g (index_of t a) depth = chain-depth j depth l (subst (IsDepth g j) (sym (get_or-take (chain_count t) depths j 0 l)) (known j (omega arith))) in
-            let path = deep-path (node_of t) (index_of t) g s.stands a depth d in
-            record { most = most-up (node_of t) (index_of t) g s.stands a depth d; to = path.0; along = path.1; path = path.2; deep = path.3 };
+            let path = deep-path (node_of t) (index_of t) g s.represents a depth d in
+            record { most = most-up (node_of t) (index_of t) g s.represents a depth d; to = path.0; along = path.1; path = path.2; deep = path.3 };
       }
 
   -- ---- costs
@@ -114,14 +114,14 @@ module _ (t : TableTree) (g : Graph) (s : IsTableGraph t g) where
             (λ i h.
             let l : i < chain_count t = omega arith in
             let m = s.long in
-            let by : ℕ → ℕ = cost_by (node_of t) (index_of t) g s.stands f in
+            let by : ℕ → ℕ = cost_by (node_of t) (index_of t) g s.represents f in
             let name : Text = get_or (chain_names t) i [] in
             get_or-take (chain_count t) costs i 0 l
-            ∙ known by (costs-down (node_of t) (index_of t) g s.stands f are) i (omega arith)
+            ∙ known by (costs-down (node_of t) (index_of t) g s.represents f are) i (omega arith)
             ∙ ap (λ k. saturated (by k)) (sym (s.chains_first i l))
-            ∙ ap saturated (cost-named (node_of t) (index_of t) g s.stands f are (a_chain name))
+            ∙ ap saturated (cost-named (node_of t) (index_of t) g s.represents f are (a_chain name))
             ∙ sym (named-number (λ x. saturated (f (a_chain x))) (chains_of t) i l));
-        has_costs = (λ a. cost (index_of t a), costs-up (node_of t) (index_of t) g s.stands cost is);
+        has_costs = (λ a. cost (index_of t a), costs-up (node_of t) (index_of t) g s.represents cost is);
       }
 
 -- ---- NAT
@@ -171,43 +171,43 @@ module _ (kind : NatKind) (t : TableTree) (g : Graph) (s : IsTableGraph t g) (co
       let on : ReachesMarked g (marks_of (translates kind) count t) w.index = (known w.index (omega arith)).0 w.is_reaching in
       record {
         base = w.base;
-        stands = (w.index, w.within, sym w.is);
+        member = (w.index, w.within, sym w.is);
         head = head.0;
         is_base = head.1;
         may_not = head.2;
-        reaching = reaching-up (node_of t) (index_of t) g s.stands (marks_of (translates kind) count t) (caller_has (translates kind) t) (mark (translates kind) count t) (a_chain w.base.name)
+        reaching = reaching-up (node_of t) (index_of t) g s.represents (marks_of (translates kind) count t) (caller_has (translates kind) t) (mark (translates kind) count t) (a_chain w.base.name)
             (subst (ReachesMarked g (marks_of (translates kind) count t)) (sym (own w.index w.base w.within (sym w.is))) on);
       }
 
   pub misplaced-reaching : MisplacesAs kind t → ReachesMisplaced kind (chains_of t) reaching
   misplaced-reaching m =
-      let index : ℕ = m.stands.0 in
-      let h : index < chain_count t = m.stands.1 in
+      let index : ℕ = m.member.0 in
+      let h : index < chain_count t = m.member.1 in
       let l = s.long in
-      let on = reaching-down (node_of t) (index_of t) g s.stands (marks_of (translates kind) count t) (caller_has (translates kind) t) (mark (translates kind) count t) (a_chain m.base.name) m.reaching in
+      let on = reaching-down (node_of t) (index_of t) g s.represents (marks_of (translates kind) count t) (caller_has (translates kind) t) (mark (translates kind) count t) (a_chain m.base.name) m.reaching in
       record {
         index = index;
         base = m.base;
-        within = m.stands.1;
-        is = sym m.stands.2;
+        within = m.member.1;
+        is = sym m.member.2;
         not_allowed = ap (may_not_translate kind) m.is_base ∙ ap not m.may_not;
-        is_reaching = (known index (omega arith)).1 (subst (ReachesMarked g (marks_of (translates kind) count t)) (own index m.base m.stands.1 m.stands.2) on);
+        is_reaching = (known index (omega arith)).1 (subst (ReachesMarked g (marks_of (translates kind) count t)) (own index m.base m.member.1 m.member.2) on);
       }
 
   pub misplaced : (found : Bool) → (IsTrue found ↔ ReachesMisplaced kind (chains_of t) reaching) → IsTrue found ↔ MisplacesAs kind t
   misplaced found e = (λ h. misplaced-found (e.0 h), λ m. e.1 (misplaced-reaching m))
 
--- one of the two
+-- source or destination NAT
 pub either-misplaced : (t : TableTree) (a b : Bool) → (IsTrue a ↔ MisplacesAs Source t) → (IsTrue b ↔ MisplacesAs Destination t) → IsTrue (a || b) ↔ MisplacesIn t
 either-misplaced t a b p q = (
   λ h. ⊎_elim (λ k. inl (p.0 k)) (λ k. inr (q.0 k)) (or_cases a b h),
   λ m. ⊎_elim (λ k. ap (λ x. x || b) (p.1 k)) (λ k. or_right a b (q.1 k)) m,
 )
 
--- ---- all of a table
+-- ---- all findings about a table
 
 pub table-cycle : (t : TableTree) (g : Graph) → IsTableGraph t g → (HasCycle (Calls g) → ⊥) → HasCycle (CallsOf t) → ⊥
-table-cycle t g s none k = none (cycle-down (node_of t) (index_of t) g s.stands k)
+table-cycle t g s none k = none (cycle-down (node_of t) (index_of t) g s.represents k)
 
 module _ (t : TableTree) (g : Graph) (s : IsTableGraph t g) (analysis : GraphAnalysis) (j : IsAnalysisOf g analysis) where
   pub analysis-costs : (costs : List ℕ) → costs ≡ take (chain_count t) analysis.costs.items → AreChainCosts t costs
@@ -224,7 +224,7 @@ module _ (t : TableTree) (g : Graph) (s : IsTableGraph t g) (analysis : GraphAna
       → found.depths.items ≡ take (chain_count t) analysis.depths.items
       → AreTableFindings t found
   table-findings found deep nat base costs depths = record {
-    stands = subst (RepresentsNodes (node_of t) (index_of t)) s.is s.stands;
+    represents = subst (RepresentsNodes (node_of t) (index_of t)) s.is s.represents;
     has_costs = subst (λ h. (cost : ℕ → ℕ) × IsCost h cost) s.is j.has_costs;
     acyclic = table-cycle t g s j.acyclic;
     deep = too-deep t found.depths.items (analysis-depths found.depths.items depths) found.is_too_deep deep;

@@ -1,4 +1,4 @@
--- What is found of rulesets whose jumps and gotos lead to no cycle.
+-- The findings about rulesets whose jumps and gotos have no cycle. (own)
 use Rattle.std.specs.Prelude.{◌≡◌, ◌↔◌, ℕ, ◌<◌, ◌≤◌, IsTrue, List, [], length, get_or, map, slice_index, Vec}
 use Rattle.std.specs.declared.alloc.Global.{Global}
 use Rattle.nft_tree.specs.Tree.{TableTree}
@@ -10,29 +10,33 @@ use Rattle.rule_paths.specs.Paths.{Caller, a_chain, CallsOf, AreCosts, AreAllCos
 use Rattle.rule_paths.specs.Paths.{MisplacedNat}
 use Rattle.rule_paths.specs.declared.analysis.Findings.{Findings}
 
--- no path from the caller has more jumps, as far as 64-bit numbers go, and one has as many
+-- the most jumps on a path from the caller, saturated at 64 bits
 pub record HasDepth (t : TableTree) (from : Caller) (depth : ℕ) : Type 0 where
-  pub most : (b : Caller) (es : List (Call Caller)) → IsPath (CallsOf t) from es b → saturated (jumps es) ≤ depth
+  pub most : (b : Caller) (es : List (Call Caller)) → IsPath (CallsOf t) from es b
+      → saturated (jumps es) ≤ depth
   pub to : Caller
   pub along : List (Call Caller)
   pub path : IsPath (CallsOf t) from along to
   pub deep : depth ≤ jumps along
 
--- what the chains of a table cost, in text order, where 2^64 - 1 stands for all that is more; that they have a cost
+-- the costs of the chains of a table, in text order, saturated at 2^64 - 1; and that the cost equations have
+-- a solution
 pub record AreChainCosts (t : TableTree) (costs : List ℕ) : Type 0 where
-  pub are : (cost : Caller → ℕ) → AreCosts t cost → costs ≡ map (λ c. saturated (cost (a_chain c.name))) (chains_of t)
+  pub are : (cost : Caller → ℕ) → AreCosts t cost
+      → costs ≡ map (λ c. saturated (cost (a_chain c.name))) (chains_of t)
   pub has_costs : (cost : Caller → ℕ) × AreCosts t cost
 
--- how many jumps the paths from the chains of a table have, in text order
+-- the depths of the chains of a table, in text order
 pub record AreChainDepths (t : TableTree) (depths : List ℕ) : Type 0 where
   pub long : length depths ≡ length (chains_of t)
-  pub are : (j : ℕ) → j < length depths → HasDepth t (a_chain (get_or (chain_names t) j [])) (slice_index depths j)
+  pub are : (j : ℕ) → j < length depths
+      → HasDepth t (a_chain (get_or (chain_names t) j [])) (slice_index depths j)
 
--- the numbers of the table at place i
+-- the numbers of table i
 abbrev pub numbers_at : List (Vec ℕ Global) → ℕ → List ℕ
 numbers_at rows i = get_or (map (λ row. row.items) rows) i []
 
--- what is found of a ruleset; that all its tables have costs
+-- the findings about a ruleset; and that its cost equations have a solution
 pub record AreFindings (tables : List TableTree) (found : Findings) : Type 0 where
   pub acyclic : Cycles tables → ⊥
   pub deep : IsTrue found.is_too_deep ↔ TooDeep tables

@@ -1,5 +1,5 @@
--- Where jumps and gotos lead: cycles, depth, cost, and the chains that NAT statements may stand in (nft(8), "Verdict
--- statement", "NAT statements").
+-- Jumps and gotos: cycles, depth, cost, and which base chains may have or reach NAT statements (nft(8),
+-- "Verdict statement", "NAT statements").
 use Rattle.std.specs.Prelude.{◌≡◌, ℕ, ◌+◌, ◌<◌, Bool, true, false, List, [], ◌∷◌, map, sum_by, flat_map, Contains}
 use Rattle.std.specs.Prelude.{Option, Some, None}
 use Rattle.std.specs.List.{list_any}
@@ -8,7 +8,7 @@ use Rattle.nft_tree.specs.declared.chain.ChainKind.TheVariants as kinds
 use Rattle.nft_tree.specs.declared.chain.Hook.{Hook}
 use Rattle.nft_tree.specs.declared.chain.Hook.TheVariants as hooks
 use Rattle.nft_tree.specs.Tree as tree
-use Rattle.nft_tree.specs.Tree.{Text, VerdictTree, DataTree, PairTree, Statement, RuleTree, HeadTree, ChainTree}
+use Rattle.nft_tree.specs.Tree.{Text, VerdictTree, DataTree, PairTree, Statement, HeadTree, ChainTree}
 use Rattle.nft_tree.specs.Tree.{MapTree, TableTree}
 use Rattle.nft_tree.specs.TableItems.{chains_of}
 use Rattle.rule_names.specs.Names.{chain_named, chain_names, map_named, some_of}
@@ -17,7 +17,7 @@ use Rattle.chain_graph.specs.Graph.{Call, NodeTree, calls_in, HasCycle, HasPathO
 
 -- ---- calls
 
--- what calls: a chain, or a map with a name, which a statement leads to and which leads to the chains of its data
+-- the nodes of the call graph: chains, and named maps, which statements look up and whose data call chains
 pub data Caller : Type 0 where
   a_chain : Text → Caller
   a_map : Text → Caller
@@ -34,7 +34,7 @@ data_calls (tree.to_value v) = []
 abbrev pub pair_calls : List PairTree → List (Call Caller)
 pair_calls ps = flat_map (λ p. data_calls p.value) ps
 
--- what a statement can come to: a verdict, or a verdict map, whatever the map is declared as
+-- the calls of a statement: of its verdict, or of its verdict map, whatever types the map declares
 abbrev pub statement_calls : Statement → List (Call Caller)
 statement_calls (tree.verdict v) = verdict_calls v
 statement_calls (tree.verdict_map s (tree.named_map name)) = record { to = a_map name; is_jump = false } ∷ []
@@ -52,7 +52,7 @@ abbrev pub map_node : Option MapTree → NodeTree Caller
 map_node None = graph.verdict_map []
 map_node (Some m) = graph.verdict_map (pair_calls (some_of m.elements))
 
--- what stands under a name in the table; nothing is called by what doesn't stand there
+-- the node of a name in the table; an unknown name has an empty node
 abbrev pub node_of : TableTree → Caller → NodeTree Caller
 node_of t (a_chain name) = chain_node (chain_named t name)
 node_of t (a_map name) = map_node (map_named t name)
@@ -62,33 +62,33 @@ CallsOf t caller call = Contains (calls_in (node_of t caller)) call
 
 -- ---- N04, N05
 
--- a cycle of jumps and gotos, those of verdict maps included
+-- N04: a cycle of jumps and gotos, those of verdict maps included
 pub record Cycles (tables : List TableTree) : Type 0 where
   pub table : TableTree
-  pub stands : Contains tables table
+  pub member : Contains tables table
   pub cycle : HasCycle (CallsOf table)
 
 abbrev pub MAX_JUMPS : ℕ
 MAX_JUMPS = 16
 
--- a path with more than 16 jumps that begins in a chain of the table: a jump is a verdict of a rule, and the verdicts
--- of a map are those of the rules that look it up (nft(8), "Verdict statement", "Vmap statement")
+-- a path with more than 16 jumps from a chain of the table (NFT_JUMP_STACK_SIZE). The verdicts of a map count
+-- as those of the rules that look it up (nft(8), "Verdict statement", "Vmap statement")
 pub record HasDeepPath (t : TableTree) : Type 0 where
   pub chain : Text
-  pub stands : Contains (chain_names t) chain
+  pub member : Contains (chain_names t) chain
   pub path : HasPathOver MAX_JUMPS (CallsOf t)
   pub begins : path.from ≡ a_chain chain
 
--- a table with such a path
+-- N05: a table has such a path
 pub record TooDeep (tables : List TableTree) : Type 0 where
   pub table : TableTree
-  pub stands : Contains tables table
+  pub member : Contains tables table
   pub deep : HasDeepPath table
 
--- ---- N06
+-- ---- N06 (own): the cost of a ruleset bounds the statements that one packet can meet
 
--- the costs of the chains and maps of a table: a chain costs, for each statement, 1 and what it leads to, a map the
--- greatest of its targets
+-- `cost` solves the cost equations of a table: a chain costs, for each statement, 1 and the greatest cost
+-- among its targets, a map the greatest cost among its targets
 abbrev pub AreCosts : TableTree → (Caller → ℕ) → Type 0
 AreCosts t cost = (caller : Caller) → cost caller ≡ node_cost cost (node_of t caller)
 
@@ -96,28 +96,28 @@ abbrev pub base_cost : (Caller → ℕ) → Text → Option HeadTree → ℕ
 base_cost cost name None = 0
 base_cost cost name (Some head) = 1 + cost (a_chain name)
 
--- the base chains of a table, 1 more each
+-- the costs of the base chains of a table, plus 1 for each
 abbrev pub table_cost : (Caller → ℕ) → TableTree → ℕ
 table_cost cost t = sum_by (λ c. base_cost cost c.name c.head) (chains_of t)
 
 abbrev pub MAX_COST : ℕ
 MAX_COST = 65536
 
--- the costs of the chains and maps of each table of a ruleset
+-- `cost` solves the cost equations of each table of a ruleset
 abbrev pub AreAllCosts : List TableTree → (TableTree → Caller → ℕ) → Type 0
 AreAllCosts tables cost = (t : TableTree) → Contains tables t → AreCosts t (cost t)
 
--- what a ruleset costs: the base chains of all its tables, 1 more each
+-- the cost of a ruleset: that of the base chains of all its tables, plus 1 for each
 abbrev pub ruleset_cost : (TableTree → Caller → ℕ) → List TableTree → ℕ
 ruleset_cost cost tables = sum_by (λ t. table_cost (cost t) t) tables
 
--- a ruleset costs over 65,536
+-- N06: the ruleset costs more than 65,536
 pub record TooCostly (tables : List TableTree) : Type 0 where
   pub cost : TableTree → Caller → ℕ
   pub are : AreAllCosts tables cost
   pub over : MAX_COST < ruleset_cost cost tables
 
--- ---- N10
+-- ---- N10: misplaced NAT statements
 
 abbrev pub translates_source : Statement → Bool
 translates_source (tree.nat (tree.source target)) = true
@@ -129,7 +129,7 @@ translates_destination (tree.nat (tree.destination target)) = true
 translates_destination (tree.nat (tree.redirect port)) = true
 translates_destination _ = false
 
--- some statement of the chain under the name passes
+-- some statement of the chain passes the test
 abbrev pub chain_has : (Statement → Bool) → Option ChainTree → Bool
 chain_has test None = false
 chain_has test (Some c) = list_any test (statements_of c)
@@ -138,27 +138,28 @@ abbrev pub caller_has : (Statement → Bool) → TableTree → Caller → Bool
 caller_has test t (a_chain name) = chain_has test (chain_named t name)
 caller_has test t (a_map name) = false
 
--- sources are translated by chains of type nat on postrouting
+-- source NAT is valid in chains of type nat on postrouting (own: nft(8) has snat on input too)
 abbrev pub may_translate_source : ChainKind → Hook → Bool
 may_translate_source kinds.Nat hooks.Postrouting = true
 may_translate_source _ _ = false
 
--- destinations by chains of type nat on prerouting or output
+-- destination NAT is valid in chains of type nat on prerouting or output
 abbrev pub may_translate_destination : ChainKind → Hook → Bool
 may_translate_destination kinds.Nat hooks.Prerouting = true
 may_translate_destination kinds.Nat hooks.Output = true
 may_translate_destination _ _ = false
 
--- a base chain that may not do so has such a statement, or leads to a chain that has one
+-- a base chain that may not have such a statement has one, or reaches a chain that has one
 pub record Misplaces (test : Statement → Bool) (may : ChainKind → Hook → Bool) (t : TableTree) : Type 0 where
   pub base : ChainTree
-  pub stands : Contains (chains_of t) base
+  pub member : Contains (chains_of t) base
   pub head : HeadTree
   pub is_base : base.head ≡ Some head
   pub may_not : may head.kind head.hook ≡ false
   pub reaching : Reaches (CallsOf t) (λ caller. caller_has test t caller ≡ true) (a_chain base.name)
 
--- snat or masquerade, dnat or redirect in a chain that is, or is reached from, a base chain where it has no place
+-- N10: snat or masquerade, dnat or redirect in a chain that is, or is reachable from, a base chain that may
+-- not have it
 pub data MisplacedNat (tables : List TableTree) : Type 0 where
   misplaced_source : (t : TableTree) → Contains tables t → Misplaces translates_source may_translate_source t
       → MisplacedNat tables

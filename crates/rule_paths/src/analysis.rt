@@ -1,4 +1,4 @@
-//! What the jumps and gotos of a ruleset come to.
+//! The analysis of all jumps and gotos of a ruleset.
 ghost use Rattle.std.specs.Prelude.{IfOk, MatchOption};
 ghost use Rattle.rule_paths.specs.Paths.{Cycles};
 ghost use Rattle.rule_paths.specs.Findings.{AreFindings};
@@ -7,31 +7,32 @@ use crate::table::analyze_table;
 use rule_names::TableNames;
 use std::alloc::{AllocError, Global};
 
-/// What the base chains of a ruleset may cost.
+/// The most that the base chains of a ruleset may cost together.
 const MAX_COST: u64 = 65_536;
 
-/// What the jumps and gotos of a ruleset without cycles come to.
+/// The analysis of a ruleset whose jumps and gotos have no cycle.
 #[derive(Drop)]
 pub struct Findings {
-    /// Whether a path from a chain has more than 16 jumps.
+    /// Whether a path from a chain has more than 16 jumps (N05).
     pub is_too_deep: bool,
-    /// Whether the base chains cost over 65,536.
+    /// Whether the base chains cost more than 65,536 together (N06).
     pub is_too_costly: bool,
-    /// Whether a NAT statement has no place where it stands, or where it is reached from.
+    /// Whether a NAT statement is in, or reachable from, a base chain that may not have it (N10).
     pub misplaces_nat: bool,
-    /// What each chain costs, by table and chain, or the greatest number.
+    /// The cost of each chain by table and chain, saturated at `u64::MAX`.
     pub costs: Vec<Vec<u64>>,
-    /// The most jumps of a path from each chain, by table and chain.
+    /// The most jumps on a path from each chain, by table and chain.
     pub depths: Vec<Vec<u64>>,
 }
 
-/// Judges the jumps and gotos; `None` where there is a cycle.
+/// Analyzes the jumps and gotos of a ruleset; `None` if they have a cycle (N04).
 ///
 /// # Errors
 ///
-/// There was no room to grow.
+/// If an allocation fails.
 pub fn analyze(alloc: Global, names: &[TableNames]) -> Result<Option<Findings>, AllocError>
-    ensures { IfOk result (λ answer. MatchOption answer (Cycles names.now) (λ found. AreFindings names.now found)) }
+    ensures { IfOk result (λ answer. MatchOption answer (Cycles names.now)
+        (λ found. AreFindings names.now found)) }
 {
     let mut costs = Vec::with_capacity(alloc, names.len())?;
     let mut depths = Vec::with_capacity(alloc, names.len())?;

@@ -1,8 +1,8 @@
-//! Where the jumps and gotos of a ruleset lead: cycles, depth, cost, and the chains that NAT
-//! statements may stand in.
+//! Analysis of jumps and gotos: cycles, depth, cost, and NAT statements in chains that may not have
+//! them.
 //!
-//! Each table is judged as a graph of numbers: its chains, its maps, and a node each for chains and
-//! maps that aren't there. The time is in proportion to the ruleset, and nothing recurs.
+//! Each table is a call graph by index: its chains, its maps, and one empty node each for unknown
+//! chains and maps. All passes take linear time, and nothing is recursive.
 #![tactic(auto)]
 
 mod analysis;

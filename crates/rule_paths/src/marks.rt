@@ -1,4 +1,4 @@
-//! The chains whose statements translate addresses.
+//! Marks the chains that have NAT statements.
 ghost use Rattle.std.specs.Prelude.{◌≡◌, ◌≤◌, length, IfOk, Some};
 ghost use Rattle.std.specs.List.{list_any};
 ghost use Rattle.nft_tree.specs.Tree.{chain_tree, rule_tree, statement};
@@ -10,16 +10,16 @@ use nft_tree::{Chain, Nat, Rule, Stmt};
 use rule_names::TableNames;
 use std::alloc::{AllocError, Global};
 
-/// What of a packet is translated.
+/// Whether the source or the destination is translated.
 #[derive(Clone, Copy)]
 pub(crate) enum NatKind {
-    /// `snat`, `masquerade`
+    /// `snat`, `masquerade`.
     Source,
-    /// `dnat`, `redirect`
+    /// `dnat`, `redirect`.
     Destination,
 }
 
-/// Whether the statement translates so.
+/// Whether the statement is a NAT statement of this kind.
 fn translates(stmt: &Stmt, kind: NatKind) -> bool
     ensures { result ≡ translates kind (statement stmt.now) }
 {
@@ -30,7 +30,7 @@ fn translates(stmt: &Stmt, kind: NatKind) -> bool
     }
 }
 
-/// Whether a statement of the rule translates so.
+/// Whether the rule has a NAT statement of this kind.
 fn rule_translates(rule: &Rule, kind: NatKind) -> bool
     ensures { result ≡ list_any (translates kind) (rule_tree rule.now).statements }
 {
@@ -42,7 +42,7 @@ fn rule_translates(rule: &Rule, kind: NatKind) -> bool
     false
 }
 
-/// Whether a statement of the chain translates so.
+/// Whether the chain has a NAT statement of this kind.
 fn chain_translates(chain: &Chain, kind: NatKind) -> bool
     ensures { result ≡ chain_has (translates kind) (Some (chain_tree chain.now)) }
 {
@@ -54,7 +54,7 @@ fn chain_translates(chain: &Chain, kind: NatKind) -> bool
     false
 }
 
-/// Which of that many nodes translate so.
+/// For each of `nodes` nodes, whether it has a NAT statement of this kind. Only chains have.
 pub(crate) fn marks(
     alloc: Global,
     names: &TableNames,

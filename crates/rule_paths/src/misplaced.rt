@@ -1,4 +1,4 @@
-//! NAT statements that have no place where they stand, or where they are reached from.
+//! NAT statements in, or reachable from, base chains that may not have them.
 ghost use Rattle.std.specs.Prelude.{◌≡◌, ◌↔◌, ◌≤◌, IsTrue, length, map, IfOk};
 ghost use Rattle.nft_tree.specs.Tree.{chain_tree};
 ghost use Rattle.chain_graph.specs.Nodes.{graph_of, targets_of};
@@ -12,7 +12,7 @@ use nft_tree::{Chain, ChainKind, Head, Hook};
 use rule_names::TableNames;
 use std::alloc::{AllocError, Global};
 
-/// Whether a base chain with this head may translate so.
+/// Whether a base chain with this head may have NAT statements of this kind.
 fn may_translate(head: &Head, kind: NatKind) -> bool
     ensures { result ≡ may_translate kind head.now.kind head.now.hook }
 {
@@ -23,7 +23,7 @@ fn may_translate(head: &Head, kind: NatKind) -> bool
     }
 }
 
-/// Whether the chain is a base chain that may not translate so.
+/// Whether the chain is a base chain that may not have NAT statements of this kind.
 fn may_not_translate(chain: &Chain, kind: NatKind) -> bool
     ensures { result ≡ may_not_translate kind (chain_tree chain.now).head }
 {
@@ -33,10 +33,11 @@ fn may_not_translate(chain: &Chain, kind: NatKind) -> bool
     }
 }
 
-/// Whether a base chain that may not translate so leads on.
+/// Whether a base chain that may not have such NAT statements reaches one.
 fn reaches_misplaced(chains: &[&Chain], reaching: &[bool], kind: NatKind) -> bool
     requires { length chains.now ≤ length reaching.now }
-    ensures { IsTrue result ↔ ReachesMisplaced kind (map (λ c. chain_tree c.now) chains.now) reaching.now }
+    ensures { IsTrue result ↔ ReachesMisplaced kind
+        (map (λ c. chain_tree c.now) chains.now) reaching.now }
 {
     for (index, chain) in chains.iter().enumerate() {
         if reaching[index] && may_not_translate(chain, kind) {
@@ -46,7 +47,7 @@ fn reaches_misplaced(chains: &[&Chain], reaching: &[bool], kind: NatKind) -> boo
     false
 }
 
-/// Whether a base chain that may not translate so has such a statement, or leads to one.
+/// Whether a base chain that may not have NAT statements of this kind has or reaches one.
 pub(crate) fn misplaces(
     alloc: Global,
     names: &TableNames,

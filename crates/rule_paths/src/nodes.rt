@@ -1,4 +1,4 @@
-//! The graph of a table.
+//! Building the call graph of a table.
 ghost use Rattle.std.specs.Prelude.{◌≡◌, ◌++◌, map, IfOk, Some};
 ghost use Rattle.std.specs.Option.{option_map};
 ghost use Rattle.nft_tree.specs.Tree.{chain_tree, map_tree, pair_tree, rule_tree, statement, verdict_tree};
@@ -13,7 +13,7 @@ use nft_tree::{Chain, Data, MapDecl, MapRef, Pair, Rule, Stmt, Verdict};
 use rule_names::TableNames;
 use std::alloc::{AllocError, Global};
 
-/// The jump or goto to the chain of that name.
+/// The edge of a jump or goto to the chain with that name.
 fn chain_edge(names: &TableNames, name: &[u8], is_jump: bool) -> Edge
     ensures to { result.to ≡ index_of names.now (a_chain name.now) }
     ensures is_jump { result.is_jump ≡ is_jump }
@@ -24,7 +24,7 @@ fn chain_edge(names: &TableNames, name: &[u8], is_jump: bool) -> Edge
     }
 }
 
-/// The jump or goto that the verdict is.
+/// The edge of a jump or goto verdict; `None` for any other verdict.
 fn verdict_edge(names: &TableNames, verdict: &Verdict) -> Option<Edge>
     ensures { call_if (option_map call_of result)
         ≡ map (numbered_call (index_of names.now)) (verdict_calls (verdict_tree verdict.now)) }
@@ -36,7 +36,7 @@ fn verdict_edge(names: &TableNames, verdict: &Verdict) -> Option<Edge>
     }
 }
 
-/// What the data of these pairs lead to.
+/// The edges of the verdicts in these map elements.
 fn pair_edges(alloc: Global, names: &TableNames, pairs: &[Pair]) -> Result<Vec<Edge>, AllocError>
     ensures { IfOk result (λ edges. map call_of edges.items
         ≡ map (numbered_call (index_of names.now)) (pair_calls (map pair_tree pairs.now))) }
@@ -52,7 +52,7 @@ fn pair_edges(alloc: Global, names: &TableNames, pairs: &[Pair]) -> Result<Vec<E
     Ok(edges)
 }
 
-/// The edge, if there is one.
+/// A vector of the edge, or an empty one.
 fn one_or_none(alloc: Global, edge: Option<Edge>) -> Result<Vec<Edge>, AllocError>
     ensures { IfOk result (λ edges. map call_of edges.items ≡ call_if (option_map call_of edge)) }
 {
@@ -63,7 +63,7 @@ fn one_or_none(alloc: Global, edge: Option<Edge>) -> Result<Vec<Edge>, AllocErro
     Ok(edges)
 }
 
-/// What a statement can lead to.
+/// The edges of a statement.
 fn statement_edges(alloc: Global, names: &TableNames, stmt: &Stmt) -> Result<Vec<Edge>, AllocError>
     ensures { IfOk result (λ edges. map call_of edges.items
         ≡ map (numbered_call (index_of names.now)) (statement_calls (statement stmt.now))) }
@@ -87,15 +87,17 @@ fn statement_edges(alloc: Global, names: &TableNames, stmt: &Stmt) -> Result<Vec
     }
 }
 
-/// Adds what each statement of a rule can lead to.
+/// Adds the edges of each statement of a rule.
 fn add_rule(
     alloc: Global,
     names: &TableNames,
     statements: &mut Vec<Vec<Edge>>,
     rule: &Rule,
 ) -> Result<(), AllocError>
-    ensures { IfOk result (λ _. statements_of statements.new.items ≡ statements_of statements.old.items
-        ++ map (map (numbered_call (index_of names.now))) (map statement_calls (rule_tree rule.now).statements)) }
+    ensures { IfOk result (λ _. statements_of statements.new.items
+        ≡ statements_of statements.old.items
+        ++ map (map (numbered_call (index_of names.now)))
+        (map statement_calls (rule_tree rule.now).statements)) }
 {
     for stmt in &rule.statements {
         statements.push(statement_edges(alloc, names, stmt)?)?;
@@ -103,7 +105,6 @@ fn add_rule(
     Ok(())
 }
 
-/// The node of a chain.
 fn chain_node(alloc: Global, names: &TableNames, chain: &Chain) -> Result<Node, AllocError>
     ensures { IfOk result (λ node. node_tree node ≡ chain_at names.now (chain_tree chain.now)) }
 {
@@ -114,7 +115,6 @@ fn chain_node(alloc: Global, names: &TableNames, chain: &Chain) -> Result<Node, 
     Ok(Node::Chain(statements))
 }
 
-/// The node of a map.
 fn map_node(alloc: Global, names: &TableNames, map: &MapDecl) -> Result<Node, AllocError>
     ensures { IfOk result (λ node. node_tree node ≡ map_at names.now (map_tree map.now)) }
 {
@@ -124,7 +124,6 @@ fn map_node(alloc: Global, names: &TableNames, map: &MapDecl) -> Result<Node, Al
     }
 }
 
-/// Adds the nodes of the chains.
 fn add_chains(
     alloc: Global,
     names: &TableNames,
@@ -140,7 +139,6 @@ fn add_chains(
     Ok(())
 }
 
-/// Adds the nodes of the maps.
 fn add_maps(
     alloc: Global,
     names: &TableNames,
@@ -156,7 +154,7 @@ fn add_maps(
     Ok(())
 }
 
-/// The graph of the table by number.
+/// The call graph of the table: its chains, its maps, and one empty node each for unknown names.
 pub(crate) fn table_nodes(alloc: Global, names: &TableNames) -> Result<Vec<Node>, AllocError>
     ensures { IfOk result (λ nodes. IsTableGraph names.now (graph_of nodes.items)) }
 {

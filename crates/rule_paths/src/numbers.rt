@@ -1,11 +1,11 @@
-//! The numbers of chains and maps in the graph of a table.
+//! The indices of chains and maps in the call graph of a table.
 ghost use Rattle.std.specs.Prelude.{◌≡◌};
 ghost use Rattle.rule_paths.specs.Paths.{a_chain, a_map};
 ghost use Rattle.rule_paths.specs.steps.Index.{index_of};
 
 use rule_names::TableNames;
 
-/// The number of the chain of that name.
+/// The index of the chain with that name, or that of the node for unknown chains.
 pub(crate) fn chain_number(names: &TableNames, name: &[u8]) -> usize
     ensures { result ≡ index_of names.now (a_chain name.now) }
 {
@@ -15,7 +15,7 @@ pub(crate) fn chain_number(names: &TableNames, name: &[u8]) -> usize
     }
 }
 
-/// The number of the map of that name.
+/// The index of the map with that name, or that of the node for unknown maps.
 pub(crate) fn map_number(names: &TableNames, name: &[u8]) -> usize
     ensures { result ≡ index_of names.now (a_map name.now) }
 {

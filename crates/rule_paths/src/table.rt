@@ -1,4 +1,4 @@
-//! What the jumps and gotos of one table come to.
+//! The analysis of the jumps and gotos of one table.
 ghost use Rattle.std.specs.Prelude.{◌≡◌, ◌≤◌, ℕ, length, map, nat_lt, take, IfOk, MatchOption};
 ghost use Rattle.std.specs.List.{list_any};
 ghost use Rattle.nft_tree.specs.Tree.{chain_tree, head_tree};
@@ -19,32 +19,31 @@ use nft_tree::Chain;
 use rule_names::TableNames;
 use std::alloc::{AllocError, Global};
 
-/// The most jumps of a path.
+/// The most jumps that a path may have (NFT_JUMP_STACK_SIZE).
 const MAX_JUMPS: u64 = 16;
 
-/// What the jumps and gotos of a table without cycles come to.
+/// The analysis of a table whose jumps and gotos have no cycle.
 #[derive(Drop)]
 pub(crate) struct TableFindings {
     /// Whether a path from a chain has more than 16 jumps.
     pub(crate) is_too_deep: bool,
-    /// Whether a NAT statement has no place where it stands, or where it is reached from.
+    /// Whether a NAT statement is in, or reachable from, a base chain that may not have it.
     pub(crate) misplaces_nat: bool,
-    /// What the base chains cost, or the greatest number.
+    /// The cost of all base chains, saturated.
     pub(crate) base_cost: u64,
-    /// What each chain costs, or the greatest number.
+    /// The cost of each chain, saturated.
     pub(crate) costs: Vec<u64>,
-    /// The most jumps of a path from each chain.
+    /// The most jumps on a path from each chain.
     pub(crate) depths: Vec<u64>,
 }
 
-/// Whether one of the depths is over 16.
 fn is_too_deep(depths: &[u64]) -> bool
     ensures { result ≡ list_any (λ depth. nat_lt MAX_JUMPS depth) depths.now }
 {
     depths.iter().any(|depth| *depth > MAX_JUMPS)
 }
 
-/// The sum with a chain that may be a base chain.
+/// The sum with the chain added, if it is a base chain.
 fn add_base(sum: u64, chain: &Chain, cost: u64) -> u64
     ensures { result ≡ with_base sum cost (chain_tree chain.now).head }
 {
@@ -54,10 +53,11 @@ fn add_base(sum: u64, chain: &Chain, cost: u64) -> u64
     }
 }
 
-/// What the base chains cost, or the greatest number.
+/// The cost of all base chains, saturated.
 fn base_cost(names: &TableNames, costs: &[u64]) -> u64
     requires { AreChainCosts names.now costs.now }
-    ensures { (cost : Caller → ℕ) → AreCosts names.now cost → result ≡ saturated (table_cost cost names.now) }
+    ensures { (cost : Caller → ℕ) → AreCosts names.now cost
+        → result ≡ saturated (table_cost cost names.now) }
 {
     let mut sum = 0u64;
     for (index, chain) in names.chains().iter().enumerate() {
@@ -66,7 +66,7 @@ fn base_cost(names: &TableNames, costs: &[u64]) -> u64
     sum
 }
 
-/// The numbers of the first nodes, which are the chains.
+/// The first entries, which are those of the chains.
 fn of_chains(names: &TableNames, mut numbers: Vec<u64>) -> Vec<u64>
     ensures { result.items ≡ take (length (chains_of names.now)) numbers.items }
 {
@@ -74,7 +74,7 @@ fn of_chains(names: &TableNames, mut numbers: Vec<u64>) -> Vec<u64>
     numbers
 }
 
-/// What is found of a table whose graph is judged.
+/// The findings about a table, by the analysis of its graph.
 fn findings(
     alloc: Global,
     names: &TableNames,
@@ -105,7 +105,7 @@ fn findings(
     })
 }
 
-/// Judges the jumps and gotos of a table; `None` where there is a cycle.
+/// Analyzes the jumps and gotos of a table; `None` if they have a cycle.
 pub(crate) fn analyze_table(
     alloc: Global,
     names: &TableNames,

@@ -1,4 +1,4 @@
--- Types joined, compared part by part.
+-- Comparing concatenated types part by part.
 use Rattle.std.proofs.Common.{◌≡◌, ℕ, zero, suc, ◌≤◌, ◌<◌, List, [], ◌∷◌, length, drop, ◌&&◌, true, false, Some, refl, ap, ◌∙◌, sym, arith, nat_eq, map, get_or}
 use Rattle.std.proofs.Math.Dec.{eqb-zero-suc, eqb-suc-suc}
 use Rattle.std.proofs.Math.Seq.{drop-nil}
@@ -11,7 +11,7 @@ use Rattle.nft_tree.specs.declared.compared_types.ComparedType.{ComparedType}
 use Rattle.rule_types.specs.Types.{same_compared_types}
 use Rattle.rule_types.specs.steps.Keys.{part_is}
 
--- from a part on, types are the same where that part is and those after it are
+-- from a part on, types are the same if that part is and those after it are
 same_compared_types-part : (xs ks : List ComparedType) (i : ℕ) (k : ComparedType) → slice_get xs i ≡ Some k → same_compared_types (drop i xs) (drop i ks) ≡ part_is (slice_get ks i) k && same_compared_types (drop (suc i) xs) (drop (suc i) ks)
 same_compared_types-part [] ks i k e = cc
 same_compared_types-part (x ∷ xs) [] zero k e = refl
@@ -30,7 +30,7 @@ part_is-within [] i k e = cc
 part_is-within (y ∷ ks) zero k e = omega arith
 part_is-within (y ∷ ks) (suc i) k e = let within : i < length ks = part_is-within ks i k e in omega arith
 
--- past the last part of the one list, types are the same where the other has no more
+-- past the last part of one list, types are the same if the other has no more
 pub same_compared_types-end : (xs ks : List ComparedType) (n : ℕ) → length xs ≡ n → n ≤ length ks → nat_eq n (length ks) ≡ same_compared_types (drop n xs) (drop n ks)
 same_compared_types-end [] [] zero e w = refl
 same_compared_types-end [] (y ∷ ks) zero e w = eqb-zero-suc (length ks)
@@ -39,6 +39,6 @@ same_compared_types-end (x ∷ xs) ks zero e w = absurd (omega arith)
 same_compared_types-end (x ∷ xs) [] (suc n) e w = absurd (omega arith)
 same_compared_types-end (x ∷ xs) (y ∷ ks) (suc n) e w = eqb-suc-suc n (length ks) ∙ same_compared_types-end xs ks n (omega arith) (omega arith)
 
--- what a selector reads is that part of what the selectors read
+-- the type of a selector is that part of the selectors' types
 pub selector_compared_type-part : (ss : List Selector) (i : ℕ) (d : Selector) → i < length ss → slice_get (map selector_compared_type ss) i ≡ Some (selector_compared_type (get_or ss i d))
 selector_compared_type-part ss i d lt = slice_get-map selector_compared_type ss i ∙ ap (option_map selector_compared_type) (slice_get-get_or ss i d lt)

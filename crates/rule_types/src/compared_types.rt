@@ -1,4 +1,4 @@
-//! What types are the same, how wide they are, and what orders and ranges they have.
+//! Properties of types: equality, width, whether they have an order and ranges.
 ghost use Rattle.std.specs.Prelude.{◌≡◌};
 ghost use Rattle.nft_tree.specs.Tree.{range_tree};
 ghost use Rattle.nft_tree.specs.ComparedTypes.{selector_compared_type};
@@ -6,14 +6,13 @@ ghost use Rattle.rule_types.specs.Types.{compare_mismatches, has_ranges, is_orde
 
 use nft_tree::{ComparedType, Operator, Selector, ValueRange, ValueType};
 
-/// Whether two types are the same.
 pub(crate) fn same_compared_type(one: ComparedType, other: ComparedType) -> bool
     ensures { result ≡ same_compared_type one other }
 {
     one == other
 }
 
-/// The width of the type's values in bits.
+/// The width of the type's values, in bits.
 pub(crate) fn compared_type_width(kind: ComparedType) -> u32
     ensures { result ≡ compared_type_width kind }
 {
@@ -23,7 +22,7 @@ pub(crate) fn compared_type_width(kind: ComparedType) -> u32
     }
 }
 
-/// Whether the type's values are in an order.
+/// Whether `<` and the like compare values of the type.
 fn is_ordered(kind: ComparedType) -> bool
     ensures { result ≡ is_ordered kind }
 {
@@ -34,7 +33,7 @@ fn is_ordered(kind: ComparedType) -> bool
     )
 }
 
-/// Whether there are ranges of the type's values.
+/// Whether the type has ranges `a-b`.
 fn has_ranges(kind: ComparedType) -> bool
     ensures { result ≡ has_ranges kind }
 {
@@ -44,7 +43,7 @@ fn has_ranges(kind: ComparedType) -> bool
     }
 }
 
-/// Whether it is a range of a type that has none.
+/// Whether it is a range `a-b` of a type without ranges.
 pub(crate) fn range_mismatches(kind: ComparedType, range: &ValueRange) -> bool
     ensures { result ≡ range_mismatches kind (range_tree range.now) }
 {
@@ -63,15 +62,14 @@ fn is_order(operator: Operator) -> bool
     }
 }
 
-/// Whether it is one value.
 fn is_single(range: &ValueRange) -> bool
     ensures { result ≡ is_single (range_tree range.now) }
 {
     matches!(range, ValueRange::One(_))
 }
 
-/// Whether an order is asked of a range, of a prefix or of a type without order, or whether a
-/// range is asked of a type that has none.
+/// Whether an order is applied to a range, a prefix or a type without order, or the right side is a
+/// range of a type without ranges.
 pub(crate) fn compare_mismatches(selector: Selector, operator: Operator, range: &ValueRange) -> bool
     ensures { result ≡ compare_mismatches selector operator (range_tree range.now) }
 {

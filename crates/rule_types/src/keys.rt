@@ -1,4 +1,4 @@
-//! The keys of sets: types joined, and elements.
+//! The keys of sets: concatenated types, and elements.
 ghost use Rattle.std.specs.Prelude.{◌≡◌, map, slice_get};
 ghost use Rattle.std.specs.List.{list_any};
 ghost use Rattle.nft_tree.specs.Tree.{element_tree, key_tree, set_ref_tree, set_tree, set_type_tree};
@@ -12,19 +12,19 @@ use crate::compared_types::{compared_type_width, range_mismatches, same_compared
 use nft_tree::{ComparedType, Element, Key, Selector, SetDecl, SetRef, SetType, ValueType, any};
 use rule_names::TableNames;
 
-/// Types joined may have as many bits as this.
+/// The greatest width of a concatenation, in bits.
 const MAX_KEY_WIDTH: u32 = 128;
 
-/// What keys have to be.
+/// The form that keys must have.
 #[derive(Clone, Copy)]
 pub(crate) enum KeyShape {
     /// Values or ranges of one type.
     One(ComparedType),
-    /// So many values joined.
+    /// A concatenation of so many values.
     Joined(usize),
 }
 
-/// What keys of these selectors' types have to be.
+/// The form of keys for these selectors.
 fn selectors_shape(selectors: &[Selector]) -> KeyShape
     ensures { result ≡ shape_of (map selector_compared_type selectors.now) }
 {
@@ -34,7 +34,7 @@ fn selectors_shape(selectors: &[Selector]) -> KeyShape
     }
 }
 
-/// What the elements of a set have to be.
+/// The form of keys in a set of this type.
 fn set_shape(key: &SetType) -> KeyShape
     ensures { result ≡ shape_of (key_compared_types (set_type_tree key.now)) }
 {
@@ -44,7 +44,7 @@ fn set_shape(key: &SetType) -> KeyShape
     }
 }
 
-/// Whether the key hasn't as many parts as it has to have, or is a range of a type that has none.
+/// Whether the key has the wrong number of parts, or is a range of a type without ranges.
 fn key_mismatches(shape: KeyShape, key: &Key) -> bool
     ensures { result ≡ shape_mismatches shape (key_tree key.now) }
 {
@@ -57,12 +57,13 @@ fn key_mismatches(shape: KeyShape, key: &Key) -> bool
 }
 
 fn some_key_mismatches(shape: KeyShape, elements: &[Element]) -> bool
-    ensures { result ≡ list_any (λ e. shape_mismatches shape e.key) (map element_tree elements.now) }
+    ensures { result ≡ list_any (λ e. shape_mismatches shape e.key)
+        (map element_tree elements.now) }
 {
     any(elements, |element| key_mismatches(shape, &element.key))
 }
 
-/// Whether the types of these selectors have too many bits together.
+/// Whether the selectors' types have more than 128 bits together.
 fn selectors_too_wide(selectors: &[Selector]) -> bool
     ensures { result ≡ is_too_wide (map selector_compared_type selectors.now) }
 {
@@ -73,7 +74,7 @@ fn selectors_too_wide(selectors: &[Selector]) -> bool
     width > MAX_KEY_WIDTH
 }
 
-/// Whether these types have too many bits together.
+/// Whether the types have more than 128 bits together.
 fn types_too_wide(types: &[ValueType]) -> bool
     ensures { result ≡ is_too_wide (map Named types.now) }
 {
@@ -93,8 +94,7 @@ fn key_too_wide(key: &SetType) -> bool
     }
 }
 
-/// Whether a declared set's types have too many bits together, or one of its elements doesn't fit
-/// them.
+/// Whether a declared set's key is wider than 128 bits, or an element doesn't match its type.
 pub(crate) fn set_mismatches(set: &SetDecl) -> bool
     ensures { result ≡ set_mismatches (set_tree set.now) }
 {
@@ -105,7 +105,7 @@ pub(crate) fn set_mismatches(set: &SetDecl) -> bool
         }
 }
 
-/// Whether that part of the set's keys is of the type.
+/// Whether the set's key has that part, and its type is this one.
 fn part_is(key: &SetType, part: usize, kind: ComparedType) -> bool
     ensures { result ≡ part_is (slice_get (key_compared_types (set_type_tree key.now)) part) kind }
 {
@@ -115,9 +115,10 @@ fn part_is(key: &SetType, part: usize, kind: ComparedType) -> bool
     }
 }
 
-/// Whether the selectors' types are those of the set, part by part.
+/// Whether the selectors' types are those of the set's key, part by part.
 fn same_compared_types(selectors: &[Selector], key: &SetType) -> bool
-    ensures { result ≡ same_compared_types (map selector_compared_type selectors.now) (key_compared_types (set_type_tree key.now)) }
+    ensures { result ≡ same_compared_types (map selector_compared_type selectors.now)
+        (key_compared_types (set_type_tree key.now)) }
 {
     for (part, selector) in selectors.iter().enumerate() {
         if !part_is(key, part, selector.kind()) {
@@ -127,9 +128,10 @@ fn same_compared_types(selectors: &[Selector], key: &SetType) -> bool
     selectors.len() == key.parts()
 }
 
-/// Whether the name is that of a set of other types than the selectors', or of a map.
+/// Whether the name is that of a map, or of a set with another key type than the selectors'.
 fn named_set_mismatches(names: &TableNames, selectors: &[Selector], name: &[u8]) -> bool
-    ensures { result ≡ named_set_mismatches (map selector_compared_type selectors.now) (set_named names.now name.now) (map_named names.now name.now) }
+    ensures { result ≡ named_set_mismatches (map selector_compared_type selectors.now)
+        (set_named names.now name.now) (map_named names.now name.now) }
 {
     match names.set(name) {
         Some(set) => !same_compared_types(selectors, &set.key),
@@ -138,7 +140,8 @@ fn named_set_mismatches(names: &TableNames, selectors: &[Selector], name: &[u8])
 }
 
 fn set_ref_mismatches(names: &TableNames, selectors: &[Selector], set: &SetRef) -> bool
-    ensures { result ≡ set_ref_mismatches names.now (map selector_compared_type selectors.now) (set_ref_tree set.now) }
+    ensures { result ≡ set_ref_mismatches names.now (map selector_compared_type selectors.now)
+        (set_ref_tree set.now) }
 {
     match set {
         SetRef::Named(name) => named_set_mismatches(names, selectors, name),
@@ -146,7 +149,7 @@ fn set_ref_mismatches(names: &TableNames, selectors: &[Selector], set: &SetRef) 
     }
 }
 
-/// Whether the selectors' types have too many bits together, or the set is not one of theirs.
+/// Whether the selectors are wider than 128 bits together, or their types aren't the set's.
 pub(crate) fn lookup_mismatches(names: &TableNames, selectors: &[Selector], set: &SetRef) -> bool
     ensures { result ≡ lookup_mismatches names.now selectors.now (set_ref_tree set.now) }
 {

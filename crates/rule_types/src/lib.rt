@@ -1,4 +1,5 @@
-//! Whether types fit: keys selectors, data statements, values orders and ranges.
+//! Type checking: set and map keys against selectors, map data against statements, operators and
+//! ranges against types (N08).
 #![tactic(auto)]
 
 mod compared_types;

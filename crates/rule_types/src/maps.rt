@@ -1,4 +1,4 @@
-//! The keys and the data of maps.
+//! The keys and data of maps.
 ghost use Rattle.std.specs.Prelude.{◌≡◌, map};
 ghost use Rattle.std.specs.List.{list_any};
 ghost use Rattle.nft_tree.specs.Tree.{data_tree, map_ref_tree, map_tree, pair_tree};
@@ -11,7 +11,7 @@ use nft_tree::{ComparedType, Data, MapDecl, MapRef, Pair, Selector, any};
 use rule_names::TableNames;
 
 /// Whether it is a verdict where a value is wanted, or the reverse. `wanted` is the type of the
-/// values; `None` where they are to be verdicts.
+/// values, `None` for verdicts.
 fn data_mismatches(wanted: Option<ComparedType>, given: &Data) -> bool
     ensures { result ≡ data_mismatches wanted (data_tree given.now) }
 {
@@ -33,7 +33,7 @@ fn some_pair_mismatches(key: ComparedType, wanted: Option<ComparedType>, pairs: 
     any(pairs, |pair| pair_mismatches(key, wanted, pair))
 }
 
-/// Whether an element of a declared map doesn't fit the map's types.
+/// Whether an element of a declared map doesn't match the map's types.
 pub(crate) fn map_mismatches(map: &MapDecl) -> bool
     ensures { result ≡ map_mismatches (map_tree map.now) }
 {
@@ -43,7 +43,7 @@ pub(crate) fn map_mismatches(map: &MapDecl) -> bool
     }
 }
 
-/// Whether both are verdicts or both values of one type.
+/// Whether both are verdicts, or both are values of the same type.
 fn same_data(one: Option<ComparedType>, other: Option<ComparedType>) -> bool
     ensures { result ≡ same_data one other }
 {
@@ -54,14 +54,15 @@ fn same_data(one: Option<ComparedType>, other: Option<ComparedType>) -> bool
     }
 }
 
-/// Whether the name is that of a map of another key type or other data, or of a set.
+/// Whether the name is that of a set, or of a map with another key or data type.
 fn named_map_mismatches(
     names: &TableNames,
     key: ComparedType,
     wanted: Option<ComparedType>,
     name: &[u8],
 ) -> bool
-    ensures { result ≡ named_map_mismatches key wanted (set_named names.now name.now) (map_named names.now name.now) }
+    ensures { result ≡ named_map_mismatches key wanted (set_named names.now name.now)
+        (map_named names.now name.now) }
 {
     match names.map(name) {
         Some(map) => !(same_compared_type(key, map.types.key())
@@ -70,7 +71,7 @@ fn named_map_mismatches(
     }
 }
 
-/// Whether the map doesn't take what the selector reads to what is wanted.
+/// Whether the map's key type isn't the selector's, or its data type isn't the wanted one.
 pub(crate) fn map_ref_mismatches(
     names: &TableNames,
     selector: Selector,

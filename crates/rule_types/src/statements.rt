@@ -1,4 +1,4 @@
-//! Statements.
+//! Type checking of statements.
 ghost use Rattle.std.specs.Prelude.{◌≡◌};
 ghost use Rattle.nft_tree.specs.Tree.{match_tree, statement};
 ghost use Rattle.rule_types.specs.Types.{match_mismatches, statement_mismatches};
@@ -25,8 +25,8 @@ fn match_mismatches(names: &TableNames, test: &Match) -> bool
     }
 }
 
-/// Whether types don't fit in a statement: a map of a verdict map gives verdicts, marks are set
-/// to marks, and addresses become addresses.
+/// Whether the types in a statement don't match. `vmap` needs a map to verdicts, `mark set` one to
+/// marks, `snat` and `dnat` one to addresses.
 pub(crate) fn statement_mismatches(names: &TableNames, stmt: &Stmt) -> bool
     ensures { result ≡ statement_mismatches names.now (statement stmt.now) }
 {

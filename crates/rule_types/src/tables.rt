@@ -1,4 +1,4 @@
-//! Tables and what stands in them.
+//! Type checking of tables.
 ghost use Rattle.std.specs.Prelude.{◌≡◌};
 ghost use Rattle.std.specs.List.{list_any};
 ghost use Rattle.nft_tree.specs.Tree.{item_tree, rule_tree};
@@ -10,11 +10,10 @@ use crate::statements::statement_mismatches;
 use nft_tree::{Item, Rule, any};
 use rule_names::TableNames;
 
-/// Whether types don't fit somewhere in the ruleset: a key is of another type than its selector,
-/// a map stands where a set is wanted or the reverse, verdicts where values are wanted or the
-/// reverse, a mark is set to what is no mark or an address becomes what is no address, an order
-/// or a range is asked of a type without it, or types joined have more than 128 bits or are not
-/// as many as their set's.
+/// Whether some types of the ruleset don't match (N08): a set or map with another key type than its
+/// selector; a map for a set or the reverse; verdicts for values or the reverse; map data that
+/// isn't a mark (in `mark set`) or an address (in `snat`, `dnat`); an order or a range of a type
+/// without it; a concatenation over 128 bits, or with another number of parts than its set.
 pub fn has_type_mismatch(names: &[TableNames]) -> bool
     ensures { result ≡ list_any table_mismatches names.now }
 {

@@ -1,4 +1,4 @@
--- Ranges with outcomes clash exactly where entries contradict each other.
+-- Ranges with comparable data clash exactly if entries contradict each other.
 use Rattle.std.proofs.Common.{◌≡◌, ℕ, ◌≤◌, List, [], ◌∷◌, Bool, true, false, ◌&&◌, not, Option, Some, None, max, ◌⊎◌, inl, inr, ⊎_elim, refl, sym, ap, ap₂, subst, ◌∙◌, arith, eq-eqb}
 use Rattle.std.specs.Prelude.{nat_le, nat_eq}
 use Rattle.std.specs.Borrow.{Bor}
@@ -17,7 +17,7 @@ use Rattle.rule_values.specs.declared.comparable_data.ComparableData.{Comparable
 use Rattle.rule_values.specs.declared.comparable_data.ComparableData.TheVariants as comparables
 use Rattle.rule_values.specs.Faults.{ElementData, a_verdict, a_value, MapEntry, contradict, same_element_data, same_span}
 use Rattle.rule_values.specs.steps.MapEntries.{name_index_of, comparable_form, RepresentsData, RepresentsEntry, RepresentEach, RepresentsEntries}
-use Rattle.rule_values.proofs.TypedValues.{name_index-one}
+use Rattle.rule_values.proofs.NameIndices.{name_index-one}
 
 -- ---- tests
 
@@ -29,7 +29,7 @@ true-not : (a : Bool) → (a ≡ true → ⊥) → not a ≡ true
 true-not true h = absurd (h refl)
 true-not false h = refl
 
--- ---- what is given
+-- ---- data of elements
 
 same-spans : (a b : Span) → same_span a b ≡ true → a ≡ b
 same-spans a b h =
@@ -55,7 +55,7 @@ same-refl (a_verdict (tree.jump t)) = text-refl t
 same-refl (a_verdict (tree.goto t)) = text-refl t
 same-refl (a_value s) = and_from (nat_eq s.low s.low) (nat_eq s.high s.high) (eq-eqb s.low s.low refl) (eq-eqb s.high s.high refl)
 
--- what an outcome stands for, by the names
+-- the data of a comparable form, by the names
 ElementDataOf : List (Bor Text) → ComparableData → ElementData → Type 0
 ElementDataOf names comparables.Accept g = g ≡ a_verdict tree.accept
 ElementDataOf names comparables.Drop g = g ≡ a_verdict tree.drop
@@ -96,13 +96,13 @@ given-one names (comparables.Jump i) a b h k = h.1 ∙ ap (λ t. a_verdict (tree
 given-one names (comparables.Goto i) a b h k = h.1 ∙ ap (λ t. a_verdict (tree.goto t)) (name_index-one h.0 k.0 names i h.2 k.2) ∙ sym k.1
 given-one names (comparables.Numbers l u) a b h k = h ∙ sym k
 
--- equal outcomes are of the same thing
+-- equal comparable forms have the same data
 one-given : (names : List (Bor Text)) (a b : ElementData) (o u : ComparableData) → RepresentsData names a o → RepresentsData names b u → o ≡ u → same_element_data a b ≡ true
 one-given names a b o u h k e =
     let same = given-one names u a b (given-by names a u (h.is ∙ ap Some e)) (given-by names b u k.is) in
     ap (λ g. same_element_data g b) same ∙ same-refl b
 
--- and the same thing has equal outcomes
+-- and the same data have equal comparable forms
 one-comparable_data : (names : List (Bor Text)) (a b : ElementData) (o u : ComparableData) → RepresentsData names a o → RepresentsData names b u → same_element_data a b ≡ true → o ≡ u
 one-comparable_data names a b o u h k e =
     let same : Some o ≡ Some u = sym h.is ∙ ap (comparable_form names) (same-eq a b e) ∙ k.is in
@@ -124,7 +124,7 @@ two-contradict names e f p q key i j c d differ =
     (and_from (nat_le e.keys.low f.keys.high) (nat_le f.keys.low e.keys.high) (le-leb e.keys.low f.keys.high (omega arith)) (le-leb f.keys.low e.keys.high (omega arith)))
     (true-not (same_element_data e.given f.given) (λ s. differ (one-comparable_data names e.given f.given p.1 q.1 i.comparable_data j.comparable_data s)))
 
--- a number that both have, with two outcomes
+-- a number that both contain, with different data
 record Shared (p q : Range × ComparableData) : Type 0 where
   key : ℕ
   first : Covers p.0 key
@@ -159,7 +159,7 @@ any-contradict names e p (f ∷ es) (q ∷ ps) key v i are c (inr h) differ = or
 any-contradict names e p [] (q ∷ ps) key v i are c h differ = absurd are
 any-contradict names e p (f ∷ es) [] key v i are c h differ = absurd are
 
--- a number that the pair and another have, with another outcome
+-- a number that the pair and another one contain, with different data
 record SharedWith (p : Range × ComparableData) (ps : List (Range × ComparableData)) : Type 0 where
   key : ℕ
   value : ComparableData
@@ -176,7 +176,7 @@ contradict-any names e p (f ∷ es) (q ∷ ps) i are h = ⊎_elim
 contradict-any names e p [] (q ∷ ps) i are h = absurd are
 contradict-any names e p (f ∷ es) [] i are h = absurd are
 
--- ---- two of a list
+-- ---- two elements of a list
 
 clash-forth : (names : List (Bor Text)) (es : List MapEntry) (ps : List (Range × ComparableData)) (key : ℕ) (one other : ComparableData) → RepresentEach names es ps → HasValue ps key one → HasValue ps key other → (one ≡ other → ⊥) → any_pair contradict es ≡ true
 clash-forth names [] [] key one other are h k differ = absurd h

@@ -1,4 +1,4 @@
--- Pairs that stand for entries, one more at a time.
+-- Pairs that represent entries, one more at a time.
 use Rattle.std.proofs.Common.{◌≡◌, ℕ, ◌+◌, ◌<◌, ◌≤◌, List, [], ◌∷◌, ◌++◌, Option, Some, None, length, get_or, map, take, refl, sym, ap, subst, ◌∙◌}
 use Rattle.std.specs.List.{filter_map, cons_option}
 use Rattle.std.specs.Option.{option_map}
@@ -64,13 +64,13 @@ push-none : (names : List (Bor Text)) (es : List MapEntry) (ps : List (Range × 
 push-none names es ps None h here = subst (λ (fs : List MapEntry). RepresentEach names fs ps) (sym (append-nil es)) h
 push-none names es ps (Some e) h here = absurd here
 
--- an element that stands for numbers
+-- an element that denotes numbers
 gathers-some : {X Y : Type 0} (f : Y → Option MapEntry) (h : X → Y) (xs : List X) (i : ℕ) (x : X) (old new : List (Bor Text)) (ps : List (Range × ComparableData)) (p : Range × ComparableData) → i < length xs → x ≡ get_or xs i x → RepresentEach old (filter_map f (map h (take i xs))) ps → KeepsIndices old new → RepresentsOptionalEntry new (f (h x)) (Some p) → RepresentEach new (filter_map f (map h (take (i + 1) xs))) (ps ++ p ∷ [])
 gathers-some f h xs i x old new ps p lt is before k here =
     let before' = keeps-entries old new (filter_map f (map h (take i xs))) ps k before in
     subst (λ (es : List MapEntry). RepresentEach new es (ps ++ p ∷ [])) (sym (more f h xs i x lt is)) (push-some new (filter_map f (map h (take i xs))) ps (f (h x)) p before' here)
 
--- an element that stands for none
+-- an element that denotes none
 gathers-none : {X Y : Type 0} (f : Y → Option MapEntry) (h : X → Y) (xs : List X) (i : ℕ) (x : X) (old new : List (Bor Text)) (ps : List (Range × ComparableData)) → i < length xs → x ≡ get_or xs i x → RepresentEach old (filter_map f (map h (take i xs))) ps → KeepsIndices old new → RepresentsOptionalEntry new (f (h x)) None → RepresentEach new (filter_map f (map h (take (i + 1) xs))) ps
 gathers-none f h xs i x old new ps lt is before k here =
     let before' = keeps-entries old new (filter_map f (map h (take i xs))) ps k before in

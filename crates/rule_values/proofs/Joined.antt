@@ -1,4 +1,4 @@
--- Joined values, part by part.
+-- Concatenated values, part by part.
 use Rattle.std.proofs.Common.{◌≡◌, ℕ, zero, suc, ◌+◌, ◌<◌, ◌≤◌, Bool, true, false, ◌||◌, List, [], ◌∷◌, Some, None, length, get_or, map, drop, refl, sym, ap, ap₂, ◌∙◌, arith, slice_get}
 use Rattle.std.specs.List.{list_any}
 use Rattle.std.proofs.lemmas.List.{drop_all}
@@ -35,7 +35,7 @@ joined-no_kind (x ∷ ks) vs zero at = cc
 joined-no_kind (x ∷ ks) [] (suc i) at = joined-none (drop i ks)
 joined-no_kind (x ∷ ks) (v ∷ vs) (suc i) at = joined-no_kind ks vs i at
 
--- ---- a test of each part, whose answer is that of the parts from i on
+-- ---- a test of the parts from i on
 
 module _ (test : TypedRange → Bool) (answer : Bool) (ks : List ComparedType) (vs : List Value) (i : ℕ) (known : answer ≡ list_any test (joined_from ks vs i)) where
   -- past the last kind

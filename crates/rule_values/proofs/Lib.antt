@@ -1,5 +1,5 @@
 pub mod Tests
 pub mod Joined
-pub mod TypedValues
+pub mod NameIndices
 pub mod Entries
 pub mod Clashes

@@ -1,4 +1,5 @@
--- The values of a ruleset, each with the type that it is to have, and the maps with the types of their keys and data.
+-- All values of a ruleset with the types that they must have, and all maps with the types of their keys and
+-- data (nft(8), "Data types", "Sets", "Maps").
 use Rattle.std.specs.Prelude.{List, [], ◌∷◌, map, flat_map, Option, Some, None}
 use Rattle.nft_tree.specs.declared.selector.Selector.{Selector}
 use Rattle.nft_tree.specs.declared.selector.ValueType.TheVariants as types
@@ -6,7 +7,7 @@ use Rattle.nft_tree.specs.declared.compared_types.ComparedType.{ComparedType}
 use Rattle.nft_tree.specs.declared.compared_types.ComparedType.TheVariants.{Named}
 use Rattle.nft_tree.specs.Tree as tree
 use Rattle.nft_tree.specs.Tree.{ValueTree, RangeTree, KeyTree, ElementTree, DataTree, PairTree, SetRefTree, MapRefTree}
-use Rattle.nft_tree.specs.Tree.{MatchTree, Statement, RuleTree, SetTree, MapTree, ItemTree, TableTree}
+use Rattle.nft_tree.specs.Tree.{MatchTree, Statement, RuleTree, MapTree, ItemTree, TableTree}
 use Rattle.nft_tree.specs.ComparedTypes.{selector_compared_type, key_compared_types, map_key_compared_type, map_data_compared_type}
 
 abbrev pub some_of : {A : Type 0} → Option (List A) → List A
@@ -15,21 +16,27 @@ some_of (Some xs) = xs
 
 -- ---- maps
 
--- a map's elements with the type of their keys and that of their data; `None` stands for verdicts
+-- a map's elements with the types of their keys and data; `None` for verdicts
 pub record TypedMap : Type 0 where
   pub key : ComparedType
   pub value : Option ComparedType
   pub elements : List PairTree
 
 abbrev pub declared_map : MapTree → TypedMap
-declared_map m = record { key = map_key_compared_type m.types; value = map_data_compared_type m.types; elements = some_of m.elements }
+declared_map m =
+    record {
+      key = map_key_compared_type m.types;
+      value = map_data_compared_type m.types;
+      elements = some_of m.elements;
+    }
 
--- a map without a name, where a selector is looked up
+-- an anonymous map, in which a selector is looked up
 abbrev pub anonymous_map : Selector → Option ComparedType → MapRefTree → List TypedMap
 anonymous_map s wanted (tree.named_map name) = []
-anonymous_map s wanted (tree.pairs ps) = record { key = selector_compared_type s; value = wanted; elements = ps } ∷ []
+anonymous_map s wanted (tree.pairs ps) =
+    record { key = selector_compared_type s; value = wanted; elements = ps } ∷ []
 
--- marks are set to marks, addresses are translated to addresses
+-- the data of `mark set` are marks, those of `snat` and `dnat` addresses
 abbrev pub statement_maps : Statement → List TypedMap
 statement_maps (tree.verdict_map s m) = anonymous_map s None m
 statement_maps (tree.set_mark f (tree.looked_up l)) = anonymous_map l.selector (Some (Named types.Mark)) l.map
@@ -45,16 +52,15 @@ rule_maps r = flat_map statement_maps r.statements
 abbrev pub item_maps : ItemTree → List TypedMap
 item_maps (tree.chain c) = flat_map rule_maps c.rules
 item_maps (tree.map_item m) = declared_map m ∷ []
-item_maps (tree.set s) = []
-item_maps (tree.comment text) = []
+item_maps _ = []
 
--- all maps of a table, those without a name too
+-- all maps of a table, also the anonymous ones
 abbrev pub maps_in : TableTree → List TypedMap
 maps_in t = flat_map item_maps t.items
 
 -- ---- values
 
--- a value, a range or a prefix, and the type that it is to have
+-- a value, a range or a prefix, and the type that it must have
 pub record TypedRange : Type 0 where
   pub kind : ComparedType
   pub range : RangeTree
@@ -62,7 +68,7 @@ pub record TypedRange : Type 0 where
 abbrev pub typed_value : ComparedType → ValueTree → TypedRange
 typed_value k v = record { kind = k; range = tree.one v }
 
--- joined values, part by part
+-- the values of a concatenation, part by part
 abbrev pub joined_ranges : List ComparedType → List ValueTree → List TypedRange
 joined_ranges (k ∷ ks) (v ∷ vs) = typed_value k v ∷ joined_ranges ks vs
 joined_ranges _ _ = []
@@ -87,10 +93,9 @@ match_ranges _ = []
 
 abbrev pub data_ranges : Option ComparedType → DataTree → List TypedRange
 data_ranges (Some k) (tree.to_value v) = typed_value k v ∷ []
-data_ranges (Some k) (tree.to_verdict v) = []
-data_ranges None d = []
+data_ranges _ _ = []
 
--- keys and data of a map's elements
+-- the keys and data of a map's elements
 abbrev pub map_ranges : TypedMap → List TypedRange
 map_ranges m = flat_map (λ p. record { kind = m.key; range = p.key } ∷ data_ranges m.value p.value) m.elements
 
@@ -107,6 +112,6 @@ item_ranges (tree.set s) = element_ranges (key_compared_types s.key) (some_of s.
 item_ranges (tree.map_item m) = map_ranges (declared_map m)
 item_ranges (tree.comment text) = []
 
--- all values of a table: what is compared, elements of sets, keys and data of maps
+-- all values of a table: in comparisons, set elements, map keys and data
 abbrev pub ranges_in : TableTree → List TypedRange
 ranges_in t = flat_map item_ranges t.items

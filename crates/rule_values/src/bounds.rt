@@ -1,4 +1,4 @@
-//! Numbers of statements and of chains' heads that are out of their bounds.
+//! Range checks of numbers in statements and chain heads.
 ghost use Rattle.std.specs.Prelude.{◌≡◌, map};
 ghost use Rattle.std.specs.List.{list_any};
 ghost use Rattle.std.specs.Option.{option_map};
@@ -11,10 +11,10 @@ use nft_tree::{
     SourceTarget, Stmt,
 };
 
-/// The prefix of a log has at most as many bytes.
+/// The longest prefix of a `log` statement, in bytes (NF_LOG_PREFIXLEN is 128 with its zero).
 const MAX_LOG_PREFIX: usize = 127;
 
-/// Whether a number of a chain is out of its bounds.
+/// Whether a number of a chain is out of range.
 pub(crate) fn item_out_of_range(item: &Item) -> bool
     ensures { result ≡ item_out_of_range (item_tree item.now) }
 {
@@ -39,7 +39,7 @@ fn head_out_of_range(head: &Option<Head>) -> bool
     }
 }
 
-/// Whether the priority isn't a number of 32 bits with a sign.
+/// Whether the priority doesn't fit a signed 32-bit number.
 fn priority_out_of_range(priority: Priority) -> bool
     ensures { result ≡ priority_out_of_range priority }
 {
@@ -83,7 +83,7 @@ fn flags_out_of_range(flags: &[Flag]) -> bool
     flags.iter().any(flag_out_of_range)
 }
 
-/// Whether the flag is a number of more than 8 bits.
+/// Whether the flag is a number wider than 8 bits.
 fn flag_out_of_range(flag: &Flag) -> bool
     ensures { result ≡ flag_out_of_range (flag_tree flag.now) }
 {
@@ -93,7 +93,7 @@ fn flag_out_of_range(flag: &Flag) -> bool
     }
 }
 
-/// Whether a translation is to what are no ports.
+/// Whether a NAT statement has invalid ports.
 fn nat_out_of_range(nat: &Nat) -> bool
     ensures { result ≡ nat_out_of_range (nat_tree nat.now) }
 {
@@ -108,7 +108,7 @@ fn nat_out_of_range(nat: &Nat) -> bool
     }
 }
 
-/// Whether the range is a port, or two of which the second isn't the lower one.
+/// Whether the range is a port, or two ports in ascending order.
 fn are_ports(ports: PortRange) -> bool
     ensures { result ≡ are_ports ports }
 {
@@ -118,7 +118,7 @@ fn are_ports(ports: PortRange) -> bool
     }
 }
 
-/// Whether the number is a port, which 0 isn't.
+/// Whether the number is a port: 1 to 65535.
 fn is_port(number: u64) -> bool
     ensures { result ≡ is_port number }
 {

@@ -1,4 +1,4 @@
-//! What elements of maps give.
+//! Map data in a form that `==` compares.
 ghost use Rattle.std.specs.Prelude.{IfOk, OnOk};
 ghost use Rattle.nft_tree.specs.Tree.{data_tree, verdict_tree};
 ghost use Rattle.rule_values.specs.Faults.{a_verdict, element_data};
@@ -10,22 +10,22 @@ use nft_tree::{ComparedType, Data, Verdict};
 use nft_values::value_numbers;
 use std::alloc::AllocError;
 
-/// What an element of a map gives. Two are the same exactly where the elements give the same.
+/// The data of a map element. Two are equal exactly if the elements map to the same.
 #[derive(Clone, Copy, PartialEq, Eq)]
 pub(crate) enum ComparableData {
     Accept,
     Drop,
     Continue,
     Return,
-    /// By the place of the chain's name among the names.
+    /// By the index of the chain's name.
     Jump(usize),
-    /// By the place of the chain's name among the names.
+    /// By the index of the chain's name.
     Goto(usize),
-    /// The numbers that a value stands for, from the one to the other.
+    /// The lowest and the highest number that a value denotes.
     Numbers(u128, u128),
 }
 
-/// The place of the name among the names, at the end where it is new.
+/// The index of the name, which is added at the end if it is new.
 fn name_index<'t>(names: &mut IndexSet<&'t [u8]>, name: &'t [u8]) -> Result<usize, AllocError>
     ensures keeps { OnOk result (KeepsIndices names.old.keys names.new.keys) }
     ensures name_index { IfOk result (λ i. IsNameIndex names.new.keys name.now i) }
@@ -39,7 +39,8 @@ fn comparable_verdict<'t>(
     verdict: &'t Verdict,
 ) -> Result<ComparableData, AllocError>
     ensures keeps { OnOk result (KeepsIndices names.old.keys names.new.keys) }
-    ensures comparable_data { IfOk result (λ o. RepresentsData names.new.keys (a_verdict (verdict_tree verdict.now)) o) }
+    ensures comparable_data { IfOk result
+        (λ o. RepresentsData names.new.keys (a_verdict (verdict_tree verdict.now)) o) }
 {
     Ok(match verdict {
         Verdict::Accept => ComparableData::Accept,
@@ -51,7 +52,7 @@ fn comparable_verdict<'t>(
     })
 }
 
-/// What an element with that datum gives: `None` where a value isn't wanted or stands for no number.
+/// The comparable form of a datum; `None` if a value isn't wanted or denotes no number.
 pub(crate) fn comparable_form_of<'t>(
     names: &mut IndexSet<&'t [u8]>,
     plant: &Plant,
@@ -59,7 +60,9 @@ pub(crate) fn comparable_form_of<'t>(
     datum: &'t Data,
 ) -> Result<Option<ComparableData>, AllocError>
     ensures keeps { OnOk result (KeepsIndices names.old.keys names.new.keys) }
-    ensures comparable_data { IfOk result (λ o. RepresentsOptionalData names.new.keys (element_data plant.now wanted (data_tree datum.now)) o) }
+    ensures comparable_data { IfOk result
+        (λ o. RepresentsOptionalData names.new.keys
+        (element_data plant.now wanted (data_tree datum.now)) o) }
 {
     match (datum, wanted) {
         (Data::Verdict(verdict), _) => Ok(Some(comparable_verdict(names, verdict)?)),

@@ -1,4 +1,4 @@
-//! Elements of a map that contradict each other.
+//! Overlapping map elements with different data.
 ghost use Rattle.std.specs.Prelude.{◌≡◌, flat_map, map, IfOk, OnOk};
 ghost use Rattle.std.specs.List.{list_any};
 ghost use Rattle.nft_tree.specs.Tree.{item_tree, pair_tree, rule_tree, statement, table_tree};
@@ -16,7 +16,7 @@ use nft_values::numbers_of;
 use set_intervals::{Intervals, Range, SetError};
 use std::alloc::{AllocError, Global};
 
-/// Whether a map of the table contradicts itself.
+/// Whether some map of the table has overlapping elements with different data.
 pub(crate) fn table_contradicts(
     alloc: Global,
     plant: &Plant,
@@ -33,7 +33,8 @@ pub(crate) fn table_contradicts(
 }
 
 fn item_contradicts(alloc: Global, plant: &Plant, item: &Item) -> Result<bool, AllocError>
-    ensures { IfOk result (λ b. b ≡ list_any (map_contradicts plant.now) (item_maps (item_tree item.now))) }
+    ensures { IfOk result (λ b. b ≡ list_any (map_contradicts plant.now)
+        (item_maps (item_tree item.now))) }
 {
     match item {
         Item::Chain(chain) => rules_contradict(alloc, plant, &chain.rules),
@@ -43,7 +44,8 @@ fn item_contradicts(alloc: Global, plant: &Plant, item: &Item) -> Result<bool, A
 }
 
 fn rules_contradict(alloc: Global, plant: &Plant, rules: &[Rule]) -> Result<bool, AllocError>
-    ensures { IfOk result (λ b. b ≡ list_any (map_contradicts plant.now) (flat_map rule_maps (map rule_tree rules.now))) }
+    ensures { IfOk result (λ b. b ≡ list_any (map_contradicts plant.now)
+        (flat_map rule_maps (map rule_tree rules.now))) }
 {
     for rule in rules {
         if rule_contradicts(alloc, plant, rule)? {
@@ -54,7 +56,8 @@ fn rules_contradict(alloc: Global, plant: &Plant, rules: &[Rule]) -> Result<bool
 }
 
 fn rule_contradicts(alloc: Global, plant: &Plant, rule: &Rule) -> Result<bool, AllocError>
-    ensures { IfOk result (λ b. b ≡ list_any (map_contradicts plant.now) (rule_maps (rule_tree rule.now))) }
+    ensures { IfOk result (λ b. b ≡ list_any (map_contradicts plant.now)
+        (rule_maps (rule_tree rule.now))) }
 {
     for stmt in &rule.statements {
         if statement_contradicts(alloc, plant, stmt)? {
@@ -65,7 +68,8 @@ fn rule_contradicts(alloc: Global, plant: &Plant, rule: &Rule) -> Result<bool, A
 }
 
 fn statement_contradicts(alloc: Global, plant: &Plant, stmt: &Stmt) -> Result<bool, AllocError>
-    ensures { IfOk result (λ b. b ≡ list_any (map_contradicts plant.now) (statement_maps (statement stmt.now))) }
+    ensures { IfOk result (λ b. b ≡ list_any (map_contradicts plant.now)
+        (statement_maps (statement stmt.now))) }
 {
     match statement_elements(stmt) {
         None => Ok(false),
@@ -73,7 +77,7 @@ fn statement_contradicts(alloc: Global, plant: &Plant, stmt: &Stmt) -> Result<bo
     }
 }
 
-/// Whether two elements have a number in common and give different things.
+/// Whether two elements of the map overlap and have different data.
 fn map_contradicts(alloc: Global, plant: &Plant, elements: &Elements) -> Result<bool, AllocError>
     ensures { IfOk result (λ b. b ≡ map_contradicts plant.now (elements_tree elements.now)) }
 {
@@ -85,13 +89,14 @@ fn map_contradicts(alloc: Global, plant: &Plant, elements: &Elements) -> Result<
     }
 }
 
-/// The elements that stand for numbers, each by its numbers and what it gives.
+/// The elements that denote numbers, each as the range of its key and its data.
 fn gather(
     alloc: Global,
     plant: &Plant,
     elements: &Elements,
 ) -> Result<Vec<(Range, ComparableData)>, AllocError>
-    ensures { IfOk result (λ pairs. RepresentsEntries pairs.items (entries_of plant.now (elements_tree elements.now))) }
+    ensures { IfOk result (λ pairs. RepresentsEntries pairs.items
+        (entries_of plant.now (elements_tree elements.now))) }
 {
     let mut names = IndexSet::new(alloc);
     let mut pairs = Vec::new(alloc);
@@ -103,8 +108,7 @@ fn gather(
     Ok(pairs)
 }
 
-/// The numbers of an element's key and what the element gives; `None` where the key or a value that
-/// it gives stands for no number.
+/// The range of an element's key, and its data; `None` if one of them denotes no number.
 fn entry<'t>(
     names: &mut IndexSet<&'t [u8]>,
     plant: &Plant,
@@ -112,7 +116,8 @@ fn entry<'t>(
     pair: &'t Pair,
 ) -> Result<Option<(Range, ComparableData)>, AllocError>
     ensures keeps { OnOk result (KeepsIndices names.old.keys names.new.keys) }
-    ensures entry { IfOk result (λ e. RepresentsOptionalEntry names.new.keys (entry_of plant.now (elements_tree elements.now) (pair_tree pair.now)) e) }
+    ensures entry { IfOk result (λ e. RepresentsOptionalEntry names.new.keys
+        (entry_of plant.now (elements_tree elements.now) (pair_tree pair.now)) e) }
 {
     let given = comparable_form_of(names, plant, elements.value, &pair.value)?;
     match (numbers_of(plant, elements.key, &pair.key), given) {

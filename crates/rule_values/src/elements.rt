@@ -1,4 +1,4 @@
-//! The elements of maps.
+//! The elements of maps with the types of their keys and data.
 ghost use Rattle.std.specs.Prelude.{◌≡◌};
 ghost use Rattle.std.specs.Option.{option_map};
 ghost use Rattle.nft_tree.specs.Tree.{map_ref_tree, map_tree, statement};
@@ -10,16 +10,16 @@ use nft_tree::{
     SourceTarget, Stmt, ValueType,
 };
 
-/// A map's elements with the type of their keys and that of their data.
+/// A map's elements with the types of their keys and data.
 #[derive(Clone, Copy)]
 pub(crate) struct Elements<'t> {
     pub(crate) key: ComparedType,
-    /// `None` where the data are verdicts.
+    /// `None` if the data are verdicts.
     pub(crate) value: Option<ComparedType>,
     pub(crate) pairs: &'t [Pair],
 }
 
-/// Those of a map with a name.
+/// The elements of a declared map.
 pub(crate) fn declared_elements(map: &MapDecl) -> Elements<'_>
     ensures { elements_tree result ≡ declared_map (map_tree map.now) }
 {
@@ -33,13 +33,14 @@ pub(crate) fn declared_elements(map: &MapDecl) -> Elements<'_>
     }
 }
 
-/// Those of a map without a name, where the selector is looked up.
+/// The elements of an anonymous map, in which the selector is looked up.
 fn anonymous_elements(
     selector: Selector,
     value: Option<ComparedType>,
     map: &MapRef,
 ) -> Option<Elements<'_>>
-    ensures { listed (option_map elements_tree result) ≡ anonymous_map selector value (map_ref_tree map.now) }
+    ensures { listed (option_map elements_tree result)
+        ≡ anonymous_map selector value (map_ref_tree map.now) }
 {
     match map {
         MapRef::Named(_) => None,
@@ -51,7 +52,7 @@ fn anonymous_elements(
     }
 }
 
-/// Those of the map without a name in a statement.
+/// The elements of the anonymous map in a statement, if there is one.
 pub(crate) fn statement_elements(stmt: &Stmt) -> Option<Elements<'_>>
     ensures { listed (option_map elements_tree result) ≡ statement_maps (statement stmt.now) }
 {

@@ -1,20 +1,20 @@
-//! The types of a set's keys.
+//! The types of the parts of a set's keys.
 ghost use Rattle.std.specs.Prelude.{◌≡◌, slice_get};
 ghost use Rattle.rule_values.specs.steps.Views.{key_types_of};
 
 use nft_tree::{ComparedType, Selector, SetType};
 
-/// The types of a set's keys, part by part.
+/// The types of the parts of a set's keys.
 #[derive(Clone, Copy)]
 pub(crate) enum KeyTypes<'t> {
-    /// As a set with a name declares them.
+    /// As a named set declares them.
     Declared(&'t SetType),
-    /// Those of the selectors that are looked up in a set without a name.
+    /// Those of the selectors that are looked up in an anonymous set.
     Selected(&'t [Selector]),
 }
 
 impl KeyTypes<'_> {
-    /// The kind of that part, counted from 0; `None` past the last.
+    /// The type of the part, counted from 0; `None` past the last.
     pub(crate) fn kind(&self, part: usize) -> Option<ComparedType>
         ensures { result ≡ slice_get (key_types_of self.now) part }
     {

@@ -1,5 +1,5 @@
-//! Whether the values of a ruleset are of their types and on the box, and whether maps contradict
-//! themselves (nft(8), "Data types", "Maps").
+//! Checks of values: that they are of their types and in range (N09), that the interfaces they name
+//! exist (N13), and that overlapping map elements have the same data (N12).
 #![tactic(auto)]
 
 ghost use Rattle.std.specs.Prelude.{◌≡◌, IfOk};
@@ -23,8 +23,8 @@ use std::alloc::{AllocError, Global};
 use value_check::ValueCheck;
 use values::table_fails;
 
-/// Whether a value isn't of its type or a number is out of its bounds: what is compared, elements
-/// of sets, keys and data of maps; ports, flags, marks, the prefix of a log, priorities.
+/// Whether a value isn't of its type or a number is out of range (N09): in comparisons, set
+/// elements, map keys and data; ports, TCP flags, marks, log prefixes and priorities.
 pub fn has_wrong_value(plant: &Plant, tree: &Ruleset) -> bool
     ensures { result ≡ list_any (has_wrong_value plant.now) (tables_of tree.now) }
 {
@@ -39,7 +39,7 @@ fn table_has_wrong_value(plant: &Plant, table: &Table) -> bool
     table_fails(ValueCheck::IsOfType, plant, table) || table.items.iter().any(item_out_of_range)
 }
 
-/// Whether a value names an interface that isn't on the box.
+/// Whether a value of type iface_index names an interface that the box doesn't have (N13).
 pub fn names_unknown_interface(plant: &Plant, tree: &Ruleset) -> bool
     ensures { result ≡ list_any (names_unknown_interface plant.now) (tables_of tree.now) }
 {
@@ -48,11 +48,11 @@ pub fn names_unknown_interface(plant: &Plant, tree: &Ruleset) -> bool
         .any(|table| table_fails(ValueCheck::IsOnBox, plant, table))
 }
 
-/// Whether two elements of a map have a number in common and give different things.
+/// Whether two overlapping elements of a map have different data (N12).
 ///
 /// # Errors
 ///
-/// No room to gather the elements of a map.
+/// If an allocation fails.
 pub fn has_contradiction(alloc: Global, plant: &Plant, tree: &Ruleset) -> Result<bool, AllocError>
     ensures { IfOk result (λ b. b ≡ list_any (has_contradiction plant.now) (tables_of tree.now)) }
 {

@@ -1,4 +1,4 @@
-//! What is asked of each value.
+//! The two checks of single values.
 ghost use Rattle.std.specs.Prelude.{◌≡◌};
 ghost use Rattle.nft_tree.specs.Tree.{range_tree, value_tree};
 ghost use Rattle.rule_values.specs.TypedValues.{typed_value};
@@ -8,17 +8,17 @@ use box_file::Plant;
 use nft_tree::{ComparedType, Value, ValueRange};
 use nft_values::{is_on_box, is_range, is_range_on_box, is_value};
 
-/// What is asked of each value of a ruleset.
+/// A check of a value.
 #[derive(Clone, Copy)]
 pub(crate) enum ValueCheck {
-    /// Is it one of its type?
+    /// It is one of its type.
     IsOfType,
-    /// Is the interface that it names on the box?
+    /// The interface that it names exists on the box.
     IsOnBox,
 }
 
 impl ValueCheck {
-    /// Whether the answer is no for a value, a range or a prefix.
+    /// Whether a value, a range or a prefix fails the check.
     pub(crate) fn fails(self, plant: &Plant, kind: ComparedType, range: &ValueRange) -> bool
         ensures { result ≡ fails self plant.now (typed_range kind (range_tree range.now)) }
     {
@@ -28,7 +28,7 @@ impl ValueCheck {
         }
     }
 
-    /// Whether the answer is no for a value.
+    /// Whether a value fails the check.
     pub(crate) fn fails_value(self, plant: &Plant, kind: ComparedType, value: &Value) -> bool
         ensures { result ≡ fails self plant.now (typed_value kind (value_tree value.now)) }
     {

@@ -1,4 +1,4 @@
-//! A question asked of all values of a ruleset.
+//! Applies a check to all values of a ruleset.
 ghost use Rattle.std.specs.Prelude.{◌≡◌, flat_map, map};
 ghost use Rattle.std.specs.List.{list_any};
 ghost use Rattle.nft_tree.specs.Tree.{data_tree, element_tree, item_tree, key_tree, match_tree, pair_tree, rule_tree, set_ref_tree, statement, table_tree, value_tree};
@@ -14,7 +14,7 @@ use nft_tree::{
     ComparedType, Data, Element, Item, Key, Match, Pair, Rule, Selector, SetRef, Stmt, Table, Value,
 };
 
-/// Whether the answer is no for some value of the table.
+/// Whether some value of the table fails the check.
 pub(crate) fn table_fails(value_check: ValueCheck, plant: &Plant, table: &Table) -> bool
     ensures { result ≡ list_any (fails value_check plant.now) (ranges_in (table_tree table.now)) }
 {
@@ -44,7 +44,8 @@ fn item_fails(value_check: ValueCheck, plant: &Plant, item: &Item) -> bool
 }
 
 fn rules_fail(value_check: ValueCheck, plant: &Plant, rules: &[Rule]) -> bool
-    ensures { result ≡ list_any (fails value_check plant.now) (flat_map rule_ranges (map rule_tree rules.now)) }
+    ensures { result ≡ list_any (fails value_check plant.now)
+        (flat_map rule_ranges (map rule_tree rules.now)) }
 {
     rules
         .iter()
@@ -60,7 +61,8 @@ fn rule_fails(value_check: ValueCheck, plant: &Plant, rule: &Rule) -> bool
 }
 
 fn statement_fails(value_check: ValueCheck, plant: &Plant, stmt: &Stmt) -> bool
-    ensures { result ≡ list_any (fails value_check plant.now) (statement_ranges (statement stmt.now)) }
+    ensures { result ≡ list_any (fails value_check plant.now)
+        (statement_ranges (statement stmt.now)) }
 {
     if let Stmt::Match(test) = stmt {
         return match_fails(value_check, plant, test);
@@ -89,7 +91,8 @@ fn set_ref_fails(
     selectors: &[Selector],
     set: &SetRef,
 ) -> bool
-    ensures { result ≡ list_any (fails value_check plant.now) (set_ref_ranges selectors.now (set_ref_tree set.now)) }
+    ensures { result ≡ list_any (fails value_check plant.now)
+        (set_ref_ranges selectors.now (set_ref_tree set.now)) }
 {
     match set {
         SetRef::Named(_) => false,
@@ -108,13 +111,15 @@ fn elements_fail(
     kinds: &KeyTypes,
     elements: &[Element],
 ) -> bool
-    ensures { result ≡ list_any (fails value_check plant.now) (element_ranges (key_types_of kinds.now) (map element_tree elements.now)) }
+    ensures { result ≡ list_any (fails value_check plant.now)
+        (element_ranges (key_types_of kinds.now) (map element_tree elements.now)) }
 {
     elements.iter().any(|element| key_fails(value_check, plant, kinds, &element.key))
 }
 
 fn key_fails(value_check: ValueCheck, plant: &Plant, kinds: &KeyTypes, key: &Key) -> bool
-    ensures { result ≡ list_any (fails value_check plant.now) (key_ranges (key_types_of kinds.now) (key_tree key.now)) }
+    ensures { result ≡ list_any (fails value_check plant.now)
+        (key_ranges (key_types_of kinds.now) (key_tree key.now)) }
 {
     match key {
         Key::Single(range) => match kinds.kind(0) {
@@ -125,9 +130,10 @@ fn key_fails(value_check: ValueCheck, plant: &Plant, kinds: &KeyTypes, key: &Key
     }
 }
 
-/// Whether the answer is no for some of the joined values, each by the type of its part.
+/// Whether some of the concatenated values fails the check, each by the type of its part.
 fn joined_fail(value_check: ValueCheck, plant: &Plant, kinds: &KeyTypes, values: &[Value]) -> bool
-    ensures { result ≡ list_any (fails value_check plant.now) (joined_ranges (key_types_of kinds.now) (map value_tree values.now)) }
+    ensures { result ≡ list_any (fails value_check plant.now)
+        (joined_ranges (key_types_of kinds.now) (map value_tree values.now)) }
 {
     for (part, value) in values.iter().enumerate() {
         match kinds.kind(part) {
@@ -142,9 +148,10 @@ fn joined_fail(value_check: ValueCheck, plant: &Plant, kinds: &KeyTypes, values:
     false
 }
 
-/// Whether the answer is no for some key of the map, or some value that it gives.
+/// Whether some key or value of the map fails the check.
 fn map_fails(value_check: ValueCheck, plant: &Plant, elements: &Elements) -> bool
-    ensures { result ≡ list_any (fails value_check plant.now) (map_ranges (elements_tree elements.now)) }
+    ensures { result ≡ list_any (fails value_check plant.now)
+        (map_ranges (elements_tree elements.now)) }
 {
     elements
         .pairs
@@ -153,7 +160,8 @@ fn map_fails(value_check: ValueCheck, plant: &Plant, elements: &Elements) -> boo
 }
 
 fn pair_fails(value_check: ValueCheck, plant: &Plant, elements: &Elements, pair: &Pair) -> bool
-    ensures { result ≡ list_any (fails value_check plant.now) (pair_ranges (elements_tree elements.now) (pair_tree pair.now)) }
+    ensures { result ≡ list_any (fails value_check plant.now)
+        (pair_ranges (elements_tree elements.now) (pair_tree pair.now)) }
 {
     value_check.fails(plant, elements.key, &pair.key)
         || data_fails(value_check, plant, elements.value, &pair.value)
@@ -165,7 +173,8 @@ fn data_fails(
     wanted: Option<ComparedType>,
     datum: &Data,
 ) -> bool
-    ensures { result ≡ list_any (fails value_check plant.now) (data_ranges wanted (data_tree datum.now)) }
+    ensures { result ≡ list_any (fails value_check plant.now)
+        (data_ranges wanted (data_tree datum.now)) }
 {
     match (wanted, datum) {
         (Some(kind), Data::Value(value)) => value_check.fails_value(plant, kind, value),

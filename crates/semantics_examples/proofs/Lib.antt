@@ -1,3 +1,3 @@
-mod Computing
-mod Ending
-mod Answering
+mod Interpreter
+mod HookInterpreter
+mod ComputedHooks

@@ -1,4 +1,4 @@
--- The rulesets and the matches of the trials.
+-- The rulesets and matches of the examples. (own)
 use Rattle.std.specs.Prelude.{ℕ, List, [], ◌∷◌, map, Option, Some, None, codes}
 use Rattle.nft_tree.specs.declared.chain.ChainKind.TheVariants as kinds
 use Rattle.nft_tree.specs.declared.chain.Hook.{Hook}
@@ -25,22 +25,24 @@ use Rattle.semantics_examples.specs.Fixtures.{counter, drop, chain, base, forwar
 
 -- ---- verdicts
 
--- chain a { counter goto b; counter } chain b { counter } chain fwd { type filter hook forward priority 0; policy
--- drop; VERDICT; counter accept }
+-- chain a { counter goto b; counter } chain b { counter } chain fwd { type filter hook forward priority 0;
+-- policy drop; VERDICT; counter accept }
 abbrev pub two_chains : VerdictTree → List TableTree
 two_chains v =
-    one_table (chain (codes "a") ((counter ∷ tree.verdict (tree.goto (codes "b")) ∷ []) ∷ (counter ∷ []) ∷ []) ∷
+    one_table (chain (codes "a") ((counter ∷ tree.verdict (tree.goto (codes "b")) ∷ []) ∷
+    (counter ∷ []) ∷ []) ∷
     chain (codes "b") ((counter ∷ []) ∷ []) ∷ forwards policies.Drop
     ((tree.verdict v ∷ []) ∷ (counter ∷ accept ∷ []) ∷ []) ∷ [])
 
--- chain a { VERDICT; drop } chain fwd { type filter hook forward priority 0; policy drop; jump a; continue; accept }
+-- chain a { VERDICT; drop } chain fwd { type filter hook forward priority 0; policy drop; jump a; continue;
+-- accept }
 abbrev pub called : VerdictTree → List TableTree
 called v =
     one_table (chain (codes "a") ((tree.verdict v ∷ []) ∷ (drop ∷ []) ∷ []) ∷
     forwards policies.Drop ((tree.verdict (tree.jump (codes "a")) ∷ []) ∷ (tree.verdict tree.continue ∷ []) ∷
     (accept ∷ []) ∷ []) ∷ [])
 
--- two filter chains on forward, of these priorities: the one accepts, the other drops
+-- two filter chains on forward with these priorities: the first accepts, the second drops
 abbrev pub accept_and_drop : Priority → Priority → List TableTree
 accept_and_drop first second =
     one_table (base (codes "one") kinds.Filter hooks.Forward first None ((accept ∷ []) ∷ []) ∷
@@ -55,13 +57,16 @@ two_tables =
 -- chain fwd { type filter hook forward priority 0; policy accept; VMAP; drop } chain b { accept }
 abbrev pub chosen : Statement → List TableTree
 chosen s =
-    one_table (forwards policies.Accept ((s ∷ []) ∷ (drop ∷ []) ∷ []) ∷ chain (codes "b") ((accept ∷ []) ∷ []) ∷ [])
+    one_table (forwards policies.Accept ((s ∷ []) ∷ (drop ∷ []) ∷ []) ∷
+    chain (codes "b") ((accept ∷ []) ∷ []) ∷ [])
 
 -- udp dport vmap { PORT : VERDICT }
 abbrev pub by_port : ℕ → VerdictTree → Statement
-by_port n v = tree.verdict_map selectors.UdpDestination (tree.pairs (pair (number n) (tree.to_verdict v) ∷ []))
+by_port n v =
+    tree.verdict_map selectors.UdpDestination (tree.pairs (pair (number n) (tree.to_verdict v) ∷ []))
 
--- chain fwd { type filter hook forward priority 0; policy accept; FIELD mark set OPERAND counter; meta mark 7 drop }
+-- chain fwd { type filter hook forward priority 0; policy accept; FIELD mark set OPERAND counter; meta mark 7
+-- drop }
 abbrev pub marking : MarkField → OperandTree → List TableTree
 marking field o =
     one_table (forwards policies.Accept ((tree.set_mark field o ∷ counter ∷ []) ∷
@@ -86,7 +91,7 @@ seven_at n =
 abbrev pub translating : Hook → NatTree → List TableTree
 translating hook n = one_table (translates (codes "one") hook 100 ((counter ∷ tree.nat n ∷ []) ∷ []) ∷ [])
 
--- the same without the counter, behind a chain of priority 50 with one statement
+-- the same without the counter, after a chain of priority 50 with one statement
 abbrev pub translating_behind : Hook → Statement → NatTree → List TableTree
 translating_behind hook s n =
     one_table (translates (codes "one") hook 100 ((tree.nat n ∷ []) ∷ []) ∷
@@ -100,7 +105,7 @@ neighbour_at n =
       map = tree.pairs (pair (number n) (tree.to_value (tree.address (ip 192 168 1 11))) ∷ []);
     }
 
--- ---- hooks with a translation step
+-- ---- hooks with a NAT step
 
 -- chain c { type filter hook HOOK priority PRIORITY; meta mark 7 drop }
 abbrev pub marked_dropped : Hook → Priority → List TableTree
@@ -108,7 +113,7 @@ marked_dropped hook priority =
     one_table (base (codes "c") kinds.Filter hook priority None
     ((tree.matching (tree.compare selectors.MetaMark operators.Equal (number 7)) ∷ drop ∷ []) ∷ []) ∷ [])
 
--- a step that writes the mark 7
+-- a step that sets the mark to 7
 abbrev pub marks_seven : Facts → List Event → Option HookResult
 marks_seven f es = Some (accepted (record f { mark = 7 }) es)
 
@@ -116,10 +121,12 @@ marks_seven f es = Some (accepted (record f { mark = 7 }) es)
 abbrev pub dropping : Hook → Priority → List TableTree
 dropping hook priority = one_table (base (codes "c") kinds.Filter hook priority None ((drop ∷ []) ∷ []) ∷ [])
 
--- the same with `udp dport vmap @m`, where map m { type inet_service : verdict; elements = { 50-60 : jump b } }
+-- the same with `udp dport vmap @m`, where map m { type inet_service : verdict; elements = { 50-60 : jump b }
+-- }
 abbrev pub chosen_by_name : List TableTree
 chosen_by_name =
-    one_table (forwards policies.Accept ((tree.verdict_map selectors.UdpDestination (tree.named_map (codes "m")) ∷ [])
+    one_table (forwards policies.Accept
+    ((tree.verdict_map selectors.UdpDestination (tree.named_map (codes "m")) ∷ [])
     ∷ (drop ∷ []) ∷ []) ∷ chain (codes "b") ((accept ∷ []) ∷ []) ∷
     port_map (codes "m") (pair (numbers 50 60) (tree.to_verdict (tree.jump (codes "b"))) ∷ []) ∷ [])
 
@@ -139,7 +146,8 @@ server = selectors.IpDestination ∷ selectors.UdpDestination ∷ []
 
 abbrev pub name_server : ℕ → SetRefTree
 name_server n =
-    tree.elements (record { key = tree.joined (tree.address (ip 198 51 100 7) ∷ tree.number n ∷ []); comment = None }
+    tree.elements
+    (record { key = tree.joined (tree.address (ip 198 51 100 7) ∷ tree.number n ∷ []); comment = None }
     ∷ [])
 
 -- one of these addresses, and none of them

@@ -1,10 +1,10 @@
--- What happens in the first table, and how it ends.
+-- Expected events and results, in the first table. (own)
 use Rattle.std.specs.Prelude.{ℕ, List, [], ◌∷◌}
 use Rattle.nft_tree.specs.declared.ruleset.RuleNo.{RuleNo}
 use Rattle.nft_tree.specs.declared.chain.Policy.{Policy}
 use Rattle.nft_tree.specs.declared.chain.Policy.TheVariants as policies
 use Rattle.nft_tree.specs.Tree as tree
-use Rattle.nft_tree.specs.Tree.{MatchTree, Statement, ItemTree}
+use Rattle.nft_tree.specs.Tree.{MatchTree, ItemTree, TableTree}
 use Rattle.rule_meaning.specs.declared.facts.Facts.{Facts}
 use Rattle.rule_meaning.specs.declared.event.StatementPosition.{StatementPosition}
 use Rattle.rule_meaning.specs.declared.event.RuleVerdict.{RuleVerdict}
@@ -12,7 +12,7 @@ use Rattle.rule_meaning.specs.declared.event.RuleVerdict.TheVariants as rule_ver
 use Rattle.rule_meaning.specs.declared.event.NatAction.{NatAction}
 use Rattle.rule_meaning.specs.declared.event.Event.{Event}
 use Rattle.rule_meaning.specs.declared.event.Event.TheVariants as events
-use Rattle.rule_meaning.specs.declared.event.HookVerdict.TheVariants as endings
+use Rattle.rule_meaning.specs.declared.event.HookVerdict.TheVariants as hook_verdicts
 use Rattle.rule_meaning.specs.Hooks.{HookResult, Forward}
 use Rattle.semantics_examples.specs.Fixtures.{box, one_table, forwards, drop}
 
@@ -29,30 +29,39 @@ counted c n k = events.Counted (statement_position c n k)
 abbrev pub took : ℕ → ℕ → RuleVerdict → Event
 took c n d = events.TookVerdict (rule c n) d
 
-abbrev pub closed : ℕ → Policy → Event
-closed c policy = events.TookPolicy (record { table = 0; chain = c }) policy
+abbrev pub took_policy : ℕ → Policy → Event
+took_policy c policy = events.TookPolicy (record { table = 0; chain = c }) policy
 
 abbrev pub accepted : Facts → List Event → HookResult
-accepted f es = record { verdict = endings.Accepted; facts = f; events = es }
+accepted f es = record { verdict = hook_verdicts.Accepted; facts = f; events = es }
 
 abbrev pub dropped : Facts → List Event → HookResult
-dropped f es = record { verdict = endings.Dropped; facts = f; events = es }
+dropped f es = record { verdict = hook_verdicts.Dropped; facts = f; events = es }
 
 abbrev pub translated : NatAction → Facts → List Event → HookResult
-translated t f es = record { verdict = endings.Translated t; facts = f; events = es }
+translated t f es = record { verdict = hook_verdicts.Translated t; facts = f; events = es }
 
--- ---- one rule on forward
+-- ---- forwarding
 
--- `MATCH drop`, beside items: the packet is dropped; it isn't
+-- the filter chains on forward accept the packet as it is, with these events
+abbrev pub ForwardAccepts : List TableTree → Facts → List Event → Type 0
+ForwardAccepts tables f es = Forward box tables f [] (accepted f es)
+
+-- the filter chains on forward drop the packet, with these events
+abbrev pub ForwardDrops : List TableTree → Facts → List Event → Type 0
+ForwardDrops tables f es = Forward box tables f [] (dropped f es)
+
+-- a filter chain on forward with the one rule `MATCH drop`, beside other items of the table
+abbrev pub dropping_ruleset : List ItemTree → MatchTree → List TableTree
+dropping_ruleset items m = one_table (forwards policies.Accept ((tree.matching m ∷ drop ∷ []) ∷ []) ∷ items)
+
+-- this rule drops the packet
 abbrev pub DropsBeside : List ItemTree → MatchTree → Facts → Type 0
-DropsBeside items m f =
-    Forward box (one_table (forwards policies.Accept ((tree.matching m ∷ drop ∷ []) ∷ []) ∷ items)) f []
-    (dropped f (took 0 1 rule_verdicts.Drop ∷ []))
+DropsBeside items m f = ForwardDrops (dropping_ruleset items m) f (took 0 1 rule_verdicts.Drop ∷ [])
 
+-- it doesn't, and the policy accept applies
 abbrev pub PassesBeside : List ItemTree → MatchTree → Facts → Type 0
-PassesBeside items m f =
-    Forward box (one_table (forwards policies.Accept ((tree.matching m ∷ drop ∷ []) ∷ []) ∷ items)) f []
-    (accepted f (closed 0 policies.Accept ∷ []))
+PassesBeside items m f = ForwardAccepts (dropping_ruleset items m) f (took_policy 0 policies.Accept ∷ [])
 
 abbrev pub Drops : MatchTree → Facts → Type 0
 Drops = DropsBeside []

@@ -1,4 +1,4 @@
--- The box, the packets and the small rulesets of the trials.
+-- The box, the packets and the parts of rulesets of the examples. (own)
 use Rattle.std.specs.Prelude.{ℕ, ◌+◌, ◌*◌, ◌^◌, false, List, [], ◌∷◌, map, Option, Some, None, codes}
 use Rattle.nft_tree.specs.declared.ruleset.Family.TheVariants.{Ip}
 use Rattle.nft_tree.specs.declared.chain.ChainKind.{ChainKind}
@@ -13,7 +13,7 @@ use Rattle.nft_tree.specs.declared.set.MapType.TheVariants as map_types
 use Rattle.nft_tree.specs.declared.set.TypeOrVerdict.TheVariants as verdicts
 use Rattle.nft_tree.specs.declared.selector.ValueType.TheVariants as types
 use Rattle.nft_tree.specs.Tree as tree
-use Rattle.nft_tree.specs.Tree.{Text, RangeTree, ElementTree, DataTree, PairTree, MatchTree, Statement, RuleTree}
+use Rattle.nft_tree.specs.Tree.{Text, RangeTree, ElementTree, DataTree, PairTree, Statement, RuleTree}
 use Rattle.nft_tree.specs.Tree.{ItemTree, TableTree}
 use Rattle.box_file.specs.Box.{PlantTree}
 use Rattle.ip_headers.specs.declared.transport.Transport.{Transport}
@@ -28,7 +28,7 @@ use Rattle.rule_meaning.specs.declared.facts.CtState.{CtState}
 use Rattle.rule_meaning.specs.declared.facts.CtState.TheVariants as states
 use Rattle.rule_meaning.specs.declared.facts.CtDirection.TheVariants as directions
 
--- an address by its groups
+-- an address by its octets
 abbrev pub ip : ℕ → ℕ → ℕ → ℕ → ℕ
 ip a b c d = ((a * 256 + b) * 256 + c) * 256 + d
 
@@ -45,7 +45,7 @@ box = record {
 
 -- ---- packets
 
--- the bytes 6c 61 6e, and 77 61 6e, before 13 zeros
+-- the names "lan" (6c 61 6e) and "wan" (77 61 6e), padded with 13 zeros
 abbrev pub lan : Interface
 lan = record { index = 2; name = 7102830 * 2 ^ 104 }
 
@@ -62,7 +62,7 @@ new_connection = record {
   destination_translated = false;
 }
 
--- UDP from 192.168.1.10, port 5000, on lan, to 198.51.100.7, port 53, on wan, of 28 bytes, without data
+-- UDP without payload, 28 bytes, from 192.168.1.10:5000 (input lan) to 198.51.100.7:53 (output wan)
 abbrev pub plain : Facts
 plain = record {
   packet =
@@ -80,7 +80,7 @@ plain = record {
   ct = ct.Known new_connection;
 }
 
--- the same with another load
+-- the same with another protocol
 abbrev pub carrying : ℕ → Transport → Facts
 carrying protocol transport =
     record plain { packet = record plain.packet { protocol = protocol; transport = transport } }
@@ -106,7 +106,7 @@ from a = record plain { packet = record plain.packet { source = a } }
 abbrev pub marked : ℕ → Facts
 marked n = record plain { mark = n }
 
--- before it is known where it leaves
+-- the same before routing
 abbrev pub arriving : Facts
 arriving = record plain { output = None }
 
@@ -166,7 +166,7 @@ at n = priorities.Number signs.Plus n
 abbrev pub below_zero : ℕ → Priority
 below_zero n = priorities.Number signs.Minus n
 
--- a filter chain on forward of priority 0
+-- a filter chain on forward with priority 0
 abbrev pub forwards : Policy → List (List Statement) → ItemTree
 forwards policy = base (codes "fwd") kinds.Filter hooks.Forward (at 0) (Some policy)
 

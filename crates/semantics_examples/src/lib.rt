@@ -1,4 +1,4 @@
-//! Small rulesets with what becomes of packets in them: trials of what rules mean, each a law.
+//! Small rulesets with the results for packets: proved examples of the semantics of rules.
 #![tactic(auto)]
 
 pub mod examples;

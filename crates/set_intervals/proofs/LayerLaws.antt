@@ -1,4 +1,4 @@
--- What pieces laid over others say of a number.
+-- The first value at each number, when intervals are overlaid.
 use Rattle.std.proofs.Common.{◌≡◌, ℕ, suc, ◌+◌, ◌<◌, ◌≤◌, List, [], ◌∷◌, ◌++◌, length, get_or, set, take, drop, max, min, Bool, true, false, ◌||◌, zero, ⊎_elim, refl, sym, ap, ◌∙◌, subst, arith, Option, Some, None, if◌then◌else◌, append_assoc}
 use Rattle.std.specs.Option.{option_or}
 use Rattle.std.proofs.lemmas.Bool.{cases_lt, and_from, and_left, and_right, or_from, or_left, le-leb, lt-leb}
@@ -9,7 +9,7 @@ use Rattle.set_intervals.specs.steps.Pieces.{IsTable, IsSeparate}
 use Rattle.set_intervals.specs.steps.Layers.{SameFirstValues, EndsBefore, IsRising, Follows, AddsBelow}
 use Rattle.set_intervals.proofs.PieceLaws.{separate_push, merged_push}
 
--- ---- whether a range has a number
+-- ---- `Covers` as a test
 
 within : (r : Range) (key : ℕ) → r.low ≤ key → key ≤ r.high → in_range r key ≡ true
 within r key low high = and_from _ _ (le-leb r.low key low) (le-leb key r.high high)
@@ -20,7 +20,7 @@ under r key low = and_left _ _ (lt-leb r.low key low)
 past : (r : Range) (key : ℕ) → r.high < key → in_range r key ≡ false
 past r key high = and_right _ _ (lt-leb key r.high high)
 
--- two ranges that begin together have the same numbers up to where one ends
+-- ranges with the same low end contain the same numbers up to where one of them ends
 same_below : (r s : Range) (key : ℕ) → r.low ≡ s.low → key ≤ r.high → key ≤ s.high → in_range r key ≡ in_range s key
 same_below r s key low one other =
     ⊎_elim
@@ -28,7 +28,7 @@ same_below r s key low one other =
     (λ more. within r key more one ∙ sym (within s key (omega arith) other))
     (cases_lt key r.low)
 
--- two ranges that end together have the same numbers from where both have begun
+-- ranges with the same high end contain the same numbers from where both have started
 same_above : (r s : Range) (key : ℕ) → r.high ≡ s.high → r.low ≤ key → s.low ≤ key → in_range r key ≡ in_range s key
 same_above r s key high one other =
     ⊎_elim
@@ -44,7 +44,7 @@ hit r v xs key e = rw e
 miss : {V : Type 0} (r : Range) (v : V) (xs : List (Range × V)) (key : ℕ) → in_range r key ≡ false → first_value ((r, v) ∷ xs) key ≡ first_value xs key
 miss r v xs key e = rw e
 
--- ---- one list behind another
+-- ---- appending lists
 
 choose : {V : Type 0} (b : Bool) (v : V) (o p q : Option V) → o ≡ option_or p q → (if b then Some v else o) ≡ option_or (if b then Some v else p) q
 choose true v o p q e = refl
@@ -54,7 +54,7 @@ pub first_value-append : {V : Type 0} (xs ys : List (Range × V)) (key : ℕ) �
 first_value-append [] ys key = refl
 first_value-append (x ∷ xs) ys key = choose (in_range x.0 key) x.1 (first_value (xs ++ ys) key) (first_value xs key) (first_value ys key) (first_value-append xs ys key)
 
--- the same front, the same back
+-- appending preserves equality of first values, on the left and on the right
 front_at : {V : Type 0} (xs ys zs : List (Range × V)) (key : ℕ) → first_value xs key ≡ first_value ys key → first_value (xs ++ zs) key ≡ first_value (ys ++ zs) key
 front_at xs ys zs key same = first_value-append xs zs key ∙ ap (λ o. option_or o (first_value zs key)) same ∙ sym (first_value-append ys zs key)
 
@@ -64,7 +64,7 @@ same_front xs ys zs same key = front_at xs ys zs key (same key)
 pub same_back : {V : Type 0} (zs xs ys : List (Range × V)) (key : ℕ) → first_value xs key ≡ first_value ys key → first_value (zs ++ xs) key ≡ first_value (zs ++ ys) key
 same_back zs xs ys key same = first_value-append zs xs key ∙ ap (λ o. option_or (first_value zs key) o) same ∙ sym (first_value-append zs ys key)
 
--- a list that says nothing of the number
+-- a list without a value at the number
 skip : {V : Type 0} (xs ys : List (Range × V)) (key : ℕ) → first_value xs key ≡ None → first_value (xs ++ ys) key ≡ first_value ys key
 skip xs ys key none = first_value-append xs ys key ∙ ap (λ o. option_or o (first_value ys key)) none
 
@@ -74,7 +74,7 @@ pub rising_less : {V : Type 0} (m n : ℕ) (xs : List (Range × V)) → m ≤ n 
 rising_less m n [] le h = h
 rising_less m n (x ∷ xs) le h = (omega (arith, h.0), h.1)
 
--- nothing is said of a number below all of them
+-- no value at a number below all ranges
 none_below : {V : Type 0} (n key : ℕ) (xs : List (Range × V)) → key < n → IsRising n xs → first_value xs key ≡ None
 none_below n key [] lt h = refl
 none_below n key (x ∷ xs) lt h = miss x.0 x.1 xs key (under x.0 key (omega (arith, h.0))) ∙ none_below (x.0.high + 1) key xs (omega (arith, h.0, x.0.ordered)) h.1
@@ -87,20 +87,20 @@ rising : {V : Type 0} (n : ℕ) (xs : List (Range × V)) → IsSeparate xs → (
 rising n [] sep first = tt
 rising n (x ∷ xs) sep first = (first x (omega arith), rising (x.0.high + 1) xs (λ i j d lt in_list. sep (suc i) (suc j) d (omega arith) (omega arith)) (λ d some. omega (arith, sep 0 1 d (omega arith) (omega arith))))
 
--- a table follows where nothing is done
+-- a table follows the empty list
 pub table_follows : {V : Type 0} (done xs : List (Range × V)) → done ≡ [] → IsTable xs → Follows done xs
 table_follows {V} done xs none table = subst (λ l. Follows l xs) (sym none) (follows [] 0 xs (λ i d lt. absurd (omega arith)) (rising 0 xs table.separate (λ d some. omega arith)))
 
--- ---- a piece behind all others
+-- ---- a piece above all others
 
--- it goes to the end of the list
+-- it may be moved to the end of the list
 pub table_past : {V : Type 0} (xs : List (Range × V)) (p : Range × V) → IsTable xs → EndsBefore xs p.0.low → ((i : ℕ) (d : Range × V) → i + 1 ≡ length xs → (get_or xs i d).0.high + 1 ≡ p.0.low → (get_or xs i d).1 ≡ p.1 → ⊥) → IsTable (xs ++ p ∷ [])
 table_past xs p table ends apart = record {
   separate = separate_push xs p table.separate (λ i d last. ends i d (omega arith));
   merged = merged_push xs p table.merged apart;
 }
 
--- the last piece goes on to the end of a range that begins where the piece ends
+-- the last piece merged with an adjacent range
 merged_range : (p r q : Range) (key : ℕ) → p.high + 1 ≡ r.low → q.low ≡ p.low → q.high ≡ max p.high r.high → in_range q key ≡ (in_range p key || in_range r key)
 merged_range p r q key touch low high =
     ⊎_elim
@@ -128,7 +128,7 @@ merged_last {V} xs i p r q v last is value touch low high key =
 
 -- ---- the part of a range before another one
 
--- the same pair behind, wherever the two ranges have the same numbers
+-- appending a pair with a range or part of it, at numbers that both contain or neither does
 pub pushed : {V : Type 0} (xs : List (Range × V)) (r s : Range) (v : V) (key : ℕ) → in_range r key ≡ in_range s key → first_value (xs ++ (r, v) ∷ []) key ≡ first_value (xs ++ (s, v) ∷ []) key
 pushed xs r s v key same = same_back xs ((r, v) ∷ []) ((s, v) ∷ []) key (ap (λ b. if b then Some v else None) same)
 
@@ -152,7 +152,7 @@ adds_nothing old r other v le = record {
 
 -- ---- a range under the first of the upper pieces
 
--- below that piece
+-- the part below that piece
 beneath : {V : Type 0} (old new tail : List (Range × V)) (first : Range × V) (others : List (Range × V)) (r : Range) (v : V) (key : ℕ) → IsRising (first.0.high + 1) others → AddsBelow old r v first.0.low new → key < first.0.low → first_value tail key ≡ None → first_value (new ++ tail) key ≡ first_value (old ++ (first ∷ others ++ (r, v) ∷ [])) key
 beneath {V} old new tail first others r v key rises adds less silent =
     same_back new tail [] key silent
@@ -160,7 +160,7 @@ beneath {V} old new tail first others r v key rises adds less silent =
     ∙ adds.lesser key less
     ∙ same_back old ((r, v) ∷ []) (first ∷ others ++ (r, v) ∷ []) key (sym (skip (first ∷ others) ((r, v) ∷ []) key (none_below first.0.low key (first ∷ others) less (omega arith, rises))))
 
--- nothing of the range lies past that piece
+-- no part of the range is above that piece
 pub covered : {V : Type 0} (old new : List (Range × V)) (first : Range × V) (others : List (Range × V)) (r : Range) (v : V) → r.high ≤ first.0.high → IsRising (first.0.high + 1) others → AddsBelow old r v first.0.low new → SameFirstValues (new ++ first ∷ others) (old ++ (first ∷ others ++ (r, v) ∷ []))
 covered {V} old new first others r v ends rises adds key =
     ⊎_elim
@@ -171,7 +171,7 @@ covered {V} old new first others r v ends rises adds key =
     (cases_lt first.0.high key)))
     (cases_lt key first.0.low)
 
--- the rest of the range lies past that piece, which is appended
+-- the rest of the range is above that piece, which is appended
 pub passed : {V : Type 0} (old new newer : List (Range × V)) (first : Range × V) (others : List (Range × V)) (r part : Range) (v : V) → part.low ≡ max r.low (first.0.high + 1) → part.high ≡ r.high → IsRising (first.0.high + 1) others → AddsBelow old r v first.0.low new → SameFirstValues newer (new ++ first ∷ []) → SameFirstValues (newer ++ (others ++ (part, v) ∷ [])) (old ++ (first ∷ others ++ (r, v) ∷ []))
 passed {V} old new newer first others r part v low high rises adds appended key =
     same_front newer (new ++ first ∷ []) (others ++ (part, v) ∷ []) appended key
@@ -191,12 +191,12 @@ passed {V} old new newer first others r part v low high rises adds appended key 
         (λ begun_run. same_above part r key high (omega arith) begun_run)
         (cases_lt key r.low)
 
--- ---- two lists in one
+-- ---- overlaying two lists
 
 pub table_none : {V : Type 0} (xs : List (Range × V)) → xs ≡ [] → IsTable xs
 table_none {V} xs none = subst IsTable (sym none) (record { separate = λ i j d lt in_list. absurd (omega arith); merged = λ i d lt. absurd (omega arith) })
 
--- one more of the lower pieces is laid under the upper ones
+-- one more lower piece is done
 pub laid_more : {V : Type 0} (pieces left new left' lower all : List (Range × V)) (i : ℕ) (item : Range × V) → i < length lower → item ≡ get_or lower i item → SameFirstValues (new ++ left') (pieces ++ (left ++ item ∷ [])) → SameFirstValues (pieces ++ (left ++ drop i lower)) all → SameFirstValues (new ++ (left' ++ drop (i + 1) lower)) all
 laid_more {V} pieces left new left' lower all i item lt is one so_far key =
     let rest = drop (i + 1) lower in
@@ -206,7 +206,7 @@ laid_more {V} pieces left new left' lower all i item lt is one so_far key =
     ∙ ap (λ l. first_value (pieces ++ (left ++ l)) key) (ap (λ p. p ∷ rest) is ∙ sym (drop_more lower i item lt))
     ∙ so_far key
 
--- both halves say the same, and so does the whole
+-- the first values of both halves determine those of the whole
 pub same_halves : {V : Type 0} (upper lower pairs : List (Range × V)) (n : ℕ) → SameFirstValues upper (take n pairs) → SameFirstValues lower (drop n pairs) → SameFirstValues (upper ++ lower) pairs
 same_halves upper lower pairs n front back key =
     same_front upper (take n pairs) lower front key

@@ -1,4 +1,4 @@
--- What edits of a list of pairs do to what it holds.
+-- The effect of edits of a list of pairs on its values.
 use Rattle.std.proofs.Common.{◌≡◌, ℕ, zero, suc, ◌+◌, ◌<◌, ◌≤◌, List, [], ◌∷◌, ◌++◌, length, get_or, set, max, Bool, true, false, ◌⊎◌, inl, inr, ⊎_elim, refl, sym, ap, ◌∙◌, subst, arith, take, Option, Some, None, MatchOption, if◌then◌else◌}
 use Rattle.std.proofs.lemmas.Bool.{cases_lt}
 use Rattle.std.proofs.lemmas.Bool.Decides.{nat_tests}
@@ -9,20 +9,20 @@ use Rattle.set_intervals.specs.declared.range.Range.{Range}
 use Rattle.set_intervals.specs.Pairs.{Covers, HasValue, SameValues, HasClash, in_range, first_value}
 use Rattle.set_intervals.specs.steps.Pieces.{Adds, ClashesWith}
 
--- ---- a pair with a number
+-- ---- a pair that contains a number
 
 holds_at : {V : Type 0} (xs : List (Range × V)) (i : ℕ) (d : Range × V) (key : ℕ) → i < length xs → Covers (get_or xs i d).0 key → HasValue xs key (get_or xs i d).1
 holds_at [] i d key lt c = absurd (omega arith)
 holds_at (x ∷ xs) zero d key lt c = inl (c, refl)
 holds_at (x ∷ xs) (suc i) d key lt c = inr (holds_at xs i d key (omega arith) c)
 
--- a pair that was read
+-- a pair at an index gives its value
 pub holds_read : {V : Type 0} (xs : List (Range × V)) (i : ℕ) (p : Range × V) (key : ℕ) → i < length xs → p ≡ get_or xs i p → Covers p.0 key → HasValue xs key p.1
 holds_read {V} xs i p key lt is c =
     let at = holds_at xs i p key lt (subst (λ (s : Range × V). Covers s.0 key) is c) in
     subst (λ (s : Range × V). HasValue xs key s.1) (sym is) at
 
--- a pair with the number and the value, and where it stands
+-- a pair that contains the number and has the value, and its index
 pub record Place {V : Type 0} (xs : List (Range × V)) (key : ℕ) (v : V) : Type 0 where
   pub pair : Range × V
   pub at : ℕ
@@ -51,11 +51,11 @@ push_back (x ∷ xs) r v key w (inl (inl h)) = inl h
 push_back (x ∷ xs) r v key w (inl (inr h)) = inr (push_back xs r v key w (inl h))
 push_back (x ∷ xs) r v key w (inr h) = inr (push_back xs r v key w (inr h))
 
--- a new piece at the end
+-- a piece is appended
 pub adds_push : {V : Type 0} (xs : List (Range × V)) (r : Range) (v : V) → Adds xs r v (xs ++ (r, v) ∷ [])
 adds_push xs r v key w = (push_forth xs r v key w, push_back xs r v key w)
 
--- a piece that is made wider
+-- a piece is widened
 widen_forth : {V : Type 0} (xs : List (Range × V)) (i : ℕ) (d : Range × V) (q r : Range) (key : ℕ) (w : V) → i < length xs → (Covers q key → Covers (get_or xs i d).0 key ⊎ Covers r key) → HasValue (set xs i (q, (get_or xs i d).1)) key w → HasValue xs key w ⊎ (Covers r key × ((get_or xs i d).1 ≡ w))
 widen_forth [] i d q r key w lt split h = absurd (omega arith)
 widen_forth (x ∷ xs) zero d q r key w lt split (inl h) = ⊎_elim (λ a. inl (inl (a, h.1))) (λ b. inr (b, h.1)) (split h.0)
@@ -72,7 +72,7 @@ widen_back (x ∷ xs) (suc i) d q r key w lt join (inl (inl h)) = inl h
 widen_back (x ∷ xs) (suc i) d q r key w lt join (inl (inr h)) = inr (widen_back xs i d q r key w (omega arith) join (inl h))
 widen_back (x ∷ xs) (suc i) d q r key w lt join (inr h) = inr (widen_back xs i d q r key w (omega arith) join (inr h))
 
--- a wider piece, in the place of one that it begins with
+-- a piece is replaced by a wider one with the same low end
 pub adds_widen : {V : Type 0} (xs : List (Range × V)) (i : ℕ) (p : Range × V) (q r : Range) (v : V) → i < length xs → p ≡ get_or xs i p → p.1 ≡ v → ((key : ℕ) → Covers q key → Covers p.0 key ⊎ Covers r key) → ((key : ℕ) → Covers p.0 key ⊎ Covers r key → Covers q key) → Adds xs r v (set xs i (q, p.1))
 adds_widen {V} xs i p q r v lt is same split join key w =
     let split' = subst (λ (s : Range × V). Covers q key → Covers s.0 key ⊎ Covers r key) is (split key) in
@@ -83,7 +83,7 @@ adds_widen {V} xs i p q r v lt is same split join key w =
       λ h. subst (λ l. HasValue l key w) (sym set_is) (widen_back xs i p q r key w lt join' (subst (λ u. HasValue xs key w ⊎ (Covers r key × (u ≡ w))) (sym e) h)),
     )
 
--- two ranges that overlap or touch, and the one from the beginning of the first to the end of both
+-- two ranges that overlap or are adjacent, and their merged range
 pub covers_split : (first later both : Range) → later.low ≤ first.high + 1 → both.low ≡ first.low → both.high ≡ max first.high later.high → (key : ℕ) → Covers both key → Covers first key ⊎ Covers later key
 covers_split first later both near low high key h =
     ⊎_elim
@@ -97,27 +97,27 @@ covers_merge first later both rising low high key (inr h) = record { above = ome
 
 -- ---- the pairs so far
 
--- one pair more
+-- one more pair
 pub adds_take : {V : Type 0} (xs : List (Range × V)) (i : ℕ) (r : Range) (v : V) → i < length xs → (r, v) ≡ get_or xs i (r, v) → Adds (take i xs) r v (take (i + 1) xs)
 adds_take {V} xs i r v lt is =
     let e : take (i + 1) xs ≡ take i xs ++ (r, v) ∷ [] = take_more xs i (r, v) lt ∙ ap (λ (p : Range × V). take i xs ++ p ∷ []) (sym is) in
     subst (λ l. Adds (take i xs) r v l) (sym e) (adds_push (take i xs) r v)
 
--- both lists get the same pair
+-- the same pair is appended to both lists
 pub same_more : {V : Type 0} (old new xs ys : List (Range × V)) (r : Range) (v : V) → SameValues old xs → Adds old r v new → Adds xs r v ys → SameValues new ys
 same_more {V} old new xs ys r v same adds adds' key w = (
   λ h. (adds' key w).1 (⊎_elim (λ a. inl ((same key w).0 a)) (λ b. inr b) ((adds key w).0 h)),
   λ h. (adds key w).1 (⊎_elim (λ a. inl ((same key w).1 a)) (λ b. inr b) ((adds' key w).0 h)),
 )
 
--- another order of the pairs
+-- the pairs in another order
 pub holds_permutation : {V : Type 0} (xs ys : List (Range × V)) → IsPermutation xs ys → (key : ℕ) (v : V) → HasValue xs key v → HasValue ys key v
 holds_permutation {V} xs ys perm key v h =
     let r = place_of xs key v h in
     let c = Contains-permutation xs ys r.pair perm (r.at, r.in_list, r.stands r.pair) in
     subst (λ u. HasValue ys key u) r.value (holds_read ys c.0 r.pair key c.1 (sym c.2) r.covers)
 
--- the pieces say what all pairs say, whatever their order
+-- the pieces have the same values as all pairs, in any order
 pub same_permutation : {V : Type 0} (pieces xs ys : List (Range × V)) (i : ℕ) → length xs ≤ i → SameValues pieces (take i xs) → IsPermutation ys xs → SameValues pieces ys
 same_permutation {V} pieces xs ys i all same perm key v =
     let whole : take i xs ≡ xs = take_all i xs all in
@@ -126,7 +126,7 @@ same_permutation {V} pieces xs ys i all same perm key v =
       λ h. (same key v).1 (subst (λ l. HasValue l key v) (sym whole) (holds_permutation ys xs perm key v h)),
     )
 
--- a pair that the first ones disagree with
+-- a pair that clashes with earlier ones
 pub clash_of : {V : Type 0} (pieces xs ys : List (Range × V)) (i : ℕ) (r : Range) (v : V) → i < length xs → (r, v) ≡ get_or xs i (r, v) → SameValues pieces (take i xs) → IsPermutation ys xs → ClashesWith pieces r v → HasClash ys
 clash_of {V} pieces xs ys i r v lt is same perm h =
     let back = IsPermutation-sym ys xs perm in
@@ -145,9 +145,9 @@ clash_of {V} pieces xs ys i r v lt is same perm h =
     holds_before (x ∷ xs) (suc i) key w (inl h) = inl h
     holds_before (x ∷ xs) (suc i) key w (inr h) = inr (holds_before xs i key w h)
 
--- ---- the first pair with a number
+-- ---- the first pair that contains a number
 
--- a look-up says what the pairs say
+-- the first value is a value, and `None` means that there is none
 abbrev pub Says : {V : Type 0} → List (Range × V) → ℕ → Option V → Type 0
 Says {V} xs key o = MatchOption o ((v : V) → HasValue xs key v → ⊥) (λ v. HasValue xs key v)
 

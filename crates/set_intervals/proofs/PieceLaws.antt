@@ -1,4 +1,4 @@
--- What holds of a table's pieces.
+-- The invariant of a table's pieces.
 use Rattle.std.proofs.Common.{◌≡◌, ◌≢◌, ℕ, ◌+◌, ◌-◌, ◌<◌, ◌≤◌, List, [], ◌∷◌, ◌++◌, length, get_or, set, ⊎_elim, refl, sym, ap, ◌∙◌, subst, arith, ltb, length-append, Option, Some, None}
 use Rattle.std.specs.List.Sorted.{IsNonDecreasingBy, IsPartitionedBy}
 use Rattle.std.proofs.Math.Seq.{get_or-append_seam}
@@ -11,7 +11,7 @@ use Rattle.set_intervals.specs.Pairs.{HasValue, SameValues, HasClash}
 use Rattle.set_intervals.specs.steps.Pieces.{IsSeparate, IsMerged, IsTable, StartsBefore, ClassifiesOverlap, IsLowerBound}
 use Rattle.set_intervals.proofs.PairLaws.{place_of, Says}
 
--- the ends of pieces rise
+-- the high ends of pieces ascend
 highs_rise : {V : Type 0} (xs : List (Range × V)) → IsSeparate xs → IsNonDecreasingBy (λ (p : Range × V). p.0.high) xs
 highs_rise xs sep i j d le lt =
     ⊎_elim
@@ -25,7 +25,7 @@ ends_parted xs sep key = IsPartitionedBy-ltb (λ y. y.0.high) xs key (highs_rise
 
 -- ---- a new last piece
 
--- the last piece, read at any place and default
+-- the last piece, for any index and default
 pub last_is : {V : Type 0} (xs : List (Range × V)) (n i : ℕ) (d q : Range × V) → n ≡ length xs → i + 1 ≡ length xs → q ≡ get_or xs (n - 1) q → get_or xs i d ≡ q
 last_is xs n i d q whole last is =
     let e : i ≡ n - 1 = omega arith in
@@ -71,7 +71,7 @@ merged_push {V} xs p merged last i d lt = ⊎_elim old new (cases_lt (i + 1) (le
         let at_end : get_or (xs ++ p ∷ []) (i + 1) d ≡ p = ap (λ n. get_or (xs ++ p ∷ []) n d) j_is ∙ get_or-append_seam xs p [] d in
         rw (get_or_append_left xs (p ∷ []) d i in_old, at_end) (last i d j_is)
 
--- a new last piece that lies apart from the one before it
+-- a new last piece that can't merge with the one before it
 pub table_push : {V : Type 0} (xs : List (Range × V)) (n : ℕ) (q p : Range × V) → IsTable xs → n ≡ length xs → q ≡ get_or xs (n - 1) q → ClassifiesOverlap q p Disjoint → IsTable (xs ++ p ∷ [])
 table_push {V} xs n q p table whole is apart = record {
   separate = separate_push xs p table.separate (λ i d last. subst (λ (s : Range × V). s.0.high < p.0.low) (sym (last_is xs n i d q whole last is)) apart.0);
@@ -100,7 +100,7 @@ starts_widen {V} xs i p q n lt is same before j d in_list =
 
 -- ---- the one value at a number
 
--- nothing has a key that lies after the pieces before a place and before the piece there
+-- a key above the pieces before an index and below the piece there has no value
 pub not_held : {V : Type 0} (xs : List (Range × V)) → IsSeparate xs → (key at : ℕ) → IsLowerBound xs key at → ((d : Range × V) → at < length xs → key < (get_or xs at d).0.low) → (v : V) → HasValue xs key v → ⊥
 not_held {V} xs sep key at reach later v h =
     let r = place_of xs key v h in
@@ -118,7 +118,7 @@ not_held {V} xs sep key at reach later v h =
     (cases_lt at i))
     (cases_lt i at)
 
--- separate pieces have one value at a key
+-- disjoint pieces have at most one value at a key
 one_value : {V : Type 0} (xs : List (Range × V)) → IsSeparate xs → (key : ℕ) (v w : V) → HasValue xs key v → HasValue xs key w → v ≡ w
 one_value {V} xs sep key v w hv hw =
     let a = place_of xs key v hv in
@@ -136,7 +136,7 @@ one_value {V} xs sep key v w hv hw =
     (cases_lt b.at a.at))
     (cases_lt a.at b.at)
 
--- the one answer
+-- the value at a key is unique
 pub one_answer : {V : Type 0} (xs ys : List (Range × V)) → IsSeparate xs → SameValues xs ys → (key : ℕ) (a b : Option V) → Says xs key a → Says ys key b → a ≡ b
 one_answer xs ys sep same key None None ha hb = refl
 one_answer xs ys sep same key None (Some w) ha hb = absurd (ha w ((same key w).1 hb))

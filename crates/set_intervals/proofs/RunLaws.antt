@@ -1,4 +1,4 @@
--- A table has one piece for each run of neighbours with one value.
+-- A table has one piece for each run of consecutive numbers with one value.
 use Rattle.std.proofs.Common.{◌≡◌, ℕ, ◌+◌, ◌-◌, ◌<◌, ◌≤◌, List, [], ◌∷◌, length, map, get_or, ⊎_elim, sym, ap, ◌∙◌, subst, arith, Contains}
 use Rattle.std.specs.List.Sorted.{IsStrictlyIncreasing}
 use Rattle.std.proofs.lemmas.List.{get_or-map, get_or_default, length-map}
@@ -8,11 +8,11 @@ use Rattle.set_intervals.specs.Pairs.{HasValue, BeginsRun, HasRuns}
 use Rattle.set_intervals.specs.steps.Pieces.{IsTable}
 use Rattle.set_intervals.proofs.PairLaws.{holds_read, place_of}
 
--- where the pieces begin
+-- the low ends of the pieces
 lows : {V : Type 0} → List (Range × V) → List ℕ
 lows xs = map (λ p. p.0.low) xs
 
--- some pair, where there is one
+-- some pair, if there is one
 first_pair : {V : Type 0} (xs : List (Range × V)) (i : ℕ) → i < length xs → Range × V
 first_pair [] i lt = absurd (omega arith)
 first_pair (x ∷ xs) i lt = x

@@ -1,3 +1,3 @@
--- What private functions give on the way: nothing that a public contract cites.
+-- Definitions for private contracts; no public contract cites them.
 pub mod Pieces
 pub mod Layers

@@ -1,14 +1,14 @@
-//! Why there is no table.
+//! The error type of `Intervals::build`.
 use std::alloc::{AllocError, AllocFailed};
 use thiserror::Error;
 
-/// Why there is no table.
+/// Why no table was built.
 #[derive(Clone, Copy, Debug, PartialEq, Eq, Error)]
 pub enum SetError {
-    /// A number has two different values.
+    /// Two ranges with different values overlap.
     #[error("clash")]
     Clash,
-    /// There was no room to grow.
+    /// An allocation failed.
     #[error("memory")]
     Memory,
 }

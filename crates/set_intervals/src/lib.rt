@@ -1,5 +1,6 @@
-//! Intervals of 128-bit numbers with a value each: the table of a set or a map. A table takes time
-//! `n log n` to build and `log n` to ask, and memory in proportion to its pairs.
+//! Sorted, disjoint intervals of 128-bit numbers with a value each: the lookup table of an nftables
+//! set or map. Building one from `n` pairs takes O(n log n) time and O(n) memory, a lookup O(log
+//! n).
 #![tactic(auto)]
 
 mod fault;

@@ -1,4 +1,5 @@
-//! Pieces laid over others: at a number that both have, the upper ones' value counts.
+//! Overlaying sorted intervals: where an upper and a lower interval overlap, the upper one's value
+//! wins.
 ghost use Rattle.std.specs.Prelude.{◌≡◌, ◌≤◌, ◌<◌, ◌+◌, ◌++◌, ◌∷◌, [], ◌↔◌, IsTrue, IfOk, OnOk};
 ghost use Rattle.set_intervals.specs.Pairs.{IsExact};
 ghost use Rattle.set_intervals.specs.steps.Layers.{AddsBelow, EndsBefore, Follows, SameFirstValues};
@@ -7,7 +8,7 @@ ghost use Rattle.set_intervals.specs.steps.Pieces.{IsTable};
 use crate::range::Range;
 use std::alloc::{AllocError, Global};
 
-/// Whether a piece with this range and value goes on where the other one ends.
+/// Whether this range is adjacent to the piece and has the same value, so that the two can merge.
 fn continues<V: Copy + Eq>(piece: (Range, V), range: Range, value: V) -> bool
     requires exact { IsExact V.eq }
     ensures { IsTrue result ↔ ((piece.0.high + 1 ≡ range.low) × (piece.1 ≡ value)) }
@@ -15,7 +16,7 @@ fn continues<V: Copy + Eq>(piece: (Range, V), range: Range, value: V) -> bool
     piece.0.touches(range) && piece.1 == value
 }
 
-/// Appends a piece that lies past the others: where it goes on from the last one, they become one.
+/// Appends a piece above all others, merged with the last one where adjacent and of equal value.
 fn append<V: Copy + Eq>(
     pieces: &mut Vec<(Range, V)>,
     range: Range,
@@ -41,7 +42,7 @@ fn append<V: Copy + Eq>(
     Ok(())
 }
 
-/// Appends the part of the range that lies before the other range, if there is one.
+/// Appends the part of the range below the other range, if there is one.
 fn append_before<V: Copy + Eq>(
     pieces: &mut Vec<(Range, V)>,
     range: Range,
@@ -64,8 +65,8 @@ fn append_before<V: Copy + Eq>(
     Ok(())
 }
 
-/// Appends the parts of the range that the upper pieces leave free, and in their places those of
-/// the upper pieces that end before the range does. Gives the upper pieces that are left.
+/// Appends one lower range under the upper pieces: the parts of it that they leave uncovered, and
+/// between these the upper pieces that end within it. Returns the upper pieces not yet appended.
 fn append_under<'a, V: Copy + Eq>(
     pieces: &mut Vec<(Range, V)>,
     upper: &'a [(Range, V)],
@@ -97,7 +98,7 @@ fn append_under<'a, V: Copy + Eq>(
     Ok(left)
 }
 
-/// Appends further pieces, which all lie past the others.
+/// Appends sorted pieces that all lie above the others.
 fn append_all<V: Copy + Eq>(
     pieces: &mut Vec<(Range, V)>,
     further: &[(Range, V)],
@@ -106,7 +107,8 @@ fn append_all<V: Copy + Eq>(
     requires table { IsTable pieces.old.items }
     requires follows { Follows pieces.old.items further.now }
     ensures table { OnOk result (IsTable pieces.new.items) }
-    ensures first_values { OnOk result (SameFirstValues pieces.new.items (pieces.old.items ++ further.now)) }
+    ensures first_values { OnOk result
+        (SameFirstValues pieces.new.items (pieces.old.items ++ further.now)) }
 {
     let mut left = further;
     while let [first, others @ ..] = left {
@@ -116,7 +118,7 @@ fn append_all<V: Copy + Eq>(
     Ok(())
 }
 
-/// The upper pieces, and what they leave free of the lower ones.
+/// The upper pieces, and what they leave uncovered of the lower ones.
 fn overlay<V: Copy + Eq>(
     alloc: Global,
     upper: &[(Range, V)],
@@ -126,7 +128,8 @@ fn overlay<V: Copy + Eq>(
     requires upper { IsTable upper.now }
     requires lower { IsTable lower.now }
     ensures table { IfOk result (λ pieces. IsTable pieces.items) }
-    ensures first_values { IfOk result (λ pieces. SameFirstValues pieces.items (upper.now ++ lower.now)) }
+    ensures first_values { IfOk result
+        (λ pieces. SameFirstValues pieces.items (upper.now ++ lower.now)) }
 {
     let mut pieces = Vec::new(alloc);
     let mut left = upper;
@@ -137,7 +140,8 @@ fn overlay<V: Copy + Eq>(
     Ok(pieces)
 }
 
-/// The pieces in which the first of these pairs with a number gives its value.
+/// Disjoint pieces in which each number has the value of the first pair that contains it. Divide
+/// and conquer: the earlier half is overlaid on the later half.
 pub fn first_wins<V: Copy + Eq>(
     alloc: Global,
     pairs: &[(Range, V)],

@@ -1,7 +1,7 @@
-//! Ranges of numbers.
+//! Non-empty ranges of 128-bit numbers.
 ghost use Rattle.std.specs.Prelude.{◌≡◌, ◌≤◌, ◌<◌, ◌+◌, ◌^◌, ◌↔◌, max, min, IsTrue, MatchOption};
 
-/// The numbers from `low` to `high`, both included: at least one.
+/// The numbers from `low` to `high`, both included. Never empty.
 #[derive(Clone, Copy, Debug)]
 pub struct Range {
     low: u128,
@@ -11,7 +11,7 @@ pub struct Range {
 }
 
 impl Range {
-    /// The numbers from `low` to `high`. `None` where `high` is the lesser.
+    /// The numbers from `low` to `high`, both included; `None` if `high < low`.
     pub fn new(low: u128, high: u128) -> Option<Range>
         ensures { MatchOption result (high < low) (λ r. (r.low ≡ low) × (r.high ≡ high)) }
     {
@@ -22,21 +22,21 @@ impl Range {
         }
     }
 
-    /// The least number.
+    /// The lowest number.
     pub fn low(self) -> u128
         ensures { result ≡ self.low }
     {
         self.low
     }
 
-    /// The greatest number.
+    /// The highest number.
     pub fn high(self) -> u128
         ensures { result ≡ self.high }
     {
         self.high
     }
 
-    /// Whether the two have a number in common.
+    /// Whether the two ranges share a number, where `later` starts no lower than this one.
     pub(crate) fn overlaps(self, later: Range) -> bool
         requires { self.low ≤ later.low }
         ensures { IsTrue result ↔ (later.low ≤ self.high) }
@@ -44,14 +44,14 @@ impl Range {
         later.low <= self.high
     }
 
-    /// Whether the later one begins right after this one. `high + 1` may be too large.
+    /// Whether `later` starts right after this range ends. (`high + 1` could overflow.)
     pub(crate) fn touches(self, later: Range) -> bool
         ensures { IsTrue result ↔ (self.high + 1 ≡ later.low) }
     {
         self.high < later.low && later.low - self.high == 1
     }
 
-    /// From the beginning of this one to the end of both.
+    /// From the start of this range to the end of whichever ends last.
     pub(crate) fn merged(self, later: Range) -> Range
         ensures low { result.low ≡ self.low }
         ensures high { result.high ≡ max self.high later.high }
@@ -62,7 +62,7 @@ impl Range {
         }
     }
 
-    /// The part of this one that lies before the other one, if there is one.
+    /// The part of this range below the other one, if there is any.
     pub(crate) fn before(self, other: Range) -> Option<Range>
         ensures { MatchOption result (other.low ≤ self.low)
             (λ r. (r.low ≡ self.low) × (r.high + 1 ≡ min (self.high + 1) other.low)) }
@@ -77,7 +77,7 @@ impl Range {
         }
     }
 
-    /// The part of this one that lies past the other one, if there is one.
+    /// The part of this range above the other one, if there is any.
     pub(crate) fn after(self, other: Range) -> Option<Range>
         ensures { MatchOption result (self.high ≤ other.high)
             (λ r. (r.low ≡ max self.low (other.high + 1)) × (r.high ≡ self.high)) }

@@ -1,4 +1,4 @@
-//! A table of values by number, as sorted intervals.
+//! The lookup table: values by number, kept as sorted intervals.
 ghost use Rattle.std.specs.Prelude.{◌≡◌, ◌≤◌, ◌<◌, ◌↔◌, ℕ, List, length, IsTrue, IfOk, OnOk, IfErr, MatchOption};
 ghost use Rattle.std.specs.Option.{option_copied};
 ghost use Rattle.set_intervals.specs.declared.range.Range.{Range};
@@ -11,10 +11,10 @@ use crate::range::Range;
 use std::alloc::{AllocError, Global};
 use std::marker::Model;
 
-/// Values by number: no number has two.
+/// A map from numbers to values, kept as disjoint intervals.
 #[derive(Debug, Drop)]
 pub struct Intervals<V> {
-    /// Apart and rising. Neighbours that touch have different values.
+    /// Disjoint and ascending; adjacent pieces have different values.
     pieces: Vec<(Range, V)>,
 }
 
@@ -27,16 +27,16 @@ impl<V> Model for Intervals<V> {
 }
 
 impl<V: Copy + Eq> Intervals<V> {
-    /// The table of these pairs, whatever their order. Ranges with the same value that overlap or
-    /// touch become one. `exact`: `==` holds for what is the same and nothing else, as a derived
-    /// one over numbers does.
+    /// Builds the table of these pairs, in any order. Overlapping or adjacent ranges with the same
+    /// value are merged. `exact` requires that `==` on values is equality, as a derived one is.
     ///
     /// # Errors
     ///
-    /// `Clash` where a number has two different values, `Memory` where there is no room.
+    /// `Clash` if ranges with different values overlap, `Memory` if an allocation fails.
     pub fn build(alloc: Global, pairs: &[(Range, V)]) -> Result<Self, SetError>
         requires exact { IsExact V.eq }
-        ensures first_values { IfOk result (λ table. (key : ℕ) → first_value table key ≡ first_value pairs.now key) }
+        ensures first_values { IfOk result (λ table. (key : ℕ)
+            → first_value table key ≡ first_value pairs.now key) }
         ensures same { IfOk result (λ table. SameValues table pairs.now) }
         ensures agrees { IfOk result (λ table. HasClash pairs.now → ⊥) }
         ensures clash { IfErr result (λ e. e ≡ SetError.Clash → HasClash pairs.now) }
@@ -50,21 +50,22 @@ impl<V: Copy + Eq> Intervals<V> {
         Ok(Intervals { pieces })
     }
 
-    /// The table in which, of the pairs that have a number, the first one's value stands: no two
-    /// clash, whatever overlaps. `exact` is as for `build`.
+    /// Builds the table in which each number has the value of the first pair that contains it:
+    /// overlaps are no error. `exact` is as for `build`.
     ///
     /// # Errors
     ///
-    /// Where there is no room.
+    /// If an allocation fails.
     pub fn first_wins(alloc: Global, pairs: &[(Range, V)]) -> Result<Self, AllocError>
         requires exact { IsExact V.eq }
-        ensures { IfOk result (λ table. (key : ℕ) → first_value table key ≡ first_value pairs.now key) }
+        ensures { IfOk result (λ table. (key : ℕ)
+            → first_value table key ≡ first_value pairs.now key) }
     {
         let pieces = first_wins(alloc, pairs)?;
         Ok(Intervals { pieces })
     }
 
-    /// The value at a number. `None` where it has none.
+    /// The value at a number; `None` if no interval contains it.
     pub fn find(&self, key: u128) -> Option<&V>
         ensures held { MatchOption (option_copied result)
             ((v : V) → HasValue self.now key v → ⊥)
@@ -74,14 +75,15 @@ impl<V: Copy + Eq> Intervals<V> {
         find_in(&self.pieces, key)
     }
 
-    /// Its ranges with their values.
+    /// The intervals with their values, ascending.
     pub fn pieces(&self) -> &[(Range, V)]
         ensures { result.now ≡ self.now }
     {
         &self.pieces
     }
 
-    /// The number of runs: neighbours with the same value are one, however many pairs gave them.
+    /// The number of intervals after merging: of maximal runs of consecutive numbers with one
+    /// value.
     pub fn count(&self) -> usize
         ensures { HasRuns self.now result }
     {
@@ -89,17 +91,16 @@ impl<V: Copy + Eq> Intervals<V> {
     }
 }
 
-/// How a pair stands to a piece that begins no later.
+/// How a pair relates to a piece that starts no later.
 enum Overlap {
-    /// It lies past the piece, and has another value where it touches it.
+    /// It lies above the piece, and isn't adjacent or has another value.
     Disjoint,
-    /// It has the same value, and overlaps the piece or touches it.
+    /// It has the same value, and overlaps the piece or is adjacent to it.
     Mergeable,
-    /// It has another value at a number of the piece.
+    /// It overlaps the piece, with another value.
     Clashes,
 }
 
-/// How the pair stands to the piece.
 fn classify_overlap<V: Copy + Eq>(piece: (Range, V), pair: (Range, V)) -> Overlap
     requires exact { IsExact V.eq }
     requires rising { piece.0.low ≤ pair.0.low }
@@ -119,7 +120,7 @@ fn classify_overlap<V: Copy + Eq>(piece: (Range, V), pair: (Range, V)) -> Overla
     }
 }
 
-/// One more pair, whose range begins no earlier than those before it.
+/// Adds a pair whose range starts no lower than those before it.
 fn add<V: Copy + Eq>(pieces: &mut Vec<(Range, V)>, range: Range, value: V) -> Result<(), SetError>
     requires exact { IsExact V.eq }
     requires table { IsTable pieces.old.items }
@@ -144,14 +145,13 @@ fn add<V: Copy + Eq>(pieces: &mut Vec<(Range, V)>, range: Range, value: V) -> Re
     Ok(())
 }
 
-/// The same pairs.
 fn copied<V: Copy>(alloc: Global, pairs: &[(Range, V)]) -> Result<Vec<(Range, V)>, AllocError>
     ensures { IfOk result (λ copy. copy.items ≡ pairs.now) }
 {
     pairs.iter().copied().collect(alloc)
 }
 
-/// The value at a number.
+/// Binary search for the piece that contains the number.
 fn find_in<V>(pieces: &[(Range, V)], key: u128) -> Option<&V>
     requires { IsTable pieces.now }
     ensures { MatchOption (option_copied result)
@@ -165,7 +165,7 @@ fn find_in<V>(pieces: &[(Range, V)], key: u128) -> Option<&V>
     }
 }
 
-/// The place of the first piece that doesn't end before the number.
+/// The index of the first piece that ends at or above the number.
 fn lower_bound<V>(pieces: &[(Range, V)], key: u128) -> usize
     requires { IsTable pieces.now }
     ensures { IsLowerBound pieces.now key result }

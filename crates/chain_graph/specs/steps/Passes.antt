@@ -1,11 +1,11 @@
--- What the passes over the nodes compute of one node's calls.
+-- What the passes over the nodes compute from one node's calls.
 use Rattle.std.specs.Prelude.{ℕ, ◌+◌, ◌<◌, max, List, [], ◌∷◌, All, Bool, false, ◌||◌, if◌then◌else◌}
 use Rattle.chain_graph.specs.Graph.{Call}
 use Rattle.chain_graph.specs.Measures.{saturated}
 use Rattle.chain_graph.specs.declared.node.Node.{Node}
 use Rattle.chain_graph.specs.declared.node.Node.TheVariants.{Chain, Map}
 
--- each call of the node is to one of n nodes
+-- all calls of the node are to indices below n
 abbrev pub IsWithin : ℕ → Node → Type 0
 IsWithin n (Chain statements) = All (λ s. All (λ e. e.to < n) s.items) statements.items
 IsWithin n (Map calls) = All (λ e. e.to < n) calls.items
@@ -13,12 +13,12 @@ IsWithin n (Map calls) = All (λ e. e.to < n) calls.items
 abbrev pub jump_of : Call ℕ → ℕ
 jump_of e = if e.is_jump then 1 else 0
 
--- the deepest of these calls, where each node has the depth `depth`
+-- the greatest depth among these calls, where node k has the depth `depth k`
 abbrev pub deepest : (ℕ → ℕ) → List (Call ℕ) → ℕ
 deepest depth [] = 0
 deepest depth (e ∷ es) = max (saturated (depth e.to + jump_of e)) (deepest depth es)
 
--- one of these calls is to a node that passes
+-- the target of one of these calls passes the test
 abbrev pub some_call : (ℕ → Bool) → List (Call ℕ) → Bool
 some_call test [] = false
 some_call test (e ∷ es) = test e.to || some_call test es

@@ -1,4 +1,4 @@
--- What holds of a search through the nodes.
+-- The invariant and the measure of the depth-first search.
 use Rattle.std.specs.Prelude.{◌≡◌, ◌≢◌, ℕ, ◌+◌, ◌<◌, ◌≤◌, List, [], length, get_or, take, All, Contains, sum_by, Bool, true, false}
 use Rattle.chain_graph.specs.Order.{HasEdge, IsRepeatFree, IsTopologicalOrder}
 use Rattle.chain_graph.specs.steps.Targets.{HasTargetCycle}
@@ -8,15 +8,16 @@ use Rattle.chain_graph.specs.declared.search.Search.{Search}
 use Rattle.chain_graph.specs.declared.search.SortResult.{SortResult}
 use Rattle.chain_graph.specs.declared.search.SortResult.TheVariants.{Order, Cycle}
 
--- each node of the path leads to the next, those in the order stand after all that they lead to, and of
--- each node the targets from `left` on are in the order
+-- each node on the path has an edge to the next, those in the order come after all their targets, and the
+-- targets of each node from `left` on are in the order
 pub record IsSound (g : List (List ℕ)) (marks : List Mark) (left path order : List ℕ) : Type 0 where
   pub marks_long : length marks ≡ length g
   pub left_long : length left ≡ length g
   pub within : All (λ c. c < length g) path
   pub below : All (λ c. c < length g) order
   pub fits : (c : ℕ) → get_or left c 0 ≤ length (get_or g c [])
-  pub scanned : (c k : ℕ) → get_or left c 0 ≤ k → k < length (get_or g c []) → Contains order (get_or (get_or g c []) k 0)
+  pub scanned : (c k : ℕ) → get_or left c 0 ≤ k → k < length (get_or g c [])
+      → Contains order (get_or (get_or g c []) k 0)
   pub ended : (c : ℕ) → get_or marks c New ≡ Done → Contains order c
   pub opened : (c : ℕ) → get_or marks c New ≡ Open → Contains path c
   pub listed : (c : ℕ) → Contains order c → get_or marks c New ≡ Done
@@ -34,38 +35,38 @@ weight New = 2
 weight Open = 0
 weight Done = 0
 
--- how much is left to do
+-- the termination measure
 abbrev pub remaining_work : Search → ℕ
 remaining_work s = sum_by (λ n. n) s.left.items + sum_by weight s.marks.items + length s.path.items
 
--- nodes that were met stay so
+-- nodes that were visited stay so
 pub record KeepsVisited (before after : List Mark) : Type 0 where
   pub keeps : (c : ℕ) → get_or before c New ≢ New → get_or after c New ≢ New
 
--- a step that leaves less to do
+-- a step that lowers the measure
 pub record Advanced (g : List (List ℕ)) (before after : Search) : Type 0 where
   pub search : IsSearch g after
   pub less : remaining_work after < remaining_work before
   pub visited : KeepsVisited before.marks.items after.marks.items
 
--- what a step comes to
+-- the result of a step: false means a cycle
 abbrev pub StepResult : List (List ℕ) → Search → Search → Bool → Type 0
 StepResult g before after true = Advanced g before after
 StepResult g before after false = HasTargetCycle g
 
--- the visit of a node: nothing is on the path again, and the node is met
+-- a completed visit from a node: the path is empty again, and the node is visited
 pub record Visited (g : List (List ℕ)) (before after : Search) (root : ℕ) : Type 0 where
   pub search : IsSearch g after
   pub path : after.path.items ≡ []
   pub root_visited : get_or after.marks.items root New ≢ New
   pub visited : KeepsVisited before.marks.items after.marks.items
 
--- what a visit comes to
+-- the result of a visit: false means a cycle
 abbrev pub VisitResult : List (List ℕ) → Search → Search → ℕ → Bool → Type 0
 VisitResult g before after root true = Visited g before after root
 VisitResult g before after root false = HasTargetCycle g
 
--- what the whole search comes to: an order where there is one, and then no ring
+-- the result of the whole search: an order, and then there is no cycle; or a cycle
 abbrev pub IsSortResult : List (List ℕ) → SortResult → Type 0
 IsSortResult g (Order order) = IsTopologicalOrder g order.items × (HasTargetCycle g → ⊥)
 IsSortResult g Cycle = HasTargetCycle g

@@ -1,4 +1,4 @@
--- The targets of each node, which are all that the search looks at.
+-- The targets of each node: the graph as the search sees it.
 use Rattle.std.specs.Prelude.{◌≡◌, ℕ, ◌<◌, List, [], ◌∷◌, length, map, Vec}
 use Rattle.std.specs.declared.alloc.Global.{Global}
 use Rattle.chain_graph.specs.Order.{HasEdge}
@@ -7,12 +7,12 @@ use Rattle.chain_graph.specs.Order.{HasEdge}
 abbrev pub rows_of : List (Vec ℕ Global) → List (List ℕ)
 rows_of rows = map (λ r. r.items) rows
 
--- a way from a to b through these nodes, of which b is the last
+-- a path from a to b through these nodes, of which b is the last
 abbrev pub IsTargetPath : List (List ℕ) → ℕ → List ℕ → ℕ → Type 0
 IsTargetPath g a [] b = a ≡ b
 IsTargetPath g a (c ∷ cs) b = HasEdge g a c × IsTargetPath g c cs b
 
--- a way of one step or more from a node to itself
+-- a path of one edge or more from a node to itself
 pub record HasTargetCycle (g : List (List ℕ)) : Type 0 where
   pub node : ℕ
   pub first : ℕ

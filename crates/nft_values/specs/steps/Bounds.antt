@@ -1,4 +1,4 @@
--- The bounds that the code computes, as a span.
+-- The code's bounds as a span.
 use Rattle.nft_values.specs.declared.bounds.Bounds.{Bounds}
 use Rattle.nft_values.specs.Values.{Span}
 

@@ -1,15 +1,18 @@
--- What is told of some of the faults, in their order.
+-- The least fault within a range of numbers.
 use Rattle.std.specs.Prelude.{ℕ, ◌<◌, ◌≤◌, List, Option, Some, None}
 use Rattle.nft_tree.specs.Tree.{TableTree}
 use Rattle.box_file.specs.Box.{PlantTree}
 use Rattle.rule_check.specs.declared.fault.CheckFault.{CheckFault}
-use Rattle.rule_check.specs.WellFormed.{Wrong, number}
+use Rattle.rule_check.specs.WellFormed.{Wrong, fault_number}
 
--- the ruleset has none of the faults numbered from one number up to another
+-- the ruleset has none of the faults with numbers in `from..to`
 abbrev pub HasNone : ℕ → ℕ → List TableTree → PlantTree → Type 0
-HasNone from to tables plant = (fault : CheckFault) → from ≤ number fault → number fault < to → Wrong fault tables plant → ⊥
+HasNone from to tables plant =
+    (fault : CheckFault) → from ≤ fault_number fault → fault_number fault < to → Wrong fault tables plant → ⊥
 
--- of these faults it has this one, and none before it; or it has none
+-- the fault is the least of those with numbers in `from..to`; or the ruleset has none of them
 abbrev pub IsLeastFaultIn : ℕ → ℕ → List TableTree → PlantTree → Option CheckFault → Type 0
 IsLeastFaultIn from to tables plant None = HasNone from to tables plant
-IsLeastFaultIn from to tables plant (Some fault) = (from ≤ number fault) × (number fault < to) × Wrong fault tables plant × HasNone from (number fault) tables plant
+IsLeastFaultIn from to tables plant (Some fault) =
+    (from ≤ fault_number fault) × (fault_number fault < to) × Wrong fault tables plant
+    × HasNone from (fault_number fault) tables plant

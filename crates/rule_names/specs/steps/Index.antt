@@ -1,4 +1,4 @@
--- What an index of names holds.
+-- The contents of a `NameIndex`.
 use Rattle.std.specs.Prelude.{◌≡◌, ℕ, Bool, true, false, List, [], ◌∷◌, ◌++◌, Option, Some, None, map, slice_get}
 use Rattle.std.specs.Borrow.{Bor}
 use Rattle.nft_tree.specs.Tree.{Text}
@@ -8,12 +8,12 @@ use Rattle.rule_names.specs.Names.{HasDuplicate}
 abbrev pub texts : List (Bor Text) → List Text
 texts names = map (λ n. n.now) names
 
--- the names are those of before and one more, no two the same, if that one is new
+-- the result of `add`: true if the name was new, and then it is at the end
 abbrev pub IsAdded : List Text → Text → List Text → Bool → Type 0
 IsAdded old name new true = (new ≡ old ++ name ∷ []) × (HasDuplicate new → ⊥)
 IsAdded old name new false = HasDuplicate (old ++ name ∷ [])
 
--- what stands at the place of a name
+-- the element at an optional index
 abbrev pub at_index : {X : Type 0} → List X → Option ℕ → Option X
 at_index xs None = None
 at_index xs (Some i) = slice_get xs i

@@ -1,4 +1,4 @@
--- What the names of a table say of it.
+-- The contents of the index of a table.
 use Rattle.std.specs.Prelude.{◌≡◌, ◌⊎◌, Bool, true, false, List, map, Contains}
 use Rattle.std.specs.Borrow.{Bor}
 use Rattle.std.specs.List.{filter_map}
@@ -7,18 +7,19 @@ use Rattle.nft_tree.specs.TableItems.{chain_in, set_in, map_in}
 use Rattle.rule_names.specs.Names.{HasDuplicate, chain_names, set_and_map_names, set_or_map_name}
 use Rattle.rule_names.specs.declared.table.NamedItems.{NamedItems}
 
--- no name stands twice in the table
+-- the table has no duplicate names
 pub record HasUniqueNames (t : TableTree) : Type 0 where
   pub chains_apart : HasDuplicate (chain_names t) → ⊥
   pub sets_and_maps_apart : HasDuplicate (set_and_map_names t) → ⊥
 
--- these are the items of one kind, and their names, no two the same
-pub record AreNamed {T X : Type 0} (view : T → X) (name_of : X → Text) (xs : List X) (all : List (Bor T)) (names : List Text) : Type 0 where
+-- these are the items of one kind and their names, which are distinct
+pub record AreNamed {T X : Type 0} (view : T → X) (name_of : X → Text) (xs : List X) (all : List (Bor T))
+    (names : List Text) : Type 0 where
   pub are : map (λ x. view x.now) all ≡ xs
   pub named : names ≡ map name_of xs
   pub apart : HasDuplicate (map name_of xs) → ⊥
 
--- these are the chains, the sets and the maps among the items, and the names of each
+-- the index of these items: chains, sets and maps, and their names
 pub record Represents (items : List ItemTree) (n : NamedItems) : Type 0 where
   pub chains : AreNamed chain_tree (λ c. c.name) (filter_map chain_in items) n.chains.all.items n.chains.names
   pub sets : AreNamed set_tree (λ s. s.name) (filter_map set_in items) n.sets.all.items n.sets.names
@@ -26,16 +27,18 @@ pub record Represents (items : List ItemTree) (n : NamedItems) : Type 0 where
   pub both : n.sets_and_maps ≡ filter_map set_or_map_name items
   pub both_apart : HasDuplicate (filter_map set_or_map_name items) → ⊥
 
--- a name stands twice among the items
+-- the items have a duplicate name
 abbrev pub HasDuplicateIn : List ItemTree → Type 0
-HasDuplicateIn items = HasDuplicate (map (λ c. c.name) (filter_map chain_in items)) ⊎ HasDuplicate (filter_map set_or_map_name items)
+HasDuplicateIn items =
+    HasDuplicate (map (λ c. c.name) (filter_map chain_in items))
+    ⊎ HasDuplicate (filter_map set_or_map_name items)
 
 abbrev pub RepresentsOrHasDuplicate : List ItemTree → NamedItems → Bool → Type 0
 RepresentsOrHasDuplicate items n true = Represents items n
 RepresentsOrHasDuplicate items n false = HasDuplicateIn items
 
--- a name stands twice within one of the tables
+-- one of the tables has a duplicate name
 pub record SomeTableHasDuplicate (tables : List TableTree) : Type 0 where
   pub table : TableTree
-  pub stands : Contains tables table
+  pub member : Contains tables table
   pub duplicate : HasDuplicateIn table.items

@@ -1,4 +1,4 @@
--- What is found of one table.
+-- The findings about one table.
 use Rattle.std.specs.Prelude.{◌≡◌, ◌↔◌, ◌⊎◌, ℕ, ◌<◌, IsTrue, Bool, List, length, get_or, Contains, Vec}
 use Rattle.std.specs.declared.alloc.Global.{Global}
 use Rattle.nft_tree.specs.Tree.{TableTree}
@@ -20,7 +20,7 @@ abbrev pub MisplacesIn : TableTree → Type 0
 MisplacesIn t = MisplacesAs Source t ⊎ MisplacesAs Destination t
 
 pub record AreTableFindings (t : TableTree) (found : TableFindings) : Type 0 where
-  pub stands : RepresentsNodes (node_of t) (index_of t) (index_graph t)
+  pub represents : RepresentsNodes (node_of t) (index_of t) (index_graph t)
   pub has_costs : (cost : ℕ → ℕ) × IsCost (index_graph t) cost
   pub acyclic : HasCycle (CallsOf t) → ⊥
   pub deep : IsTrue found.is_too_deep ↔ HasDeepPath t
@@ -29,20 +29,25 @@ pub record AreTableFindings (t : TableTree) (found : TableFindings) : Type 0 whe
   pub costs : AreChainCosts t found.costs.items
   pub depths : AreChainDepths t found.depths.items
 
--- what the nodes of these tables cost, each table by its graph
+-- solutions of the cost equations of these tables, each by the table's graph
 pub record HaveCosts (tables : List TableTree) : Type 0 where
   pub costs : Graph → ℕ → ℕ
   pub are : (t : TableTree) → Contains tables t → IsCost (index_graph t) (costs (index_graph t))
-  pub stand : (t : TableTree) → Contains tables t → RepresentsNodes (node_of t) (index_of t) (index_graph t)
+  pub represent : (t : TableTree) → Contains tables t
+      → RepresentsNodes (node_of t) (index_of t) (index_graph t)
 
--- what is found of the tables so far
-pub record AreFindingsSoFar (tables : List TableTree) (is_too_deep misplaces_nat : Bool) (cost : ℕ) (costs depths : List (Vec ℕ Global)) : Type 0 where
+-- the findings about the tables so far
+pub record AreFindingsSoFar (tables : List TableTree) (is_too_deep misplaces_nat : Bool) (cost : ℕ)
+    (costs depths : List (Vec ℕ Global)) : Type 0 where
   pub acyclic : Cycles tables → ⊥
   pub deep : IsTrue is_too_deep ↔ TooDeep tables
   pub nat : IsTrue misplaces_nat ↔ MisplacedNat tables
   pub have_costs : HaveCosts tables
-  pub sum : (cost_of : TableTree → Caller → ℕ) → AreAllCosts tables cost_of → cost ≡ saturated (ruleset_cost cost_of tables)
+  pub sum : (cost_of : TableTree → Caller → ℕ) → AreAllCosts tables cost_of
+      → cost ≡ saturated (ruleset_cost cost_of tables)
   pub costs_long : length costs ≡ length tables
-  pub chain_costs : (i : ℕ) (t : TableTree) → i < length tables → t ≡ get_or tables i t → AreChainCosts t (numbers_at costs i)
+  pub chain_costs : (i : ℕ) (t : TableTree) → i < length tables → t ≡ get_or tables i t
+      → AreChainCosts t (numbers_at costs i)
   pub depths_long : length depths ≡ length tables
-  pub chain_depths : (i : ℕ) (t : TableTree) → i < length tables → t ≡ get_or tables i t → AreChainDepths t (numbers_at depths i)
+  pub chain_depths : (i : ℕ) (t : TableTree) → i < length tables → t ≡ get_or tables i t
+      → AreChainDepths t (numbers_at depths i)

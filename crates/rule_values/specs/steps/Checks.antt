@@ -1,4 +1,4 @@
--- What is asked of each value and each number.
+-- The checks of single values and numbers.
 use Rattle.std.specs.Prelude.{Bool, not, List, ◌∷◌, Option}
 use Rattle.std.specs.List.{list_any}
 use Rattle.nft_tree.specs.declared.compared_types.ComparedType.{ComparedType}
@@ -12,7 +12,7 @@ use Rattle.rule_values.specs.Faults.{is_of_type, statement_out_of_range, priorit
 
 -- ---- values
 
--- whether the answer is no
+-- the value fails the check
 abbrev pub fails : ValueCheck → PlantTree → TypedRange → Bool
 fails value_checks.IsOfType plant r = not (is_of_type plant r)
 fails value_checks.IsOnBox plant r = not (is_range_on_box plant r.kind r.range)
@@ -20,7 +20,7 @@ fails value_checks.IsOnBox plant r = not (is_range_on_box plant r.kind r.range)
 abbrev pub typed_range : ComparedType → RangeTree → TypedRange
 typed_range k r = record { kind = k; range = r }
 
--- the values of a map's element
+-- the key and the datum of a map element
 abbrev pub pair_ranges : TypedMap → PairTree → List TypedRange
 pair_ranges m p = typed_range m.key p.key ∷ data_ranges m.value p.value
 

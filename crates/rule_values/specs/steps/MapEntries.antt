@@ -1,4 +1,4 @@
--- What elements of maps give, where names of chains go by their places among the names so far.
+-- Map data in comparable form: names of chains are replaced by their indices in a list of names.
 use Rattle.std.specs.Prelude.{◌≡◌, ℕ, suc, List, [], ◌∷◌, Option, Some, None, cond}
 use Rattle.std.specs.List.{filter_map}
 use Rattle.std.specs.Option.{option_map}
@@ -16,20 +16,20 @@ use Rattle.rule_values.specs.Faults.{ElementData, a_verdict, a_value, MapEntry, 
 
 -- ---- names
 
--- the first place of the name
+-- the index of the name
 abbrev pub name_index_of : Text → List (Bor Text) → Option ℕ
 name_index_of name [] = None
 name_index_of name (n ∷ ns) = cond (bytes_eq name n.now) (Some 0) (option_map suc (name_index_of name ns))
 
--- the name has that place
 pub record IsNameIndex (names : List (Bor Text)) (name : Text) (name_index : ℕ) : Type 0 where
   pub is : name_index_of name names ≡ Some name_index
 
--- the names of the old list keep their places
+-- names keep their indices when names are added
 pub record KeepsIndices (old new : List (Bor Text)) : Type 0 where
-  pub kept : (name : Text) (name_index : ℕ) → IsNameIndex old name name_index → IsNameIndex new name name_index
+  pub kept : (name : Text) (name_index : ℕ) → IsNameIndex old name name_index
+      → IsNameIndex new name name_index
 
--- ---- outcomes
+-- ---- data
 
 abbrev pub comparable_form : List (Bor Text) → ElementData → Option ComparableData
 comparable_form names (a_verdict tree.accept) = Some comparables.Accept
@@ -40,8 +40,9 @@ comparable_form names (a_verdict (tree.jump name)) = option_map comparables.Jump
 comparable_form names (a_verdict (tree.goto name)) = option_map comparables.Goto (name_index_of name names)
 comparable_form names (a_value span) = Some (comparables.Numbers span.low span.high)
 
--- the outcome is that of what is given
-pub record RepresentsData (names : List (Bor Text)) (given : ElementData) (comparable_data : ComparableData) : Type 0 where
+-- it is the comparable form of the data
+pub record RepresentsData (names : List (Bor Text)) (given : ElementData)
+    (comparable_data : ComparableData) : Type 0 where
   pub is : comparable_form names given ≡ Some comparable_data
 
 abbrev pub RepresentsOptionalData : List (Bor Text) → Option ElementData → Option ComparableData → Type 0
@@ -51,12 +52,14 @@ RepresentsOptionalData names (Some given) (Some o) = RepresentsData names given 
 
 -- ---- entries
 
--- a range and an outcome are those of the entry
-pub record RepresentsEntry (names : List (Bor Text)) (entry : MapEntry) (pair : Range × ComparableData) : Type 0 where
+-- the range and the comparable form of the entry's key and data
+pub record RepresentsEntry (names : List (Bor Text)) (entry : MapEntry)
+    (pair : Range × ComparableData) : Type 0 where
   pub keys : span_of pair.0 ≡ entry.keys
   pub comparable_data : RepresentsData names entry.given pair.1
 
-abbrev pub RepresentsOptionalEntry : List (Bor Text) → Option MapEntry → Option (Range × ComparableData) → Type 0
+abbrev pub RepresentsOptionalEntry : List (Bor Text) → Option MapEntry → Option (Range × ComparableData)
+    → Type 0
 RepresentsOptionalEntry names None p = p ≡ None
 RepresentsOptionalEntry names (Some entry) None = ⊥
 RepresentsOptionalEntry names (Some entry) (Some p) = RepresentsEntry names entry p
@@ -69,7 +72,7 @@ RepresentEach names _ _ = ⊥
 abbrev pub entries_of : PlantTree → TypedMap → List MapEntry
 entries_of plant m = filter_map (entry_of plant m) m.elements
 
--- the pairs are those of the entries, by some names
+-- the pairs represent the entries, for some list of names
 pub record RepresentsEntries (pairs : List (Range × ComparableData)) (entries : List MapEntry) : Type 0 where
   pub names : List (Bor Text)
   pub each : RepresentEach names entries pairs

@@ -1,4 +1,4 @@
--- What the code holds of sets and maps, as it is seen.
+-- The code's sets and maps as trees.
 use Rattle.std.specs.Prelude.{List, [], ◌∷◌, map, Option, Some, None}
 use Rattle.nft_tree.specs.declared.compared_types.ComparedType.{ComparedType}
 use Rattle.nft_tree.specs.Tree.{pair_tree, set_type_tree}
@@ -8,12 +8,11 @@ use Rattle.rule_values.specs.declared.keys.KeyTypes.TheVariants as sources
 use Rattle.rule_values.specs.declared.elements.Elements.{Elements}
 use Rattle.rule_values.specs.TypedValues.{TypedMap}
 
--- the types of a set's keys, part by part
+-- the types of the parts of a set's keys
 abbrev pub key_types_of : KeyTypes → List ComparedType
 key_types_of (sources.Declared types) = key_compared_types (set_type_tree types.now)
 key_types_of (sources.Selected selectors) = map selector_compared_type selectors.now
 
--- a map's elements with their types
 abbrev pub elements_tree : Elements → TypedMap
 elements_tree e = record { key = e.key; value = e.value; elements = map pair_tree e.pairs.now }
 

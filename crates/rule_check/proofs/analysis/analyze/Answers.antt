@@ -9,7 +9,7 @@ use Rattle.rule_paths.specs.Findings.{AreFindings}
 use Rattle.rule_values.specs.Faults.{has_contradiction}
 use Rattle.rule_check.specs.declared.fault.CheckFault.TheVariants as faults
 use Rattle.rule_check.specs.steps.FaultRanges.{HasNone, IsLeastFaultIn}
-use Rattle.rule_check.proofs.Lesser.{least, least_reported, none_yet, without}
+use Rattle.rule_check.proofs.LeastFaults.{least, least_reported, none_yet, without}
 use Rattle.rule_check.proofs.Stages.{after_all, after_chains, after_cycles, after_maps, after_names, at_none, at_some, findings_of}
 use Rattle.rule_check.proofs.analysis.analyze.Goals as goal
 

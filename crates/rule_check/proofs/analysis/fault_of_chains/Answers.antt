@@ -5,7 +5,7 @@ use Rattle.box_file.specs.Box.{PlantTree}
 use Rattle.rule_names.specs.Names.{jumps_to_base_chain}
 use Rattle.rule_types.specs.Types.{table_mismatches}
 use Rattle.rule_check.specs.declared.fault.CheckFault.TheVariants as faults
-use Rattle.rule_check.proofs.Lesser.{more, none_yet, not_so, not_true, reported}
+use Rattle.rule_check.proofs.LeastFaults.{more, none_yet, not_so, not_true, reported}
 use Rattle.rule_check.proofs.analysis.fault_of_chains.Goals as goal
 
 pub returns-then-found-3 : goal.returns-then-found-3

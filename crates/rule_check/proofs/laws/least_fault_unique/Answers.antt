@@ -1,4 +1,4 @@
-use Rattle.rule_check.proofs.Lesser.{one_least}
+use Rattle.rule_check.proofs.LeastFaults.{one_least}
 use Rattle.rule_check.proofs.laws.least_fault_unique.Goals as goal
 
 pub returns-clause-one : goal.returns-clause-one

@@ -1,4 +1,4 @@
-use Rattle.rule_meaning.proofs.Alike.{counter_sees, nothing_behind}
+use Rattle.rule_meaning.proofs.SameRuns.{counter_sees, nothing_behind}
 use Rattle.rule_meaning.proofs.laws.counters_count.Goals as goal
 
 pub returns-clause-seen : goal.returns-clause-seen

@@ -1,4 +1,4 @@
-use Rattle.rule_meaning.proofs.OneRun.{one_after}
+use Rattle.rule_meaning.proofs.Determinism.{one_after}
 use Rattle.rule_meaning.proofs.laws.run_unique_for.Goals as goal
 
 pub returns : goal.returns

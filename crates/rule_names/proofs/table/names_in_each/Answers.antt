@@ -11,7 +11,7 @@ use Rattle.rule_names.proofs.table.names_in_each.Goals as goal
 pub returns-in_default-clause-is : goal.returns-in_default-clause-is
 returns-in_default-clause-is c = record {
   table = table_tree c.table-item.result;
-  stands = Contains-map table_tree c.args.tables.now c.loop-table.table-index c.table-item.result (omega arith) c.table-item.is;
+  member = Contains-map table_tree c.args.tables.now c.loop-table.table-index c.table-item.result (omega arith) c.table-item.is;
   duplicate = MatchOption-at_none (HasDuplicateIn (table_tree c.table-item.result).items) (λ (names : TableTree). names ≡ table_tree c.table-item.result) c.in_default.is c.in_ok-of_table.ensures.is;
 }
 

@@ -9,7 +9,7 @@ use Rattle.rule_paths.proofs.TableLaws.{misplaced}
 use Rattle.rule_paths.proofs.misplaced.misplaces.Goals as goal
 
 pub reaches_marked-requires-clause-range : goal.reaches_marked-requires-clause-range
-reaches_marked-requires-clause-range c = in-range (node_of c.args.names.now) (index_of c.args.names.now) (graph_of c.args.nodes.now) c.requires.graph.stands (length c.args.nodes.now) (sym (length-map c.args.nodes.now node_tree))
+reaches_marked-requires-clause-range c = in-range (node_of c.args.names.now) (index_of c.args.names.now) (graph_of c.args.nodes.now) c.requires.graph.represents (length c.args.nodes.now) (sym (length-map c.args.nodes.now node_tree))
 
 pub returns : goal.returns
 returns c =

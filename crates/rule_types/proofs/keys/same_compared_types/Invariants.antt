@@ -4,7 +4,7 @@ use Rattle.nft_tree.specs.ComparedTypes.{key_compared_types, selector_compared_t
 use Rattle.rule_types.specs.Types.{same_compared_types}
 use Rattle.rule_types.proofs.keys.same_compared_types.Given as goal
 
--- the set has the parts so far, and the types are the same where those that are left are
+-- the set has the parts so far, and the types are the same if the remaining ones are
 abbrev pub invariant-loop-part : goal.invariant-loop-part
 invariant-loop-part l = record {
   within : l.part ≤ length (key_compared_types (set_type_tree l.key));

@@ -1,4 +1,4 @@
-use Rattle.rule_values.proofs.TypedValues.{keeps-key, name_index-key}
+use Rattle.rule_values.proofs.NameIndices.{keeps-key, name_index-key}
 use Rattle.rule_values.proofs.comparable_data.name_index.Goals as goal
 
 pub returns-clause-keeps : goal.returns-clause-keeps

@@ -1,5 +1,5 @@
 use Rattle.std.proofs.Common.{refl}
-use Rattle.semantics_examples.proofs.Answering.{postrouting, translating}
+use Rattle.semantics_examples.proofs.ComputedHooks.{postrouting, translating}
 use Rattle.semantics_examples.proofs.examples.chains_of_type_nat.Goals as goal
 
 pub returns-clause-accepted : goal.returns-clause-accepted

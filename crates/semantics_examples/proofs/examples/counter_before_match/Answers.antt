@@ -1,5 +1,5 @@
 use Rattle.std.proofs.Common.{refl}
-use Rattle.semantics_examples.proofs.Answering.{forwards}
+use Rattle.semantics_examples.proofs.ComputedHooks.{forwards}
 use Rattle.semantics_examples.proofs.examples.counter_before_match.Goals as goal
 
 pub returns-clause-before : goal.returns-clause-before

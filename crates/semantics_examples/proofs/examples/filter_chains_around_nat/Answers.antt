@@ -1,5 +1,5 @@
 use Rattle.std.proofs.Common.{refl}
-use Rattle.semantics_examples.proofs.Answering.{prerouting, postrouting}
+use Rattle.semantics_examples.proofs.ComputedHooks.{prerouting, postrouting}
 use Rattle.semantics_examples.proofs.examples.filter_chains_around_nat.Goals as goal
 
 pub returns-clause-prerouting : goal.returns-clause-prerouting

@@ -1,5 +1,5 @@
 use Rattle.std.proofs.Common.{refl}
-use Rattle.semantics_examples.proofs.Answering.{forwards, input}
+use Rattle.semantics_examples.proofs.ComputedHooks.{forwards, input}
 use Rattle.semantics_examples.proofs.examples.input_and_forward.Goals as goal
 
 pub returns-clause-input : goal.returns-clause-input

@@ -1,5 +1,5 @@
 use Rattle.std.proofs.Common.{refl}
-use Rattle.semantics_examples.proofs.Answering.{forwards}
+use Rattle.semantics_examples.proofs.ComputedHooks.{forwards}
 use Rattle.semantics_examples.proofs.examples.jump_and_goto.Goals as goal
 
 pub returns-clause-jump : goal.returns-clause-jump

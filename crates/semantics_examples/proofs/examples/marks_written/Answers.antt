@@ -1,5 +1,5 @@
 use Rattle.std.proofs.Common.{refl}
-use Rattle.semantics_examples.proofs.Answering.{forwards}
+use Rattle.semantics_examples.proofs.ComputedHooks.{forwards}
 use Rattle.semantics_examples.proofs.examples.marks_written.Goals as goal
 
 pub returns-clause-number : goal.returns-clause-number

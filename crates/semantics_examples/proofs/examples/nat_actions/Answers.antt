@@ -1,5 +1,5 @@
 use Rattle.std.proofs.Common.{refl}
-use Rattle.semantics_examples.proofs.Answering.{translating}
+use Rattle.semantics_examples.proofs.ComputedHooks.{translating}
 use Rattle.semantics_examples.proofs.examples.nat_actions.Goals as goal
 
 pub returns-clause-masquerade : goal.returns-clause-masquerade

@@ -1,5 +1,5 @@
 use Rattle.std.proofs.Common.{refl}
-use Rattle.semantics_examples.proofs.Answering.{forwards}
+use Rattle.semantics_examples.proofs.ComputedHooks.{forwards}
 use Rattle.semantics_examples.proofs.examples.policy_at_end.Goals as goal
 
 pub returns-clause-drop : goal.returns-clause-drop

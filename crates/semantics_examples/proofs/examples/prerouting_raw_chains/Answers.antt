@@ -1,5 +1,5 @@
 use Rattle.std.proofs.Common.{refl}
-use Rattle.semantics_examples.proofs.Answering.{prerouting, early}
+use Rattle.semantics_examples.proofs.ComputedHooks.{prerouting, early}
 use Rattle.semantics_examples.proofs.examples.prerouting_raw_chains.Goals as goal
 
 pub returns-clause-at : goal.returns-clause-at

@@ -4,7 +4,7 @@ use Rattle.set_intervals.specs.steps.Pieces.{IsTable}
 use Rattle.set_intervals.specs.steps.Layers.{EndsBefore, Follows, SameFirstValues}
 use Rattle.set_intervals.proofs.overlay.append_under.Given as goal
 
--- what is left of the upper pieces and of the range lies past the pieces, and with them says what all did at first
+-- what is left of the upper pieces and of the range is above the pieces; together they have the first values of the start
 pub record Laid {V : Type 0} (pieces left : List (Range × V)) (rest : Range) (value : V) (range : Range) (all : List (Range × V)) : Type 0 where
   pub table : IsTable pieces
   pub before : EndsBefore pieces rest.low

@@ -4,7 +4,7 @@ use Rattle.set_intervals.specs.steps.Pieces.{IsTable}
 use Rattle.set_intervals.specs.steps.Layers.{EndsBefore, Follows, SameFirstValues}
 use Rattle.set_intervals.proofs.overlay.overlay.Given as goal
 
--- what is left of both lists lies past the pieces, and with them says what both did at first
+-- what is left of both lists is above the pieces; together they have the first values of the start
 pub record Laid {V : Type 0} (pieces left lower : List (Range × V)) (i : ℕ) (all : List (Range × V)) : Type 0 where
   pub table : IsTable pieces
   pub follows : Follows pieces left

@@ -1,7 +1,7 @@
 use Rattle.std.proofs.Common.{◌∙◌, ap, sym}
 use Rattle.std.specs.Prelude.{slice_get}
 use Rattle.rule_names.specs.steps.Index.{at_index}
-use Rattle.rule_names.proofs.Places.{read-copied}
+use Rattle.rule_names.proofs.IndexLookup.{read-copied}
 use Rattle.rule_names.proofs.table.Named.get.Goals as goal
 
 pub returns-in_err-index : goal.returns-in_err-index

@@ -2,7 +2,7 @@ use Rattle.std.proofs.Common.{◌∙◌, ap}
 use Rattle.std.specs.Option.{option_map}
 use Rattle.nft_tree.specs.Tree.{chain_tree}
 use Rattle.rule_names.specs.Names.{chain_named}
-use Rattle.rule_names.proofs.Places.{looked}
+use Rattle.rule_names.proofs.IndexLookup.{looked}
 use Rattle.rule_names.proofs.table.TableNames.chain.Goals as goal
 
 pub returns-clause-found : goal.returns-clause-found

@@ -5,7 +5,7 @@ use Rattle.std.specs.Str.{bytes_eq}
 use Rattle.nft_tree.specs.Tree.{table_tree}
 use Rattle.nft_tree.specs.TableItems.{chains_of}
 use Rattle.rule_names.specs.Names.{chain_named}
-use Rattle.rule_names.proofs.Places.{any-found}
+use Rattle.rule_names.proofs.IndexLookup.{any-found}
 use Rattle.rule_names.proofs.table.TableNames.has_chain.Goals as goal
 
 pub returns : goal.returns

@@ -2,7 +2,7 @@ use Rattle.std.proofs.Common.{◌∙◌, ap}
 use Rattle.std.specs.Option.{option_map}
 use Rattle.nft_tree.specs.Tree.{map_tree}
 use Rattle.rule_names.specs.Names.{map_named}
-use Rattle.rule_names.proofs.Places.{looked}
+use Rattle.rule_names.proofs.IndexLookup.{looked}
 use Rattle.rule_names.proofs.table.TableNames.map.Goals as goal
 
 pub returns : goal.returns

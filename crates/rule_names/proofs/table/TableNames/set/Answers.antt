@@ -2,7 +2,7 @@ use Rattle.std.proofs.Common.{◌∙◌, ap}
 use Rattle.std.specs.Option.{option_map}
 use Rattle.nft_tree.specs.Tree.{set_tree}
 use Rattle.rule_names.specs.Names.{set_named}
-use Rattle.rule_names.proofs.Places.{looked}
+use Rattle.rule_names.proofs.IndexLookup.{looked}
 use Rattle.rule_names.proofs.table.TableNames.set.Goals as goal
 
 pub returns : goal.returns

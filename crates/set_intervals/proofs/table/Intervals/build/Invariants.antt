@@ -4,7 +4,7 @@ use Rattle.set_intervals.specs.Pairs.{SameValues}
 use Rattle.set_intervals.specs.steps.Pieces.{IsTable, StartsBefore}
 use Rattle.set_intervals.proofs.table.Intervals.build.Given as goal
 
--- the pieces say what the pairs so far say, and each begins no later than the next pair
+-- the pieces have the values of the pairs so far, and start no later than the next pair
 pub record Built {V : Type 0} (pieces xs : List (Range × V)) (i : ℕ) : Type 0 where
   pub table : IsTable pieces
   pub same : SameValues pieces (take i xs)

@@ -1,4 +1,4 @@
--- What is left of a chain leads to one thing.
+-- Running the remainder of a chain is deterministic.
 use Rattle.std.proofs.Common.{◌≡◌, ℕ, ◌+◌, List, Some, unwrap_or, sym, ap, ◌∙◌, subst}
 use Rattle.rule_meaning.specs.declared.facts.Facts.{Facts}
 use Rattle.rule_meaning.specs.declared.event.RuleVerdict.TheVariants.{Accept, Drop, Continue, Return, Jump, Goto, Translate}
@@ -6,32 +6,32 @@ use Rattle.rule_meaning.specs.declared.event.Event.{Event}
 use Rattle.rule_meaning.specs.Statements.{pass, fail, note, give}
 use Rattle.rule_meaning.specs.Runs as runs
 use Rattle.rule_meaning.specs.Runs.{Program, Remainder, at_rule, in_rule, RunResult, at_end, over, IsTerminal, Runs}
-use Rattle.rule_meaning.proofs.Opening as opening
-use Rattle.rule_meaning.proofs.Opening.{Jumped, Gone, open_run, saying}
+use Rattle.rule_meaning.proofs.Inversion as inversion
+use Rattle.rule_meaning.proofs.Inversion.{Jumped, Gone, open_run, saying}
 
 module _ {S : Type 0} (p : Program S) where
-  -- what follows a chain that came to its end
+  -- what follows the end of a chain
   abbrev Next : ℕ → ℕ → List (List S) → RunResult → RunResult → Type 0
   Next c n rs o (at_end g later) = Runs p c (n + 1) (at_rule rs) g later o
   Next c n rs o (over e g later) = ⊥
 
-  -- the one chain of a number
+  -- the chain with an index is unique
   same_chain : (t : ℕ) (a b : List (List S)) → p.rules_at t ≡ Some a → p.rules_at t ≡ Some b → a ≡ b
   same_chain t a b first second = ap (λ x. unwrap_or x a) (sym first ∙ second)
 
   one_back : (c n t : ℕ) (rs : List (List S)) (f : Facts) (es : List Event) (chain : List (List S)) (g : Facts) (later : List Event) (o o' : RunResult) → p.rules_at t ≡ Some chain → ((x : RunResult) → Runs p t 1 (at_rule chain) f es x → at_end g later ≡ x) → ((x : RunResult) → Runs p c (n + 1) (at_rule rs) g later x → o ≡ x) → Jumped p c n t rs f es o' → o ≡ o'
-  one_back c n t rs f es chain g later o o' at first then (opening.back other h last stands a b) =
+  one_back c n t rs f es chain g later o o' at first then (inversion.back other h last stands a b) =
       let same = first (at_end h last) (subst (λ x. Runs p t 1 (at_rule x) f es (at_end h last)) (same_chain t other chain stands at) a) in
       then o' (subst (Next c n rs o') (sym same) b)
-  one_back c n t rs f es chain g later o o' at first then (opening.away other stands a ends) =
+  one_back c n t rs f es chain g later o o' at first then (inversion.away other stands a ends) =
       let same = first o' (subst (λ x. Runs p t 1 (at_rule x) f es o') (same_chain t other chain stands at) a) in
       absurd (subst IsTerminal (sym same) ends)
 
   one_away : (c n t : ℕ) (rs : List (List S)) (f : Facts) (es : List Event) (chain : List (List S)) (o o' : RunResult) → p.rules_at t ≡ Some chain → ((x : RunResult) → Runs p t 1 (at_rule chain) f es x → o ≡ x) → IsTerminal o → Jumped p c n t rs f es o' → o ≡ o'
-  one_away c n t rs f es chain o o' at first ends (opening.back other h last stands a b) =
+  one_away c n t rs f es chain o o' at first ends (inversion.back other h last stands a b) =
       let same = first (at_end h last) (subst (λ x. Runs p t 1 (at_rule x) f es (at_end h last)) (same_chain t other chain stands at) a) in
       absurd (subst IsTerminal same ends)
-  one_away c n t rs f es chain o o' at first ends (opening.away other stands a _) =
+  one_away c n t rs f es chain o o' at first ends (inversion.away other stands a _) =
       first o' (subst (λ x. Runs p t 1 (at_rule x) f es o') (same_chain t other chain stands at) a)
 
   one_gone : (t : ℕ) (f : Facts) (es : List Event) (chain : List (List S)) (o o' : RunResult) → p.rules_at t ≡ Some chain → ((x : RunResult) → Runs p t 1 (at_rule chain) f es x → o ≡ x) → Gone p t f es o' → o ≡ o'

@@ -1,4 +1,4 @@
--- What is left of chains that leads to the same.
+-- Remainders of chains with the same results.
 use Rattle.std.proofs.Common.{◌≡◌, ◌↔◌, ℕ, ◌+◌, List, [], ◌∷◌, ◌++◌, length, Option, Some, None, unwrap_or, append-nil, refl, sym, ap, ◌∙◌, subst, arith}
 use Rattle.std.proofs.lemmas.Option.{none-some}
 use Rattle.nft_tree.specs.Tree as tree
@@ -14,16 +14,16 @@ use Rattle.rule_meaning.specs.Statements.{StatementEffect, pass, fail, note, giv
 use Rattle.rule_meaning.specs.Runs as runs
 use Rattle.rule_meaning.specs.Runs.{Program, table_program, Remainder, at_rule, in_rule, RunResult, at_end, over, IsTerminal, Runs, statement_position, with_verdict}
 use Rattle.rule_meaning.specs.Laws.{state_after, state_behind, EmptyJump, CounterCounts, UnreachedHasNoEffect}
-use Rattle.rule_meaning.proofs.Opening as opening
-use Rattle.rule_meaning.proofs.Opening.{Jumped, Decided, open_run, saying}
+use Rattle.rule_meaning.proofs.Inversion as inversion
+use Rattle.rule_meaning.proofs.Inversion.{Jumped, Decided, open_run, saying}
 
 module _ {S : Type 0} (p : Program S) where
-  -- ---- a statement that says this, the other way round
+  -- ---- from a statement's effect to the run
 
   module _ (c n k : ℕ) (s : S) (ss : List S) (rs : List (List S)) (f : Facts) (es : List Event) (o : RunResult) where
     jumped : (t : ℕ) → p.effect_of (statement_position p c n k) s f ≡ give (Jump t) → Jumped p c n t rs f (with_verdict p es c n (Jump t)) o → Runs p c n (in_rule k (s ∷ ss) rs) f es o
-    jumped t is (opening.back chain g later at a b) = runs.jumps t g later chain is at a b
-    jumped t is (opening.away chain at a ends) = runs.jumps_away t chain is at a ends
+    jumped t is (inversion.back chain g later at a b) = runs.jumps t g later chain is at a b
+    jumped t is (inversion.away chain at a ends) = runs.jumps_away t chain is at a ends
 
     end_in : (x : RunResult) → o ≡ x → Runs p c n (in_rule k (s ∷ ss) rs) f es x → Runs p c n (in_rule k (s ∷ ss) rs) f es o
     end_in x is = subst (λ y. Runs p c n (in_rule k (s ∷ ss) rs) f es y) (sym is)
@@ -56,12 +56,12 @@ module _ {S : Type 0} (p : Program S) where
           apart h = cc
 
   empty_jumped : (c n t : ℕ) (rs : List (List S)) (f : Facts) (es : List Event) (o : RunResult) → p.rules_at t ≡ Some [] → Jumped p c n t rs f es o → Runs p c (n + 1) (at_rule rs) f es o
-  empty_jumped c n t rs f es o none (opening.back chain g later at a b) = follows c n rs f es o g later (empty_run t chain f es _ none at a) b
-  empty_jumped c n t rs f es o none (opening.away chain at a ends) = absurd (subst IsTerminal (empty_run t chain f es o none at a) ends)
+  empty_jumped c n t rs f es o none (inversion.back chain g later at a b) = follows c n rs f es o g later (empty_run t chain f es _ none at a) b
+  empty_jumped c n t rs f es o none (inversion.away chain at a ends) = absurd (subst IsTerminal (empty_run t chain f es o none at a) ends)
 
-  -- ---- statements through which a packet comes
+  -- ---- statements that a packet passes
 
-  -- a run on, and the other way round
+  -- the two remainders have the same results
   abbrev Alike : ℕ → ℕ → Remainder S → Facts → List Event → Remainder S → Facts → List Event → RunResult → Type 0
   Alike c n l f es k g later o = Runs p c n l f es o ↔ Runs p c n k g later o
 
@@ -93,7 +93,7 @@ module _ {S : Type 0} (p : Program S) where
         )
     comes_through (s ∷ ss) k f es e = behind k s ss f es (p.effect_of (statement_position p c n k) s f) refl (λ h x. comes_through ss (k + 1) h x) e
 
-  -- ---- statements through which it doesn't come
+  -- ---- statements that it doesn't pass
 
   module _ (c n : ℕ) (rest other : List S) (rs : List (List S)) (o : RunResult) where
     stopped : (k : ℕ) (s : S) (ss : List S) (f : Facts) (es : List Event) (w : StatementEffect) → p.effect_of (statement_position p c n k) s f ≡ w → ((h : Facts) (e : List Event) → state_after p c n (k + 1) ss h e ≡ None → Runs p c n (in_rule (k + 1) (ss ++ rest) rs) h e o → Runs p c n (in_rule (k + 1) (ss ++ other) rs) h e o) → state_behind (state_after p c n (k + 1) ss) f es w ≡ None → Runs p c n (in_rule k (s ∷ (ss ++ rest)) rs) f es o → Runs p c n (in_rule k (s ∷ (ss ++ other)) rs) f es o
@@ -106,7 +106,7 @@ module _ {S : Type 0} (p : Program S) where
     stops_within [] k f es e r = absurd (none-some _ (sym e))
     stops_within (s ∷ ss) k f es e r = stopped k s ss f es (p.effect_of (statement_position p c n k) s f) refl (λ h x. stops_within ss (k + 1) h x) e r
 
--- ---- the laws
+-- ---- the properties
 
 pub empty_jumps : (p : Program Statement) → EmptyJump p
 empty_jumps p c n k t s ss rs f es is none o = (

@@ -1,11 +1,11 @@
--- What is told of the faults in their order.
+-- The least fault, stage by stage.
 use Rattle.std.proofs.Common.{◌≡◌, ◌≤◌, ◌<◌, ◌+◌, ◌⊎◌, ℕ, Bool, true, false, List, Option, Some, None, subst, inl, inr, arith}
 use Rattle.std.specs.Prelude.{IsTrue, ◌↔◌}
 use Rattle.std.proofs.lemmas.Bool.{cases_lt}
 use Rattle.nft_tree.specs.Tree.{TableTree}
 use Rattle.box_file.specs.Box.{PlantTree}
 use Rattle.rule_check.specs.declared.fault.CheckFault.{CheckFault}
-use Rattle.rule_check.specs.WellFormed.{Wrong, LeastFault, WellFormed, number}
+use Rattle.rule_check.specs.WellFormed.{Wrong, LeastFault, WellFormed, fault_number}
 use Rattle.rule_check.specs.steps.FaultRanges.{HasNone, IsLeastFaultIn}
 use Rattle.rule_check.proofs.Numbers.{below_16, from_one, same_number}
 
@@ -13,46 +13,46 @@ use Rattle.rule_check.proofs.Numbers.{below_16, from_one, same_number}
 pub not_true : (b : Bool) → b ≡ false → b ≡ true → ⊥
 not_true b e f = cc
 
--- what a test that fails decides isn't so
+-- a fault whose test fails is absent
 pub not_so : (b : Bool) (P : Type 0) → IsTrue b ↔ P → b ≡ false → P → ⊥
 not_so b P either e p = let f : b ≡ true = either.1 p in cc
 
 module _ (tables : List TableTree) (plant : PlantTree) where
-  -- one fault that the ruleset hasn't
-  pub without : (fault : CheckFault) → (Wrong fault tables plant → ⊥) → HasNone (number fault) (number fault + 1) tables plant
+  -- one absent fault
+  pub without : (fault : CheckFault) → (Wrong fault tables plant → ⊥) → HasNone (fault_number fault) (fault_number fault + 1) tables plant
   without fault not_it other from to wrong = not_it (subst (λ (f : CheckFault). Wrong f tables plant) (same_number other fault (omega (arith, from, to))) wrong)
 
   pub and_then : (a b c : ℕ) → HasNone a b tables plant → HasNone b c tables plant → HasNone a c tables plant
-  and_then a b c first second fault from to wrong = by_number (cases_lt (number fault) b)
+  and_then a b c first second fault from to wrong = by_number (cases_lt (fault_number fault) b)
     where
-      by_number : (number fault < b) ⊎ (b ≤ number fault) → ⊥
+      by_number : (fault_number fault < b) ⊎ (b ≤ fault_number fault) → ⊥
       by_number (inl low) = first fault from low wrong
       by_number (inr high) = second fault high to wrong
 
-  -- one more that it hasn't
-  pub more : (from : ℕ) (fault : CheckFault) → HasNone from (number fault) tables plant → (Wrong fault tables plant → ⊥) → HasNone from (number fault + 1) tables plant
-  more from fault none not_it = and_then from (number fault) (number fault + 1) none (without fault not_it)
+  -- one more absent fault
+  pub more : (from : ℕ) (fault : CheckFault) → HasNone from (fault_number fault) tables plant → (Wrong fault tables plant → ⊥) → HasNone from (fault_number fault + 1) tables plant
+  more from fault none not_it = and_then from (fault_number fault) (fault_number fault + 1) none (without fault not_it)
 
   pub none_yet : (from : ℕ) → HasNone from from tables plant
   none_yet from fault low high wrong = omega (arith, low, high)
 
-  -- the fault after faults that the ruleset hasn't
-  pub reported : (from : ℕ) (fault : CheckFault) (to : ℕ) → from ≤ number fault → number fault < to → HasNone from (number fault) tables plant → Wrong fault tables plant → IsLeastFaultIn from to tables plant (Some fault)
+  -- a fault after absent ones
+  pub reported : (from : ℕ) (fault : CheckFault) (to : ℕ) → from ≤ fault_number fault → fault_number fault < to → HasNone from (fault_number fault) tables plant → Wrong fault tables plant → IsLeastFaultIn from to tables plant (Some fault)
   reported from fault to low high none wrong = (low, high, wrong, none)
 
   -- the least of all
-  pub least : (fault : CheckFault) → HasNone 1 (number fault) tables plant → Wrong fault tables plant → LeastFault fault tables plant
-  least fault none wrong = record { wrong = wrong; least = λ other has. by_number other has (cases_lt (number other) (number fault)) }
+  pub least : (fault : CheckFault) → HasNone 1 (fault_number fault) tables plant → Wrong fault tables plant → LeastFault fault tables plant
+  least fault none wrong = record { wrong = wrong; least = λ other has. by_number other has (cases_lt (fault_number other) (fault_number fault)) }
     where
-      by_number : (other : CheckFault) → Wrong other tables plant → (number other < number fault) ⊎ (number fault ≤ number other) → number fault ≤ number other
+      by_number : (other : CheckFault) → Wrong other tables plant → (fault_number other < fault_number fault) ⊎ (fault_number fault ≤ fault_number other) → fault_number fault ≤ fault_number other
       by_number other has (inl low) = absurd (none other (from_one other) low has)
       by_number other has (inr high) = high
 
-  -- behind faults that the ruleset hasn't the one that is told is the least
+  -- after absent faults, the reported one is the least
   pub least_reported : (from to : ℕ) (fault : CheckFault) (answer : Option CheckFault) → HasNone 1 from tables plant → answer ≡ Some fault → IsLeastFaultIn from to tables plant answer → LeastFault fault tables plant
   least_reported from to fault answer none is is_least =
       let t : IsLeastFaultIn from to tables plant (Some fault) = subst (λ (o : Option CheckFault). IsLeastFaultIn from to tables plant o) is is_least in
-      least fault (and_then 1 from (number fault) none t.3) t.2
+      least fault (and_then 1 from (fault_number fault) none t.3) t.2
 
   pub none_reported : (from to : ℕ) (answer : Option CheckFault) → HasNone 1 from tables plant → answer ≡ None → IsLeastFaultIn from to tables plant answer → HasNone 1 to tables plant
   none_reported from to answer none is is_least = and_then 1 from to none (subst (λ (o : Option CheckFault). IsLeastFaultIn from to tables plant o) is is_least)
@@ -60,6 +60,6 @@ module _ (tables : List TableTree) (plant : PlantTree) where
   pub well_formed : HasNone 1 16 tables plant → WellFormed tables plant
   well_formed none fault wrong = none fault (from_one fault) (below_16 fault) wrong
 
--- at most one fault is the least
+-- the least fault is unique
 pub one_least : (tables : List TableTree) (plant : PlantTree) (fault other : CheckFault) → LeastFault fault tables plant → LeastFault other tables plant → fault ≡ other
 one_least tables plant fault other a b = same_number fault other (omega (arith, a.least other b.wrong, b.least fault a.wrong))

@@ -1,4 +1,4 @@
--- The places of names.
+-- The indices of names.
 use Rattle.std.proofs.Common.{◌≡◌, ℕ, suc, ◌+◌, List, [], ◌∷◌, ◌++◌, Bool, true, false, ◌||◌, not, cond, Option, Some, None, refl, sym, ap, ◌∙◌, arith}
 use Rattle.std.specs.Prelude.{nat_eq, if◌then◌else◌}
 use Rattle.std.specs.Borrow.{Bor}
@@ -14,7 +14,7 @@ use Rattle.rule_values.specs.steps.MapEntries.{name_index_of, IsNameIndex, Keeps
 abbrev pub named : Text → Bor Text → Bool
 named name k = pointwise nat_eq name k.now
 
--- ---- one name more
+-- ---- one more name
 
 kept-push : (name : Text) (keys rest : List (Bor Text)) (i : ℕ) → name_index_of name keys ≡ Some i → name_index_of name (keys ++ rest) ≡ Some i
 kept-push name [] rest i h = cc
@@ -25,7 +25,7 @@ kept-push name (k ∷ ks) rest i h = by (bytes_eq name k.now) (name_index_of nam
     by false None more h = cc
     by false (Some j) more h = ap (λ o. option_map suc o) (more j refl) ∙ h
 
--- a name that stands in the list
+-- a name in the list
 name_index-there : (name : Text) (keys : List (Bor Text)) → list_any (named name) keys ≡ true → name_index_of name keys ≡ Some (position_or_len (named name) keys)
 name_index-there name [] h = cc
 name_index-there name (k ∷ ks) h = by (bytes_eq name k.now) (name_index-there name ks) h
@@ -34,7 +34,7 @@ name_index-there name (k ∷ ks) h = by (bytes_eq name k.now) (name_index-there 
     by true more h = refl
     by false more h = ap (λ o. option_map suc o) (more h) ∙ ap Some (omega arith)
 
--- a name that comes at the end
+-- a new name at the end
 name_index-new : (key : Bor Text) (keys : List (Bor Text)) → list_any (named key.now) keys ≡ false → name_index_of key.now (keys ++ key ∷ []) ≡ Some (position_or_len (named key.now) keys)
 name_index-new key [] h = ap (λ b. cond b (Some 0) (option_map suc (name_index_of key.now []))) (text-refl key.now)
 name_index-new key (k ∷ ks) h = by (bytes_eq key.now k.now) (name_index-new key ks) h
@@ -60,7 +60,7 @@ name_index-key key keys new i is at = record { is = ap (name_index_of key.now) i
     by true h = name_index-there key.now keys h
     by false h = name_index-new key keys h
 
--- ---- a place is that of one name
+-- ---- an index belongs to one name
 
 pub name_index-one : (a b : Text) (keys : List (Bor Text)) (i : ℕ) → name_index_of a keys ≡ Some i → name_index_of b keys ≡ Some i → a ≡ b
 name_index-one a b [] i p q = cc

@@ -1,4 +1,4 @@
--- Runs, computed: with fewer than this number of chains within chains.
+-- An interpreter of chains with a bound on the call depth.
 use Rattle.std.proofs.Common.{◌≡◌, ℕ, zero, suc, ◌+◌, List, [], ◌∷◌, ◌++◌, Option, Some, None, refl, subst}
 use Rattle.std.proofs.lemmas.Option.{same_Some, none-some}
 use Rattle.nft_tree.specs.Tree.{Statement}
@@ -11,7 +11,7 @@ use Rattle.rule_meaning.specs.Statements.{StatementEffect, pass, fail, note, giv
 use Rattle.rule_meaning.specs.Runs as runs
 use Rattle.rule_meaning.specs.Runs.{Program, Remainder, at_rule, in_rule, RunResult, at_end, over, Runs, statement_position, with_verdict}
 
--- what is done from there on
+-- a continuation
 abbrev pub Next : Type 0
 Next = Facts → List Event → Option RunResult
 
@@ -20,7 +20,7 @@ then_do None next = None
 then_do (Some (at_end f es)) next = next f es
 then_do (Some (over e f es)) next = Some (over e f es)
 
--- `call` runs a chain, `next` the rules that follow; the events are those with the decision
+-- `call` runs a chain, `next` the following rules; the events include the verdict
 abbrev pub decides : (ℕ → Next) → RuleVerdict → Next → Next
 decides call Accept next f es = Some (over Accepted f es)
 decides call Drop next f es = Some (over Dropped f es)
@@ -53,7 +53,7 @@ module _ (p : Program Statement) where
   run zero c f es = None
   run (suc d) c f es = chain_run (run d) c (p.rules_at c) f es
 
-  -- ---- what is computed runs
+  -- ---- soundness
 
   pub record RunsChain (i : ℕ) (f : Facts) (es : List Event) (o : RunResult) : Type 0 where
     pub chain : List (List Statement)

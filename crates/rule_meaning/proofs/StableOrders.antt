@@ -1,4 +1,4 @@
--- A list has one order: lists in order of which the elements that tie stand in the same order are the same.
+-- Stable sorting is unique: two sorted lists in which ties have the same order are equal.
 use Rattle.std.proofs.Common.{◌≡◌, ℕ, suc, ◌≤◌, ◌<◌, Bool, true, false, not, ◌&&◌, cond, List, [], ◌∷◌, length, get_or, filter, refl, sym, ap, ◌∙◌, arith}
 use Rattle.std.specs.Cmp.{IsStrictWeakOrder}
 use Rattle.std.specs.List.Sorted.{IsSortedBy, IsStableBy, ties}
@@ -39,7 +39,7 @@ module _ {X : Type 0} (lt : X → X → Bool) (o : IsStrictWeakOrder lt) where
   left_out : (t : X → Bool) (x : X) (xs : List X) → t x ≡ false → filter t (x ∷ xs) ≡ filter t xs
   left_out t x xs e = ap (λ b. cond b (x ∷ filter t xs) (filter t xs)) e
 
-  -- what ties with an element of a list isn't less than what none of them is less than
+  -- what ties with an element of a list is no less than a lower bound of the list
   not_less : (x y : X) (b : List X) → ((k : ℕ) (d : X) → k < length b → lt (get_or b k d) y ≡ false) → (x' : X) (rest : List X) → filter (ties lt x) b ≡ x' ∷ rest → lt x y ≡ false
   not_less x y [] h x' rest e = absurd (nothing e)
     where
@@ -59,7 +59,7 @@ module _ {X : Type 0} (lt : X → X → Bool) (o : IsStrictWeakOrder lt) where
   tl [] = []
   tl (x ∷ xs) = xs
 
-  -- no element of a list that rises is less than the first
+  -- no element of a sorted list is less than the first
   from_first : (y : X) (ys : List X) → Rises (y ∷ ys) → (k : ℕ) (d : X) → k < length (y ∷ ys) → lt (get_or (y ∷ ys) k d) y ≡ false
   from_first y ys up k d within = up 0 k d (omega arith) within
 

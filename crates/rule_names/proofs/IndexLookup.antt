@@ -1,4 +1,4 @@
--- What stands at the place of a name.
+-- The element at the index of a name.
 use Rattle.std.proofs.Common.{◌≡◌, ℕ, ◌<◌, ◌≤◌, suc, List, [], ◌∷◌, Bool, true, false, ◌||◌, cond, Option, Some, None, length, get_or, map, sym, refl, ap, ap₂, ◌∙◌}
 use Rattle.std.specs.Prelude.{find, slice_get, is_some, IfSome, MatchOption}
 use Rattle.std.specs.Borrow.{Bor}
@@ -25,7 +25,7 @@ is-some-more true x o = refl
 is-some-more false x o = refl
 
 module _ {X : Type 0} (name_of : X → Text) (name : Text) where
-  -- the first that has the name
+  -- the first element with the name
   abbrev pub first_named : List X → Option X
   first_named xs = find (λ x. bytes_eq (name_of x) name) xs
 
@@ -40,12 +40,12 @@ module _ {X : Type 0} (name_of : X → Text) (name : Text) where
       ∙ ap (λ b. bytes_eq (name_of x) name || b) (any-found xs)
       ∙ is-some-more (bytes_eq (name_of x) name) x (first_named xs)
 
-  -- what stands at the place of a name
+  -- the element at an optional index
   pub looked : {A : Type 0} (view : A → X) (found : List A) (names : List Text) (xs : List X) → map view found ≡ xs → names ≡ map name_of xs → option_map view (at_index found (index_in name names)) ≡ first_named xs
   looked view found names xs are named =
       at-index-map view found (index_in name names) ∙ ap₂ at_index are (ap (index_in name) named) ∙ sym (find-index xs)
 
--- what `get` gives
+-- the result of `get`
 pub read-copied : {A : Type 0} (H : Bor A → Type 0) (xs : List A) (i : ℕ) (r : Option (Bor A)) → IfSome r (λ x. x.now ≡ get_or xs i x.now) → MatchOption r (length xs ≤ i) (λ x. (i < length xs) × H x) → option_copied r ≡ slice_get xs i
 read-copied H xs i None e h = sym (slice_get_past xs i h)
 read-copied H xs i (Some x) e h = sym (slice_get_read xs (length xs) i x.now refl h.0 e)

@@ -1,4 +1,4 @@
--- Hooks as they are computed, with fewer than four chains within chains.
+-- Hooks by the interpreter, with a call depth below 4.
 use Rattle.std.proofs.Common.{◌≡◌, ◌&&◌, not, pos, negsuc, List, [], Some}
 use Rattle.nft_tree.specs.declared.chain.Hook.{Hook}
 use Rattle.nft_tree.specs.declared.chain.Hook.TheVariants as hooks
@@ -7,7 +7,7 @@ use Rattle.rule_meaning.specs.declared.facts.Facts.{Facts}
 use Rattle.rule_meaning.specs.Hooks.{filter_chains_on, nat_chains_on, is_prerouting_raw, HookResult, PreroutingRaw, Prerouting, Input, Forward, Postrouting, Translating}
 use Rattle.rule_meaning.specs.Laws.{step_of}
 use Rattle.semantics_examples.specs.Fixtures.{box}
-use Rattle.semantics_examples.proofs.Ending.{Gives, chains_run, chains_sound, around_run, around_sound}
+use Rattle.semantics_examples.proofs.HookInterpreter.{Gives, chains_run, chains_sound, around_run, around_sound}
 
 pub forwards : (tables : List TableTree) (f : Facts) (hook_result : HookResult) → chains_run box tables 4 (filter_chains_on hooks.Forward) f [] ≡ Some hook_result → Forward box tables f [] hook_result
 forwards tables f hook_result is = chains_sound box tables 4 (filter_chains_on hooks.Forward) f [] hook_result is

@@ -1,4 +1,4 @@
--- Base chains and hooks, computed.
+-- An interpreter of base chains and hooks.
 use Rattle.std.proofs.Common.{◌≡◌, ℕ, ℤ, Bool, not, ◌&&◌, List, [], ◌∷◌, filter, slice_get, Option, Some, None, option_map, refl, sym, subst}
 use Rattle.std.proofs.lemmas.Option.{same_Some, none-some}
 use Rattle.nft_tree.specs.Tree.{TableTree}
@@ -13,16 +13,16 @@ use Rattle.rule_meaning.specs.Hooks.{BaseChain, base_chains_of, runs_before, is_
 use Rattle.rule_meaning.specs.Laws.{step_of}
 use Rattle.rule_meaning.proofs.Priorities.{priorities}
 use Rattle.rule_laws.proofs.Sorting.{ordered, sorted, stable}
-use Rattle.semantics_examples.proofs.Computing.{run, run_sound}
+use Rattle.semantics_examples.proofs.Interpreter.{run, run_sound}
 
 abbrev pub Gives : Type 0
 Gives = Facts → List Event → Option HookResult
 
--- what is computed ends the passage
+-- the computed result is one of the traversal
 abbrev pub Sound : Gives → Traversal → Type 0
 Sound gives traversal = (f : Facts) (es : List Event) (hook_result : HookResult) → gives f es ≡ Some hook_result → traversal f es hook_result
 
--- ---- one after another
+-- ---- sequences
 
 abbrev by_ending : HookVerdict → HookResult → Gives → Option HookResult
 by_ending Accepted m next = next m.facts m.events

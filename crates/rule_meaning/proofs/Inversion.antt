@@ -1,4 +1,4 @@
--- What a run comes to, by what is left and what the next statement says.
+-- Inversion of runs, by the remainder and the next statement's effect.
 use Rattle.std.proofs.Common.{◌≡◌, ℕ, ◌+◌, List, [], ◌∷◌, ◌++◌, Some, refl, sym, subst}
 use Rattle.rule_meaning.specs.declared.facts.Facts.{Facts}
 use Rattle.rule_meaning.specs.declared.event.RuleVerdict.{RuleVerdict}
@@ -10,7 +10,7 @@ use Rattle.rule_meaning.specs.Runs as runs
 use Rattle.rule_meaning.specs.Runs.{Program, Remainder, at_rule, in_rule, RunResult, at_end, over, IsTerminal, Runs, statement_position, with_verdict}
 
 module _ {S : Type 0} (p : Program S) where
-  -- a jump to a chain: it comes to its end and the next rule follows, or the base chain is over in it
+  -- a jump: the chain runs to its end and the next rule follows, or it gives a verdict for the base chain
   pub data Jumped (c n t : ℕ) (rs : List (List S)) (f : Facts) (es : List Event) (o : RunResult) : Type 0 where
     back : (chain : List (List S)) (g : Facts) (later : List Event) → p.rules_at t ≡ Some chain → Runs p t 1 (at_rule chain) f es (at_end g later) → Runs p c (n + 1) (at_rule rs) g later o → Jumped c n t rs f es o
     away : (chain : List (List S)) → p.rules_at t ≡ Some chain → Runs p t 1 (at_rule chain) f es o → IsTerminal o → Jumped c n t rs f es o
@@ -20,7 +20,7 @@ module _ {S : Type 0} (p : Program S) where
     pub stands : p.rules_at t ≡ Some chain
     pub runs : Runs p t 1 (at_rule chain) f es o
 
-  -- behind a decision; the events are those with the decision
+  -- after a verdict; the events include it
   abbrev pub Decided : RuleVerdict → ℕ → ℕ → List (List S) → Facts → List Event → RunResult → Type 0
   Decided Accept c n rs f es o = o ≡ over Accepted f es
   Decided Drop c n rs f es o = o ≡ over Dropped f es
@@ -30,7 +30,7 @@ module _ {S : Type 0} (p : Program S) where
   Decided (Jump t) c n rs f es o = Jumped c n t rs f es o
   Decided (Goto t) c n rs f es o = Gone t f es o
 
-  -- behind a statement that says this
+  -- after a statement with this effect
   abbrev pub Said : StatementEffect → ℕ → ℕ → ℕ → List S → List (List S) → Facts → List Event → RunResult → Type 0
   Said pass c n k ss rs f es o = Runs p c n (in_rule (k + 1) ss rs) f es o
   Said fail c n k ss rs f es o = Runs p c (n + 1) (at_rule rs) f es o
@@ -62,6 +62,6 @@ module _ {S : Type 0} (p : Program S) where
   open_run (runs.jumps_away t {ss = ss} {rs = rs} chain w at first ends) = by_effect _ (give (Jump t)) _ _ _ ss rs _ _ _ w (away chain at first ends)
   open_run (runs.goes t {ss = ss} {rs = rs} chain w at first) = by_effect _ (give (Goto t)) _ _ _ ss rs _ _ _ w (record { chain = chain; stands = at; runs = first })
 
-  -- a run of a statement that is known to say this
+  -- inversion for a statement with a known effect
   pub saying : {c n k : ℕ} {s : S} {ss : List S} {rs : List (List S)} {f : Facts} {es : List Event} {o : RunResult} (w : StatementEffect) → p.effect_of (statement_position p c n k) s f ≡ w → Runs p c n (in_rule k (s ∷ ss) rs) f es o → Said w c n k ss rs f es o
   saying {c} {n} {k} {s} {ss} {rs} {f} {es} {o} w is r = subst (λ x. Said x c n k ss rs f es o) is (open_run r)
