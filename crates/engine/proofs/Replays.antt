@@ -187,7 +187,7 @@ read_on replay new = record { engine = replay.engine; numbers = replay.numbers; 
 still_plays : (replay : Replay) (new : CaptureState) (start : ReplayStart) (history : List Entry) (w r : Option (List ℕ)) → ReplayRepresents replay start history w r → ReplayRepresents (read_on replay new) start history w r
 still_plays replay new start history w r p = record { same = p.same; represents = p.represents; gets = p.gets; lines = p.lines; reports = p.reports; appends_report = p.appends_report }
 
--- one more record was taken
+-- one more record was processed
 pub more : (replay replay' : Replay) (new : CaptureState) (start : ReplayStart) (format : Format) (a unread after w w' r : Option (List ℕ)) → IfSome a (λ bytes. Carried replay start format bytes unread w r) → replay.records.format ≡ format
     → Fetched replay.records new unread after → IfSome (ahead replay.records unread) (λ bytes. NextAnswers bytes (ahead new after) replay.records new (Ok true))
     → ((history : List Entry) → ReplayRepresents (read_on replay new) start history w r → IfSome new.last (λ taken. TakesRecord replay' start history taken w' r)) → replay'.records ≡ new

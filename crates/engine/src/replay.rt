@@ -1,4 +1,4 @@
-//! The records of a capture, one after another.
+//! Replays the records of a capture.
 ghost use Rattle.std.specs.Prelude.{◌≡◌, ◌≢◌, ◌<◌, ◌≤◌, ◌+◌, ◌⊎◌, [], Bool, List, ℕ, Option, true, false, Ok, Err, None, IfOk, IfErr, IfSome, IsErrOf, OnOk, OnErr, length};
 ghost use Rattle.std.specs.Io.KnownBytes.{IsAtEnd};
 ghost use Rattle.pcap_io.specs.Counting.{AppendsPrefix, one_more};
@@ -25,10 +25,10 @@ use std::alloc::Global;
 use std::io::{Read, Write};
 use stepping::{Engine, one_entry};
 
-/// How many notes may wait until they are written.
+/// How many notes may be pending before they are written.
 const MOST_PENDING: usize = 4096;
 
-/// A run among the records of its capture.
+/// A run in progress.
 pub(crate) struct Replay {
     engine: Engine<AgedTracker>,
     numbers: Report,
@@ -48,7 +48,7 @@ impl Drop for Replay {
     }
 }
 
-/// What a run writes.
+/// The outputs of a run.
 #[derive(Drop)]
 struct Outputs {
     numbers: Report,
@@ -56,7 +56,7 @@ struct Outputs {
 }
 
 impl Outputs {
-    /// Before the first record: the header of the capture to write waits or is written.
+    /// The state before the first record. The output capture's header is buffered or written.
     fn open<W: Write>(
         alloc: Global,
         rules: &Ruleset,
@@ -82,7 +82,7 @@ impl Outputs {
 }
 
 impl Replay {
-    /// Before the first record: the header of the capture to write waits or is written.
+    /// The state before the first record. The output capture's header is buffered or written.
     pub(crate) fn new<W: Write>(
         alloc: Global,
         engine: Engine<AgedTracker>,
@@ -108,10 +108,12 @@ impl Replay {
         })
     }
 
-    /// Takes the records until none is left to read, writes the packets that leave, and tells what
-    /// is done before each read. Answers the fault of the capture that the records stop at, none at
-    /// their end. `Err` is `Device`; or `Memory` where there was no room to take a record, and then
-    /// what was done before it is written and flushed.
+    /// Processes all records. Before each read all output is written and flushed. Returns the fault at
+    /// which the records stop, `None` at their end.
+    ///
+    /// # Errors
+    /// `Device`; or `Memory` at a record, and then the output of the records before it is written and
+    /// flushed.
     pub(crate) fn replay_records<R: Read, W: Write, W2: Write>(
         &mut self,
         capture: &mut Counted<R>,
@@ -153,8 +155,7 @@ impl Replay {
         }
     }
 
-    /// Tells what is done where the next record has to be read first, so that whoever waits for it
-    /// sees all, and where much waits to be told.
+    /// Writes and flushes pending output before a read that may block, and where many notes are pending.
     fn flush_before_read<W: Write, W2: Write>(
         &mut self,
         sent: &mut Counted<W>,
@@ -162,7 +163,7 @@ impl Replay {
     ) -> Result<(), DeviceFailed>
         ensures ok { (start : ReplayStart) (history : List Entry) → ReplayRepresents self.old start history (W.contents sent.old.inner) (W2.contents report.old.inner)
             → OnOk result (ReplayRepresents self.new start history (W.contents sent.new.inner) (W2.contents report.new.inner)) }
-        // No read comes before all is told.
+        // All output is written before a read.
         ensures told { (start : ReplayStart) (history : List Entry) → ReplayRepresents self.old start history (W.contents sent.old.inner) (W2.contents report.old.inner)
             → is_ready self.old.records ≡ false → OnOk result (AllWritten start history (W.contents sent.new.inner) (W2.contents report.new.inner)) }
         ensures part { (start : ReplayStart) (history : List Entry) → ReplayRepresents self.old start history (W.contents sent.old.inner) (W2.contents report.old.inner)
@@ -177,7 +178,7 @@ impl Replay {
         self.write_pending(sent, report)
     }
 
-    /// Writes what waits of the packets, and the lines of what is noted.
+    /// Writes the buffered packets and the pending notes.
     fn write_pending<W: Write, W2: Write>(
         &mut self,
         sent: &mut Counted<W>,
@@ -219,8 +220,8 @@ impl Replay {
         }
     }
 
-    /// Takes the record that was read last, notes it, and puts the packet that it sends on, if it
-    /// does. False where there was no room to take it: then all is as it was, but for room.
+    /// Processes the last record read: notes its entry, and appends its packet if it is forwarded.
+    /// `false` where an allocation failed; then only reservations have changed.
     fn take<W: Write>(&mut self, sent: &mut Counted<W>) -> Result<bool, DeviceFailed>
         requires read { self.old.records.last ≢ None }
         requires few { (self.old.engine.records < 4294967296) × (self.old.numbers.records < 4294967296) }
@@ -237,10 +238,10 @@ impl Replay {
         ensures no_failure { OnOk result (sent.new.failures ≡ sent.old.failures) }
         ensures device { OnErr result (sent.new.failures ≡ one_more sent.old.failures) }
     {
-        // A record that can't be taken has an entry too.
+        // A record that can't be processed has an entry too.
         one_entry();
         self.engine.judged();
-        // All growth first, so that what follows can't fail for want of memory.
+        // All allocation first: nothing after it can fail for memory.
         let Ok(()) = self.engine.reserve() else {
             return Ok(false);
         };
@@ -265,8 +266,7 @@ impl Replay {
         Ok(true)
     }
 
-    /// Writes what is left of both texts, the lines that come after the last record too, and flushes
-    /// both writers.
+    /// Writes the rest of both outputs, the counters and totals too, and flushes both writers.
     fn finish_outputs<W: Write, W2: Write>(
         &mut self,
         torn: bool,
@@ -289,9 +289,11 @@ impl Replay {
         Ok(())
     }
 
-    /// Writes what is left of both texts and flushes both writers: tells whether the end of the
-    /// records is torn. Where they stop at another fault, that fault, and no line of what comes
-    /// after the last record.
+    /// Ends a run whose records stop at a fault or at none: writes the rest of both outputs and flushes
+    /// both writers. Returns whether the capture ends inside a record.
+    ///
+    /// # Errors
+    /// `Device`; or the fault at which the records stop, and then the report has no counters and totals.
     pub(crate) fn finish<W: Write, W2: Write>(
         &mut self,
         stop: Option<CaptureFault>,
@@ -321,7 +323,7 @@ impl Replay {
         }
     }
 
-    /// Takes all records, writes both texts to their ends, and flushes both writers.
+    /// Processes all records, writes both outputs, and flushes both writers.
     pub(crate) fn write<R: Read, W: Write, W2: Write>(
         &mut self,
         capture: &mut Counted<R>,
@@ -358,7 +360,8 @@ impl Replay {
     }
 }
 
-/// Whether the end of the records is torn, which is no fault of a run; or the fault that they stop at.
+/// Whether the capture ends inside a record, which is no error of a run; or the fault at which its
+/// records stop.
 fn torn_at(stop: Option<CaptureFault>) -> Result<bool, RunFault>
     ensures { result ≡ torn_at stop }
 {

@@ -1,4 +1,4 @@
-//! The lines of counters.
+//! Lines of counters.
 ghost use Rattle.std.specs.Prelude.{◌≡◌};
 ghost use Rattle.nft_tree.specs.Tree.{chain_tree, rule_tree, table_tree, tables_of};
 ghost use Rattle.nft_tree.specs.TableItems.{chains_of};
@@ -13,7 +13,7 @@ use nft_tree::{Rule, Ruleset, Table};
 use pcap_io::{Counted, DeviceFailed};
 use std::io::Write;
 
-/// Puts the lines of all counters, in text order.
+/// Appends the lines of all counters, in the ruleset's order.
 pub fn put_counters<W: Write>(
     page: &mut Page,
     writer: &mut Counted<W>,
@@ -29,7 +29,7 @@ pub fn put_counters<W: Write>(
     Ok(())
 }
 
-/// Puts those of the table of that number, from 0.
+/// Appends those of one table; `number` is from 0.
 fn put_table<W: Write>(
     page: &mut Page,
     writer: &mut Counted<W>,
@@ -51,7 +51,7 @@ fn put_table<W: Write>(
     Ok(())
 }
 
-/// Puts those of the chain of these numbers, both from 0.
+/// Appends those of one chain; both numbers are from 0.
 fn put_chain<W: Write>(
     page: &mut Page,
     writer: &mut Counted<W>,
@@ -75,7 +75,7 @@ fn put_chain<W: Write>(
     Ok(())
 }
 
-/// Puts those of the rule whose first statement has this place.
+/// Appends those of the rule whose first statement is at `first`.
 fn put_rule<W: Write>(
     page: &mut Page,
     writer: &mut Counted<W>,
@@ -102,7 +102,7 @@ fn put_rule<W: Write>(
     Ok(())
 }
 
-/// Puts the line of the counter of that place, which has this number among those of its rule.
+/// Appends the line of the counter at a position, the rule's counter of this number.
 fn put_counter<W: Write>(
     page: &mut Page,
     writer: &mut Counted<W>,

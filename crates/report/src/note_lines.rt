@@ -1,4 +1,4 @@
-//! The lines of notes.
+//! Lines of notes.
 ghost use Rattle.std.specs.Prelude.{◌≡◌, true};
 ghost use Rattle.std.specs.List.{flat_map};
 ghost use Rattle.nft_tree.specs.Tree.{tables_of};
@@ -16,7 +16,7 @@ use pcap_io::{Counted, DeviceFailed};
 use rule_meaning::{ChainNo, RuleVerdict, StatementPosition};
 use std::io::Write;
 
-/// Puts the lines of these notes, in their order.
+/// Appends the lines of notes, in their order.
 pub fn put_notes<W: Write>(
     page: &mut Page,
     writer: &mut Counted<W>,

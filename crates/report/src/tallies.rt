@@ -1,13 +1,13 @@
-//! Where the counters of a ruleset stand, nested as its tree is.
+//! The counters of a ruleset, nested as its tree is.
 //!
-//! Each statement has a tally, whether it counts or not, so that the place of a counter leads to its
-//! tally without a search.
+//! Each statement has a tally, a counter or not, so that a position is an index and no search is
+//! needed.
 use nft_tree::{Chain, CounterStart, Rule, Ruleset, Table};
 use rule_meaning::{Event, StatementPosition};
 use std::alloc::{AllocError, Global};
 use std::marker::Model;
 
-/// Where a counter stands.
+/// The value of a counter.
 #[derive(Clone, Copy)]
 pub struct Tally {
     pub packets: u128,
@@ -18,7 +18,7 @@ impl Tally {
     ghost use Rattle.std.specs.Prelude.{◌≡◌, ◌<◌, ◌^◌};
     ghost use Rattle.report.specs.steps.Tallying.{raised, started};
 
-    /// Where a statement starts: at nothing if it is no counter.
+    /// The initial value of a counter; zero for a statement that is none.
     fn starting(counter: Option<CounterStart>) -> Self
         ensures starts { result ≡ started counter }
         ensures fits { (result.packets < 2 ^ 64) × (result.bytes < 2 ^ 64) }
@@ -35,7 +35,7 @@ impl Tally {
         }
     }
 
-    /// Counts one more packet of this length. No run is long enough to come to the greatest number.
+    /// Counts one packet of this length. Saturation isn't reached in any run.
     fn count(&mut self, length: u16)
         ensures { self.new ≡ raised length self.old }
     {
@@ -44,7 +44,7 @@ impl Tally {
     }
 }
 
-/// The numbers by which a statement is found: tables and chains from 0, rules and statements from 1.
+/// A statement's position: tables and chains from 0, rules and statements from 1.
 #[derive(Clone, Copy)]
 pub struct Location {
     pub table: usize,
@@ -231,7 +231,7 @@ impl RulesetTallies {
     ghost use Rattle.report.specs.steps.TallyLines.{position_of};
     ghost use Rattle.report.specs.steps.Tallying.{fresh, counted, counted_all};
 
-    /// Each counter stands where it starts.
+    /// The counters at their initial values.
     pub fn new(alloc: Global, rules: &Ruleset) -> Result<Self, AllocError>
         ensures starts { IfOk result (λ tallies. tallies ≡ fresh (tables_of rules.now)) }
         ensures fits { IfOk result (λ tallies. All (All (All (All (λ n. (n.packets < 2 ^ 64) × (n.bytes < 2 ^ 64))))) tallies) }
@@ -243,7 +243,7 @@ impl RulesetTallies {
         Ok(RulesetTallies { tables })
     }
 
-    /// Counts one more packet of this length at a place, if it is one of the rules'.
+    /// Counts one packet of this length at a position, if the rules have it.
     pub fn count(&mut self, position: StatementPosition, length: u16)
         ensures { self.new ≡ counted length position self.old }
     {
@@ -259,7 +259,7 @@ impl RulesetTallies {
         }
     }
 
-    /// Counts one more packet of this length as often as these events say.
+    /// Counts one packet of this length for each `Counted` event.
     pub fn count_events(&mut self, events: &[Event], length: u16)
         ensures { self.new ≡ counted_all length events.now self.old }
     {
@@ -270,7 +270,7 @@ impl RulesetTallies {
         }
     }
 
-    /// Where the statement of that place stands, if the rules have one there.
+    /// The value of the statement at a position, if the rules have it.
     pub fn at(&self, position: Location) -> Option<Tally>
         ensures { result ≡ tally_at self.now (position_of position) }
     {

@@ -194,7 +194,7 @@ module _ (alike : AreAlike) (held live : List ConntrackEntry) (same : map withou
   beside_same None = alike.mappings held live same
   beside_same (Some s) = alike.mappings (one s).others (other s).others (others_same s)
 
-  -- what becomes of it
+  -- its result
   confirmed_same : (lookup_key : Option LookupKey) (path_result : PathResult) → confirmed_result (in_held lookup_key) path_result ≡ confirmed_result (in_live lookup_key) path_result
   confirmed_same None path_result = refl
   confirmed_same (Some s) path_result = confirmed_unless_dropped_same s path_result.outcome path_result

@@ -281,7 +281,7 @@ module _ (setup : Setup) (a : ReceivedPacket) (f : Facts) (es : List Event) (kno
         (confirmed_unless_notrack now old g.ct a.packet (lookup_key_of a.packet) flags hooks_passed after new answer events (has_flags flags same (tuple_of a.packet)) (one ∙ ap untranslated info_is)
         (subst (λ (b : Belonging). Confirms now flags hooks_passed b after (others_in old (lookup g)) new answer) belongs confirms))
 
--- ---- a record
+-- ---- the packet of a record
 
 module _ (setup : Setup) (r : Recorded) (now : ℕ) (events : List Event) (packet : List ℕ) where
   -- of a record that carries no packet nothing is told, and nothing leaves

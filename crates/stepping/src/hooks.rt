@@ -1,4 +1,4 @@
-//! How the rules lead a packet that was looked up.
+//! The hooks after the look-up, with routing between them.
 ghost use Rattle.std.specs.Prelude.{◌≡◌, List};
 ghost use Rattle.ip_headers.specs.declared.tuple.Mapping.{Mapping};
 ghost use Rattle.nat_mapping.specs.Mappings.{HoldsSame};
@@ -19,25 +19,27 @@ use nat_mapping::Mappings;
 use rule_meaning::{Facts, Packet};
 use translation::CtInfo;
 
-/// Where a packet goes that isn't dropped.
+/// Where a packet goes.
 #[derive(Clone, Copy)]
 pub enum RoutingDecision {
-    /// To the box itself.
+    /// Delivered to the box itself.
     Local,
-    /// Out of the box, by the interface of this index.
+    /// Forwarded, by the interface of this index.
     Passed(u32),
 }
 
-/// How the rules lead a packet that they let through.
+/// The result of the hooks for a packet that they let through.
 #[derive(Clone, Copy)]
 pub struct HooksPassed {
     pub decision: RoutingDecision,
-    /// The mark that its connection has by then.
+    /// The mark of its connection.
     pub mark: u32,
 }
 
-/// Leads a packet on this way through the rules, or tells the cause for which it is dropped. What is
-/// translated on the way shows in its way and in what rules may read of it.
+/// Runs the hooks after the look-up, updating the packet's state and facts in place.
+///
+/// # Errors
+/// The cause for which the packet is dropped.
 #[inline(always)]
 pub fn run_hooks(
     setup: &Setup,
@@ -57,7 +59,7 @@ pub fn run_hooks(
     after_prerouting(setup, mappings, info, facts, events)
 }
 
-/// Runs a packet through the chains on prerouting that come after its look-up.
+/// Runs the prerouting chains after the look-up, with destination NAT at its priority.
 #[inline(always)]
 fn prerouting(
     setup: &Setup,
@@ -78,7 +80,7 @@ fn prerouting(
     setup.run(HookStage::PreroutingAfterNat, facts, events)
 }
 
-/// Leads on a packet that has arrived.
+/// Routes a packet and runs the hooks behind the routing decision.
 #[inline(always)]
 fn after_prerouting(
     setup: &Setup,
@@ -102,7 +104,10 @@ fn after_prerouting(
     })
 }
 
-/// Where a packet goes that has arrived: to the box itself, or by its route, with a hop left.
+/// The routing decision, by the destination after NAT.
+///
+/// # Errors
+/// `Route` without a route, `Ttl` where the TTL is below 2.
 #[inline(always)]
 fn routing_decision(plant: &Plant, packet: &Packet) -> Result<RoutingDecision, Cause>
     ensures { result ≡ routing_decision plant.now packet.now }
@@ -119,7 +124,7 @@ fn routing_decision(plant: &Plant, packet: &Packet) -> Result<RoutingDecision, C
     Ok(RoutingDecision::Passed(interface))
 }
 
-/// Runs a packet through the chains on its way: those of input, or those of forward and postrouting.
+/// Runs input, or forward and postrouting.
 #[inline(always)]
 fn after_routing(
     setup: &Setup,
@@ -146,7 +151,7 @@ fn after_routing(
     }
 }
 
-/// Runs a packet through the chains on forward and then those on postrouting.
+/// Runs forward and then postrouting, with source NAT at its priority.
 #[inline(always)]
 fn forward_and_postrouting(
     setup: &Setup,

@@ -1,4 +1,4 @@
-//! The two steps at which a packet is translated.
+//! Destination NAT and source NAT with their nat chains.
 ghost use Rattle.std.specs.Prelude.{◌≡◌, List};
 ghost use Rattle.std.specs.declared.option.Option.{Option};
 ghost use Rattle.ip_headers.specs.declared.tuple.Mapping.{Mapping};
@@ -19,8 +19,8 @@ use translation::{
     CtInfo, apply_destination_nat, apply_source_nat, update_destination, update_source,
 };
 
-/// Translates the destination: the nat chains of prerouting are asked of the first packet of a
-/// connection. What is changed is its way and what rules may read of it.
+/// Destination NAT: runs the nat chains of prerouting for a new connection, and updates the packet's
+/// state and facts in place.
 #[inline(always)]
 pub fn translate_destination(
     setup: &Setup,
@@ -42,8 +42,11 @@ pub fn translate_destination(
     verdict_result(destination_verdict(verdict))
 }
 
-/// Translates the source: the nat chains of postrouting are asked of the first packet of a connection.
-/// `NoPort` where no port is left for it.
+/// Source NAT: runs the nat chains of postrouting for a new connection, and updates the packet's
+/// state and facts in place.
+///
+/// # Errors
+/// `NoPort` where no port is free.
 #[inline(always)]
 pub fn translate_source(
     setup: &Setup,
@@ -66,8 +69,7 @@ pub fn translate_source(
     verdict_result(source_verdict(verdict, found))
 }
 
-/// Asks the nat chains of a hook what becomes of a packet, if it is the first of a connection; else
-/// none of them sees it.
+/// Runs the nat chains of a hook for a new connection; no other packet sees them.
 #[inline(always)]
 fn run_nat_chains(
     setup: &Setup,
@@ -88,7 +90,7 @@ fn run_nat_chains(
     }
 }
 
-/// What the chains drop goes no further; all else goes on.
+/// The verdict after destination NAT: only a drop stops the packet.
 fn destination_verdict(verdict: HookVerdict) -> HookVerdict
     ensures { result ≡ destination_verdict verdict }
 {
@@ -98,7 +100,7 @@ fn destination_verdict(verdict: HookVerdict) -> HookVerdict
     }
 }
 
-/// Where no port is left, a packet goes no further.
+/// The verdict after source NAT: a drop, or no free port, stops the packet.
 fn source_verdict(verdict: HookVerdict, found: Option<CtInfo>) -> HookVerdict
     ensures { result ≡ source_verdict verdict found }
 {

@@ -1,4 +1,4 @@
--- The lines of counters, by where they stand.
+-- The lines of counters, by their values.
 use Rattle.std.specs.Prelude.{ℕ, ◌+◌, List, [], ◌∷◌, ◌++◌, Option, Some, None, codes, unwrap_or}
 use Rattle.nft_tree.specs.declared.statement.CounterStart.{CounterStart}
 use Rattle.nft_tree.specs.Tree.{Text, Statement, RuleTree, ChainTree, TableTree}
@@ -13,7 +13,7 @@ use Rattle.report.specs.steps.Tallying.{started}
 abbrev pub position_of : Location → StatementPosition
 position_of at = record { rule = record { table = at.table; chain = at.chain; rule = at.rule }; statement = at.statement }
 
--- where the statement at a place stands; at nothing where there is none
+-- the value of the statement at a position, zero where there is none
 abbrev pub tally_or_zero : Tallies → StatementPosition → Tally
 tally_or_zero tallies at = unwrap_or (tally_at tallies at) (started None)
 

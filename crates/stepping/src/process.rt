@@ -1,4 +1,4 @@
-//! What becomes of a record.
+//! Processes a record.
 ghost use Rattle.std.specs.Prelude.{◌≡◌, ◌≤◌, IsTrue, false, [], length, vec_capacity};
 ghost use Rattle.history.specs.declared.outcome.Outcome.TheVariants as outcomes;
 ghost use Rattle.conntrack.specs.ConntrackEntry.{IsNoneLater, live_at};
@@ -26,7 +26,7 @@ use pcap_io::Record;
 use rewrite::emit;
 use translation::CtInfo;
 
-/// How a record ended.
+/// The result of a record.
 #[derive(Clone, Copy)]
 pub struct RecordResult {
     pub outcome: Outcome,
@@ -36,9 +36,8 @@ pub struct RecordResult {
     pub begun: bool,
 }
 
-/// How a record ends at a moment at which all connections held are live: as its packet does, or
-/// dropped for the first test that fails of those that tell whether it carries one. The packet that
-/// leaves, where one does, is left in `packet`, and what happened while the rules ran in `events`.
+/// Processes one record. All connections held are live at `now`. `events` gets the events of the
+/// rules' evaluation, and `packet` the bytes of the packet, if it is forwarded.
 pub fn process_record<T: Tracker>(
     setup: &Setup,
     record: &Record,
@@ -76,8 +75,11 @@ pub fn process_record<T: Tracker>(
     }
 }
 
-/// Takes a packet through the box: the chains before its look-up, the look-up, the other chains and
-/// its route, and the last step; or tells the cause for which it is dropped.
+/// Processes one packet: raw prerouting, the look-up, the other hooks with routing, and the
+/// confirmation.
+///
+/// # Errors
+/// The cause for which the packet is dropped.
 #[inline(always)]
 fn process_packet<T: Tracker>(
     setup: &Setup,
@@ -95,7 +97,7 @@ fn process_packet<T: Tracker>(
     ensures limits { connections.new.limits ≡ connections.old.limits }
     ensures spent { Spends events.old events.new (total_stage_cost setup.now.hooks) }
 {
-    // The parts together cost no more than there is room for.
+    // The stages together have no more events than are reserved.
     setup.hooks.costs();
     let view = &incoming.view;
     let mut facts = initial_facts(view, incoming.input);
@@ -115,7 +117,7 @@ fn process_packet<T: Tracker>(
     )
 }
 
-/// Leaves the packet as it is sent on, if it is: with the tuple of its connection, and its TTL lowered.
+/// Writes the packet as it leaves, if it is forwarded: with its tuple after NAT and its TTL decremented.
 #[inline(always)]
 fn send(view: &View, info: &CtInfo, decision: RoutingDecision, packet: &mut Vec<u8>)
     requires empty { packet.old.items ≡ [] }
@@ -132,7 +134,7 @@ fn send(view: &View, info: &CtInfo, decision: RoutingDecision, packet: &mut Vec<
     };
 }
 
-/// How a packet ends that goes there.
+/// The outcome of a routing decision.
 #[inline(always)]
 fn outcome_of(decision: RoutingDecision) -> Outcome
     ensures { result ≡ outcome_of decision }
@@ -143,7 +145,7 @@ fn outcome_of(decision: RoutingDecision) -> Outcome
     }
 }
 
-/// A record is dropped, whose packet has this length.
+/// The result of a dropped record; `length` is the packet's total length.
 fn dropped(cause: Cause, length: u16) -> RecordResult
     ensures { result ≡ record { outcome = outcomes.Dropped cause; length = length; begun = false } }
 {
@@ -154,7 +156,7 @@ fn dropped(cause: Cause, length: u16) -> RecordResult
     }
 }
 
-/// The interface that a packet leaves by, if it leaves.
+/// The output interface of a forwarded packet.
 pub fn output_interface(outcome: Outcome) -> Option<u32>
     ensures { result ≡ output_interface outcome }
 {
