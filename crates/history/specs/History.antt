@@ -47,7 +47,8 @@ in_order [] = []
 in_order (e ∷ history) = in_order history ++ e ∷ []
 
 abbrev pub sent_by : Outcome → ℕ → List ℕ → List Sent
-sent_by (Passed interface) moment packet = record { moment = moment; interface = interface; packet = packet } ∷ []
+sent_by (Passed interface) moment packet =
+    record { moment = moment; interface = interface; packet = packet } ∷ []
 sent_by _ moment packet = []
 
 -- the packet that an entry sends

@@ -1,8 +1,10 @@
 -- Outcomes of records in the report's order and words (own).
 use Rattle.std.specs.Prelude.{ℕ, ◌==◌, Bool, true, false, List, [], ◌∷◌, codes}
 use Rattle.history.specs.declared.outcome.Cause.{Cause}
-use Rattle.history.specs.declared.outcome.Cause.TheVariants.{Link, Interface, NotIp, Short, Version, HeaderLength}
-use Rattle.history.specs.declared.outcome.Cause.TheVariants.{Length, Truncated, Checksum, Fragment, Transport, Rule}
+use Rattle.history.specs.declared.outcome.Cause.TheVariants.{Link, Interface, NotIp, Short, Version}
+use Rattle.history.specs.declared.outcome.Cause.TheVariants.{HeaderLength}
+use Rattle.history.specs.declared.outcome.Cause.TheVariants.{Length, Truncated, Checksum, Fragment}
+use Rattle.history.specs.declared.outcome.Cause.TheVariants.{Transport, Rule}
 use Rattle.history.specs.declared.outcome.Cause.TheVariants.{Route, Ttl, NoPort, Full, Clash}
 use Rattle.history.specs.declared.outcome.Outcome.{Outcome}
 use Rattle.history.specs.declared.outcome.Outcome.TheVariants.{Passed, Local, Dropped}
@@ -10,7 +12,8 @@ use Rattle.history.specs.declared.outcome.Outcome.TheVariants.{Passed, Local, Dr
 -- the causes of drops in the report's order
 abbrev pub causes : List Cause
 causes =
-    Link ∷ Interface ∷ NotIp ∷ Short ∷ Version ∷ HeaderLength ∷ Length ∷ Truncated ∷ Checksum ∷ Fragment ∷ Transport ∷
+    Link ∷ Interface ∷ NotIp ∷ Short ∷ Version ∷ HeaderLength ∷ Length ∷ Truncated ∷ Checksum ∷ Fragment
+    ∷ Transport ∷
     Rule ∷ Route ∷ Ttl ∷ NoPort ∷ Full ∷ Clash ∷ []
 
 abbrev pub report_word : Cause → List ℕ
