@@ -1,6 +1,7 @@
--- The report of a history (own): lines of its entries, lines of the rules' counters, totals. The verdicts have the words
--- of nft(8).
-use Rattle.std.specs.Prelude.{◌≡◌, ℕ, ◌+◌, ◌*◌, ◌==◌, ◌&&◌, Bool, true, false, cond, List, [], ◌∷◌, ◌++◌, length}
+-- The report of a history (own): lines of its entries, lines of the rules' counters, totals. The verdicts
+-- have the words of nft(8).
+use Rattle.std.specs.Prelude.{◌≡◌, ℕ, ◌+◌, ◌*◌, ◌==◌, ◌&&◌, Bool, true, false, cond, List, [], ◌∷◌, ◌++◌}
+use Rattle.std.specs.Prelude.{length}
 use Rattle.std.specs.Prelude.{count_by, sum_by, codes, Option, Some, None, slice_get, unwrap_or}
 use Rattle.std.specs.List.{flat_map}
 use Rattle.std.specs.Option.{option_map, option_and_then}
@@ -56,7 +57,8 @@ chain_at rules table chain =
 
 -- a line about the chain of these numbers; none where there is no such chain
 abbrev pub on_chain : List TableTree → ℕ → ℕ → (TableTree → ChainTree → Text) → Text
-on_chain rules table chain line_on = unwrap_or (option_map (λ at. line_on at.0 at.1) (chain_at rules table chain)) []
+on_chain rules table chain line_on =
+    unwrap_or (option_map (λ at. line_on at.0 at.1) (chain_at rules table chain)) []
 
 -- ---- lines of entries
 
@@ -67,7 +69,8 @@ prefix_in _ = []
 
 abbrev pub statement_at : ChainTree → StatementPosition → Option Statement
 statement_at c position =
-    option_and_then (λ r. numbered_from_one r.statements position.statement) (numbered_from_one c.rules position.rule.rule)
+    option_and_then (λ r. numbered_from_one r.statements position.statement) (numbered_from_one c.rules
+    position.rule.rule)
 
 -- `log N FAMILY TABLE CHAIN RULE`, and the prefix where there is one
 abbrev pub log_line : ℕ → StatementPosition → TableTree → ChainTree → Text
@@ -107,11 +110,13 @@ policy_word policies.Drop = codes "drop"
 -- `trace N FAMILY TABLE CHAIN policy POLICY`
 abbrev pub policy_line : ℕ → Policy → TableTree → ChainTree → Text
 policy_line n policy t c =
-    codes "trace" ++ and_number n ++ and_word (chain_name t c) ++ codes " policy" ++ and_word (policy_word policy) ++ end
+    codes "trace" ++ and_number n ++ and_word (chain_name t c) ++ codes " policy"
+    ++ and_word (policy_word policy) ++ end
 
 -- the line of an event of record n: of a log always, of a verdict and a policy where it is traced
 abbrev pub event_line : List TableTree → Bool → ℕ → Event → Text
-event_line rules trace n (events.Logged position) = on_chain rules position.rule.table position.rule.chain (log_line n position)
+event_line rules trace n (events.Logged position) =
+    on_chain rules position.rule.table position.rule.chain (log_line n position)
 event_line rules trace n (events.TookVerdict rule verdict) =
     cond trace (on_chain rules rule.table rule.chain (verdict_line n rule.rule verdict)) []
 event_line rules trace n (events.TookPolicy chain policy) =
@@ -126,7 +131,8 @@ outcome_word (Dropped cause) = report_word cause
 -- `trace N outcome OUTCOME`, the last line of an entry
 abbrev pub outcome_line : Bool → ℕ → Outcome → Text
 outcome_line trace n outcome =
-    cond trace (codes "trace" ++ and_number n ++ codes " outcome" ++ and_word (outcome_word outcome) ++ end) []
+    cond trace (codes "trace" ++ and_number n ++ codes " outcome" ++ and_word (outcome_word outcome) ++ end)
+    []
 
 -- the lines of the entry of record n
 abbrev pub lines_of : List TableTree → Bool → ℕ → Entry → Text
@@ -135,7 +141,8 @@ lines_of rules trace n e = flat_map (event_line rules trace n) e.events ++ outco
 -- the lines of a history's entries, in the order of the records
 abbrev pub entry_lines : List TableTree → Bool → List Entry → Text
 entry_lines rules trace [] = []
-entry_lines rules trace (e ∷ history) = entry_lines rules trace history ++ lines_of rules trace (length (e ∷ history)) e
+entry_lines rules trace (e ∷ history) =
+    entry_lines rules trace history ++ lines_of rules trace (length (e ∷ history)) e
 
 -- ---- lines of counters
 
@@ -159,7 +166,8 @@ packets position history = sum_by (counts_at position) history
 abbrev pub bytes : StatementPosition → List Entry → ℕ
 bytes position history = sum_by (λ e. counts_at position e * e.length) history
 
--- `counter FAMILY TABLE CHAIN RULE K packets P bytes B`, from its initial values on; it is its rule's Kth counter
+-- `counter FAMILY TABLE CHAIN RULE K packets P bytes B`, from its initial values on; it is its rule's Kth
+-- counter
 abbrev pub counter_line : List Entry → TableTree → ChainTree → StatementPosition → ℕ → CounterStart → Text
 counter_line history t c position k start =
     codes "counter" ++ and_word (chain_name t c) ++ and_number position.rule.rule ++ and_number k
@@ -171,7 +179,8 @@ abbrev pub next_position : StatementPosition → StatementPosition
 next_position position = record position { statement = position.statement + 1 }
 
 -- the line of a statement that is a counter, and the number of the next counter of its rule
-abbrev pub line_if_counter : List Entry → TableTree → ChainTree → StatementPosition → ℕ → Option CounterStart → Text
+abbrev pub line_if_counter : List Entry → TableTree → ChainTree → StatementPosition → ℕ
+    → Option CounterStart → Text
 line_if_counter history t c position k None = []
 line_if_counter history t c position k (Some start) = counter_line history t c position k start
 
@@ -179,7 +188,8 @@ abbrev pub next_number : ℕ → Option CounterStart → ℕ
 next_number k None = k
 next_number k (Some start) = k + 1
 
-abbrev pub statement_lines : List Entry → TableTree → ChainTree → StatementPosition → ℕ → List Statement → Text
+abbrev pub statement_lines : List Entry → TableTree → ChainTree → StatementPosition → ℕ → List Statement
+    → Text
 statement_lines history t c position k [] = []
 statement_lines history t c position k (s ∷ ss) =
     line_if_counter history t c position k (counter_in s)
@@ -200,7 +210,8 @@ chain_lines history t table chain (c ∷ cs) =
 
 abbrev pub table_lines : List Entry → ℕ → List TableTree → Text
 table_lines history table [] = []
-table_lines history table (t ∷ ts) = chain_lines history t table 0 (chains_of t) ++ table_lines history (table + 1) ts
+table_lines history table (t ∷ ts) =
+    chain_lines history t table 0 (chains_of t) ++ table_lines history (table + 1) ts
 
 -- the counters, in the ruleset's order
 abbrev pub counter_lines : List TableTree → List Entry → Text
@@ -233,7 +244,8 @@ begun history = count_by (λ e. is_creation e.tracked.what) history
 abbrev pub drop_line : (Cause → ℕ) → Cause → Text
 drop_line lost cause = line (codes "drop" ++ and_word (report_word cause)) (lost cause)
 
--- the totals: the records, of them forwarded, delivered and dropped by cause; the connections begun, and those alive
+-- the totals: the records, of them forwarded, delivered and dropped by cause; the connections begun, and
+-- those alive
 abbrev pub number_lines : ℕ → ℕ → ℕ → (Cause → ℕ) → ℕ → ℕ → Bool → Text
 number_lines records sent kept lost beginnings live torn =
     line (codes "records") records
@@ -246,7 +258,8 @@ number_lines records sent kept lost beginnings live torn =
 
 abbrev pub totals : List Entry → ℕ → Bool → Text
 totals history live torn =
-    number_lines (length history) (passed history) (local history) (λ cause. dropped cause history) (begun history) live torn
+    number_lines (length history) (passed history) (local history) (λ cause. dropped cause history)
+    (begun history) live torn
 
 -- ---- the whole
 
@@ -257,4 +270,5 @@ closing_lines rules history live torn = counter_lines rules history ++ totals hi
 -- the connections alive at the time of the last record are counted
 abbrev pub report_text : Setup → Bool → List Entry → Bool → Text
 report_text setup trace history torn =
-    entry_lines setup.rules trace history ++ closing_lines setup.rules history (length (live_in setup history)) torn
+    entry_lines setup.rules trace history
+    ++ closing_lines setup.rules history (length (live_in setup history)) torn

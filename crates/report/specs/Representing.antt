@@ -1,5 +1,6 @@
 -- When a report is one of a history, of whose text a part is written already.
-use Rattle.std.specs.Prelude.{◌≡◌, ℕ, ◌+◌, Bool, true, List, ◌++◌, length, slice_get, slice_index, Option, Some}
+use Rattle.std.specs.Prelude.{◌≡◌, ℕ, ◌+◌, Bool, true, List, ◌++◌, length, slice_get, slice_index, Option}
+use Rattle.std.specs.Prelude.{Some}
 use Rattle.std.specs.List.{flat_map}
 use Rattle.std.specs.Option.{option_and_then}
 use Rattle.std.specs.Io.KnownBytes.{Appends}
@@ -14,7 +15,8 @@ use Rattle.history.specs.History.{Entry}
 use Rattle.report.specs.declared.tallies.Tally.{Tally}
 use Rattle.report.specs.declared.notes.Note.{Note}
 use Rattle.report.specs.declared.notes.Note.TheVariants as notes
-use Rattle.report.specs.Report.{passed, local, dropped, begun, packets, bytes, entry_lines, on_chain, log_line}
+use Rattle.report.specs.Report.{passed, local, dropped, begun, packets, bytes, entry_lines, on_chain}
+use Rattle.report.specs.Report.{log_line}
 use Rattle.report.specs.Report.{verdict_line, policy_line, outcome_line}
 
 -- a writer's known bytes grow by what completes the written part to this text
@@ -23,7 +25,8 @@ AppendsRest old new written text = (rest : Text) × (written ++ rest ≡ text) �
 
 -- or by a prefix of that
 abbrev pub AppendsRestPrefix : Option Text → Option Text → Text → Text → Type 0
-AppendsRestPrefix old new written text = (rest : Text) × (written ++ rest ≡ text) × AppendsPrefix old new rest
+AppendsRestPrefix old new written text = (rest : Text) × (written ++ rest ≡ text)
+    × AppendsPrefix old new rest
 
 -- ---- the state of a report
 
@@ -37,8 +40,9 @@ tally_at tallies at =
     (option_and_then (λ c. numbered_from_one c at.rule.rule)
     (option_and_then (λ t. slice_get t at.rule.chain) (slice_get tallies at.rule.table)))
 
--- the number of records, of those forwarded, delivered, dropped (by the cause's index) and of those that began a
--- connection; the counters; whether it traces; the notes not written yet, and how many more are reserved
+-- the number of records, of those forwarded, delivered, dropped (by the cause's index) and of those that
+-- began a connection; the counters; whether it traces; the notes not written yet, and how many more are
+-- reserved
 pub record ReportState : Type 0 where
   pub records : ℕ
   pub passed : ℕ
@@ -73,9 +77,10 @@ note_line rules (notes.TookPolicy number chain policy) =
     on_chain rules chain.table chain.chain (policy_line number policy)
 note_line rules (notes.Ended number outcome) = outcome_line true number outcome
 
--- the report of a history under these rules: its numbers are the history's, and its notes are the lines behind the
--- written part
-pub record IsReportOf (report : ReportState) (rules : List TableTree) (trace : Bool) (history : List Entry) (written : Text)
+-- the report of a history under these rules: its numbers are the history's, and its notes are the lines
+-- behind the written part
+pub record IsReportOf (report : ReportState) (rules : List TableTree) (trace : Bool) (history : List Entry)
+    (written : Text)
     : Type 0 where
   pub records : report.records ≡ length history
   pub passed_are : report.passed ≡ passed history

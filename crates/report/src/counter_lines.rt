@@ -20,7 +20,8 @@ pub fn put_counters<W: Write>(
     rules: &Ruleset,
     tallies: &RulesetTallies,
 ) -> Result<(), DeviceFailed>
-    ensures puts { Puts result page.old.text.items (W.contents writer.old.inner) page.new.text.items (W.contents writer.new.inner) (tables_text tallies.now 0 (tables_of rules.now)) }
+    ensures puts { Puts result page.old.text.items (W.contents writer.old.inner) page.new.text.items
+        (W.contents writer.new.inner) (tables_text tallies.now 0 (tables_of rules.now)) }
     ensures counts { CountsFailure result writer.old.failures writer.new.failures }
 {
     for (number, table) in rules.tables.iter().enumerate() {
@@ -37,7 +38,9 @@ fn put_table<W: Write>(
     number: usize,
     table: &Table,
 ) -> Result<(), DeviceFailed>
-    ensures puts { Puts result page.old.text.items (W.contents writer.old.inner) page.new.text.items (W.contents writer.new.inner) (chains_text tallies.now (table_tree table.now) number 0 (chains_of (table_tree table.now))) }
+    ensures puts { Puts result page.old.text.items (W.contents writer.old.inner) page.new.text.items
+        (W.contents writer.new.inner) (chains_text tallies.now (table_tree table.now) number 0
+        (chains_of (table_tree table.now))) }
     ensures counts { CountsFailure result writer.old.failures writer.new.failures }
 {
     let mut chain_number = 0;
@@ -60,7 +63,9 @@ fn put_chain<W: Write>(
     table: usize,
     chain: usize,
 ) -> Result<(), DeviceFailed>
-    ensures puts { Puts result page.old.text.items (W.contents writer.old.inner) page.new.text.items (W.contents writer.new.inner) (rules_text tallies.now (table_tree found.entry.table.now) (chain_tree found.entry.chain.now) table chain 1 (chain_tree found.entry.chain.now).rules) }
+    ensures puts { Puts result page.old.text.items (W.contents writer.old.inner) page.new.text.items
+        (W.contents writer.new.inner) (rules_text tallies.now (table_tree found.entry.table.now)
+        (chain_tree found.entry.chain.now) table chain 1 (chain_tree found.entry.chain.now).rules) }
     ensures counts { CountsFailure result writer.old.failures writer.new.failures }
 {
     for (before, rule) in found.chain.rules.iter().enumerate() {
@@ -85,7 +90,10 @@ fn put_rule<W: Write>(
     rule: &Rule,
 ) -> Result<(), DeviceFailed>
     requires { first.statement ≡ 1 }
-    ensures puts { Puts result page.old.text.items (W.contents writer.old.inner) page.new.text.items (W.contents writer.new.inner) (statements_text tallies.now (table_tree found.entry.table.now) (chain_tree found.entry.chain.now) (position_of first) 1 (rule_tree rule.now).statements) }
+    ensures puts { Puts result page.old.text.items (W.contents writer.old.inner) page.new.text.items
+        (W.contents writer.new.inner) (statements_text tallies.now
+        (table_tree found.entry.table.now) (chain_tree found.entry.chain.now) (position_of first) 1
+        (rule_tree rule.now).statements) }
     ensures counts { CountsFailure result writer.old.failures writer.new.failures }
 {
     let mut number = 1;
@@ -111,7 +119,10 @@ fn put_counter<W: Write>(
     position: Location,
     number: u128,
 ) -> Result<(), DeviceFailed>
-    ensures puts { Puts result page.old.text.items (W.contents writer.old.inner) page.new.text.items (W.contents writer.new.inner) (tally_line (table_tree found.entry.table.now) (chain_tree found.entry.chain.now) position.rule number (tally_or_zero tallies.now (position_of position))) }
+    ensures puts { Puts result page.old.text.items (W.contents writer.old.inner) page.new.text.items
+        (W.contents writer.new.inner) (tally_line (table_tree found.entry.table.now)
+        (chain_tree found.entry.chain.now) position.rule number
+        (tally_or_zero tallies.now (position_of position))) }
     ensures counts { CountsFailure result writer.old.failures writer.new.failures }
 {
     let tally = tallies.at(position).unwrap_or(Tally {

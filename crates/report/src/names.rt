@@ -22,7 +22,8 @@ pub struct ChainInTable<'a> {
 
 /// The chain of this table and chain number, both from 0.
 pub fn find(rules: &Ruleset, table: u32, chain: u32) -> Option<ChainInTable<'_>>
-    ensures { option_map (λ n. (table_tree n.table.now, chain_tree n.chain.now)) result ≡ chain_at (tables_of rules.now) table chain }
+    ensures { option_map (λ n. (table_tree n.table.now, chain_tree n.chain.now)) result
+        ≡ chain_at (tables_of rules.now) table chain }
 {
     let table = rules.tables.get(table as usize)?;
     let chain = table.chain(chain as usize)?;
@@ -31,7 +32,8 @@ pub fn find(rules: &Ruleset, table: u32, chain: u32) -> Option<ChainInTable<'_>>
 
 /// The rule's statement of this number, from 1.
 fn statement(rule: &Rule, number: usize) -> Option<&Stmt>
-    ensures { option_map (λ s. tree.statement s.now) result ≡ numbered_from_one (rule_tree rule.now).statements number }
+    ensures { option_map (λ s. tree.statement s.now) result
+        ≡ numbered_from_one (rule_tree rule.now).statements number }
 {
     if number == 0 {
         return None;
@@ -41,7 +43,8 @@ fn statement(rule: &Rule, number: usize) -> Option<&Stmt>
 
 /// The chain's statement at a position.
 fn statement_at(chain: &Chain, position: StatementPosition) -> Option<&Stmt>
-    ensures { option_map (λ s. tree.statement s.now) result ≡ words.statement_at (chain_tree chain.now) position }
+    ensures { option_map (λ s. tree.statement s.now) result
+        ≡ words.statement_at (chain_tree chain.now) position }
 {
     statement(
         chain.rule(position.rule.rule as usize)?,
@@ -71,7 +74,8 @@ fn target(table: &Table, chain: u32) -> &[u8]
 
 /// The word of a verdict, and the name of the chain that it goes to.
 pub fn verdict_pieces(table: &Table, verdict: RuleVerdict) -> (Piece<'_>, Piece<'_>)
-    ensures { piece_text result.0 ++ piece_text result.1 ≡ and_word (verdict_words (table_tree table.now) verdict) }
+    ensures { piece_text result.0 ++ piece_text result.1
+        ≡ and_word (verdict_words (table_tree table.now) verdict) }
 {
     let word: &[u8] = match verdict {
         RuleVerdict::Accept => b"accept",

@@ -37,10 +37,12 @@ impl Note {
     }
 }
 
-/// Notes the lines of an entry. The caller has reserved a note for each event and one for the outcome.
+/// Notes the lines of an entry. The caller has reserved a note for each event and one for the
+/// outcome.
 pub fn note_entry(notes: &mut Vec<Note>, entry: &Entry, trace: bool)
     requires { vec_len notes.old + (length entry.now.events.now + 1) ≤ vec_capacity notes.old }
-    ensures items { notes.new.items ≡ notes.old.items ++ noted trace entry.now.number entry.now.events.now entry.now.outcome }
+    ensures items { notes.new.items ≡ notes.old.items
+        ++ noted trace entry.now.number entry.now.events.now entry.now.outcome }
     ensures few { vec_len notes.new ≤ vec_len notes.old + (length entry.now.events.now + 1) }
     ensures capacity { vec_capacity notes.new ≡ vec_capacity notes.old }
 {

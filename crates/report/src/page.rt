@@ -34,7 +34,8 @@ impl Page {
     /// # Errors
     /// The writer then holds a prefix of the page's bytes and of these.
     fn put<W: Write>(&mut self, writer: &mut Counted<W>, bytes: &[u8]) -> Result<(), DeviceFailed>
-        ensures puts { Puts result self.old.text.items (W.contents writer.old.inner) self.new.text.items (W.contents writer.new.inner) bytes.now }
+        ensures puts { Puts result self.old.text.items (W.contents writer.old.inner)
+            self.new.text.items (W.contents writer.new.inner) bytes.now }
         ensures counts { CountsFailure result writer.old.failures writer.new.failures }
     {
         if bytes.len() <= self.text.remaining_capacity() {
@@ -55,7 +56,8 @@ impl Page {
         writer: &mut Counted<W>,
         piece: Piece,
     ) -> Result<(), DeviceFailed>
-        ensures puts { Puts result self.old.text.items (W.contents writer.old.inner) self.new.text.items (W.contents writer.new.inner) (piece_text piece.entry) }
+        ensures puts { Puts result self.old.text.items (W.contents writer.old.inner)
+            self.new.text.items (W.contents writer.new.inner) (piece_text piece.entry) }
         ensures counts { CountsFailure result writer.old.failures writer.new.failures }
     {
         match piece {
@@ -77,7 +79,8 @@ impl Page {
         writer: &mut Counted<W>,
         pieces: &[Piece],
     ) -> Result<(), DeviceFailed>
-        ensures puts { Puts result self.old.text.items (W.contents writer.old.inner) self.new.text.items (W.contents writer.new.inner) (pieces_text pieces.now) }
+        ensures puts { Puts result self.old.text.items (W.contents writer.old.inner)
+            self.new.text.items (W.contents writer.new.inner) (pieces_text pieces.now) }
         ensures counts { CountsFailure result writer.old.failures writer.new.failures }
     {
         for piece in pieces {
@@ -88,9 +91,11 @@ impl Page {
 
     /// Writes what waits. After an `Err` the writer holds a beginning of it.
     pub fn send<W: Write>(&mut self, writer: &mut Counted<W>) -> Result<(), DeviceFailed>
-        ensures ok { OnOk result (Appends (W.contents writer.old.inner) (W.contents writer.new.inner) self.old.text.items) }
+        ensures ok { OnOk result (Appends (W.contents writer.old.inner)
+            (W.contents writer.new.inner) self.old.text.items) }
         ensures empty { OnOk result (self.new.text.items ≡ []) }
-        ensures part { OnErr result (AppendsPrefix (W.contents writer.old.inner) (W.contents writer.new.inner) self.old.text.items) }
+        ensures part { OnErr result (AppendsPrefix (W.contents writer.old.inner)
+            (W.contents writer.new.inner) self.old.text.items) }
         ensures counts { CountsFailure result writer.old.failures writer.new.failures }
     {
         write_whole(writer, self.text.as_slice())?;

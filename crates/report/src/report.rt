@@ -65,19 +65,30 @@ impl Model for Report {
 
     ghost Value = { ReportState };
 
-    ghost view = { λ r. record { records = r.records; passed = r.passed; local = r.local; dropped = r.dropped; begun = r.begun; tallies = r.tallies; traces = r.traces; notes = r.notes.items; room = vec_capacity r.notes - vec_len r.notes } };
+    ghost view = { λ r. record {
+      records = r.records;
+      passed = r.passed;
+      local = r.local;
+      dropped = r.dropped;
+      begun = r.begun;
+      tallies = r.tallies;
+      traces = r.traces;
+      notes = r.notes.items;
+      room = vec_capacity r.notes - vec_len r.notes;
+    } };
 
     ghost invariant = { λ r. IsBounded r.records r.passed r.local r.dropped r.begun r.tallies };
 }
 
 impl Report {
-    /// The report before the first record, with the counters of `rules` at their initial values. With
-    /// `trace` it has each verdict and each outcome too.
+    /// The report before the first record, with the counters of `rules` at their initial values.
+    /// With `trace` it has each verdict and each outcome too.
     ///
     /// # Errors
     /// An allocation failed.
     pub fn new(alloc: Global, rules: &Ruleset, trace: bool) -> Result<Self, AllocError>
-        ensures fresh { IfOk result (λ report. IsReportOf report (tables_of rules.now) trace [] []) }
+        ensures fresh { IfOk result (λ report.
+            IsReportOf report (tables_of rules.now) trace [] []) }
         ensures room { IfOk result (λ report. report.room ≡ INITIAL_NOTES) }
     {
         let tallies = RulesetTallies::new(alloc, rules)?;
@@ -115,11 +126,16 @@ impl Report {
     pub fn note(&mut self, entry: &history::Entry) -> Result<(), AllocError>
         requires few { self.old.records < 4294967296 }
         // A report of a history becomes one of that history and the entry.
-        ensures noted { (rules : List TableTree) (trace : Bool) (history : List Entry) (written : Text) (e : Entry) → IsReportOf self.old rules trace history written → IsEntry e history entry.now → OnOk result (IsReportOf self.new rules trace (e ∷ history) written) }
+        ensures noted { (rules : List TableTree) (trace : Bool) (history : List Entry)
+            (written : Text) (e : Entry) → IsReportOf self.old rules trace history written
+            → IsEntry e history entry.now
+            → OnOk result (IsReportOf self.new rules trace (e ∷ history) written) }
         ensures records { OnOk result (self.new.records ≡ self.old.records + 1) }
         ensures room { length entry.now.events.now + 1 ≤ self.old.room → IsOk result }
-        ensures pending { length self.new.notes ≤ length self.old.notes + length entry.now.events.now + 1 }
-        ensures left { self.old.room + length self.old.notes ≤ self.new.room + length self.new.notes }
+        ensures pending { length self.new.notes ≤ length self.old.notes + length
+            entry.now.events.now + 1 }
+        ensures left { self.old.room + length self.old.notes ≤ self.new.room + length
+            self.new.notes }
         ensures err { OnErr result (self.new ≡ self.old) }
     {
         self.notes.reserve(entry.events.len() + 1)?;
@@ -153,17 +169,24 @@ impl Report {
     /// none.
     ///
     /// # Errors
-    /// A write failed, which isn't tried again. The writer then holds a prefix of the lines, and the
-    /// report is unchanged.
+    /// A write failed, which isn't tried again. The writer then holds a prefix of the lines, and
+    /// the report is unchanged.
     pub fn drain<W: Write>(
         &mut self,
         rules: &Ruleset,
         writer: &mut Counted<W>,
     ) -> Result<(), DeviceFailed>
-        ensures ok { (trace : Bool) (history : List Entry) (written : Text) → IsReportOf self.old (tables_of rules.now) trace history written
-            → OnOk result (AppendsRest (W.contents writer.old.inner) (W.contents writer.new.inner) written (entry_lines (tables_of rules.now) trace history) × IsReportOf self.new (tables_of rules.now) trace history (entry_lines (tables_of rules.now) trace history)) }
-        ensures part { (trace : Bool) (history : List Entry) (written : Text) → IsReportOf self.old (tables_of rules.now) trace history written
-            → OnErr result (AppendsRestPrefix (W.contents writer.old.inner) (W.contents writer.new.inner) written (entry_lines (tables_of rules.now) trace history)) }
+        ensures ok { (trace : Bool) (history : List Entry) (written : Text)
+            → IsReportOf self.old (tables_of rules.now) trace history written
+            → OnOk result (AppendsRest (W.contents writer.old.inner) (W.contents writer.new.inner)
+            written (entry_lines (tables_of rules.now) trace history)
+            × IsReportOf self.new (tables_of rules.now) trace history
+            (entry_lines (tables_of rules.now) trace history)) }
+        ensures part { (trace : Bool) (history : List Entry) (written : Text)
+            → IsReportOf self.old (tables_of rules.now) trace history written
+            → OnErr result (AppendsRestPrefix (W.contents writer.old.inner)
+            (W.contents writer.new.inner) written
+            (entry_lines (tables_of rules.now) trace history)) }
         ensures none { self.old.notes ≡ [] → writer.new ≡ writer.old }
         ensures empty { OnOk result (self.new.notes ≡ []) }
         ensures room { OnOk result (self.new.room ≡ self.old.room + length self.old.notes) }
@@ -180,9 +203,9 @@ impl Report {
         Ok(())
     }
 
-    /// Writes the rest of the report (the notes, the counters and the totals) and flushes the writer.
-    /// `live` is the number of live connections, and `torn` says whether the capture ends inside a
-    /// record.
+    /// Writes the rest of the report (the notes, the counters and the totals) and flushes the
+    /// writer. `live` is the number of live connections, and `torn` says whether the capture ends
+    /// inside a record.
     ///
     /// # Errors
     /// A write or the flush failed, which isn't tried again. The writer then holds a prefix of the
@@ -194,11 +217,17 @@ impl Report {
         torn: bool,
         writer: &mut Counted<W>,
     ) -> Result<(), DeviceFailed>
-        ensures ok { (trace : Bool) (history : List Entry) (written : Text) → IsReportOf self.now (tables_of rules.now) trace history written
-            → OnOk result (AppendsRest (W.contents writer.old.inner) (W.contents writer.new.inner) written (entry_lines (tables_of rules.now) trace history ++ closing_lines (tables_of rules.now) history live torn)) }
+        ensures ok { (trace : Bool) (history : List Entry) (written : Text)
+            → IsReportOf self.now (tables_of rules.now) trace history written
+            → OnOk result (AppendsRest (W.contents writer.old.inner) (W.contents writer.new.inner)
+            written (entry_lines (tables_of rules.now) trace history
+            ++ closing_lines (tables_of rules.now) history live torn)) }
         ensures flushed { OnOk result (writer.new.is_flushed ≡ true) }
-        ensures part { (trace : Bool) (history : List Entry) (written : Text) → IsReportOf self.now (tables_of rules.now) trace history written
-            → OnErr result (AppendsRestPrefix (W.contents writer.old.inner) (W.contents writer.new.inner) written (entry_lines (tables_of rules.now) trace history ++ closing_lines (tables_of rules.now) history live torn)) }
+        ensures part { (trace : Bool) (history : List Entry) (written : Text)
+            → IsReportOf self.now (tables_of rules.now) trace history written
+            → OnErr result (AppendsRestPrefix (W.contents writer.old.inner)
+            (W.contents writer.new.inner) written (entry_lines (tables_of rules.now) trace history
+            ++ closing_lines (tables_of rules.now) history live torn)) }
         ensures no_failure { OnOk result (writer.new.failures ≡ writer.old.failures) }
         ensures device { OnErr result (writer.new.failures ≡ one_more writer.old.failures) }
     {
@@ -225,7 +254,8 @@ fn write_notes<W: Write>(
     notes: &[Note],
     writer: &mut Counted<W>,
 ) -> Result<(), DeviceFailed>
-    ensures wrote_text { WroteText result (W.contents writer.old.inner) (W.contents writer.new.inner) (flat_map (note_line (tables_of rules.now)) notes.now) }
+    ensures wrote_text { WroteText result (W.contents writer.old.inner)
+        (W.contents writer.new.inner) (flat_map (note_line (tables_of rules.now)) notes.now) }
     ensures counts { CountsFailure result writer.old.failures writer.new.failures }
 {
     let mut page = Page::new();
@@ -241,7 +271,10 @@ fn write_rest<W: Write>(
     totals: &Totals,
     writer: &mut Counted<W>,
 ) -> Result<(), DeviceFailed>
-    ensures wrote_text { WroteText result (W.contents writer.old.inner) (W.contents writer.new.inner) (rest_text (tables_of rules.now) notes.now tallies.now totals.now.records totals.now.passed totals.now.local totals.now.dropped.now totals.now.begun totals.now.live totals.now.torn) }
+    ensures wrote_text { WroteText result (W.contents writer.old.inner)
+        (W.contents writer.new.inner) (rest_text (tables_of rules.now) notes.now tallies.now
+        totals.now.records totals.now.passed totals.now.local totals.now.dropped.now
+        totals.now.begun totals.now.live totals.now.torn) }
     ensures counts { CountsFailure result writer.old.failures writer.new.failures }
 {
     let mut page = Page::new();

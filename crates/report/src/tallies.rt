@@ -129,7 +129,8 @@ impl ChainTallies {
 
     fn new(alloc: Global, chain: &Chain) -> Result<Self, AllocError>
         ensures starts { IfOk result (λ c. c ≡ fresh_chain (chain_tree chain.now)) }
-        ensures fits { IfOk result (λ c. All (All (λ n. (n.packets < 2 ^ 64) × (n.bytes < 2 ^ 64))) c) }
+        ensures fits { IfOk result (λ c.
+            All (All (λ n. (n.packets < 2 ^ 64) × (n.bytes < 2 ^ 64))) c) }
     {
         let mut rules = Vec::with_capacity(alloc, chain.rules.len())?;
         for rule in &chain.rules {
@@ -149,7 +150,8 @@ impl ChainTallies {
     }
 
     fn at(&self, rule: usize, statement: usize) -> Option<Tally>
-        ensures { result ≡ option_and_then (λ r. numbered_from_one r statement) (numbered_from_one self.now rule) }
+        ensures { result ≡ option_and_then (λ r. numbered_from_one r statement)
+            (numbered_from_one self.now rule) }
     {
         if rule == 0 {
             return None;
@@ -182,7 +184,8 @@ impl TableTallies {
 
     fn new(alloc: Global, table: &Table) -> Result<Self, AllocError>
         ensures starts { IfOk result (λ t. t ≡ fresh_table (table_tree table.now)) }
-        ensures fits { IfOk result (λ t. All (All (All (λ n. (n.packets < 2 ^ 64) × (n.bytes < 2 ^ 64)))) t) }
+        ensures fits { IfOk result (λ t.
+            All (All (All (λ n. (n.packets < 2 ^ 64) × (n.bytes < 2 ^ 64)))) t) }
     {
         let mut chains = Vec::new(alloc);
         for item in &table.items {
@@ -204,7 +207,8 @@ impl TableTallies {
     }
 
     fn at(&self, chain: usize, rule: usize, statement: usize) -> Option<Tally>
-        ensures { result ≡ option_and_then (λ r. numbered_from_one r statement) (option_and_then (λ c. numbered_from_one c rule) (slice_get self.now chain)) }
+        ensures { result ≡ option_and_then (λ r. numbered_from_one r statement) (option_and_then
+            (λ c. numbered_from_one c rule) (slice_get self.now chain)) }
     {
         self.chains.get(chain)?.at(rule, statement)
     }
@@ -234,7 +238,8 @@ impl RulesetTallies {
     /// The counters at their initial values.
     pub fn new(alloc: Global, rules: &Ruleset) -> Result<Self, AllocError>
         ensures starts { IfOk result (λ tallies. tallies ≡ fresh (tables_of rules.now)) }
-        ensures fits { IfOk result (λ tallies. All (All (All (All (λ n. (n.packets < 2 ^ 64) × (n.bytes < 2 ^ 64))))) tallies) }
+        ensures fits { IfOk result (λ tallies.
+            All (All (All (All (λ n. (n.packets < 2 ^ 64) × (n.bytes < 2 ^ 64))))) tallies) }
     {
         let mut tables = Vec::with_capacity(alloc, rules.tables.len())?;
         for table in &rules.tables {

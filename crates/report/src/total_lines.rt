@@ -33,7 +33,10 @@ pub fn put_totals<W: Write>(
     writer: &mut Counted<W>,
     totals: &Totals,
 ) -> Result<(), DeviceFailed>
-    ensures puts { Puts result page.old.text.items (W.contents writer.old.inner) page.new.text.items (W.contents writer.new.inner) (number_lines totals.now.records totals.now.passed totals.now.local (drops_in totals.now.dropped.now) totals.now.begun totals.now.live totals.now.torn) }
+    ensures puts { Puts result page.old.text.items (W.contents writer.old.inner) page.new.text.items
+        (W.contents writer.new.inner) (number_lines totals.now.records totals.now.passed
+        totals.now.local (drops_in totals.now.dropped.now) totals.now.begun totals.now.live
+        totals.now.torn) }
     ensures counts { CountsFailure result writer.old.failures writer.new.failures }
 {
     page.put_all(
@@ -70,7 +73,8 @@ fn put_drops<W: Write>(
     dropped: &[u64; 17],
     causes: &[Cause],
 ) -> Result<(), DeviceFailed>
-    ensures puts { Puts result page.old.text.items (W.contents writer.old.inner) page.new.text.items (W.contents writer.new.inner) (flat_map (drop_line (drops_in dropped.now)) causes.now) }
+    ensures puts { Puts result page.old.text.items (W.contents writer.old.inner) page.new.text.items
+        (W.contents writer.new.inner) (flat_map (drop_line (drops_in dropped.now)) causes.now) }
     ensures counts { CountsFailure result writer.old.failures writer.new.failures }
 {
     for cause in causes {
@@ -86,7 +90,8 @@ fn put_drop<W: Write>(
     cause: Cause,
     lost: u64,
 ) -> Result<(), DeviceFailed>
-    ensures puts { Puts result page.old.text.items (W.contents writer.old.inner) page.new.text.items (W.contents writer.new.inner) (drop_line (λ _. lost) cause) }
+    ensures puts { Puts result page.old.text.items (W.contents writer.old.inner) page.new.text.items
+        (W.contents writer.new.inner) (drop_line (λ _. lost) cause) }
     ensures counts { CountsFailure result writer.old.failures writer.new.failures }
 {
     let word = cause.report_word().as_bytes();

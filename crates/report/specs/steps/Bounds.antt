@@ -6,12 +6,14 @@ use Rattle.report.specs.Representing.{Tallies, tally_at}
 
 -- each counter is within these bounds
 abbrev pub AllWithin : ℕ → ℕ → Tallies → Type 0
-AllWithin packets bytes tallies = (at : StatementPosition) (tally : Tally) → tally_at tallies at ≡ Some tally → (tally.packets ≤ packets) × (tally.bytes ≤ bytes)
+AllWithin packets bytes tallies = (at : StatementPosition) (tally : Tally)
+    → tally_at tallies at ≡ Some tally → (tally.packets ≤ packets) × (tally.bytes ≤ bytes)
 
 -- the bounds after so many records, each of fewer than 2^64 events and 2^16 bytes
-pub record IsBounded (records passed local : ℕ) (dropped : List ℕ) (begun : ℕ) (tallies : Tallies) : Type 0 where
-  pub passed_fits : passed ≤ records
-  pub local_fits : local ≤ records
-  pub dropped_fit : (i : ℕ) → slice_index dropped i ≤ records
-  pub begun_fits : begun ≤ records
-  pub tallies_fit : AllWithin ((records + 1) * 2 ^ 64) ((records + 1) * 2 ^ 80) tallies
+pub record IsBounded (records passed local : ℕ) (dropped : List ℕ) (begun : ℕ) (tallies : Tallies) : Type 0
+  where
+    pub passed_fits : passed ≤ records
+    pub local_fits : local ≤ records
+    pub dropped_fit : (i : ℕ) → slice_index dropped i ≤ records
+    pub begun_fits : begun ≤ records
+    pub tallies_fit : AllWithin ((records + 1) * 2 ^ 64) ((records + 1) * 2 ^ 80) tallies

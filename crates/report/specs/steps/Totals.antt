@@ -16,4 +16,5 @@ drops_in dropped cause = slice_index dropped (report_index cause)
 -- the lines of the notes, of the counters, and the totals
 abbrev pub rest_text : List TableTree → List Note → Tallies → ℕ → ℕ → ℕ → List ℕ → ℕ → ℕ → Bool → Text
 rest_text rules notes tallies records sent kept dropped begun live torn =
-    flat_map (note_line rules) notes ++ tables_text tallies 0 rules ++ number_lines records sent kept (drops_in dropped) begun live torn
+    flat_map (note_line rules) notes ++ tables_text tallies 0 rules
+    ++ number_lines records sent kept (drops_in dropped) begun live torn
