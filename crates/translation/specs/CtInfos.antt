@@ -75,8 +75,8 @@ abbrev pub ct_info_by : Tuple → Belonging → CtInfo
 ct_info_by t (Found found) = Tracked (tracked_connection found)
 ct_info_by t other = new_ct_info (first_state t.kind) t
 
--- an ICMP error is RELATED to the connection that has the inverse of its embedded tuple (RFC 5508, section 4.2), else
--- INVALID
+-- an ICMP error is RELATED to the connection that has the inverse of its embedded tuple (RFC 5508, section
+-- 4.2), else INVALID
 abbrev pub error_ct_info : Belonging → CtInfo
 error_ct_info (Found found) = Related (tracked_connection found)
 error_ct_info other = Invalid
@@ -96,8 +96,8 @@ direction_of sides.Reply = directions.Reply
 abbrev pub is_reply_seen : TrackedConnection → Bool
 is_reply_seen connection = is_reply connection.direction || connection.replied
 
--- of an existing connection: an endpoint is translated where the original direction's tuple after NAT, the inverse of
--- the reply tuple, differs from the one received
+-- of an existing connection: an endpoint is translated where the original direction's tuple after NAT, the
+-- inverse of the reply tuple, differs from the one received
 abbrev pub known_ct_facts : CtState → Bool → TrackedConnection → CtFacts
 known_ct_facts state seen_reply connection = Known (record {
   state = state;
@@ -105,14 +105,16 @@ known_ct_facts state seen_reply connection = Known (record {
   mark = connection.mark;
   seen_reply = seen_reply;
   source_translated = not (same_endpoint (inverse connection.reply).source connection.original.source);
-  destination_translated = not (same_endpoint (inverse connection.reply).destination connection.original.destination);
+  destination_translated = not (same_endpoint (inverse connection.reply).destination
+      connection.original.destination);
 })
 
 -- of a new one: an endpoint is translated where it differs from the one received
 abbrev pub with_nat_status : NewConnection → ConnectionFacts → ConnectionFacts
 with_nat_status new_connection c = record c {
   source_translated = not (same_endpoint new_connection.tuple.source new_connection.original.source);
-  destination_translated = not (same_endpoint new_connection.tuple.destination new_connection.original.destination);
+  destination_translated = not (same_endpoint new_connection.tuple.destination
+      new_connection.original.destination);
 }
 
 abbrev pub new_ct_facts : NewConnection → ConnectionFacts
@@ -126,7 +128,9 @@ new_ct_facts new_connection = with_nat_status new_connection (record {
 })
 
 abbrev pub ct_facts_of : CtInfo → CtFacts
-ct_facts_of (Tracked connection) = known_ct_facts (if is_reply_seen connection then states.Established else states.New) (is_reply_seen connection) connection
+ct_facts_of (Tracked connection) =
+    known_ct_facts (if is_reply_seen connection then states.Established else states.New)
+    (is_reply_seen connection) connection
 -- an error doesn't count as a reply
 ct_facts_of (Related connection) = known_ct_facts states.Related connection.replied connection
 ct_facts_of (New new_connection) = Known (new_ct_facts new_connection)
@@ -154,21 +158,30 @@ abbrev pub with_source : Endpoint → Packet → Packet
 with_source e p = record p { source = e.address; transport = with_source_port e.port p.transport }
 
 abbrev pub with_destination : Endpoint → Packet → Packet
-with_destination e p = record p { destination = e.address; transport = with_destination_port e.port p.transport }
+with_destination e p = record p {
+  destination = e.address;
+  transport = with_destination_port e.port p.transport;
+}
 
--- an ICMP error may come from a router: an address of its own is translated only where it is the connection's
--- (RFC 5508, section 4.2)
+-- an ICMP error may come from a router: an address of its own is translated only where it is the
+-- connection's (RFC 5508, section 4.2)
 abbrev pub outer_source : TrackedConnection → ℕ → ℕ
-outer_source connection address = if address == (incoming connection).source.address then (outgoing connection).source.address else address
+outer_source connection address =
+    if address == (incoming connection).source.address then (outgoing connection).source.address
+    else address
 
 abbrev pub outer_destination : TrackedConnection → ℕ → ℕ
 outer_destination connection address =
-    if address == (incoming connection).destination.address then (outgoing connection).destination.address else address
+    if address == (incoming connection).destination.address then (outgoing connection).destination.address
+    else address
 
 -- with the destination after NAT
 abbrev pub packet_after_destination_nat : CtInfo → Packet → Packet
 packet_after_destination_nat (Tracked connection) p = with_destination (outgoing connection).destination p
-packet_after_destination_nat (Related connection) p = record p { destination = outer_destination connection p.destination }
+packet_after_destination_nat (Related connection) p = record p {
+  destination =
+      outer_destination connection p.destination;
+}
 packet_after_destination_nat (New new_connection) p = with_destination new_connection.tuple.destination p
 packet_after_destination_nat _ p = p
 
@@ -181,11 +194,17 @@ packet_after_source_nat _ p = p
 
 -- the facts after destination NAT
 abbrev pub facts_after_destination_nat : CtInfo → Facts → Facts
-facts_after_destination_nat info f = record f { packet = packet_after_destination_nat info f.packet; ct = ct_facts_after_nat info f.ct }
+facts_after_destination_nat info f = record f {
+  packet = packet_after_destination_nat info f.packet;
+  ct = ct_facts_after_nat info f.ct;
+}
 
 -- the facts after source NAT
 abbrev pub facts_after_source_nat : CtInfo → Facts → Facts
-facts_after_source_nat info f = record f { packet = packet_after_source_nat info f.packet; ct = ct_facts_after_nat info f.ct }
+facts_after_source_nat info f = record f {
+  packet = packet_after_source_nat info f.packet;
+  ct = ct_facts_after_nat info f.ct;
+}
 
 -- ---- the header rewrite
 
@@ -193,8 +212,8 @@ facts_after_source_nat info f = record f { packet = packet_after_source_nat info
 abbrev pub ttl_only : ℕ → Change
 ttl_only ttl = record { source = None; destination = None; numbers = None; ttl = Some ttl; inner = None }
 
--- a packet forwarded with this TTL gets its connection's tuple after NAT; an error's embedded datagram gets the
--- inverse of it
+-- a packet forwarded with this TTL gets its connection's tuple after NAT; an error's embedded datagram gets
+-- the inverse of it
 abbrev pub change_of : CtInfo → List ℕ → ℕ → Change
 change_of (Tracked connection) packet ttl = between (outgoing connection) (Some ttl)
 change_of (Related connection) packet ttl = record {

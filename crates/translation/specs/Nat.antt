@@ -1,5 +1,7 @@
--- Destination NAT and source NAT of a packet (RFC 3022; RFC 4787 for UDP, RFC 5382 for TCP, RFC 5508 for ICMP).
-use Rattle.std.specs.Prelude.{ℕ, Bool, true, false, ◌==◌, is_some, if◌then◌else◌, List, Option, Some, None, unwrap_or}
+-- Destination NAT and source NAT of a packet (RFC 3022; RFC 4787 for UDP, RFC 5382 for TCP, RFC 5508 for
+-- ICMP).
+use Rattle.std.specs.Prelude.{ℕ, Bool, true, false, ◌==◌, is_some, if◌then◌else◌, List, Option, Some, None}
+use Rattle.std.specs.Prelude.{unwrap_or}
 use Rattle.std.specs.Option.{option_map}
 use Rattle.box_file.specs.Box.{PlantTree, first_address, owner}
 use Rattle.ip_headers.specs.declared.tuple.Endpoint.{Endpoint}
@@ -32,8 +34,8 @@ abbrev pub port_named : Kind → Option ℕ → ℕ → ℕ
 port_named kind None old = old
 port_named kind (Some port) old = if has_ports kind then port else old
 
--- the destination by a NAT statement: `redirect` goes to the first address of the input interface (nft(8), NAT
--- STATEMENTS). The others keep the destination
+-- the destination by a NAT statement: `redirect` goes to the first address of the input interface (nft(8),
+-- NAT STATEMENTS). The others keep the destination
 abbrev pub statement_destination : PlantTree → Facts → NewConnection → NatAction → Endpoint
 statement_destination plant f new_connection (nat_actions.Destination address port) = record {
   address = address;
@@ -46,39 +48,56 @@ statement_destination plant f new_connection (nat_actions.Redirect port) = recor
 statement_destination plant f new_connection _ = new_connection.tuple.destination
 
 abbrev pub redirected_to : Endpoint → NewConnection → NewConnection
-redirected_to e new_connection = record new_connection { tuple = record new_connection.tuple { destination = e } }
+redirected_to e new_connection = record new_connection {
+  tuple = record new_connection.tuple {
+    destination =
+        e;
+  };
+}
 
 -- the internal endpoint of the live mapping at the destination
 abbrev pub internal_endpoint : List Mapping → NewConnection → Option Endpoint
 internal_endpoint mappings new_connection =
-    if has_ports new_connection.tuple.kind then inbound_of new_connection.tuple.kind new_connection.tuple.destination mappings else None
+    if has_ports new_connection.tuple.kind
+    then inbound_of new_connection.tuple.kind new_connection.tuple.destination mappings else None
 
--- a packet to an external endpoint goes to the internal one, whoever sends it: endpoint-independent filtering, the rules
--- do the rest (RFC 4787, REQ-8)
+-- a packet to an external endpoint goes to the internal one, whoever sends it: endpoint-independent
+-- filtering, the rules do the rest (RFC 4787, REQ-8)
 abbrev pub to_internal : NewConnection → Option Endpoint → NewConnection
 to_internal new_connection None = new_connection
 to_internal new_connection (Some internal) = record new_connection {
   tuple = record new_connection.tuple { destination = internal };
-  dest = Some (record { kind = new_connection.tuple.kind; internal = internal; external = new_connection.tuple.destination });
+  dest = Some (record {
+    kind = new_connection.tuple.kind;
+    internal = internal;
+    external = new_connection.tuple.destination;
+  });
 }
 
 -- by the NAT statement that ended the nat chains, or without one by a live mapping
-abbrev pub with_destination_nat : PlantTree → List Mapping → Facts → NewConnection → HookVerdict → NewConnection
-with_destination_nat plant mappings f new_connection (Translated t) = redirected_to (statement_destination plant f new_connection t) new_connection
-with_destination_nat plant mappings f new_connection Accepted = to_internal new_connection (internal_endpoint mappings new_connection)
+abbrev pub with_destination_nat : PlantTree → List Mapping → Facts → NewConnection → HookVerdict
+    → NewConnection
+with_destination_nat plant mappings f new_connection (Translated t) =
+    redirected_to (statement_destination plant f new_connection t) new_connection
+with_destination_nat plant mappings f new_connection Accepted =
+    to_internal new_connection (internal_endpoint mappings new_connection)
 with_destination_nat plant mappings f new_connection Dropped = new_connection
 
 -- NAT of a connection is decided once, for its first packet (nft(8), CHAINS)
 abbrev pub after_destination_nat : PlantTree → List Mapping → Facts → CtInfo → HookVerdict → CtInfo
-after_destination_nat plant mappings f (New new_connection) verdict = New (with_destination_nat plant mappings f new_connection verdict)
+after_destination_nat plant mappings f (New new_connection) verdict =
+    New (with_destination_nat plant mappings f new_connection verdict)
 after_destination_nat plant mappings f info verdict = info
 
 -- ---- the source
 
--- the external source by a NAT statement: `masquerade` takes the first address of the output interface (nft(8), NAT
--- STATEMENTS). The others give none
+-- the external source by a NAT statement: `masquerade` takes the first address of the output interface
+-- (nft(8), NAT STATEMENTS). The others give none
 abbrev pub statement_source : PlantTree → Facts → NatAction → Option ExternalSource
-statement_source plant f (nat_actions.Source address ports) = Some (record { address = address; ports = ports })
+statement_source plant f (nat_actions.Source address ports) = Some (record {
+  address = address;
+  ports = ports;
+})
 statement_source plant f (nat_actions.Masquerade ports) = Some (record {
   address = unwrap_or (first_address plant (unwrap_or (option_map (λ i. i.index) f.output) 0)) 0;
   ports = ports;
@@ -89,8 +108,9 @@ abbrev pub is_same_interface : ℕ → Option ℕ → Bool
 is_same_interface index None = false
 is_same_interface index (Some other) = other == index
 
--- hairpinning (RFC 4787, REQ-9): where the destination came from a mapping, and the packet didn't enter by the interface
--- that owns the external address, the source is mapped there too, so that the reply comes back through the box
+-- hairpinning (RFC 4787, REQ-9): where the destination came from a mapping, and the packet didn't enter by
+-- the interface that owns the external address, the source is mapped there too, so that the reply comes
+-- back through the box
 abbrev pub hairpin : PlantTree → ℕ → Option Mapping → Option ExternalSource
 hairpin plant entered None = None
 hairpin plant entered (Some m) =
@@ -113,7 +133,11 @@ with_source_mapping new_connection x port =
     let external : Endpoint = record { address = x.address; port = port } in
     record new_connection {
       tuple = record new_connection.tuple { source = external };
-      source = Some (record { kind = new_connection.tuple.kind; internal = new_connection.tuple.source; external = external });
+      source = Some (record {
+        kind = new_connection.tuple.kind;
+        internal = new_connection.tuple.source;
+        external = external;
+      });
       has_port_range = is_some x.ports;
     }
 
@@ -126,5 +150,6 @@ with_source_nat mappings new_connection (Some x) =
 
 abbrev pub after_source_nat : PlantTree → List Mapping → Facts → CtInfo → HookVerdict → Option CtInfo
 after_source_nat plant mappings f (New new_connection) verdict =
-    option_map (λ after. New after) (with_source_nat mappings new_connection (external_source plant f new_connection verdict))
+    option_map (λ after. New after) (with_source_nat mappings new_connection
+    (external_source plant f new_connection verdict))
 after_source_nat plant mappings f info verdict = Some info

@@ -10,8 +10,8 @@ use ip_headers::{Kind, Tuple, View};
 use rewrite::{Change, PortsOrIdentifier};
 
 impl CtInfo {
-    /// The header rewrite for a packet forwarded with this TTL. An ICMP error gets new addresses, and
-    /// its embedded datagram the inverse of the connection's outgoing tuple.
+    /// The header rewrite for a packet forwarded with this TTL. An ICMP error gets new addresses,
+    /// and its embedded datagram the inverse of the connection's outgoing tuple.
     pub fn change(&self, view: &View, ttl: u8) -> Change
         ensures { result ≡ change_of self.now view.now.packet.now ttl }
     {
@@ -50,7 +50,8 @@ fn between(tuple: Tuple, ttl: u8) -> Change
 
 /// The ports of a tuple, or an echo's identifier, which is at the endpoint that sends the requests.
 fn numbers_of(tuple: &Tuple) -> Option<PortsOrIdentifier>
-    ensures { result ≡ ports_or_identifier tuple.now.kind tuple.now.source.port tuple.now.destination.port }
+    ensures { result ≡ ports_or_identifier tuple.now.kind tuple.now.source.port
+        tuple.now.destination.port }
 {
     let (from, to) = (tuple.source.port, tuple.destination.port);
     match tuple.kind {

@@ -67,7 +67,8 @@ impl NewConnection {
         }
     }
 
-    /// `connection` with the NAT status of this tuple: an endpoint is translated where it has changed.
+    /// `connection` with the NAT status of this tuple: an endpoint is translated where it has
+    /// changed.
     pub(crate) fn with_nat_status(&self, connection: ConnectionFacts) -> ConnectionFacts
         ensures { result ≡ with_nat_status self.now connection }
     {

@@ -23,8 +23,10 @@ pub fn apply_destination_nat(
     verdict: HookVerdict,
 ) -> CtInfo
     // For each list that represents the mappings held.
-    ensures info { (held : List Mapped) → HoldsSame held mappings.now.held → result ≡ after_destination_nat plant.now held facts.now info.now verdict }
-    ensures fits { (held : List Mapped) → HoldsSame held mappings.now.held → Fits info.now held → Fits result held }
+    ensures info { (held : List Mapped) → HoldsSame held mappings.now.held
+        → result ≡ after_destination_nat plant.now held facts.now info.now verdict }
+    ensures fits { (held : List Mapped) → HoldsSame held mappings.now.held → Fits info.now held
+        → Fits result held }
     // The connection stays the same.
     ensures same { untranslated result ≡ untranslated info.now }
 {
@@ -47,8 +49,10 @@ fn with_destination_nat(
     new_connection: NewConnection,
     verdict: HookVerdict,
 ) -> NewConnection
-    ensures new_connection { (held : List Mapped) → HoldsSame held mappings.now.held → result ≡ with_destination_nat plant.now held facts.now new_connection verdict }
-    ensures fits { (held : List Mapped) → HoldsSame held mappings.now.held → IsFitting new_connection held → IsFitting result held }
+    ensures new_connection { (held : List Mapped) → HoldsSame held mappings.now.held
+        → result ≡ with_destination_nat plant.now held facts.now new_connection verdict }
+    ensures fits { (held : List Mapped) → HoldsSame held mappings.now.held
+        → IsFitting new_connection held → IsFitting result held }
     ensures same { result.original ≡ new_connection.original }
 {
     match verdict {
@@ -108,8 +112,10 @@ fn has_ports(kind: Kind) -> bool
 
 /// Sends a connection to the internal endpoint of the live mapping at its destination, if any.
 fn to_internal(mappings: &Mappings, new_connection: NewConnection) -> NewConnection
-    ensures new_connection { (held : List Mapped) → HoldsSame held mappings.now.held → result ≡ to_internal new_connection (internal_endpoint held new_connection) }
-    ensures fits { (held : List Mapped) → HoldsSame held mappings.now.held → IsFitting new_connection held → IsFitting result held }
+    ensures new_connection { (held : List Mapped) → HoldsSame held mappings.now.held
+        → result ≡ to_internal new_connection (internal_endpoint held new_connection) }
+    ensures fits { (held : List Mapped) → HoldsSame held mappings.now.held
+        → IsFitting new_connection held → IsFitting result held }
     ensures same { result.original ≡ new_connection.original }
 {
     let kind = new_connection.tuple.kind;

@@ -48,7 +48,8 @@ fn statement_source(plant: &Plant, facts: &Facts, translation: NatAction) -> Opt
 
 /// The first address of the output interface.
 fn masquerade_address(plant: &Plant, facts: &Facts) -> u32
-    ensures { statement_source plant.now facts.now (nat_actions.Masquerade None) ≡ Some (record { address = result; ports = None }) }
+    ensures { statement_source plant.now facts.now (nat_actions.Masquerade None)
+        ≡ Some (record { address = result; ports = None }) }
 {
     let index = match facts.output {
         Some(output) => output.index,

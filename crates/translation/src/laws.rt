@@ -6,5 +6,6 @@ ghost use Rattle.translation.specs.LiveMappings.{mappings_in};
 
 /// The mappings of connections don't depend on their ids.
 pub fn independent_of_ids()
-    ensures { (held others : List ConntrackEntry) → map without_id held ≡ map without_id others → mappings_in held ≡ mappings_in others }
+    ensures { (held others : List ConntrackEntry) → map without_id held ≡ map without_id others
+        → mappings_in held ≡ mappings_in others }
 {}

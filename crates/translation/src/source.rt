@@ -25,8 +25,10 @@ pub fn apply_source_nat(
     verdict: HookVerdict,
 ) -> Option<CtInfo>
     // For each list that represents the mappings held.
-    ensures info { (held : List Mapped) → HoldsSame held mappings.now.held → result ≡ after_source_nat plant.now held facts.now info.now verdict }
-    ensures fits { (held : List Mapped) → HoldsSame held mappings.now.held → Fits info.now held → IfSome result (λ after. Fits after held) }
+    ensures info { (held : List Mapped) → HoldsSame held mappings.now.held
+        → result ≡ after_source_nat plant.now held facts.now info.now verdict }
+    ensures fits { (held : List Mapped) → HoldsSame held mappings.now.held → Fits info.now held
+        → IfSome result (λ after. Fits after held) }
     // The connection stays the same.
     ensures same { IfSome result (λ after. untranslated after ≡ untranslated info.now) }
 {
@@ -47,8 +49,10 @@ fn with_source_nat(
     new_connection: NewConnection,
     external_source: Option<ExternalSource>,
 ) -> Option<NewConnection>
-    ensures new_connection { (held : List Mapped) → HoldsSame held mappings.now.held → result ≡ with_source_nat held new_connection external_source }
-    ensures fits { (held : List Mapped) → HoldsSame held mappings.now.held → IsFitting new_connection held → IfSome result (λ after. IsFitting after held) }
+    ensures new_connection { (held : List Mapped) → HoldsSame held mappings.now.held
+        → result ≡ with_source_nat held new_connection external_source }
+    ensures fits { (held : List Mapped) → HoldsSame held mappings.now.held
+        → IsFitting new_connection held → IfSome result (λ after. IsFitting after held) }
     ensures same { IfSome result (λ after. after.original ≡ new_connection.original) }
 {
     let Some(external_source) = external_source else {
