@@ -5,7 +5,8 @@ use Rattle.box_file.specs.Box.{PlantTree, name_of}
 use Rattle.nft_values.specs.Values.{padded}
 use Rattle.ip_headers.specs.declared.view.HeaderFault.{HeaderFault}
 use Rattle.ip_headers.specs.declared.view.HeaderFault.TheVariants as headers
-use Rattle.ip_headers.specs.Header.{fault_of, packet_of, total_len, protocol, source, destination, ttl, transport_of}
+use Rattle.ip_headers.specs.Header.{fault_of, packet_of, total_len, protocol, source, destination, ttl}
+use Rattle.ip_headers.specs.Header.{transport_of}
 use Rattle.pcap_io.specs.declared.link.Link.{Link}
 use Rattle.pcap_io.specs.declared.link.LinkCause.{LinkCause}
 use Rattle.pcap_io.specs.declared.link.LinkCause.TheVariants as links
@@ -47,11 +48,13 @@ abbrev pub input_interface : Setup → Option ℕ → Option ℕ
 input_interface setup None = Some setup.plant.entering
 input_interface setup (Some index) = option_map (λ name. index) (name_of setup.plant index)
 
--- a record carries this packet, or none for this cause: the first test that fails, of the link header, the input
--- interface and the packet's headers (RFC 791), in this order (own)
+-- a record carries this packet, or none for this cause: the first test that fails, of the link header, the
+-- input interface and the packet's headers (RFC 791), in this order (own)
 pub data Carries (setup : Setup) (r : Recorded) : Result ReceivedPacket Cause → Type 0 where
-  no_link : (cause : LinkCause) → link_of r.link r.bytes ≡ Err cause → Carries setup r (Err (link_cause cause))
-  no_interface : (link : Link) → link_of r.link r.bytes ≡ Ok link → input_interface setup link.interface ≡ None
+  no_link : (cause : LinkCause) → link_of r.link r.bytes ≡ Err cause
+      → Carries setup r (Err (link_cause cause))
+  no_interface : (link : Link) → link_of r.link r.bytes ≡ Ok link
+      → input_interface setup link.interface ≡ None
       → Carries setup r (Err causes.Interface)
   no_header : (link : Link) (index : ℕ) (fault : HeaderFault) → link_of r.link r.bytes ≡ Ok link
       → input_interface setup link.interface ≡ Some index → fault_of (drop link.packet r.bytes) ≡ Some fault

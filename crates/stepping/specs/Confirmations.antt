@@ -1,4 +1,5 @@
--- The confirmation of a packet, as nf_conntrack_confirm: it refreshes or begins its connection (own where not said).
+-- The confirmation of a packet, as nf_conntrack_confirm: it refreshes or begins its connection (own where
+-- not said).
 use Rattle.std.specs.Prelude.{ℕ, Bool, nat_le, if◌then◌else◌, List, length, Option, Some, None}
 use Rattle.ip_headers.specs.declared.tuple.Mapping.{Mapping}
 use Rattle.ip_headers.specs.declared.tuple.Tuple.{Tuple}
@@ -19,8 +20,8 @@ use Rattle.translation.specs.LiveMappings.{mappings_in}
 use Rattle.stepping.specs.Lookups.{Lookup}
 use Rattle.stepping.specs.Paths.{PathResult, dropped}
 
--- the outcome, the events, whether it is confirmed (none where nothing was looked up), the final state, and, where a port
--- was allocated for a new connection, whether a port range was given
+-- the outcome, the events, whether it is confirmed (none where nothing was looked up), the final state,
+-- and, where a port was allocated for a new connection, whether a port range was given
 pub record PacketResult : Type 0 where
   pub outcome : Outcome
   pub events : List Event
@@ -31,7 +32,13 @@ pub record PacketResult : Type 0 where
 -- nothing was looked up
 abbrev pub not_looked_up : PathResult → PacketResult
 not_looked_up path_result =
-    record { outcome = path_result.outcome; events = path_result.events; confirmation = None; info = path_result.info; port_choice = None }
+    record {
+      outcome = path_result.outcome;
+      events = path_result.events;
+      confirmation = None;
+      info = path_result.info;
+      port_choice = None;
+    }
 
 -- looked up, and not confirmed
 abbrev pub unconfirmed : PathResult → PacketResult
@@ -70,14 +77,16 @@ port_choice_by has_port_range None = Some has_port_range
 
 abbrev pub port_choice_in : List Mapping → Bool → Option Mapping → Option Bool
 port_choice_in mappings has_port_range None = None
-port_choice_in mappings has_port_range (Some m) = port_choice_by has_port_range (port_of m.kind m.internal m.external.address mappings)
+port_choice_in mappings has_port_range (Some m) =
+    port_choice_by has_port_range (port_of m.kind m.internal m.external.address mappings)
 
 -- it begins the new connection, beside the others
 abbrev pub begun : List ConntrackEntry → NewConnection → PathResult → PacketResult
 begun others new_connection path_result = record {
   outcome = path_result.outcome;
   events = path_result.events;
-  confirmation = Some (Confirmed path_result.mark (reply_to new_connection) new_connection.source new_connection.dest);
+  confirmation = Some (Confirmed path_result.mark (reply_to new_connection) new_connection.source
+      new_connection.dest);
   info = path_result.info;
   port_choice = port_choice_in (mappings_in others) new_connection.has_port_range new_connection.source;
 }
@@ -89,7 +98,8 @@ begun_unless (Some cause) others new_connection path_result = unconfirmed (dropp
 -- a packet that isn't dropped refreshes its connection, or begins one beside the others
 abbrev pub confirmed_by : CtInfo → List ConntrackEntry → PathResult → PacketResult
 confirmed_by (Tracked connection) others path_result = touched connection.reply path_result
-confirmed_by (New new_connection) others path_result = begun_unless (refusal (reply_to new_connection) others) others new_connection path_result
+confirmed_by (New new_connection) others path_result =
+    begun_unless (refusal (reply_to new_connection) others) others new_connection path_result
 -- an ICMP error doesn't refresh its connection
 confirmed_by _ others path_result = unconfirmed path_result
 

@@ -32,12 +32,13 @@ flags_in _ = no_flags
 -- the key of a packet, if it has a tuple
 abbrev pub lookup_key_of : List ℕ → Option LookupKey
 lookup_key_of p =
-    option_map (λ t. let s : LookupKey = record { tuple = t; flags = flags_in (transport_of p) } in s) (tuple_of p)
+    option_map (λ t. let s : LookupKey = record { tuple = t; flags = flags_in (transport_of p) } in s)
+    (tuple_of p)
 
 -- ---- the look-up, once for each packet
 
--- the key, what it belongs to among the live connections, and the others, without a closing connection that a lone SYN
--- removed
+-- the key, what it belongs to among the live connections, and the others, without a closing connection that
+-- a lone SYN removed
 pub record Lookup : Type 0 where
   pub lookup_key : LookupKey
   pub belonging : Belonging
@@ -63,7 +64,8 @@ others_in live (Some l) = l.others
 abbrev pub mappings_beside : List ConntrackEntry → Option Lookup → List Mapping
 mappings_beside live lookup = mappings_in (others_in live lookup)
 
--- `notrack` exempts a packet from the look-up, and so a connection from its removal (nft(8), NOTRACK STATEMENT)
+-- `notrack` exempts a packet from the look-up, and so a connection from its removal (nft(8), NOTRACK
+-- STATEMENT)
 abbrev pub unless_notrack : CtFacts → Option Lookup → Option Lookup
 unless_notrack Notrack lookup = None
 unless_notrack _ lookup = lookup

@@ -26,7 +26,8 @@ destination_verdict Dropped = Dropped
 destination_verdict _ = Accepted
 
 -- destination NAT among these live mappings, with the state before and after
-pub record RunsDestinationNat (setup : Setup) (mappings : List Mapping) (info after : CtInfo) (f : Facts) (es : List Event)
+pub record RunsDestinationNat (setup : Setup) (mappings : List Mapping) (info after : CtInfo) (f : Facts)
+    (es : List Event)
     (end : HookResult) : Type 0 where
   pub asked : HookResult
   pub run : RunsNatChains setup hooks.Prerouting info f es asked
@@ -46,13 +47,15 @@ source_verdict (Translated t) None = Translated t
 source_verdict Accepted None = Translated (nat_actions.Masquerade None)
 
 -- source NAT, likewise
-pub record RunsSourceNat (setup : Setup) (mappings : List Mapping) (info after : CtInfo) (f : Facts) (es : List Event)
+pub record RunsSourceNat (setup : Setup) (mappings : List Mapping) (info after : CtInfo) (f : Facts)
+    (es : List Event)
     (end : HookResult) : Type 0 where
   pub asked : HookResult
   pub run : RunsNatChains setup hooks.Postrouting info f es asked
   pub goes : after ≡ unwrap_or (after_source_nat setup.plant mappings asked.facts info asked.verdict) info
   pub is : end ≡ record {
-    verdict = source_verdict asked.verdict (after_source_nat setup.plant mappings asked.facts info asked.verdict);
+    verdict = source_verdict asked.verdict (after_source_nat setup.plant mappings asked.facts info
+        asked.verdict);
     facts = facts_after_source_nat after asked.facts;
     events = asked.events;
   }

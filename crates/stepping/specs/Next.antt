@@ -1,5 +1,5 @@
--- What a forwarding box does with a record: the entry that extends a history. Each step has its source where it is
--- defined; their order is netfilter's (nft(8), ADDRESS FAMILIES and CHAINS).
+-- What a forwarding box does with a record: the entry that extends a history. Each step has its source
+-- where it is defined; their order is netfilter's (nft(8), ADDRESS FAMILIES and CHAINS).
 use Rattle.std.specs.Prelude.{◌≡◌, ℕ, ◌-◌, max, List, [], ◌∷◌, Option, Some, None, Result, Ok, Err}
 use Rattle.std.specs.Option.{option_and_then, option_map}
 use Rattle.ip_headers.specs.declared.tuple.Tuple.{Tuple}
@@ -21,39 +21,45 @@ use Rattle.stepping.specs.declared.lookup_key.LookupKey.{LookupKey}
 use Rattle.stepping.specs.Carried.{ReceivedPacket, Carries, initial_facts, with_ct}
 use Rattle.translation.specs.declared.ct_info.CtInfo.{CtInfo}
 use Rattle.translation.specs.CtInfos.{change_of, ct_facts_of}
-use Rattle.stepping.specs.Lookups.{Lookup, lookup_of, mappings_beside, unless_notrack, ct_info_of, ct_info_unless_notrack}
+use Rattle.stepping.specs.Lookups.{Lookup, lookup_of, mappings_beside, unless_notrack, ct_info_of}
+use Rattle.stepping.specs.Lookups.{ct_info_unless_notrack}
 use Rattle.stepping.specs.Paths.{PathResult, RunsHooks, dropped, stopped_result}
 use Rattle.stepping.specs.Confirmations.{PacketResult, confirmed_result, not_looked_up}
 
 -- ---- processing a packet
 
--- a packet after raw prerouting, with its look-up among the live connections and its state: the hooks, then the
--- confirmation
-pub record ProcessesAfterLookup (setup : Setup) (live : List ConntrackEntry) (lookup : Option Lookup) (info : CtInfo) (early : HookResult) (packet_result : PacketResult)
+-- a packet after raw prerouting, with its look-up among the live connections and its state: the hooks, then
+-- the confirmation
+pub record ProcessesAfterLookup (setup : Setup) (live : List ConntrackEntry) (lookup : Option Lookup)
+    (info : CtInfo) (raw : HookResult) (packet_result : PacketResult)
     : Type 0 where
   pub path_result : PathResult
-  pub runs_hooks : RunsHooks setup (mappings_beside live lookup) info (with_ct (ct_facts_of info) early.facts) early.events
+  pub runs_hooks : RunsHooks setup (mappings_beside live lookup) info (with_ct (ct_facts_of info) raw.facts)
+      raw.events
       path_result
   pub is : packet_result ≡ confirmed_result lookup path_result
 
 -- raw prerouting comes first: what it drops isn't looked up, nor what `notrack` exempts
-pub record ProcessesPacket (setup : Setup) (live : List ConntrackEntry) (lookup : Option Lookup) (a : ReceivedPacket) (packet_result : PacketResult)
+pub record ProcessesPacket (setup : Setup) (live : List ConntrackEntry) (lookup : Option Lookup)
+    (a : ReceivedPacket) (packet_result : PacketResult)
     : Type 0 where
-  pub early : HookResult
-  pub first : PreroutingRaw setup.plant setup.rules (initial_facts setup a) [] early
-  pub stopped : Stops early.verdict → packet_result ≡ not_looked_up (stopped_result early)
-  pub goes_on : Continues early.verdict → ProcessesAfterLookup setup live (unless_notrack early.facts.ct lookup)
-      (ct_info_unless_notrack early.facts.ct (ct_info_of live a.packet lookup)) early packet_result
+  pub raw : HookResult
+  pub first : PreroutingRaw setup.plant setup.rules (initial_facts setup a) [] raw
+  pub stopped : Stops raw.verdict → packet_result ≡ not_looked_up (stopped_result raw)
+  pub goes_on : Continues raw.verdict → ProcessesAfterLookup setup live (unless_notrack raw.facts.ct lookup)
+      (ct_info_unless_notrack raw.facts.ct (ct_info_of live a.packet lookup)) raw packet_result
 
 -- a record without a packet is dropped for its cause, without events
-abbrev pub ProcessesRecord : Setup → List ConntrackEntry → Option Lookup → Result ReceivedPacket Cause → PacketResult → Type 0
+abbrev pub ProcessesRecord : Setup → List ConntrackEntry → Option Lookup → Result ReceivedPacket Cause
+    → PacketResult → Type 0
 ProcessesRecord setup live lookup (Ok a) packet_result = ProcessesPacket setup live lookup a packet_result
-ProcessesRecord setup live lookup (Err cause) packet_result = packet_result ≡ not_looked_up (dropped cause [])
+ProcessesRecord setup live lookup (Err cause) packet_result =
+    packet_result ≡ not_looked_up (dropped cause [])
 
 -- its look-up among the live connections
-abbrev pub answered : List ConntrackEntry → Result ReceivedPacket Cause → Option Lookup
-answered live (Ok a) = lookup_of live a.packet
-answered live (Err cause) = None
+abbrev pub record_lookup : List ConntrackEntry → Result ReceivedPacket Cause → Option Lookup
+record_lookup live (Ok a) = lookup_of live a.packet
+record_lookup live (Err cause) = None
 
 -- ---- the entry
 
@@ -79,7 +85,8 @@ at_moment now s = record { tuple = s.tuple; flags = s.flags; moment = now }
 -- what the packet did to connections
 abbrev pub tracked_as : ℕ → Lookup → Option Confirmation → connections.TrackedPacket
 tracked_as now l None = entry_at now
-tracked_as now l (Some confirmation) = updates.entry_of l.belonging (at_moment now l.lookup_key) confirmation
+tracked_as now l (Some confirmation) =
+    updates.entry_of l.belonging (at_moment now l.lookup_key) confirmation
 
 abbrev pub tracked_by : ℕ → Option Lookup → Option Confirmation → connections.TrackedPacket
 tracked_by now None confirmation = entry_at now
@@ -87,7 +94,8 @@ tracked_by now (Some l) confirmation = tracked_as now l confirmation
 
 -- the tuple with which it was looked up
 abbrev pub tuple_in : Option Lookup → Option Confirmation → Option Tuple
-tuple_in lookup confirmation = option_and_then (λ c. option_map (λ l. l.lookup_key.tuple) lookup) confirmation
+tuple_in lookup confirmation = option_and_then (λ c. option_map (λ l. l.lookup_key.tuple) lookup)
+    confirmation
 
 -- the time of a record is the greatest of its own and all earlier ones (own)
 abbrev pub moment_after : List Entry → Recorded → ℕ
@@ -115,7 +123,7 @@ pub record Next (setup : Setup) (history : List Entry) (r : Recorded) (e : Entry
   pub carried : Carries setup r arrived
   -- its look-up among the live connections
   pub lookup : Option Lookup
-  pub lookup_result : lookup ≡ answered (live_at_record setup history r) arrived
+  pub lookup_result : lookup ≡ record_lookup (live_at_record setup history r) arrived
   -- its result
   pub packet_result : PacketResult
   pub processes : ProcessesRecord setup (live_at_record setup history r) lookup arrived packet_result
@@ -126,4 +134,5 @@ pub record Next (setup : Setup) (history : List Entry) (r : Recorded) (e : Entry
 -- a history extended by the entries of these records, one after another
 abbrev pub IsHistoryOf : Setup → List Entry → List Recorded → List Entry → Type 0
 IsHistoryOf setup history [] after = after ≡ history
-IsHistoryOf setup history (r ∷ rs) after = (e : Entry) × Next setup history r e × IsHistoryOf setup (e ∷ history) rs after
+IsHistoryOf setup history (r ∷ rs) after = (e : Entry) × Next setup history r e
+    × IsHistoryOf setup (e ∷ history) rs after

@@ -1,5 +1,5 @@
--- A packet's path through the hooks, from its look-up to local delivery or transmission. The order of hooks, NAT and
--- routing is netfilter's (nft(8), ADDRESS FAMILIES and CHAINS).
+-- A packet's path through the hooks, from its look-up to local delivery or transmission. The order of
+-- hooks, NAT and routing is netfilter's (nft(8), ADDRESS FAMILIES and CHAINS).
 use Rattle.std.specs.Prelude.{◌≡◌, ℕ, ◌<◌, ◌≤◌, true, false, List, Some, None}
 use Rattle.box_file.specs.Box.{is_own, route}
 use Rattle.rule_meaning.specs.declared.facts.Facts.{Facts}
@@ -8,7 +8,8 @@ use Rattle.rule_meaning.specs.declared.facts.CtFacts.TheVariants.{Known}
 use Rattle.rule_meaning.specs.declared.event.Event.{Event}
 use Rattle.rule_meaning.specs.declared.event.HookVerdict.{HookVerdict}
 use Rattle.rule_meaning.specs.declared.event.HookVerdict.TheVariants.{Translated}
-use Rattle.rule_meaning.specs.Hooks.{Traversal, HookResult, Continues, Stops, Then, Prerouting, Input, Forward, Postrouting}
+use Rattle.rule_meaning.specs.Hooks.{Traversal, HookResult, Continues, Stops, Then, Prerouting, Input}
+use Rattle.rule_meaning.specs.Hooks.{Forward, Postrouting}
 use Rattle.history.specs.declared.outcome.Cause.{Cause}
 use Rattle.history.specs.declared.outcome.Cause.TheVariants as causes
 use Rattle.history.specs.declared.outcome.Outcome.{Outcome}
@@ -52,7 +53,8 @@ stopped_result end = dropped (stop_cause end.verdict) end.events
 
 -- before routing, with destination NAT
 abbrev pub RunsPrerouting : Setup → List Mapping → CtInfo → CtInfo → Traversal
-RunsPrerouting setup mappings info after = Prerouting setup.plant setup.rules (RunsDestinationNat setup mappings info after)
+RunsPrerouting setup mappings info after =
+    Prerouting setup.plant setup.rules (RunsDestinationNat setup mappings info after)
 
 -- for local delivery
 abbrev pub RunsInput : Setup → Traversal
@@ -76,27 +78,32 @@ hops_left arrival = arrival.facts.packet.ttl
 -- forward and postrouting with this output interface
 abbrev pub ForwardsOn : Setup → List Mapping → CtInfo → CtInfo → ℕ → HookResult → HookResult → Type 0
 ForwardsOn setup mappings info after interface arrival departure =
-    RunsForwardAndPostrouting setup mappings info after (forwarded_facts setup interface arrival.facts) arrival.events departure
+    RunsForwardAndPostrouting setup mappings info after (forwarded_facts setup interface arrival.facts)
+    arrival.events departure
 
--- after prerouting: local delivery or a route, by the destination after NAT; then the TTL (RFC 1812, section 5.3.1), and
--- forward and postrouting
-pub data RunsAfterPrerouting (setup : Setup) (mappings : List Mapping) (info : CtInfo) (arrival : HookResult) : PathResult → Type 0 where
+-- after prerouting: local delivery or a route, by the destination after NAT; then the TTL (RFC 1812,
+-- section 5.3.1), and forward and postrouting
+pub data RunsAfterPrerouting (setup : Setup) (mappings : List Mapping) (info : CtInfo)
+    (arrival : HookResult) : PathResult → Type 0 where
   delivered : (local : HookResult) → is_own setup.plant (destination_of arrival) ≡ true
       → RunsInput setup arrival.facts arrival.events local → Continues local.verdict
       → RunsAfterPrerouting setup mappings info arrival (passed_result Local info local)
   not_delivered : (local : HookResult) → is_own setup.plant (destination_of arrival) ≡ true
       → RunsInput setup arrival.facts arrival.events local → Stops local.verdict
       → RunsAfterPrerouting setup mappings info arrival (stopped_result local)
-  without_route : is_own setup.plant (destination_of arrival) ≡ false → route setup.plant (destination_of arrival) ≡ None
+  without_route : is_own setup.plant (destination_of arrival) ≡ false
+      → route setup.plant (destination_of arrival) ≡ None
       → RunsAfterPrerouting setup mappings info arrival (dropped causes.Route arrival.events)
   at_last_hop : (interface : ℕ) → is_own setup.plant (destination_of arrival) ≡ false
       → route setup.plant (destination_of arrival) ≡ Some interface → hops_left arrival < 2
       → RunsAfterPrerouting setup mappings info arrival (dropped causes.Ttl arrival.events)
-  forwarded : (interface : ℕ) (after : CtInfo) (departure : HookResult) → is_own setup.plant (destination_of arrival) ≡ false
+  forwarded : (interface : ℕ) (after : CtInfo) (departure : HookResult)
+      → is_own setup.plant (destination_of arrival) ≡ false
       → route setup.plant (destination_of arrival) ≡ Some interface → 2 ≤ hops_left arrival
       → ForwardsOn setup mappings info after interface arrival departure → Continues departure.verdict
       → RunsAfterPrerouting setup mappings info arrival (passed_result (Passed interface) after departure)
-  not_forwarded : (interface : ℕ) (after : CtInfo) (departure : HookResult) → is_own setup.plant (destination_of arrival) ≡ false
+  not_forwarded : (interface : ℕ) (after : CtInfo) (departure : HookResult)
+      → is_own setup.plant (destination_of arrival) ≡ false
       → route setup.plant (destination_of arrival) ≡ Some interface → 2 ≤ hops_left arrival
       → ForwardsOn setup mappings info after interface arrival departure → Stops departure.verdict
       → RunsAfterPrerouting setup mappings info arrival (stopped_result departure)

@@ -32,8 +32,9 @@ shown_entry e = record {
   begun = is_creation e.tracked.change;
 }
 
--- the state of an engine: its configuration, how many records it processed and how many statements it evaluated, the
--- connections held, the last record's entry, and whether all that the next record needs is reserved
+-- the state of an engine: its configuration, how many records it processed and how many statements it
+-- evaluated, the connections held, the last record's entry, and whether all that the next record needs is
+-- reserved
 pub record EngineState : Type 0 where
   pub setup : Setup
   pub records : ℕ
@@ -50,8 +51,8 @@ abbrev pub newest_of : List Entry → Option ShownEntry
 newest_of [] = None
 newest_of (e ∷ history) = Some (shown_entry e)
 
--- it has the history's number of records, shows its newest entry, and holds the connections alive at the time of that, in
--- the order in which they began, under ids of its own
+-- it has the history's number of records, shows its newest entry, and holds the connections alive at the
+-- time of that, in the order in which they began, under ids of its own
 pub record Represents (engine : EngineState) (history : List Entry) : Type 0 where
   pub records : engine.records ≡ length history
   pub newest : engine.newest ≡ newest_of history

@@ -24,8 +24,10 @@ pub struct IncomingPacket<'a> {
 /// The first test that fails, of the link header, the input interface and the packet's headers.
 #[inline(always)]
 pub fn carried<'a>(setup: &Setup, record: &Record<'a>) -> Result<IncomingPacket<'a>, Cause>
-    ensures carries { Carries (setup_in setup.now.hooks) (recorded_of record.now) (arrived_in result) }
-    ensures known { IfOk result (λ incoming. incoming.input ≡ interface_facts setup.now.hooks.plant incoming.input.index) }
+    ensures carries { Carries (setup_in setup.now.hooks) (recorded_of record.now)
+        (arrived_in result) }
+    ensures known { IfOk result (λ incoming.
+        incoming.input ≡ interface_facts setup.now.hooks.plant incoming.input.index) }
 {
     let link = match record.link() {
         Ok(link) => link,

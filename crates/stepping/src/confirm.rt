@@ -39,7 +39,8 @@ pub fn confirm<T: Tracker>(
     requires later { IsNoneLater now connections.old.held }
     requires room { IsTrue connections.old.has_room }
     requires fits { Fits info.now (mappings_in connections.old.held) }
-    ensures confirms { Confirms now flags hooks_passed.now belonging info.now connections.old.held connections.new.held result }
+    ensures confirms { Confirms now flags hooks_passed.now belonging info.now connections.old.held
+        connections.new.held result }
     ensures limits { connections.new.limits ≡ connections.old.limits }
 {
     let confirmed = ConfirmedPacket {
@@ -70,7 +71,8 @@ fn touch<T: Tracker>(
 )
     requires is_held { IsHeld belonging connections.old.held }
     requires later { IsNoneLater now connections.old.held }
-    ensures held { connections.new.held ≡ touched_for belonging flags mark now connections.old.held }
+    ensures held { connections.new.held
+        ≡ touched_for belonging flags mark now connections.old.held }
     ensures limits { connections.new.limits ≡ connections.old.limits }
 {
     if let Belonging::Found(found) = belonging {
@@ -93,7 +95,9 @@ fn begin<T: Tracker>(
     requires later { IsNoneLater now connections.old.held }
     requires room { IsTrue connections.old.has_room }
     requires fits { IsFitting new_connection.now (mappings_in connections.old.held) }
-    ensures confirms { (belonging : TheBelonging) → Confirms now flags hooks_passed.now belonging (New new_connection.now) connections.old.held connections.new.held result }
+    ensures confirms { (belonging : TheBelonging)
+        → Confirms now flags hooks_passed.now belonging (New new_connection.now)
+        connections.old.held connections.new.held result }
     ensures limits { connections.new.limits ≡ connections.old.limits }
 {
     match connections.begin(new_connection, flags, hooks_passed.mark, now) {

@@ -9,7 +9,7 @@ ghost use Rattle.rule_paths.specs.Paths.{AreAllCosts, Caller, ruleset_cost};
 ghost use Rattle.stepping.specs.Next.{Next};
 ghost use Rattle.stepping.specs.Representing.{Represents, sent_packets, packet_of, sends_of, setup_of, recorded_of};
 
-use crate::process_record::{RecordResult, output_interface, process_record};
+use crate::process::{RecordResult, output_interface, process_record};
 use crate::setup::Setup;
 use connection_table::ConnectionTable;
 use conntrack::laws::{independent_of_ids, none_later, one_more_entry};
@@ -67,14 +67,22 @@ impl<T: Tracker> Model for Engine<T> {
 
     ghost Value = { EngineState };
 
-    ghost view = { λ e. record { setup = setup_in e.setup.hooks; records = e.records; ticks = e.events.ticks; held = e.connections.held; newest = newest_in e.ended e.latest e.events e.packet; ready = e.ready } };
+    ghost view = { λ e. record {
+      setup = setup_in e.setup.hooks;
+      records = e.records;
+      ticks = e.events.ticks;
+      held = e.connections.held;
+      newest = newest_in e.ended e.latest e.events e.packet;
+      ready = e.ready;
+    } };
 
-    ghost invariant = { λ e. IsReady (setup_in e.setup.hooks) e.connections e.ended e.latest e.events e.packet e.ready };
+    ghost invariant = { λ e. IsReady (setup_in e.setup.hooks) e.connections e.ended e.latest
+        e.events e.packet e.ready };
 }
 
 impl<T: Tracker> Engine<T> {
-    /// The engine before the first record, with the rules compiled. The keys of `hasher` seed its hash
-    /// tables; no result depends on them.
+    /// The engine before the first record, with the rules compiled. The keys of `hasher` seed its
+    /// hash tables; no result depends on them.
     ///
     /// # Errors
     /// An allocation failed. The ruleset is dropped.
@@ -124,11 +132,15 @@ impl<T: Tracker> Engine<T> {
     pub fn step(&mut self, record: &Record) -> Result<Outcome, AllocError>
         requires few { self.old.records < 4294967296 }
         // An engine that represents a history then represents it with the record's entry.
-        ensures represents { (history : List Entry) → Represents self.old history → IfOk result (λ outcome. (e : Entry) × Next self.old.setup history (recorded_of record.now) e × Represents self.new (e ∷ history) × (outcome ≡ e.outcome)) }
+        ensures represents { (history : List Entry) → Represents self.old history
+            → IfOk result (λ outcome. (e : Entry)
+            × Next self.old.setup history (recorded_of record.now) e
+            × Represents self.new (e ∷ history) × (outcome ≡ e.outcome)) }
         ensures setup { self.new.setup ≡ self.old.setup }
         ensures records { OnOk result (self.new.records ≡ self.old.records + 1) }
         // The record evaluates no more statements than the ruleset's cost.
-        ensures ticks { (cost : TableTree → Caller → ℕ) → AreAllCosts self.old.setup.rules cost → self.new.ticks ≤ self.old.ticks + ruleset_cost cost self.old.setup.rules }
+        ensures ticks { (cost : TableTree → Caller → ℕ) → AreAllCosts self.old.setup.rules cost
+            → self.new.ticks ≤ self.old.ticks + ruleset_cost cost self.old.setup.rules }
         ensures no_fewer { self.old.ticks ≤ self.new.ticks }
         ensures err { OnErr result (self.new ≡ self.old) }
         // After `reserve` it can't fail, whatever the record.
@@ -186,7 +198,8 @@ impl<T: Tracker> Engine<T> {
     /// The entry of the last record; `None` before the first.
     pub fn entry(&self) -> Option<history::Entry<'_>>
         // It is the newest entry of each history that the engine represents.
-        ensures newest { (history : List Entry) → Represents self.now history → IsNewest result history }
+        ensures newest { (history : List Entry) → Represents self.now history
+            → IsNewest result history }
         // A record has no more events than a ruleset may cost.
         ensures few { IfSome result (λ entry. length entry.events.now ≤ 65536) }
     {
@@ -202,7 +215,8 @@ impl<T: Tracker> Engine<T> {
 
     /// The number of connections alive at the time of the last record.
     pub fn live(&self) -> usize
-        ensures { (history : List Entry) → Represents self.now history → result ≡ length (live_in self.now.setup history) }
+        ensures { (history : List Entry) → Represents self.now history
+            → result ≡ length (live_in self.now.setup history) }
     {
         independent_of_ids();
         self.connections.live()
@@ -213,7 +227,8 @@ impl<T: Tracker> Engine<T> {
     /// # Errors
     /// An allocation failed.
     pub fn connections(&self, alloc: Global) -> Result<Vec<Connection>, AllocError>
-        ensures { (history : List Entry) → Represents self.now history → IfOk result (λ all. all.items ≡ map connection_of (live_in self.now.setup history)) }
+        ensures { (history : List Entry) → Represents self.now history → IfOk result (λ all.
+            all.items ≡ map connection_of (live_in self.now.setup history)) }
     {
         independent_of_ids();
         self.connections.list(alloc)

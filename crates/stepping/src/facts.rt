@@ -14,7 +14,8 @@ use rule_meaning::{CtFacts, Facts, Interface, Packet};
 /// The interface of this index, if the box has it.
 #[inline(always)]
 pub fn interface_of(plant: &Plant, index: u32) -> Option<Interface>
-    ensures { result ≡ option_map (λ name. interface_facts plant.now index) (name_of plant.now index) }
+    ensures { result ≡ option_map (λ name. interface_facts plant.now index)
+        (name_of plant.now index) }
 {
     let name = plant.name(index)?;
     Some(Interface {
@@ -38,7 +39,13 @@ pub fn interface_facts(plant: &Plant, index: u32) -> Interface
 /// The facts of a received packet: not routed, not looked up, mark 0.
 #[inline(always)]
 pub fn initial_facts(view: &View, input: Interface) -> Facts
-    ensures { result ≡ record { packet = packet_facts view.now.packet.now; input = input; output = None; mark = 0; ct = NotLookedUp } }
+    ensures { result ≡ record {
+      packet = packet_facts view.now.packet.now;
+      input = input;
+      output = None;
+      mark = 0;
+      ct = NotLookedUp;
+    } }
 {
     Facts {
         packet: packet_facts(view),
@@ -57,10 +64,14 @@ pub fn set_ct(facts: &mut Facts, ct: CtFacts)
     facts.ct = ct;
 }
 
-/// Sets the output interface of a forwarded packet and decrements its TTL (RFC 1812, section 5.3.1).
+/// Sets the output interface of a forwarded packet and decrements its TTL (RFC 1812, section
+/// 5.3.1).
 #[inline(always)]
 pub fn set_output(facts: &mut Facts, output: Interface)
-    ensures { facts.new ≡ record facts.old { output = Some output; packet = record facts.old.packet { ttl = facts.old.packet.ttl - 1 } } }
+    ensures { facts.new ≡ record facts.old {
+      output = Some output;
+      packet = record facts.old.packet { ttl = facts.old.packet.ttl - 1 };
+    } }
 {
     facts.output = Some(output);
     facts.packet.ttl = facts.packet.ttl.saturating_sub(1);

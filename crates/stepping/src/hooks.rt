@@ -25,7 +25,7 @@ pub enum RoutingDecision {
     /// Delivered to the box itself.
     Local,
     /// Forwarded, by the interface of this index.
-    Passed(u32),
+    Forward(u32),
 }
 
 /// The result of the hooks for a packet that they let through.
@@ -50,8 +50,10 @@ pub fn run_hooks(
 ) -> Result<HooksPassed, Cause>
     requires room { HasRoom events.old (hooks_cost setup.now.hooks.costs) }
     ensures runs_hooks { (held : List Mapping) → HoldsSame held mappings.now.held
-        → RunsHooks (setup_in setup.now.hooks) held info.old facts.old events.old.events (path_result_of result info.new events.new.events) }
-    ensures fits { (held : List Mapping) → HoldsSame held mappings.now.held → Fits info.old held → Fits info.new held }
+        → RunsHooks (setup_in setup.now.hooks) held info.old facts.old events.old.events
+        (path_result_of result info.new events.new.events) }
+    ensures fits { (held : List Mapping) → HoldsSame held mappings.now.held → Fits info.old held
+        → Fits info.new held }
     ensures same { untranslated info.new ≡ untranslated info.old }
     ensures spent { Spends events.old events.new (hooks_cost setup.now.hooks.costs) }
 {
@@ -70,8 +72,10 @@ fn prerouting(
 ) -> Result<(), Cause>
     requires room { HasRoom events.old (prerouting_cost setup.now.hooks.costs) }
     ensures traverses { (held : List Mapping) → HoldsSame held mappings.now.held
-        → Traverses (RunsPrerouting (setup_in setup.now.hooks) held info.old info.new) facts.old events.old.events result facts.new events.new.events }
-    ensures fits { (held : List Mapping) → HoldsSame held mappings.now.held → Fits info.old held → Fits info.new held }
+        → Traverses (RunsPrerouting (setup_in setup.now.hooks) held info.old info.new) facts.old
+        events.old.events result facts.new events.new.events }
+    ensures fits { (held : List Mapping) → HoldsSame held mappings.now.held → Fits info.old held
+        → Fits info.new held }
     ensures same { untranslated info.new ≡ untranslated info.old }
     ensures spent { Spends events.old events.new (prerouting_cost setup.now.hooks.costs) }
 {
@@ -90,9 +94,12 @@ fn after_prerouting(
     events: &mut Events,
 ) -> Result<HooksPassed, Cause>
     requires room { HasRoom events.old (after_routing_cost setup.now.hooks.costs) }
-    ensures runs_hooks { (held : List Mapping) → HoldsSame held mappings.now.held → (verdict : HookVerdict)
-        → RunsAfterPrerouting (setup_in setup.now.hooks) held info.old (record { verdict = verdict; facts = facts.old; events = events.old.events }) (path_result_of result info.new events.new.events) }
-    ensures fits { (held : List Mapping) → HoldsSame held mappings.now.held → Fits info.old held → Fits info.new held }
+    ensures runs_hooks { (held : List Mapping) → HoldsSame held mappings.now.held
+        → (verdict : HookVerdict) → RunsAfterPrerouting (setup_in setup.now.hooks) held info.old
+        (record { verdict = verdict; facts = facts.old; events = events.old.events })
+        (path_result_of result info.new events.new.events) }
+    ensures fits { (held : List Mapping) → HoldsSame held mappings.now.held → Fits info.old held
+        → Fits info.new held }
     ensures same { untranslated info.new ≡ untranslated info.old }
     ensures spent { Spends events.old events.new (after_routing_cost setup.now.hooks.costs) }
 {
@@ -121,7 +128,7 @@ fn routing_decision(plant: &Plant, packet: &Packet) -> Result<RoutingDecision, C
     if packet.ttl < 2 {
         return Err(Cause::Ttl);
     }
-    Ok(RoutingDecision::Passed(interface))
+    Ok(RoutingDecision::Forward(interface))
 }
 
 /// Runs input, or forward and postrouting.
@@ -136,14 +143,16 @@ fn after_routing(
 ) -> Result<(), Cause>
     requires room { HasRoom events.old (after_routing_cost setup.now.hooks.costs) }
     ensures traverses { (held : List Mapping) → HoldsSame held mappings.now.held
-        → Traverses (RunsAfterRouting (setup_in setup.now.hooks) held info.old info.new decision) facts.old events.old.events result facts.new events.new.events }
-    ensures fits { (held : List Mapping) → HoldsSame held mappings.now.held → Fits info.old held → Fits info.new held }
+        → Traverses (RunsAfterRouting (setup_in setup.now.hooks) held info.old info.new decision)
+        facts.old events.old.events result facts.new events.new.events }
+    ensures fits { (held : List Mapping) → HoldsSame held mappings.now.held → Fits info.old held
+        → Fits info.new held }
     ensures same { untranslated info.new ≡ untranslated info.old }
     ensures spent { Spends events.old events.new (after_routing_cost setup.now.hooks.costs) }
 {
     match decision {
         RoutingDecision::Local => setup.run(HookStage::Input, facts, events),
-        RoutingDecision::Passed(interface) => {
+        RoutingDecision::Forward(interface) => {
             let output = interface_facts(setup.plant(), interface);
             set_output(facts, output);
             forward_and_postrouting(setup, mappings, info, facts, events)
@@ -162,8 +171,10 @@ fn forward_and_postrouting(
 ) -> Result<(), Cause>
     requires room { HasRoom events.old (after_routing_cost setup.now.hooks.costs) }
     ensures traverses { (held : List Mapping) → HoldsSame held mappings.now.held
-        → Traverses (RunsForwardAndPostrouting (setup_in setup.now.hooks) held info.old info.new) facts.old events.old.events result facts.new events.new.events }
-    ensures fits { (held : List Mapping) → HoldsSame held mappings.now.held → Fits info.old held → Fits info.new held }
+        → Traverses (RunsForwardAndPostrouting (setup_in setup.now.hooks) held info.old info.new)
+        facts.old events.old.events result facts.new events.new.events }
+    ensures fits { (held : List Mapping) → HoldsSame held mappings.now.held → Fits info.old held
+        → Fits info.new held }
     ensures same { untranslated info.new ≡ untranslated info.old }
     ensures spent { Spends events.old events.new (after_routing_cost setup.now.hooks.costs) }
 {

@@ -10,7 +10,7 @@ mod laws;
 mod lookup;
 mod lookup_key;
 mod nat;
-mod process_record;
+mod process;
 mod setup;
 
 pub use engine::Engine;

@@ -38,14 +38,19 @@ pub fn look_up_packet<T: Tracker>(
     requires live { live_at connections.old.limits now connections.old.held ≡ connections.old.held }
     requires later { IsNoneLater now connections.old.held }
     requires room { IsTrue connections.old.has_room }
-    ensures belonging { result.belonging ≡ belonging_in (unless_notrack ct (lookup_of connections.old.held view.now.packet.now)) }
-    ensures info { result.info ≡ ct_info_unless_notrack ct (ct_info_of connections.old.held view.now.packet.now (lookup_of connections.old.held view.now.packet.now)) }
-    ensures held { connections.new.held ≡ others_in connections.old.held (unless_notrack ct (lookup_of connections.old.held view.now.packet.now)) }
+    ensures belonging { result.belonging
+        ≡ belonging_in (unless_notrack ct (lookup_of connections.old.held view.now.packet.now)) }
+    ensures info { result.info ≡ ct_info_unless_notrack ct (ct_info_of connections.old.held
+        view.now.packet.now (lookup_of connections.old.held view.now.packet.now)) }
+    ensures held { connections.new.held
+        ≡ others_in connections.old.held (unless_notrack ct
+        (lookup_of connections.old.held view.now.packet.now)) }
     ensures limits { connections.new.limits ≡ connections.old.limits }
     ensures later { IsNoneLater now connections.new.held }
     ensures room { IsTrue connections.new.has_room }
     // It can be confirmed, whatever NAT does to it.
-    ensures open { (after : TheCtInfo) → untranslated after ≡ untranslated result.info → CanConfirm result.belonging after connections.new.held }
+    ensures open { (after : TheCtInfo) → untranslated after ≡ untranslated result.info
+        → CanConfirm result.belonging after connections.new.held }
     ensures fits { Fits result.info (mappings_in connections.new.held) }
 {
     match ct {
@@ -70,14 +75,18 @@ fn look_up<T: Tracker>(
     requires live { live_at connections.old.limits now connections.old.held ≡ connections.old.held }
     requires later { IsNoneLater now connections.old.held }
     requires room { IsTrue connections.old.has_room }
-    ensures belonging { result.belonging ≡ belonging_in (option_map (look_up connections.old.held) lookup_key) }
-    ensures info { result.info ≡ ct_info_of connections.old.held view.now.packet.now (option_map (look_up connections.old.held) lookup_key) }
-    ensures held { connections.new.held ≡ others_in connections.old.held (option_map (look_up connections.old.held) lookup_key) }
+    ensures belonging { result.belonging
+        ≡ belonging_in (option_map (look_up connections.old.held) lookup_key) }
+    ensures info { result.info ≡ ct_info_of connections.old.held view.now.packet.now
+        (option_map (look_up connections.old.held) lookup_key) }
+    ensures held { connections.new.held
+        ≡ others_in connections.old.held (option_map (look_up connections.old.held) lookup_key) }
     ensures limits { connections.new.limits ≡ connections.old.limits }
     ensures later { IsNoneLater now connections.new.held }
     ensures room { IsTrue connections.new.has_room }
     // It can be confirmed, whatever NAT does to it.
-    ensures open { (after : TheCtInfo) → untranslated after ≡ untranslated result.info → CanConfirm result.belonging after connections.new.held }
+    ensures open { (after : TheCtInfo) → untranslated after ≡ untranslated result.info
+        → CanConfirm result.belonging after connections.new.held }
     ensures fits { Fits result.info (mappings_in connections.new.held) }
 {
     match lookup_key {
@@ -98,7 +107,8 @@ fn look_up<T: Tracker>(
 /// The state of a packet without a tuple: RELATED for an ICMP error about a live connection.
 fn error_ct_info<T: Tracker>(connections: &ConnectionTable<T>, view: &View, now: Moment) -> CtInfo
     requires live { live_at connections.now.limits now connections.now.held ≡ connections.now.held }
-    ensures { result ≡ error_ct_info (error_belonging connections.now.held (inner_tuple_of view.now.packet.now)) }
+    ensures { result ≡ error_ct_info (error_belonging connections.now.held
+        (inner_tuple_of view.now.packet.now)) }
 {
     match view.inner_tuple() {
         Some(inner) => CtInfo::of_error(connections.look_up_error(inner, now)),

@@ -19,8 +19,8 @@ use translation::{
     CtInfo, apply_destination_nat, apply_source_nat, update_destination, update_source,
 };
 
-/// Destination NAT: runs the nat chains of prerouting for a new connection, and updates the packet's
-/// state and facts in place.
+/// Destination NAT: runs the nat chains of prerouting for a new connection, and updates the
+/// packet's state and facts in place.
 #[inline(always)]
 pub fn translate_destination(
     setup: &Setup,
@@ -31,8 +31,10 @@ pub fn translate_destination(
 ) -> Result<(), Cause>
     requires room { HasRoom events.old setup.now.hooks.costs.prerouting_nat }
     ensures traverses { (held : List Mapping) → HoldsSame held mappings.now.held
-        → Traverses (RunsDestinationNat (setup_in setup.now.hooks) held info.old info.new) facts.old events.old.events result facts.new events.new.events }
-    ensures fits { (held : List Mapping) → HoldsSame held mappings.now.held → Fits info.old held → Fits info.new held }
+        → Traverses (RunsDestinationNat (setup_in setup.now.hooks) held info.old info.new) facts.old
+        events.old.events result facts.new events.new.events }
+    ensures fits { (held : List Mapping) → HoldsSame held mappings.now.held → Fits info.old held
+        → Fits info.new held }
     ensures same { untranslated info.new ≡ untranslated info.old }
     ensures spent { Spends events.old events.new setup.now.hooks.costs.prerouting_nat }
 {
@@ -57,8 +59,10 @@ pub fn translate_source(
 ) -> Result<(), Cause>
     requires room { HasRoom events.old setup.now.hooks.costs.postrouting_nat }
     ensures traverses { (held : List Mapping) → HoldsSame held mappings.now.held
-        → Traverses (RunsSourceNat (setup_in setup.now.hooks) held info.old info.new) facts.old events.old.events result facts.new events.new.events }
-    ensures fits { (held : List Mapping) → HoldsSame held mappings.now.held → Fits info.old held → Fits info.new held }
+        → Traverses (RunsSourceNat (setup_in setup.now.hooks) held info.old info.new) facts.old
+        events.old.events result facts.new events.new.events }
+    ensures fits { (held : List Mapping) → HoldsSame held mappings.now.held → Fits info.old held
+        → Fits info.new held }
     ensures same { untranslated info.new ≡ untranslated info.old }
     ensures spent { Spends events.old events.new setup.now.hooks.costs.postrouting_nat }
 {
@@ -73,18 +77,19 @@ pub fn translate_source(
 #[inline(always)]
 fn run_nat_chains(
     setup: &Setup,
-    part: HookStage,
+    stage: HookStage,
     info: &CtInfo,
     facts: &mut Facts,
     events: &mut Events,
 ) -> HookVerdict
-    requires room { HasRoom events.old (stage_cost setup.now.hooks part) }
-    ensures asked { (hook : Hook) → IsNatStage part hook → RunsNatChains (setup_in setup.now.hooks) hook info.now facts.old events.old.events
+    requires room { HasRoom events.old (stage_cost setup.now.hooks stage) }
+    ensures asked { (hook : Hook) → IsNatStage stage hook
+        → RunsNatChains (setup_in setup.now.hooks) hook info.now facts.old events.old.events
         (record { verdict = result; facts = facts.new; events = events.new.events }) }
-    ensures spent { Spends events.old events.new (stage_cost setup.now.hooks part) }
+    ensures spent { Spends events.old events.new (stage_cost setup.now.hooks stage) }
 {
     match info {
-        CtInfo::New(_) => setup.hooks.run(part, facts, events),
+        CtInfo::New(_) => setup.hooks.run(stage, facts, events),
         CtInfo::Tracked(_) | CtInfo::Related(_) | CtInfo::Invalid | CtInfo::Untracked =>
             HookVerdict::Accepted,
     }

@@ -52,7 +52,8 @@ pub fn process_record<T: Tracker>(
     requires none { events.old.events ≡ [] }
     requires empty { packet.old.items ≡ [] }
     requires room { 65535 ≤ vec_capacity packet.old }
-    ensures process_record { HasProcessedRecord (setup_in setup.now.hooks) (recorded_of record.now) now connections.old.held connections.new.held result events.new.events packet.new.items }
+    ensures processed { HasProcessedRecord (setup_in setup.now.hooks) (recorded_of record.now) now
+        connections.old.held connections.new.held result events.new.events packet.new.items }
     ensures limits { connections.new.limits ≡ connections.old.limits }
     ensures spent { Spends events.old events.new (total_stage_cost setup.now.hooks) }
     ensures small { length packet.new.items ≤ 65535 }
@@ -88,12 +89,14 @@ fn process_packet<T: Tracker>(
     connections: &mut ConnectionTable<T>,
     events: &mut Events,
 ) -> Result<ConfirmedPacket, Cause>
-    requires known { incoming.now.input ≡ interface_facts setup.now.hooks.plant incoming.now.input.index }
+    requires known { incoming.now.input
+        ≡ interface_facts setup.now.hooks.plant incoming.now.input.index }
     requires live { live_at connections.old.limits now connections.old.held ≡ connections.old.held }
     requires later { IsNoneLater now connections.old.held }
     requires ready { IsTrue connections.old.has_room }
     requires none { events.old.events ≡ [] }
-    ensures processed { HasProcessedPacket (setup_in setup.now.hooks) (arrived_of incoming.now) now connections.old.held connections.new.held result events.new.events }
+    ensures processed { HasProcessedPacket (setup_in setup.now.hooks) (arrived_of incoming.now) now
+        connections.old.held connections.new.held result events.new.events }
     ensures limits { connections.new.limits ≡ connections.old.limits }
     ensures spent { Spends events.old events.new (total_stage_cost setup.now.hooks) }
 {
@@ -117,7 +120,8 @@ fn process_packet<T: Tracker>(
     )
 }
 
-/// Writes the packet as it leaves, if it is forwarded: with its tuple after NAT and its TTL decremented.
+/// Writes the packet as it leaves, if it is forwarded: with its tuple after NAT and its TTL
+/// decremented.
 #[inline(always)]
 fn send(view: &View, info: &CtInfo, decision: RoutingDecision, packet: &mut Vec<u8>)
     requires empty { packet.old.items ≡ [] }
@@ -125,7 +129,7 @@ fn send(view: &View, info: &CtInfo, decision: RoutingDecision, packet: &mut Vec<
     ensures sent { packet.new.items ≡ sent_on view.now.packet.now info.now (outcome_of decision) }
     ensures small { length packet.new.items ≤ 65535 }
 {
-    let RoutingDecision::Passed(_) = decision else {
+    let RoutingDecision::Forward(_) = decision else {
         return;
     };
     let change = info.change(view, view.ttl().saturating_sub(1));
@@ -141,7 +145,7 @@ fn outcome_of(decision: RoutingDecision) -> Outcome
 {
     match decision {
         RoutingDecision::Local => Outcome::Local,
-        RoutingDecision::Passed(interface) => Outcome::Passed(interface),
+        RoutingDecision::Forward(interface) => Outcome::Passed(interface),
     }
 }
 

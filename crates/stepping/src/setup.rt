@@ -23,7 +23,8 @@ pub struct Setup {
     pub hooks: HookRuns,
     pub entering: Interface,
     pub ghost enters: { entering ≡ interface_facts hooks.plant hooks.plant.entering },
-    pub ghost costs: { (cost : TableTree → Caller → ℕ) → AreAllCosts hooks.rules cost → total_stage_cost hooks ≤ ruleset_cost cost hooks.rules },
+    pub ghost costs: { (cost : TableTree → Caller → ℕ) → AreAllCosts hooks.rules cost
+        → total_stage_cost hooks ≤ ruleset_cost cost hooks.rules },
 }
 
 impl Setup {
@@ -47,11 +48,14 @@ impl Setup {
         self.hooks.checked().plant()
     }
 
-    /// The input interface: the link header's, if the box has it; without one the box file's default.
+    /// The input interface: the link header's, if the box has it; without one the box file's
+    /// default.
     #[inline(always)]
     pub fn input_interface(&self, link_interface: Option<u32>) -> Option<Interface>
-        ensures index { option_map (λ input. input.index) result ≡ input_interface (setup_in self.now.hooks) link_interface }
-        ensures known { IfSome result (λ input. input ≡ interface_facts self.now.hooks.plant input.index) }
+        ensures index { option_map (λ input. input.index) result
+            ≡ input_interface (setup_in self.now.hooks) link_interface }
+        ensures known { IfSome result (λ input.
+            input ≡ interface_facts self.now.hooks.plant input.index) }
     {
         match link_interface {
             Some(index) => interface_of(self.plant(), index),
@@ -64,16 +68,19 @@ impl Setup {
     /// # Errors
     /// The cause for which the packet is dropped.
     #[inline(always)]
-    pub fn run(&self, part: HookStage, facts: &mut Facts, events: &mut Events) -> Result<(), Cause>
-        requires room { HasRoom events.old (stage_cost self.now.hooks part) }
-        ensures traverses { Traverses (Chains self.now.hooks.plant self.now.hooks.rules (chains_in_stage part)) facts.old events.old.events result facts.new events.new.events }
-        ensures spent { Spends events.old events.new (stage_cost self.now.hooks part) }
+    pub fn run(&self, stage: HookStage, facts: &mut Facts, events: &mut Events) -> Result<(), Cause>
+        requires room { HasRoom events.old (stage_cost self.now.hooks stage) }
+        ensures traverses { Traverses
+            (Chains self.now.hooks.plant self.now.hooks.rules (chains_in_stage stage)) facts.old
+            events.old.events result facts.new events.new.events }
+        ensures spent { Spends events.old events.new (stage_cost self.now.hooks stage) }
     {
-        verdict_result(self.hooks.run(part, facts, events))
+        verdict_result(self.hooks.run(stage, facts, events))
     }
 }
 
-/// The result of a hook's verdict: `Rule` for a drop, `NoPort` for a translation without a free port.
+/// The result of a hook's verdict: `Rule` for a drop, `NoPort` for a translation without a free
+/// port.
 #[inline(always)]
 pub fn verdict_result(verdict: HookVerdict) -> Result<(), Cause>
     ensures { result ≡ verdict_result verdict }

@@ -24,7 +24,8 @@ verdict_result Dropped = Err causes.Rule
 verdict_result (Translated t) = Err causes.NoPort
 
 -- a traversal ends with this answer, these facts and these events
-pub record Traverses (passage : Traversal) (f : Facts) (es : List Event) (answer : Result ⊤ Cause) (facts : Facts) (events : List Event) : Type 0 where
+pub record Traverses (passage : Traversal) (f : Facts) (es : List Event) (answer : Result ⊤ Cause)
+    (facts : Facts) (events : List Event) : Type 0 where
   pub end : HookResult
   pub run : passage f es end
   pub answered : answer ≡ verdict_result end.verdict
@@ -33,7 +34,7 @@ pub record Traverses (passage : Traversal) (f : Facts) (es : List Event) (answer
 
 -- this stage has the nat chains of the hook
 abbrev pub IsNatStage : HookStage → Hook → Type 0
-IsNatStage part hook = chains_in_stage part ≡ nat_chains_on hook
+IsNatStage stage hook = chains_in_stage stage ≡ nat_chains_on hook
 
 -- ---- costs: the most events, and statements evaluated
 
