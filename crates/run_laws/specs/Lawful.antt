@@ -10,7 +10,8 @@ use Rattle.translation_laws.specs.Laws.{EntryLaws, HistoryLaws}
 use Rattle.translation_laws.specs.Histories.{IsHistory}
 
 -- an engine that represented this history processed a record with this outcome
-pub record StepKeepsLaws (before : EngineState) (history : List Entry) (r : Recorded) (after : EngineState) (outcome : Outcome)
+pub record StepKeepsLaws (before : EngineState) (history : List Entry) (r : Recorded) (after : EngineState)
+    (outcome : Outcome)
     : Type 0 where
   -- the record's entry, and the forwarded packet that the engine shows
   pub entry : Entry
@@ -28,4 +29,5 @@ pub record StepKeepsLaws (before : EngineState) (history : List Entry) (r : Reco
 abbrev pub AtEachPrefix : Setup → List Recorded → List Entry → Type 0
 AtEachPrefix setup records history =
     (first rest : List Recorded) → records ≡ first ++ rest
-    → (begun : List Entry) × IsHistoryOf setup [] first begun × IsHistoryOf setup begun rest history × HistoryLaws setup begun
+    → (begun : List Entry) × IsHistoryOf setup [] first begun × IsHistoryOf setup begun rest history
+    × HistoryLaws setup begun

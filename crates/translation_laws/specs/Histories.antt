@@ -16,8 +16,8 @@ pub record IsHistory (setup : Setup) (history : List Entry) : Type 0 where
   pub records : List Recorded
   pub is_history : IsHistoryOf setup [] records history
 
--- each entry extends the history before it; so a law of extensions holds of each entry, and a law of histories of each
--- earlier one
+-- each entry extends the history before it; so a law of extensions holds of each entry, and a law of
+-- histories of each earlier one
 abbrev pub EntriesFollow : Setup → Type 0
 EntriesFollow setup =
     (history : List Entry) (e : Entry)

@@ -1,5 +1,6 @@
 -- The laws of NAT and of the connections alive, in each history.
-use Rattle.std.specs.Prelude.{◌≡◌, ◌≢◌, ◌↔◌, ◌⊎◌, ℕ, ◌-◌, ◌<◌, ◌≤◌, Bool, true, false, ◌&&◌, if◌then◌else◌, IsTrue}
+use Rattle.std.specs.Prelude.{◌≡◌, ◌≢◌, ◌↔◌, ◌⊎◌, ℕ, ◌-◌, ◌<◌, ◌≤◌, Bool, true, false, ◌&&◌, if◌then◌else◌}
+use Rattle.std.specs.Prelude.{IsTrue}
 use Rattle.std.specs.Prelude.{List, [], ◌∷◌, map, Some, None, Ok}
 use Rattle.std.specs.List.{Contains, list_any}
 use Rattle.box_file.specs.Box.{owner}
@@ -15,7 +16,8 @@ use Rattle.conntrack.specs.declared.connection.Flags.{Flags}
 use Rattle.conntrack.specs.declared.connection.ConntrackEntry.{ConntrackEntry}
 use Rattle.conntrack.specs.Phases.{is_closing, is_lone_syn}
 use Rattle.conntrack.specs.ConntrackEntry.{belongs_in, is_incoming, limit_of, connection_ref}
-use Rattle.conntrack.specs.Histories.{ConnectionChange, Begins, Touches, begun_in, connection_in, is_creation, is_ended}
+use Rattle.conntrack.specs.Histories.{ConnectionChange, Begins, Touches, begun_in, connection_in}
+use Rattle.conntrack.specs.Histories.{is_creation, is_ended}
 use Rattle.conntrack.specs.Updates.{after_end}
 use Rattle.pcap_io.specs.Pcap.{Recorded}
 use Rattle.port_pool.specs.Candidates.{same_class_and_parity}
@@ -47,17 +49,20 @@ AreApart [] = Unit {0}
 AreApart (c ∷ all) =
     ((d : Connection) (t : Tuple) → Contains all d → HasIncoming c t → HasIncoming d t → ⊥) × AreApart all
 
--- an external endpoint of a kind has one internal endpoint: no port overloading (RFC 4787, REQ-3; RFC 5382, REQ-7)
+-- an external endpoint of a kind has one internal endpoint: no port overloading (RFC 4787, REQ-3; RFC 5382,
+-- REQ-7)
 abbrev pub OneInternal : List Connection → Type 0
 OneInternal all =
-    (c d : Connection) (m n : Mapping) → Contains all c → Contains all d → HoldsMapping c m → HoldsMapping d n
+    (c d : Connection) (m n : Mapping) → Contains all c → Contains all d → HoldsMapping c m
+    → HoldsMapping d n
     → m.kind ≡ n.kind → m.external ≡ n.external → m.internal ≡ n.internal
 
--- endpoint-independent mapping: one internal endpoint has one port at an external address, whatever the destination
--- (RFC 4787, REQ-1; RFC 5382, REQ-1)
+-- endpoint-independent mapping: one internal endpoint has one port at an external address, whatever the
+-- destination (RFC 4787, REQ-1; RFC 5382, REQ-1)
 abbrev pub OnePort : List Connection → Type 0
 OnePort all =
-    (c d : Connection) (m n : Mapping) → Contains all c → Contains all d → c.source ≡ Some m → d.source ≡ Some n
+    (c d : Connection) (m n : Mapping) → Contains all c → Contains all d → c.source ≡ Some m
+    → d.source ≡ Some n
     → m.kind ≡ n.kind → m.internal ≡ n.internal → m.external.address ≡ n.external.address
     → m.external.port ≡ n.external.port
 
@@ -83,7 +88,8 @@ does_end h t flags = same_tuple h.original t && (is_lone_syn flags && is_closing
 abbrev pub given_to : ConntrackEntry → Tuple → Flags → Belonging
 given_to h t flags =
     if does_end h t flags then Ends h.id
-    else (if same_tuple h.original t then Found (connection_ref h Original) else Found (connection_ref h Reply))
+    else (if same_tuple h.original t then Found (connection_ref h Original)
+    else Found (connection_ref h Reply))
 
 -- a packet belongs to the connection that has its tuple, and to no other
 abbrev pub GivenToOne : List ConntrackEntry → Type 0
@@ -114,10 +120,12 @@ pub record GoesWith (h : ConntrackEntry) (t : Tuple) (e : Entry) : Type 0 where
   pub original : same_tuple h.original t ≡ true → tuple_of e.packet ≡ Some (inverse h.reply)
   pub reply : same_tuple h.reply t ≡ true → tuple_of e.packet ≡ Some (inverse h.original)
 
--- a packet with a tuple of a live connection that it doesn't remove does so, if it was looked up and is forwarded
+-- a packet with a tuple of a live connection that it doesn't remove does so, if it was looked up and is
+-- forwarded
 abbrev pub LeavesTranslated : Setup → List Entry → Recorded → Entry → Type 0
 LeavesTranslated setup history r e =
-    (t : Tuple) → e.lookup_tuple ≡ Some t → (h : ConntrackEntry) → Contains (live_at_record setup history r) h → IsTrue (is_incoming t h)
+    (t : Tuple) → e.lookup_tuple ≡ Some t → (h : ConntrackEntry)
+    → Contains (live_at_record setup history r) h → IsTrue (is_incoming t h)
     → does_end h t e.tracked.flags ≡ false
     → (interface : ℕ) → e.outcome ≡ Passed interface → GoesWith h t e
 
@@ -136,10 +144,15 @@ mappings_before setup history r t flags =
     let live = live_at_record setup history r in
     mappings_in (after_end (belongs_in live t flags) live)
 
--- the tuple of a hairpinned packet: from this port of the mapping's external address to its internal endpoint
+-- the tuple of a hairpinned packet: from this port of the mapping's external address to its internal
+-- endpoint
 abbrev pub hairpinned : Tuple → Mapping → ℕ → Tuple
 hairpinned t m port =
-    record { kind = t.kind; source = record { address = m.external.address; port = port }; destination = m.internal }
+    record {
+      kind = t.kind;
+      source = record { address = m.external.address; port = port };
+      destination = m.internal;
+    }
 
 -- a packet with tuple t was hairpinned by mapping m: its tuple, and the mappings of its connection
 pub record IsHairpinned (t : Tuple) (m : Mapping) (mappings : List Mapping) (e : Entry) : Type 0 where
@@ -158,13 +171,16 @@ pub record IsHairpinned (t : Tuple) (m : Mapping) (mappings : List Mapping) (e :
   })
   pub left : tuple_of e.packet ≡ Some (hairpinned t m port)
 
--- hairpinning (RFC 4787, REQ-9; RFC 5382, REQ-8): a packet to the external endpoint of a live mapping of its kind, from
--- another interface than the owner of that address, that begins a connection without a NAT statement and is forwarded
+-- hairpinning (RFC 4787, REQ-9; RFC 5382, REQ-8): a packet to the external endpoint of a live mapping of
+-- its kind, from another interface than the owner of that address, that begins a connection without a NAT
+-- statement and is forwarded
 abbrev pub Hairpins : Setup → List Entry → Recorded → Entry → Type 0
 Hairpins setup history r e =
-    (a : ReceivedPacket) → Carries setup r (Ok a) → (t : Tuple) → e.lookup_tuple ≡ Some t → has_ports t.kind ≡ true
+    (a : ReceivedPacket) → Carries setup r (Ok a) → (t : Tuple) → e.lookup_tuple ≡ Some t
+    → has_ports t.kind ≡ true
     → (m : Mapping) → Contains (mappings_before setup history r t e.tracked.flags) m → m.kind ≡ t.kind
-    → m.external ≡ t.destination → is_same_interface a.interface (owner setup.plant m.external.address) ≡ false
+    → m.external ≡ t.destination → is_same_interface a.interface (owner setup.plant m.external.address)
+    ≡ false
     → IsTrue (is_creation e.tracked.change) → list_any did_translate e.events ≡ false
     → (interface : ℕ) → e.outcome ≡ Passed interface
     → IsHairpinned t m (mappings_before setup history r t e.tracked.flags) e

@@ -18,7 +18,8 @@ use rewrite::laws::rewritten_has_tuple;
 pub fn translation_laws()
     ensures begins { (setup : Setup) → IsHistory setup [] }
     ensures entries { (setup : Setup) → EntriesFollow setup }
-    ensures obeys { (setup : Setup) (history : List Entry) → IsHistory setup history → HistoryLaws setup history }
+    ensures obeys { (setup : Setup) (history : List Entry) → IsHistory setup history
+        → HistoryLaws setup history }
 {
     // What one more entry changes.
     one_more_entry();
