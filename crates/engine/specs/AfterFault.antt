@@ -1,9 +1,11 @@
 -- The reader and the writers after a fault, and the count of failed calls (own).
-use Rattle.std.specs.Prelude.{◌≡◌, ◌<◌, ◌≤◌, ◌++◌, ℕ, Bool, List, [], length, drop, All, Option, ◌⊎◌, Some, Ok}
+use Rattle.std.specs.Prelude.{◌≡◌, ◌<◌, ◌≤◌, ◌++◌, ℕ, Bool, List, [], length, drop, All, Option, ◌⊎◌, Some}
+use Rattle.std.specs.Prelude.{Ok}
 use Rattle.std.specs.Io.KnownBytes.{Appends, Keeps}
 use Rattle.pcap_io.specs.declared.format.Format.{Format}
 use Rattle.pcap_io.specs.declared.fault.CaptureFault.{CaptureFault}
-use Rattle.pcap_io.specs.Pcap.{Captured, IsRecord, Ending, Ends, format_of, frame, header_fault, stream_of, decoded_records}
+use Rattle.pcap_io.specs.Pcap.{Captured, IsRecord, Ending, Ends, format_of, frame, header_fault, stream_of}
+use Rattle.pcap_io.specs.Pcap.{decoded_records}
 use Rattle.pcap_io.specs.Pcap.{HEADER_BYTES, MOST_RECORDS}
 use Rattle.pcap_io.specs.CaptureStates.{READ_AHEAD}
 use Rattle.pcap_io.specs.Counting.{AppendsPrefix, one_more}
@@ -53,8 +55,8 @@ pub record NothingTaken (capture : List ℕ) (old new : Devices) : Type 0 where
 
 -- ---- within the records
 
--- the texts and the file header are accepted; these records were processed and have this history, these bytes were read
--- ahead, and the reader has the rest left
+-- the texts and the file header are accepted; these records were processed and have this history, these
+-- bytes were read ahead, and the reader has the rest left
 pub record RecordsTaken (rules box capture : List ℕ) (new : Devices) : Type 0 where
   pub accepted : Accepted rules box
   pub format : Format
@@ -69,27 +71,30 @@ pub record RecordsTaken (rules box capture : List ℕ) (new : Devices) : Type 0 
   pub history : List Entry
   pub is_history : IsHistoryOf accepted.setup [] (decoded_records format records) history
 
--- each writer got a prefix of its text for the records so far, the report without counters and totals; no read failed
+-- each writer got a prefix of its text for the records so far, the report without counters and totals; no
+-- read failed
 pub record FailedWrite (rules box capture : List ℕ) (trace : Bool) (old new : Devices) : Type 0 where
   pub taken_so_far : RecordsTaken rules box capture new
   pub few : length taken_so_far.ahead ≤ READ_AHEAD
   pub sent : AppendsPrefix old.sent new.sent (capture_text taken_so_far.history)
-  pub report : AppendsPrefix old.report new.report (entry_lines taken_so_far.accepted.setup.rules trace taken_so_far.history)
+  pub report : AppendsPrefix old.report new.report (entry_lines taken_so_far.accepted.setup.rules trace
+      taken_so_far.history)
   pub all_read : new.reads_failed ≡ old.reads_failed
 
--- a read failed among the records: the records before it are processed, and both outputs of them are written, but for
--- counters and totals
+-- a read failed among the records: the records before it are processed, and both outputs of them are
+-- written, but for counters and totals
 pub record FailedRead (rules box capture : List ℕ) (trace : Bool) (old new : Devices) : Type 0 where
   pub taken_so_far : RecordsTaken rules box capture new
   pub few : length taken_so_far.ahead ≤ READ_AHEAD
   pub torn : Bool
   pub ends : Ends taken_so_far.format (ending_of torn) (length taken_so_far.records) taken_so_far.ahead
   pub sent : Appends old.sent new.sent (capture_text taken_so_far.history)
-  pub report : Appends old.report new.report (entry_lines taken_so_far.accepted.setup.rules trace taken_so_far.history)
+  pub report : Appends old.report new.report (entry_lines taken_so_far.accepted.setup.rules trace
+      taken_so_far.history)
   pub failed : new.reads_failed ≡ one_more old.reads_failed
 
--- an allocation failed at a record: both outputs of the records before it are written, but for counters and totals; no
--- read failed
+-- an allocation failed at a record: both outputs of the records before it are written, but for counters and
+-- totals; no read failed
 pub record OutOfMemory (rules box capture : List ℕ) (trace : Bool) (old new : Devices) : Type 0 where
   pub taken_so_far : RecordsTaken rules box capture new
   pub untaken : Captured
@@ -98,30 +103,36 @@ pub record OutOfMemory (rules box capture : List ℕ) (trace : Bool) (old new : 
   pub read : taken_so_far.ahead ≡ frame untaken ++ more
   pub few : length more ≤ READ_AHEAD
   pub sent : Appends old.sent new.sent (capture_text taken_so_far.history)
-  pub report : Appends old.report new.report (entry_lines taken_so_far.accepted.setup.rules trace taken_so_far.history)
+  pub report : Appends old.report new.report (entry_lines taken_so_far.accepted.setup.rules trace
+      taken_so_far.history)
   pub all_read : new.reads_failed ≡ old.reads_failed
 
 -- a record was refused: both outputs of the records before it are written, but for counters and totals
-pub record RecordRefused (rules box capture : List ℕ) (trace : Bool) (fault : CaptureFault) (old new : Devices)
+pub record RecordRefused (rules box capture : List ℕ) (trace : Bool) (fault : CaptureFault)
+    (old new : Devices)
     : Type 0 where
   pub taken_so_far : RecordsTaken rules box capture new
   pub few : length taken_so_far.ahead ≤ READ_AHEAD
   pub ending : Ending
-  pub ends : Ends taken_so_far.format ending (length taken_so_far.records) (taken_so_far.ahead ++ taken_so_far.left)
+  pub ends : Ends taken_so_far.format ending (length taken_so_far.records)
+      (taken_so_far.ahead ++ taken_so_far.left)
   pub refused : fault_at ending ≡ Some fault
   pub sent : Appends old.sent new.sent (capture_text taken_so_far.history)
-  pub report : Appends old.report new.report (entry_lines taken_so_far.accepted.setup.rules trace taken_so_far.history)
+  pub report : Appends old.report new.report (entry_lines taken_so_far.accepted.setup.rules trace
+      taken_so_far.history)
   pub all_read : new.reads_failed ≡ old.reads_failed
 
--- all records were processed, and the report's writer failed then: the output capture is whole, and the report has a
--- prefix
+-- all records were processed, and the report's writer failed then: the output capture is whole, and the
+-- report has a prefix
 pub record FailedReport (rules box capture : List ℕ) (trace : Bool) (old new : Devices) : Type 0 where
   pub taken_so_far : RecordsTaken rules box capture new
   pub few : length taken_so_far.ahead ≤ READ_AHEAD
   pub torn : Bool
-  pub ends : Ends taken_so_far.format (ending_of torn) (length taken_so_far.records) (taken_so_far.ahead ++ taken_so_far.left)
+  pub ends : Ends taken_so_far.format (ending_of torn) (length taken_so_far.records)
+      (taken_so_far.ahead ++ taken_so_far.left)
   pub sent : Appends old.sent new.sent (capture_text taken_so_far.history)
-  pub report : AppendsPrefix old.report new.report (report_text taken_so_far.accepted.setup trace taken_so_far.history torn)
+  pub report : AppendsPrefix old.report new.report (report_text taken_so_far.accepted.setup trace
+      taken_so_far.history torn)
   pub failed : new.reports_failed ≡ one_more old.reports_failed
 
 -- ---- by the fault
@@ -138,9 +149,11 @@ abbrev pub LeftDevices : List ℕ → List ℕ → List ℕ → Bool → Devices
 LeftDevices rules box capture trace old new (Rules fault) = Untouched old new
 LeftDevices rules box capture trace old new (Box fault) = Untouched old new
 LeftDevices rules box capture trace old new (Capture fault) =
-    ((header_fault capture ≡ Some fault) × NothingTaken capture old new) ⊎ RecordRefused rules box capture trace fault old new
+    ((header_fault capture ≡ Some fault) × NothingTaken capture old new)
+    ⊎ RecordRefused rules box capture trace fault old new
 LeftDevices rules box capture trace old new Device = LeftByDeviceFault rules box capture trace old new
-LeftDevices rules box capture trace old new Memory = NothingTaken capture old new ⊎ OutOfMemory rules box capture trace old new
+LeftDevices rules box capture trace old new Memory = NothingTaken capture old new
+    ⊎ OutOfMemory rules box capture trace old new
 
 -- ---- failed calls
 

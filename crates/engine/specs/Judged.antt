@@ -7,8 +7,8 @@ use Rattle.engine.specs.declared.fault.RunFault.{RunFault}
 use Rattle.engine.specs.declared.fault.RunFault.TheVariants.{Rules, Box, Memory}
 use Rattle.engine.specs.Refusals.{IsFaulty, RefusesBox, Spelled}
 
--- the texts spell a ruleset and a box, the ruleset is well-formed on the box, and has so many tables, chains and rules,
--- saturating at 64 bits
+-- the texts spell a ruleset and a box, the ruleset is well-formed on the box, and has so many tables,
+-- chains and rules, saturating at 64 bits
 pub record Judged (rules box : List ℕ) (counts : Counts) : Type 0 where
   pub texts : Spelled rules box
   pub well_formed : WellFormed texts.tables texts.plant

@@ -21,9 +21,10 @@ abbrev pub ending_of : Bool → Ending
 ending_of true = Torn
 ending_of false = Whole
 
--- accepted inputs, with a capture of so many records and a torn end or none, mean this output capture and this report:
--- those of the history of the records
-pub record Meaning (rules box capture : List ℕ) (trace : Bool) (count : ℕ) (torn : Bool) (sent report : List ℕ)
+-- accepted inputs, with a capture of so many records and a torn end or none, mean this output capture and
+-- this report: those of the history of the records
+pub record Meaning (rules box capture : List ℕ) (trace : Bool) (count : ℕ) (torn : Bool) (sent report : List
+    ℕ)
     : Type 0 where
   pub accepted : Accepted rules box
   pub records : List Captured

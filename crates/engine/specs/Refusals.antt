@@ -21,7 +21,8 @@ pub record Spelled (rules box : List ℕ) : Type 0 where
   pub plant : PlantTree
   pub read : IsBox box plant
 
--- the ruleset is refused for the fault of its text; or, where both texts are accepted, for its least fault on the box
+-- the ruleset is refused for the fault of its text; or, where both texts are accepted, for its least fault
+-- on the box
 abbrev pub IsFaulty : List ℕ → List ℕ → RulesFault → Type 0
 IsFaulty rules box (Text fault) = HasTextFault rules fault
 IsFaulty rules box (Check fault) = (texts : Spelled rules box) × LeastFault fault texts.tables texts.plant
@@ -39,7 +40,8 @@ fault_at _ = None
 -- a capture is refused within its records
 abbrev pub IsRefusedWithin : List ℕ → CaptureFault → Type 0
 IsRefusedWithin capture fault =
-    (records : List Captured) × (ending : Ending) × Pcap capture records ending × (fault_at ending ≡ Some fault)
+    (records : List Captured) × (ending : Ending) × Pcap capture records ending
+    × (fault_at ending ≡ Some fault)
 
 -- a capture is refused at its header, or within its records
 abbrev pub IsRefused : List ℕ → CaptureFault → Type 0
@@ -49,7 +51,8 @@ IsRefused capture fault = (header_fault capture ≡ Some fault) ⊎ IsRefusedWit
 abbrev pub Refuses : List ℕ → List ℕ → Option (List ℕ) → RunFault → Type 0
 Refuses rules box capture (Rules fault) = IsFaulty rules box fault
 Refuses rules box capture (Box fault) = RefusesBox rules box fault
-Refuses rules box capture (Capture fault) = Accepted rules box × IfSome capture (λ bytes. IsRefused bytes fault)
+Refuses rules box capture (Capture fault) = Accepted rules box × IfSome capture (λ bytes.
+    IsRefused bytes fault)
 Refuses rules box capture _ = Unit {0}
 
 -- a fault of the inputs, not of a device or of memory

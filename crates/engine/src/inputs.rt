@@ -34,7 +34,8 @@ pub(crate) fn checked(alloc: Global, rules: &[u8], plant: &[u8]) -> Result<Check
 /// Parses the ruleset.
 fn ruleset(alloc: Global, rules: &[u8]) -> Result<Ruleset, RunFault>
     ensures found { IfOk result (λ tree. Spells (tables_of tree) rules.now) }
-    ensures refused { IfErr result (λ fault. (fault ≡ RunFault.Memory) ⊎ ((of_text : TextFault) × (fault ≡ RunFault.Rules (RulesFault.Text of_text)) × HasTextFault rules.now of_text)) }
+    ensures refused { IfErr result (λ fault. (fault ≡ RunFault.Memory) ⊎ ((of_text : TextFault)
+        × (fault ≡ RunFault.Rules (RulesFault.Text of_text)) × HasTextFault rules.now of_text)) }
 {
     match nft_parser::parse(alloc, rules) {
         Ok(tree) => Ok(tree),
@@ -46,7 +47,8 @@ fn ruleset(alloc: Global, rules: &[u8]) -> Result<Ruleset, RunFault>
 /// Reads the box file.
 fn forwarding_box(alloc: Global, plant: &[u8]) -> Result<Plant, RunFault>
     ensures found { IfOk result (λ answer. IsBox plant.now answer) }
-    ensures refused { IfErr result (λ fault. (fault ≡ RunFault.Memory) ⊎ ((of_box : BoxFault) × (fault ≡ RunFault.Box of_box) × HasBoxFault plant.now of_box)) }
+    ensures refused { IfErr result (λ fault. (fault ≡ RunFault.Memory) ⊎ ((of_box : BoxFault)
+        × (fault ≡ RunFault.Box of_box) × HasBoxFault plant.now of_box)) }
 {
     match Plant::read(alloc, plant) {
         Ok(plant) => Ok(plant),

@@ -34,19 +34,19 @@ pub struct Summary {
 /// Runs the packets of a capture through a ruleset, as a forwarding box with these interfaces and
 /// routes would; writes the forwarded packets to `sent` as a capture, and a report to `report`.
 ///
-/// `rules` is the text of an nft(8) ruleset, `plant` that of a box file. With `trace` the report has
-/// each verdict and each outcome. The keys of `hasher` seed the tables of connections and mappings,
-/// against captures made to collide; nothing that is written depends on them.
+/// `rules` is the text of an nft(8) ruleset, `plant` that of a box file. With `trace` the report
+/// has each verdict and each outcome. The keys of `hasher` seed the tables of connections and
+/// mappings, against captures made to collide; nothing that is written depends on them.
 ///
 /// Nothing is read of the capture before the texts are accepted, and nothing is written before its
 /// header is accepted. A capture that ends inside a record is no error: its whole records are
-/// processed, and the summary says so. Before each read, all output of the records so far is written
-/// and flushed; at most one buffer is read ahead.
+/// processed, and the summary says so. Before each read, all output of the records so far is
+/// written and flushed; at most one buffer is read ahead.
 ///
 /// # Errors
-/// The first refusal, of the rules' text, the box file, the ruleset on the box, the capture's header
-/// and its records. `Memory` after a failed allocation. `Device` after a read or a write failed,
-/// which isn't tried again.
+/// The first refusal, of the rules' text, the box file, the ruleset on the box, the capture's
+/// header and its records. `Memory` after a failed allocation. `Device` after a read or a write
+/// failed, which isn't tried again.
 ///
 /// After a refused record and after `Memory` at a record, all output of the records before it is
 /// written and flushed; after `Memory` before the first record nothing is written. After `Device`
@@ -64,28 +64,53 @@ pub fn run<R: Read, W: Write, W2: Write>(
 ) -> Result<Summary, RunFault>
     // The written bytes are the meaning of the inputs, which is unique.
     ensures meaning { IfOk result (λ summary. IfSome (R.remaining capture.old.inner) (λ input.
-        WroteOutputs rules.now plant.now input trace summary.records summary.torn (W.contents sent.old.inner) (W.contents sent.new.inner) (W2.contents report.old.inner) (W2.contents report.new.inner))) }
+        WroteOutputs rules.now plant.now input trace summary.records summary.torn
+        (W.contents sent.old.inner) (W.contents sent.new.inner) (W2.contents report.old.inner)
+        (W2.contents report.new.inner))) }
     // The reader has ended.
     ensures drained { OnOk result (IsAtEnd (R.remaining capture.new.inner)) }
     // All is flushed, also at a refused record and after a failed allocation.
     ensures flushed { OnOk result ((sent.new.is_flushed ≡ true) × (report.new.is_flushed ≡ true)) }
-    ensures refused { IfErr result (λ fault. IsOfRecord fault → (sent.new.is_flushed ≡ true) × (report.new.is_flushed ≡ true)) }
-    ensures memory { IsErrOf result RunFault.Memory → ((sent.new ≡ sent.old) × (report.new ≡ report.old)) ⊎ ((sent.new.is_flushed ≡ true) × (report.new.is_flushed ≡ true)) }
+    ensures refused { IfErr result (λ fault. IsOfRecord fault → (sent.new.is_flushed ≡ true)
+        × (report.new.is_flushed ≡ true)) }
+    ensures memory { IsErrOf result RunFault.Memory
+        → ((sent.new ≡ sent.old) × (report.new ≡ report.old)) ⊎ ((sent.new.is_flushed ≡ true)
+        × (report.new.is_flushed ≡ true)) }
     // A refusal is the one that the inputs have.
-    ensures refusals { IfErr result (λ fault. Refuses rules.now plant.now (R.remaining capture.old.inner) fault) }
+    ensures refusals { IfErr result (λ fault.
+        Refuses rules.now plant.now (R.remaining capture.old.inner) fault) }
     // Where a text is refused, nothing is read of the capture.
     ensures unread { IfErr result (λ fault. IsOfTexts fault → capture.new ≡ capture.old) }
     // Before the capture's header is accepted nothing is written.
-    ensures before_header { IfErr result (λ fault. IsBeforeHeader fault → (sent.new ≡ sent.old) × (report.new ≡ report.old)) }
-    // After an error each writer holds a prefix of its text for the records read, and the whole of it
-    // unless a write failed; the reader is at most one buffer ahead.
+    ensures before_header { IfErr result (λ fault. IsBeforeHeader fault → (sent.new ≡ sent.old)
+        × (report.new ≡ report.old)) }
+    // After an error each writer holds a prefix of its text for the records read, and the whole of
+    // it unless a write failed; the reader is at most one buffer ahead.
     ensures left { IfErr result (λ fault. IfSome (R.remaining capture.old.inner) (λ input.
         LeftDevices rules.now plant.now input trace
-        (record { unread = R.remaining capture.old.inner; sent = W.contents sent.old.inner; report = W2.contents report.old.inner; reads_failed = capture.old.failures; sends_failed = sent.old.failures; reports_failed = report.old.failures })
-        (record { unread = R.remaining capture.new.inner; sent = W.contents sent.new.inner; report = W2.contents report.new.inner; reads_failed = capture.new.failures; sends_failed = sent.new.failures; reports_failed = report.new.failures }) fault)) }
+        (record {
+          unread = R.remaining capture.old.inner;
+          sent = W.contents sent.old.inner;
+          report = W2.contents report.old.inner;
+          reads_failed = capture.old.failures;
+          sends_failed = sent.old.failures;
+          reports_failed = report.old.failures;
+        })
+        (record {
+          unread = R.remaining capture.new.inner;
+          sent = W.contents sent.new.inner;
+          report = W2.contents report.new.inner;
+          reads_failed = capture.new.failures;
+          sends_failed = sent.new.failures;
+          reports_failed = report.new.failures;
+        }) fault)) }
     // `Device` is exactly one failed call; otherwise none failed.
-    ensures device { IsErrOf result RunFault.Device → OneFailed capture.old.failures capture.new.failures sent.old.failures sent.new.failures report.old.failures report.new.failures }
-    ensures no_failure { result ≢ Err RunFault.Device → (capture.new.failures ≡ capture.old.failures) × (sent.new.failures ≡ sent.old.failures) × (report.new.failures ≡ report.old.failures) }
+    ensures device { IsErrOf result RunFault.Device
+        → OneFailed capture.old.failures capture.new.failures sent.old.failures sent.new.failures
+        report.old.failures report.new.failures }
+    ensures no_failure { result ≢ Err RunFault.Device
+        → (capture.new.failures ≡ capture.old.failures) × (sent.new.failures ≡ sent.old.failures)
+        × (report.new.failures ≡ report.old.failures) }
 {
     let checked = checked(alloc, rules, plant)?;
     let records = match Capture::open(alloc, capture) {
@@ -117,20 +142,49 @@ fn write_texts<R: Read, W: Write, W2: Write>(
     requires represents { Represents engine [] }
     requires few { length records.held ≤ READ_AHEAD }
     requires drained { records.ended ≡ true → IsAtEnd (R.remaining capture.old.inner) }
-    ensures ok { IfOk result (λ summary. IfSome (unread_input records (R.remaining capture.old.inner)) (λ bytes.
-        OutputsWritten (record { setup = engine.setup; trace = trace; sent = W.contents sent.old.inner; report = W2.contents report.old.inner })
-        records.format bytes summary.records summary.torn (R.remaining capture.new.inner) (W.contents sent.new.inner) (W2.contents report.new.inner))) }
+    ensures ok { IfOk result (λ summary.
+        IfSome (unread_input records (R.remaining capture.old.inner)) (λ bytes.
+        OutputsWritten (record {
+          setup = engine.setup;
+          trace = trace;
+          sent = W.contents sent.old.inner;
+          report = W2.contents report.old.inner;
+        }) records.format bytes summary.records summary.torn
+        (R.remaining capture.new.inner) (W.contents sent.new.inner)
+        (W2.contents report.new.inner))) }
     ensures drained { OnOk result (IsAtEnd (R.remaining capture.new.inner)) }
     ensures flushed { OnOk result ((sent.new.is_flushed ≡ true) × (report.new.is_flushed ≡ true)) }
-    ensures refused { IfErr result (λ fault. IsOfRecord fault → (sent.new.is_flushed ≡ true) × (report.new.is_flushed ≡ true)) }
-    ensures memory { IsErrOf result RunFault.Memory → ((sent.new ≡ sent.old) × (report.new ≡ report.old)) ⊎ ((sent.new.is_flushed ≡ true) × (report.new.is_flushed ≡ true)) }
+    ensures refused { IfErr result (λ fault. IsOfRecord fault → (sent.new.is_flushed ≡ true)
+        × (report.new.is_flushed ≡ true)) }
+    ensures memory { IsErrOf result RunFault.Memory
+        → ((sent.new ≡ sent.old) × (report.new ≡ report.old)) ⊎ ((sent.new.is_flushed ≡ true)
+        × (report.new.is_flushed ≡ true)) }
     ensures within { IfErr result IsWithin }
-    ensures left { IfErr result (λ fault. IfSome (unread_input records (R.remaining capture.old.inner)) (λ bytes.
+    ensures left { IfErr result (λ fault.
+        IfSome (unread_input records (R.remaining capture.old.inner)) (λ bytes.
         FaultLeaves engine.setup trace records.format bytes
-        (record { unread = R.remaining capture.old.inner; sent = W.contents sent.old.inner; report = W2.contents report.old.inner; reads_failed = capture.old.failures; sends_failed = sent.old.failures; reports_failed = report.old.failures })
-        (record { unread = R.remaining capture.new.inner; sent = W.contents sent.new.inner; report = W2.contents report.new.inner; reads_failed = capture.new.failures; sends_failed = sent.new.failures; reports_failed = report.new.failures }) fault)) }
-    ensures device { IsErrOf result RunFault.Device → OneFailed capture.old.failures capture.new.failures sent.old.failures sent.new.failures report.old.failures report.new.failures }
-    ensures no_failure { result ≢ Err RunFault.Device → (capture.new.failures ≡ capture.old.failures) × (sent.new.failures ≡ sent.old.failures) × (report.new.failures ≡ report.old.failures) }
+        (record {
+          unread = R.remaining capture.old.inner;
+          sent = W.contents sent.old.inner;
+          report = W2.contents report.old.inner;
+          reads_failed = capture.old.failures;
+          sends_failed = sent.old.failures;
+          reports_failed = report.old.failures;
+        })
+        (record {
+          unread = R.remaining capture.new.inner;
+          sent = W.contents sent.new.inner;
+          report = W2.contents report.new.inner;
+          reads_failed = capture.new.failures;
+          sends_failed = sent.new.failures;
+          reports_failed = report.new.failures;
+        }) fault)) }
+    ensures device { IsErrOf result RunFault.Device
+        → OneFailed capture.old.failures capture.new.failures sent.old.failures sent.new.failures
+        report.old.failures report.new.failures }
+    ensures no_failure { result ≢ Err RunFault.Device
+        → (capture.new.failures ≡ capture.old.failures) × (sent.new.failures ≡ sent.old.failures)
+        × (report.new.failures ≡ report.old.failures) }
 {
     let mut replay = Replay::new(alloc, engine, records, trace, sent)?;
     replay.write(capture, sent, report)

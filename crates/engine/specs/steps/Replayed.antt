@@ -5,7 +5,8 @@ use Rattle.std.specs.Io.KnownBytes.{Appends, prepend_known}
 use Rattle.pcap_io.specs.declared.format.Format.{Format}
 use Rattle.pcap_io.specs.declared.fault.CaptureFault.{CaptureFault}
 use Rattle.pcap_io.specs.declared.fault.CaptureFault.TheVariants as captures
-use Rattle.pcap_io.specs.Pcap.{Captured, Recorded, IsRecord, Ending, Whole, Torn, Malformed, Over, Ends, frame, stream_of, decoded_records, MOST_RECORDS}
+use Rattle.pcap_io.specs.Pcap.{Captured, Recorded, IsRecord, Ending, Whole, Torn, Malformed, Over, Ends}
+use Rattle.pcap_io.specs.Pcap.{frame, stream_of, decoded_records, MOST_RECORDS}
 use Rattle.pcap_io.specs.CaptureStates.{CaptureState, READ_AHEAD}
 use Rattle.pcap_io.specs.Sll2.{sll2_record}
 use Rattle.pcap_io.specs.Counting.{AppendsPrefix, one_more}
@@ -42,7 +43,8 @@ ending_at _ = Whole
 
 -- ---- the writers
 
--- the start of a replay: the configuration, whether it traces, and what the two writers hold, where it is known
+-- the start of a replay: the configuration, whether it traces, and what the two writers hold, where it is
+-- known
 pub record ReplayStart : Type 0 where
   pub setup : Setup
   pub trace : Bool
@@ -61,9 +63,10 @@ pub record PrefixWritten (start : ReplayStart) (history : List Entry) (w r : Opt
 
 -- ---- one record after another
 
--- a replay represents a history: its engine and its report do, and both outputs are written but for the sink's buffer and
--- the report's notes
-pub record ReplayRepresents (replay : Replay) (start : ReplayStart) (history : List Entry) (w r : Option (List ℕ)) : Type 0 where
+-- a replay represents a history: its engine and its report do, and both outputs are written but for the
+-- sink's buffer and the report's notes
+pub record ReplayRepresents (replay : Replay) (start : ReplayStart) (history : List Entry)
+    (w r : Option (List ℕ)) : Type 0 where
   pub same : replay.engine.setup ≡ start.setup
   pub represents : Represents replay.engine history
   pub gets : AppendsBuffered [] start.sent w replay.sink.buffered (capture_text history)
@@ -72,13 +75,15 @@ pub record ReplayRepresents (replay : Replay) (start : ReplayStart) (history : L
   pub appends_report : Appends start.report r lines
 
 -- one more record was processed
-pub record TakesRecord (replay : Replay) (start : ReplayStart) (history : List Entry) (taken : Recorded) (w r : Option (List ℕ)) : Type 0 where
+pub record TakesRecord (replay : Replay) (start : ReplayStart) (history : List Entry) (taken : Recorded)
+    (w r : Option (List ℕ)) : Type 0 where
   pub entry : Entry
   pub next : Next start.setup history taken entry
   pub replay_represents : ReplayRepresents replay start (entry ∷ history) w r
 
 -- the replay stopped at the record: a prefix of the outputs with its entry is written
-pub record BreaksAtRecord (start : ReplayStart) (history : List Entry) (taken : Recorded) (w r : Option (List ℕ)) : Type 0 where
+pub record BreaksAtRecord (start : ReplayStart) (history : List Entry) (taken : Recorded)
+    (w r : Option (List ℕ)) : Type 0 where
   pub entry : Entry
   pub next : Next start.setup history taken entry
   pub part : PrefixWritten start (entry ∷ history) w r
@@ -90,23 +95,27 @@ abbrev pub unread_input : CaptureState → Option (List ℕ) → Option (List �
 unread_input s unread = prepend_known s.held unread
 
 -- these bytes begin with the records of this history, and then these follow
-pub record BeginsWithRecords (setup : Setup) (format : Format) (bytes after : List ℕ) (history : List Entry) : Type 0 where
+pub record BeginsWithRecords (setup : Setup) (format : Format) (bytes after : List ℕ)
+    (history : List Entry) : Type 0 where
   pub records : List Captured
   pub joined : bytes ≡ stream_of records after
   pub each : All (IsRecord format) records
   pub not_over : length records ≤ MOST_RECORDS
   pub is_history : IsHistoryOf setup [] (decoded_records format records) history
 
--- these bytes begin with the records of a history; then some were read ahead, and the reader has the rest left
-pub record ReadSoFar (setup : Setup) (format : Format) (bytes : List ℕ) (unread : Option (List ℕ)) : Type 0 where
-  pub ahead : List ℕ
-  pub left : List ℕ
-  pub is_left : unread ≡ Some left
-  pub history : List Entry
-  pub follows : BeginsWithRecords setup format bytes (ahead ++ left) history
+-- these bytes begin with the records of a history; then some were read ahead, and the reader has the rest
+-- left
+pub record ReadSoFar (setup : Setup) (format : Format) (bytes : List ℕ) (unread : Option (List ℕ)) : Type 0
+  where
+    pub ahead : List ℕ
+    pub left : List ℕ
+    pub is_left : unread ≡ Some left
+    pub history : List Entry
+    pub follows : BeginsWithRecords setup format bytes (ahead ++ left) history
 
 -- these bytes are the records processed, and end so
-pub record Replayed (replay : Replay) (start : ReplayStart) (format : Format) (bytes : List ℕ) (ending : Ending)
+pub record Replayed (replay : Replay) (start : ReplayStart) (format : Format) (bytes : List ℕ)
+    (ending : Ending)
     (unread w r : Option (List ℕ)) : Type 0 where
   pub reached : ReadSoFar start.setup format bytes unread
   pub few : length reached.ahead ≤ READ_AHEAD
@@ -114,21 +123,26 @@ pub record Replayed (replay : Replay) (start : ReplayStart) (format : Format) (b
   pub replay_represents : ReplayRepresents replay start reached.history w r
 
 -- these bytes begin with the records read, and a prefix of their outputs is written
-pub record HaltedByWrite (start : ReplayStart) (format : Format) (bytes : List ℕ) (unread w r : Option (List ℕ)) : Type 0 where
+pub record HaltedByWrite (start : ReplayStart) (format : Format) (bytes : List ℕ)
+    (unread w r : Option (List ℕ)) : Type 0 where
   pub reached : ReadSoFar start.setup format bytes unread
   pub few : length reached.ahead ≤ READ_AHEAD
   pub part : PrefixWritten start reached.history w r
 
--- these bytes begin with the records processed, and what was read after them is no whole record; the outputs are written
-pub record CutByRead (start : ReplayStart) (format : Format) (bytes : List ℕ) (unread w r : Option (List ℕ)) : Type 0 where
+-- these bytes begin with the records processed, and what was read after them is no whole record; the
+-- outputs are written
+pub record CutByRead (start : ReplayStart) (format : Format) (bytes : List ℕ)
+    (unread w r : Option (List ℕ)) : Type 0 where
   pub reached : ReadSoFar start.setup format bytes unread
   pub few : length reached.ahead ≤ READ_AHEAD
   pub torn : Bool
   pub ends : Ends format (ending_of torn) (length reached.follows.records) reached.ahead
   pub all : AllWritten start reached.history w r
 
--- these bytes begin with the records processed and one that was read only; the outputs of the former are written
-pub record CutByMemory (start : ReplayStart) (format : Format) (bytes : List ℕ) (unread w r : Option (List ℕ)) : Type 0 where
+-- these bytes begin with the records processed and one that was read only; the outputs of the former are
+-- written
+pub record CutByMemory (start : ReplayStart) (format : Format) (bytes : List ℕ)
+    (unread w r : Option (List ℕ)) : Type 0 where
   pub reached : ReadSoFar start.setup format bytes unread
   pub untaken : Captured
   pub is_record : IsRecord format untaken
@@ -138,10 +152,13 @@ pub record CutByMemory (start : ReplayStart) (format : Format) (bytes : List ℕ
   pub all : AllWritten start reached.history w r
 
 -- the bytes, the writers and the failed reads after a fault among the records
-abbrev pub Interrupts : ReplayStart → Format → List ℕ → Option (List ℕ) → Option (List ℕ) → Option (List ℕ) → ℕ → ℕ → RunFault → Type 0
+abbrev pub Interrupts : ReplayStart → Format → List ℕ → Option (List ℕ) → Option (List ℕ) → Option (List ℕ)
+    → ℕ → ℕ → RunFault → Type 0
 Interrupts start format bytes unread w r before after Device =
-    (CutByRead start format bytes unread w r × (after ≡ one_more before)) ⊎ (HaltedByWrite start format bytes unread w r × (after ≡ before))
-Interrupts start format bytes unread w r before after Memory = CutByMemory start format bytes unread w r × (after ≡ before)
+    (CutByRead start format bytes unread w r × (after ≡ one_more before))
+    ⊎ (HaltedByWrite start format bytes unread w r × (after ≡ before))
+Interrupts start format bytes unread w r before after Memory = CutByMemory start format bytes unread w r
+    × (after ≡ before)
 Interrupts start format bytes unread w r before after _ = ⊥
 
 -- ---- failed calls

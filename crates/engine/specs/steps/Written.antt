@@ -1,5 +1,6 @@
 -- The outputs of a capture whose header is accepted.
-use Rattle.std.specs.Prelude.{◌≡◌, ◌≤◌, ◌++◌, ℕ, Bool, true, false, List, length, Option, Some, None, Result, Ok, Err, ◌⊎◌}
+use Rattle.std.specs.Prelude.{◌≡◌, ◌≤◌, ◌++◌, ℕ, Bool, true, false, List, length, Option, Some, None}
+use Rattle.std.specs.Prelude.{Result, Ok, Err, ◌⊎◌}
 use Rattle.std.specs.Io.KnownBytes.{Appends}
 use Rattle.pcap_io.specs.declared.format.Format.{Format}
 use Rattle.pcap_io.specs.declared.fault.CaptureFault.{CaptureFault}
@@ -26,32 +27,40 @@ torn_at (Some fault) = Err (Capture fault)
 -- ---- after the last record
 
 -- both outputs of a history are written
-pub record OutputsFinished (start : ReplayStart) (history : List Entry) (torn : Bool) (w r : Option (List ℕ)) : Type 0 where
+pub record OutputsFinished (start : ReplayStart) (history : List Entry) (torn : Bool)
+    (w r : Option (List ℕ)) : Type 0 where
   pub all_sent : Appends start.sent w (capture_text history)
   pub all_lines : Appends start.report r (report_text start.setup start.trace history torn)
 
 -- the output capture is written, and a prefix of the report
-pub record ReportUnfinished (start : ReplayStart) (history : List Entry) (torn : Bool) (w r : Option (List ℕ)) : Type 0 where
+pub record ReportUnfinished (start : ReplayStart) (history : List Entry) (torn : Bool)
+    (w r : Option (List ℕ)) : Type 0 where
   pub all_sent : Appends start.sent w (capture_text history)
   pub part_lines : AppendsPrefix start.report r (report_text start.setup start.trace history torn)
 
 -- the writers, and the report's failed calls, after a fault behind the last record
-abbrev pub FinishFails : ReplayStart → List Entry → Option CaptureFault → Option (List ℕ) → Option (List ℕ) → ℕ → ℕ → RunFault → Type 0
-FinishFails start history stop w r before after (Capture fault) = (torn_at stop ≡ Err (Capture fault)) × AllWritten start history w r
-FinishFails start history stop w r before after Device = PrefixWritten start history w r ⊎ ((torn : Bool) × (torn_at stop ≡ Ok torn) × ReportUnfinished start history torn w r × (after ≡ one_more before))
+abbrev pub FinishFails : ReplayStart → List Entry → Option CaptureFault → Option (List ℕ) → Option (List ℕ)
+    → ℕ → ℕ → RunFault → Type 0
+FinishFails start history stop w r before after (Capture fault) = (torn_at stop ≡ Err (Capture fault))
+    × AllWritten start history w r
+FinishFails start history stop w r before after Device = PrefixWritten start history w r ⊎ ((torn : Bool)
+    × (torn_at stop ≡ Ok torn) × ReportUnfinished start history torn w r × (after ≡ one_more before))
 FinishFails start history stop w r before after _ = ⊥
 
 -- ---- the whole
 
 -- these bytes are so many records, with a torn end or none, and both outputs of them are written
-pub record OutputsWritten (start : ReplayStart) (format : Format) (bytes : List ℕ) (count : ℕ) (torn : Bool) (unread w r : Option (List ℕ)) : Type 0 where
+pub record OutputsWritten (start : ReplayStart) (format : Format) (bytes : List ℕ) (count : ℕ) (torn : Bool)
+    (unread w r : Option (List ℕ)) : Type 0 where
   pub reached : ReadSoFar start.setup format bytes unread
   pub ends : Ends format (ending_of torn) (length reached.follows.records) (reached.ahead ++ reached.left)
   pub counted : count ≡ length reached.follows.records
   pub finished : OutputsFinished start reached.history torn w r
 
--- these bytes are records and stop at a fault, and the records' outputs are written, but for counters and totals
-pub record RefusedAtRecord (start : ReplayStart) (format : Format) (bytes : List ℕ) (fault : CaptureFault) (unread w r : Option (List ℕ)) : Type 0 where
+-- these bytes are records and stop at a fault, and the records' outputs are written, but for counters and
+-- totals
+pub record RefusedAtRecord (start : ReplayStart) (format : Format) (bytes : List ℕ) (fault : CaptureFault)
+    (unread w r : Option (List ℕ)) : Type 0 where
   pub reached : ReadSoFar start.setup format bytes unread
   pub few : length reached.ahead ≤ READ_AHEAD
   pub ending : Ending
@@ -60,7 +69,8 @@ pub record RefusedAtRecord (start : ReplayStart) (format : Format) (bytes : List
   pub all : AllWritten start reached.history w r
 
 -- these bytes are records, the output capture of them is written, and a prefix of the report
-pub record RecordsUnreported (start : ReplayStart) (format : Format) (bytes : List ℕ) (unread w r : Option (List ℕ)) : Type 0 where
+pub record RecordsUnreported (start : ReplayStart) (format : Format) (bytes : List ℕ)
+    (unread w r : Option (List ℕ)) : Type 0 where
   pub reached : ReadSoFar start.setup format bytes unread
   pub few : length reached.ahead ≤ READ_AHEAD
   pub torn : Bool
@@ -77,12 +87,16 @@ Unchanged old new = (new.unread ≡ old.unread) × Untouched old new × (new.rea
 -- the bytes and the devices after a fault among the records or before the first
 abbrev pub FaultLeaves : Setup → Bool → Format → List ℕ → Devices → Devices → RunFault → Type 0
 FaultLeaves setup trace format bytes old new (Capture fault) =
-    RefusedAtRecord (start_of setup trace old) format bytes fault new.unread new.sent new.report × (new.reads_failed ≡ old.reads_failed)
+    RefusedAtRecord (start_of setup trace old) format bytes fault new.unread new.sent new.report
+    × (new.reads_failed ≡ old.reads_failed)
 FaultLeaves setup trace format bytes old new Device =
-    Interrupts (start_of setup trace old) format bytes new.unread new.sent new.report old.reads_failed new.reads_failed Device
-    ⊎ (RecordsUnreported (start_of setup trace old) format bytes new.unread new.sent new.report × (new.reports_failed ≡ one_more old.reports_failed))
+    Interrupts (start_of setup trace old) format bytes new.unread new.sent new.report old.reads_failed
+    new.reads_failed Device
+    ⊎ (RecordsUnreported (start_of setup trace old) format bytes new.unread new.sent new.report
+    × (new.reports_failed ≡ one_more old.reports_failed))
 FaultLeaves setup trace format bytes old new Memory =
-    Interrupts (start_of setup trace old) format bytes new.unread new.sent new.report old.reads_failed new.reads_failed Memory
+    Interrupts (start_of setup trace old) format bytes new.unread new.sent new.report old.reads_failed
+    new.reads_failed Memory
     ⊎ Unchanged old new
 FaultLeaves setup trace format bytes old new _ = ⊥
 
