@@ -117,7 +117,7 @@ abbrev pub Opened : Option (List ℕ) → Option (List ℕ) → Format → Type 
 Opened input to_come format = IfSome input (λ bytes. (HEADER_BYTES ≤ length bytes) × (format_of bytes ≡ Ok format)
     × (to_come ≡ Some (drop HEADER_BYTES bytes)))
 
--- what is to come is what the capture tells, where the reader is at its end with it
+-- the bytes to come are those of the capture, where the reader is known
 pub opened : (input : Option (List ℕ)) (s : CaptureState) (unread : Option (List ℕ)) (part : List ℕ)
     → Consumes input unread part → (s.ended ≡ true → IsAtEnd unread)
     → IfSome input (λ bytes. (HEADER_BYTES ≤ length bytes) × (format_of bytes ≡ Ok s.format)

@@ -28,7 +28,7 @@ pub record Laws : Type 0 where
   -- a text spells no ruleset where it has a fault
   pub faultless : (text : List ℕ) (tables : List TableTree) (fault : TextFault) → Spells tables text
       → HasTextFault text fault → ⊥
-  -- of which it has at most one
+  -- at most one
   pub one_fault : (text : List ℕ) (first second : TextFault) → HasTextFault text first → HasTextFault text second
       → first ≡ second
   -- nor has a ruleset on a box more than one least fault
@@ -200,7 +200,7 @@ judged_or_faulty laws rules box counts (Capture fault) is j h = is
 judged_or_faulty laws rules box counts Device is j h = is
 judged_or_faulty laws rules box counts Memory is j h = is
 
--- of which there is one at most
+-- at most one
 pub misjudged_once : Laws → (rules box : List ℕ) (fault other : RunFault) → IsOfTexts fault → IsOfTexts other
     → JudgeRefuses rules box fault → JudgeRefuses rules box other → fault ≡ other
 misjudged_once laws rules box (Rules f) (Rules g) is is' h k = ap Rules (one_faulty laws rules box f g h k)

@@ -220,7 +220,7 @@ untouched {W = W} contents old new r e = (
   Keeps-refl r,
 )
 
--- before the first record: a beginning of the header was written, or there was no room
+-- before the first record: a prefix of the header is written, or an allocation failed
 pub fault_leaves_begun : {T : Type 0} (setup : Setup) (trace : Bool) (s : CaptureState) (old new : Devices)
     (fault : RunFault) → IsErrOf {T = T} (Err fault) Device ⊎ IsErrOf {T = T} (Err fault) Memory
     → length s.held ≤ READ_AHEAD

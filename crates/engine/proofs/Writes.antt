@@ -12,7 +12,7 @@ appends_same a b xs ys w e = subst (Appends a b) e w
 
 -- ---- with buffered bytes
 
--- more, of which the writer has got a beginning so far
+-- more, of which the writer has a prefix so far
 pub gets_so_far : (u v : List ℕ) (a b : Option (List ℕ)) (xs : List ℕ) → AppendsBuffered u a b v xs
     → AppendsPrefix a b (u ++ xs)
 gets_so_far u v a b xs (p, e, g) = (p, v, e, g)

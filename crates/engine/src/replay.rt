@@ -201,7 +201,7 @@ impl Replay {
             → OnOk result (ReplayRepresents self.new start history (W.contents sent.new.inner)
             (W2.contents report.new.inner)) }
         // All output is written before a read.
-        ensures told { (start : ReplayStart) (history : List Entry)
+        ensures written { (start : ReplayStart) (history : List Entry)
             → ReplayRepresents self.old start history (W.contents sent.old.inner)
             (W2.contents report.old.inner) → is_ready self.old.records ≡ false
             → OnOk result (AllWritten start history (W.contents sent.new.inner)

@@ -38,7 +38,7 @@ filled old new before after going fills = rw going (elim fills.progress [
   | inr (at, none, end) ↦ rw at (read_all before after old.held new.held fills.more fills.held fills.consumed none end)
 ])
 
--- and there is less room, or the reader came to its end
+-- and less of the buffer is free, or the reader has ended
 pub less_room : (old new : BufferState) (before after : Option (List ℕ)) → old.ended ≡ false → length old.held < 262160
     → FillsBuffer old new before after
     → cond new.ended 0 (262161 - length new.held) < cond old.ended 0 (262161 - length old.held)

@@ -31,7 +31,7 @@ version_kept xs ys (Some encoding) long =
       number_in-append encoding.0 20 4 24 xs ys (omega arith) long,
     ) refl
 
--- the header alone tells the format
+-- the header alone determines the format
 pub format_kept : (xs ys : List ℕ) → 24 ≤ length xs → format_of (xs ++ ys) ≡ format_of xs
 format_kept xs ys long =
     rw (le-ltb (length (xs ++ ys)) 24 (omega (arith, length-append xs ys)), le-ltb (length xs) 24 long) (version_kept xs

@@ -69,7 +69,7 @@ torn_or_malformed format count rest (_, _, torn) (_, whole, malformed) = elim to
   ]
 ]
 
--- a stream stops in one way
+-- a stream has one ending
 one_ending : (format : Format) (e e' : Ending) (count : ℕ) (rest : List ℕ) → Ends format e count rest
     → Ends format e' count rest → e ≡ e'
 one_ending format Whole Whole count rest h k = refl

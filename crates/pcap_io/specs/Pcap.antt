@@ -98,7 +98,7 @@ header_fault bytes = result_err (format_of bytes)
 
 -- ---- the records (draft-ietf-opsawg-pcap, section 5)
 
--- a record as it stands in the file: 16 bytes of header, and the captured bytes
+-- a record as in the file: 16 bytes of header, and the captured bytes
 pub record Captured : Type 0 where
   pub head : List ℕ
   pub bytes : List ℕ

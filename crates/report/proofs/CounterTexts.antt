@@ -136,7 +136,7 @@ totals_written report rules trace history written live torn reports =
 
 -- ---- the rest of the whole
 
--- what is written last of what a report knows
+-- the end of a report
 abbrev rest_of : ReportState → List TableTree → ℕ → Bool → List ℕ
 rest_of report rules live torn = rest_text rules report.notes report.tallies report.records report.passed report.local
     report.dropped report.begun live torn

@@ -25,7 +25,7 @@ use std::marker::Model;
 /// The most notes of one record: one for each of 65,536 events, and one for the outcome.
 pub const MOST_NOTES: usize = 65_537;
 
-/// How many notes have room from the start: those of one record beside those that wait for `drain`.
+/// How many notes are reserved at first: those of one record, and some that wait for `drain`.
 pub const INITIAL_NOTES: usize = 70_000;
 
 /// The report so far: totals, counters, and the notes that aren't written yet. Its size doesn't

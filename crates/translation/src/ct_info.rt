@@ -37,7 +37,7 @@ pub struct TrackedConnection {
     pub replied: bool,
 }
 
-/// A packet's state in connection tracking. The look-up gives it, NAT updates it, and it has the
+/// A packet's state in connection tracking. The look-up sets it, NAT updates it, and it has the
 /// tuple with which the packet leaves.
 #[derive(Clone, Copy)]
 pub enum CtInfo {

@@ -38,7 +38,7 @@ abbrev interface_in : Result ReceivedPacket Cause → ℕ
 interface_in (Ok a) = a.interface
 interface_in (Err cause) = 0
 
--- what the laws stand on
+-- what the laws follow from
 pub record Known : Type 0 where
   pub more : OneEntryMore
   pub still : StillApart

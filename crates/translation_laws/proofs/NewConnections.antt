@@ -171,4 +171,4 @@ pub with_nat_status_so : (mappings : List Mapping) (t : Tuple) (d : NewConnectio
     → NewConnectionSo mappings t d
 with_nat_status_so mappings t d x =
     left_so mappings t (with_destination_nat x.plant mappings x.facts (new_connection_of t) x.verdict)
-    (turned_so x.plant mappings x.facts t x.verdict) x.outside d x.drafted
+    (turned_so x.plant mappings x.facts t x.verdict) x.external_source d x.drafted

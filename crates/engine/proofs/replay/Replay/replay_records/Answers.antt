@@ -57,7 +57,7 @@ each-preserved g c =
           (ap (λ (s : CaptureState). s.format) c.flush_before_read.ensures.same.1 ∙ c.each.invariant.format)
           (fetched c.each.self.records c.flush_before_read.new.self.records c.next.new.self _ _
           c.flush_before_read.ensures.same.1 c.each.invariant.drained c.next.ensures.read c.next.ensures.drained)
-          (rw c.in-Ok-true.field-0-test at (c.in-Ok-true.ensures.says (search rules)))
+          (rw c.in-Ok-true.field-0-test at (c.in-Ok-true.ensures.next_answers (search rules)))
           (λ history q. c.in_ok-is_taken.ensures.ok start history _ q went) c.take.ensures.same;
     }
 
@@ -77,7 +77,7 @@ returns-in-Ok-false-clause-ok g c = λ start p.
     (fetched c.each.self.records c.flush_before_read.new.self.records c.next.new.self _ _
     c.flush_before_read.ensures.same.1 c.each.invariant.drained c.next.ensures.read c.next.ensures.drained)
     c.next.ensures.room
-    (rw c.in-Ok-false.field-0-test at (c.in-Ok-false.ensures.says (search rules)))
+    (rw c.in-Ok-false.field-0-test at (c.in-Ok-false.ensures.next_answers (search rules)))
 
 pub returns-in-Ok-false-clause-drained : goal.returns-in-Ok-false-clause-drained
 returns-in-Ok-false-clause-drained g c = λ torn e.
@@ -103,7 +103,7 @@ returns-in-Err-Refused-clause-ok g c = λ start p.
     (fetched c.each.self.records c.flush_before_read.new.self.records c.next.new.self _ _
     c.flush_before_read.ensures.same.1 c.each.invariant.drained c.next.ensures.read c.next.ensures.drained)
     c.next.ensures.room
-    (rw c.in-Err-Refused.field-0-is at (c.in-Err-Refused.ensures.says (search rules)))
+    (rw c.in-Err-Refused.field-0-is at (c.in-Err-Refused.ensures.next_answers (search rules)))
 
 pub returns-in-Err-Device-clause-interrupted : goal.returns-in-Err-Device-clause-interrupted
 returns-in-Err-Device-clause-interrupted g c = λ start p.
@@ -117,9 +117,9 @@ returns-in-Err-Device-clause-interrupted g c = λ start p.
     (fetched c.each.self.records c.flush_before_read.new.self.records c.next.new.self _ _
     c.flush_before_read.ensures.same.1 c.each.invariant.drained c.next.ensures.read c.next.ensures.drained)
     c.next.ensures.room
-    (rw c.in-Err-Device.field-0-is at (c.in-Err-Device.ensures.says (search rules)))
+    (rw c.in-Err-Device.field-0-is at (c.in-Err-Device.ensures.next_answers (search rules)))
     c.next.ensures.format (search rules)
-    (λ history s. c.in_ok-flush_before_read.ensures.told start history s unready))
+    (λ history s. c.in_ok-flush_before_read.ensures.written start history s unready))
 
 pub returns-in_err-is_taken-clause-interrupted : goal.returns-in_err-is_taken-clause-interrupted
 returns-in_err-is_taken-clause-interrupted g c = λ start p.
@@ -133,7 +133,7 @@ returns-in_err-is_taken-clause-interrupted g c = λ start p.
     (fetched c.each.self.records c.flush_before_read.new.self.records c.next.new.self _ _
     c.flush_before_read.ensures.same.1 c.each.invariant.drained c.next.ensures.read c.next.ensures.drained)
     c.next.ensures.room
-    (rw c.in-Ok-true.field-0-test at (c.in-Ok-true.ensures.says (search rules)))
+    (rw c.in-Ok-true.field-0-test at (c.in-Ok-true.ensures.next_answers (search rules)))
     (λ history s. c.in_err-is_taken.ensures.broken start history _ s (λ e. cc)))))
 
 pub returns-in_err-close-clause-interrupted : goal.returns-in_err-close-clause-interrupted
@@ -149,7 +149,7 @@ returns-in_err-close-clause-interrupted g c = λ start p.
     (fetched c.each.self.records c.flush_before_read.new.self.records c.next.new.self _ _
     c.flush_before_read.ensures.same.1 c.each.invariant.drained c.next.ensures.read c.next.ensures.drained)
     c.next.ensures.room
-    (rw c.in-Ok-true.field-0-test at (c.in-Ok-true.ensures.says (search rules)))
+    (rw c.in-Ok-true.field-0-test at (c.in-Ok-true.ensures.next_answers (search rules)))
     (λ history s. broke_writing start history _ _ _ _ _ (c.in_ok-is_taken.ensures.broken start history _ s (λ e. cc))
     (c.in_err-close.ensures.part start history (c.in_ok-is_taken.ensures.kept start history _ s stays))))))
 
@@ -164,5 +164,5 @@ returns-then-not-is_taken-clause-interrupted g c = λ start p.
     (fetched c.each.self.records c.flush_before_read.new.self.records c.next.new.self _ _
     c.flush_before_read.ensures.same.1 c.each.invariant.drained c.next.ensures.read c.next.ensures.drained)
     c.next.ensures.room
-    (rw c.in-Ok-true.field-0-test at (c.in-Ok-true.ensures.says (search rules)))
+    (rw c.in-Ok-true.field-0-test at (c.in-Ok-true.ensures.next_answers (search rules)))
     (λ history s. c.in_ok-close.ensures.ok start history (c.in_ok-is_taken.ensures.kept start history _ s stays)))
