@@ -8,7 +8,7 @@ pub record SinkState : Type 0 where
 
 -- a writer's known bytes with the buffered ones behind them grow by these
 abbrev pub AppendsBuffered : List ℕ → Option (List ℕ) → Option (List ℕ) → List ℕ → List ℕ → Type 0
-AppendsBuffered waited old new waits bytes = (part : List ℕ) × (waited ++ bytes ≡ part ++ waits)
+AppendsBuffered before old new after bytes = (part : List ℕ) × (before ++ bytes ≡ part ++ after)
     × Appends old new part
 
 -- the size of a sink's buffer

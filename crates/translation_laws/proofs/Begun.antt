@@ -45,8 +45,8 @@ pub record IsNewConnection (mappings : List Mapping) (t : Tuple) (new_connection
   pub drafted : with_source_nat mappings (with_destination_nat plant mappings facts (new_connection_of t) verdict)
       external_source ≡ Some new_connection
 
--- a connection is begun beside these others, by a packet with this tuple; and whether ports were named when a port was
--- allocated for it
+-- a connection that begins beside these others with a packet of this tuple; and, where a port was allocated, whether a
+-- port range was given
 pub record IsBegun (others : List ConntrackEntry) (t reply : Tuple) (source dest : Option Mapping)
     (port_choice : Option Bool) : Type 0 where
   pub new : first_state t.kind ≡ states.New

@@ -1,5 +1,5 @@
--- A port that is chosen afresh where none is named has the class and the parity of the internal one, and the port of
--- each live mapping was chosen afresh once.
+-- A port allocated without a range has the class and the parity of the internal one, and the port of each live mapping
+-- was allocated by an entry.
 use Rattle.std.proofs.Common.{◌≡◌, ◌≢◌, ℕ, Bool, true, false, cond, not, IsTrue, List, [], ◌∷◌, Option, Some, None}
 use Rattle.std.proofs.Common.{is_some, ◌⊎◌, inl, inr, refl, sym, ap, subst, ◌∙◌}
 use Rattle.std.specs.List.{All, Contains}

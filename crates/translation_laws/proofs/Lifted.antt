@@ -37,8 +37,8 @@ pub record OneEntryMore : Type 0 where
   pub distinct : (limits : Limits) (history : List TrackedPacket) (now : ℕ)
       → IsTrue (has_distinct_ids (live_list limits history now))
 
--- what holds of no story and no connections, and is kept: by time, by a record without a packet that is looked up, and
--- by one with such a packet
+-- what holds of the empty history without connections, and is preserved by time, by a record without a look-up, and by
+-- one with a look-up
 pub record IsKept (Inv : List Entry → List ConntrackEntry → Type 0) : Type 0 where
   pub first : Inv [] []
   pub live : (limits : Limits) (history : List Entry) (held : List ConntrackEntry) (now : ℕ) → Inv history held

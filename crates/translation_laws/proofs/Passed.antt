@@ -1,5 +1,4 @@
--- Rules keep the interface that a packet entered by, and what happened before them; and where they translate, that is
--- told.
+-- Rules keep the input interface and the earlier events; a NAT statement that takes effect is among their events.
 use Rattle.std.proofs.Common.{◌≡◌, ℕ, Bool, true, false, IsTrue, List, [], ◌∷◌, ◌++◌, Option, Some, None, refl, sym}
 use Rattle.std.proofs.Common.{subst, ◌∙◌}
 use Rattle.std.specs.List.{list_any}

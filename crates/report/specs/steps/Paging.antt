@@ -19,8 +19,8 @@ pieces_text parts = flat_map piece_text parts
 
 -- a text is appended behind the buffered bytes; where a write fails, the writer got a prefix of both
 abbrev pub Puts : {T E : Type 0} → Result T E → Text → Option Text → Text → Option Text → Text → Type 0
-Puts r waited old pending new text = MatchResult r (λ _. AppendsBuffered waited old new pending text) (λ _.
-    AppendsPrefix old new (waited ++ text))
+Puts r before old after new text = MatchResult r (λ _. AppendsBuffered before old new after text) (λ _.
+    AppendsPrefix old new (before ++ text))
 
 -- a failure is counted as one failed call
 abbrev pub CountsFailure : {T E : Type 0} → Result T E → ℕ → ℕ → Type 0
@@ -28,8 +28,8 @@ CountsFailure r before after = MatchResult r (λ _. after ≡ before) (λ _. aft
 
 -- all of a text is appended but this rest
 abbrev pub PutsAllBut : Text → Option Text → Text → Option Text → Text → Text → Type 0
-PutsAllBut waited old pending new rest whole = (part : Text) × (part ++ rest ≡ whole)
-    × AppendsBuffered waited old new pending part
+PutsAllBut before old after new rest whole = (part : Text) × (part ++ rest ≡ whole)
+    × AppendsBuffered before old new after part
 
 -- a text is written, or a prefix of it where a write fails
 abbrev pub WroteText : {T E : Type 0} → Result T E → Option Text → Option Text → Text → Type 0
