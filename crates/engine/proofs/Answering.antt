@@ -24,22 +24,27 @@ use Rattle.engine.proofs.Histories.{SomeEntry, some_history}
 
 -- what the readers of the texts promise
 pub record TextAnswers : Type 0 where
-  pub text : (text : List ℕ) → ((tables : List TableTree) × Spells tables text) ⊎ ((fault : TextFault) × HasTextFault text fault)
+  pub text : (text : List ℕ) → ((tables : List TableTree) × Spells tables text) ⊎ ((fault : TextFault)
+      × HasTextFault text fault)
   pub plant : (text : List ℕ) → ((p : PlantTree) × IsBox text p) ⊎ ((fault : BoxFault) × HasBoxFault text fault)
-  pub check : (tables : List TableTree) (p : PlantTree) → WellFormed tables p ⊎ ((fault : CheckFault) × LeastFault fault tables p)
+  pub check : (tables : List TableTree) (p : PlantTree) → WellFormed tables p ⊎ ((fault : CheckFault)
+      × LeastFault fault tables p)
 
 -- and with them the reader of the capture, and the rules
 pub record Answers : Type 0 where
   pub texts : TextAnswers
-  pub reading : (bytes : List ℕ) → ((fault : CaptureFault) × (header_fault bytes ≡ Some fault)) ⊎ ((records : List Captured) × (ending : Ending) × Pcap bytes records ending)
+  pub reading : (bytes : List ℕ) → ((fault : CaptureFault) × (header_fault bytes ≡ Some fault))
+      ⊎ ((records : List Captured) × (ending : Ending) × Pcap bytes records ending)
   pub entry : SomeEntry
 
 abbrev pub Answer : List ℕ → List ℕ → List ℕ → Bool → Type 0
 Answer rules box capture trace =
-    ((count : ℕ) × (torn : Bool) × (sent : List ℕ) × (report : List ℕ) × Meaning rules box capture trace count torn sent report)
+    ((count : ℕ) × (torn : Bool) × (sent : List ℕ) × (report : List ℕ)
+    × Meaning rules box capture trace count torn sent report)
     ⊎ ((fault : RunFault) × IsRefusal fault × Refuses rules box (Some capture) fault)
 
-meant : Answers → (rules box capture : List ℕ) (trace : Bool) (accepted : Accepted rules box) (records : List Captured) (torn : Bool) → Pcap capture records (ending_of torn) → Answer rules box capture trace
+meant : Answers → (rules box capture : List ℕ) (trace : Bool) (accepted : Accepted rules box) (records : List Captured)
+    (torn : Bool) → Pcap capture records (ending_of torn) → Answer rules box capture trace
 meant answers rules box capture trace accepted records torn read =
     let s = some_history answers.entry accepted.setup accepted.well_formed [] (decoded_records read.format records) in
     inl (
@@ -47,35 +52,68 @@ meant answers rules box capture trace accepted records torn read =
       torn,
       capture_text s.0,
       report_text accepted.setup trace s.0 torn,
-      record { accepted = accepted; records = records; read = read; counted = refl; history = s.0; is_history = s.1; captured = refl; reported = refl },
+      record {
+        accepted = accepted;
+        records = records;
+        read = read;
+        counted = refl;
+        history = s.0;
+        is_history = s.1;
+        captured = refl;
+        reported = refl;
+      },
     )
 
 -- by how the records stop
-stopped : Answers → (rules box capture : List ℕ) (trace : Bool) → Accepted rules box → (records : List Captured) (ending : Ending) → Pcap capture records ending → Answer rules box capture trace
-stopped answers rules box capture trace accepted records Whole read = meant answers rules box capture trace accepted records false read
-stopped answers rules box capture trace accepted records Torn read = meant answers rules box capture trace accepted records true read
-stopped answers rules box capture trace accepted records Malformed read = inr (Capture captures.Malformed, tt, (accepted, inr (records, Malformed, read, refl)))
-stopped answers rules box capture trace accepted records Over read = inr (Capture captures.TooMany, tt, (accepted, inr (records, Over, read, refl)))
+stopped : Answers → (rules box capture : List ℕ) (trace : Bool) → Accepted rules box
+    → (records : List Captured) (ending : Ending) → Pcap capture records ending → Answer rules box capture trace
+stopped answers rules box capture trace accepted records Whole read =
+    meant answers rules box capture trace accepted records false read
+stopped answers rules box capture trace accepted records Torn read =
+    meant answers rules box capture trace accepted records true read
+stopped answers rules box capture trace accepted records Malformed read = inr (
+  Capture captures.Malformed,
+  tt,
+  (accepted, inr (records, Malformed, read, refl)),
+)
+stopped answers rules box capture trace accepted records Over read = inr (
+  Capture captures.TooMany,
+  tt,
+  (
+    accepted,
+    inr (records, Over, read, refl),
+  ),
+)
 
 -- by the capture
 captured : Answers → (rules box capture : List ℕ) (trace : Bool) → Accepted rules box → Answer rules box capture trace
 captured answers rules box capture trace accepted = by_reading (answers.reading capture)
   where
-    by_reading : ((fault : CaptureFault) × (header_fault capture ≡ Some fault)) ⊎ ((records : List Captured) × (ending : Ending) × Pcap capture records ending) → Answer rules box capture trace
+    by_reading : ((fault : CaptureFault) × (header_fault capture ≡ Some fault))
+        ⊎ ((records : List Captured) × (ending : Ending) × Pcap capture records ending) → Answer rules box capture trace
     by_reading (inl h) = inr (Capture h.0, tt, (accepted, inl h.1))
     by_reading (inr r) = stopped answers rules box capture trace accepted r.0 r.1 r.2
 
 -- by what is wrong with it
-judged : Answers → (rules box capture : List ℕ) (trace : Bool) (texts : Spelled rules box) → WellFormed texts.tables texts.plant ⊎ ((fault : CheckFault) × LeastFault fault texts.tables texts.plant) → Answer rules box capture trace
+judged : Answers → (rules box capture : List ℕ) (trace : Bool) (texts : Spelled rules box)
+    → WellFormed texts.tables texts.plant ⊎ ((fault : CheckFault) × LeastFault fault texts.tables texts.plant)
+    → Answer rules box capture trace
 judged answers rules box capture trace texts (inl well) =
-    captured answers rules box capture trace (record { setup = record { rules = texts.tables; plant = texts.plant }; spelled = texts.spelled; read = texts.read; well_formed = well })
+    captured answers rules box capture trace (record {
+      setup = record { rules = texts.tables; plant = texts.plant };
+      spelled = texts.spelled;
+      read = texts.read;
+      well_formed = well;
+    })
 judged answers rules box capture trace texts (inr found) = inr (Rules (Check found.0), tt, (texts, found.1))
 
 -- by the texts
 pub answered : Answers → (rules box capture : List ℕ) (trace : Bool) → Answer rules box capture trace
 answered answers rules box capture trace = by_text (answers.texts.text rules) (answers.texts.plant box)
   where
-    by_text : ((tables : List TableTree) × Spells tables rules) ⊎ ((fault : TextFault) × HasTextFault rules fault) → ((p : PlantTree) × IsBox box p) ⊎ ((fault : BoxFault) × HasBoxFault box fault) → Answer rules box capture trace
+    by_text : ((tables : List TableTree) × Spells tables rules) ⊎ ((fault : TextFault) × HasTextFault rules fault)
+        → ((p : PlantTree) × IsBox box p) ⊎ ((fault : BoxFault) × HasBoxFault box fault)
+        → Answer rules box capture trace
     by_text (inr h) other = inr (Rules (Text h.0), tt, h.1)
     by_text (inl s) (inr h) = inr (Box h.0, tt, (s.0, s.1, h.1))
     by_text (inl s) (inl p) =
@@ -85,13 +123,19 @@ answered answers rules box capture trace = by_text (answers.texts.text rules) (a
 -- ---- judging
 
 abbrev pub Judgement : List ℕ → List ℕ → Type 0
-Judgement rules box = ((counts : Counts) × Judged rules box counts) ⊎ ((fault : RunFault) × IsOfTexts fault × JudgeRefuses rules box fault)
+Judgement rules box = ((counts : Counts) × Judged rules box counts) ⊎ ((fault : RunFault) × IsOfTexts fault
+    × JudgeRefuses rules box fault)
 
 -- by what is wrong with the ruleset
-counted : (rules box : List ℕ) (texts : Spelled rules box) → WellFormed texts.tables texts.plant ⊎ ((fault : CheckFault) × LeastFault fault texts.tables texts.plant) → Judgement rules box
+counted : (rules box : List ℕ) (texts : Spelled rules box) → WellFormed texts.tables texts.plant
+    ⊎ ((fault : CheckFault) × LeastFault fault texts.tables texts.plant) → Judgement rules box
 counted rules box texts (inl well) =
     inl (
-      record { tables = length texts.tables; chains = min (chain_count texts.tables) (2 ^ 64 - 1); rules = min (rule_count texts.tables) (2 ^ 64 - 1) },
+      record {
+        tables = length texts.tables;
+        chains = min (chain_count texts.tables) (2 ^ 64 - 1);
+        rules = min (rule_count texts.tables) (2 ^ 64 - 1);
+      },
       record { texts = texts; well_formed = well; all_tables = refl; all_chains = refl; all_rules = refl },
     )
 counted rules box texts (inr found) = inr (Rules (Check found.0), tt, (texts, found.1))
@@ -100,7 +144,8 @@ counted rules box texts (inr found) = inr (Rules (Check found.0), tt, (texts, fo
 pub judgement : TextAnswers → (rules box : List ℕ) → Judgement rules box
 judgement answers rules box = by_text (answers.text rules) (answers.plant box)
   where
-    by_text : ((tables : List TableTree) × Spells tables rules) ⊎ ((fault : TextFault) × HasTextFault rules fault) → ((p : PlantTree) × IsBox box p) ⊎ ((fault : BoxFault) × HasBoxFault box fault) → Judgement rules box
+    by_text : ((tables : List TableTree) × Spells tables rules) ⊎ ((fault : TextFault) × HasTextFault rules fault)
+        → ((p : PlantTree) × IsBox box p) ⊎ ((fault : BoxFault) × HasBoxFault box fault) → Judgement rules box
     by_text (inr h) other = inr (Rules (Text h.0), tt, h.1)
     by_text (inl s) (inr h) = inr (Box h.0, tt, (s.0, s.1, h.1))
     by_text (inl s) (inl p) =

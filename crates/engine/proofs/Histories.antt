@@ -1,5 +1,6 @@
--- Stories that grow record by record.
-use Rattle.std.proofs.Common.{◌≡◌, ◌+◌, ℕ, suc, max, List, [], ◌∷◌, ◌++◌, length, refl, sym, ap, subst, ◌∙◌, arith, append_assoc, append-nil, zero-add}
+-- Histories, record by record.
+use Rattle.std.proofs.Common.{◌≡◌, ◌+◌, ℕ, suc, max, List, [], ◌∷◌, ◌++◌, length, refl, sym, ap, subst, ◌∙◌, arith}
+use Rattle.std.proofs.Common.{append_assoc, append-nil, zero-add}
 use Rattle.std.specs.List.{flat_map}
 use Rattle.std.proofs.lemmas.Grind.{flat_map-append}
 use Rattle.pcap_io.specs.declared.format.Format.{Format}
@@ -11,21 +12,26 @@ use Rattle.history.specs.Setup.{Setup}
 use Rattle.stepping.specs.Next.{Next, IsHistoryOf}
 use Rattle.engine.specs.steps.Replayed.{sent_records}
 
--- each record has one entry after those of a story, where nothing is wrong with the rules
+-- each record has an entry after a history, if the ruleset is well-formed
 abbrev pub OneEntry : Type 0
-OneEntry = (setup : Setup) (history : List Entry) (r : Recorded) (e other : Entry) → Next setup history r e → Next setup history r other → e ≡ other
+OneEntry = (setup : Setup) (history : List Entry) (r : Recorded) (e other : Entry) → Next setup history r e
+    → Next setup history r other → e ≡ other
 
 abbrev pub SomeEntry : Type 0
-SomeEntry = (setup : Setup) (history : List Entry) (r : Recorded) → WellFormed setup.rules setup.plant → (e : Entry) × Next setup history r e
+SomeEntry = (setup : Setup) (history : List Entry) (r : Recorded) → WellFormed setup.rules setup.plant → (e : Entry)
+    × Next setup history r e
 
--- so a story grows to one other by some records
-pub one_history : OneEntry → (setup : Setup) (before : List Entry) (rs : List Recorded) (after other : List Entry) → IsHistoryOf setup before rs after → IsHistoryOf setup before rs other → after ≡ other
+-- so records extend a history to at most one history
+pub one_history : OneEntry → (setup : Setup) (before : List Entry) (rs : List Recorded) (after other : List Entry)
+    → IsHistoryOf setup before rs after → IsHistoryOf setup before rs other → after ≡ other
 one_history one setup before [] after other g h = g ∙ sym h
 one_history one setup before (r ∷ rs) after other (e, n, g) (f, m, h) =
-    one_history one setup (e ∷ before) rs after other g (subst (λ (x : Entry). IsHistoryOf setup (x ∷ before) rs other) (one setup before r f e m n) h)
+    one_history one setup (e ∷ before) rs after other g (subst (λ (x : Entry). IsHistoryOf setup (x ∷ before) rs other)
+    (one setup before r f e m n) h)
 
 -- and there is one
-pub some_history : SomeEntry → (setup : Setup) → WellFormed setup.rules setup.plant → (before : List Entry) (rs : List Recorded) → (after : List Entry) × IsHistoryOf setup before rs after
+pub some_history : SomeEntry → (setup : Setup) → WellFormed setup.rules setup.plant
+    → (before : List Entry) (rs : List Recorded) → (after : List Entry) × IsHistoryOf setup before rs after
 some_history some setup fine before [] = (before, refl)
 some_history some setup fine before (r ∷ rs) =
     let e = some setup before r fine in
@@ -33,7 +39,8 @@ some_history some setup fine before (r ∷ rs) =
     (rest.0, (e.0, e.1, rest.1))
 
 -- one record more
-pub is_history_more : (setup : Setup) (before : List Entry) (rs : List Recorded) (r : Recorded) (mid : List Entry) (e : Entry) → IsHistoryOf setup before rs mid → Next setup mid r e
+pub is_history_more : (setup : Setup) (before : List Entry) (rs : List Recorded) (r : Recorded) (mid : List Entry)
+    (e : Entry) → IsHistoryOf setup before rs mid → Next setup mid r e
     → IsHistoryOf setup before (rs ++ r ∷ []) (e ∷ mid)
 is_history_more setup before [] r mid e g n = (e, subst (λ (s : List Entry). Next setup s r e) g n, ap (λ s. e ∷ s) g)
 is_history_more setup before (x ∷ xs) r mid e (f, m, g) n = (f, m, is_history_more setup (f ∷ before) xs r mid e g n)
@@ -41,17 +48,21 @@ is_history_more setup before (x ∷ xs) r mid e (f, m, g) n = (f, m, is_history_
 -- ---- what it sends
 
 -- with one entry more
-pub sent_more : (history : List Entry) (e : Entry) → sent_records (e ∷ history) ≡ sent_records history ++ flat_map sll2_record (sends e)
+pub sent_more : (history : List Entry) (e : Entry)
+    → sent_records (e ∷ history) ≡ sent_records history ++ flat_map sll2_record (sends e)
 sent_more history e =
-    ap (flat_map sll2_record) (flat_map-append sends (in_order history) (e ∷ []) ∙ ap (λ xs. flat_map sends (in_order history) ++ xs) (append-nil (sends e)))
+    ap (flat_map sll2_record) (flat_map-append sends (in_order history) (e ∷ [])
+    ∙ ap (λ xs. flat_map sends (in_order history) ++ xs) (append-nil (sends e)))
     ∙ flat_map-append sll2_record (flat_map sends (in_order history)) (sends e)
 
-pub captured_more : (history : List Entry) (e : Entry) → capture_text (e ∷ history) ≡ capture_text history ++ flat_map sll2_record (sends e)
-captured_more history e = ap (λ xs. sll2_header ++ xs) (sent_more history e) ∙ sym (append_assoc sll2_header (sent_records history) (flat_map sll2_record (sends e)))
+pub captured_more : (history : List Entry) (e : Entry)
+    → capture_text (e ∷ history) ≡ capture_text history ++ flat_map sll2_record (sends e)
+captured_more history e = ap (λ xs. sll2_header ++ xs) (sent_more history e)
+    ∙ sym (append_assoc sll2_header (sent_records history) (flat_map sll2_record (sends e)))
 
--- ---- what its records tell
+-- ---- the decoded records
 
--- the greatest moment of these records and an earlier one
+-- the greatest of these records' times and an earlier one
 abbrev pub latest_after : Format → ℕ → List Captured → ℕ
 latest_after format latest [] = latest
 latest_after format latest (r ∷ rs) = latest_after format (max latest (own_moment format r)) rs
@@ -63,30 +74,44 @@ latest_more format latest (x ∷ xs) r = latest_more format (max latest (own_mom
 
 decoded_after_more : (format : Format) (latest : ℕ) (records : List Captured) (r : Captured)
     → decoded_after format latest (records ++ r ∷ [])
-    ≡ decoded_after format latest records ++ record { moment = max (latest_after format latest records) (own_moment format r); link = format.link; bytes = r.bytes } ∷ []
+    ≡ decoded_after format latest records
+    ++ record {
+      moment = max (latest_after format latest records) (own_moment format r);
+      link = format.link;
+      bytes = r.bytes;
+    } ∷ []
 decoded_after_more format latest [] r = refl
 decoded_after_more format latest (x ∷ xs) r =
-    ap (λ ys. record { moment = max latest (own_moment format x); link = format.link; bytes = x.bytes } ∷ ys) (decoded_after_more format (max latest (own_moment format x)) xs r)
+    ap (λ ys. record { moment = max latest (own_moment format x); link = format.link; bytes = x.bytes } ∷ ys)
+    (decoded_after_more format (max latest (own_moment format x)) xs r)
 
--- with one record more, as it is told
-pub decoded_more : (format : Format) (records : List Captured) (x : Captured) (r : Recorded) (latest : ℕ) → latest ≡ latest_after format 0 records
-    → r ≡ record { moment = max latest (own_moment format x); link = format.link; bytes = x.bytes } → decoded_records format (records ++ x ∷ []) ≡ decoded_records format records ++ r ∷ []
+-- with one more record, decoded
+pub decoded_more : (format : Format) (records : List Captured) (x : Captured) (r : Recorded) (latest : ℕ)
+    → latest ≡ latest_after format 0 records
+    → r ≡ record { moment = max latest (own_moment format x); link = format.link; bytes = x.bytes }
+    → decoded_records format (records ++ x ∷ []) ≡ decoded_records format records ++ r ∷ []
 decoded_more format records x r latest is decoded_is =
-    decoded_after_more format 0 records x ∙ ap (λ m. decoded_records format records ++ record { moment = max m (own_moment format x); link = format.link; bytes = x.bytes } ∷ []) (sym is)
+    decoded_after_more format 0 records x
+    ∙ ap (λ m. decoded_records format records
+    ++ record { moment = max m (own_moment format x); link = format.link; bytes = x.bytes } ∷ []) (sym is)
     ∙ ap (λ s. decoded_records format records ++ s ∷ []) (sym decoded_is)
 
--- ---- how many entries it has
+-- ---- the number of entries
 
-is_history_length : (setup : Setup) (before : List Entry) (rs : List Recorded) (after : List Entry) → IsHistoryOf setup before rs after → length after ≡ length rs + length before
+is_history_length : (setup : Setup) (before : List Entry) (rs : List Recorded) (after : List Entry)
+    → IsHistoryOf setup before rs after → length after ≡ length rs + length before
 is_history_length setup before [] after g = ap length g ∙ sym (zero-add (length before))
-is_history_length setup before (r ∷ rs) after (e, n, g) = let rest = is_history_length setup (e ∷ before) rs after g in omega (arith, rest)
+is_history_length setup before (r ∷ rs) after (e, n, g) = let rest = is_history_length setup (e ∷ before) rs after g in
+    omega (arith, rest)
 
-decoded_length : (format : Format) (latest : ℕ) (records : List Captured) → length (decoded_after format latest records) ≡ length records
+decoded_length : (format : Format) (latest : ℕ) (records : List Captured)
+    → length (decoded_after format latest records) ≡ length records
 decoded_length format latest [] = refl
 decoded_length format latest (r ∷ rs) = ap suc (decoded_length format (max latest (own_moment format r)) rs)
 
 -- as many as records
-pub history_length : (setup : Setup) (format : Format) (records : List Captured) (history : List Entry) → IsHistoryOf setup [] (decoded_records format records) history → length history ≡ length records
+pub history_length : (setup : Setup) (format : Format) (records : List Captured) (history : List Entry)
+    → IsHistoryOf setup [] (decoded_records format records) history → length history ≡ length records
 history_length setup format records history g =
     let long = is_history_length setup [] (decoded_records format records) history g in
     let decoded_long = decoded_length format 0 records in

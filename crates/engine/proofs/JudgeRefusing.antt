@@ -14,7 +14,8 @@ use Rattle.engine.specs.declared.fault.RunFault.TheVariants.{Rules, Box, Capture
 use Rattle.engine.specs.Judged.{JudgeRefuses}
 use Rattle.engine.specs.Refusals.{Refuses}
 
-pub misjudged : (rules box : List ℕ) (input : Option (List ℕ)) (fault : RunFault) → JudgeRefuses rules box fault → Refuses rules box input fault
+pub misjudged : (rules box : List ℕ) (input : Option (List ℕ)) (fault : RunFault) → JudgeRefuses rules box fault
+    → Refuses rules box input fault
 misjudged rules box input (Rules fault) h = h
 misjudged rules box input (Box fault) h = h
 misjudged rules box input Memory h = tt
@@ -25,5 +26,6 @@ pub length_of_tables : (tree : Ruleset) → length tree.tables.items ≡ length 
 length_of_tables tree = sym (length-map tree.tables.items table_tree)
 
 -- the check's refusal, by its kind
-pub refused_as : (tables : List TableTree) (plant : PlantTree) (error : CheckError) (fault : CheckFault) → error ≡ Refused fault → IsCheckRefusal tables plant error → LeastFault fault tables plant
+pub refused_as : (tables : List TableTree) (plant : PlantTree) (error : CheckError) (fault : CheckFault)
+    → error ≡ Refused fault → IsCheckRefusal tables plant error → LeastFault fault tables plant
 refused_as tables plant error fault is h = subst (IsCheckRefusal tables plant) is h

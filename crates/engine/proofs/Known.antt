@@ -1,4 +1,4 @@
--- What is said where something is known.
+-- Facts that hold where bytes are known.
 use Rattle.std.proofs.Common.{◌≡◌, Option, Some, None, IfSome, subst}
 
 pub known : {A : Type 0} (o : Option A) (x : A) (P : A → Type 0) → o ≡ Some x → IfSome o P → P x

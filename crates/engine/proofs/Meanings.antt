@@ -1,5 +1,6 @@
--- A run, from what its parts did.
-use Rattle.std.proofs.Common.{◌≡◌, ◌<◌, ◌≤◌, ◌++◌, ℕ, true, false, Bool, List, [], drop, length, Option, Some, None, IfSome, Result, Ok, Err, IfOk, IfErr, refl, sym, ap, subst, ◌∙◌, inl, inr, arith}
+-- A run, from the results of its calls.
+use Rattle.std.proofs.Common.{◌≡◌, ◌<◌, ◌≤◌, ◌++◌, ℕ, true, false, Bool, List, [], drop, length, Option, Some, None}
+use Rattle.std.proofs.Common.{IfSome, Result, Ok, Err, IfOk, IfErr, refl, sym, ap, subst, ◌∙◌, inl, inr, arith}
 use Rattle.std.specs.Io.KnownBytes.{Consumes, IsAtEnd}
 use Rattle.list_laws.specs.Options.{IfSome_weaker}
 use Rattle.nft_tree.specs.Tree.{TableTree}
@@ -40,7 +41,8 @@ pub if_err_then : {T E : Type 0} (r : Result T E) (P Q : E → Type 0) → IfErr
 if_err_then (Ok x) P Q p h = tt
 if_err_then (Err e) P Q p h = h e p
 
-pub if_err_both : {T E : Type 0} (r : Result T E) (O P Q : E → Type 0) → IfErr r O → IfErr r P → ((e : E) → O e → P e → Q e) → IfErr r Q
+pub if_err_both : {T E : Type 0} (r : Result T E) (O P Q : E → Type 0) → IfErr r O → IfErr r P
+    → ((e : E) → O e → P e → Q e) → IfErr r Q
 if_err_both (Ok x) O P Q o p h = tt
 if_err_both (Err e) O P Q o p h = h e o p
 
@@ -56,7 +58,8 @@ OneBox = (text : List ℕ) (p q : PlantTree) → IsBox text p → IsBox text q �
 
 -- a capture has one reading at most
 abbrev pub OneReading : Type 0
-OneReading = (bytes : List ℕ) (xs ys : List Captured) (ending other : Ending) (one : Pcap bytes xs ending) (two : Pcap bytes ys other) → (xs ≡ ys) × (ending ≡ other) × (one.format ≡ two.format)
+OneReading = (bytes : List ℕ) (xs ys : List Captured) (ending other : Ending) (one : Pcap bytes xs ending)
+    (two : Pcap bytes ys other) → (xs ≡ ys) × (ending ≡ other) × (one.format ≡ two.format)
 
 -- what the readers of the texts and of the capture, and the rules, promise
 pub record Single : Type 0 where
@@ -67,7 +70,8 @@ pub record Single : Type 0 where
 
 same_setup : Single → (rules box : List ℕ) (a b : Accepted rules box) → a.setup ≡ b.setup
 same_setup one rules box a b =
-    ap (λ t. record { rules = t; plant = a.setup.plant }) (one.tree rules a.setup.rules b.setup.rules a.spelled b.spelled)
+    ap (λ t. record { rules = t; plant = a.setup.plant }) (one.tree rules a.setup.rules b.setup.rules a.spelled
+    b.spelled)
     ∙ ap (λ p. record { rules = b.setup.rules; plant = p }) (one.plant box a.setup.plant b.setup.plant a.read b.read)
 
 same_sign : (s t : Bool) → ending_of s ≡ ending_of t → s ≡ t
@@ -76,26 +80,33 @@ same_sign false false e = refl
 same_sign true false e = cc
 same_sign false true e = cc
 
--- stories of one setup and one reading
-same_history : Single → (s t : Setup) (f g : Format) (xs ys : List Captured) (a b : List Entry) → s ≡ t → f ≡ g → xs ≡ ys → IsHistoryOf s [] (decoded_records f xs) a → IsHistoryOf t [] (decoded_records g ys) b → a ≡ b
+-- histories of one configuration and one reading
+same_history : Single → (s t : Setup) (f g : Format) (xs ys : List Captured) (a b : List Entry) → s ≡ t → f ≡ g
+    → xs ≡ ys → IsHistoryOf s [] (decoded_records f xs) a → IsHistoryOf t [] (decoded_records g ys) b → a ≡ b
 same_history one s t f g xs ys a b setup format records is_history other =
     one_history one.entry t [] (decoded_records g ys) a b
-    (subst (λ (x : List Captured). IsHistoryOf t [] (decoded_records g x) a) records (subst (λ (x : Format). IsHistoryOf t [] (decoded_records x xs) a) format (subst (λ (x : Setup). IsHistoryOf x [] (decoded_records f xs) a) setup is_history)))
+    (subst (λ (x : List Captured). IsHistoryOf t [] (decoded_records g x) a) records (subst
+    (λ (x : Format). IsHistoryOf t [] (decoded_records x xs) a) format (subst
+    (λ (x : Setup). IsHistoryOf x [] (decoded_records f xs) a) setup is_history)))
     other
 
-pub one_meaning_of : Single → (rules box capture : List ℕ) (trace : Bool) (count others : ℕ) (torn other_torn : Bool) (sent other_sent report other_report : List ℕ)
-    → Meaning rules box capture trace count torn sent report → Meaning rules box capture trace others other_torn other_sent other_report
+pub one_meaning_of : Single → (rules box capture : List ℕ) (trace : Bool) (count others : ℕ) (torn other_torn : Bool)
+    (sent other_sent report other_report : List ℕ)
+    → Meaning rules box capture trace count torn sent report
+    → Meaning rules box capture trace others other_torn other_sent other_report
     → (count ≡ others) × (torn ≡ other_torn) × (sent ≡ other_sent) × (report ≡ other_report)
 one_meaning_of one rules box capture trace count others torn other_torn sent other_sent report other_report m n =
     let same = one.reading capture m.records n.records (ending_of torn) (ending_of other_torn) m.read n.read in
     let signs : torn ≡ other_torn = same_sign torn other_torn same.1 in
     let setups : m.accepted.setup ≡ n.accepted.setup = same_setup one rules box m.accepted n.accepted in
     let histories : m.history ≡ n.history =
-    same_history one m.accepted.setup n.accepted.setup m.read.format n.read.format m.records n.records m.history n.history setups same.2 same.0 m.is_history n.is_history in (
+    same_history one m.accepted.setup n.accepted.setup m.read.format n.read.format m.records n.records m.history
+    n.history setups same.2 same.0 m.is_history n.is_history in (
       m.counted ∙ ap length same.0 ∙ sym n.counted,
       signs,
       m.captured ∙ ap capture_text histories ∙ sym n.captured,
-      m.reported ∙ ap (λ (s : Setup). report_text s trace m.history torn) setups ∙ ap (λ s. report_text n.accepted.setup trace s torn) histories
+      m.reported ∙ ap (λ (s : Setup). report_text s trace m.history torn) setups
+          ∙ ap (λ s. report_text n.accepted.setup trace s torn) histories
           ∙ ap (report_text n.accepted.setup trace n.history) signs ∙ sym n.reported,
     )
 
@@ -103,37 +114,54 @@ one_meaning_of one rules box capture trace count others torn other_torn sent oth
 
 -- the bytes after the header of an accepted input are to come
 abbrev pub Opened : Option (List ℕ) → Option (List ℕ) → Format → Type 0
-Opened input to_come format = IfSome input (λ bytes. (HEADER_BYTES ≤ length bytes) × (format_of bytes ≡ Ok format) × (to_come ≡ Some (drop HEADER_BYTES bytes)))
+Opened input to_come format = IfSome input (λ bytes. (HEADER_BYTES ≤ length bytes) × (format_of bytes ≡ Ok format)
+    × (to_come ≡ Some (drop HEADER_BYTES bytes)))
 
--- what is to come is what the capture tells, where the reader is at its end with it
-pub opened : (input : Option (List ℕ)) (s : CaptureState) (unread : Option (List ℕ)) (part : List ℕ) → Consumes input unread part → (s.ended ≡ true → IsAtEnd unread)
-    → IfSome input (λ bytes. (HEADER_BYTES ≤ length bytes) × (format_of bytes ≡ Ok s.format) × (ahead s unread ≡ Some (drop HEADER_BYTES bytes))) → Opened input (unread_input s unread) s.format
+-- the bytes to come are those of the capture, where the reader is known
+pub opened : (input : Option (List ℕ)) (s : CaptureState) (unread : Option (List ℕ)) (part : List ℕ)
+    → Consumes input unread part → (s.ended ≡ true → IsAtEnd unread)
+    → IfSome input (λ bytes. (HEADER_BYTES ≤ length bytes) × (format_of bytes ≡ Ok s.format)
+    × (ahead s unread ≡ Some (drop HEADER_BYTES bytes))) → Opened input (unread_input s unread) s.format
 opened None s unread part takes at_end h = tt
 opened (Some bytes) s None part takes at_end h = absurd takes
 opened (Some bytes) s (Some left) part takes at_end h = (h.0, h.1, sym (ahead_is s (Some left) left refl at_end) ∙ h.2)
 
 -- the reading of a capture whose header is accepted
-reading : (setup : Setup) (format : Format) (bytes : List ℕ) (unread : Option (List ℕ)) (ending : Ending) (at : ReadSoFar setup format (drop HEADER_BYTES bytes) unread) → format_of bytes ≡ Ok format
+reading : (setup : Setup) (format : Format) (bytes : List ℕ) (unread : Option (List ℕ)) (ending : Ending)
+    (at : ReadSoFar setup format (drop HEADER_BYTES bytes) unread) → format_of bytes ≡ Ok format
     → Ends format ending (length at.follows.records) (at.ahead ++ at.left) → Pcap bytes at.follows.records ending
 reading setup format bytes unread ending at header ends =
-    record { format = format; accepted = header; rest = at.ahead ++ at.left; whole = at.follows.joined; each = at.follows.each; not_over = at.follows.not_over; ends = ends }
+    record {
+      format = format;
+      accepted = header;
+      rest = at.ahead ++ at.left;
+      whole = at.follows.joined;
+      each = at.follows.each;
+      not_over = at.follows.not_over;
+      ends = ends;
+    }
 
-pub wrote : Single → (rules box : List ℕ) (accepted : Accepted rules box) (start : ReplayStart) (format : Format) (input to_come unread w r : Option (List ℕ)) (count : ℕ) (torn : Bool) → start.setup ≡ accepted.setup
+pub wrote : Single → (rules box : List ℕ) (accepted : Accepted rules box) (start : ReplayStart) (format : Format)
+    (input to_come unread w r : Option (List ℕ)) (count : ℕ) (torn : Bool) → start.setup ≡ accepted.setup
     → Opened input to_come format → IfSome to_come (λ bytes. OutputsWritten start format bytes count torn unread w r)
     → IfSome input (λ bytes. WroteOutputs rules box bytes start.trace count torn start.sent w start.report r)
 unfolding reading
 wrote one rules box accepted start format None to_come unread w r count torn same opened done = tt
 wrote one rules box accepted start format (Some bytes) to_come unread w r count torn same opened done =
-    let t : OutputsWritten start format (drop HEADER_BYTES bytes) count torn unread w r = known to_come (drop HEADER_BYTES bytes) (λ bytes. OutputsWritten start format bytes count torn unread w r) opened.2 done in
+    let t : OutputsWritten start format (drop HEADER_BYTES bytes) count torn unread w r =
+    known to_come (drop HEADER_BYTES bytes) (λ bytes. OutputsWritten start format bytes count torn unread w r)
+    opened.2 done in
     let history : List Entry = t.reached.history in
-    let meaning : Meaning rules box bytes start.trace count torn (capture_text history) (report_text start.setup start.trace history torn) =
+    let meaning : Meaning rules box bytes start.trace count torn (capture_text history)
+    (report_text start.setup start.trace history torn) =
     record {
       accepted = accepted;
       records = t.reached.follows.records;
       read = reading start.setup format bytes unread (ending_of torn) t.reached opened.1 t.ends;
       counted = t.counted;
       history = history;
-      is_history = subst (λ (s : Setup). IsHistoryOf s [] (decoded_records format t.reached.follows.records) history) same t.reached.follows.is_history;
+      is_history = subst (λ (s : Setup). IsHistoryOf s [] (decoded_records format t.reached.follows.records) history)
+          same t.reached.follows.is_history;
       captured = refl;
       reported = ap (λ (s : Setup). report_text s start.trace history torn) same;
     } in
@@ -141,27 +169,45 @@ wrote one rules box accepted start format (Some bytes) to_come unread w r count 
       sent = capture_text history;
       report = report_text start.setup start.trace history torn;
       meaning = meaning;
-      only = λ others other_torn other_sent other_report m. one_meaning_of one rules box bytes start.trace others count other_torn torn other_sent _ other_report _ m meaning;
+      only = λ others other_torn other_sent other_report m.
+          one_meaning_of one rules box bytes start.trace others count other_torn torn other_sent _ other_report _ m
+          meaning;
       appends = t.finished.all_sent;
       appends_report = t.finished.all_lines;
     }
 
 -- a fault within the records is a refusal of the capture, or none
-pub refuses_within : (rules box : List ℕ) (accepted : Accepted rules box) (setup : Setup) (trace : Bool) (format : Format) (input to_come : Option (List ℕ)) (old new : Devices) (fault : RunFault) → Opened input to_come format → IsWithin fault
+pub refuses_within : (rules box : List ℕ) (accepted : Accepted rules box) (setup : Setup) (trace : Bool)
+    (format : Format) (input to_come : Option (List ℕ)) (old new : Devices) (fault : RunFault)
+    → Opened input to_come format → IsWithin fault
     → IfSome to_come (λ bytes. FaultLeaves setup trace format bytes old new fault) → Refuses rules box input fault
-refuses_within rules box accepted setup trace format None to_come old new (Capture fault) opened within says = (accepted, tt)
+refuses_within rules box accepted setup trace format None to_come old new (Capture fault) opened within says =
+    (accepted, tt)
 refuses_within rules box accepted setup trace format (Some bytes) to_come old new (Capture fault) opened within says =
-    let s = known to_come (drop HEADER_BYTES bytes) (λ bytes. FaultLeaves setup trace format bytes old new (Capture fault)) opened.2 says in
-    let h : RefusedAtRecord (start_of setup trace old) format (drop HEADER_BYTES bytes) fault new.unread new.sent new.report = s.0 in
-    (accepted, inr (h.reached.follows.records, h.ending, reading setup format bytes new.unread h.ending h.reached opened.1 h.ends, h.refused))
-refuses_within rules box accepted setup trace format input to_come old new (Rules fault) opened within says = absurd within
-refuses_within rules box accepted setup trace format input to_come old new (Box fault) opened within says = absurd within
+    let s = known to_come (drop HEADER_BYTES bytes)
+    (λ bytes. FaultLeaves setup trace format bytes old new (Capture fault)) opened.2 says in
+    let h : RefusedAtRecord (start_of setup trace old) format (drop HEADER_BYTES bytes) fault new.unread new.sent
+    new.report = s.0 in (
+      accepted,
+      inr (
+        h.reached.follows.records,
+        h.ending,
+        reading setup format bytes new.unread h.ending h.reached opened.1 h.ends,
+        h.refused,
+      ),
+    )
+refuses_within rules box accepted setup trace format input to_come old new (Rules fault) opened within says =
+    absurd within
+refuses_within rules box accepted setup trace format input to_come old new (Box fault) opened within says =
+    absurd within
 refuses_within rules box accepted setup trace format input to_come old new Device opened within says = tt
 refuses_within rules box accepted setup trace format input to_come old new Memory opened within says = tt
 
--- ---- what is left
+-- ---- the devices
 
-taken_so_far : (rules box bytes : List ℕ) (accepted : Accepted rules box) (format : Format) (new : Devices) → format_of bytes ≡ Ok format → ReadSoFar accepted.setup format (drop HEADER_BYTES bytes) new.unread → RecordsTaken rules box bytes new
+taken_so_far : (rules box bytes : List ℕ) (accepted : Accepted rules box) (format : Format) (new : Devices)
+    → format_of bytes ≡ Ok format → ReadSoFar accepted.setup format (drop HEADER_BYTES bytes) new.unread
+    → RecordsTaken rules box bytes new
 taken_so_far rules box bytes accepted format new header at =
     record {
       accepted = accepted;
@@ -180,15 +226,29 @@ taken_so_far rules box bytes accepted format new header at =
 
 -- once the capture is opened, before which no read failed
 abbrev opened_of : Devices → Option (List ℕ) → ℕ → Devices
-opened_of old unread failed = record { unread = unread; sent = old.sent; report = old.report; reads_failed = failed; sends_failed = old.sends_failed; reports_failed = old.reports_failed }
+opened_of old unread failed = record {
+  unread = unread;
+  sent = old.sent;
+  report = old.report;
+  reads_failed = failed;
+  sends_failed = old.sends_failed;
+  reports_failed = old.reports_failed;
+}
 
-left_within : (rules box : List ℕ) (trace : Bool) (accepted : Accepted rules box) (format : Format) (bytes : List ℕ) (old new : Devices) (unread : Option (List ℕ)) (failed : ℕ) (fault : RunFault) → format_of bytes ≡ Ok format → IsWithin fault
-    → failed ≡ old.reads_failed → (new.unread ≡ unread → Untouched old new → new.reads_failed ≡ old.reads_failed → NothingTaken bytes old new)
-    → FaultLeaves accepted.setup trace format (drop HEADER_BYTES bytes) (opened_of old unread failed) new fault → LeftDevices rules box bytes trace old new fault
+left_within : (rules box : List ℕ) (trace : Bool) (accepted : Accepted rules box) (format : Format) (bytes : List ℕ)
+    (old new : Devices) (unread : Option (List ℕ)) (failed : ℕ) (fault : RunFault) → format_of bytes ≡ Ok format
+    → IsWithin fault
+    → failed ≡ old.reads_failed → (new.unread ≡ unread → Untouched old new → new.reads_failed ≡ old.reads_failed
+    → NothingTaken bytes old new)
+    → FaultLeaves accepted.setup trace format (drop HEADER_BYTES bytes) (opened_of old unread failed) new fault
+    → LeftDevices rules box bytes trace old new fault
 unfolding taken_so_far
-left_within rules box trace accepted format bytes old new unread failed (Rules fault) header within before none says = absurd within
-left_within rules box trace accepted format bytes old new unread failed (Box fault) header within before none says = absurd within
-left_within rules box trace accepted format bytes old new unread failed (Capture fault) header within before none (h, no_failure) =
+left_within rules box trace accepted format bytes old new unread failed (Rules fault) header within before none says =
+    absurd within
+left_within rules box trace accepted format bytes old new unread failed (Box fault) header within before none says =
+    absurd within
+left_within rules box trace accepted format bytes old new unread failed (Capture fault) header within before none
+    (h, no_failure) =
     inr (record {
       taken_so_far = taken_so_far rules box bytes accepted format new header h.reached;
       few = h.few;
@@ -199,7 +259,8 @@ left_within rules box trace accepted format bytes old new unread failed (Capture
       report = h.all.all_lines;
       all_read = no_failure ∙ before;
     })
-left_within rules box trace accepted format bytes old new unread failed Device header within before none (inl (inl (c, fails))) =
+left_within rules box trace accepted format bytes old new unread failed Device header within before none
+    (inl (inl (c, fails))) =
     inr (inl (record {
       taken_so_far = taken_so_far rules box bytes accepted format new header c.reached;
       few = c.few;
@@ -209,7 +270,8 @@ left_within rules box trace accepted format bytes old new unread failed Device h
       report = c.all.all_lines;
       failed = fails ∙ ap one_more before;
     }))
-left_within rules box trace accepted format bytes old new unread failed Device header within before none (inl (inr (h, no_failure))) =
+left_within rules box trace accepted format bytes old new unread failed Device header within before none
+    (inl (inr (h, no_failure))) =
     inr (inr (inl (record {
       taken_so_far = taken_so_far rules box bytes accepted format new header h.reached;
       few = h.few;
@@ -217,7 +279,8 @@ left_within rules box trace accepted format bytes old new unread failed Device h
       report = h.part.part_lines;
       all_read = no_failure ∙ before;
     })))
-left_within rules box trace accepted format bytes old new unread failed Device header within before none (inr (u, fails)) =
+left_within rules box trace accepted format bytes old new unread failed Device header within before none
+    (inr (u, fails)) =
     inr (inr (inr (record {
       taken_so_far = taken_so_far rules box bytes accepted format new header u.reached;
       few = u.few;
@@ -227,7 +290,8 @@ left_within rules box trace accepted format bytes old new unread failed Device h
       report = u.unfinished.part_lines;
       failed = fails;
     })))
-left_within rules box trace accepted format bytes old new unread failed Memory header within before none (inl (l, no_failure)) =
+left_within rules box trace accepted format bytes old new unread failed Memory header within before none
+    (inl (l, no_failure)) =
     inr (record {
       taken_so_far = taken_so_far rules box bytes accepted format new header l.reached;
       untaken = l.untaken;
@@ -239,51 +303,91 @@ left_within rules box trace accepted format bytes old new unread failed Memory h
       report = l.all.all_lines;
       all_read = no_failure ∙ before;
     })
-left_within rules box trace accepted format bytes old new unread failed Memory header within before none (inr (same, kept, no_failure)) = inl (none same kept (no_failure ∙ before))
+left_within rules box trace accepted format bytes old new unread failed Memory header within before none
+    (inr (same, kept, no_failure)) = inl (none same kept (no_failure ∙ before))
 
 -- ---- before the first record
 
 -- what a reader gave and has left
-unbegun : (bytes part : List ℕ) (old new : Devices) (unread : Option (List ℕ)) → new.unread ≡ unread → Consumes (Some bytes) unread part → length part ≤ READ_AHEAD → Untouched old new
+unbegun : (bytes part : List ℕ) (old new : Devices) (unread : Option (List ℕ)) → new.unread ≡ unread
+    → Consumes (Some bytes) unread part → length part ≤ READ_AHEAD → Untouched old new
     → new.reads_failed ≡ old.reads_failed → NothingTaken bytes old new
 unbegun bytes part old new None e takes few kept no_failure = absurd takes
-unbegun bytes part old new (Some left) e takes few kept no_failure = record { part = part; left = left; unread = e; joined = takes; few = few; untouched = kept; all_read = no_failure }
+unbegun bytes part old new (Some left) e takes few kept no_failure = record {
+  part = part;
+  left = left;
+  unread = e;
+  joined = takes;
+  few = few;
+  untouched = kept;
+  all_read = no_failure;
+}
 
 -- a read failed before the header was there
-pub left_unopened : (rules box : List ℕ) (accepted : Accepted rules box) (trace : Bool) (input : Option (List ℕ)) (old new : Devices) (part : List ℕ) → Consumes input new.unread part → length part < HEADER_BYTES → Untouched old new
-    → new.reads_failed ≡ one_more old.reads_failed → IfSome input (λ bytes. LeftDevices rules box bytes trace old new Device)
+pub left_unopened : (rules box : List ℕ) (accepted : Accepted rules box) (trace : Bool) (input : Option (List ℕ))
+    (old new : Devices) (part : List ℕ) → Consumes input new.unread part → length part < HEADER_BYTES
+    → Untouched old new
+    → new.reads_failed ≡ one_more old.reads_failed → IfSome input (λ bytes.
+    LeftDevices rules box bytes trace old new Device)
 left_unopened rules box accepted trace None old new part takes short kept failed = tt
 left_unopened rules box accepted trace (Some bytes) old new part takes short kept failed = by_rest new.unread refl takes
   where
-    by_rest : (rest : Option (List ℕ)) → new.unread ≡ rest → Consumes (Some bytes) rest part → LeftDevices rules box bytes trace old new Device
+    by_rest : (rest : Option (List ℕ)) → new.unread ≡ rest → Consumes (Some bytes) rest part
+        → LeftDevices rules box bytes trace old new Device
     by_rest None e h = absurd h
-    by_rest (Some left) e h = inl (record { accepted = accepted; part = part; left = left; unread = e; joined = h; short = short; untouched = kept; failed = failed })
+    by_rest (Some left) e h = inl (record {
+      accepted = accepted;
+      part = part;
+      left = left;
+      unread = e;
+      joined = h;
+      short = short;
+      untouched = kept;
+      failed = failed;
+    })
 
 -- the header is refused
-pub left_unread : (rules box : List ℕ) (trace : Bool) (input : Option (List ℕ)) (old new : Devices) (part : List ℕ) (fault : CaptureFault) → Consumes input new.unread part → length part ≤ READ_AHEAD → Untouched old new
-    → new.reads_failed ≡ old.reads_failed → IfSome input (λ bytes. header_fault bytes ≡ Some fault) → IfSome input (λ bytes. LeftDevices rules box bytes trace old new (Capture fault))
+pub left_unread : (rules box : List ℕ) (trace : Bool) (input : Option (List ℕ)) (old new : Devices) (part : List ℕ)
+    (fault : CaptureFault) → Consumes input new.unread part → length part ≤ READ_AHEAD → Untouched old new
+    → new.reads_failed ≡ old.reads_failed → IfSome input (λ bytes. header_fault bytes ≡ Some fault)
+    → IfSome input (λ bytes. LeftDevices rules box bytes trace old new (Capture fault))
 left_unread rules box trace None old new part fault takes few kept no_failure refused = tt
-left_unread rules box trace (Some bytes) old new part fault takes few kept no_failure refused = inl (refused, unbegun bytes part old new new.unread refl takes few kept no_failure)
+left_unread rules box trace (Some bytes) old new part fault takes few kept no_failure refused = inl (
+  refused,
+  unbegun bytes part old new new.unread refl takes few kept no_failure,
+)
 
-pub refused_unread : (rules box : List ℕ) (input : Option (List ℕ)) (fault : CaptureFault) → Accepted rules box → IfSome input (λ bytes. header_fault bytes ≡ Some fault) → Refuses rules box input (Capture fault)
-refused_unread rules box input fault accepted refused = (accepted, IfSome_weaker input (λ bytes. header_fault bytes ≡ Some fault) (λ bytes. IsRefused bytes fault) (λ bytes h. inl h) refused)
+pub refused_unread : (rules box : List ℕ) (input : Option (List ℕ)) (fault : CaptureFault) → Accepted rules box
+    → IfSome input (λ bytes. header_fault bytes ≡ Some fault) → Refuses rules box input (Capture fault)
+refused_unread rules box input fault accepted refused = (
+  accepted,
+  IfSome_weaker input (λ bytes. header_fault bytes ≡ Some fault) (λ bytes. IsRefused bytes fault) (λ bytes h. inl h)
+      refused,
+)
 
--- there was no room before anything was written
-pub left_untouched : (rules box : List ℕ) (trace : Bool) (input : Option (List ℕ)) (old new : Devices) (part : List ℕ) → Consumes input new.unread part → length part ≤ READ_AHEAD → Untouched old new
+-- an allocation failed before anything was written
+pub left_untouched : (rules box : List ℕ) (trace : Bool) (input : Option (List ℕ)) (old new : Devices) (part : List ℕ)
+    → Consumes input new.unread part → length part ≤ READ_AHEAD → Untouched old new
     → new.reads_failed ≡ old.reads_failed → IfSome input (λ bytes. LeftDevices rules box bytes trace old new Memory)
 left_untouched rules box trace None old new part takes few kept no_failure = tt
-left_untouched rules box trace (Some bytes) old new part takes few kept no_failure = inl (unbegun bytes part old new new.unread refl takes few kept no_failure)
+left_untouched rules box trace (Some bytes) old new part takes few kept no_failure =
+    inl (unbegun bytes part old new new.unread refl takes few kept no_failure)
 
--- a fault of the texts, or want of room beside them: nothing was read
-pub left_of_texts : (rules box : List ℕ) (trace : Bool) (input : Option (List ℕ)) (old new : Devices) (fault : RunFault) → Consumes input new.unread [] → Untouched old new → new.reads_failed ≡ old.reads_failed → JudgeRefuses rules box fault
+-- a fault of the texts, or a failed allocation: nothing was read
+pub left_of_texts : (rules box : List ℕ) (trace : Bool) (input : Option (List ℕ)) (old new : Devices) (fault : RunFault)
+    → Consumes input new.unread [] → Untouched old new → new.reads_failed ≡ old.reads_failed
+    → JudgeRefuses rules box fault
     → IfSome input (λ bytes. LeftDevices rules box bytes trace old new fault)
-left_of_texts rules box trace input old new (Rules fault) takes kept no_failure of = nothing input (λ bytes. LeftDevices rules box bytes trace old new (Rules fault)) (λ bytes. kept)
-left_of_texts rules box trace input old new (Box fault) takes kept no_failure of = nothing input (λ bytes. LeftDevices rules box bytes trace old new (Box fault)) (λ bytes. kept)
-left_of_texts rules box trace input old new Memory takes kept no_failure of = left_untouched rules box trace input old new [] takes (omega arith) kept no_failure
+left_of_texts rules box trace input old new (Rules fault) takes kept no_failure of =
+    nothing input (λ bytes. LeftDevices rules box bytes trace old new (Rules fault)) (λ bytes. kept)
+left_of_texts rules box trace input old new (Box fault) takes kept no_failure of =
+    nothing input (λ bytes. LeftDevices rules box bytes trace old new (Box fault)) (λ bytes. kept)
+left_of_texts rules box trace input old new Memory takes kept no_failure of =
+    left_untouched rules box trace input old new [] takes (omega arith) kept no_failure
 left_of_texts rules box trace input old new (Capture fault) takes kept no_failure of = absurd of
 left_of_texts rules box trace input old new Device takes kept no_failure of = absurd of
 
--- and it wasn't told early
+-- and not before the header
 pub not_early : (fault : RunFault) (P : Type 0) → IsWithin fault → IsBeforeHeader fault → P
 not_early (Capture captures.Malformed) P within early = absurd early
 not_early (Capture captures.TooMany) P within early = absurd early
@@ -307,25 +411,45 @@ not_of_texts Memory P within of = absurd of
 
 -- with which the texts are accepted
 abbrev pub accepted_of : (rules box : List ℕ) (checked : CheckedTree) → IsChecked rules box checked → Accepted rules box
-accepted_of rules box checked fine = record { setup = setup_of checked; spelled = fine.spelled; read = fine.read; well_formed = fine.well_formed }
+accepted_of rules box checked fine = record {
+  setup = setup_of checked;
+  spelled = fine.spelled;
+  read = fine.read;
+  well_formed = fine.well_formed;
+}
 
-pub wrote_all : Single → (rules box : List ℕ) (checked : CheckedTree) (start : ReplayStart) (format : Format) (input to_come unread w r : Option (List ℕ)) (count : ℕ) (torn : Bool)
-    → IsChecked rules box checked → start.setup ≡ setup_of checked → Opened input to_come format → IfSome to_come (λ bytes. OutputsWritten start format bytes count torn unread w r)
+pub wrote_all : Single → (rules box : List ℕ) (checked : CheckedTree) (start : ReplayStart) (format : Format)
+    (input to_come unread w r : Option (List ℕ)) (count : ℕ) (torn : Bool)
+    → IsChecked rules box checked → start.setup ≡ setup_of checked → Opened input to_come format
+    → IfSome to_come (λ bytes. OutputsWritten start format bytes count torn unread w r)
     → IfSome input (λ bytes. WroteOutputs rules box bytes start.trace count torn start.sent w start.report r)
 wrote_all one rules box checked start format input to_come unread w r count torn fine same opened done =
-    wrote one rules box (accepted_of rules box checked fine) start format input to_come unread w r count torn same opened done
+    wrote one rules box (accepted_of rules box checked fine) start format input to_come unread w r count torn same
+    opened done
 
-pub refuses_all : (rules box : List ℕ) (checked : CheckedTree) (setup : Setup) (trace : Bool) (format : Format) (input to_come : Option (List ℕ)) (old new : Devices) (fault : RunFault)
-    → IsChecked rules box checked → Opened input to_come format → IsWithin fault → IfSome to_come (λ bytes. FaultLeaves setup trace format bytes old new fault) → Refuses rules box input fault
+pub refuses_all : (rules box : List ℕ) (checked : CheckedTree) (setup : Setup) (trace : Bool) (format : Format)
+    (input to_come : Option (List ℕ)) (old new : Devices) (fault : RunFault)
+    → IsChecked rules box checked → Opened input to_come format → IsWithin fault
+    → IfSome to_come (λ bytes. FaultLeaves setup trace format bytes old new fault) → Refuses rules box input fault
 refuses_all rules box checked setup trace format input to_come old new fault fine opened within says =
-    refuses_within rules box (accepted_of rules box checked fine) setup trace format input to_come old new fault opened within says
+    refuses_within rules box (accepted_of rules box checked fine) setup trace format input to_come old new fault opened
+    within says
 
-pub left_all : (rules box : List ℕ) (trace : Bool) (checked : CheckedTree) (setup : Setup) (format : Format) (input to_come : Option (List ℕ)) (old new : Devices) (unread : Option (List ℕ)) (failed : ℕ) (part : List ℕ) (fault : RunFault)
-    → failed ≡ old.reads_failed → Consumes input unread part → length part ≤ READ_AHEAD → IsChecked rules box checked → setup ≡ setup_of checked → Opened input to_come format → IsWithin fault
-    → IfSome to_come (λ bytes. FaultLeaves setup trace format bytes (opened_of old unread failed) new fault) → IfSome input (λ bytes. LeftDevices rules box bytes trace old new fault)
-left_all rules box trace checked setup format None to_come old new unread failed part fault before takes few fine same opened within says = tt
-left_all rules box trace checked setup format (Some bytes) to_come old new unread failed part fault before takes few fine same opened within says =
-    left_within rules box trace (accepted_of rules box checked fine) format bytes old new unread failed fault opened.1 within before
+pub left_all : (rules box : List ℕ) (trace : Bool) (checked : CheckedTree) (setup : Setup) (format : Format)
+    (input to_come : Option (List ℕ)) (old new : Devices) (unread : Option (List ℕ)) (failed : ℕ) (part : List ℕ)
+    (fault : RunFault)
+    → failed ≡ old.reads_failed → Consumes input unread part → length part ≤ READ_AHEAD → IsChecked rules box checked
+    → setup ≡ setup_of checked → Opened input to_come format → IsWithin fault
+    → IfSome to_come (λ bytes. FaultLeaves setup trace format bytes (opened_of old unread failed) new fault)
+    → IfSome input (λ bytes. LeftDevices rules box bytes trace old new fault)
+left_all rules box trace checked setup format None to_come old new unread failed part fault before takes few fine same
+    opened within says = tt
+left_all rules box trace checked setup format (Some bytes) to_come old new unread failed part fault before takes few
+    fine same opened within says =
+    left_within rules box trace (accepted_of rules box checked fine) format bytes old new unread failed fault opened.1
+    within before
     (λ left kept all_read. unbegun bytes part old new unread left takes few kept all_read)
-    (subst (λ (s : Setup). FaultLeaves s trace format (drop HEADER_BYTES bytes) (opened_of old unread failed) new fault) same
-    (known to_come (drop HEADER_BYTES bytes) (λ bytes. FaultLeaves setup trace format bytes (opened_of old unread failed) new fault) opened.2 says))
+    (subst (λ (s : Setup). FaultLeaves s trace format (drop HEADER_BYTES bytes) (opened_of old unread failed) new fault)
+    same
+    (known to_come (drop HEADER_BYTES bytes)
+    (λ bytes. FaultLeaves setup trace format bytes (opened_of old unread failed) new fault) opened.2 says))

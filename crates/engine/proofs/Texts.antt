@@ -1,5 +1,6 @@
 -- The two texts of a capture whose header is accepted, by how its records stop.
-use Rattle.std.proofs.Common.{◌≡◌, ◌≤◌, ◌⊎◌, ℕ, Bool, true, false, List, [], ◌++◌, length, Option, Some, None, IfSome, Result, Ok, Err, IfErr, refl, sym, ap, subst, ◌∙◌, arith, append-nil, inl, inr}
+use Rattle.std.proofs.Common.{◌≡◌, ◌≤◌, ◌⊎◌, ℕ, Bool, true, false, List, [], ◌++◌, length, Option, Some, None, IfSome}
+use Rattle.std.proofs.Common.{Result, Ok, Err, IfErr, refl, sym, ap, subst, ◌∙◌, arith, append-nil, inl, inr}
 use Rattle.std.specs.Prelude.{IsErrOf}
 use Rattle.pcap_io.specs.declared.format.Format.{Format}
 use Rattle.pcap_io.specs.declared.fault.CaptureFault.{CaptureFault}
@@ -21,8 +22,10 @@ use Rattle.engine.specs.declared.replay.Replay.{Replay}
 use Rattle.engine.specs.Meaning.{ending_of}
 use Rattle.engine.specs.Refusals.{IsOfRecord, fault_at}
 use Rattle.engine.specs.AfterFault.{Devices, OneFailed, Untouched}
-use Rattle.engine.specs.steps.Replayed.{AllWritten, HaltedByWrite, Interrupts, IsStop, OneOfTwo, PrefixWritten, ReplayRepresents, Replayed, ReplayStart, unread_input, ending_at}
-use Rattle.engine.specs.steps.Written.{FinishFails, OutputsFinished, IsWithin, FaultLeaves, OutputsWritten, ReportUnfinished, start_of, torn_at}
+use Rattle.engine.specs.steps.Replayed.{AllWritten, HaltedByWrite, Interrupts, IsStop, OneOfTwo, PrefixWritten}
+use Rattle.engine.specs.steps.Replayed.{ReplayRepresents, Replayed, ReplayStart, unread_input, ending_at}
+use Rattle.engine.specs.steps.Written.{FinishFails, OutputsFinished, IsWithin, FaultLeaves, OutputsWritten}
+use Rattle.engine.specs.steps.Written.{ReportUnfinished, start_of, torn_at}
 use Rattle.engine.proofs.Histories.{history_length}
 use Rattle.engine.proofs.Known.{nothing}
 
@@ -49,18 +52,26 @@ torn_capture (Some captures.Version) = tt
 torn_capture (Some captures.LinkType) = tt
 
 -- the fault at which the records stop
-from_stop : (stop : Option CaptureFault) (fault : RunFault) (P : RunFault → Type 0) → torn_at stop ≡ Err fault → IfErr (torn_at stop) P → P fault
+from_stop : (stop : Option CaptureFault) (fault : RunFault) (P : RunFault → Type 0) → torn_at stop ≡ Err fault
+    → IfErr (torn_at stop) P → P fault
 from_stop stop fault P e h = let Q : Result Bool RunFault → Type 0 = λ r. IfErr r P in subst Q e h
 
-pub ended_stop : (start : ReplayStart) (history : List Entry) (stop : Option CaptureFault) (w r : Option (List ℕ)) (before after : ℕ) (fault : RunFault) → torn_at stop ≡ Err fault → AllWritten start history w r
+pub ended_stop : (start : ReplayStart) (history : List Entry) (stop : Option CaptureFault) (w r : Option (List ℕ))
+    (before after : ℕ) (fault : RunFault) → torn_at stop ≡ Err fault → AllWritten start history w r
     → FinishFails start history stop w r before after fault
 ended_stop start history stop w r before after (Capture fault) e all = (e, all)
-ended_stop start history stop w r before after (Rules fault) e all = absurd (from_stop stop (Rules fault) IsCapture e (torn_capture stop))
-ended_stop start history stop w r before after (Box fault) e all = absurd (from_stop stop (Box fault) IsCapture e (torn_capture stop))
-ended_stop start history stop w r before after Device e all = absurd (from_stop stop Device IsCapture e (torn_capture stop))
-ended_stop start history stop w r before after Memory e all = absurd (from_stop stop Memory IsCapture e (torn_capture stop))
+ended_stop start history stop w r before after (Rules fault) e all =
+    absurd (from_stop stop (Rules fault) IsCapture e (torn_capture stop))
+ended_stop start history stop w r before after (Box fault) e all =
+    absurd (from_stop stop (Box fault) IsCapture e (torn_capture stop))
+ended_stop start history stop w r before after Device e all =
+    absurd (from_stop stop Device IsCapture e (torn_capture stop))
+ended_stop start history stop w r before after Memory e all =
+    absurd (from_stop stop Memory IsCapture e (torn_capture stop))
 
-pub ended_device : (start : ReplayStart) (history : List Entry) (stop : Option CaptureFault) (torn : Bool) (w r : Option (List ℕ)) (before after : ℕ) → torn_at stop ≡ Ok torn → PrefixWritten start history w r ⊎ (ReportUnfinished start history torn w r × (after ≡ one_more before))
+pub ended_device : (start : ReplayStart) (history : List Entry) (stop : Option CaptureFault) (torn : Bool)
+    (w r : Option (List ℕ)) (before after : ℕ) → torn_at stop ≡ Ok torn → PrefixWritten start history w r
+    ⊎ (ReportUnfinished start history torn w r × (after ≡ one_more before))
     → FinishFails start history stop w r before after Device
 ended_device start history stop torn w r before after e (inl part) = inl part
 ended_device start history stop torn w r before after e (inr (u, failed)) = inr (torn, e, u, failed)
@@ -75,7 +86,8 @@ within_stop (Some captures.Version) is = absurd is
 within_stop (Some captures.LinkType) is = absurd is
 
 -- a fault after the last record comes within the records
-pub within_end : (stop : Option CaptureFault) (fault : RunFault) → IsStop stop → (fault ≡ Device) ⊎ (torn_at stop ≡ Err fault) → IsWithin fault
+pub within_end : (stop : Option CaptureFault) (fault : RunFault) → IsStop stop → (fault ≡ Device)
+    ⊎ (torn_at stop ≡ Err fault) → IsWithin fault
 within_end stop fault is (inl e) = subst IsWithin (sym e) tt
 within_end stop fault is (inr e) = from_stop stop fault IsWithin e (within_stop stop is)
 
@@ -110,7 +122,8 @@ ending_torn (Some captures.LinkType) torn e = cc
 -- ---- before the first record
 
 -- nothing but a beginning of the header was written
-pub halted_open : (start : ReplayStart) (s : CaptureState) (unread w r : Option (List ℕ)) → length s.held ≤ READ_AHEAD → start.report ≡ r → AppendsPrefix start.sent w sll2_header
+pub halted_open : (start : ReplayStart) (s : CaptureState) (unread w r : Option (List ℕ)) → length s.held ≤ READ_AHEAD
+    → start.report ≡ r → AppendsPrefix start.sent w sll2_header
     → IfSome (unread_input s unread) (λ bytes. HaltedByWrite start s.format bytes unread w r)
 halted_open start s None w r few same part = tt
 halted_open start s (Some left) w r few same part =
@@ -120,7 +133,13 @@ halted_open start s (Some left) w r few same part =
         left = left;
         is_left = refl;
         history = [];
-        follows = record { records = []; joined = refl; each = λ k d lt. absurd (omega (arith, lt)); not_over = omega arith; is_history = refl };
+        follows = record {
+          records = [];
+          joined = refl;
+          each = λ k d lt. absurd (omega (arith, lt));
+          not_over = omega arith;
+          is_history = refl;
+        };
       };
       few = few;
       part = record {
@@ -131,25 +150,30 @@ halted_open start s (Some left) w r few same part =
 
 -- ---- by the fault
 
--- one fault, whatever is told where there is none
-pub fault_as : {T U : Type 0} (fault other : RunFault) → IsErrOf {T = T} (Err fault) other → IsErrOf {T = U} (Err fault) other
+-- one fault, whatever holds where there is none
+pub fault_as : {T U : Type 0} (fault other : RunFault) → IsErrOf {T = T} (Err fault) other
+    → IsErrOf {T = U} (Err fault) other
 fault_as fault other e = let same : fault ≡ other = cc in ap Err same
 
--- want of memory is no failed call
-pub no_device : {T U : Type 0} (fault : RunFault) → IsErrOf {T = T} (Err fault) Memory → IsErrOf {T = U} (Err fault) Device → ⊥
+-- a failed allocation is no failed call
+pub no_device : {T U : Type 0} (fault : RunFault) → IsErrOf {T = T} (Err fault) Memory
+    → IsErrOf {T = U} (Err fault) Device → ⊥
 no_device fault memory device = cc
 
 -- one failed call behind a beginning in which none failed
-pub failed_after : (a a' b between b' c c' : ℕ) → between ≡ b → OneFailed a a' between b' c c' → OneFailed a a' b b' c c'
+pub failed_after : (a a' b between b' c c' : ℕ) → between ≡ b → OneFailed a a' between b' c c'
+    → OneFailed a a' b b' c c'
 failed_after a a' b between b' c c' same failed = subst (λ (n : ℕ). OneFailed a a' n b' c c') same failed
 
 -- one of a writer's, behind calls of which none failed
-pub failed_ending : (a a' b b1 b' c c1 c' : ℕ) → a' ≡ a → b1 ≡ b → c1 ≡ c → OneOfTwo b1 b' c1 c' → OneFailed a a' b b' c c'
+pub failed_ending : (a a' b b1 b' c c1 c' : ℕ) → a' ≡ a → b1 ≡ b → c1 ≡ c → OneOfTwo b1 b' c1 c'
+    → OneFailed a a' b b' c c'
 failed_ending a a' b b1 b' c c1 c' e f g (inl h) = inr (inl (e, h.0 ∙ ap one_more f, h.1 ∙ g))
 failed_ending a a' b b1 b' c c1 c' e f g (inr h) = inr (inr (e, h.0 ∙ f, h.1 ∙ ap one_more g))
 
 -- a fault by which the records were left before their end comes within them, and no record is refused for it
-pub interrupted_within : {T : Type 0} (fault : RunFault) → IsErrOf {T = T} (Err fault) Device ⊎ IsErrOf {T = T} (Err fault) Memory → IsWithin fault
+pub interrupted_within : {T : Type 0} (fault : RunFault) → IsErrOf {T = T} (Err fault) Device
+    ⊎ IsErrOf {T = T} (Err fault) Memory → IsWithin fault
 interrupted_within Device is = tt
 interrupted_within Memory is = tt
 interrupted_within (Rules fault) (inl e) = cc
@@ -159,7 +183,8 @@ interrupted_within (Box fault) (inr e) = cc
 interrupted_within (Capture fault) (inl e) = cc
 interrupted_within (Capture fault) (inr e) = cc
 
-pub interrupted_by_none : {T : Type 0} (fault : RunFault) → IsErrOf {T = T} (Err fault) Device ⊎ IsErrOf {T = T} (Err fault) Memory → IsOfRecord fault → ⊥
+pub interrupted_by_none : {T : Type 0} (fault : RunFault) → IsErrOf {T = T} (Err fault) Device
+    ⊎ IsErrOf {T = T} (Err fault) Memory → IsOfRecord fault → ⊥
 interrupted_by_none Device is refused = refused
 interrupted_by_none Memory is refused = refused
 interrupted_by_none (Rules fault) is refused = refused
@@ -175,8 +200,11 @@ refused_by_none (Rules fault) refused e = refused
 refused_by_none (Box fault) refused e = refused
 refused_by_none (Capture fault) refused e = cc
 
-pub fault_leaves_interrupted : (setup : Setup) (trace : Bool) (format : Format) (a : Option (List ℕ)) (old new : Devices) (fault : RunFault)
-    → IfSome a (λ bytes. Interrupts (start_of setup trace old) format bytes new.unread new.sent new.report old.reads_failed new.reads_failed fault) → IfSome a (λ bytes. FaultLeaves setup trace format bytes old new fault)
+pub fault_leaves_interrupted : (setup : Setup) (trace : Bool) (format : Format) (a : Option (List ℕ))
+    (old new : Devices) (fault : RunFault)
+    → IfSome a (λ bytes. Interrupts (start_of setup trace old) format bytes new.unread new.sent new.report
+    old.reads_failed new.reads_failed fault) → IfSome a (λ bytes.
+    FaultLeaves setup trace format bytes old new fault)
 fault_leaves_interrupted setup trace format None old new fault h = tt
 fault_leaves_interrupted setup trace format (Some bytes) old new Device h = inl h
 fault_leaves_interrupted setup trace format (Some bytes) old new Memory h = inl h
@@ -185,17 +213,32 @@ fault_leaves_interrupted setup trace format (Some bytes) old new (Box fault) h =
 fault_leaves_interrupted setup trace format (Some bytes) old new (Capture fault) h = absurd h
 
 -- writers that are as they were hold what they held
-pub untouched : {W : Type 0} (contents : W → Option (List ℕ)) (old new : Counted W) (r : Option (List ℕ)) → new ≡ old → Keeps (contents old.inner) (contents new.inner) × Keeps r r
-untouched {W = W} contents old new r e = (subst (λ (x : Counted W). Keeps (contents old.inner) (contents x.inner)) (sym e) (Keeps-refl (contents old.inner)), Keeps-refl r)
+pub untouched : {W : Type 0} (contents : W → Option (List ℕ)) (old new : Counted W) (r : Option (List ℕ)) → new ≡ old
+    → Keeps (contents old.inner) (contents new.inner) × Keeps r r
+untouched {W = W} contents old new r e = (
+  subst (λ (x : Counted W). Keeps (contents old.inner) (contents x.inner)) (sym e) (Keeps-refl (contents old.inner)),
+  Keeps-refl r,
+)
 
--- before the first record: a beginning of the header was written, or there was no room
-pub fault_leaves_begun : {T : Type 0} (setup : Setup) (trace : Bool) (s : CaptureState) (old new : Devices) (fault : RunFault) → IsErrOf {T = T} (Err fault) Device ⊎ IsErrOf {T = T} (Err fault) Memory → length s.held ≤ READ_AHEAD
-    → new.unread ≡ old.unread → new.reads_failed ≡ old.reads_failed → old.report ≡ new.report → AppendsPrefix old.sent new.sent sll2_header → (fault ≡ Memory → Untouched old new)
+-- before the first record: a prefix of the header is written, or an allocation failed
+pub fault_leaves_begun : {T : Type 0} (setup : Setup) (trace : Bool) (s : CaptureState) (old new : Devices)
+    (fault : RunFault) → IsErrOf {T = T} (Err fault) Device ⊎ IsErrOf {T = T} (Err fault) Memory
+    → length s.held ≤ READ_AHEAD
+    → new.unread ≡ old.unread → new.reads_failed ≡ old.reads_failed → old.report ≡ new.report
+    → AppendsPrefix old.sent new.sent sll2_header → (fault ≡ Memory → Untouched old new)
     → IfSome (unread_input s old.unread) (λ bytes. FaultLeaves setup trace s.format bytes old new fault)
 fault_leaves_begun setup trace s old new Device is few same no_failure kept part none =
-    IfSome_weaker (unread_input s old.unread) (λ bytes. HaltedByWrite (start_of setup trace old) s.format bytes old.unread new.sent new.report) (λ bytes. FaultLeaves setup trace s.format bytes old new Device)
-    (λ bytes h. inl (inr (subst (λ (u : Option (List ℕ)). HaltedByWrite (start_of setup trace old) s.format bytes u new.sent new.report) (sym same) h, no_failure))) (halted_open (start_of setup trace old) s old.unread new.sent new.report few kept part)
-fault_leaves_begun setup trace s old new Memory is few same no_failure kept part none = nothing (unread_input s old.unread) (λ bytes. FaultLeaves setup trace s.format bytes old new Memory) (λ bytes. inr (same, none refl, no_failure))
+    IfSome_weaker (unread_input s old.unread)
+    (λ bytes. HaltedByWrite (start_of setup trace old) s.format bytes old.unread new.sent new.report) (λ bytes.
+    FaultLeaves setup trace s.format bytes old new Device)
+    (λ bytes h. inl (inr (
+      subst (λ (u : Option (List ℕ)). HaltedByWrite (start_of setup trace old) s.format bytes u
+          new.sent new.report) (sym same) h,
+      no_failure,
+    ))) (halted_open (start_of setup trace old) s old.unread new.sent new.report few kept part)
+fault_leaves_begun setup trace s old new Memory is few same no_failure kept part none =
+    nothing (unread_input s old.unread) (λ bytes. FaultLeaves setup trace s.format bytes old new Memory) (λ bytes.
+    inr (same, none refl, no_failure))
 fault_leaves_begun setup trace s old new (Rules fault) (inl e) few same no_failure kept part none = cc
 fault_leaves_begun setup trace s old new (Rules fault) (inr e) few same no_failure kept part none = cc
 fault_leaves_begun setup trace s old new (Box fault) (inl e) few same no_failure kept part none = cc
@@ -204,15 +247,22 @@ fault_leaves_begun setup trace s old new (Capture fault) (inl e) few same no_fai
 fault_leaves_begun setup trace s old new (Capture fault) (inr e) few same no_failure kept part none = cc
 
 -- a fault after the last record
-pub fault_leaves_ended : (replay : Replay) (setup : Setup) (trace : Bool) (format : Format) (a w r : Option (List ℕ)) (stop : Option CaptureFault) (old new : Devices) (before : ℕ) (fault : RunFault) → IsStop stop
+pub fault_leaves_ended : (replay : Replay) (setup : Setup) (trace : Bool) (format : Format) (a w r : Option (List ℕ))
+    (stop : Option CaptureFault) (old new : Devices) (before : ℕ) (fault : RunFault) → IsStop stop
     → (fault ≡ Device) ⊎ (torn_at stop ≡ Err fault) → new.reads_failed ≡ old.reads_failed → before ≡ old.reports_failed
-    → ((history : List Entry) → ReplayRepresents replay (start_of setup trace old) history w r → FinishFails (start_of setup trace old) history stop new.sent new.report before new.reports_failed fault)
-    → IfSome a (λ bytes. Replayed replay (start_of setup trace old) format bytes (ending_at stop) new.unread w r) → IfSome a (λ bytes. FaultLeaves setup trace format bytes old new fault)
+    → ((history : List Entry) → ReplayRepresents replay (start_of setup trace old) history w r
+    → FinishFails (start_of setup trace old) history stop new.sent new.report before new.reports_failed fault)
+    → IfSome a (λ bytes. Replayed replay (start_of setup trace old) format bytes (ending_at stop) new.unread w r)
+    → IfSome a (λ bytes. FaultLeaves setup trace format bytes old new fault)
 fault_leaves_ended replay setup trace format None w r stop old new before fault is why no_failure same ends i = tt
-fault_leaves_ended replay setup trace format (Some bytes) w r stop old new before (Rules fault) is why no_failure same ends i = absurd (ends i.reached.history i.replay_represents)
-fault_leaves_ended replay setup trace format (Some bytes) w r stop old new before (Box fault) is why no_failure same ends i = absurd (ends i.reached.history i.replay_represents)
-fault_leaves_ended replay setup trace format (Some bytes) w r stop old new before Memory is why no_failure same ends i = absurd (ends i.reached.history i.replay_represents)
-fault_leaves_ended replay setup trace format (Some bytes) w r stop old new before (Capture fault) is why no_failure same ends i =
+fault_leaves_ended replay setup trace format (Some bytes) w r stop old new before (Rules fault) is why no_failure same
+    ends i = absurd (ends i.reached.history i.replay_represents)
+fault_leaves_ended replay setup trace format (Some bytes) w r stop old new before (Box fault) is why no_failure same
+    ends i = absurd (ends i.reached.history i.replay_represents)
+fault_leaves_ended replay setup trace format (Some bytes) w r stop old new before Memory is why no_failure same ends i =
+    absurd (ends i.reached.history i.replay_represents)
+fault_leaves_ended replay setup trace format (Some bytes) w r stop old new before (Capture fault) is why no_failure same
+    ends i =
     let e = ends i.reached.history i.replay_represents in (
       record {
         reached = i.reached;
@@ -224,9 +274,11 @@ fault_leaves_ended replay setup trace format (Some bytes) w r stop old new befor
       },
       no_failure,
     )
-fault_leaves_ended replay setup trace format (Some bytes) w r stop old new before Device is why no_failure same ends i = by_call (ends i.reached.history i.replay_represents)
+fault_leaves_ended replay setup trace format (Some bytes) w r stop old new before Device is why no_failure same ends i =
+    by_call (ends i.reached.history i.replay_represents)
   where
-    by_call : FinishFails (start_of setup trace old) i.reached.history stop new.sent new.report before new.reports_failed Device → FaultLeaves setup trace format bytes old new Device
+    by_call : FinishFails (start_of setup trace old) i.reached.history stop new.sent new.report before
+        new.reports_failed Device → FaultLeaves setup trace format bytes old new Device
     by_call (inl part) = inl (inr (record { reached = i.reached; few = i.few; part = part }, no_failure))
     by_call (inr u) =
         inr (
@@ -234,21 +286,26 @@ fault_leaves_ended replay setup trace format (Some bytes) w r stop old new befor
             reached = i.reached;
             few = i.few;
             torn = u.0;
-            ends = subst (λ (x : Ending). Ends format x (length i.reached.follows.records) (i.reached.ahead ++ i.reached.left)) (ending_torn stop u.0 u.1) i.ends;
+            ends = subst (λ (x : Ending). Ends format x (length i.reached.follows.records)
+                (i.reached.ahead ++ i.reached.left)) (ending_torn stop u.0 u.1) i.ends;
             unfinished = u.2;
           },
           u.3 ∙ ap one_more same,
         )
 
 -- all is done
-pub all_written : (replay : Replay) (start : ReplayStart) (format : Format) (a unread w w' r r' : Option (List ℕ)) (stop : Option CaptureFault) (torn : Bool) (count : ℕ) → torn_at stop ≡ Ok torn → count ≡ replay.numbers.records
+pub all_written : (replay : Replay) (start : ReplayStart) (format : Format) (a unread w w' r r' : Option (List ℕ))
+    (stop : Option CaptureFault) (torn : Bool) (count : ℕ) → torn_at stop ≡ Ok torn → count ≡ replay.numbers.records
     → ((history : List Entry) → ReplayRepresents replay start history w r → OutputsFinished start history torn w' r')
-    → IfSome a (λ bytes. Replayed replay start format bytes (ending_at stop) unread w r) → IfSome a (λ bytes. OutputsWritten start format bytes count torn unread w' r')
+    → IfSome a (λ bytes. Replayed replay start format bytes (ending_at stop) unread w r) → IfSome a (λ bytes.
+    OutputsWritten start format bytes count torn unread w' r')
 all_written replay start format None unread w w' r r' stop torn count is counted finishes i = tt
 all_written replay start format (Some bytes) unread w w' r r' stop torn count is counted finishes i =
     record {
       reached = i.reached;
-      ends = subst (λ (x : Ending). Ends format x (length i.reached.follows.records) (i.reached.ahead ++ i.reached.left)) (ending_torn stop torn is) i.ends;
-      counted = counted ∙ i.replay_represents.reports.records ∙ history_length start.setup format i.reached.follows.records i.reached.history i.reached.follows.is_history;
+      ends = subst (λ (x : Ending). Ends format x (length i.reached.follows.records)
+          (i.reached.ahead ++ i.reached.left)) (ending_torn stop torn is) i.ends;
+      counted = counted ∙ i.replay_represents.reports.records
+          ∙ history_length start.setup format i.reached.follows.records i.reached.history i.reached.follows.is_history;
       finished = finishes i.reached.history i.replay_represents;
     }

@@ -1,5 +1,6 @@
--- What is told of a story, and what waits to be told.
-use Rattle.std.proofs.Common.{◌≡◌, ℕ, Bool, List, [], ◌∷◌, ◌++◌, length, Option, Some, None, IfSome, sym, ap, subst, ◌∙◌, append-nil}
+-- The written and the pending output of a history.
+use Rattle.std.proofs.Common.{◌≡◌, ℕ, Bool, List, [], ◌∷◌, ◌++◌, length, Option, Some, None, IfSome, sym, ap, subst}
+use Rattle.std.proofs.Common.{◌∙◌, append-nil}
 use Rattle.std.specs.List.{flat_map}
 use Rattle.std.specs.Io.KnownBytes.{Appends, Keeps}
 use Rattle.std.proofs.KnownBytes.{Appends-kept, Appends-trans}
@@ -18,39 +19,64 @@ use Rattle.history.specs.Setup.{Setup}
 use Rattle.stepping.specs.Next.{Next}
 use Rattle.stepping.specs.Representing.{EngineState, Represents, sends_of}
 use Rattle.engine.specs.declared.replay.Replay.{Replay}
-use Rattle.engine.specs.steps.Replayed.{AllWritten, BreaksAtRecord, PrefixWritten, ReplayRepresents, ReplayStart, TakesRecord}
+use Rattle.engine.specs.steps.Replayed.{AllWritten, BreaksAtRecord, PrefixWritten, ReplayRepresents, ReplayStart}
+use Rattle.engine.specs.steps.Replayed.{TakesRecord}
 use Rattle.engine.specs.steps.Written.{OutputsFinished, ReportUnfinished}
 use Rattle.engine.proofs.Histories.{captured_more}
 use Rattle.engine.proofs.Writes.{appends_same, gets_all, gets_so_far, gets_some}
 
 abbrev pub replay_of : EngineState → ReportState → Replay → SinkState → Replay
-replay_of engine numbers replay sink = record { engine = engine; numbers = numbers; records = replay.records; sink = sink }
+replay_of engine numbers replay sink = record {
+  engine = engine;
+  numbers = numbers;
+  records = replay.records;
+  sink = sink;
+}
 
 -- ---- the report's lines
 
 -- its rules are those of the start
-rules_are : (replay : Replay) (start : ReplayStart) (history : List Entry) (rules : List TableTree) (w r : Option (List ℕ)) → ReplayRepresents replay start history w r → rules ≡ replay.engine.setup.rules → rules ≡ start.setup.rules
+rules_are : (replay : Replay) (start : ReplayStart) (history : List Entry) (rules : List TableTree)
+    (w r : Option (List ℕ)) → ReplayRepresents replay start history w r → rules ≡ replay.engine.setup.rules
+    → rules ≡ start.setup.rules
 rules_are replay start history rules w r p e = e ∙ ap (λ (s : Setup). s.rules) p.same
 
--- what was written and what is told now
-lines_all : (a b c : Option (List ℕ)) (lines text : List ℕ) → Appends a b lines → AppendsRest b c lines text → Appends a c text
-lines_all a b c lines text before (rest, whole, after) = appends_same a c (lines ++ rest) text (Appends-trans a b c lines rest before after) whole
+-- what was written before and now
+lines_all : (a b c : Option (List ℕ)) (lines text : List ℕ) → Appends a b lines → AppendsRest b c lines text
+    → Appends a c text
+lines_all a b c lines text before (rest, whole, after) =
+    appends_same a c (lines ++ rest) text (Appends-trans a b c lines rest before after) whole
 
-lines_part : (a b c : Option (List ℕ)) (lines text : List ℕ) → Appends a b lines → AppendsRestPrefix b c lines text → AppendsPrefix a c text
-lines_part a b c lines text before (rest, whole, after) = part_same a c (lines ++ rest) text (part_after a b c lines rest before after) whole
+lines_part : (a b c : Option (List ℕ)) (lines text : List ℕ) → Appends a b lines → AppendsRestPrefix b c lines text
+    → AppendsPrefix a c text
+lines_part a b c lines text before (rest, whole, after) =
+    part_same a c (lines ++ rest) text (part_after a b c lines rest before after) whole
 
--- what was written so far is a beginning
-lines_so_far : (replay : Replay) (start : ReplayStart) (history : List Entry) (w r : Option (List ℕ)) → ReplayRepresents replay start history w r → AppendsPrefix start.report r (entry_lines start.setup.rules start.trace history)
-lines_so_far replay start history w r p = (p.lines, flat_map (note_line start.setup.rules) replay.numbers.notes, sym p.reports.rest, p.appends_report)
+-- what was written so far is a prefix
+lines_so_far : (replay : Replay) (start : ReplayStart) (history : List Entry) (w r : Option (List ℕ))
+    → ReplayRepresents replay start history w r
+    → AppendsPrefix start.report r (entry_lines start.setup.rules start.trace history)
+lines_so_far replay start history w r p = (
+  p.lines,
+  flat_map (note_line start.setup.rules) replay.numbers.notes,
+  sym p.reports.rest,
+  p.appends_report,
+)
 
--- what is told of a report over these rules
-drained : (P : List TableTree → Bool → List Entry → List ℕ → Type 0) (replay : Replay) (start : ReplayStart) (history : List Entry) (rules : List TableTree) (w r : Option (List ℕ)) (p : ReplayRepresents replay start history w r) → rules ≡ replay.engine.setup.rules
-    → ((trace : Bool) (history : List Entry) (lines : List ℕ) → IsReportOf replay.numbers rules trace history lines → P rules trace history lines) → P start.setup.rules start.trace history p.lines
+-- facts of a report under these rules
+drained : (P : List TableTree → Bool → List Entry → List ℕ → Type 0) (replay : Replay) (start : ReplayStart)
+    (history : List Entry) (rules : List TableTree) (w r : Option (List ℕ))
+    (p : ReplayRepresents replay start history w r) → rules ≡ replay.engine.setup.rules
+    → ((trace : Bool) (history : List Entry) (lines : List ℕ) → IsReportOf replay.numbers rules trace history lines
+    → P rules trace history lines) → P start.setup.rules start.trace history p.lines
 drained P replay start history rules w r p e drains =
-    subst (λ (rs : List TableTree). IsReportOf replay.numbers rs start.trace history p.lines → P rs start.trace history p.lines) (rules_are replay start history rules w r p e) (drains start.trace history p.lines) p.reports
+    subst (λ (rs : List TableTree). IsReportOf replay.numbers rs start.trace history p.lines
+    → P rs start.trace history p.lines) (rules_are replay start history rules w r p e)
+    (drains start.trace history p.lines) p.reports
 
--- what it stands for doesn't speak of its room
-with_room : (k : ReportState) (room : ℕ) (rules : List TableTree) (trace : Bool) (history : List Entry) (told : List ℕ) → IsReportOf k rules trace history told → IsReportOf (record k { room = room }) rules trace history told
+-- the represented history doesn't depend on the reserved notes
+with_room : (k : ReportState) (room : ℕ) (rules : List TableTree) (trace : Bool) (history : List Entry) (told : List ℕ)
+    → IsReportOf k rules trace history told → IsReportOf (record k { room = room }) rules trace history told
 with_room k room rules trace history told h =
     record {
       records = h.records;
@@ -63,49 +89,82 @@ with_room k room rules trace history told h =
       rest = h.rest;
     }
 
--- ---- all that waits is told
+-- ---- all pending output is written
 
 -- the sink's writer failed
-pub part_unsent : (replay : Replay) (start : ReplayStart) (history : List Entry) (w w' r : Option (List ℕ)) → ReplayRepresents replay start history w r → AppendsPrefix w w' replay.sink.buffered → PrefixWritten start history w' r
+pub part_unsent : (replay : Replay) (start : ReplayStart) (history : List Entry) (w w' r : Option (List ℕ))
+    → ReplayRepresents replay start history w r → AppendsPrefix w w' replay.sink.buffered
+    → PrefixWritten start history w' r
 part_unsent replay start history w w' r p part =
-    record { part_sent = gets_some [] replay.sink.buffered start.sent w w' (capture_text history) p.gets part; part_lines = lines_so_far replay start history w r p }
+    record {
+      part_sent = gets_some [] replay.sink.buffered start.sent w w' (capture_text history) p.gets part;
+      part_lines = lines_so_far replay start history w r p;
+    }
 
 -- the report's did
-pub part_undrained : (replay : Replay) (start : ReplayStart) (history : List Entry) (rules : List TableTree) (w w' r r' : Option (List ℕ)) → ReplayRepresents replay start history w r → rules ≡ replay.engine.setup.rules → Appends w w' replay.sink.buffered
-    → ((trace : Bool) (history : List Entry) (lines : List ℕ) → IsReportOf replay.numbers rules trace history lines → AppendsRestPrefix r r' lines (entry_lines rules trace history)) → PrefixWritten start history w' r'
+pub part_undrained : (replay : Replay) (start : ReplayStart) (history : List Entry) (rules : List TableTree)
+    (w w' r r' : Option (List ℕ)) → ReplayRepresents replay start history w r → rules ≡ replay.engine.setup.rules
+    → Appends w w' replay.sink.buffered
+    → ((trace : Bool) (history : List Entry) (lines : List ℕ) → IsReportOf replay.numbers rules trace history lines
+    → AppendsRestPrefix r r' lines (entry_lines rules trace history)) → PrefixWritten start history w' r'
 part_undrained replay start history rules w w' r r' p e sent drains =
     record {
-      part_sent = part_whole start.sent w' (capture_text history) (gets_all [] replay.sink.buffered start.sent w w' (capture_text history) p.gets sent);
-      part_lines = lines_part start.report r r' p.lines (entry_lines start.setup.rules start.trace history) p.appends_report
-          (drained (λ rules trace history lines. AppendsRestPrefix r r' lines (entry_lines rules trace history)) replay start history rules w r p e drains);
+      part_sent = part_whole start.sent w' (capture_text history) (gets_all [] replay.sink.buffered start.sent w w'
+          (capture_text history) p.gets sent);
+      part_lines = lines_part start.report r r' p.lines (entry_lines start.setup.rules start.trace history)
+          p.appends_report
+          (drained (λ rules trace history lines. AppendsRestPrefix r r' lines (entry_lines rules trace history)) replay
+          start history rules w r p e drains);
     }
 
--- what was told is a beginning
-pub prefix_written : (start : ReplayStart) (history : List Entry) (w w' r r' : Option (List ℕ)) → AllWritten start history w r → Keeps w w' → Keeps r r' → PrefixWritten start history w' r'
+-- the written output is a prefix
+pub prefix_written : (start : ReplayStart) (history : List Entry) (w w' r r' : Option (List ℕ))
+    → AllWritten start history w r → Keeps w w' → Keeps r r' → PrefixWritten start history w' r'
 prefix_written start history w w' r r' all kept kept' =
     record {
-      part_sent = part_whole start.sent w' (capture_text history) (Appends-kept start.sent w w' (capture_text history) all.all_sent kept);
-      part_lines = part_whole start.report r' (entry_lines start.setup.rules start.trace history) (Appends-kept start.report r r' (entry_lines start.setup.rules start.trace history) all.all_lines kept');
+      part_sent = part_whole start.sent w' (capture_text history) (Appends-kept start.sent w w' (capture_text history)
+          all.all_sent kept);
+      part_lines = part_whole start.report r' (entry_lines start.setup.rules start.trace history) (Appends-kept
+          start.report r r' (entry_lines start.setup.rules start.trace history) all.all_lines kept');
     }
 
-pub still_written : (start : ReplayStart) (history : List Entry) (w r r' : Option (List ℕ)) → AllWritten start history w r → Keeps r r' → AllWritten start history w r'
+pub still_written : (start : ReplayStart) (history : List Entry) (w r r' : Option (List ℕ))
+    → AllWritten start history w r → Keeps r r' → AllWritten start history w r'
 still_written start history w r r' all kept =
-    record { all_sent = all.all_sent; all_lines = Appends-kept start.report r r' (entry_lines start.setup.rules start.trace history) all.all_lines kept }
+    record {
+      all_sent = all.all_sent;
+      all_lines =
+          Appends-kept start.report r r' (entry_lines start.setup.rules start.trace history) all.all_lines kept;
+    }
 
 -- neither did
-pub all_drained : (replay : Replay) (start : ReplayStart) (history : List Entry) (rules : List TableTree) (numbers : ReportState) (sink : SinkState) (w w' r r' : Option (List ℕ)) → ReplayRepresents replay start history w r → rules ≡ replay.engine.setup.rules
+pub all_drained : (replay : Replay) (start : ReplayStart) (history : List Entry) (rules : List TableTree)
+    (numbers : ReportState) (sink : SinkState) (w w' r r' : Option (List ℕ)) → ReplayRepresents replay start history w r
+    → rules ≡ replay.engine.setup.rules
     → Appends w w' replay.sink.buffered → sink.buffered ≡ []
     → ((trace : Bool) (history : List Entry) (lines : List ℕ) → IsReportOf replay.numbers rules trace history lines
-    → AppendsRest r r' lines (entry_lines rules trace history) × IsReportOf numbers rules trace history (entry_lines rules trace history))
-    → ReplayRepresents (replay_of replay.engine numbers replay sink) start history w' r' × AllWritten start history w' r'
+    → AppendsRest r r' lines (entry_lines rules trace history)
+    × IsReportOf numbers rules trace history (entry_lines rules trace history))
+    → ReplayRepresents (replay_of replay.engine numbers replay sink) start history w' r'
+    × AllWritten start history w' r'
 all_drained replay start history rules numbers sink w w' r r' p e sent empty drains =
-    let now = drained (λ rules trace history lines. AppendsRest r r' lines (entry_lines rules trace history) × IsReportOf numbers rules trace history (entry_lines rules trace history)) replay start history rules w r p e drains in
-    let out : Appends start.sent w' (capture_text history) = gets_all [] replay.sink.buffered start.sent w w' (capture_text history) p.gets sent in
-    let lines : Appends start.report r' (entry_lines start.setup.rules start.trace history) = lines_all start.report r r' p.lines (entry_lines start.setup.rules start.trace history) p.appends_report now.0 in (
+    let now = drained (λ rules trace history lines. AppendsRest r r' lines (entry_lines rules trace history)
+    × IsReportOf numbers rules trace history (entry_lines rules trace history)) replay start history rules w r p e
+    drains in
+    let out : Appends start.sent w' (capture_text history) =
+    gets_all [] replay.sink.buffered start.sent w w' (capture_text history) p.gets sent in
+    let lines : Appends start.report r' (entry_lines start.setup.rules start.trace history) =
+    lines_all start.report r r' p.lines (entry_lines start.setup.rules start.trace history) p.appends_report now.0
+    in (
       record {
         same = p.same;
         represents = p.represents;
-        gets = (capture_text history, sym (append-nil (capture_text history)) ∙ ap (λ ws. capture_text history ++ ws) (sym empty), out);
+        gets = (
+          capture_text history,
+          sym (append-nil (capture_text history))
+              ∙ ap (λ ws. capture_text history ++ ws) (sym empty),
+          out,
+        );
         lines = entry_lines start.setup.rules start.trace history;
         reports = now.1;
         appends_report = lines;
@@ -115,126 +174,186 @@ all_drained replay start history rules numbers sink w w' r r' p e sent empty dra
 
 -- ---- after the last record
 
--- so many connections live as the engine tells
-pub finished : (replay : Replay) (start : ReplayStart) (history : List Entry) (rules : List TableTree) (live : ℕ) (torn : Bool) (w w' r r' : Option (List ℕ)) → ReplayRepresents replay start history w r → Appends w w' replay.sink.buffered → rules ≡ replay.engine.setup.rules
+-- the number of live connections is the engine's
+pub finished : (replay : Replay) (start : ReplayStart) (history : List Entry) (rules : List TableTree) (live : ℕ)
+    (torn : Bool) (w w' r r' : Option (List ℕ)) → ReplayRepresents replay start history w r
+    → Appends w w' replay.sink.buffered → rules ≡ replay.engine.setup.rules
     → live ≡ length (live_in replay.engine.setup history)
-    → ((trace : Bool) (history : List Entry) (lines : List ℕ) → IsReportOf replay.numbers rules trace history lines → AppendsRest r r' lines (entry_lines rules trace history ++ closing_lines rules history live torn))
+    → ((trace : Bool) (history : List Entry) (lines : List ℕ) → IsReportOf replay.numbers rules trace history lines
+    → AppendsRest r r' lines (entry_lines rules trace history ++ closing_lines rules history live torn))
     → OutputsFinished start history torn w' r'
 finished replay start history rules live torn w w' r r' p sent e lives says =
     record {
       all_sent = gets_all [] replay.sink.buffered start.sent w w' (capture_text history) p.gets sent;
-      all_lines = subst (λ (n : ℕ). Appends start.report r' (entry_lines start.setup.rules start.trace history ++ closing_lines start.setup.rules history n torn)) (lives ∙ ap (λ (s : Setup). length (live_in s history)) p.same)
-          (lines_all start.report r r' p.lines (entry_lines start.setup.rules start.trace history ++ closing_lines start.setup.rules history live torn) p.appends_report
-          (drained (λ rules trace history lines. AppendsRest r r' lines (entry_lines rules trace history ++ closing_lines rules history live torn)) replay start history rules w r p e says));
+      all_lines = subst (λ (n : ℕ). Appends start.report r'
+          (entry_lines start.setup.rules start.trace history ++ closing_lines start.setup.rules history n torn)) (lives
+          ∙ ap (λ (s : Setup). length (live_in s history)) p.same)
+          (lines_all start.report r r' p.lines
+          (entry_lines start.setup.rules start.trace history ++ closing_lines start.setup.rules history live torn)
+          p.appends_report
+          (drained (λ rules trace history lines.
+          AppendsRest r r' lines (entry_lines rules trace history ++ closing_lines rules history live torn)) replay
+          start history rules w r p e says));
     }
 
-pub unfinished : (replay : Replay) (start : ReplayStart) (history : List Entry) (rules : List TableTree) (live : ℕ) (torn : Bool) (w w' r r' : Option (List ℕ)) → ReplayRepresents replay start history w r → Appends w w' replay.sink.buffered → rules ≡ replay.engine.setup.rules
+pub unfinished : (replay : Replay) (start : ReplayStart) (history : List Entry) (rules : List TableTree) (live : ℕ)
+    (torn : Bool) (w w' r r' : Option (List ℕ)) → ReplayRepresents replay start history w r
+    → Appends w w' replay.sink.buffered → rules ≡ replay.engine.setup.rules
     → live ≡ length (live_in replay.engine.setup history)
-    → ((trace : Bool) (history : List Entry) (lines : List ℕ) → IsReportOf replay.numbers rules trace history lines → AppendsRestPrefix r r' lines (entry_lines rules trace history ++ closing_lines rules history live torn))
+    → ((trace : Bool) (history : List Entry) (lines : List ℕ) → IsReportOf replay.numbers rules trace history lines
+    → AppendsRestPrefix r r' lines (entry_lines rules trace history ++ closing_lines rules history live torn))
     → ReportUnfinished start history torn w' r'
 unfinished replay start history rules live torn w w' r r' p sent e lives says =
     record {
       all_sent = gets_all [] replay.sink.buffered start.sent w w' (capture_text history) p.gets sent;
-      part_lines = subst (λ (n : ℕ). AppendsPrefix start.report r' (entry_lines start.setup.rules start.trace history ++ closing_lines start.setup.rules history n torn)) (lives ∙ ap (λ (s : Setup). length (live_in s history)) p.same)
-          (lines_part start.report r r' p.lines (entry_lines start.setup.rules start.trace history ++ closing_lines start.setup.rules history live torn) p.appends_report
-          (drained (λ rules trace history lines. AppendsRestPrefix r r' lines (entry_lines rules trace history ++ closing_lines rules history live torn)) replay start history rules w r p e says));
+      part_lines = subst (λ (n : ℕ). AppendsPrefix start.report r'
+          (entry_lines start.setup.rules start.trace history ++ closing_lines start.setup.rules history n torn)) (lives
+          ∙ ap (λ (s : Setup). length (live_in s history)) p.same)
+          (lines_part start.report r r' p.lines
+          (entry_lines start.setup.rules start.trace history ++ closing_lines start.setup.rules history live torn)
+          p.appends_report
+          (drained (λ rules trace history lines.
+          AppendsRestPrefix r r' lines (entry_lines rules trace history ++ closing_lines rules history live torn))
+          replay start history rules w r p e says));
     }
 
 -- ---- one record
 
--- nor does what an engine stands for speak of whether it is ready
-pub readied : (engine now : EngineState) (ready : Bool) (history : List Entry) → now ≡ record engine { ready = ready } → Represents engine history → Represents now history
+-- nor does a represented history depend on whether the engine is ready
+pub readied : (engine now : EngineState) (ready : Bool) (history : List Entry) → now ≡ record engine { ready = ready }
+    → Represents engine history → Represents now history
 readied engine now ready history is s =
-    let same : Represents (record engine { ready = ready }) history = record { records = s.records; newest = s.newest; held = s.held } in
+    let same : Represents (record engine { ready = ready }) history =
+    record { records = s.records; newest = s.newest; held = s.held } in
     subst (λ (e : EngineState). Represents e history) (sym is) same
 
--- with room made for its next record and its notes it stands for the same story
-pub roomier : (replay : Replay) (engine : EngineState) (ready : Bool) (numbers : ReportState) (start : ReplayStart) (history : List Entry) (w r : Option (List ℕ)) → engine ≡ record replay.engine { ready = ready }
-    → numbers ≡ record replay.numbers { room = numbers.room } → ReplayRepresents replay start history w r → ReplayRepresents (replay_of engine numbers replay replay.sink) start history w r
+-- with its next record and its notes reserved it represents the same history
+pub roomier : (replay : Replay) (engine : EngineState) (ready : Bool) (numbers : ReportState) (start : ReplayStart)
+    (history : List Entry) (w r : Option (List ℕ)) → engine ≡ record replay.engine { ready = ready }
+    → numbers ≡ record replay.numbers { room = numbers.room } → ReplayRepresents replay start history w r
+    → ReplayRepresents (replay_of engine numbers replay replay.sink) start history w r
 roomier replay engine ready numbers start history w r is_engine is p =
     record {
       same = ap (λ (e : EngineState). e.setup) is_engine ∙ p.same;
       represents = readied replay.engine engine ready history is_engine p.represents;
       gets = p.gets;
       lines = p.lines;
-      reports = subst (λ (k : ReportState). IsReportOf k start.setup.rules start.trace history p.lines) (sym is) (with_room replay.numbers numbers.room start.setup.rules start.trace history p.lines p.reports);
+      reports = subst (λ (k : ReportState). IsReportOf k start.setup.rules start.trace history p.lines) (sym is)
+          (with_room replay.numbers numbers.room start.setup.rules start.trace history p.lines p.reports);
       appends_report = p.appends_report;
     }
 
 -- what is said of a record that was read
-pub at_record : (last : Option Recorded) (taken : Recorded) (P : Recorded → Type 0) → Some taken ≡ last → P taken → IfSome last P
+pub at_record : (last : Option Recorded) (taken : Recorded) (P : Recorded → Type 0) → Some taken ≡ last → P taken
+    → IfSome last P
 at_record last taken P e h = let Q : Option Recorded → Type 0 = λ o. IfSome o P in subst Q e h
 
 -- what an engine's step promises
 abbrev pub Stepped : Setup → List Entry → Recorded → EngineState → Outcome → Type 0
-Stepped setup history taken engine outcome = (e : Entry) × Next setup history taken e × Represents engine (e ∷ history) × (outcome ≡ e.outcome)
+Stepped setup history taken engine outcome = (e : Entry) × Next setup history taken e × Represents engine (e ∷ history)
+    × (outcome ≡ e.outcome)
 
-next_as : (replay : Replay) (start : ReplayStart) (history : List Entry) (taken : Recorded) (e : Entry) (w r : Option (List ℕ)) → ReplayRepresents replay start history w r → Next replay.engine.setup history taken e → Next start.setup history taken e
+next_as : (replay : Replay) (start : ReplayStart) (history : List Entry) (taken : Recorded) (e : Entry)
+    (w r : Option (List ℕ)) → ReplayRepresents replay start history w r → Next replay.engine.setup history taken e
+    → Next start.setup history taken e
 next_as replay start history taken e w r p n = subst (λ (s : Setup). Next s history taken e) p.same n
 
 -- the lines of the entries before are a beginning
-lines_before : (replay : Replay) (start : ReplayStart) (history : List Entry) (e : Entry) (w r : Option (List ℕ)) → ReplayRepresents replay start history w r → AppendsPrefix start.report r (entry_lines start.setup.rules start.trace (e ∷ history))
+lines_before : (replay : Replay) (start : ReplayStart) (history : List Entry) (e : Entry) (w r : Option (List ℕ))
+    → ReplayRepresents replay start history w r
+    → AppendsPrefix start.report r (entry_lines start.setup.rules start.trace (e ∷ history))
 lines_before replay start history e w r p =
-    part_first start.report r (entry_lines start.setup.rules start.trace history) (lines_of start.setup.rules start.trace (length (e ∷ history)) e) (lines_so_far replay start history w r p)
+    part_first start.report r (entry_lines start.setup.rules start.trace history)
+    (lines_of start.setup.rules start.trace (length (e ∷ history)) e) (lines_so_far replay start history w r p)
 
 sends_one : (s : Sent) (xs : List Sent) → s ∷ [] ≡ xs → sll2_record s ≡ flat_map sll2_record xs
 sends_one s xs e = sym (append-nil (sll2_record s)) ∙ ap (flat_map sll2_record) e
 
--- what the newest entry sends is what the engine lends
-lends : (engine : EngineState) (history : List Entry) (e : Entry) (xs : List Sent) → Represents engine (e ∷ history) → xs ≡ sends_of engine.newest → xs ≡ sends e
+-- the engine lends the packet that the newest entry sends
+lends : (engine : EngineState) (history : List Entry) (e : Entry) (xs : List Sent) → Represents engine (e ∷ history)
+    → xs ≡ sends_of engine.newest → xs ≡ sends e
 lends engine history e xs s is = is ∙ ap sends_of s.newest
 
--- a beginning of what a story gives is one of what it gives with one entry more
-pub part_more : (start : ReplayStart) (history : List Entry) (e : Entry) (w r : Option (List ℕ)) → PrefixWritten start history w r → PrefixWritten start (e ∷ history) w r
+-- a prefix of a history's output is one of the extended history's output
+pub part_more : (start : ReplayStart) (history : List Entry) (e : Entry) (w r : Option (List ℕ))
+    → PrefixWritten start history w r → PrefixWritten start (e ∷ history) w r
 part_more start history e w r p =
     record {
-      part_sent = part_same start.sent w (capture_text history ++ flat_map sll2_record (sends e)) (capture_text (e ∷ history)) (part_first start.sent w (capture_text history) (flat_map sll2_record (sends e)) p.part_sent)
+      part_sent = part_same start.sent w (capture_text history ++ flat_map sll2_record (sends e))
+          (capture_text (e ∷ history)) (part_first start.sent w (capture_text history) (flat_map sll2_record (sends e))
+          p.part_sent)
           (sym (captured_more history e));
-      part_lines = part_first start.report r (entry_lines start.setup.rules start.trace history) (lines_of start.setup.rules start.trace (length (e ∷ history)) e) p.part_lines;
+      part_lines = part_first start.report r (entry_lines start.setup.rules start.trace history)
+          (lines_of start.setup.rules start.trace (length (e ∷ history)) e) p.part_lines;
     }
 
 -- it wasn't taken
-pub broke_before : (replay : Replay) (start : ReplayStart) (history : List Entry) (taken : Recorded) (w r : Option (List ℕ)) → ReplayRepresents replay start history w r → ((e : Entry) × Next replay.engine.setup history taken e) → BreaksAtRecord start history taken w r
+pub broke_before : (replay : Replay) (start : ReplayStart) (history : List Entry) (taken : Recorded)
+    (w r : Option (List ℕ)) → ReplayRepresents replay start history w r
+    → ((e : Entry) × Next replay.engine.setup history taken e) → BreaksAtRecord start history taken w r
 broke_before replay start history taken w r p (e, n) =
     record {
       entry = e;
       next = next_as replay start history taken e w r p n;
-      part = part_more start history e w r (record { part_sent = gets_so_far [] replay.sink.buffered start.sent w (capture_text history) p.gets; part_lines = lines_so_far replay start history w r p });
+      part = part_more start history e w r (record {
+        part_sent =
+            gets_so_far [] replay.sink.buffered start.sent w (capture_text history) p.gets;
+        part_lines = lines_so_far replay start history w r p;
+      });
     }
 
-pub broke_unread : (replay : Replay) (start : ReplayStart) (history : List Entry) (last : Option Recorded) (w r : Option (List ℕ)) → ReplayRepresents replay start history w r → ((taken : Recorded) → (e : Entry) × Next replay.engine.setup history taken e)
+pub broke_unread : (replay : Replay) (start : ReplayStart) (history : List Entry) (last : Option Recorded)
+    (w r : Option (List ℕ)) → ReplayRepresents replay start history w r → ((taken : Recorded) → (e : Entry)
+    × Next replay.engine.setup history taken e)
     → IfSome last (λ taken. BreaksAtRecord start history taken w r)
 broke_unread replay start history None w r p entries = tt
-broke_unread replay start history (Some taken) w r p entries = broke_before replay start history taken w r p (entries taken)
+broke_unread replay start history (Some taken) w r p entries =
+    broke_before replay start history taken w r p (entries taken)
 
--- it wasn't taken, and what the story gives was told in part
-pub broke_writing : (start : ReplayStart) (history : List Entry) (last : Option Recorded) (w w' r r' : Option (List ℕ)) → IfSome last (λ taken. BreaksAtRecord start history taken w r) → PrefixWritten start history w' r'
+-- it wasn't processed, and a prefix of the history's output is written
+pub broke_writing : (start : ReplayStart) (history : List Entry) (last : Option Recorded) (w w' r r' : Option (List ℕ))
+    → IfSome last (λ taken. BreaksAtRecord start history taken w r) → PrefixWritten start history w' r'
     → IfSome last (λ taken. BreaksAtRecord start history taken w' r')
 broke_writing start history None w w' r r' b part = tt
-broke_writing start history (Some taken) w w' r r' b part = record { entry = b.entry; next = b.next; part = part_more start history b.entry w' r' part }
+broke_writing start history (Some taken) w w' r r' b part = record {
+  entry = b.entry;
+  next = b.next;
+  part = part_more start history b.entry w' r' part;
+}
 
 -- its packet wasn't all written
-pub broke_sending : (replay : Replay) (start : ReplayStart) (history : List Entry) (taken : Recorded) (engine : EngineState) (outcome : Outcome) (s : Sent) (w w' r : Option (List ℕ)) → ReplayRepresents replay start history w r
-    → Stepped replay.engine.setup history taken engine outcome → s ∷ [] ≡ sends_of engine.newest → AppendsPrefix w w' (replay.sink.buffered ++ sll2_record s) → BreaksAtRecord start history taken w' r
+pub broke_sending : (replay : Replay) (start : ReplayStart) (history : List Entry) (taken : Recorded)
+    (engine : EngineState) (outcome : Outcome) (s : Sent) (w w' r : Option (List ℕ))
+    → ReplayRepresents replay start history w r
+    → Stepped replay.engine.setup history taken engine outcome → s ∷ [] ≡ sends_of engine.newest
+    → AppendsPrefix w w' (replay.sink.buffered ++ sll2_record s) → BreaksAtRecord start history taken w' r
 broke_sending replay start history taken engine outcome s w w' r p t is part =
     record {
       entry = t.0;
       next = next_as replay start history taken t.0 w r p t.1;
       part = record {
-        part_sent = part_same start.sent w' (capture_text history ++ sll2_record s) (capture_text (t.0 ∷ history)) (gets_part [] replay.sink.buffered start.sent w w' (capture_text history) (sll2_record s) p.gets part)
-            (ap (λ xs. capture_text history ++ xs) (sends_one s (sends t.0) (lends engine history t.0 (s ∷ []) t.2 is)) ∙ sym (captured_more history t.0));
+        part_sent = part_same start.sent w' (capture_text history ++ sll2_record s) (capture_text (t.0 ∷ history))
+            (gets_part [] replay.sink.buffered start.sent w w' (capture_text history) (sll2_record s) p.gets part)
+            (ap (λ xs. capture_text history ++ xs) (sends_one s (sends t.0) (lends engine history t.0 (s ∷ []) t.2 is))
+            ∙ sym (captured_more history t.0));
         part_lines = lines_before replay start history t.0 w r p;
       };
     }
 
 -- what a report's note promises
 abbrev pub Noted : ReportState → ReportState → lent.Entry → Type 0
-Noted old new told = (rules : List TableTree) (trace : Bool) (history : List Entry) (lines : List ℕ) (e : Entry) → IsReportOf old rules trace history lines → IsEntry e history told → IsReportOf new rules trace (e ∷ history) lines
+Noted old new told = (rules : List TableTree) (trace : Bool) (history : List Entry) (lines : List ℕ) (e : Entry)
+    → IsReportOf old rules trace history lines → IsEntry e history told → IsReportOf new rules trace (e ∷ history) lines
 
--- it was taken and noted, and its packet is written or waits
-took : (replay : Replay) (start : ReplayStart) (history : List Entry) (taken : Recorded) (engine : EngineState) (outcome : Outcome) (numbers : ReportState) (told : lent.Entry) (sink : SinkState) (w w' r : Option (List ℕ)) → ReplayRepresents replay start history w r
-    → engine.setup ≡ replay.engine.setup → (t : Stepped replay.engine.setup history taken engine outcome) → ((history : List Entry) → Represents engine history → IsNewest (Some told) history) → Noted replay.numbers numbers told
-    → AppendsBuffered replay.sink.buffered w w' sink.buffered (flat_map sll2_record (sends t.0)) → TakesRecord (replay_of engine numbers replay sink) start history taken w' r
+-- it was processed and noted, and its packet is written or buffered
+took : (replay : Replay) (start : ReplayStart) (history : List Entry) (taken : Recorded) (engine : EngineState)
+    (outcome : Outcome) (numbers : ReportState) (told : lent.Entry) (sink : SinkState) (w w' r : Option (List ℕ))
+    → ReplayRepresents replay start history w r
+    → engine.setup ≡ replay.engine.setup → (t : Stepped replay.engine.setup history taken engine outcome)
+    → ((history : List Entry) → Represents engine history → IsNewest (Some told) history)
+    → Noted replay.numbers numbers told
+    → AppendsBuffered replay.sink.buffered w w' sink.buffered (flat_map sll2_record (sends t.0))
+    → TakesRecord (replay_of engine numbers replay sink) start history taken w' r
 took replay start history taken engine outcome numbers told sink w w' r p same t newest noted gets =
     record {
       entry = t.0;
@@ -242,8 +361,10 @@ took replay start history taken engine outcome numbers told sink w w' r p same t
       replay_represents = record {
         same = same ∙ p.same;
         represents = t.2;
-        gets = subst (λ (xs : List ℕ). AppendsBuffered [] start.sent w' sink.buffered xs) (sym (captured_more history t.0))
-            (gets_more [] replay.sink.buffered sink.buffered start.sent w w' (capture_text history) (flat_map sll2_record (sends t.0)) p.gets gets);
+        gets = subst (λ (xs : List ℕ). AppendsBuffered [] start.sent w' sink.buffered xs)
+            (sym (captured_more history t.0))
+            (gets_more [] replay.sink.buffered sink.buffered start.sent w w' (capture_text history)
+            (flat_map sll2_record (sends t.0)) p.gets gets);
         lines = p.lines;
         reports = noted start.setup.rules start.trace history p.lines t.0 p.reports (newest (t.0 ∷ history) t.2);
         appends_report = p.appends_report;
@@ -251,17 +372,29 @@ took replay start history taken engine outcome numbers told sink w w' r p same t
     }
 
 -- it sends none
-pub took_silently : (replay : Replay) (start : ReplayStart) (history : List Entry) (taken : Recorded) (engine : EngineState) (outcome : Outcome) (numbers : ReportState) (told : lent.Entry) (w r : Option (List ℕ)) → ReplayRepresents replay start history w r
-    → engine.setup ≡ replay.engine.setup → Stepped replay.engine.setup history taken engine outcome → ((history : List Entry) → Represents engine history → IsNewest (Some told) history) → Noted replay.numbers numbers told
+pub took_silently : (replay : Replay) (start : ReplayStart) (history : List Entry) (taken : Recorded)
+    (engine : EngineState) (outcome : Outcome) (numbers : ReportState) (told : lent.Entry) (w r : Option (List ℕ))
+    → ReplayRepresents replay start history w r
+    → engine.setup ≡ replay.engine.setup → Stepped replay.engine.setup history taken engine outcome
+    → ((history : List Entry) → Represents engine history → IsNewest (Some told) history)
+    → Noted replay.numbers numbers told
     → [] ≡ sends_of engine.newest → TakesRecord (replay_of engine numbers replay replay.sink) start history taken w r
 took_silently replay start history taken engine outcome numbers told w r p same t newest noted none =
     took replay start history taken engine outcome numbers told replay.sink w w r p same t newest noted
-    (subst (λ (xs : List Sent). AppendsBuffered replay.sink.buffered w w replay.sink.buffered (flat_map sll2_record xs)) (lends engine history t.0 [] t.2 none) (gets_none replay.sink.buffered w))
+    (subst (λ (xs : List Sent). AppendsBuffered replay.sink.buffered w w replay.sink.buffered (flat_map sll2_record xs))
+    (lends engine history t.0 [] t.2 none) (gets_none replay.sink.buffered w))
 
 -- it sends one
-pub took_sending : (replay : Replay) (start : ReplayStart) (history : List Entry) (taken : Recorded) (engine : EngineState) (outcome : Outcome) (numbers : ReportState) (told : lent.Entry) (sink : SinkState) (s : Sent) (w w' r : Option (List ℕ))
-    → ReplayRepresents replay start history w r → engine.setup ≡ replay.engine.setup → Stepped replay.engine.setup history taken engine outcome → ((history : List Entry) → Represents engine history → IsNewest (Some told) history)
-    → Noted replay.numbers numbers told → s ∷ [] ≡ sends_of engine.newest → AppendsBuffered replay.sink.buffered w w' sink.buffered (sll2_record s) → TakesRecord (replay_of engine numbers replay sink) start history taken w' r
+pub took_sending : (replay : Replay) (start : ReplayStart) (history : List Entry) (taken : Recorded)
+    (engine : EngineState) (outcome : Outcome) (numbers : ReportState) (told : lent.Entry) (sink : SinkState) (s : Sent)
+    (w w' r : Option (List ℕ))
+    → ReplayRepresents replay start history w r → engine.setup ≡ replay.engine.setup
+    → Stepped replay.engine.setup history taken engine outcome → ((history : List Entry) → Represents engine history
+    → IsNewest (Some told) history)
+    → Noted replay.numbers numbers told → s ∷ [] ≡ sends_of engine.newest
+    → AppendsBuffered replay.sink.buffered w w' sink.buffered (sll2_record s)
+    → TakesRecord (replay_of engine numbers replay sink) start history taken w' r
 took_sending replay start history taken engine outcome numbers told sink s w w' r p same t newest noted is gets =
     took replay start history taken engine outcome numbers told sink w w' r p same t newest noted
-    (subst (λ (xs : List ℕ). AppendsBuffered replay.sink.buffered w w' sink.buffered xs) (sends_one s (sends t.0) (lends engine history t.0 (s ∷ []) t.2 is)) gets)
+    (subst (λ (xs : List ℕ). AppendsBuffered replay.sink.buffered w w' sink.buffered xs)
+    (sends_one s (sends t.0) (lends engine history t.0 (s ∷ []) t.2 is)) gets)

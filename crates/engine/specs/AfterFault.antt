@@ -1,9 +1,11 @@
--- What the reader and the writers hold after a fault, and how the calls that failed are counted.
-use Rattle.std.specs.Prelude.{◌≡◌, ◌<◌, ◌≤◌, ◌++◌, ℕ, Bool, List, [], length, drop, All, Option, ◌⊎◌, Some, Ok}
+-- The reader and the writers after a fault, and the count of failed calls (own).
+use Rattle.std.specs.Prelude.{◌≡◌, ◌<◌, ◌≤◌, ◌++◌, ℕ, Bool, List, [], length, drop, All, Option, ◌⊎◌, Some}
+use Rattle.std.specs.Prelude.{Ok}
 use Rattle.std.specs.Io.KnownBytes.{Appends, Keeps}
 use Rattle.pcap_io.specs.declared.format.Format.{Format}
 use Rattle.pcap_io.specs.declared.fault.CaptureFault.{CaptureFault}
-use Rattle.pcap_io.specs.Pcap.{Captured, IsRecord, Ending, Ends, format_of, frame, header_fault, stream_of, decoded_records}
+use Rattle.pcap_io.specs.Pcap.{Captured, IsRecord, Ending, Ends, format_of, frame, header_fault, stream_of}
+use Rattle.pcap_io.specs.Pcap.{decoded_records}
 use Rattle.pcap_io.specs.Pcap.{HEADER_BYTES, MOST_RECORDS}
 use Rattle.pcap_io.specs.CaptureStates.{READ_AHEAD}
 use Rattle.pcap_io.specs.Counting.{AppendsPrefix, one_more}
@@ -15,7 +17,7 @@ use Rattle.engine.specs.declared.fault.RunFault.TheVariants.{Rules, Box, Capture
 use Rattle.engine.specs.Meaning.{Accepted, ending_of}
 use Rattle.engine.specs.Refusals.{fault_at}
 
--- what the reader has left and the two writers hold, where it is known, and how many calls of each failed
+-- what the reader has left and the two writers hold, where it is known, and their numbers of failed calls
 pub record Devices : Type 0 where
   pub unread : Option (List ℕ)
   pub sent : Option (List ℕ)
@@ -30,7 +32,7 @@ Untouched old new = Keeps old.sent new.sent × Keeps old.report new.report
 
 -- ---- before the first record
 
--- a read failed before the capture's header was there
+-- a read failed before the file header was complete
 pub record FailedHeaderRead (rules box capture : List ℕ) (old new : Devices) : Type 0 where
   pub accepted : Accepted rules box
   pub part : List ℕ
@@ -41,7 +43,7 @@ pub record FailedHeaderRead (rules box capture : List ℕ) (old new : Devices) :
   pub untouched : Untouched old new
   pub failed : new.reads_failed ≡ one_more old.reads_failed
 
--- no record was read, though some bytes may have been read ahead; no read failed, and nothing was written
+-- no record was processed, though bytes may have been read ahead; no read failed, and nothing was written
 pub record NothingTaken (capture : List ℕ) (old new : Devices) : Type 0 where
   pub part : List ℕ
   pub left : List ℕ
@@ -53,8 +55,8 @@ pub record NothingTaken (capture : List ℕ) (old new : Devices) : Type 0 where
 
 -- ---- within the records
 
--- the texts and the capture's header are accepted; of what follows it these records were taken and make this story,
--- these bytes were read ahead of them, and the reader has the rest left
+-- the texts and the file header are accepted; these records were processed and have this history, these
+-- bytes were read ahead, and the reader has the rest left
 pub record RecordsTaken (rules box capture : List ℕ) (new : Devices) : Type 0 where
   pub accepted : Accepted rules box
   pub format : Format
@@ -69,28 +71,30 @@ pub record RecordsTaken (rules box capture : List ℕ) (new : Devices) : Type 0 
   pub history : List Entry
   pub is_history : IsHistoryOf accepted.setup [] (decoded_records format records) history
 
--- each writer got a beginning of its text for the records taken so far, and the report has no line of what comes after
--- the last; no read failed
+-- each writer got a prefix of its text for the records so far, the report without counters and totals; no
+-- read failed
 pub record FailedWrite (rules box capture : List ℕ) (trace : Bool) (old new : Devices) : Type 0 where
   pub taken_so_far : RecordsTaken rules box capture new
   pub few : length taken_so_far.ahead ≤ READ_AHEAD
   pub sent : AppendsPrefix old.sent new.sent (capture_text taken_so_far.history)
-  pub report : AppendsPrefix old.report new.report (entry_lines taken_so_far.accepted.setup.rules trace taken_so_far.history)
+  pub report : AppendsPrefix old.report new.report (entry_lines taken_so_far.accepted.setup.rules trace
+      taken_so_far.history)
   pub all_read : new.reads_failed ≡ old.reads_failed
 
--- a read failed among the records: what was read before is a capture with a torn end or without, and both writers got
--- all that its records give, but for what comes after the last
+-- a read failed among the records: the records before it are processed, and both outputs of them are
+-- written, but for counters and totals
 pub record FailedRead (rules box capture : List ℕ) (trace : Bool) (old new : Devices) : Type 0 where
   pub taken_so_far : RecordsTaken rules box capture new
   pub few : length taken_so_far.ahead ≤ READ_AHEAD
   pub torn : Bool
   pub ends : Ends taken_so_far.format (ending_of torn) (length taken_so_far.records) taken_so_far.ahead
   pub sent : Appends old.sent new.sent (capture_text taken_so_far.history)
-  pub report : Appends old.report new.report (entry_lines taken_so_far.accepted.setup.rules trace taken_so_far.history)
+  pub report : Appends old.report new.report (entry_lines taken_so_far.accepted.setup.rules trace
+      taken_so_far.history)
   pub failed : new.reads_failed ≡ one_more old.reads_failed
 
--- there was no room to take a record that was read: both writers got all that the records before it give, but for what
--- comes after the last; no read failed
+-- an allocation failed at a record: both outputs of the records before it are written, but for counters and
+-- totals; no read failed
 pub record OutOfMemory (rules box capture : List ℕ) (trace : Bool) (old new : Devices) : Type 0 where
   pub taken_so_far : RecordsTaken rules box capture new
   pub untaken : Captured
@@ -99,53 +103,61 @@ pub record OutOfMemory (rules box capture : List ℕ) (trace : Bool) (old new : 
   pub read : taken_so_far.ahead ≡ frame untaken ++ more
   pub few : length more ≤ READ_AHEAD
   pub sent : Appends old.sent new.sent (capture_text taken_so_far.history)
-  pub report : Appends old.report new.report (entry_lines taken_so_far.accepted.setup.rules trace taken_so_far.history)
+  pub report : Appends old.report new.report (entry_lines taken_so_far.accepted.setup.rules trace
+      taken_so_far.history)
   pub all_read : new.reads_failed ≡ old.reads_failed
 
--- a record was refused: both writers got all that the records before it give, but for what comes after the last
-pub record RecordRefused (rules box capture : List ℕ) (trace : Bool) (fault : CaptureFault) (old new : Devices)
+-- a record was refused: both outputs of the records before it are written, but for counters and totals
+pub record RecordRefused (rules box capture : List ℕ) (trace : Bool) (fault : CaptureFault)
+    (old new : Devices)
     : Type 0 where
   pub taken_so_far : RecordsTaken rules box capture new
   pub few : length taken_so_far.ahead ≤ READ_AHEAD
   pub ending : Ending
-  pub ends : Ends taken_so_far.format ending (length taken_so_far.records) (taken_so_far.ahead ++ taken_so_far.left)
+  pub ends : Ends taken_so_far.format ending (length taken_so_far.records)
+      (taken_so_far.ahead ++ taken_so_far.left)
   pub refused : fault_at ending ≡ Some fault
   pub sent : Appends old.sent new.sent (capture_text taken_so_far.history)
-  pub report : Appends old.report new.report (entry_lines taken_so_far.accepted.setup.rules trace taken_so_far.history)
+  pub report : Appends old.report new.report (entry_lines taken_so_far.accepted.setup.rules trace
+      taken_so_far.history)
   pub all_read : new.reads_failed ≡ old.reads_failed
 
--- all records were done, and a call of the report's writer failed: the capture's writer got all of its text, the
--- report's a beginning
+-- all records were processed, and the report's writer failed then: the output capture is whole, and the
+-- report has a prefix
 pub record FailedReport (rules box capture : List ℕ) (trace : Bool) (old new : Devices) : Type 0 where
   pub taken_so_far : RecordsTaken rules box capture new
   pub few : length taken_so_far.ahead ≤ READ_AHEAD
   pub torn : Bool
-  pub ends : Ends taken_so_far.format (ending_of torn) (length taken_so_far.records) (taken_so_far.ahead ++ taken_so_far.left)
+  pub ends : Ends taken_so_far.format (ending_of torn) (length taken_so_far.records)
+      (taken_so_far.ahead ++ taken_so_far.left)
   pub sent : Appends old.sent new.sent (capture_text taken_so_far.history)
-  pub report : AppendsPrefix old.report new.report (report_text taken_so_far.accepted.setup trace taken_so_far.history torn)
+  pub report : AppendsPrefix old.report new.report (report_text taken_so_far.accepted.setup trace
+      taken_so_far.history torn)
   pub failed : new.reports_failed ≡ one_more old.reports_failed
 
 -- ---- by the fault
 
--- a read failed, or a write; once all records are done a write of the report leaves more than a beginning of the rest
+-- the cases of a failed read or write
 abbrev pub LeftByDeviceFault : List ℕ → List ℕ → List ℕ → Bool → Devices → Devices → Type 0
 LeftByDeviceFault rules box capture trace old new =
     FailedHeaderRead rules box capture old new
     ⊎ (FailedRead rules box capture trace old new
     ⊎ (FailedWrite rules box capture trace old new ⊎ FailedReport rules box capture trace old new))
 
--- what a run leaves: before the capture's header is accepted nothing is written, nor for want of room before a record
+-- the devices after each fault
 abbrev pub LeftDevices : List ℕ → List ℕ → List ℕ → Bool → Devices → Devices → RunFault → Type 0
 LeftDevices rules box capture trace old new (Rules fault) = Untouched old new
 LeftDevices rules box capture trace old new (Box fault) = Untouched old new
 LeftDevices rules box capture trace old new (Capture fault) =
-    ((header_fault capture ≡ Some fault) × NothingTaken capture old new) ⊎ RecordRefused rules box capture trace fault old new
+    ((header_fault capture ≡ Some fault) × NothingTaken capture old new)
+    ⊎ RecordRefused rules box capture trace fault old new
 LeftDevices rules box capture trace old new Device = LeftByDeviceFault rules box capture trace old new
-LeftDevices rules box capture trace old new Memory = NothingTaken capture old new ⊎ OutOfMemory rules box capture trace old new
+LeftDevices rules box capture trace old new Memory = NothingTaken capture old new
+    ⊎ OutOfMemory rules box capture trace old new
 
 -- ---- failed calls
 
--- of three counts just one rose, by one
+-- exactly one of three counts rose, by one
 abbrev pub OneFailed : (a a' b b' c c' : ℕ) → Type 0
 OneFailed a a' b b' c c' =
     ((a' ≡ one_more a) × (b' ≡ b) × (c' ≡ c))

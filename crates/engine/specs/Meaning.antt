@@ -1,4 +1,4 @@
--- What a run makes of its texts and its capture.
+-- The meaning of a run's inputs (own): the texts, the capture, and the two outputs.
 use Rattle.std.specs.Prelude.{◌≡◌, ℕ, Bool, true, false, List, [], length, Option}
 use Rattle.std.specs.Io.KnownBytes.{Appends}
 use Rattle.nft_parser.specs.Spells.{Spells}
@@ -10,7 +10,7 @@ use Rattle.history.specs.Setup.{Setup}
 use Rattle.stepping.specs.Next.{IsHistoryOf}
 use Rattle.rule_check.specs.WellFormed.{WellFormed}
 
--- both texts are accepted: the first spells a ruleset in which nothing is wrong on the box that the second spells
+-- both texts are accepted: they spell a ruleset and a box, and the ruleset is well-formed on the box
 pub record Accepted (rules box : List ℕ) : Type 0 where
   pub setup : Setup
   pub spelled : Spells setup.rules rules
@@ -21,9 +21,10 @@ abbrev pub ending_of : Bool → Ending
 ending_of true = Torn
 ending_of false = Whole
 
--- accepted texts and an accepted capture of so many records, with a torn end or none, mean this capture and this
--- report: those of the story whose every entry is the next of the entries before it
-pub record Meaning (rules box capture : List ℕ) (trace : Bool) (count : ℕ) (torn : Bool) (sent report : List ℕ)
+-- accepted inputs, with a capture of so many records and a torn end or none, mean this output capture and
+-- this report: those of the history of the records
+pub record Meaning (rules box capture : List ℕ) (trace : Bool) (count : ℕ) (torn : Bool) (sent report : List
+    ℕ)
     : Type 0 where
   pub accepted : Accepted rules box
   pub records : List Captured
@@ -34,7 +35,7 @@ pub record Meaning (rules box capture : List ℕ) (trace : Bool) (count : ℕ) (
   pub captured : sent ≡ capture_text history
   pub reported : report ≡ report_text accepted.setup trace history torn
 
--- the writers got the two texts of the meaning, and there is no other meaning
+-- the writers got the two outputs of the meaning, and there is no other meaning
 pub record WroteOutputs (rules box capture : List ℕ) (trace : Bool) (count : ℕ) (torn : Bool)
     (old new old_report new_report : Option (List ℕ)) : Type 0 where
   pub sent : List ℕ

@@ -1,4 +1,4 @@
-//! Why a run has no result.
+//! Errors of a run.
 use box_file::BoxFault;
 use nft_parser::TextFault;
 use pcap_io::{CaptureFault, DeviceFailed};
@@ -6,18 +6,18 @@ use rule_check::CheckFault;
 use std::alloc::AllocError;
 use thiserror::Error;
 
-/// What a ruleset is refused for.
+/// Why a ruleset is refused.
 #[derive(Clone, Copy, Debug, Drop, Error)]
 pub enum RulesFault {
-    /// Its text is no ruleset.
+    /// Its text doesn't parse.
     #[error("{0}")]
     Text(TextFault),
-    /// Its text is a ruleset in which something is wrong on the box.
+    /// The parsed ruleset fails a check on the box.
     #[error("{0}")]
     Check(CheckFault),
 }
 
-/// Why a run has no result.
+/// Why a run failed.
 #[derive(Clone, Copy, Debug, Drop, Error)]
 pub enum RunFault {
     /// The ruleset is refused.
@@ -32,7 +32,7 @@ pub enum RunFault {
     /// A read or a write failed.
     #[error("device")]
     Device,
-    /// There was no room to grow.
+    /// An allocation failed.
     #[error("memory")]
     Memory,
 }

@@ -1,4 +1,4 @@
-//! The two texts of a run: the ruleset and the box file.
+//! Reads the ruleset and the box file.
 ghost use Rattle.std.specs.Prelude.{◌≡◌, ◌⊎◌, IfOk, IfErr};
 ghost use Rattle.nft_tree.specs.Tree.{tables_of};
 ghost use Rattle.nft_parser.specs.Spells.{Spells, HasTextFault};
@@ -17,7 +17,7 @@ use nft_tree::Ruleset;
 use rule_check::{CheckError, Checked, check};
 use std::alloc::Global;
 
-/// The ruleset and the box that the texts spell, in which nothing is wrong.
+/// Reads both texts and checks the ruleset on the box.
 pub(crate) fn checked(alloc: Global, rules: &[u8], plant: &[u8]) -> Result<Checked, RunFault>
     ensures fine { IfOk result (λ checked. IsChecked rules.now plant.now checked) }
     ensures refused { IfErr result (λ fault. JudgeRefuses rules.now plant.now fault) }
@@ -31,10 +31,11 @@ pub(crate) fn checked(alloc: Global, rules: &[u8], plant: &[u8]) -> Result<Check
     }
 }
 
-/// The ruleset that the text spells.
+/// Parses the ruleset.
 fn ruleset(alloc: Global, rules: &[u8]) -> Result<Ruleset, RunFault>
     ensures found { IfOk result (λ tree. Spells (tables_of tree) rules.now) }
-    ensures refused { IfErr result (λ fault. (fault ≡ RunFault.Memory) ⊎ ((of_text : TextFault) × (fault ≡ RunFault.Rules (RulesFault.Text of_text)) × HasTextFault rules.now of_text)) }
+    ensures refused { IfErr result (λ fault. (fault ≡ RunFault.Memory) ⊎ ((of_text : TextFault)
+        × (fault ≡ RunFault.Rules (RulesFault.Text of_text)) × HasTextFault rules.now of_text)) }
 {
     match nft_parser::parse(alloc, rules) {
         Ok(tree) => Ok(tree),
@@ -43,10 +44,11 @@ fn ruleset(alloc: Global, rules: &[u8]) -> Result<Ruleset, RunFault>
     }
 }
 
-/// The box that the text spells.
+/// Reads the box file.
 fn forwarding_box(alloc: Global, plant: &[u8]) -> Result<Plant, RunFault>
     ensures found { IfOk result (λ answer. IsBox plant.now answer) }
-    ensures refused { IfErr result (λ fault. (fault ≡ RunFault.Memory) ⊎ ((of_box : BoxFault) × (fault ≡ RunFault.Box of_box) × HasBoxFault plant.now of_box)) }
+    ensures refused { IfErr result (λ fault. (fault ≡ RunFault.Memory) ⊎ ((of_box : BoxFault)
+        × (fault ≡ RunFault.Box of_box) × HasBoxFault plant.now of_box)) }
 {
     match Plant::read(alloc, plant) {
         Ok(plant) => Ok(plant),

@@ -1,4 +1,4 @@
-//! A ruleset judged before it is loaded.
+//! Checks a ruleset before it is loaded.
 ghost use Rattle.std.specs.Prelude.{IfOk, IfErr};
 ghost use Rattle.engine.specs.Judged.{Judged, JudgeRefuses};
 
@@ -7,8 +7,8 @@ use crate::inputs::checked;
 use rule_limits::{chain_count, rule_count};
 use std::alloc::Global;
 
-/// How many tables, chains and rules a ruleset has. The counts stop at `usize::MAX`, which no text
-/// that is accepted reaches.
+/// The numbers of tables, chains and rules of a ruleset, saturating at `usize::MAX`, which no
+/// accepted text reaches.
 #[derive(Clone, Copy, Debug)]
 pub struct Counts {
     pub tables: usize,
@@ -16,9 +16,11 @@ pub struct Counts {
     pub rules: usize,
 }
 
-/// Judges a ruleset on a box before it is loaded. `rules` is the text of a ruleset of nft(8),
-/// `plant` that of a box file. Refusals come in this order: the rules' text, the box file, the
-/// least that is wrong with the ruleset on the box; `Memory` where there was no room to judge it.
+/// Checks a ruleset on a box. `rules` is the text of an nft(8) ruleset, `plant` that of a box file.
+///
+/// # Errors
+/// The first refusal, of the rules' text, the box file, and the ruleset on the box (its least
+/// fault); or `Memory` after a failed allocation.
 pub fn judge(alloc: Global, rules: &[u8], plant: &[u8]) -> Result<Counts, RunFault>
     ensures accepted { IfOk result (λ counts. Judged rules.now plant.now counts) }
     ensures refused { IfErr result (λ fault. JudgeRefuses rules.now plant.now fault) }

@@ -1,6 +1,6 @@
-//! Laws of the meaning, each as the contract of a function that does nothing: two texts and a
-//! capture have one meaning, or one refusal, and never both; and two texts have one judgement, or
-//! one fault, and never both.
+//! Laws of the meaning, each the contract of a function that does nothing: two texts and a capture
+//! have one meaning or one refusal, never both; and two texts have one judgement or one fault,
+//! never both.
 ghost use Rattle.std.specs.Prelude.{◌≡◌, ◌⊎◌, List, ℕ, Bool, Some};
 ghost use Rattle.engine.specs.declared.fault.RunFault.{RunFault};
 ghost use Rattle.engine.specs.declared.judging.Counts.{Counts};
@@ -14,11 +14,12 @@ use pcap_io::{one_reading, some_reading};
 use rule_check::{least_fault_unique, well_formed_or_least_fault};
 use stepping::one_entry;
 
-/// Two texts and a capture mean at most one count of records, one kind of end, one capture and
-/// one report.
+/// The meaning is unique.
 pub fn one_meaning()
-    ensures { (rules box capture : List ℕ) (trace : Bool) (count others : ℕ) (torn other_torn : Bool) (sent other_sent report other_report : List ℕ)
-        → Meaning rules box capture trace count torn sent report → Meaning rules box capture trace others other_torn other_sent other_report
+    ensures { (rules box capture : List ℕ) (trace : Bool) (count others : ℕ)
+        (torn other_torn : Bool) (sent other_sent report other_report : List ℕ)
+        → Meaning rules box capture trace count torn sent report
+        → Meaning rules box capture trace others other_torn other_sent other_report
         → (count ≡ others) × (torn ≡ other_torn) × (sent ≡ other_sent) × (report ≡ other_report) }
 {
     one_tree();
@@ -27,10 +28,11 @@ pub fn one_meaning()
     one_entry();
 }
 
-/// Two texts and a capture are refused for at most one fault.
+/// The refusal is unique.
 pub fn one_refusal()
-    ensures { (rules box capture : List ℕ) (fault other : RunFault) → IsRefusal fault → IsRefusal other
-        → Refuses rules box (Some capture) fault → Refuses rules box (Some capture) other → fault ≡ other }
+    ensures { (rules box capture : List ℕ) (fault other : RunFault) → IsRefusal fault
+        → IsRefusal other → Refuses rules box (Some capture) fault
+        → Refuses rules box (Some capture) other → fault ≡ other }
 {
     one_tree();
     one_fault();
@@ -39,10 +41,12 @@ pub fn one_refusal()
     one_reading();
 }
 
-/// Where two texts and a capture are refused they have no meaning.
+/// Refused inputs have no meaning.
 pub fn no_meaning()
-    ensures { (rules box capture : List ℕ) (fault : RunFault) (trace : Bool) (count : ℕ) (torn : Bool) (sent report : List ℕ) → IsRefusal fault
-        → Refuses rules box (Some capture) fault → Meaning rules box capture trace count torn sent report → ⊥ }
+    ensures { (rules box capture : List ℕ) (fault : RunFault) (trace : Bool) (count : ℕ)
+        (torn : Bool) (sent report : List ℕ) → IsRefusal fault
+        → Refuses rules box (Some capture) fault
+        → Meaning rules box capture trace count torn sent report → ⊥ }
 {
     one_tree();
     one_fault();
@@ -51,11 +55,12 @@ pub fn no_meaning()
     one_reading();
 }
 
-/// Two texts and a capture have a meaning, or a refusal.
+/// All inputs have a meaning or a refusal.
 pub fn some_answer()
     ensures { (rules box capture : List ℕ) (trace : Bool)
-        → ((count : ℕ) × (torn : Bool) × (sent : List ℕ) × (report : List ℕ) × Meaning rules box capture trace count torn sent report)
-        ⊎ ((fault : RunFault) × IsRefusal fault × Refuses rules box (Some capture) fault) }
+        → ((count : ℕ) × (torn : Bool) × (sent : List ℕ) × (report : List ℕ)
+        × Meaning rules box capture trace count torn sent report) ⊎ ((fault : RunFault)
+        × IsRefusal fault × Refuses rules box (Some capture) fault) }
 {
     nft_parser::some_answer();
     some_box();
@@ -64,12 +69,15 @@ pub fn some_answer()
     one_entry();
 }
 
-/// Two texts are judged in one way at most: by one count of tables, chains and rules, or one fault,
-/// and never both.
+/// The judgement of two texts is unique: counts or one fault, never both.
 pub fn one_judging()
-    ensures counts { (rules box : List ℕ) (counts other : Counts) → Judged rules box counts → Judged rules box other → counts ≡ other }
-    ensures fault { (rules box : List ℕ) (fault other : RunFault) → IsOfTexts fault → IsOfTexts other → JudgeRefuses rules box fault → JudgeRefuses rules box other → fault ≡ other }
-    ensures apart { (rules box : List ℕ) (counts : Counts) (fault : RunFault) → IsOfTexts fault → Judged rules box counts → JudgeRefuses rules box fault → ⊥ }
+    ensures counts { (rules box : List ℕ) (counts other : Counts) → Judged rules box counts
+        → Judged rules box other → counts ≡ other }
+    ensures fault { (rules box : List ℕ) (fault other : RunFault) → IsOfTexts fault
+        → IsOfTexts other → JudgeRefuses rules box fault → JudgeRefuses rules box other
+        → fault ≡ other }
+    ensures apart { (rules box : List ℕ) (counts : Counts) (fault : RunFault) → IsOfTexts fault
+        → Judged rules box counts → JudgeRefuses rules box fault → ⊥ }
 {
     one_tree();
     one_fault();
@@ -78,9 +86,10 @@ pub fn one_judging()
     one_reading();
 }
 
-/// Two texts are judged, or refused for a fault.
+/// All texts are judged or refused.
 pub fn some_judging()
-    ensures { (rules box : List ℕ) → ((counts : Counts) × Judged rules box counts) ⊎ ((fault : RunFault) × IsOfTexts fault × JudgeRefuses rules box fault) }
+    ensures { (rules box : List ℕ) → ((counts : Counts) × Judged rules box counts)
+        ⊎ ((fault : RunFault) × IsOfTexts fault × JudgeRefuses rules box fault) }
 {
     nft_parser::some_answer();
     some_box();

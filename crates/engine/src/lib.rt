@@ -1,4 +1,4 @@
-//! Takes each packet of a capture through a ruleset of nft(8), as a forwarding box would.
+//! Runs the packets of a capture through a ruleset of nft(8), as a forwarding box would.
 #![tactic(auto)]
 
 mod fault;

@@ -1,4 +1,4 @@
-//! The records of a capture, one after another.
+//! Replays the records of a capture.
 ghost use Rattle.std.specs.Prelude.{◌≡◌, ◌≢◌, ◌<◌, ◌≤◌, ◌+◌, ◌⊎◌, [], Bool, List, ℕ, Option, true, false, Ok, Err, None, IfOk, IfErr, IfSome, IsErrOf, OnOk, OnErr, length};
 ghost use Rattle.std.specs.Io.KnownBytes.{IsAtEnd};
 ghost use Rattle.pcap_io.specs.Counting.{AppendsPrefix, one_more};
@@ -25,10 +25,10 @@ use std::alloc::Global;
 use std::io::{Read, Write};
 use stepping::{Engine, one_entry};
 
-/// How many notes may wait until they are written.
+/// How many notes may be pending before they are written.
 const MOST_PENDING: usize = 4096;
 
-/// A run among the records of its capture.
+/// A run in progress.
 pub(crate) struct Replay {
     engine: Engine<AgedTracker>,
     numbers: Report,
@@ -48,7 +48,7 @@ impl Drop for Replay {
     }
 }
 
-/// What a run writes.
+/// The outputs of a run.
 #[derive(Drop)]
 struct Outputs {
     numbers: Report,
@@ -56,19 +56,25 @@ struct Outputs {
 }
 
 impl Outputs {
-    /// Before the first record: the header of the capture to write waits or is written.
+    /// The state before the first record. The output capture's header is buffered or written.
     fn open<W: Write>(
         alloc: Global,
         rules: &Ruleset,
         trace: bool,
         sent: &mut Counted<W>,
     ) -> Result<Outputs, RunFault>
-        ensures fresh { IfOk result (λ outputs. IsReportOf outputs.numbers (tables_of rules.now) trace [] []) }
-        ensures gets { IfOk result (λ outputs. AppendsBuffered [] (W.contents sent.old.inner) (W.contents sent.new.inner) outputs.sink.buffered sll2_header) }
-        ensures part { OnErr result (AppendsPrefix (W.contents sent.old.inner) (W.contents sent.new.inner) sll2_header) }
-        ensures kinds { OnErr result (IsErrOf result RunFault.Device ⊎ IsErrOf result RunFault.Memory) }
+        ensures fresh { IfOk result (λ outputs.
+            IsReportOf outputs.numbers (tables_of rules.now) trace [] []) }
+        ensures gets { IfOk result (λ outputs.
+            AppendsBuffered [] (W.contents sent.old.inner) (W.contents sent.new.inner)
+            outputs.sink.buffered sll2_header) }
+        ensures part { OnErr result (AppendsPrefix (W.contents sent.old.inner)
+            (W.contents sent.new.inner) sll2_header) }
+        ensures kinds { OnErr result (IsErrOf result RunFault.Device
+            ⊎ IsErrOf result RunFault.Memory) }
         ensures no_failure { result ≢ Err RunFault.Device → sent.new.failures ≡ sent.old.failures }
-        ensures device { IsErrOf result RunFault.Device → sent.new.failures ≡ one_more sent.old.failures }
+        ensures device { IsErrOf result RunFault.Device
+            → sent.new.failures ≡ one_more sent.old.failures }
         ensures memory { IsErrOf result RunFault.Memory → sent.new ≡ sent.old }
     {
         let numbers = Report::new(alloc, rules, trace)?;
@@ -82,7 +88,7 @@ impl Outputs {
 }
 
 impl Replay {
-    /// Before the first record: the header of the capture to write waits or is written.
+    /// The state before the first record. The output capture's header is buffered or written.
     pub(crate) fn new<W: Write>(
         alloc: Global,
         engine: Engine<AgedTracker>,
@@ -91,12 +97,22 @@ impl Replay {
         sent: &mut Counted<W>,
     ) -> Result<Self, RunFault>
         requires represents { Represents engine [] }
-        ensures same { IfOk result (λ replay. (replay.engine ≡ engine) × (replay.records ≡ records) × (replay.numbers.records ≡ 0)) }
-        ensures replay_represents { (report : Option (List ℕ)) → IfOk result (λ replay. ReplayRepresents replay (record { setup = engine.setup; trace = trace; sent = W.contents sent.old.inner; report = report }) [] (W.contents sent.new.inner) report) }
-        ensures part { OnErr result (AppendsPrefix (W.contents sent.old.inner) (W.contents sent.new.inner) sll2_header) }
-        ensures kinds { OnErr result (IsErrOf result RunFault.Device ⊎ IsErrOf result RunFault.Memory) }
+        ensures same { IfOk result (λ replay. (replay.engine ≡ engine) × (replay.records ≡ records)
+            × (replay.numbers.records ≡ 0)) }
+        ensures replay_represents { (report : Option (List ℕ)) → IfOk result (λ replay.
+            ReplayRepresents replay (record {
+              setup = engine.setup;
+              trace = trace;
+              sent = W.contents sent.old.inner;
+              report = report;
+            }) [] (W.contents sent.new.inner) report) }
+        ensures part { OnErr result (AppendsPrefix (W.contents sent.old.inner)
+            (W.contents sent.new.inner) sll2_header) }
+        ensures kinds { OnErr result (IsErrOf result RunFault.Device
+            ⊎ IsErrOf result RunFault.Memory) }
         ensures no_failure { result ≢ Err RunFault.Device → sent.new.failures ≡ sent.old.failures }
-        ensures device { IsErrOf result RunFault.Device → sent.new.failures ≡ one_more sent.old.failures }
+        ensures device { IsErrOf result RunFault.Device
+            → sent.new.failures ≡ one_more sent.old.failures }
         ensures memory { IsErrOf result RunFault.Memory → sent.new ≡ sent.old }
     {
         let Outputs { numbers, sink } = Outputs::open(alloc, engine.rules(), trace, sent)?;
@@ -108,33 +124,52 @@ impl Replay {
         })
     }
 
-    /// Takes the records until none is left to read, writes the packets that leave, and tells what
-    /// is done before each read. Answers the fault of the capture that the records stop at, none at
-    /// their end. `Err` is `Device`; or `Memory` where there was no room to take a record, and then
-    /// what was done before it is written and flushed.
+    /// Processes all records. Before each read all output is written and flushed. Returns the fault
+    /// at which the records stop, `None` at their end.
+    ///
+    /// # Errors
+    /// `Device`; or `Memory` at a record, and then the output of the records before it is written
+    /// and flushed.
     pub(crate) fn replay_records<R: Read, W: Write, W2: Write>(
         &mut self,
         capture: &mut Counted<R>,
         sent: &mut Counted<W>,
         report: &mut Counted<W2>,
     ) -> Result<Option<CaptureFault>, RunFault>
-        requires fresh { (self.old.records.fault ≡ None) × (self.old.records.count ≡ 0) × (self.old.records.latest ≡ 0) }
+        requires fresh { (self.old.records.fault ≡ None) × (self.old.records.count ≡ 0)
+            × (self.old.records.latest ≡ 0) }
         requires none { self.old.numbers.records ≡ 0 }
         requires represents { Represents self.old.engine [] }
         requires few { length self.old.records.held ≤ READ_AHEAD }
         requires drained { self.old.records.ended ≡ true → IsAtEnd (R.remaining capture.old.inner) }
-        ensures ok { (start : ReplayStart) → ReplayRepresents self.old start [] (W.contents sent.old.inner) (W2.contents report.old.inner)
-            → IfOk result (λ stop. IfSome (unread_input self.old.records (R.remaining capture.old.inner)) (λ bytes.
-            Replayed self.new start self.old.records.format bytes (ending_at stop) (R.remaining capture.new.inner) (W.contents sent.new.inner) (W2.contents report.new.inner))) }
+        ensures ok { (start : ReplayStart)
+            → ReplayRepresents self.old start [] (W.contents sent.old.inner)
+            (W2.contents report.old.inner) → IfOk result (λ stop.
+            IfSome (unread_input self.old.records (R.remaining capture.old.inner)) (λ bytes.
+            Replayed self.new start self.old.records.format bytes (ending_at stop)
+            (R.remaining capture.new.inner) (W.contents sent.new.inner)
+            (W2.contents report.new.inner))) }
         ensures stop { IfOk result IsStop }
-        ensures drained { IfOk result (λ stop. (torn : Bool) → torn_at stop ≡ Ok torn → IsAtEnd (R.remaining capture.new.inner)) }
-        ensures interrupted { (start : ReplayStart) → ReplayRepresents self.old start [] (W.contents sent.old.inner) (W2.contents report.old.inner)
-            → IfErr result (λ fault. IfSome (unread_input self.old.records (R.remaining capture.old.inner)) (λ bytes.
-            Interrupts start self.old.records.format bytes (R.remaining capture.new.inner) (W.contents sent.new.inner) (W2.contents report.new.inner) capture.old.failures capture.new.failures fault)) }
-        ensures flushed { IsErrOf result RunFault.Memory → (sent.new.is_flushed ≡ true) × (report.new.is_flushed ≡ true) }
-        ensures kinds { OnErr result (IsErrOf result RunFault.Device ⊎ IsErrOf result RunFault.Memory) }
-        ensures no_failure { result ≢ Err RunFault.Device → (capture.new.failures ≡ capture.old.failures) × (sent.new.failures ≡ sent.old.failures) × (report.new.failures ≡ report.old.failures) }
-        ensures device { IsErrOf result RunFault.Device → OneFailed capture.old.failures capture.new.failures sent.old.failures sent.new.failures report.old.failures report.new.failures }
+        ensures drained { IfOk result (λ stop. (torn : Bool) → torn_at stop ≡ Ok torn
+            → IsAtEnd (R.remaining capture.new.inner)) }
+        ensures interrupted { (start : ReplayStart)
+            → ReplayRepresents self.old start [] (W.contents sent.old.inner)
+            (W2.contents report.old.inner) → IfErr result (λ fault.
+            IfSome (unread_input self.old.records (R.remaining capture.old.inner)) (λ bytes.
+            Interrupts start self.old.records.format bytes (R.remaining capture.new.inner)
+            (W.contents sent.new.inner) (W2.contents report.new.inner) capture.old.failures
+            capture.new.failures fault)) }
+        ensures flushed { IsErrOf result RunFault.Memory → (sent.new.is_flushed ≡ true)
+            × (report.new.is_flushed ≡ true) }
+        ensures kinds { OnErr result (IsErrOf result RunFault.Device
+            ⊎ IsErrOf result RunFault.Memory) }
+        ensures no_failure { result ≢ Err RunFault.Device
+            → (capture.new.failures ≡ capture.old.failures)
+            × (sent.new.failures ≡ sent.old.failures)
+            × (report.new.failures ≡ report.old.failures) }
+        ensures device { IsErrOf result RunFault.Device
+            → OneFailed capture.old.failures capture.new.failures sent.old.failures
+            sent.new.failures report.old.failures report.new.failures }
     {
         'each: loop {
             self.flush_before_read(sent, report)?;
@@ -153,23 +188,35 @@ impl Replay {
         }
     }
 
-    /// Tells what is done where the next record has to be read first, so that whoever waits for it
-    /// sees all, and where much waits to be told.
+    /// Writes and flushes pending output before a read that may block, and where many notes are
+    /// pending.
     fn flush_before_read<W: Write, W2: Write>(
         &mut self,
         sent: &mut Counted<W>,
         report: &mut Counted<W2>,
     ) -> Result<(), DeviceFailed>
-        ensures ok { (start : ReplayStart) (history : List Entry) → ReplayRepresents self.old start history (W.contents sent.old.inner) (W2.contents report.old.inner)
-            → OnOk result (ReplayRepresents self.new start history (W.contents sent.new.inner) (W2.contents report.new.inner)) }
-        // No read comes before all is told.
-        ensures told { (start : ReplayStart) (history : List Entry) → ReplayRepresents self.old start history (W.contents sent.old.inner) (W2.contents report.old.inner)
-            → is_ready self.old.records ≡ false → OnOk result (AllWritten start history (W.contents sent.new.inner) (W2.contents report.new.inner)) }
-        ensures part { (start : ReplayStart) (history : List Entry) → ReplayRepresents self.old start history (W.contents sent.old.inner) (W2.contents report.old.inner)
-            → OnErr result (PrefixWritten start history (W.contents sent.new.inner) (W2.contents report.new.inner)) }
-        ensures same { (self.new.engine ≡ self.old.engine) × (self.new.records ≡ self.old.records) × (self.new.numbers.records ≡ self.old.numbers.records) }
-        ensures no_failure { OnOk result ((sent.new.failures ≡ sent.old.failures) × (report.new.failures ≡ report.old.failures)) }
-        ensures device { OnErr result (OneOfTwo sent.old.failures sent.new.failures report.old.failures report.new.failures) }
+        ensures ok { (start : ReplayStart) (history : List Entry)
+            → ReplayRepresents self.old start history (W.contents sent.old.inner)
+            (W2.contents report.old.inner)
+            → OnOk result (ReplayRepresents self.new start history (W.contents sent.new.inner)
+            (W2.contents report.new.inner)) }
+        // All output is written before a read.
+        ensures written { (start : ReplayStart) (history : List Entry)
+            → ReplayRepresents self.old start history (W.contents sent.old.inner)
+            (W2.contents report.old.inner) → is_ready self.old.records ≡ false
+            → OnOk result (AllWritten start history (W.contents sent.new.inner)
+            (W2.contents report.new.inner)) }
+        ensures part { (start : ReplayStart) (history : List Entry)
+            → ReplayRepresents self.old start history (W.contents sent.old.inner)
+            (W2.contents report.old.inner)
+            → OnErr result (PrefixWritten start history (W.contents sent.new.inner)
+            (W2.contents report.new.inner)) }
+        ensures same { (self.new.engine ≡ self.old.engine) × (self.new.records ≡ self.old.records)
+            × (self.new.numbers.records ≡ self.old.numbers.records) }
+        ensures no_failure { OnOk result ((sent.new.failures ≡ sent.old.failures)
+            × (report.new.failures ≡ report.old.failures)) }
+        ensures device { OnErr result (OneOfTwo sent.old.failures sent.new.failures
+            report.old.failures report.new.failures) }
     {
         if self.records.is_ready() && self.numbers.pending() <= MOST_PENDING {
             return Ok(());
@@ -177,19 +224,29 @@ impl Replay {
         self.write_pending(sent, report)
     }
 
-    /// Writes what waits of the packets, and the lines of what is noted.
+    /// Writes the buffered packets and the pending notes.
     fn write_pending<W: Write, W2: Write>(
         &mut self,
         sent: &mut Counted<W>,
         report: &mut Counted<W2>,
     ) -> Result<(), DeviceFailed>
-        ensures ok { (start : ReplayStart) (history : List Entry) → ReplayRepresents self.old start history (W.contents sent.old.inner) (W2.contents report.old.inner)
-            → OnOk result (ReplayRepresents self.new start history (W.contents sent.new.inner) (W2.contents report.new.inner) × AllWritten start history (W.contents sent.new.inner) (W2.contents report.new.inner)) }
-        ensures part { (start : ReplayStart) (history : List Entry) → ReplayRepresents self.old start history (W.contents sent.old.inner) (W2.contents report.old.inner)
-            → OnErr result (PrefixWritten start history (W.contents sent.new.inner) (W2.contents report.new.inner)) }
-        ensures same { (self.new.engine ≡ self.old.engine) × (self.new.records ≡ self.old.records) × (self.new.numbers.records ≡ self.old.numbers.records) }
-        ensures no_failure { OnOk result ((sent.new.failures ≡ sent.old.failures) × (report.new.failures ≡ report.old.failures)) }
-        ensures device { OnErr result (OneOfTwo sent.old.failures sent.new.failures report.old.failures report.new.failures) }
+        ensures ok { (start : ReplayStart) (history : List Entry)
+            → ReplayRepresents self.old start history (W.contents sent.old.inner)
+            (W2.contents report.old.inner)
+            → OnOk result (ReplayRepresents self.new start history (W.contents sent.new.inner)
+            (W2.contents report.new.inner)
+            × AllWritten start history (W.contents sent.new.inner) (W2.contents report.new.inner)) }
+        ensures part { (start : ReplayStart) (history : List Entry)
+            → ReplayRepresents self.old start history (W.contents sent.old.inner)
+            (W2.contents report.old.inner)
+            → OnErr result (PrefixWritten start history (W.contents sent.new.inner)
+            (W2.contents report.new.inner)) }
+        ensures same { (self.new.engine ≡ self.old.engine) × (self.new.records ≡ self.old.records)
+            × (self.new.numbers.records ≡ self.old.numbers.records) }
+        ensures no_failure { OnOk result ((sent.new.failures ≡ sent.old.failures)
+            × (report.new.failures ≡ report.old.failures)) }
+        ensures device { OnErr result (OneOfTwo sent.old.failures sent.new.failures
+            report.old.failures report.new.failures) }
     {
         self.sink.send(sent)?;
         self.numbers.drain(self.engine.rules(), report)?;
@@ -202,14 +259,23 @@ impl Replay {
         sent: &mut Counted<W>,
         report: &mut Counted<W2>,
     ) -> Result<(), DeviceFailed>
-        ensures ok { (start : ReplayStart) (history : List Entry) → ReplayRepresents self.old start history (W.contents sent.old.inner) (W2.contents report.old.inner)
-            → OnOk result (AllWritten start history (W.contents sent.new.inner) (W2.contents report.new.inner)) }
-        ensures part { (start : ReplayStart) (history : List Entry) → ReplayRepresents self.old start history (W.contents sent.old.inner) (W2.contents report.old.inner)
-            → OnErr result (PrefixWritten start history (W.contents sent.new.inner) (W2.contents report.new.inner)) }
-        ensures flushed { OnOk result ((sent.new.is_flushed ≡ true) × (report.new.is_flushed ≡ true)) }
+        ensures ok { (start : ReplayStart) (history : List Entry)
+            → ReplayRepresents self.old start history (W.contents sent.old.inner)
+            (W2.contents report.old.inner)
+            → OnOk result (AllWritten start history (W.contents sent.new.inner)
+            (W2.contents report.new.inner)) }
+        ensures part { (start : ReplayStart) (history : List Entry)
+            → ReplayRepresents self.old start history (W.contents sent.old.inner)
+            (W2.contents report.old.inner)
+            → OnErr result (PrefixWritten start history (W.contents sent.new.inner)
+            (W2.contents report.new.inner)) }
+        ensures flushed { OnOk result ((sent.new.is_flushed ≡ true)
+            × (report.new.is_flushed ≡ true)) }
         ensures records { self.new.numbers.records ≡ self.old.numbers.records }
-        ensures no_failure { OnOk result ((sent.new.failures ≡ sent.old.failures) × (report.new.failures ≡ report.old.failures)) }
-        ensures device { OnErr result (OneOfTwo sent.old.failures sent.new.failures report.old.failures report.new.failures) }
+        ensures no_failure { OnOk result ((sent.new.failures ≡ sent.old.failures)
+            × (report.new.failures ≡ report.old.failures)) }
+        ensures device { OnErr result (OneOfTwo sent.old.failures sent.new.failures
+            report.old.failures report.new.failures) }
     {
         self.sink.finish(sent)?;
         self.numbers.drain(self.engine.rules(), report)?;
@@ -219,28 +285,37 @@ impl Replay {
         }
     }
 
-    /// Takes the record that was read last, notes it, and puts the packet that it sends on, if it
-    /// does. False where there was no room to take it: then all is as it was, but for room.
+    /// Processes the last record read: notes its entry, and appends its packet if it is forwarded.
+    /// `false` where an allocation failed; then only reservations have changed.
     fn take<W: Write>(&mut self, sent: &mut Counted<W>) -> Result<bool, DeviceFailed>
         requires read { self.old.records.last ≢ None }
-        requires few { (self.old.engine.records < 4294967296) × (self.old.numbers.records < 4294967296) }
+        requires few { (self.old.engine.records < 4294967296)
+            × (self.old.numbers.records < 4294967296) }
         requires represents { (history : List Entry) × Represents self.old.engine history }
-        ensures ok { (start : ReplayStart) (history : List Entry) (report : Option (List ℕ)) → ReplayRepresents self.old start history (W.contents sent.old.inner) report
-            → result ≡ Ok true → IfSome self.old.records.last (λ taken. TakesRecord self.new start history taken (W.contents sent.new.inner) report) }
-        ensures kept { (start : ReplayStart) (history : List Entry) (report : Option (List ℕ)) → ReplayRepresents self.old start history (W.contents sent.old.inner) report
-            → result ≡ Ok false → ReplayRepresents self.new start history (W.contents sent.new.inner) report }
-        ensures broken { (start : ReplayStart) (history : List Entry) (report : Option (List ℕ)) → ReplayRepresents self.old start history (W.contents sent.old.inner) report
-            → result ≢ Ok true → IfSome self.old.records.last (λ taken. BreaksAtRecord start history taken (W.contents sent.new.inner) report) }
-        ensures represents { result ≡ Ok true → (history : List Entry) × Represents self.new.engine history }
-        ensures counted { result ≡ Ok true → (self.new.engine.records ≡ self.old.engine.records + 1) × (self.new.numbers.records ≡ self.old.numbers.records + 1) }
+        ensures ok { (start : ReplayStart) (history : List Entry) (report : Option (List ℕ))
+            → ReplayRepresents self.old start history (W.contents sent.old.inner) report
+            → result ≡ Ok true → IfSome self.old.records.last (λ taken.
+            TakesRecord self.new start history taken (W.contents sent.new.inner) report) }
+        ensures kept { (start : ReplayStart) (history : List Entry) (report : Option (List ℕ))
+            → ReplayRepresents self.old start history (W.contents sent.old.inner) report
+            → result ≡ Ok false → ReplayRepresents self.new start history
+            (W.contents sent.new.inner) report }
+        ensures broken { (start : ReplayStart) (history : List Entry) (report : Option (List ℕ))
+            → ReplayRepresents self.old start history (W.contents sent.old.inner) report
+            → result ≢ Ok true → IfSome self.old.records.last (λ taken.
+            BreaksAtRecord start history taken (W.contents sent.new.inner) report) }
+        ensures represents { result ≡ Ok true → (history : List Entry)
+            × Represents self.new.engine history }
+        ensures counted { result ≡ Ok true → (self.new.engine.records ≡ self.old.engine.records + 1)
+            × (self.new.numbers.records ≡ self.old.numbers.records + 1) }
         ensures same { self.new.records ≡ self.old.records }
         ensures no_failure { OnOk result (sent.new.failures ≡ sent.old.failures) }
         ensures device { OnErr result (sent.new.failures ≡ one_more sent.old.failures) }
     {
-        // A record that can't be taken has an entry too.
+        // A record that can't be processed has an entry too.
         one_entry();
         self.engine.judged();
-        // All growth first, so that what follows can't fail for want of memory.
+        // All allocation first: nothing after it can fail for memory.
         let Ok(()) = self.engine.reserve() else {
             return Ok(false);
         };
@@ -265,23 +340,33 @@ impl Replay {
         Ok(true)
     }
 
-    /// Writes what is left of both texts, the lines that come after the last record too, and flushes
-    /// both writers.
+    /// Writes the rest of both outputs, the counters and totals too, and flushes both writers.
     fn finish_outputs<W: Write, W2: Write>(
         &mut self,
         torn: bool,
         sent: &mut Counted<W>,
         report: &mut Counted<W2>,
     ) -> Result<(), DeviceFailed>
-        ensures ok { (start : ReplayStart) (history : List Entry) → ReplayRepresents self.old start history (W.contents sent.old.inner) (W2.contents report.old.inner)
-            → OnOk result (OutputsFinished start history torn (W.contents sent.new.inner) (W2.contents report.new.inner)) }
-        ensures part { (start : ReplayStart) (history : List Entry) → ReplayRepresents self.old start history (W.contents sent.old.inner) (W2.contents report.old.inner)
-            → OnErr result (PrefixWritten start history (W.contents sent.new.inner) (W2.contents report.new.inner)
-            ⊎ (ReportUnfinished start history torn (W.contents sent.new.inner) (W2.contents report.new.inner) × (report.new.failures ≡ one_more report.old.failures))) }
-        ensures flushed { OnOk result ((sent.new.is_flushed ≡ true) × (report.new.is_flushed ≡ true)) }
+        ensures ok { (start : ReplayStart) (history : List Entry)
+            → ReplayRepresents self.old start history (W.contents sent.old.inner)
+            (W2.contents report.old.inner)
+            → OnOk result (OutputsFinished start history torn (W.contents sent.new.inner)
+            (W2.contents report.new.inner)) }
+        ensures part { (start : ReplayStart) (history : List Entry)
+            → ReplayRepresents self.old start history (W.contents sent.old.inner)
+            (W2.contents report.old.inner)
+            → OnErr result (PrefixWritten start history (W.contents sent.new.inner)
+            (W2.contents report.new.inner)
+            ⊎ (ReportUnfinished start history torn (W.contents sent.new.inner)
+            (W2.contents report.new.inner)
+            × (report.new.failures ≡ one_more report.old.failures))) }
+        ensures flushed { OnOk result ((sent.new.is_flushed ≡ true)
+            × (report.new.is_flushed ≡ true)) }
         ensures records { self.new.numbers.records ≡ self.old.numbers.records }
-        ensures no_failure { OnOk result ((sent.new.failures ≡ sent.old.failures) × (report.new.failures ≡ report.old.failures)) }
-        ensures device { OnErr result (OneOfTwo sent.old.failures sent.new.failures report.old.failures report.new.failures) }
+        ensures no_failure { OnOk result ((sent.new.failures ≡ sent.old.failures)
+            × (report.new.failures ≡ report.old.failures)) }
+        ensures device { OnErr result (OneOfTwo sent.old.failures sent.new.failures
+            report.old.failures report.new.failures) }
     {
         self.sink.finish(sent)?;
         let live = self.engine.live() as u64;
@@ -289,9 +374,12 @@ impl Replay {
         Ok(())
     }
 
-    /// Writes what is left of both texts and flushes both writers: tells whether the end of the
-    /// records is torn. Where they stop at another fault, that fault, and no line of what comes
-    /// after the last record.
+    /// Ends a run whose records stop at a fault or at none: writes the rest of both outputs and
+    /// flushes both writers. Returns whether the capture ends inside a record.
+    ///
+    /// # Errors
+    /// `Device`; or the fault at which the records stop, and then the report has no counters and
+    /// totals.
     pub(crate) fn finish<W: Write, W2: Write>(
         &mut self,
         stop: Option<CaptureFault>,
@@ -299,15 +387,25 @@ impl Replay {
         report: &mut Counted<W2>,
     ) -> Result<bool, RunFault>
         ensures torn { IfOk result (λ torn. torn_at stop ≡ Ok torn) }
-        ensures ok { (start : ReplayStart) (history : List Entry) → ReplayRepresents self.old start history (W.contents sent.old.inner) (W2.contents report.old.inner)
-            → IfOk result (λ torn. OutputsFinished start history torn (W.contents sent.new.inner) (W2.contents report.new.inner)) }
-        ensures flushed { result ≢ Err RunFault.Device → (sent.new.is_flushed ≡ true) × (report.new.is_flushed ≡ true) }
-        ensures ended { (start : ReplayStart) (history : List Entry) → ReplayRepresents self.old start history (W.contents sent.old.inner) (W2.contents report.old.inner)
-            → IfErr result (FinishFails start history stop (W.contents sent.new.inner) (W2.contents report.new.inner) report.old.failures report.new.failures) }
-        ensures kinds { IfErr result (λ fault. (fault ≡ RunFault.Device) ⊎ (torn_at stop ≡ Err fault)) }
+        ensures ok { (start : ReplayStart) (history : List Entry)
+            → ReplayRepresents self.old start history (W.contents sent.old.inner)
+            (W2.contents report.old.inner) → IfOk result (λ torn.
+            OutputsFinished start history torn (W.contents sent.new.inner)
+            (W2.contents report.new.inner)) }
+        ensures flushed { result ≢ Err RunFault.Device → (sent.new.is_flushed ≡ true)
+            × (report.new.is_flushed ≡ true) }
+        ensures ended { (start : ReplayStart) (history : List Entry)
+            → ReplayRepresents self.old start history (W.contents sent.old.inner)
+            (W2.contents report.old.inner)
+            → IfErr result (FinishFails start history stop (W.contents sent.new.inner)
+            (W2.contents report.new.inner) report.old.failures report.new.failures) }
+        ensures kinds { IfErr result (λ fault. (fault ≡ RunFault.Device)
+            ⊎ (torn_at stop ≡ Err fault)) }
         ensures records { self.new.numbers.records ≡ self.old.numbers.records }
-        ensures no_failure { result ≢ Err RunFault.Device → (sent.new.failures ≡ sent.old.failures) × (report.new.failures ≡ report.old.failures) }
-        ensures device { IsErrOf result RunFault.Device → OneOfTwo sent.old.failures sent.new.failures report.old.failures report.new.failures }
+        ensures no_failure { result ≢ Err RunFault.Device → (sent.new.failures ≡ sent.old.failures)
+            × (report.new.failures ≡ report.old.failures) }
+        ensures device { IsErrOf result RunFault.Device
+            → OneOfTwo sent.old.failures sent.new.failures report.old.failures report.new.failures }
     {
         match torn_at(stop) {
             Ok(torn) => {
@@ -321,33 +419,62 @@ impl Replay {
         }
     }
 
-    /// Takes all records, writes both texts to their ends, and flushes both writers.
+    /// Processes all records, writes both outputs, and flushes both writers.
     pub(crate) fn write<R: Read, W: Write, W2: Write>(
         &mut self,
         capture: &mut Counted<R>,
         sent: &mut Counted<W>,
         report: &mut Counted<W2>,
     ) -> Result<Summary, RunFault>
-        requires fresh { (self.old.records.fault ≡ None) × (self.old.records.count ≡ 0) × (self.old.records.latest ≡ 0) }
+        requires fresh { (self.old.records.fault ≡ None) × (self.old.records.count ≡ 0)
+            × (self.old.records.latest ≡ 0) }
         requires none { self.old.numbers.records ≡ 0 }
         requires represents { Represents self.old.engine [] }
         requires few { length self.old.records.held ≤ READ_AHEAD }
         requires drained { self.old.records.ended ≡ true → IsAtEnd (R.remaining capture.old.inner) }
-        ensures ok { (start : ReplayStart) → ReplayRepresents self.old start [] (W.contents sent.old.inner) (W2.contents report.old.inner)
-            → IfOk result (λ summary. IfSome (unread_input self.old.records (R.remaining capture.old.inner)) (λ bytes.
-            OutputsWritten start self.old.records.format bytes summary.records summary.torn (R.remaining capture.new.inner) (W.contents sent.new.inner) (W2.contents report.new.inner))) }
+        ensures ok { (start : ReplayStart)
+            → ReplayRepresents self.old start [] (W.contents sent.old.inner)
+            (W2.contents report.old.inner) → IfOk result (λ summary.
+            IfSome (unread_input self.old.records (R.remaining capture.old.inner)) (λ bytes.
+            OutputsWritten start self.old.records.format bytes summary.records summary.torn
+            (R.remaining capture.new.inner) (W.contents sent.new.inner)
+            (W2.contents report.new.inner))) }
         ensures drained { OnOk result (IsAtEnd (R.remaining capture.new.inner)) }
-        ensures flushed { OnOk result ((sent.new.is_flushed ≡ true) × (report.new.is_flushed ≡ true)) }
-        ensures refused { IfErr result (λ fault. IsOfRecord fault → (sent.new.is_flushed ≡ true) × (report.new.is_flushed ≡ true)) }
-        ensures memory { IsErrOf result RunFault.Memory → (sent.new.is_flushed ≡ true) × (report.new.is_flushed ≡ true) }
+        ensures flushed { OnOk result ((sent.new.is_flushed ≡ true)
+            × (report.new.is_flushed ≡ true)) }
+        ensures refused { IfErr result (λ fault. IsOfRecord fault → (sent.new.is_flushed ≡ true)
+            × (report.new.is_flushed ≡ true)) }
+        ensures memory { IsErrOf result RunFault.Memory → (sent.new.is_flushed ≡ true)
+            × (report.new.is_flushed ≡ true) }
         ensures within { IfErr result IsWithin }
-        ensures left { (start : ReplayStart) (sends : ℕ) → ReplayRepresents self.old start [] (W.contents sent.old.inner) (W2.contents report.old.inner)
-            → IfErr result (λ fault. IfSome (unread_input self.old.records (R.remaining capture.old.inner)) (λ bytes.
+        ensures left { (start : ReplayStart) (sends : ℕ)
+            → ReplayRepresents self.old start [] (W.contents sent.old.inner)
+            (W2.contents report.old.inner) → IfErr result (λ fault.
+            IfSome (unread_input self.old.records (R.remaining capture.old.inner)) (λ bytes.
             FaultLeaves start.setup start.trace self.old.records.format bytes
-            (record { unread = R.remaining capture.old.inner; sent = start.sent; report = start.report; reads_failed = capture.old.failures; sends_failed = sends; reports_failed = report.old.failures })
-            (record { unread = R.remaining capture.new.inner; sent = W.contents sent.new.inner; report = W2.contents report.new.inner; reads_failed = capture.new.failures; sends_failed = sent.new.failures; reports_failed = report.new.failures }) fault)) }
-        ensures device { IsErrOf result RunFault.Device → OneFailed capture.old.failures capture.new.failures sent.old.failures sent.new.failures report.old.failures report.new.failures }
-        ensures no_failure { result ≢ Err RunFault.Device → (capture.new.failures ≡ capture.old.failures) × (sent.new.failures ≡ sent.old.failures) × (report.new.failures ≡ report.old.failures) }
+            (record {
+              unread = R.remaining capture.old.inner;
+              sent = start.sent;
+              report = start.report;
+              reads_failed = capture.old.failures;
+              sends_failed = sends;
+              reports_failed = report.old.failures;
+            })
+            (record {
+              unread = R.remaining capture.new.inner;
+              sent = W.contents sent.new.inner;
+              report = W2.contents report.new.inner;
+              reads_failed = capture.new.failures;
+              sends_failed = sent.new.failures;
+              reports_failed = report.new.failures;
+            }) fault)) }
+        ensures device { IsErrOf result RunFault.Device
+            → OneFailed capture.old.failures capture.new.failures sent.old.failures
+            sent.new.failures report.old.failures report.new.failures }
+        ensures no_failure { result ≢ Err RunFault.Device
+            → (capture.new.failures ≡ capture.old.failures)
+            × (sent.new.failures ≡ sent.old.failures)
+            × (report.new.failures ≡ report.old.failures) }
     {
         let stop = self.replay_records(capture, sent, report)?;
         let torn = self.finish(stop, sent, report)?;
@@ -358,7 +485,8 @@ impl Replay {
     }
 }
 
-/// Whether the end of the records is torn, which is no fault of a run; or the fault that they stop at.
+/// Whether the capture ends inside a record, which is no error of a run; or the fault at which its
+/// records stop.
 fn torn_at(stop: Option<CaptureFault>) -> Result<bool, RunFault>
     ensures { result ≡ torn_at stop }
 {

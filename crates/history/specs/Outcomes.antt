@@ -1,16 +1,19 @@
--- How records end, in the report's words.
+-- Outcomes of records in the report's order and words (own).
 use Rattle.std.specs.Prelude.{ℕ, ◌==◌, Bool, true, false, List, [], ◌∷◌, codes}
 use Rattle.history.specs.declared.outcome.Cause.{Cause}
-use Rattle.history.specs.declared.outcome.Cause.TheVariants.{Link, Interface, NotIp, Short, Version, HeaderLength}
-use Rattle.history.specs.declared.outcome.Cause.TheVariants.{Length, Truncated, Checksum, Fragment, Transport, Rule}
+use Rattle.history.specs.declared.outcome.Cause.TheVariants.{Link, Interface, NotIp, Short, Version}
+use Rattle.history.specs.declared.outcome.Cause.TheVariants.{HeaderLength}
+use Rattle.history.specs.declared.outcome.Cause.TheVariants.{Length, Truncated, Checksum, Fragment}
+use Rattle.history.specs.declared.outcome.Cause.TheVariants.{Transport, Rule}
 use Rattle.history.specs.declared.outcome.Cause.TheVariants.{Route, Ttl, NoPort, Full, Clash}
 use Rattle.history.specs.declared.outcome.Outcome.{Outcome}
 use Rattle.history.specs.declared.outcome.Outcome.TheVariants.{Passed, Local, Dropped}
 
--- the causes in the order of the report
+-- the causes of drops in the report's order
 abbrev pub causes : List Cause
 causes =
-    Link ∷ Interface ∷ NotIp ∷ Short ∷ Version ∷ HeaderLength ∷ Length ∷ Truncated ∷ Checksum ∷ Fragment ∷ Transport ∷
+    Link ∷ Interface ∷ NotIp ∷ Short ∷ Version ∷ HeaderLength ∷ Length ∷ Truncated ∷ Checksum ∷ Fragment
+    ∷ Transport ∷
     Rule ∷ Route ∷ Ttl ∷ NoPort ∷ Full ∷ Clash ∷ []
 
 abbrev pub report_word : Cause → List ℕ
@@ -32,7 +35,7 @@ report_word NoPort = codes "noport"
 report_word Full = codes "full"
 report_word Clash = codes "clash"
 
--- the place of a cause in the report, from 0, by which two are told apart
+-- the index of a cause in the report's order, from 0, by which causes are compared
 abbrev pub report_index : Cause → ℕ
 report_index Link = 0
 report_index Interface = 1
@@ -54,15 +57,12 @@ report_index Clash = 16
 
 abbrev pub is_passed : Outcome → Bool
 is_passed (Passed interface) = true
-is_passed Local = false
-is_passed (Dropped cause) = false
+is_passed _ = false
 
 abbrev pub is_local : Outcome → Bool
-is_local (Passed interface) = false
 is_local Local = true
-is_local (Dropped cause) = false
+is_local _ = false
 
 abbrev pub is_dropped_for : Cause → Outcome → Bool
-is_dropped_for cause (Passed interface) = false
-is_dropped_for cause Local = false
 is_dropped_for cause (Dropped other) = report_index other == report_index cause
+is_dropped_for cause _ = false

@@ -1,14 +1,14 @@
--- What a box was set up with.
+-- The configuration of a box (own).
 use Rattle.std.specs.Prelude.{List}
 use Rattle.nft_tree.specs.Tree.{TableTree}
 use Rattle.box_file.specs.Box.{PlantTree}
 use Rattle.box_file.specs.declared.limits.Limits.{Limits}
 
--- its rules and its plant
+-- the ruleset and the box file
 pub record Setup : Type 0 where
   pub rules : List TableTree
   pub plant : PlantTree
 
--- for how long its connections may be idle
+-- the idle timeouts of connections
 abbrev pub limits_of : Setup → Limits
 limits_of setup = setup.plant.idle

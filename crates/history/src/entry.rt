@@ -1,18 +1,18 @@
-//! What is lent of the record that was taken last.
+//! What an engine lends of the last record.
 use crate::outcome::Outcome;
 use rule_meaning::Event;
 
-/// What a report reads of a record that was taken.
+/// The last record as a report reads it.
 #[derive(Clone, Copy)]
 pub struct Entry<'a> {
-    /// Its number among the records, from 1.
+    /// The record's number, from 1.
     pub number: u64,
-    /// The total length of its packet as received, in bytes; 0 where it carries none.
+    /// The total length of the packet as received, in bytes; 0 where the record carries none.
     pub length: u16,
-    /// What happened while the rules ran on it, in order.
+    /// The events of the rules' evaluation, in order.
     pub events: &'a [Event],
-    /// How it ended.
+    /// The outcome.
     pub outcome: Outcome,
-    /// Whether its packet began a connection.
+    /// Whether the packet began a connection.
     pub begun: bool,
 }

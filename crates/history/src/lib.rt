@@ -1,4 +1,4 @@
-//! How records end, and what of that the capture that is written and the report show.
+//! What became of each record: the history that the written capture and the report come from.
 #![tactic(auto)]
 
 mod entry;

@@ -1,41 +1,41 @@
-//! How records end.
+//! Outcomes of records, and the causes of drops.
 
-/// Why a record isn't sent on.
+/// Why a record is dropped.
 #[derive(Clone, Copy)]
 pub enum Cause {
-    /// Its link header has it for another box, or for all.
+    /// The frame is for a group or for another station.
     Link,
-    /// It was seen on an interface that the box file doesn't have.
+    /// The input interface isn't in the box file.
     Interface,
-    /// Its link header tells of another protocol than IPv4.
+    /// The link header's protocol isn't IPv4.
     NotIp,
-    /// Fewer bytes than the header needs.
+    /// Fewer bytes than a link header or an IPv4 header needs.
     Short,
     /// The version isn't 4.
     Version,
-    /// The header's length is below its least.
+    /// The header length field is below 5 (RFC 791, section 3.1).
     HeaderLength,
-    /// The total length is below the header's.
+    /// The total length is below the header's length.
     Length,
     /// Fewer bytes than the total length.
     Truncated,
     /// The header's checksum is wrong.
     Checksum,
-    /// It is a part of a larger packet.
+    /// The packet is a fragment.
     Fragment,
-    /// The header of its transport is no header.
+    /// The transport header is malformed.
     Transport,
-    /// A rule or a policy drops it.
+    /// A rule or a policy dropped it.
     Rule,
-    /// No route leads to its destination.
+    /// No route to its destination.
     Route,
-    /// Its time to live ends here.
+    /// Its TTL is used up.
     Ttl,
-    /// No port is left for its source.
+    /// No port is free for its source.
     NoPort,
-    /// As many connections live as may.
+    /// The connection table is full.
     Full,
-    /// Its answers would belong to another connection.
+    /// Its replies would belong to another connection.
     Clash,
 }
 
@@ -64,7 +64,7 @@ impl Cause {
         Self::Clash,
     ];
 
-    /// Its place in the order of the report, from 0.
+    /// Its index in the report's order, from 0.
     pub fn report_index(self) -> usize
         ensures report_index { result ≡ report_index self }
         ensures within { result < 17 }
@@ -72,7 +72,7 @@ impl Cause {
         self as usize
     }
 
-    /// The word that the report has for it.
+    /// Its word in the report.
     pub fn report_word(self) -> &'static str
         ensures { result.now ≡ report_word self }
     {
@@ -98,13 +98,13 @@ impl Cause {
     }
 }
 
-/// How a record ends.
+/// What became of a record.
 #[derive(Clone, Copy)]
 pub enum Outcome {
-    /// Its packet leaves by the interface of this index.
+    /// Its packet is forwarded by the interface of this index.
     Passed(u32),
-    /// Its packet is for the box.
+    /// Its packet is delivered to the box itself.
     Local,
-    /// Its packet isn't sent on, or it carries none.
+    /// Its packet is dropped, or it carries none.
     Dropped(Cause),
 }

@@ -1,53 +1,71 @@
 -- What a buffer holds.
-use Rattle.std.proofs.Common.{◌≡◌, ℕ, ◌+◌, ◌-◌, ◌≤◌, Bool, List, [], ◌++◌, length, take, drop, sym, ap, ◌∙◌, arith, length-drop}
+use Rattle.std.proofs.Common.{◌≡◌, ℕ, ◌+◌, ◌-◌, ◌≤◌, Bool, List, [], ◌++◌, length, take, drop, sym, ap, ◌∙◌, arith}
+use Rattle.std.proofs.Common.{length-drop}
 use Rattle.std.specs.Prelude.{slice_range}
 use Rattle.std.proofs.Math.Seq.{take-add, take-append-add, paste}
-use Rattle.std.proofs.lemmas.List.{length-take, length-take-le, take-take, take-append-le, drop-drop, drop-take, drop-append-le}
+use Rattle.std.proofs.lemmas.List.{length-take, length-take-le, take-take, take-append-le, drop-drop, drop-take}
+use Rattle.std.proofs.lemmas.List.{drop-append-le}
 use Rattle.std.proofs.lemmas.List.Edits.{take-paste}
 use Rattle.std.proofs.lemmas.Slice.{between_is}
 use Rattle.pcap_io.specs.steps.ReadAhead.{BufferState}
 
--- the bytes before a place were taken, and those up to another are held
+-- the bytes before an offset were taken, and those up to another are buffered
 abbrev pub ahead_at : List ℕ → ℕ → ℕ → Bool → BufferState
 ahead_at bytes start end ended = record { taken = take start bytes; held = slice_range bytes start end; ended = ended }
 
--- as many bytes are held as stand between the places
-pub held_length : (bytes : List ℕ) (start end : ℕ) → start ≤ end → end ≤ length bytes → length (slice_range bytes start end) ≡ end - start
+-- the buffered bytes are those between the offsets
+pub held_length : (bytes : List ℕ) (start end : ℕ) → start ≤ end → end ≤ length bytes
+    → length (slice_range bytes start end) ≡ end - start
 held_length bytes start end h k = grind (arith, length-take, length-drop)
 
 -- some of what is held is taken
 pub taken_more : (bytes : List ℕ) (start end count : ℕ) (ended : Bool) → start + count ≤ end
-    → ahead_at bytes (start + count) end ended ≡ record { taken = take start bytes ++ take count (slice_range bytes start end); held = drop count (slice_range bytes start end); ended = ended }
+    → ahead_at bytes (start + count) end ended ≡ record {
+      taken =
+          take start bytes ++ take count (slice_range bytes start end);
+      held = drop count (slice_range bytes start end);
+      ended = ended;
+    }
 taken_more bytes start end count ended fits =
     let made : List ℕ → List ℕ → BufferState = λ t h. record { taken = t; held = h; ended = ended } in
     let front : take (start + count) bytes ≡ take start bytes ++ take count (slice_range bytes start end) =
-    take-add start count bytes ∙ ap (λ ys. take start bytes ++ ys) (sym (take-take count (end - start) (drop start bytes) (omega arith))) in
+    take-add start count bytes ∙ ap (λ ys. take start bytes ++ ys)
+    (sym (take-take count (end - start) (drop start bytes) (omega arith))) in
     let room : end - start ≡ count + (end - (start + count)) = omega arith in
     let back : slice_range bytes (start + count) end ≡ drop count (slice_range bytes start end) =
-    ap (take (end - (start + count))) (sym (drop-drop count start bytes)) ∙ sym (drop-take count (end - (start + count)) (drop start bytes)) ∙ ap (λ n. drop count (take n (drop start bytes))) (sym room) in
-    ap (λ t. made t (slice_range bytes (start + count) end)) front ∙ ap (λ h. made (take start bytes ++ take count (slice_range bytes start end)) h) back
+    ap (take (end - (start + count))) (sym (drop-drop count start bytes))
+    ∙ sym (drop-take count (end - (start + count)) (drop start bytes))
+    ∙ ap (λ n. drop count (take n (drop start bytes))) (sym room) in
+    ap (λ t. made t (slice_range bytes (start + count) end)) front
+    ∙ ap (λ h. made (take start bytes ++ take count (slice_range bytes start end)) h) back
 
--- what was held stands at the front
-pub moved_down : (bytes : List ℕ) (start end : ℕ) → start ≤ end → end ≤ length bytes → slice_range (paste bytes 0 (drop start bytes) (end - start)) 0 (end - start) ≡ slice_range bytes start end
+-- the buffered bytes are at the front
+pub moved_down : (bytes : List ℕ) (start end : ℕ) → start ≤ end → end ≤ length bytes
+    → slice_range (paste bytes 0 (drop start bytes) (end - start)) 0 (end - start) ≡ slice_range bytes start end
 moved_down bytes start end h k =
     let n : ℕ = end - start in
     let room : n ≤ length (drop start bytes) = omega (arith, length-drop start bytes) in
     let same : n - 0 ≡ 0 + n = omega arith in
-    ap (λ m. take m (paste bytes 0 (drop start bytes) n)) same ∙ take-paste bytes 0 (drop start bytes) n (omega arith) room
+    ap (λ m. take m (paste bytes 0 (drop start bytes) n)) same
+    ∙ take-paste bytes 0 (drop start bytes) n (omega arith) room
 
--- what was read stands behind what is held
-pub held_more : (bytes buf post : List ℕ) (start end count after : ℕ) → after ≡ end + count → start ≤ end → end ≤ length bytes → count ≤ length buf
+-- the bytes read are behind the buffered ones
+pub held_more : (bytes buf post : List ℕ) (start end count after : ℕ) → after ≡ end + count → start ≤ end
+    → end ≤ length bytes → count ≤ length buf
     → slice_range (take end bytes ++ (buf ++ post)) start after ≡ slice_range bytes start end ++ take count buf
 held_more bytes buf post start end count after is h k fits =
     let held : List ℕ = slice_range bytes start end in
     let front : length (take end bytes) ≡ end = length-take-le end bytes k in
     let cut : drop start (take end bytes ++ (buf ++ post)) ≡ held ++ (buf ++ post) =
-    drop-append-le start (take end bytes) (buf ++ post) (omega arith) ∙ ap (λ ys. ys ++ (buf ++ post)) (sym (between_is bytes start end)) in
+    drop-append-le start (take end bytes) (buf ++ post) (omega arith)
+    ∙ ap (λ ys. ys ++ (buf ++ post)) (sym (between_is bytes start end)) in
     let room : after - start ≡ length held + count = omega (arith, held_length bytes start end h k) in
-    ap (take (after - start)) cut ∙ ap (λ n. take n (held ++ (buf ++ post))) room ∙ take-append-add held (buf ++ post) count ∙ ap (λ ys. held ++ ys) (take-append-le count buf post fits)
+    ap (take (after - start)) cut ∙ ap (λ n. take n (held ++ (buf ++ post))) room
+    ∙ take-append-add held (buf ++ post) count ∙ ap (λ ys. held ++ ys) (take-append-le count buf post fits)
 
--- where none is taken that still stands, what is held ends where it is long
-pub at_front : (bytes : List ℕ) (start end : ℕ) {n : ℕ} → start ≤ end → end ≤ length bytes → take start bytes ≡ [] → length (slice_range bytes start end) ≡ n → end ≡ n
+-- where no taken bytes are left, the buffered ones end at their length
+pub at_front : (bytes : List ℕ) (start end : ℕ) {n : ℕ} → start ≤ end → end ≤ length bytes → take start bytes ≡ []
+    → length (slice_range bytes start end) ≡ n → end ≡ n
 at_front bytes start end h k none is =
     let first : length (take start bytes) ≡ 0 = ap length none in
     omega (arith, first, length-take-le start bytes (omega arith), held_length bytes start end h k, is)

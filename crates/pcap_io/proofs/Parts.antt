@@ -1,5 +1,6 @@
--- What is written and what waits.
-use Rattle.std.proofs.Common.{◌≡◌, ℕ, ◌<◌, ◌-◌, ◌==◌, ◌&&◌, if◌then◌else◌, Bool, List, [], ◌++◌, length, take, drop, append_assoc, append-nil, length-drop, ap, sym, subst, ◌∙◌, arith}
+-- Written and buffered bytes.
+use Rattle.std.proofs.Common.{◌≡◌, ℕ, ◌<◌, ◌-◌, ◌==◌, ◌&&◌, if◌then◌else◌, Bool, List, [], ◌++◌, length, take, drop}
+use Rattle.std.proofs.Common.{append_assoc, append-nil, length-drop, ap, sym, subst, ◌∙◌, arith}
 use Rattle.std.proofs.lemmas.List.{take-append-drop}
 use Rattle.std.proofs.Math.Seq.{take-length}
 use Rattle.std.specs.declared.option.Option.{Option}
@@ -8,10 +9,13 @@ use Rattle.std.proofs.KnownBytes.{Appends-nil, Keeps-refl, Keeps-trans}
 use Rattle.pcap_io.specs.Buffering.{AppendsBuffered}
 
 -- what a write took moves from the rest to what is done
-pub moved_on : (bytes done rest : List ℕ) (n : ℕ) → bytes ≡ done ++ rest → bytes ≡ (done ++ take n rest) ++ take (length rest - n) (drop n rest)
+pub moved_on : (bytes done rest : List ℕ) (n : ℕ) → bytes ≡ done ++ rest
+    → bytes ≡ (done ++ take n rest) ++ take (length rest - n) (drop n rest)
 moved_on bytes done rest n whole =
-    let all : take (length rest - n) (drop n rest) ≡ drop n rest = ap (λ k. take k (drop n rest)) (sym (length-drop n rest)) ∙ take-length (drop n rest) in
-    whole ∙ ap (λ ys. done ++ ys) (sym (take-append-drop n rest)) ∙ sym (append_assoc done (take n rest) (drop n rest)) ∙ ap (λ ys. (done ++ take n rest) ++ ys) (sym all)
+    let all : take (length rest - n) (drop n rest) ≡ drop n rest =
+    ap (λ k. take k (drop n rest)) (sym (length-drop n rest)) ∙ take-length (drop n rest) in
+    whole ∙ ap (λ ys. done ++ ys) (sym (take-append-drop n rest)) ∙ sym (append_assoc done (take n rest) (drop n rest))
+    ∙ ap (λ ys. (done ++ take n rest) ++ ys) (sym all)
 
 pub ruleset kept_rules = (Keeps-refl, Keeps-trans)
 
@@ -19,18 +23,20 @@ pub ruleset kept_rules = (Keeps-refl, Keeps-trans)
 pub took_some : (n : ℕ) (b : Bool) (x y : ℕ) → 0 < n → (if (n == 0) && b then x else y) ≡ y
 took_some n b x y some = grind arith
 
--- ---- bytes that wait
+-- ---- buffered bytes
 
--- what waited is written, and nothing waits
-pub drained : (a b : Option (List ℕ)) (old wrote mid : List ℕ) → Appends a b wrote → wrote ≡ old → mid ≡ [] → AppendsBuffered old a b mid []
+-- the buffered bytes are written, and none are left
+pub drained : (a b : Option (List ℕ)) (old wrote mid : List ℕ) → Appends a b wrote → wrote ≡ old → mid ≡ []
+    → AppendsBuffered old a b mid []
 drained a b old wrote mid w is none = (old, ap (λ ys. old ++ ys) (sym none), subst (Appends a b) is w)
 
--- nothing is written, and the same waits
+-- nothing is written, and the same is buffered
 pub left_buffered : (a : Option (List ℕ)) (old mid : List ℕ) → mid ≡ old → AppendsBuffered old a a mid []
 left_buffered a old mid is = ([], append-nil old ∙ sym is, Appends-nil a)
 
--- more waits behind
-pub buffers_more : (a b : Option (List ℕ)) (old mid head tail waits bytes : List ℕ) → AppendsBuffered old a b mid [] → waits ≡ (mid ++ head) ++ tail → head ++ tail ≡ bytes → AppendsBuffered old a b waits bytes
+-- more is buffered behind
+pub buffers_more : (a b : Option (List ℕ)) (old mid head tail waits bytes : List ℕ) → AppendsBuffered old a b mid []
+    → waits ≡ (mid ++ head) ++ tail → head ++ tail ≡ bytes → AppendsBuffered old a b waits bytes
 buffers_more a b old mid head tail waits bytes (part, e, w) is whole =
     let front : old ≡ part ++ mid = sym (append-nil old) ∙ e in
     let back : mid ++ bytes ≡ waits = ap (λ ys. mid ++ ys) (sym whole) ∙ sym (append_assoc mid head tail) ∙ sym is in

@@ -1,26 +1,27 @@
--- How failed calls are counted.
+-- Counts of failed calls (own), and writes that stop early.
 use Rattle.std.specs.Prelude.{◌≡◌, ◌+◌, ◌-◌, ◌^◌, ◌++◌, ◌==◌, ◌&&◌, nat_lt, if◌then◌else◌}
 use Rattle.std.specs.Prelude.{ℕ, List, length, Option, Result, MatchResult}
 use Rattle.std.specs.Io.KnownBytes.{Appends}
 
--- one more; the greatest number of 64 bits stays
+-- the next number, saturating at 64 bits
 abbrev pub one_more : ℕ → ℕ
 one_more n = if nat_lt n (2 ^ 64 - 1) then n + 1 else n
 
--- a read that fails is counted, and no other
+-- a failed read is counted
 abbrev pub CountsRead : {E : Type 0} → ℕ → ℕ → Result ℕ E → Type 0
 CountsRead before after r = MatchResult r (λ _. after ≡ before) (λ _. after ≡ one_more before)
 
--- a write that fails, or that takes nothing of some bytes, is counted, and no other
+-- a write that fails, or that takes none of some bytes, is counted
 abbrev pub CountsWrite : {E : Type 0} → ℕ → ℕ → Result ℕ E → List ℕ → Type 0
 CountsWrite before after r buf =
     MatchResult r (λ n. after ≡ (if (n == 0) && nat_lt 0 (length buf) then one_more before else before))
     (λ _. after ≡ one_more before)
 
--- a flush that fails is counted, and no other
+-- a failed flush is counted
 abbrev pub CountsFlush : {A E : Type 0} → ℕ → ℕ → Result A E → Type 0
 CountsFlush before after r = MatchResult r (λ _. after ≡ before) (λ _. after ≡ one_more before)
 
--- known bytes grow by a beginning of these
+-- known bytes grow by a prefix of these
 abbrev pub AppendsPrefix : Option (List ℕ) → Option (List ℕ) → List ℕ → Type 0
-AppendsPrefix old new bytes = (part : List ℕ) × (rest : List ℕ) × (bytes ≡ part ++ rest) × Appends old new part
+AppendsPrefix old new bytes = (part : List ℕ) × (rest : List ℕ) × (bytes ≡ part ++ rest)
+    × Appends old new part

@@ -1,4 +1,4 @@
-//! Records read one after another.
+//! Reads the records of a capture one by one.
 ghost use Rattle.std.specs.Prelude.{◌<◌};
 ghost use Rattle.pcap_io.specs.Pcap.{MOMENTS_END};
 
@@ -11,25 +11,26 @@ use std::alloc::Global;
 use std::io::Read;
 use std::marker::Model;
 
-/// The length of a record's header.
+/// The length of a record's header, in bytes.
 const RECORD_HEADER_BYTES: usize = 16;
 
-/// The greatest captured length (the snaplen that libpcap takes at most).
+/// The greatest captured length, libpcap's MAXIMUM_SNAPLEN.
 const MOST_CAPTURED: u32 = 262_144;
 
 /// The greatest number of records in a file.
 const MOST_RECORDS: u64 = 4_294_967_296;
 
-/// A record: when it was seen, and the bytes captured, which borrow the capture.
+/// A record: its timestamp and its captured bytes, borrowed from the capture's buffer.
 #[derive(Clone, Copy)]
 pub struct Record<'a> {
-    /// In nanoseconds since 1970: the greatest of its own and all earlier records' moments.
+    /// Nanoseconds since 1970-01-01 00:00 UTC. Time never runs backwards: this is the greatest of
+    /// the record's own timestamp and those of all earlier records.
     pub moment: u64,
-    /// What the bytes begin with.
+    /// The link-layer header that the bytes begin with.
     pub link_type: LinkType,
-    /// The bytes captured, from the link header on.
+    /// The captured bytes, from the link header on.
     pub bytes: &'a [u8],
-    /// Seconds have 32 bits.
+    /// The format has 32 bits for the seconds.
     pub ghost early: { moment < MOMENTS_END },
 }
 
@@ -37,8 +38,11 @@ impl<'a> Record<'a> {
     ghost use Rattle.std.specs.Prelude.{◌≡◌, ◌≤◌, length, IfOk};
     ghost use Rattle.pcap_io.specs.Links as links;
 
-    /// Where the packet begins, and the interface that it entered by where the link header tells
-    /// one; or the first that applies of `Short`, `NotIp` and `Link`.
+    /// Decodes the link header: the packet's offset, and the input interface where the header has
+    /// it.
+    ///
+    /// # Errors
+    /// The first of `Short`, `NotIp` and `Link` that applies.
     pub fn link(&self) -> Result<Link, LinkCause>
         ensures link { result ≡ links.link_of self.now.link_type self.now.bytes.now }
         ensures within { IfOk result (λ l. l.packet ≤ length self.now.bytes.now) }
@@ -47,7 +51,7 @@ impl<'a> Record<'a> {
     }
 }
 
-/// A record's header. The original length, its last field, isn't used.
+/// The header of a record. Its last field, the original length, isn't used.
 #[derive(Clone, Copy)]
 struct RecordHeader {
     seconds: u32,
@@ -60,15 +64,28 @@ impl RecordHeader {
     ghost use Rattle.pcap_io.specs.Pcap.{seconds_in, fraction_in, captured_length_in, IsGood};
     ghost use Rattle.pcap_io.specs.Pcap as pcap;
 
-    /// The header of the record that these bytes begin with, all of which is there.
+    /// Decodes the header at the start of `bytes`, which must hold the whole record.
+    ///
+    /// # Errors
+    /// `Malformed` for a header that no record may have, `TornEnd` where `bytes` ends inside the
+    /// record.
     #[inline(always)]
     fn read(format: Format, bytes: &[u8]) -> Result<RecordHeader, CaptureFault>
-        ensures fields { IfOk result (λ h. (h.seconds ≡ seconds_in format bytes.now) × (h.fraction ≡ fraction_in format bytes.now) × (h.captured ≡ captured_length_in format bytes.now)) }
+        ensures fields { IfOk result (λ h. (h.seconds ≡ seconds_in format bytes.now)
+            × (h.fraction ≡ fraction_in format bytes.now)
+            × (h.captured ≡ captured_length_in format bytes.now)) }
         ensures good { OnOk result (IsGood format bytes.now) }
-        ensures there { IfOk result (λ h. pcap.RECORD_HEADER_BYTES + h.captured ≤ length bytes.now) }
-        ensures torn { IsErrOf result CaptureFault.TornEnd → (length bytes.now < pcap.RECORD_HEADER_BYTES) ⊎ (IsGood format bytes.now × (length bytes.now < pcap.RECORD_HEADER_BYTES + captured_length_in format bytes.now)) }
-        ensures malformed { IsErrOf result CaptureFault.Malformed → (pcap.RECORD_HEADER_BYTES ≤ length bytes.now) × ((pcap.MOST_CAPTURED < captured_length_in format bytes.now) ⊎ (pcap.per_second format.resolution ≤ fraction_in format bytes.now)) }
-        ensures errors { OnErr result (IsErrOf result CaptureFault.TornEnd ⊎ IsErrOf result CaptureFault.Malformed) }
+        ensures there { IfOk result (λ h.
+            pcap.RECORD_HEADER_BYTES + h.captured ≤ length bytes.now) }
+        ensures torn { IsErrOf result CaptureFault.TornEnd
+            → (length bytes.now < pcap.RECORD_HEADER_BYTES) ⊎ (IsGood format bytes.now
+            × (length bytes.now < pcap.RECORD_HEADER_BYTES + captured_length_in format bytes.now)) }
+        ensures malformed { IsErrOf result CaptureFault.Malformed
+            → (pcap.RECORD_HEADER_BYTES ≤ length bytes.now)
+            × ((pcap.MOST_CAPTURED < captured_length_in format bytes.now)
+            ⊎ (pcap.per_second format.resolution ≤ fraction_in format bytes.now)) }
+        ensures errors { OnErr result (IsErrOf result CaptureFault.TornEnd
+            ⊎ IsErrOf result CaptureFault.Malformed) }
     {
         if bytes.len() < RECORD_HEADER_BYTES {
             return Err(CaptureFault::TornEnd);
@@ -88,16 +105,16 @@ impl RecordHeader {
     }
 }
 
-/// The records of an input, one after another, read through one buffer.
+/// A capture that is read record by record, through one buffer of constant size.
 #[derive(Drop)]
 pub struct Capture {
     buffer: ReadBuffer,
     format: Format,
     count: u64,
-    /// The greatest moment so far.
+    /// The greatest timestamp so far, in nanoseconds.
     latest: u64,
     fault: Option<CaptureError>,
-    /// How many bytes the record that was read last captured; they were taken last.
+    /// The captured length of the last record; its bytes are the last ones taken from the buffer.
     last: Option<usize>,
 }
 
@@ -120,25 +137,35 @@ impl Capture {
     ghost use Rattle.pcap_io.specs.Pcap as pcap;
     ghost use Rattle.pcap_io.specs.CaptureStates.{CaptureState, READ_AHEAD, IsDone, ahead, is_ready, decides_next, IsPartialRecord, NextAnswers, RefusedBy, IsOfHeader, IsOfRecords, recorded};
 
-    /// Reserves the buffer and reads the header.
+    /// Allocates the buffer and reads the file header.
     ///
-    /// The faults of a header are `TornEnd`, `Magic`, `Version` and `LinkType`, the first that
-    /// applies in this order; `Device` comes only where a read failed, which isn't tried again, and
-    /// `Memory` before anything is read.
+    /// # Errors
+    /// `Refused` with the first of `TornEnd`, `Magic`, `Version` and `LinkType` that applies;
+    /// `Device` after a failed read, which isn't tried again; `Memory`, before anything is read.
     pub fn open<R: Read>(alloc: Global, reader: &mut Counted<R>) -> Result<Self, CaptureError>
-        ensures fresh { IfOk result (λ c. (c.fault ≡ None) × (c.last ≡ None) × (c.count ≡ 0) × (c.latest ≡ 0)) }
-        ensures bytes { IfOk result (λ c. IfSome (R.remaining reader.old.inner) (λ input. (pcap.HEADER_BYTES ≤ length input) × (format_of input ≡ Ok c.format) × (ahead c (R.remaining reader.new.inner) ≡ Some (drop pcap.HEADER_BYTES input)))) }
+        ensures fresh { IfOk result (λ c. (c.fault ≡ None) × (c.last ≡ None) × (c.count ≡ 0)
+            × (c.latest ≡ 0)) }
+        ensures bytes { IfOk result (λ c. IfSome (R.remaining reader.old.inner) (λ input.
+            (pcap.HEADER_BYTES ≤ length input) × (format_of input ≡ Ok c.format)
+            × (ahead c (R.remaining reader.new.inner) ≡ Some (drop pcap.HEADER_BYTES input)))) }
         ensures refused { IfErr result (RefusedBy (R.remaining reader.old.inner)) }
         ensures kinds { IfErr result IsOfHeader }
-        // Before the header is there fewer bytes than it has were read.
-        ensures broken { IsErrOf result CaptureError.Device → (part : List ℕ) × Consumes (R.remaining reader.old.inner) (R.remaining reader.new.inner) part × (length part < pcap.HEADER_BYTES) }
+        // Before a failed read fewer bytes than a file header were consumed.
+        ensures broken { IsErrOf result CaptureError.Device → (part : List ℕ)
+            × Consumes (R.remaining reader.old.inner) (R.remaining reader.new.inner) part
+            × (length part < pcap.HEADER_BYTES) }
         ensures memory { IsErrOf result CaptureError.Memory → reader.new ≡ reader.old }
         ensures room { IfOk result (λ c. length c.held ≤ READ_AHEAD) }
-        ensures drained { IfOk result (λ c. c.ended ≡ true → IsAtEnd (R.remaining reader.new.inner)) }
-        // Whatever the answer, no more was read than the buffer holds.
-        ensures read { (part : List ℕ) × Consumes (R.remaining reader.old.inner) (R.remaining reader.new.inner) part × (length part ≤ READ_AHEAD) }
-        ensures no_failure { result ≢ Err CaptureError.Device → reader.new.failures ≡ reader.old.failures }
-        ensures device { IsErrOf result CaptureError.Device → reader.new.failures ≡ one_more reader.old.failures }
+        ensures drained { IfOk result (λ c. c.ended ≡ true
+            → IsAtEnd (R.remaining reader.new.inner)) }
+        // In every case at most one buffer was consumed.
+        ensures read { (part : List ℕ)
+            × Consumes (R.remaining reader.old.inner) (R.remaining reader.new.inner) part
+            × (length part ≤ READ_AHEAD) }
+        ensures no_failure { result ≢ Err CaptureError.Device
+            → reader.new.failures ≡ reader.old.failures }
+        ensures device { IsErrOf result CaptureError.Device
+            → reader.new.failures ≡ one_more reader.old.failures }
     {
         let Ok(mut buffer) = ReadBuffer::new(alloc) else {
             return Err(CaptureError::Memory);
@@ -160,8 +187,8 @@ impl Capture {
         })
     }
 
-    /// Whether the next call of `next` reads nothing: what it answers is held already, or the
-    /// reader has come to its end.
+    /// Whether `next` would return without a read: the buffer decides its result, or the reader has
+    /// ended.
     #[inline(always)]
     pub fn is_ready(&self) -> bool
         ensures { result ≡ is_ready self.now }
@@ -169,7 +196,7 @@ impl Capture {
         self.fault.is_some() || self.buffer.is_ended() || self.decides_next()
     }
 
-    /// Whether what is held settles the next answer, whatever follows it.
+    /// Whether the buffered bytes decide the next result, whatever follows them.
     #[inline(always)]
     fn decides_next(&self) -> bool
         ensures { result ≡ decides_next self.now.format self.now.count self.now.held }
@@ -184,34 +211,54 @@ impl Capture {
         }
     }
 
-    /// Reads the next record: false at the end. After a fault the same fault is answered again, and
-    /// nothing is read. A read that fails isn't tried again.
+    /// Reads the next record, which `record` then lends; `false` at the end of the capture.
+    ///
+    /// # Errors
+    /// `Refused` with `TornEnd`, `Malformed` or `TooMany`; `Device` after a failed read, which
+    /// isn't tried again. After an error each call returns the same error and reads nothing.
     pub fn next<R: Read>(&mut self, reader: &mut Counted<R>) -> Result<bool, CaptureError>
-        ensures again { IfSome self.old.fault (λ fault. IsErrOf result fault × (self.new ≡ self.old)) }
-        // No call is made while what is held settles the answer, after the end, or after a fault.
+        ensures again { IfSome self.old.fault (λ fault. IsErrOf result fault
+            × (self.new ≡ self.old)) }
+        // No read where the buffer decides the result, at the end, or after an error.
         ensures unread { is_ready self.old ≡ true → reader.new ≡ reader.old }
-        ensures next_answers { IsNone self.old.fault → IfSome (ahead self.old (R.remaining reader.old.inner)) (λ bytes. NextAnswers bytes (ahead self.new (R.remaining reader.new.inner)) self.old self.new result) }
+        ensures next_answers { IsNone self.old.fault
+            → IfSome (ahead self.old (R.remaining reader.old.inner)) (λ bytes.
+            NextAnswers bytes (ahead self.new (R.remaining reader.new.inner)) self.old self.new
+            result) }
         ensures fault { IfErr result (λ fault. self.new.fault ≡ Some fault) }
         ensures going { OnOk result (self.new.fault ≡ None) }
-        // The end and a fault leave the records and their moments as they were.
-        ensures stopped { IsNone self.old.fault → result ≢ Ok true → (self.new.count ≡ self.old.count) × (self.new.latest ≡ self.old.latest) × (self.new.last ≡ None) }
+        // At the end and on an error the count and the latest timestamp stay.
+        ensures stopped { IsNone self.old.fault → result ≢ Ok true
+            → (self.new.count ≡ self.old.count) × (self.new.latest ≡ self.old.latest)
+            × (self.new.last ≡ None) }
         ensures format { self.new.format ≡ self.old.format }
-        // These hold whatever the reader tells of its bytes.
-        ensures counted { result ≡ Ok true → (self.old.count < 4294967296) × (self.new.count ≡ self.old.count + 1) }
-        ensures broken { IsNone self.old.fault → IsErrOf result CaptureError.Device → (self.new.ended ≡ false) × IsPartialRecord self.new.format self.new.count self.new.held }
-        ensures held { IsNone self.old.fault → is_ready self.old ≡ true → result ≢ Err CaptureError.Device }
+        // These hold even where the reader's bytes aren't known.
+        ensures counted { result ≡ Ok true → (self.old.count < 4294967296)
+            × (self.new.count ≡ self.old.count + 1) }
+        ensures broken { IsNone self.old.fault → IsErrOf result CaptureError.Device
+            → (self.new.ended ≡ false) × IsPartialRecord self.new.format self.new.count
+            self.new.held }
+        ensures held { IsNone self.old.fault → is_ready self.old ≡ true
+            → result ≢ Err CaptureError.Device }
         ensures ended { self.old.ended ≡ true → self.new.ended ≡ true }
-        // After the end nothing is read again, and the answer is the same.
+        // After the end each call returns `false` and reads nothing.
         ensures finished { result ≡ Ok false → IsDone self.new }
-        ensures done { IsDone self.old → (result ≡ Ok false) × (self.new ≡ record self.old { last = None }) × (reader.new ≡ reader.old) }
-        ensures torn { IsErrOf result (CaptureError.Refused CaptureFault.TornEnd) → IsNone self.old.fault → self.new.ended ≡ true }
-        ensures read { (part : List ℕ) × Consumes (R.remaining reader.old.inner) (R.remaining reader.new.inner) part }
+        ensures done { IsDone self.old → (result ≡ Ok false)
+            × (self.new ≡ record self.old { last = None }) × (reader.new ≡ reader.old) }
+        ensures torn { IsErrOf result (CaptureError.Refused CaptureFault.TornEnd)
+            → IsNone self.old.fault → self.new.ended ≡ true }
+        ensures read { (part : List ℕ)
+            × Consumes (R.remaining reader.old.inner) (R.remaining reader.new.inner) part }
         ensures room { length self.new.held ≤ READ_AHEAD }
-        ensures drained { (self.old.ended ≡ true → IsAtEnd (R.remaining reader.old.inner)) → self.new.ended ≡ true → IsAtEnd (R.remaining reader.new.inner) }
-        ensures no_failure { IsNone self.old.fault → result ≢ Err CaptureError.Device → reader.new.failures ≡ reader.old.failures }
-        ensures device { IsNone self.old.fault → IsErrOf result CaptureError.Device → reader.new.failures ≡ one_more reader.old.failures }
-        // A record's moment has seconds of 32 bits, and its bytes are at most 262,144.
-        ensures record { IfOk result (λ more. more ≡ true → IfSome self.new.last (λ r. (r.moment < MOMENTS_END) × (length r.bytes < 262145))) }
+        ensures drained { (self.old.ended ≡ true → IsAtEnd (R.remaining reader.old.inner))
+            → self.new.ended ≡ true → IsAtEnd (R.remaining reader.new.inner) }
+        ensures no_failure { IsNone self.old.fault → result ≢ Err CaptureError.Device
+            → reader.new.failures ≡ reader.old.failures }
+        ensures device { IsNone self.old.fault → IsErrOf result CaptureError.Device
+            → reader.new.failures ≡ one_more reader.old.failures }
+        // The seconds fit 32 bits, and at most 262,144 bytes are captured.
+        ensures record { IfOk result (λ more. more ≡ true → IfSome self.new.last (λ r.
+            (r.moment < MOMENTS_END) × (length r.bytes < 262145))) }
         ensures some { result ≡ Ok true → self.new.last ≢ None }
         ensures kinds { IsNone self.old.fault → IfErr result IsOfRecords }
     {
@@ -228,27 +275,33 @@ impl Capture {
         self.step()
     }
 
-    /// The next record of what is held.
+    /// Decodes the next record from the buffer, without a read.
     #[inline(always)]
     fn step(&mut self) -> Result<bool, CaptureError>
         requires going { self.old.fault ≡ None }
         requires ready { is_ready self.old ≡ true }
         requires none { self.old.last ≡ None }
-        // Where the reader isn't at its end, more bytes may come behind those that are held.
-        ensures next_answers { (more : List ℕ) → (self.old.ended ≡ true → more ≡ []) → NextAnswers (self.old.held ++ more) (Some (self.new.held ++ more)) self.old self.new result }
-        ensures stopped { result ≢ Ok true → (self.new.count ≡ self.old.count) × (self.new.latest ≡ self.old.latest) × (self.new.last ≡ None) }
+        // Unless the reader has ended, more bytes may follow the buffered ones.
+        ensures next_answers { (more : List ℕ) → (self.old.ended ≡ true → more ≡ [])
+            → NextAnswers (self.old.held ++ more) (Some (self.new.held ++ more)) self.old self.new
+            result }
+        ensures stopped { result ≢ Ok true → (self.new.count ≡ self.old.count)
+            × (self.new.latest ≡ self.old.latest) × (self.new.last ≡ None) }
         ensures format { self.new.format ≡ self.old.format }
-        ensures counted { result ≡ Ok true → (self.old.count < 4294967296) × (self.new.count ≡ self.old.count + 1) }
+        ensures counted { result ≡ Ok true → (self.old.count < 4294967296)
+            × (self.new.count ≡ self.old.count + 1) }
         ensures ended { self.new.ended ≡ self.old.ended }
         ensures finished { result ≡ Ok false → IsDone self.new }
-        ensures torn { IsErrOf result (CaptureError.Refused CaptureFault.TornEnd) → self.new.ended ≡ true }
+        ensures torn { IsErrOf result (CaptureError.Refused CaptureFault.TornEnd)
+            → self.new.ended ≡ true }
         ensures done { self.old.held ≡ [] → (result ≡ Ok false) × (self.new ≡ self.old) }
         ensures room { length self.new.held ≤ READ_AHEAD }
         ensures fault { IfErr result (λ fault. self.new.fault ≡ Some fault) }
         ensures kinds { IfErr result IsOfRecords }
         ensures held { result ≢ Err CaptureError.Device }
         ensures going { OnOk result (self.new.fault ≡ None) }
-        ensures record { IfOk result (λ more. more ≡ true → IfSome self.new.last (λ r. (r.moment < MOMENTS_END) × (length r.bytes < 262145))) }
+        ensures record { IfOk result (λ more. more ≡ true → IfSome self.new.last (λ r.
+            (r.moment < MOMENTS_END) × (length r.bytes < 262145))) }
         ensures some { result ≡ Ok true → self.new.last ≢ None }
     {
         let held = self.buffer.held();
@@ -274,7 +327,7 @@ impl Capture {
         Ok(true)
     }
 
-    /// From here on this fault.
+    /// Makes this the error of this call and of all later ones.
     fn fail(&mut self, fault: CaptureFault) -> Result<bool, CaptureError>
         ensures result { result ≡ Err (CaptureError.Refused fault) }
         ensures after { self.new ≡ record self.old { fault = Some (CaptureError.Refused fault) } }
@@ -284,7 +337,7 @@ impl Capture {
         Err(error)
     }
 
-    /// The record that the last `next` read; None unless that answered true.
+    /// The record that the last `next` read; `None` unless it returned `true`.
     pub fn record(&self) -> Option<Record<'_>>
         ensures { recorded result ≡ self.now.last }
     {

@@ -1,4 +1,4 @@
-//! A reader or a writer that counts the calls that failed.
+//! A reader or writer that counts its failed calls.
 ghost use Rattle.std.specs.Prelude.{◌≡◌, true, false, MatchResult};
 ghost use Rattle.std.specs.Io.{ReadsAtMost, WritesAtMost};
 ghost use Rattle.std.specs.Io.KnownBytes.{ReadConsumes, WriteAppends, Keeps};
@@ -8,7 +8,7 @@ ghost use Rattle.pcap_io.specs.Counting.{CountsRead, CountsWrite, CountsFlush};
 use std::io;
 use std::io::{Read, Write};
 
-/// A reader or a writer, how many of its calls failed, and whether all that was written is flushed.
+/// A reader or writer, the number of its failed calls, and whether all written bytes are flushed.
 #[derive(Drop)]
 pub struct Counted<T> {
     inner: T,
@@ -17,7 +17,7 @@ pub struct Counted<T> {
 }
 
 impl<T> Counted<T> {
-    /// No call failed yet, and nothing was written yet.
+    /// Wraps `inner`: no failed calls, and nothing to flush.
     pub fn new(inner: T) -> Self
         ensures inner { result.inner ≡ inner }
         ensures failures { result.failures ≡ 0 }
@@ -30,21 +30,21 @@ impl<T> Counted<T> {
         }
     }
 
-    /// How many calls failed; it stays at its greatest.
+    /// The number of failed calls, saturating.
     pub fn failures(&self) -> u64
         ensures { result ≡ self.now.failures }
     {
         self.failures
     }
 
-    /// Whether nothing was written since the last flush that succeeded.
+    /// Whether nothing was written since the last successful flush.
     pub fn is_flushed(&self) -> bool
         ensures { result ≡ self.now.is_flushed }
     {
         self.is_flushed
     }
 
-    /// The reader or the writer itself.
+    /// Unwraps the reader or writer.
     pub fn into_inner(self) -> T
         ensures { result ≡ self.inner }
     {
@@ -52,7 +52,7 @@ impl<T> Counted<T> {
     }
 }
 
-/// One more, or the greatest.
+/// The number after `failures`, saturating.
 fn one_more(failures: u64) -> u64
     ensures { result ≡ counting.one_more failures }
 {
@@ -64,7 +64,8 @@ impl<R: Read> Read for Counted<R> {
 
     fn read(&mut self, buf: &mut [u8]) -> io::Result<usize>
         ensures bound { ReadsAtMost result buf.new }
-        ensures bytes { ReadConsumes (R.remaining self.old.inner) (R.remaining self.new.inner) result buf.new }
+        ensures bytes { ReadConsumes (R.remaining self.old.inner) (R.remaining self.new.inner)
+            result buf.new }
         ensures counts { CountsRead self.old.failures self.new.failures result }
         ensures flushed { self.new.is_flushed ≡ self.old.is_flushed }
     {
@@ -81,14 +82,15 @@ impl<W: Write> Write for Counted<W> {
 
     fn write(&mut self, buf: &[u8]) -> io::Result<usize>
         ensures bound { WritesAtMost result buf.now }
-        ensures bytes { WriteAppends (W.contents self.old.inner) (W.contents self.new.inner) result buf.now }
+        ensures bytes { WriteAppends (W.contents self.old.inner) (W.contents self.new.inner) result
+            buf.now }
         ensures counts { CountsWrite self.old.failures self.new.failures result buf.now }
         ensures flushed { self.new.is_flushed ≡ false }
     {
-        // A call that fails may have written some bytes.
+        // A failed call may have written some bytes.
         self.is_flushed = false;
         let result = self.inner.write(buf);
-        // To take nothing of nothing is no failure.
+        // To write nothing is a failure, unless there was nothing to write.
         let has_failed = match &result {
             Ok(count) => *count == 0 && !buf.is_empty(),
             Err(_) => true,
@@ -102,7 +104,8 @@ impl<W: Write> Write for Counted<W> {
     fn flush(&mut self) -> io::Result<()>
         ensures bytes { Keeps (W.contents self.old.inner) (W.contents self.new.inner) }
         ensures counts { CountsFlush self.old.failures self.new.failures result }
-        ensures flushed { MatchResult result (λ _. self.new.is_flushed ≡ true) (λ _. self.new.is_flushed ≡ self.old.is_flushed) }
+        ensures flushed { MatchResult result (λ _. self.new.is_flushed ≡ true) (λ _.
+            self.new.is_flushed ≡ self.old.is_flushed) }
     {
         let result = self.inner.flush();
         match &result {

@@ -1,31 +1,31 @@
-//! Why a capture isn't read further.
+//! Errors of reading a capture.
 use std::alloc::AllocError;
 use thiserror::Error;
 
-/// What a capture is refused for (pcap-savefile(5)).
+/// Why the bytes of a capture are refused (draft-ietf-opsawg-pcap; the two limits are own).
 #[derive(Clone, Copy, Debug, PartialEq, Eq, Error)]
 pub enum CaptureFault {
-    /// The bytes end inside the header or inside a record.
+    /// The bytes end inside the file header or inside a record.
     #[error("P5")]
     TornEnd,
-    /// The magic number isn't one that is read.
+    /// The magic number is unknown, in either byte order.
     #[error("P1")]
     Magic,
     /// The version isn't 2.4.
     #[error("P2")]
     Version,
-    /// The link type isn't one that is read.
+    /// The link type isn't Ethernet, raw IP or SLL2.
     #[error("P3")]
     LinkType,
-    /// A record's captured length is over 262,144, or its fraction is a whole second or more.
+    /// A record's captured length is over 262,144, or its sub-second part is a second or more.
     #[error("P4")]
     Malformed,
-    /// A byte comes after 4,294,967,296 records.
+    /// More bytes follow the 4,294,967,296th record.
     #[error("P7")]
     TooMany,
 }
 
-/// Why a capture isn't opened or isn't read further.
+/// Why opening or reading a capture failed.
 #[derive(Clone, Copy, Debug, PartialEq, Error)]
 pub enum CaptureError {
     /// Its bytes are refused.
@@ -34,7 +34,7 @@ pub enum CaptureError {
     /// A read failed.
     #[error("P6")]
     Device,
-    /// There was no room to grow.
+    /// An allocation failed.
     #[error("memory")]
     Memory,
 }

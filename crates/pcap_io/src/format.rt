@@ -1,47 +1,47 @@
-//! How a file writes its numbers, its moments and its packets: what its header tells.
+//! The file header: byte order, timestamp resolution and link type.
 ghost use Rattle.std.specs.Prelude.{◌≡◌, ◌<◌, ◌≤◌, ◌+◌, ◌*◌, ◌^◌, Some, None, length, OnOk};
 ghost use Rattle.pcap_io.specs.Pcap as pcap;
 
 use crate::fault::CaptureFault;
 use byteorder::{BigEndian, ByteOrder, LittleEndian};
 
-/// The length of a file's header.
+/// The length of the file header, in bytes.
 pub const HEADER_BYTES: usize = 24;
 
-/// The magic number of a file with fractions in microseconds.
+/// The magic number of a file with timestamps in microseconds.
 const MICROSECOND_MAGIC: u32 = 0xa1b2_c3d4;
 
-/// The magic number of a file with fractions in nanoseconds.
+/// The magic number of a file with timestamps in nanoseconds.
 const NANOSECOND_MAGIC: u32 = 0xa1b2_3c4d;
 
 const NANOSECONDS_IN_SECOND: u64 = 1_000_000_000;
 
-/// In which order the bytes of a number stand.
+/// The byte order of the file's numbers.
 #[derive(Clone, Copy)]
 pub enum Endianness {
     Little,
     Big,
 }
 
-/// What the fractions of a second are.
+/// The unit of a timestamp's sub-second part.
 #[derive(Clone, Copy)]
 pub enum Resolution {
     Microseconds,
     Nanoseconds,
 }
 
-/// What the bytes of a record begin with (the registry of link types of libpcap).
+/// The link-layer header of all records (the LINKTYPE_ registry of draft-ietf-opsawg-pcaplinktype).
 #[derive(Clone, Copy)]
 pub enum LinkType {
-    /// LINKTYPE_ETHERNET: a frame of Ethernet, without its preamble.
+    /// LINKTYPE_ETHERNET (1): an Ethernet frame.
     Ethernet,
-    /// LINKTYPE_RAW: an IP header.
+    /// LINKTYPE_RAW (101): an IP packet without a link-layer header.
     Raw,
-    /// LINKTYPE_LINUX_SLL2: a cooked header, which tells the interface.
+    /// LINKTYPE_LINUX_SLL2 (276): a Linux cooked header, which has the interface's index.
     Sll2,
 }
 
-/// How a file tells its records.
+/// How the records of a file are encoded.
 #[derive(Clone, Copy)]
 pub struct Format {
     pub endianness: Endianness,
@@ -50,7 +50,10 @@ pub struct Format {
 }
 
 impl Format {
-    /// The format that a file's header tells, by its tests in their order.
+    /// Decodes the file header.
+    ///
+    /// # Errors
+    /// The first of `TornEnd`, `Magic`, `Version` and `LinkType` that applies.
     pub fn read(bytes: &[u8]) -> Result<Format, CaptureFault>
         ensures format { result ≡ pcap.format_of bytes.now }
         ensures long { OnOk result (pcap.HEADER_BYTES ≤ length bytes.now) }
@@ -75,7 +78,7 @@ impl Format {
     }
 }
 
-/// The order of the file's numbers and its fractions, which the magic number tells.
+/// Byte order and resolution, by the magic number.
 fn read_encoding(bytes: &[u8]) -> Option<(Endianness, Resolution)>
     requires { 24 ≤ length bytes.now }
     ensures { result ≡ pcap.encoding_of bytes.now }
@@ -87,7 +90,7 @@ fn read_encoding(bytes: &[u8]) -> Option<(Endianness, Resolution)>
     Some((Endianness::Big, resolution))
 }
 
-/// The fractions that a magic number tells.
+/// The resolution of a magic number, if it is one.
 fn resolution_of(magic: u32) -> Option<Resolution>
     ensures { result ≡ pcap.resolution_of magic }
 {
@@ -98,7 +101,7 @@ fn resolution_of(magic: u32) -> Option<Resolution>
     }
 }
 
-/// The link type. The high 16 bits of its field tell of a frame check sequence.
+/// The link type, by the low 16 bits of its field: the high ones describe a frame check sequence.
 fn read_link_type(endianness: Endianness, bytes: &[u8]) -> Option<LinkType>
     requires { 24 ≤ length bytes.now }
     ensures { result ≡ pcap.link_type_in endianness bytes.now }
@@ -112,32 +115,32 @@ fn read_link_type(endianness: Endianness, bytes: &[u8]) -> Option<LinkType>
 }
 
 impl Endianness {
-    /// The number in the two bytes from a place on.
-    pub fn read_u16(self, bytes: &[u8], place: usize) -> u16
-        requires { place + 2 ≤ length bytes.now }
-        ensures { result ≡ pcap.number_in self place 2 bytes.now }
+    /// The 16-bit number at this offset.
+    pub fn read_u16(self, bytes: &[u8], offset: usize) -> u16
+        requires { offset + 2 ≤ length bytes.now }
+        ensures { result ≡ pcap.number_in self offset 2 bytes.now }
     {
         match self {
-            Endianness::Little => LittleEndian::read_u16(&bytes[place..]),
-            Endianness::Big => BigEndian::read_u16(&bytes[place..]),
+            Endianness::Little => LittleEndian::read_u16(&bytes[offset..]),
+            Endianness::Big => BigEndian::read_u16(&bytes[offset..]),
         }
     }
 
-    /// The number in the four bytes from a place on.
+    /// The 32-bit number at this offset.
     #[inline(always)]
-    pub fn read_u32(self, bytes: &[u8], place: usize) -> u32
-        requires { place + 4 ≤ length bytes.now }
-        ensures { result ≡ pcap.number_in self place 4 bytes.now }
+    pub fn read_u32(self, bytes: &[u8], offset: usize) -> u32
+        requires { offset + 4 ≤ length bytes.now }
+        ensures { result ≡ pcap.number_in self offset 4 bytes.now }
     {
         match self {
-            Endianness::Little => LittleEndian::read_u32(&bytes[place..]),
-            Endianness::Big => BigEndian::read_u32(&bytes[place..]),
+            Endianness::Little => LittleEndian::read_u32(&bytes[offset..]),
+            Endianness::Big => BigEndian::read_u32(&bytes[offset..]),
         }
     }
 }
 
 impl Resolution {
-    /// How many a second has.
+    /// Units per second.
     #[inline(always)]
     pub fn per_second(self) -> u32
         ensures { result ≡ pcap.per_second self }
@@ -148,7 +151,7 @@ impl Resolution {
         }
     }
 
-    /// In nanoseconds: so many seconds, and so many fractions, which are less than a second.
+    /// The timestamp in nanoseconds. `fraction` counts units and is less than a second.
     #[inline(always)]
     pub fn moment(self, seconds: u32, fraction: u32) -> u64
         requires { fraction < pcap.per_second self }

@@ -1,4 +1,5 @@
-//! Captures read and written (pcap-savefile(5)), over any reader and writer, failed calls counted.
+//! Packet captures in the pcap file format (draft-ietf-opsawg-pcap), read and written over any
+//! reader and writer, whose failed calls are counted.
 #![tactic(auto)]
 
 mod capture;

@@ -1,19 +1,19 @@
-//! Where the packet of a record begins.
+//! Link-layer headers: where the packet of a record begins.
 ghost use Rattle.std.specs.Prelude.{◌≡◌, ◌≤◌, length, IfOk};
 ghost use Rattle.pcap_io.specs.Links as links;
 
 use crate::format::LinkType;
 use byteorder::{BigEndian, ByteOrder};
 
-/// The number of IPv4 as an EtherType.
+/// The EtherType of IPv4.
 const IPV4: u16 = 0x0800;
 
-/// What the link header of a record tells.
+/// What a link header says of its record.
 #[derive(Clone, Copy, Debug, PartialEq, Eq)]
 pub struct Link {
-    /// Where the packet begins among the record's bytes.
+    /// The packet's offset in the record's bytes.
     pub packet: usize,
-    /// The index of the interface that it entered by, where the header tells one.
+    /// The index of the input interface, where the header has it.
     pub interface: Option<u32>,
 }
 
@@ -22,14 +22,14 @@ pub struct Link {
 pub enum LinkCause {
     /// Fewer bytes than the link header has.
     Short,
-    /// The link header tells of another protocol than IPv4.
+    /// The link header's protocol isn't IPv4.
     NotIp,
-    /// It goes to a group, or to another station.
+    /// The frame is for a group, or for another station.
     Link,
 }
 
 impl LinkType {
-    /// How many bytes its header has.
+    /// The length of the header, in bytes.
     fn header_bytes(self) -> usize
         ensures { result ≡ links.link_bytes self }
     {
@@ -40,7 +40,7 @@ impl LinkType {
         }
     }
 
-    /// Whether the header tells that an IPv4 packet follows.
+    /// Whether the header's protocol is IPv4.
     fn is_ipv4(self, bytes: &[u8]) -> bool
         requires { links.link_bytes self ≤ length bytes.now }
         ensures { result ≡ links.is_ipv4 self bytes.now }
@@ -52,7 +52,8 @@ impl LinkType {
         }
     }
 
-    /// Whether the frame goes to one station: its address is no group's, or it was sent to this host.
+    /// Whether the frame is for this station: by Ethernet no group address (its first byte's lowest
+    /// bit is 0), by SLL2 packet type 0.
     fn is_to_station(self, bytes: &[u8]) -> bool
         requires { links.link_bytes self ≤ length bytes.now }
         ensures { result ≡ links.is_to_station self bytes.now }
@@ -64,7 +65,7 @@ impl LinkType {
         }
     }
 
-    /// The index of the interface that the header tells.
+    /// The interface's index, where the header has it.
     fn interface(self, bytes: &[u8]) -> Option<u32>
         requires { links.link_bytes self ≤ length bytes.now }
         ensures { result ≡ links.interface_in self bytes.now }
@@ -75,7 +76,7 @@ impl LinkType {
         }
     }
 
-    /// Where the packet begins, and the interface where the header tells one; or the first test of
+    /// The packet's offset, and the input interface where the header has it; or the first test of
     /// the header that fails.
     pub(crate) fn link(self, bytes: &[u8]) -> Result<Link, LinkCause>
         ensures link { result ≡ links.link_of self bytes.now }

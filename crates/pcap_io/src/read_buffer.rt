@@ -1,4 +1,4 @@
-//! Bytes read ahead, in one buffer.
+//! A read buffer of constant size.
 ghost use Rattle.std.specs.Prelude.{◌≡◌, ◌<◌, ◌≤◌, ◌+◌, ◌++◌, [], length, take, drop, true, false, IfOk, OnOk, OnErr};
 ghost use Rattle.std.specs.Io.KnownBytes.{Keeps};
 ghost use Rattle.pcap_io.specs.Counting.{one_more};
@@ -12,19 +12,19 @@ use std::alloc::{AllocError, Global};
 use std::io::Read;
 use std::marker::Model;
 
-/// As many bytes as the greatest record has, with its header.
+/// The length of the largest record with its header.
 pub const BUFFER_BYTES: usize = 262_160;
 
-/// Bytes that were read and not yet taken, behind those that were taken last.
+/// Bytes that were read: the ones taken last, and behind them the ones not taken yet.
 #[derive(Drop)]
 pub struct ReadBuffer {
-    /// Its length stays.
+    /// Of constant length.
     bytes: Vec<u8>,
-    /// Where the bytes begin that weren't taken yet.
+    /// The offset of the first byte that isn't taken yet.
     start: usize,
-    /// Where they end.
+    /// The offset behind the last byte read.
     end: usize,
-    /// The reader has no more.
+    /// The reader has ended.
     is_ended: bool,
 }
 
@@ -35,13 +35,18 @@ impl Model for ReadBuffer {
 
     ghost Value = { BufferState };
 
-    ghost view = { λ b. record { taken = take b.start b.bytes.items; held = slice_range b.bytes.items b.start b.end; ended = b.is_ended } };
+    ghost view = { λ b. record {
+      taken = take b.start b.bytes.items;
+      held = slice_range b.bytes.items b.start b.end;
+      ended = b.is_ended;
+    } };
 
-    ghost invariant = { λ b. (b.start ≤ b.end) × (b.end ≤ length b.bytes.items) × (length b.bytes.items ≡ READ_AHEAD) };
+    ghost invariant = { λ b. (b.start ≤ b.end) × (b.end ≤ length b.bytes.items)
+        × (length b.bytes.items ≡ READ_AHEAD) };
 }
 
 impl ReadBuffer {
-    /// Nothing was read yet.
+    /// An empty buffer.
     pub fn new(alloc: Global) -> Result<Self, AllocError>
         ensures { IfOk result (λ buffer. buffer ≡ record { taken = []; held = []; ended = false }) }
     {
@@ -53,7 +58,7 @@ impl ReadBuffer {
         })
     }
 
-    /// The bytes that weren't taken yet.
+    /// The bytes not taken yet.
     #[inline(always)]
     pub fn held(&self) -> &[u8]
         ensures { result.now ≡ self.now.held }
@@ -61,7 +66,7 @@ impl ReadBuffer {
         &self.bytes[self.start..self.end]
     }
 
-    /// Whether the reader has no more.
+    /// Whether the reader has ended.
     #[inline(always)]
     pub fn is_ended(&self) -> bool
         ensures { result ≡ self.now.ended }
@@ -69,13 +74,15 @@ impl ReadBuffer {
         self.is_ended
     }
 
-    /// Reads once, behind what is held. What was taken is gone then.
+    /// Reads once, behind the bytes not taken yet. The taken ones are lost.
     pub fn fill<R: Read>(&mut self, reader: &mut Counted<R>) -> Result<(), DeviceFailed>
         requires room { length self.old.held < READ_AHEAD }
         requires going { self.old.ended ≡ false }
-        ensures ok { OnOk result (FillsBuffer self.old self.new (R.remaining reader.old.inner) (R.remaining reader.new.inner)) }
+        ensures ok { OnOk result (FillsBuffer self.old self.new (R.remaining reader.old.inner)
+            (R.remaining reader.new.inner)) }
         ensures no_failure { OnOk result (reader.new.failures ≡ reader.old.failures) }
-        ensures err { OnErr result ((self.new.held ≡ self.old.held) × (self.new.ended ≡ false) × Keeps (R.remaining reader.old.inner) (R.remaining reader.new.inner)) }
+        ensures err { OnErr result ((self.new.held ≡ self.old.held) × (self.new.ended ≡ false)
+            × Keeps (R.remaining reader.old.inner) (R.remaining reader.new.inner)) }
         ensures device { OnErr result (reader.new.failures ≡ one_more reader.old.failures) }
         ensures short { length self.new.held ≤ READ_AHEAD }
     {
@@ -88,7 +95,7 @@ impl ReadBuffer {
         Ok(())
     }
 
-    /// Moves what is held to the front of the buffer, where it isn't. What was taken is gone then.
+    /// Moves the bytes not taken yet to the front, over the taken ones.
     fn compact(&mut self)
         ensures { self.new ≡ record { taken = []; held = self.old.held; ended = self.old.ended } }
     {
@@ -100,16 +107,20 @@ impl ReadBuffer {
         self.start = 0;
     }
 
-    /// Takes that many of the bytes that are held.
+    /// Takes the next `count` bytes.
     #[inline(always)]
     pub fn take(&mut self, count: usize)
         requires { count ≤ length self.old.held }
-        ensures { self.new ≡ record { taken = self.old.taken ++ take count self.old.held; held = drop count self.old.held; ended = self.old.ended } }
+        ensures { self.new ≡ record {
+          taken = self.old.taken ++ take count self.old.held;
+          held = drop count self.old.held;
+          ended = self.old.ended;
+        } }
     {
         self.start += count;
     }
 
-    /// The last of the bytes that were taken.
+    /// The last `count` of the taken bytes.
     #[inline(always)]
     pub fn taken(&self, count: usize) -> &[u8]
         requires { count ≤ length self.now.taken }

@@ -1,4 +1,4 @@
-//! Packets written one after another, through one buffer.
+//! Writes a capture packet by packet, through one buffer.
 ghost use Rattle.std.specs.Prelude.{◌≡◌, ◌++◌, ◌+◌, ◌<◌, ◌≤◌, [], true, IfOk, OnOk, OnErr, IsErrOf, length, Err, vec_capacity};
 ghost use Rattle.std.specs.Io.KnownBytes.{Appends};
 ghost use Rattle.pcap_io.specs.Counting.{one_more, AppendsPrefix};
@@ -15,40 +15,40 @@ use std::io::Write;
 use std::marker::Model;
 use thiserror::Error;
 
-/// Magic 0xa1b23c4d (fractions in nanoseconds), version 2.4, zone 0, sigfigs 0, snaplen 262144, and
-/// link type 276, LINKTYPE_LINUX_SLL2.
+/// The file header: magic 0xa1b23c4d (nanoseconds), version 2.4, zone 0, sigfigs 0, snaplen 262144,
+/// link type 276 (LINKTYPE_LINUX_SLL2).
 const HEADER: [u8; 24] = [
     0x4d, 0x3c, 0xb2, 0xa1, 2, 0, 4, 0, 0, 0, 0, 0, 0, 0, 0, 0, 0, 0, 4, 0, 0x14, 1, 0, 0,
 ];
 
 const NANOSECONDS_IN_SECOND: u64 = 1_000_000_000;
 
-/// The length of a record's header.
+/// The length of a record's header, in bytes.
 const RECORD_HEADER_BYTES: usize = 16;
 
-/// The length of LINKTYPE_LINUX_SLL2's header.
+/// The length of an SLL2 header, in bytes.
 const LINK_HEADER_BYTES: usize = 20;
 
-/// How many bytes may wait: more than the greatest record has.
+/// The size of the buffer in bytes: more than the largest record.
 const BUFFER_BYTES: usize = 131_072;
 
-/// A packet that leaves.
+/// A packet that leaves the box.
 #[derive(Clone, Copy)]
 pub struct Leaving<'a> {
-    /// In nanoseconds since 1970.
+    /// Nanoseconds since 1970-01-01 00:00 UTC.
     pub moment: u64,
-    /// The index of the interface that it leaves by.
+    /// The index of the output interface.
     pub interface: u32,
     pub packet: &'a [u8],
 }
 
-/// Why a sink isn't opened.
+/// Why opening a sink failed.
 #[derive(Clone, Copy, Debug, PartialEq, Error)]
 pub enum SinkError {
     /// A write failed.
     #[error("device")]
     Device,
-    /// There was no room for the buffer.
+    /// The buffer couldn't be allocated.
     #[error("memory")]
     Memory,
 }
@@ -75,10 +75,10 @@ impl From<AllocError> for SinkError {
     }
 }
 
-/// A capture that is written: LINKTYPE_LINUX_SLL2, nanoseconds, the lowest byte of a number first.
+/// A capture that is written: LINKTYPE_LINUX_SLL2, nanoseconds, little-endian.
 ///
-/// What is put waits in a buffer until that is full, or until `finish`. A sink that is dropped
-/// before writes nothing more.
+/// Records are buffered until the buffer is full, or until `send` or `finish`. A sink that is
+/// dropped writes nothing more.
 #[derive(Drop)]
 pub struct Sink {
     buffered: Vec<u8>,
@@ -92,36 +92,49 @@ impl Model for Sink {
 
     ghost view = { λ s. record { buffered = s.buffered.items } };
 
-    ghost invariant = { λ s. (vec_len s.buffered ≤ BUFFER_BYTES) × (BUFFER_BYTES ≤ vec_capacity s.buffered) };
+    ghost invariant = { λ s. (vec_len s.buffered ≤ BUFFER_BYTES)
+        × (BUFFER_BYTES ≤ vec_capacity s.buffered) };
 }
 
 impl Sink {
-    /// Reserves the buffer and writes the header of the file. Where there is no room for the buffer
-    /// nothing is written; after a device fault the writer holds a beginning of the header.
+    /// Allocates the buffer and writes the file header.
+    ///
+    /// # Errors
+    /// `Memory`, before anything is written; `Device`, and then the writer holds a prefix of the
+    /// header.
     pub fn open<W: Write>(alloc: Global, writer: &mut Counted<W>) -> Result<Self, SinkError>
-        ensures ok { IfOk result (λ sink. AppendsBuffered [] (W.contents writer.old.inner) (W.contents writer.new.inner) sink.buffered sll2_header) }
-        ensures part { OnErr result (AppendsPrefix (W.contents writer.old.inner) (W.contents writer.new.inner) sll2_header) }
+        ensures ok { IfOk result (λ sink.
+            AppendsBuffered [] (W.contents writer.old.inner) (W.contents writer.new.inner)
+            sink.buffered sll2_header) }
+        ensures part { OnErr result (AppendsPrefix (W.contents writer.old.inner)
+            (W.contents writer.new.inner) sll2_header) }
         ensures memory { IsErrOf result SinkError.Memory → writer.new ≡ writer.old }
         ensures no_failure { OnOk result (writer.new.failures ≡ writer.old.failures) }
-        ensures device { IsErrOf result SinkError.Device → writer.new.failures ≡ one_more writer.old.failures }
+        ensures device { IsErrOf result SinkError.Device
+            → writer.new.failures ≡ one_more writer.old.failures }
     {
         let buffered = Vec::with_capacity(alloc, BUFFER_BYTES)?;
         write_whole(writer, &HEADER)?;
         Ok(Sink { buffered })
     }
 
-    /// Puts one record. The writer is called only where the record has no room beside what waits.
-    /// After an `Err` the writer holds a beginning of what waited, and the sink is unchanged.
+    /// Appends one record. The writer is called only where the buffer has no room for it.
+    ///
+    /// # Errors
+    /// The writer then holds a prefix of the buffered bytes, and the sink is unchanged.
     pub fn put<W: Write>(
         &mut self,
         writer: &mut Counted<W>,
         leaving: &Leaving,
     ) -> Result<(), DeviceFailed>
         requires { IsSent (sent leaving.now) }
-        ensures ok { OnOk result (AppendsBuffered self.old.buffered (W.contents writer.old.inner) (W.contents writer.new.inner) self.new.buffered (sll2_record (sent leaving.now))) }
-        ensures part { OnErr result (AppendsPrefix (W.contents writer.old.inner) (W.contents writer.new.inner) (self.old.buffered ++ sll2_record (sent leaving.now))) }
+        ensures ok { OnOk result (AppendsBuffered self.old.buffered (W.contents writer.old.inner)
+            (W.contents writer.new.inner) self.new.buffered (sll2_record (sent leaving.now))) }
+        ensures part { OnErr result (AppendsPrefix (W.contents writer.old.inner)
+            (W.contents writer.new.inner) (self.old.buffered ++ sll2_record (sent leaving.now))) }
         ensures err { OnErr result (self.new ≡ self.old) }
-        ensures room { length self.old.buffered + length (sll2_record (sent leaving.now)) ≤ buffer.BUFFER_BYTES → writer.new ≡ writer.old }
+        ensures room { length self.old.buffered + length
+            (sll2_record (sent leaving.now)) ≤ buffer.BUFFER_BYTES → writer.new ≡ writer.old }
         ensures no_failure { OnOk result (writer.new.failures ≡ writer.old.failures) }
         ensures device { OnErr result (writer.new.failures ≡ one_more writer.old.failures) }
     {
@@ -135,13 +148,17 @@ impl Sink {
         Ok(())
     }
 
-    /// Writes what waits; no call is made where nothing does. After an `Err` the writer holds a
-    /// beginning of it, and the sink is unchanged.
+    /// Writes the buffered bytes; makes no call where there are none.
+    ///
+    /// # Errors
+    /// The writer then holds a prefix of the buffered bytes, and the sink is unchanged.
     pub fn send<W: Write>(&mut self, writer: &mut Counted<W>) -> Result<(), DeviceFailed>
-        ensures ok { OnOk result (Appends (W.contents writer.old.inner) (W.contents writer.new.inner) self.old.buffered) }
+        ensures ok { OnOk result (Appends (W.contents writer.old.inner)
+            (W.contents writer.new.inner) self.old.buffered) }
         ensures empty { OnOk result (self.new.buffered ≡ []) }
         ensures none { self.old.buffered ≡ [] → writer.new ≡ writer.old }
-        ensures part { OnErr result (AppendsPrefix (W.contents writer.old.inner) (W.contents writer.new.inner) self.old.buffered) }
+        ensures part { OnErr result (AppendsPrefix (W.contents writer.old.inner)
+            (W.contents writer.new.inner) self.old.buffered) }
         ensures err { OnErr result (self.new ≡ self.old) }
         ensures no_failure { OnOk result (writer.new.failures ≡ writer.old.failures) }
         ensures device { OnErr result (writer.new.failures ≡ one_more writer.old.failures) }
@@ -154,13 +171,17 @@ impl Sink {
         Ok(())
     }
 
-    /// Writes what waits, and flushes the writer once. After an `Err` the writer holds a beginning of
-    /// what waited, and the sink is unchanged.
+    /// Writes the buffered bytes, and flushes the writer once.
+    ///
+    /// # Errors
+    /// The writer then holds a prefix of the buffered bytes, and the sink is unchanged.
     pub fn finish<W: Write>(&mut self, writer: &mut Counted<W>) -> Result<(), DeviceFailed>
-        ensures ok { OnOk result (Appends (W.contents writer.old.inner) (W.contents writer.new.inner) self.old.buffered) }
+        ensures ok { OnOk result (Appends (W.contents writer.old.inner)
+            (W.contents writer.new.inner) self.old.buffered) }
         ensures empty { OnOk result (self.new.buffered ≡ []) }
         ensures flushed { OnOk result (writer.new.is_flushed ≡ true) }
-        ensures part { OnErr result (AppendsPrefix (W.contents writer.old.inner) (W.contents writer.new.inner) self.old.buffered) }
+        ensures part { OnErr result (AppendsPrefix (W.contents writer.old.inner)
+            (W.contents writer.new.inner) self.old.buffered) }
         ensures err { OnErr result (self.new ≡ self.old) }
         ensures no_failure { OnOk result (writer.new.failures ≡ writer.old.failures) }
         ensures device { OnErr result (writer.new.failures ≡ one_more writer.old.failures) }
@@ -174,7 +195,7 @@ impl Sink {
     }
 }
 
-/// Appends where there is room, so that nothing is allocated.
+/// Appends within the capacity, so that nothing is allocated.
 fn append(buffered: &mut Vec<u8>, bytes: &[u8])
     requires { length buffered.old.items + length bytes.now ≤ vec_capacity buffered.old }
     ensures items { buffered.new.items ≡ buffered.old.items ++ bytes.now }
@@ -183,7 +204,7 @@ fn append(buffered: &mut Vec<u8>, bytes: &[u8])
     buffered.extend_from_slice(bytes).unwrap();
 }
 
-/// The record's header and the link header, which stand before the packet.
+/// The record's header and the link header, which precede the packet.
 fn headers(leaving: &Leaving) -> [u8; RECORD_HEADER_BYTES + LINK_HEADER_BYTES]
     requires { IsSent (sent leaving.now) }
     ensures bytes { result ++ leaving.now.packet.now ≡ sll2_record (sent leaving.now) }
@@ -201,7 +222,7 @@ fn headers(leaving: &Leaving) -> [u8; RECORD_HEADER_BYTES + LINK_HEADER_BYTES]
     bytes
 }
 
-/// LINKTYPE_LINUX_SLL2's header: IPv4, an Ethernet device, a packet that this box sends, no address.
+/// The SLL2 header: protocol IPv4, ARPHRD_ETHER, a packet sent by this host, no link-layer address.
 fn link_header(interface: u32) -> [u8; LINK_HEADER_BYTES]
     ensures { result ≡ Sll2.link_header interface }
 {

@@ -1,4 +1,4 @@
-//! Readers and writers for tests: few bytes a call, a call that fails, calls counted.
+//! Readers and writers for tests: short reads and writes, a failing call, a call count.
 ghost use Rattle.std.specs.Prelude.{◌≡◌, ◌<◌, ◌≤◌, ◌-◌, ◌++◌, max, false, cond, not, ◌&&◌, ◌||◌, ◌==◌, IfOk, IsErr};
 ghost use Rattle.pcap_io.specs.Counting.{one_more};
 ghost use Rattle.std.specs.Io.{ReadsAtMost, WritesAtMost};
@@ -7,7 +7,7 @@ ghost use Rattle.std.specs.Io.KnownBytes.{ReadConsumes, WriteAppends, Keeps};
 use std::io;
 use std::io::{ErrorKind, Read, Write};
 
-/// Takes or gives at most so many bytes a call, and one where that is 0.
+/// Reads or writes at most `most` bytes a call, or one where that is 0.
 #[derive(Drop)]
 pub struct Slow<T> {
     inner: T,
@@ -15,7 +15,7 @@ pub struct Slow<T> {
 }
 
 impl<T> Slow<T> {
-    /// At most `most` bytes a call.
+    /// Limits the calls of `inner` to `most` bytes.
     pub fn new(inner: T, most: usize) -> Self
         ensures inner { result.inner ≡ inner }
         ensures most { result.most ≡ most }
@@ -23,7 +23,7 @@ impl<T> Slow<T> {
         Slow { inner, most }
     }
 
-    /// The reader or the writer itself.
+    /// Unwraps the reader or writer.
     pub fn into_inner(self) -> T
         ensures { result ≡ self.inner }
     {
@@ -36,7 +36,8 @@ impl<R: Read> Read for Slow<R> {
 
     fn read(&mut self, buf: &mut [u8]) -> io::Result<usize>
         ensures bound { ReadsAtMost result buf.new }
-        ensures bytes { ReadConsumes (R.remaining self.old.inner) (R.remaining self.new.inner) result buf.new }
+        ensures bytes { ReadConsumes (R.remaining self.old.inner) (R.remaining self.new.inner)
+            result buf.new }
         ensures most { IfOk result (λ count. count ≤ max self.old.most 1) }
         ensures kept { self.new.most ≡ self.old.most }
     {
@@ -50,7 +51,8 @@ impl<W: Write> Write for Slow<W> {
 
     fn write(&mut self, buf: &[u8]) -> io::Result<usize>
         ensures bound { WritesAtMost result buf.now }
-        ensures bytes { WriteAppends (W.contents self.old.inner) (W.contents self.new.inner) result buf.now }
+        ensures bytes { WriteAppends (W.contents self.old.inner) (W.contents self.new.inner) result
+            buf.now }
         ensures most { IfOk result (λ count. count ≤ max self.old.most 1) }
         ensures kept { self.new.most ≡ self.old.most }
     {
@@ -63,7 +65,7 @@ impl<W: Write> Write for Slow<W> {
     }
 }
 
-/// Works for so many calls (reads, writes and flushes), and then fails once.
+/// Fails once, after some calls (reads, writes and flushes) that work.
 #[derive(Drop)]
 pub struct Failing<T> {
     inner: T,
@@ -85,7 +87,7 @@ impl<T> Failing<T> {
         }
     }
 
-    /// The reader or the writer itself.
+    /// Unwraps the reader or writer.
     pub fn into_inner(self) -> T
         ensures { result ≡ self.inner }
     {
@@ -117,7 +119,8 @@ impl<R: Read> Read for Failing<R> {
     #[tactic(auto, using(crate::proofs::Parts::kept_rules))]
     fn read(&mut self, buf: &mut [u8]) -> io::Result<usize>
         ensures bound { ReadsAtMost result buf.new }
-        ensures bytes { ReadConsumes (R.remaining self.old.inner) (R.remaining self.new.inner) result buf.new }
+        ensures bytes { ReadConsumes (R.remaining self.old.inner) (R.remaining self.new.inner)
+            result buf.new }
         ensures fails { self.old.is_done ≡ false → self.old.calls ≡ 0 → IsErr result }
         ensures calls { self.new.calls ≡ cond self.old.is_done self.old.calls (self.old.calls - 1) }
         ensures done { self.new.is_done ≡ (self.old.is_done || (self.old.calls == 0)) }
@@ -135,7 +138,8 @@ impl<W: Write> Write for Failing<W> {
     #[tactic(auto, using(crate::proofs::Parts::kept_rules))]
     fn write(&mut self, buf: &[u8]) -> io::Result<usize>
         ensures bound { WritesAtMost result buf.now }
-        ensures bytes { WriteAppends (W.contents self.old.inner) (W.contents self.new.inner) result buf.now }
+        ensures bytes { WriteAppends (W.contents self.old.inner) (W.contents self.new.inner) result
+            buf.now }
         ensures fails { self.old.is_done ≡ false → self.old.calls ≡ 0 → IsErr result }
         ensures calls { self.new.calls ≡ cond self.old.is_done self.old.calls (self.old.calls - 1) }
         ensures done { self.new.is_done ≡ (self.old.is_done || (self.old.calls == 0)) }
@@ -160,7 +164,7 @@ impl<W: Write> Write for Failing<W> {
     }
 }
 
-/// A reader or a writer that counts its calls, flushes too.
+/// Counts the calls of a reader or writer, flushes too.
 #[derive(Drop)]
 pub struct Calls<T> {
     inner: T,
@@ -168,7 +172,7 @@ pub struct Calls<T> {
 }
 
 impl<T> Calls<T> {
-    /// No call yet.
+    /// Wraps `inner`, with no calls yet.
     pub fn new(inner: T) -> Self
         ensures inner { result.inner ≡ inner }
         ensures calls { result.calls ≡ 0 }
@@ -176,14 +180,14 @@ impl<T> Calls<T> {
         Calls { inner, calls: 0 }
     }
 
-    /// How many calls there were; it stays at its greatest.
+    /// The number of calls, saturating.
     pub fn calls(&self) -> u64
         ensures { result ≡ self.now.calls }
     {
         self.calls
     }
 
-    /// The reader or the writer itself.
+    /// Unwraps the reader or writer.
     pub fn into_inner(self) -> T
         ensures { result ≡ self.inner }
     {
@@ -196,7 +200,8 @@ impl<R: Read> Read for Calls<R> {
 
     fn read(&mut self, buf: &mut [u8]) -> io::Result<usize>
         ensures bound { ReadsAtMost result buf.new }
-        ensures bytes { ReadConsumes (R.remaining self.old.inner) (R.remaining self.new.inner) result buf.new }
+        ensures bytes { ReadConsumes (R.remaining self.old.inner) (R.remaining self.new.inner)
+            result buf.new }
         ensures calls { self.new.calls ≡ one_more self.old.calls }
     {
         self.calls = self.calls.saturating_add(1);
@@ -209,7 +214,8 @@ impl<W: Write> Write for Calls<W> {
 
     fn write(&mut self, buf: &[u8]) -> io::Result<usize>
         ensures bound { WritesAtMost result buf.now }
-        ensures bytes { WriteAppends (W.contents self.old.inner) (W.contents self.new.inner) result buf.now }
+        ensures bytes { WriteAppends (W.contents self.old.inner) (W.contents self.new.inner) result
+            buf.now }
         ensures calls { self.new.calls ≡ one_more self.old.calls }
     {
         self.calls = self.calls.saturating_add(1);

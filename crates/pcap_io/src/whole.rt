@@ -1,4 +1,4 @@
-//! All the bytes of a text, written by as many calls as it takes.
+//! Writes a whole byte string, by as many calls as it takes.
 ghost use Rattle.std.specs.Prelude.{◌≡◌, OnOk, OnErr};
 ghost use Rattle.std.specs.Io.KnownBytes.{Appends};
 ghost use Rattle.pcap_io.specs.Counting.{one_more, AppendsPrefix};
@@ -7,17 +7,22 @@ use crate::counted::Counted;
 use std::io::Write;
 use thiserror::Error;
 
-/// A write failed.
+/// A read, a write or a flush failed.
 #[derive(Clone, Copy, Debug, Error)]
 #[error("device")]
 pub struct DeviceFailed;
 
-/// Writes all of it, or stops at the first call that fails, an interrupted one too, or that takes
-/// nothing. After an `Err` the writer holds a beginning of it.
+/// Writes all bytes.
+///
+/// # Errors
+/// At the first call that fails (an interrupted one too) or writes nothing; the writer then holds
+/// a prefix of the bytes.
 pub fn write_whole<W: Write>(writer: &mut Counted<W>, bytes: &[u8]) -> Result<(), DeviceFailed>
-    ensures ok { OnOk result (Appends (W.contents writer.old.inner) (W.contents writer.new.inner) bytes.now) }
+    ensures ok { OnOk result (Appends (W.contents writer.old.inner) (W.contents writer.new.inner)
+        bytes.now) }
     ensures no_failure { OnOk result (writer.new.failures ≡ writer.old.failures) }
-    ensures part { OnErr result (AppendsPrefix (W.contents writer.old.inner) (W.contents writer.new.inner) bytes.now) }
+    ensures part { OnErr result (AppendsPrefix (W.contents writer.old.inner)
+        (W.contents writer.new.inner) bytes.now) }
     ensures device { OnErr result (writer.new.failures ≡ one_more writer.old.failures) }
 {
     let mut rest = bytes;

@@ -1,5 +1,6 @@
 -- A report before the first record.
-use Rattle.std.proofs.Common.{◌≡◌, ℕ, zero, suc, ◌+◌, ◌*◌, ◌<◌, List, [], length, map, slice_get, get_or, Option, Some, None, refl, sym, ap, ◌∙◌, arith}
+use Rattle.std.proofs.Common.{◌≡◌, ℕ, zero, suc, ◌+◌, ◌*◌, ◌<◌, List, [], length, map, slice_get, get_or, Option, Some}
+use Rattle.std.proofs.Common.{None, refl, sym, ap, ◌∙◌, arith}
 use Rattle.std.specs.Prelude.{◌^◌, All, slice_index, replicate}
 use Rattle.std.specs.Option.{option_map, option_and_then}
 use Rattle.std.proofs.lemmas.Option.{slice_get-map, slice_get_within, get_or_from_slice_get}
@@ -13,36 +14,51 @@ use Rattle.report.specs.Representing.{Tallies, tally_at, tally_of, counter_at}
 use Rattle.report.specs.steps.Bounds.{AllWithin}
 use Rattle.report.specs.steps.Tallying.{started, fresh_statement, fresh_rule, fresh_chain, fresh_table, fresh}
 
--- ---- what stands at a place of a fresh report is where its statement starts
+-- ---- a counter of a new report has its initial value
 
-numbered_from_one-map : {A B : Type 0} (f : A → B) (xs : List A) (n : ℕ) → numbered_from_one (map f xs) n ≡ option_map f (numbered_from_one xs n)
+numbered_from_one-map : {A B : Type 0} (f : A → B) (xs : List A) (n : ℕ)
+    → numbered_from_one (map f xs) n ≡ option_map f (numbered_from_one xs n)
 numbered_from_one-map f xs zero = refl
 numbered_from_one-map f xs (suc n) = slice_get-map f xs n
 
 -- what is found in a part's image is the image of what is found in the part
-found_in-map : {A B C D : Type 0} (f : A → B) (g : C → D) (find : A → Option C) (find' : B → Option D) (o : Option A) → ((a : A) → find' (f a) ≡ option_map g (find a)) → option_and_then find' (option_map f o) ≡ option_map g (option_and_then find o)
+found_in-map : {A B C D : Type 0} (f : A → B) (g : C → D) (find : A → Option C) (find' : B → Option D) (o : Option A)
+    → ((a : A) → find' (f a) ≡ option_map g (find a))
+    → option_and_then find' (option_map f o) ≡ option_map g (option_and_then find o)
 found_in-map f g find find' None same = refl
 found_in-map f g find find' (Some a) same = same a
 
 abbrev statement_there : List TableTree → StatementPosition → Option Statement
-statement_there rules at = option_and_then (λ r. numbered_from_one r.statements at.statement) (rule_numbered rules at.rule)
+statement_there rules at = option_and_then (λ r. numbered_from_one r.statements at.statement)
+    (rule_numbered rules at.rule)
 
-fresh_there : (rules : List TableTree) (at : StatementPosition) → tally_at (fresh rules) at ≡ option_map fresh_statement (statement_there rules at)
+fresh_there : (rules : List TableTree) (at : StatementPosition)
+    → tally_at (fresh rules) at ≡ option_map fresh_statement (statement_there rules at)
 fresh_there rules at =
-    let tables : slice_get (fresh rules) at.rule.table ≡ option_map fresh_table (slice_get rules at.rule.table) = slice_get-map fresh_table rules at.rule.table in
-    let chain = option_and_then (λ (t : TableTree). slice_get (chains_of t) at.rule.chain) (slice_get rules at.rule.table) in
-    let chains : option_and_then (λ t. slice_get t at.rule.chain) (slice_get (fresh rules) at.rule.table) ≡ option_map fresh_chain chain =
+    let tables : slice_get (fresh rules) at.rule.table ≡ option_map fresh_table (slice_get rules at.rule.table) =
+    slice_get-map fresh_table rules at.rule.table in
+    let chain = option_and_then (λ (t : TableTree). slice_get (chains_of t) at.rule.chain)
+    (slice_get rules at.rule.table) in
+    let chains : option_and_then (λ t. slice_get t at.rule.chain) (slice_get (fresh rules) at.rule.table)
+    ≡ option_map fresh_chain chain =
     ap (option_and_then (λ t. slice_get t at.rule.chain)) tables
-    ∙ found_in-map fresh_table fresh_chain (λ t. slice_get (chains_of t) at.rule.chain) (λ t. slice_get t at.rule.chain) (slice_get rules at.rule.table) (λ t. slice_get-map fresh_chain (chains_of t) at.rule.chain) in
-    let rule : option_and_then (λ c. numbered_from_one c at.rule.rule) (option_map fresh_chain chain) ≡ option_map fresh_rule (rule_numbered rules at.rule) =
-    found_in-map fresh_chain fresh_rule (λ c. numbered_from_one c.rules at.rule.rule) (λ c. numbered_from_one c at.rule.rule) chain (λ c. numbered_from_one-map fresh_rule c.rules at.rule.rule) in
-    let more : option_and_then (λ r. numbered_from_one r at.statement) (option_map fresh_rule (rule_numbered rules at.rule)) ≡ option_map fresh_statement (statement_there rules at) =
-    found_in-map fresh_rule fresh_statement (λ r. numbered_from_one r.statements at.statement) (λ r. numbered_from_one r at.statement) (rule_numbered rules at.rule) (λ r. numbered_from_one-map fresh_statement r.statements at.statement) in
-    ap (λ o. option_and_then (λ r. numbered_from_one r at.statement) (option_and_then (λ c. numbered_from_one c at.rule.rule) o)) chains
+    ∙ found_in-map fresh_table fresh_chain (λ t. slice_get (chains_of t) at.rule.chain) (λ t. slice_get t at.rule.chain)
+    (slice_get rules at.rule.table) (λ t. slice_get-map fresh_chain (chains_of t) at.rule.chain) in
+    let rule : option_and_then (λ c. numbered_from_one c at.rule.rule) (option_map fresh_chain chain)
+    ≡ option_map fresh_rule (rule_numbered rules at.rule) =
+    found_in-map fresh_chain fresh_rule (λ c. numbered_from_one c.rules at.rule.rule)
+    (λ c. numbered_from_one c at.rule.rule) chain (λ c. numbered_from_one-map fresh_rule c.rules at.rule.rule) in
+    let more : option_and_then (λ r. numbered_from_one r at.statement)
+    (option_map fresh_rule (rule_numbered rules at.rule)) ≡ option_map fresh_statement (statement_there rules at) =
+    found_in-map fresh_rule fresh_statement (λ r. numbered_from_one r.statements at.statement)
+    (λ r. numbered_from_one r at.statement) (rule_numbered rules at.rule)
+    (λ r. numbered_from_one-map fresh_statement r.statements at.statement) in
+    ap (λ o. option_and_then (λ r. numbered_from_one r at.statement)
+    (option_and_then (λ c. numbered_from_one c at.rule.rule) o)) chains
     ∙ ap (option_and_then (λ r. numbered_from_one r at.statement)) rule
     ∙ more
 
--- what a counter starts at is what it stands at after no entry
+-- after no entry a counter has its initial value
 no_entry : (start : CounterStart) (at : StatementPosition) → started (Some start) ≡ tally_of start at []
 no_entry start at =
     let more_packets : start.packets ≡ start.packets + packets at [] = omega arith in
@@ -51,16 +67,20 @@ no_entry start at =
     let of_bytes : ℕ → Tally = λ n. record { packets = start.packets + packets at []; bytes = n } in
     ap of_packets more_packets ∙ ap of_bytes more_bytes
 
-starts_so : (o : Option Statement) (start : CounterStart) → option_and_then counter_in o ≡ Some start → option_map fresh_statement o ≡ Some (started (Some start))
+starts_so : (o : Option Statement) (start : CounterStart) → option_and_then counter_in o ≡ Some start
+    → option_map fresh_statement o ≡ Some (started (Some start))
 starts_so None start is = absurd (cc)
 starts_so (Some s) start is = ap (λ c. Some (started c)) is
 
 -- the counter of a rule's statement
-counter_of : (o : Option RuleTree) (n : ℕ) → option_and_then (λ r. option_and_then counter_in (numbered_from_one r.statements n)) o ≡ option_and_then counter_in (option_and_then (λ r. numbered_from_one r.statements n) o)
+counter_of : (o : Option RuleTree) (n : ℕ)
+    → option_and_then (λ r. option_and_then counter_in (numbered_from_one r.statements n)) o
+    ≡ option_and_then counter_in (option_and_then (λ r. numbered_from_one r.statements n) o)
 counter_of None n = refl
 counter_of (Some r) n = refl
 
-pub fresh_starts : (rules : List TableTree) (at : StatementPosition) (start : CounterStart) → counter_at rules at ≡ Some start → tally_at (fresh rules) at ≡ Some (tally_of start at [])
+pub fresh_starts : (rules : List TableTree) (at : StatementPosition) (start : CounterStart)
+    → counter_at rules at ≡ Some start → tally_at (fresh rules) at ≡ Some (tally_of start at [])
 fresh_starts rules at start is =
     fresh_there rules at
     ∙ starts_so (statement_there rules at) start (sym (counter_of (rule_numbered rules at.rule) at.statement) ∙ is)
@@ -79,21 +99,26 @@ at_place P xs n x all is =
     let same : get_or xs n x ≡ x = get_or_from_slice_get xs n x x is in
     rw same at (all n x there)
 
-at_number : {A : Type 0} (P : A → Type 0) (xs : List A) (n : ℕ) (x : A) → All P xs → numbered_from_one xs n ≡ Some x → P x
+at_number : {A : Type 0} (P : A → Type 0) (xs : List A) (n : ℕ) (x : A) → All P xs → numbered_from_one xs n ≡ Some x
+    → P x
 at_number P xs zero x all is = absurd (cc)
 at_number P xs (suc n) x all is = at_place P xs n x all is
 
--- so it does by way of a part
-in_part : {A B : Type 0} (P : A → Type 0) (Q : B → Type 0) (find : A → Option B) (o : Option A) (y : B) → ((a : A) → o ≡ Some a → P a) → ((a : A) (b : B) → P a → find a ≡ Some b → Q b) → option_and_then find o ≡ Some y → Q y
+-- so it does through a part
+in_part : {A B : Type 0} (P : A → Type 0) (Q : B → Type 0) (find : A → Option B) (o : Option A) (y : B)
+    → ((a : A) → o ≡ Some a → P a) → ((a : A) (b : B) → P a → find a ≡ Some b → Q b) → option_and_then find o ≡ Some y
+    → Q y
 in_part P Q find None y whole part is = absurd (cc)
 in_part P Q find (Some a) y whole part is = part a y (whole a refl) is
 
-pub fresh_fits : (tallies : Tallies) → All (All (All (All FitsStart))) tallies → AllWithin ((0 + 1) * 2 ^ 64) ((0 + 1) * 2 ^ 80) tallies
+pub fresh_fits : (tallies : Tallies) → All (All (All (All FitsStart))) tallies
+    → AllWithin ((0 + 1) * 2 ^ 64) ((0 + 1) * 2 ^ 80) tallies
 fresh_fits tallies all at tally is =
     let fits : FitsStart tally =
     in_part (All FitsStart) FitsStart (λ r. numbered_from_one r at.statement) _ tally
     (λ r found. in_part (All (All FitsStart)) (All FitsStart) (λ c. numbered_from_one c at.rule.rule) _ r
-    (λ c found'. in_part (All (All (All FitsStart))) (All (All FitsStart)) (λ t. slice_get t at.rule.chain) (slice_get tallies at.rule.table) c
+    (λ c found'. in_part (All (All (All FitsStart))) (All (All FitsStart)) (λ t. slice_get t at.rule.chain)
+    (slice_get tallies at.rule.table) c
     (λ t found''. at_place (All (All (All FitsStart))) tallies at.rule.table t all found'')
     (λ t c' each here. at_place (All (All FitsStart)) t at.rule.chain c' each here) found')
     (λ c r' each here. at_number (All FitsStart) c at.rule.rule r' each here) found)

@@ -1,5 +1,6 @@
--- The lines of what is noted of an entry are the entry's.
-use Rattle.std.proofs.Common.{◌≡◌, ℕ, Bool, true, false, List, [], ◌∷◌, ◌++◌, length, refl, sym, ap, ◌∙◌, append_assoc, append-nil}
+-- The lines of an entry's notes are the entry's lines.
+use Rattle.std.proofs.Common.{◌≡◌, ℕ, Bool, true, false, List, [], ◌∷◌, ◌++◌, length, refl, sym, ap, ◌∙◌, append_assoc}
+use Rattle.std.proofs.Common.{append-nil}
 use Rattle.std.specs.List.{flat_map}
 use Rattle.std.specs.Option.{option_to_list}
 use Rattle.std.proofs.lemmas.List.Concat.{flat_map-append}
@@ -13,7 +14,8 @@ use Rattle.report.specs.Report.{event_line, outcome_line, lines_of, entry_lines}
 use Rattle.report.specs.Representing.{note_line}
 use Rattle.report.specs.steps.Noting.{noted_event, noted_events, noted_end, noted}
 
-event_written : (rules : List TableTree) (trace : Bool) (n : ℕ) (e : Event) → flat_map (note_line rules) (option_to_list (noted_event trace n e)) ≡ event_line rules trace n e
+event_written : (rules : List TableTree) (trace : Bool) (n : ℕ) (e : Event)
+    → flat_map (note_line rules) (option_to_list (noted_event trace n e)) ≡ event_line rules trace n e
 event_written rules trace n (events.Logged at) = append-nil _
 event_written rules true n (events.TookVerdict rule verdict) = append-nil _
 event_written rules false n (events.TookVerdict rule verdict) = refl
@@ -23,26 +25,31 @@ event_written rules trace n (events.Counted at) = refl
 event_written rules trace n (events.Marked field value) = refl
 event_written rules trace n events.Untracked = refl
 
-events_written : (rules : List TableTree) (trace : Bool) (n : ℕ) (es : List Event) → flat_map (note_line rules) (noted_events trace n es) ≡ flat_map (event_line rules trace n) es
+events_written : (rules : List TableTree) (trace : Bool) (n : ℕ) (es : List Event)
+    → flat_map (note_line rules) (noted_events trace n es) ≡ flat_map (event_line rules trace n) es
 events_written rules trace n [] = refl
 events_written rules trace n (e ∷ es) =
     flat_map-append (note_line rules) (option_to_list (noted_event trace n e)) (noted_events trace n es)
     ∙ ap (λ ys. ys ++ flat_map (note_line rules) (noted_events trace n es)) (event_written rules trace n e)
     ∙ ap (λ ys. event_line rules trace n e ++ ys) (events_written rules trace n es)
 
-end_written : (rules : List TableTree) (trace : Bool) (n : ℕ) (outcome : Outcome) → flat_map (note_line rules) (noted_end trace n outcome) ≡ outcome_line trace n outcome
+end_written : (rules : List TableTree) (trace : Bool) (n : ℕ) (outcome : Outcome)
+    → flat_map (note_line rules) (noted_end trace n outcome) ≡ outcome_line trace n outcome
 end_written rules true n outcome = append-nil _
 end_written rules false n outcome = refl
 
-entry_written : (rules : List TableTree) (trace : Bool) (n : ℕ) (e : Entry) → flat_map (note_line rules) (noted trace n e.events e.outcome) ≡ lines_of rules trace n e
+entry_written : (rules : List TableTree) (trace : Bool) (n : ℕ) (e : Entry)
+    → flat_map (note_line rules) (noted trace n e.events e.outcome) ≡ lines_of rules trace n e
 entry_written rules trace n e =
     flat_map-append (note_line rules) (noted_events trace n e.events) (noted_end trace n e.outcome)
     ∙ ap (λ ys. ys ++ flat_map (note_line rules) (noted_end trace n e.outcome)) (events_written rules trace n e.events)
     ∙ ap (λ ys. flat_map (event_line rules trace n) e.events ++ ys) (end_written rules trace n e.outcome)
 
--- with what is noted of one entry more, the rest of the text is that of the story with it
-pub rest_more : (rules : List TableTree) (trace : Bool) (history : List Entry) (written : Text) (notes : List Note) (e : Entry) → written ++ flat_map (note_line rules) notes ≡ entry_lines rules trace history
-    → written ++ flat_map (note_line rules) (notes ++ noted trace (length (e ∷ history)) e.events e.outcome) ≡ entry_lines rules trace (e ∷ history)
+-- with the notes of one more entry, the rest of the text is that of the extended history
+pub rest_more : (rules : List TableTree) (trace : Bool) (history : List Entry) (written : Text) (notes : List Note)
+    (e : Entry) → written ++ flat_map (note_line rules) notes ≡ entry_lines rules trace history
+    → written ++ flat_map (note_line rules) (notes ++ noted trace (length (e ∷ history)) e.events e.outcome)
+    ≡ entry_lines rules trace (e ∷ history)
 rest_more rules trace history written notes e is =
     let more : List Note = noted trace (length (e ∷ history)) e.events e.outcome in
     ap (λ ys. written ++ ys) (flat_map-append (note_line rules) notes more)

@@ -15,23 +15,37 @@ head_lines records sent kept = line (codes "records") records ++ line (codes "pa
 abbrev pub tail_lines : ℕ → ℕ → Bool → List ℕ
 tail_lines begun live torn = line (codes "begun") begun ++ line (codes "live") live ++ line (codes "torn") (bit torn)
 
-joined : (a b c d : List ℕ) (x y z : List ℕ) → (((((a ++ b) ++ c) ++ d) ++ x) ++ y) ++ z ≡ ((a ++ b) ++ c) ++ (d ++ ((x ++ y) ++ z))
+joined : (a b c d : List ℕ) (x y z : List ℕ)
+    → (((((a ++ b) ++ c) ++ d) ++ x) ++ y) ++ z ≡ ((a ++ b) ++ c) ++ (d ++ ((x ++ y) ++ z))
 joined a b c d x y z = simp append_assoc
 
-pub totals_split : (records sent kept : ℕ) (lost : Cause → ℕ) (begun live : ℕ) (torn : Bool) → number_lines records sent kept lost begun live torn ≡ head_lines records sent kept ++ (flat_map (drop_line lost) causes ++ tail_lines begun live torn)
+pub totals_split : (records sent kept : ℕ) (lost : Cause → ℕ) (begun live : ℕ) (torn : Bool)
+    → number_lines records sent kept lost begun live torn ≡ head_lines records sent kept
+    ++ (flat_map (drop_line lost) causes ++ tail_lines begun live torn)
 totals_split records sent kept lost begun live torn =
-    joined (line (codes "records") records) (line (codes "passed") sent) (line (codes "local") kept) (flat_map (drop_line lost) causes) (line (codes "begun") begun) (line (codes "live") live) (line (codes "torn") (bit torn))
+    joined (line (codes "records") records) (line (codes "passed") sent) (line (codes "local") kept)
+    (flat_map (drop_line lost) causes) (line (codes "begun") begun) (line (codes "live") live)
+    (line (codes "torn") (bit torn))
 
-heads : (r n p m q k : List ℕ) → r ++ (n ++ (10 ∷ (p ++ (m ++ (10 ∷ (q ++ (k ++ (10 ∷ [])))))))) ≡ (((r ++ n) ++ (10 ∷ [])) ++ ((p ++ m) ++ (10 ∷ []))) ++ ((q ++ k) ++ (10 ∷ []))
+heads : (r n p m q k : List ℕ) → r ++ (n ++ (10 ∷ (p ++ (m ++ (10 ∷ (q ++ (k ++ (10 ∷ []))))))))
+    ≡ (((r ++ n) ++ (10 ∷ [])) ++ ((p ++ m) ++ (10 ∷ []))) ++ ((q ++ k) ++ (10 ∷ []))
 heads r n p m q k = simp append_assoc
 
 pub head_written : (records records' sent sent' kept kept' : ℕ) → records' ≡ records → sent' ≡ sent → kept' ≡ kept
-    → codes "records" ++ ((32 ∷ decimal records') ++ (codes "\npassed" ++ ((32 ∷ decimal sent') ++ (codes "\nlocal" ++ ((32 ∷ decimal kept') ++ ((10 ∷ []) ++ [])))))) ≡ head_lines records sent kept
-head_written records records' sent sent' kept kept' hr hs hk = heads (codes "records") (32 ∷ decimal records') (codes "passed") (32 ∷ decimal sent') (codes "local") (32 ∷ decimal kept') ∙ rw (hr, hs, hk)
+    → codes "records" ++ ((32 ∷ decimal records')
+    ++ (codes "\npassed" ++ ((32 ∷ decimal sent')
+    ++ (codes "\nlocal" ++ ((32 ∷ decimal kept') ++ ((10 ∷ []) ++ [])))))) ≡ head_lines records sent kept
+head_written records records' sent sent' kept kept' hr hs hk =
+    heads (codes "records") (32 ∷ decimal records') (codes "passed") (32 ∷ decimal sent') (codes "local")
+    (32 ∷ decimal kept') ∙ rw (hr, hs, hk)
 
 pub tail_written : (begun begun' live live' n : ℕ) (torn : Bool) → begun' ≡ begun → live' ≡ live → n ≡ bit torn
-    → codes "begun" ++ ((32 ∷ decimal begun') ++ (codes "\nlive" ++ ((32 ∷ decimal live') ++ (codes "\ntorn" ++ ((32 ∷ decimal n) ++ ((10 ∷ []) ++ [])))))) ≡ tail_lines begun live torn
-tail_written begun begun' live live' n torn hb hl hn = heads (codes "begun") (32 ∷ decimal begun') (codes "live") (32 ∷ decimal live') (codes "torn") (32 ∷ decimal n) ∙ rw (hb, hl, hn)
+    → codes "begun" ++ ((32 ∷ decimal begun') ++ (codes "\nlive" ++ ((32 ∷ decimal live') ++ (codes "\ntorn"
+    ++ ((32 ∷ decimal n) ++ ((10 ∷ []) ++ []))))))
+    ≡ tail_lines begun live torn
+tail_written begun begun' live live' n torn hb hl hn =
+    heads (codes "begun") (32 ∷ decimal begun') (codes "live") (32 ∷ decimal live') (codes "torn") (32 ∷ decimal n)
+    ∙ rw (hb, hl, hn)
 
 pub bit_is : (b : Bool) → bool_byte b ≡ bit b
 bit_is true = refl

@@ -1,5 +1,6 @@
--- When a report stands for a story, of which some text was written already.
-use Rattle.std.specs.Prelude.{◌≡◌, ℕ, ◌+◌, Bool, true, List, ◌++◌, length, slice_get, slice_index, Option, Some}
+-- When a report is one of a history, of whose text a part is written already.
+use Rattle.std.specs.Prelude.{◌≡◌, ℕ, ◌+◌, Bool, true, List, ◌++◌, length, slice_get, slice_index, Option}
+use Rattle.std.specs.Prelude.{Some}
 use Rattle.std.specs.List.{flat_map}
 use Rattle.std.specs.Option.{option_and_then}
 use Rattle.std.specs.Io.KnownBytes.{Appends}
@@ -14,20 +15,22 @@ use Rattle.history.specs.History.{Entry}
 use Rattle.report.specs.declared.tallies.Tally.{Tally}
 use Rattle.report.specs.declared.notes.Note.{Note}
 use Rattle.report.specs.declared.notes.Note.TheVariants as notes
-use Rattle.report.specs.Report.{passed, local, dropped, begun, packets, bytes, entry_lines, on_chain, log_line}
+use Rattle.report.specs.Report.{passed, local, dropped, begun, packets, bytes, entry_lines, on_chain}
+use Rattle.report.specs.Report.{log_line}
 use Rattle.report.specs.Report.{verdict_line, policy_line, outcome_line}
 
--- a writer's known bytes grow so that what was told so far becomes this text
+-- a writer's known bytes grow by what completes the written part to this text
 abbrev pub AppendsRest : Option Text → Option Text → Text → Text → Type 0
 AppendsRest old new written text = (rest : Text) × (written ++ rest ≡ text) × Appends old new rest
 
--- or a beginning of it
+-- or by a prefix of that
 abbrev pub AppendsRestPrefix : Option Text → Option Text → Text → Text → Type 0
-AppendsRestPrefix old new written text = (rest : Text) × (written ++ rest ≡ text) × AppendsPrefix old new rest
+AppendsRestPrefix old new written text = (rest : Text) × (written ++ rest ≡ text)
+    × AppendsPrefix old new rest
 
--- ---- what a report knows
+-- ---- the state of a report
 
--- what each statement of each rule of each chain of each table stands at, whether it counts or not
+-- a value for each statement of each rule of each chain of each table, a counter or not
 abbrev pub Tallies : Type 0
 Tallies = List (List (List (List Tally)))
 
@@ -37,9 +40,9 @@ tally_at tallies at =
     (option_and_then (λ c. numbered_from_one c at.rule.rule)
     (option_and_then (λ t. slice_get t at.rule.chain) (slice_get tallies at.rule.table)))
 
--- its numbers: of all records, of those that passed and that were for the box, of those dropped, by the cause's place,
--- and of those that began a connection; what each statement stands at; whether it traces; what was noted and not yet
--- written; and how many notes more need no memory
+-- the number of records, of those forwarded, delivered, dropped (by the cause's index) and of those that
+-- began a connection; the counters; whether it traces; the notes not written yet, and how many more are
+-- reserved
 pub record ReportState : Type 0 where
   pub records : ℕ
   pub passed : ℕ
@@ -54,18 +57,18 @@ pub record ReportState : Type 0 where
 abbrev pub drops_of : ReportState → Cause → ℕ
 drops_of report cause = slice_index report.dropped (report_index cause)
 
--- the counter that stands at a place, by where it starts
+-- the initial values of the counter at a position
 abbrev pub counter_at : List TableTree → StatementPosition → Option CounterStart
 counter_at rules at =
     option_and_then (λ r. option_and_then counter_in (numbered_from_one r.statements at.statement))
     (rule_numbered rules at.rule)
 
--- where a counter stands after a story
+-- the value of a counter after a history
 abbrev pub tally_of : CounterStart → StatementPosition → List Entry → Tally
 tally_of start at history =
     record { packets = start.packets + packets at history; bytes = start.bytes + bytes at history }
 
--- what is told of a note
+-- the line of a note
 abbrev pub note_line : List TableTree → Note → Text
 note_line rules (notes.Logged number at) = on_chain rules at.rule.table at.rule.chain (log_line number at)
 note_line rules (notes.TookVerdict number rule verdict) =
@@ -74,9 +77,10 @@ note_line rules (notes.TookPolicy number chain policy) =
     on_chain rules chain.table chain.chain (policy_line number policy)
 note_line rules (notes.Ended number outcome) = outcome_line true number outcome
 
--- a report stands for a story over these rules, of which this text was written already: its numbers are the story's,
--- and what it noted is the rest of the text
-pub record IsReportOf (report : ReportState) (rules : List TableTree) (trace : Bool) (history : List Entry) (written : Text)
+-- the report of a history under these rules: its numbers are the history's, and its notes are the lines
+-- behind the written part
+pub record IsReportOf (report : ReportState) (rules : List TableTree) (trace : Bool) (history : List Entry)
+    (written : Text)
     : Type 0 where
   pub records : report.records ≡ length history
   pub passed_are : report.passed ≡ passed history

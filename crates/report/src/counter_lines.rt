@@ -1,4 +1,4 @@
-//! The lines of counters.
+//! Lines of counters.
 ghost use Rattle.std.specs.Prelude.{◌≡◌};
 ghost use Rattle.nft_tree.specs.Tree.{chain_tree, rule_tree, table_tree, tables_of};
 ghost use Rattle.nft_tree.specs.TableItems.{chains_of};
@@ -13,14 +13,15 @@ use nft_tree::{Rule, Ruleset, Table};
 use pcap_io::{Counted, DeviceFailed};
 use std::io::Write;
 
-/// Puts the lines of all counters, in text order.
+/// Appends the lines of all counters, in the ruleset's order.
 pub fn put_counters<W: Write>(
     page: &mut Page,
     writer: &mut Counted<W>,
     rules: &Ruleset,
     tallies: &RulesetTallies,
 ) -> Result<(), DeviceFailed>
-    ensures puts { Puts result page.old.text.items (W.contents writer.old.inner) page.new.text.items (W.contents writer.new.inner) (tables_text tallies.now 0 (tables_of rules.now)) }
+    ensures puts { Puts result page.old.text.items (W.contents writer.old.inner) page.new.text.items
+        (W.contents writer.new.inner) (tables_text tallies.now 0 (tables_of rules.now)) }
     ensures counts { CountsFailure result writer.old.failures writer.new.failures }
 {
     for (number, table) in rules.tables.iter().enumerate() {
@@ -29,7 +30,7 @@ pub fn put_counters<W: Write>(
     Ok(())
 }
 
-/// Puts those of the table of that number, from 0.
+/// Appends those of one table; `number` is from 0.
 fn put_table<W: Write>(
     page: &mut Page,
     writer: &mut Counted<W>,
@@ -37,7 +38,9 @@ fn put_table<W: Write>(
     number: usize,
     table: &Table,
 ) -> Result<(), DeviceFailed>
-    ensures puts { Puts result page.old.text.items (W.contents writer.old.inner) page.new.text.items (W.contents writer.new.inner) (chains_text tallies.now (table_tree table.now) number 0 (chains_of (table_tree table.now))) }
+    ensures puts { Puts result page.old.text.items (W.contents writer.old.inner) page.new.text.items
+        (W.contents writer.new.inner) (chains_text tallies.now (table_tree table.now) number 0
+        (chains_of (table_tree table.now))) }
     ensures counts { CountsFailure result writer.old.failures writer.new.failures }
 {
     let mut chain_number = 0;
@@ -51,7 +54,7 @@ fn put_table<W: Write>(
     Ok(())
 }
 
-/// Puts those of the chain of these numbers, both from 0.
+/// Appends those of one chain; both numbers are from 0.
 fn put_chain<W: Write>(
     page: &mut Page,
     writer: &mut Counted<W>,
@@ -60,7 +63,9 @@ fn put_chain<W: Write>(
     table: usize,
     chain: usize,
 ) -> Result<(), DeviceFailed>
-    ensures puts { Puts result page.old.text.items (W.contents writer.old.inner) page.new.text.items (W.contents writer.new.inner) (rules_text tallies.now (table_tree found.entry.table.now) (chain_tree found.entry.chain.now) table chain 1 (chain_tree found.entry.chain.now).rules) }
+    ensures puts { Puts result page.old.text.items (W.contents writer.old.inner) page.new.text.items
+        (W.contents writer.new.inner) (rules_text tallies.now (table_tree found.entry.table.now)
+        (chain_tree found.entry.chain.now) table chain 1 (chain_tree found.entry.chain.now).rules) }
     ensures counts { CountsFailure result writer.old.failures writer.new.failures }
 {
     for (before, rule) in found.chain.rules.iter().enumerate() {
@@ -75,7 +80,7 @@ fn put_chain<W: Write>(
     Ok(())
 }
 
-/// Puts those of the rule whose first statement has this place.
+/// Appends those of the rule whose first statement is at `first`.
 fn put_rule<W: Write>(
     page: &mut Page,
     writer: &mut Counted<W>,
@@ -85,7 +90,10 @@ fn put_rule<W: Write>(
     rule: &Rule,
 ) -> Result<(), DeviceFailed>
     requires { first.statement ≡ 1 }
-    ensures puts { Puts result page.old.text.items (W.contents writer.old.inner) page.new.text.items (W.contents writer.new.inner) (statements_text tallies.now (table_tree found.entry.table.now) (chain_tree found.entry.chain.now) (position_of first) 1 (rule_tree rule.now).statements) }
+    ensures puts { Puts result page.old.text.items (W.contents writer.old.inner) page.new.text.items
+        (W.contents writer.new.inner) (statements_text tallies.now
+        (table_tree found.entry.table.now) (chain_tree found.entry.chain.now) (position_of first) 1
+        (rule_tree rule.now).statements) }
     ensures counts { CountsFailure result writer.old.failures writer.new.failures }
 {
     let mut number = 1;
@@ -102,7 +110,7 @@ fn put_rule<W: Write>(
     Ok(())
 }
 
-/// Puts the line of the counter of that place, which has this number among those of its rule.
+/// Appends the line of the counter at a position, the rule's counter of this number.
 fn put_counter<W: Write>(
     page: &mut Page,
     writer: &mut Counted<W>,
@@ -111,7 +119,10 @@ fn put_counter<W: Write>(
     position: Location,
     number: u128,
 ) -> Result<(), DeviceFailed>
-    ensures puts { Puts result page.old.text.items (W.contents writer.old.inner) page.new.text.items (W.contents writer.new.inner) (tally_line (table_tree found.entry.table.now) (chain_tree found.entry.chain.now) position.rule number (tally_or_zero tallies.now (position_of position))) }
+    ensures puts { Puts result page.old.text.items (W.contents writer.old.inner) page.new.text.items
+        (W.contents writer.new.inner) (tally_line (table_tree found.entry.table.now)
+        (chain_tree found.entry.chain.now) position.rule number
+        (tally_or_zero tallies.now (position_of position))) }
     ensures counts { CountsFailure result writer.old.failures writer.new.failures }
 {
     let tally = tallies.at(position).unwrap_or(Tally {

@@ -1,4 +1,4 @@
-//! The report of a run: what its rules logged, decided and counted, and what became of its records.
+//! The report of a run: log lines, traced verdicts, counters and totals.
 #![tactic(auto)]
 
 mod counter_lines;

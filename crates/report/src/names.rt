@@ -1,4 +1,4 @@
-//! The chains and statements of numbers, and their words.
+//! Chains and statements by their numbers, and the report's words.
 ghost use Rattle.std.specs.Prelude.{◌≡◌, ◌++◌};
 ghost use Rattle.std.specs.Option.{option_map};
 ghost use Rattle.nft_tree.specs.Tree as tree;
@@ -13,25 +13,27 @@ use history::Outcome;
 use nft_tree::{Chain, Family, Policy, Rule, Ruleset, Stmt, Table};
 use rule_meaning::{NatAction, RuleVerdict, StatementPosition};
 
-/// A chain, and the table that it stands in.
+/// A chain and its table.
 #[derive(Clone, Copy)]
 pub struct ChainInTable<'a> {
     pub table: &'a Table,
     pub chain: &'a Chain,
 }
 
-/// The chain of these numbers, both from 0.
+/// The chain of this table and chain number, both from 0.
 pub fn find(rules: &Ruleset, table: u32, chain: u32) -> Option<ChainInTable<'_>>
-    ensures { option_map (λ n. (table_tree n.table.now, chain_tree n.chain.now)) result ≡ chain_at (tables_of rules.now) table chain }
+    ensures { option_map (λ n. (table_tree n.table.now, chain_tree n.chain.now)) result
+        ≡ chain_at (tables_of rules.now) table chain }
 {
     let table = rules.tables.get(table as usize)?;
     let chain = table.chain(chain as usize)?;
     Some(ChainInTable { table, chain })
 }
 
-/// The rule's statement of that number, from 1.
+/// The rule's statement of this number, from 1.
 fn statement(rule: &Rule, number: usize) -> Option<&Stmt>
-    ensures { option_map (λ s. tree.statement s.now) result ≡ numbered_from_one (rule_tree rule.now).statements number }
+    ensures { option_map (λ s. tree.statement s.now) result
+        ≡ numbered_from_one (rule_tree rule.now).statements number }
 {
     if number == 0 {
         return None;
@@ -39,9 +41,10 @@ fn statement(rule: &Rule, number: usize) -> Option<&Stmt>
     rule.statements.get(number - 1)
 }
 
-/// The statement that stands there in the chain.
+/// The chain's statement at a position.
 fn statement_at(chain: &Chain, position: StatementPosition) -> Option<&Stmt>
-    ensures { option_map (λ s. tree.statement s.now) result ≡ words.statement_at (chain_tree chain.now) position }
+    ensures { option_map (λ s. tree.statement s.now) result
+        ≡ words.statement_at (chain_tree chain.now) position }
 {
     statement(
         chain.rule(position.rule.rule as usize)?,
@@ -49,7 +52,7 @@ fn statement_at(chain: &Chain, position: StatementPosition) -> Option<&Stmt>
     )
 }
 
-/// What the log statement of that place puts before its packets, behind a blank.
+/// A blank and the prefix of the log statement at a position; nothing where it has none.
 pub fn prefix(chain: &Chain, position: StatementPosition) -> Piece<'_>
     ensures { piece_text result ≡ prefix_in (words.statement_at (chain_tree chain.now) position) }
 {
@@ -59,7 +62,7 @@ pub fn prefix(chain: &Chain, position: StatementPosition) -> Piece<'_>
     }
 }
 
-/// The name of the table's chain of that number, from 0; nothing where there is none.
+/// The name of the table's chain of this number, from 0; nothing where there is none.
 fn target(table: &Table, chain: u32) -> &[u8]
     ensures { result.now ≡ words.target (table_tree table.now) chain }
 {
@@ -69,11 +72,12 @@ fn target(table: &Table, chain: u32) -> &[u8]
     }
 }
 
-/// The word of a decision, and the name of the chain that it goes to.
+/// The word of a verdict, and the name of the chain that it goes to.
 pub fn verdict_pieces(table: &Table, verdict: RuleVerdict) -> (Piece<'_>, Piece<'_>)
-    ensures { piece_text result.0 ++ piece_text result.1 ≡ and_word (verdict_words (table_tree table.now) verdict) }
+    ensures { piece_text result.0 ++ piece_text result.1
+        ≡ and_word (verdict_words (table_tree table.now) verdict) }
 {
-    let report_word: &[u8] = match verdict {
+    let word: &[u8] = match verdict {
         RuleVerdict::Accept => b"accept",
         RuleVerdict::Drop => b"drop",
         RuleVerdict::Continue => b"continue",
@@ -88,7 +92,7 @@ pub fn verdict_pieces(table: &Table, verdict: RuleVerdict) -> (Piece<'_>, Piece<
         ),
         RuleVerdict::Translate(nat_action) => nat_word(nat_action),
     };
-    (Piece::Word(report_word), Piece::Text(b""))
+    (Piece::Word(word), Piece::Text(b""))
 }
 
 fn nat_word(nat_action: NatAction) -> &'static [u8]

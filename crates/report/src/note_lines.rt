@@ -1,4 +1,4 @@
-//! The lines of notes.
+//! Lines of notes.
 ghost use Rattle.std.specs.Prelude.{◌≡◌, true};
 ghost use Rattle.std.specs.List.{flat_map};
 ghost use Rattle.nft_tree.specs.Tree.{tables_of};
@@ -16,14 +16,15 @@ use pcap_io::{Counted, DeviceFailed};
 use rule_meaning::{ChainNo, RuleVerdict, StatementPosition};
 use std::io::Write;
 
-/// Puts the lines of these notes, in their order.
+/// Appends the lines of notes, in their order.
 pub fn put_notes<W: Write>(
     page: &mut Page,
     writer: &mut Counted<W>,
     rules: &Ruleset,
     notes: &[Note],
 ) -> Result<(), DeviceFailed>
-    ensures puts { Puts result page.old.text.items (W.contents writer.old.inner) page.new.text.items (W.contents writer.new.inner) (flat_map (note_line (tables_of rules.now)) notes.now) }
+    ensures puts { Puts result page.old.text.items (W.contents writer.old.inner) page.new.text.items
+        (W.contents writer.new.inner) (flat_map (note_line (tables_of rules.now)) notes.now) }
     ensures counts { CountsFailure result writer.old.failures writer.new.failures }
 {
     for note in notes {
@@ -38,7 +39,8 @@ fn put_note<W: Write>(
     rules: &Ruleset,
     note: Note,
 ) -> Result<(), DeviceFailed>
-    ensures puts { Puts result page.old.text.items (W.contents writer.old.inner) page.new.text.items (W.contents writer.new.inner) (note_line (tables_of rules.now) note) }
+    ensures puts { Puts result page.old.text.items (W.contents writer.old.inner) page.new.text.items
+        (W.contents writer.new.inner) (note_line (tables_of rules.now) note) }
     ensures counts { CountsFailure result writer.old.failures writer.new.failures }
 {
     match note {
@@ -60,7 +62,9 @@ fn put_log<W: Write>(
     number: u64,
     position: StatementPosition,
 ) -> Result<(), DeviceFailed>
-    ensures puts { Puts result page.old.text.items (W.contents writer.old.inner) page.new.text.items (W.contents writer.new.inner) (on_chain (tables_of rules.now) position.rule.table position.rule.chain (log_line number position)) }
+    ensures puts { Puts result page.old.text.items (W.contents writer.old.inner) page.new.text.items
+        (W.contents writer.new.inner) (on_chain (tables_of rules.now) position.rule.table
+        position.rule.chain (log_line number position)) }
     ensures counts { CountsFailure result writer.old.failures writer.new.failures }
 {
     let Some(found) = find(rules, position.rule.table, position.rule.chain) else {
@@ -91,7 +95,9 @@ fn put_verdict<W: Write>(
     rule: RuleNo,
     verdict: RuleVerdict,
 ) -> Result<(), DeviceFailed>
-    ensures puts { Puts result page.old.text.items (W.contents writer.old.inner) page.new.text.items (W.contents writer.new.inner) (on_chain (tables_of rules.now) rule.table rule.chain (verdict_line number rule.rule verdict)) }
+    ensures puts { Puts result page.old.text.items (W.contents writer.old.inner) page.new.text.items
+        (W.contents writer.new.inner) (on_chain (tables_of rules.now) rule.table rule.chain
+        (verdict_line number rule.rule verdict)) }
     ensures counts { CountsFailure result writer.old.failures writer.new.failures }
 {
     let Some(found) = find(rules, rule.table, rule.chain) else {
@@ -123,7 +129,9 @@ fn put_policy<W: Write>(
     chain: ChainNo,
     policy: Policy,
 ) -> Result<(), DeviceFailed>
-    ensures puts { Puts result page.old.text.items (W.contents writer.old.inner) page.new.text.items (W.contents writer.new.inner) (on_chain (tables_of rules.now) chain.table chain.chain (policy_line number policy)) }
+    ensures puts { Puts result page.old.text.items (W.contents writer.old.inner) page.new.text.items
+        (W.contents writer.new.inner) (on_chain (tables_of rules.now) chain.table chain.chain
+        (policy_line number policy)) }
     ensures counts { CountsFailure result writer.old.failures writer.new.failures }
 {
     let Some(found) = find(rules, chain.table, chain.chain) else {
@@ -152,7 +160,8 @@ fn put_outcome<W: Write>(
     number: u64,
     outcome: Outcome,
 ) -> Result<(), DeviceFailed>
-    ensures puts { Puts result page.old.text.items (W.contents writer.old.inner) page.new.text.items (W.contents writer.new.inner) (outcome_line true number outcome) }
+    ensures puts { Puts result page.old.text.items (W.contents writer.old.inner) page.new.text.items
+        (W.contents writer.new.inner) (outcome_line true number outcome) }
     ensures counts { CountsFailure result writer.old.failures writer.new.failures }
 {
     let word = outcome_word(outcome);

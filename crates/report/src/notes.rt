@@ -1,4 +1,4 @@
-//! What is noted of entries until it is written.
+//! Notes: the lines of the report that aren't written yet.
 ghost use Rattle.std.specs.Prelude.{◌≡◌, ◌≤◌, ◌+◌, ◌++◌, length, vec_len, vec_capacity};
 ghost use Rattle.report.specs.steps.Noting.{noted, noted_event};
 
@@ -6,21 +6,21 @@ use history::{Entry, Outcome};
 use nft_tree::{Policy, RuleNo};
 use rule_meaning::{ChainNo, Event, RuleVerdict, StatementPosition};
 
-/// What one line tells of the record of a number.
+/// One line of the report, about the record of this number.
 #[derive(Clone, Copy)]
 pub enum Note {
-    /// A `log` statement told of it.
+    /// A `log` statement was evaluated.
     Logged(u64, StatementPosition),
-    /// A rule decided.
+    /// A rule's verdict took effect.
     TookVerdict(u64, RuleNo, RuleVerdict),
-    /// A base chain came to its end, and its policy was taken.
+    /// A base chain ended, and its policy took effect.
     TookPolicy(u64, ChainNo, Policy),
-    /// It ended so.
+    /// The record's outcome.
     Ended(u64, Outcome),
 }
 
 impl Note {
-    /// What is noted of an event: what was logged always, what was decided only where it is traced.
+    /// The note of an event: of a log always, of a verdict or a policy only with `trace`.
     fn of(number: u64, event: Event, trace: bool) -> Option<Self>
         ensures { result ≡ noted_event trace number event }
     {
@@ -37,10 +37,12 @@ impl Note {
     }
 }
 
-/// Notes what is told of an entry; there is room for a note of each event and of how it ended.
+/// Notes the lines of an entry. The caller has reserved a note for each event and one for the
+/// outcome.
 pub fn note_entry(notes: &mut Vec<Note>, entry: &Entry, trace: bool)
     requires { vec_len notes.old + (length entry.now.events.now + 1) ≤ vec_capacity notes.old }
-    ensures items { notes.new.items ≡ notes.old.items ++ noted trace entry.now.number entry.now.events.now entry.now.outcome }
+    ensures items { notes.new.items ≡ notes.old.items
+        ++ noted trace entry.now.number entry.now.events.now entry.now.outcome }
     ensures few { vec_len notes.new ≤ vec_len notes.old + (length entry.now.events.now + 1) }
     ensures capacity { vec_capacity notes.new ≡ vec_capacity notes.old }
 {

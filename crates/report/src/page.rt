@@ -1,4 +1,4 @@
-//! A text that goes to its writer by whole pages.
+//! A text that is written page by page.
 ghost use Rattle.std.specs.Prelude.{◌≡◌, [], OnOk, OnErr};
 ghost use Rattle.std.specs.Io.KnownBytes.{Appends};
 ghost use Rattle.pcap_io.specs.Counting.{AppendsPrefix};
@@ -10,17 +10,17 @@ use itoa::Buffer;
 use pcap_io::{Counted, DeviceFailed, write_whole};
 use std::io::Write;
 
-/// How many bytes may wait.
+/// The size of a page, in bytes.
 const PAGE_BYTES: usize = 4096;
 
-/// What is put and not yet written, so that a line doesn't cost a call.
+/// A buffer, so that a line doesn't cost a call.
 #[derive(Drop)]
 pub struct Page {
     text: ArrayVec<u8, PAGE_BYTES>,
 }
 
 impl Page {
-    /// Nothing waits.
+    /// An empty page.
     pub fn new() -> Self
         ensures { result.text.items ≡ [] }
     {
@@ -29,10 +29,13 @@ impl Page {
         }
     }
 
-    /// Puts some bytes. The writer is called only where they have no room beside what waits; after
-    /// an `Err` it holds a beginning of what waited and of them.
+    /// Appends bytes. The writer is called only where the page has no room for them.
+    ///
+    /// # Errors
+    /// The writer then holds a prefix of the page's bytes and of these.
     fn put<W: Write>(&mut self, writer: &mut Counted<W>, bytes: &[u8]) -> Result<(), DeviceFailed>
-        ensures puts { Puts result self.old.text.items (W.contents writer.old.inner) self.new.text.items (W.contents writer.new.inner) bytes.now }
+        ensures puts { Puts result self.old.text.items (W.contents writer.old.inner)
+            self.new.text.items (W.contents writer.new.inner) bytes.now }
         ensures counts { CountsFailure result writer.old.failures writer.new.failures }
     {
         if bytes.len() <= self.text.remaining_capacity() {
@@ -47,13 +50,14 @@ impl Page {
         Ok(())
     }
 
-    /// Puts one part of a line.
+    /// Appends one part of a line.
     fn put_piece<W: Write>(
         &mut self,
         writer: &mut Counted<W>,
         piece: Piece,
     ) -> Result<(), DeviceFailed>
-        ensures puts { Puts result self.old.text.items (W.contents writer.old.inner) self.new.text.items (W.contents writer.new.inner) (piece_text piece.entry) }
+        ensures puts { Puts result self.old.text.items (W.contents writer.old.inner)
+            self.new.text.items (W.contents writer.new.inner) (piece_text piece.entry) }
         ensures counts { CountsFailure result writer.old.failures writer.new.failures }
     {
         match piece {
@@ -75,7 +79,8 @@ impl Page {
         writer: &mut Counted<W>,
         pieces: &[Piece],
     ) -> Result<(), DeviceFailed>
-        ensures puts { Puts result self.old.text.items (W.contents writer.old.inner) self.new.text.items (W.contents writer.new.inner) (pieces_text pieces.now) }
+        ensures puts { Puts result self.old.text.items (W.contents writer.old.inner)
+            self.new.text.items (W.contents writer.new.inner) (pieces_text pieces.now) }
         ensures counts { CountsFailure result writer.old.failures writer.new.failures }
     {
         for piece in pieces {
@@ -86,9 +91,11 @@ impl Page {
 
     /// Writes what waits. After an `Err` the writer holds a beginning of it.
     pub fn send<W: Write>(&mut self, writer: &mut Counted<W>) -> Result<(), DeviceFailed>
-        ensures ok { OnOk result (Appends (W.contents writer.old.inner) (W.contents writer.new.inner) self.old.text.items) }
+        ensures ok { OnOk result (Appends (W.contents writer.old.inner)
+            (W.contents writer.new.inner) self.old.text.items) }
         ensures empty { OnOk result (self.new.text.items ≡ []) }
-        ensures part { OnErr result (AppendsPrefix (W.contents writer.old.inner) (W.contents writer.new.inner) self.old.text.items) }
+        ensures part { OnErr result (AppendsPrefix (W.contents writer.old.inner)
+            (W.contents writer.new.inner) self.old.text.items) }
         ensures counts { CountsFailure result writer.old.failures writer.new.failures }
     {
         write_whole(writer, self.text.as_slice())?;

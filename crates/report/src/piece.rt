@@ -1,12 +1,12 @@
-//! What lines are made of.
+//! The parts of a line.
 
 /// A part of a line.
 #[derive(Clone, Copy)]
 pub enum Piece<'a> {
-    /// These bytes.
+    /// Bytes as they are.
     Text(&'a [u8]),
-    /// A blank, and these bytes.
+    /// A blank, and then bytes.
     Word(&'a [u8]),
-    /// A blank, and the digits of this number.
+    /// A blank, and then a decimal number.
     Number(u128),
 }

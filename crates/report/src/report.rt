@@ -22,15 +22,14 @@ use std::alloc::{AllocError, Global};
 use std::io::Write;
 use std::marker::Model;
 
-/// How many notes one record may give: one for each of 65,536 events, and one of how it ended.
+/// The most notes of one record: one for each of 65,536 events, and one for the outcome.
 pub const MOST_NOTES: usize = 65_537;
 
-/// How many notes have room from the start: those of one record beside what waits for a caller that
-/// drains now and then.
+/// How many notes are reserved at first: those of one record, and some that wait for `drain`.
 pub const INITIAL_NOTES: usize = 70_000;
 
-/// What became of the records so far: numbers, and what isn't written yet of what was noted. It
-/// doesn't grow with the records that were written.
+/// The report so far: totals, counters, and the notes that aren't written yet. Its size doesn't
+/// depend on the number of records.
 pub struct Report {
     records: u64,
     passed: u64,
@@ -66,16 +65,30 @@ impl Model for Report {
 
     ghost Value = { ReportState };
 
-    ghost view = { λ r. record { records = r.records; passed = r.passed; local = r.local; dropped = r.dropped; begun = r.begun; tallies = r.tallies; traces = r.traces; notes = r.notes.items; room = vec_capacity r.notes - vec_len r.notes } };
+    ghost view = { λ r. record {
+      records = r.records;
+      passed = r.passed;
+      local = r.local;
+      dropped = r.dropped;
+      begun = r.begun;
+      tallies = r.tallies;
+      traces = r.traces;
+      notes = r.notes.items;
+      room = vec_capacity r.notes - vec_len r.notes;
+    } };
 
     ghost invariant = { λ r. IsBounded r.records r.passed r.local r.dropped r.begun r.tallies };
 }
 
 impl Report {
-    /// Before the first record, over these rules: each counter stands where it starts. With `trace`
-    /// each decision and how each record ends is told too.
+    /// The report before the first record, with the counters of `rules` at their initial values.
+    /// With `trace` it has each verdict and each outcome too.
+    ///
+    /// # Errors
+    /// An allocation failed.
     pub fn new(alloc: Global, rules: &Ruleset, trace: bool) -> Result<Self, AllocError>
-        ensures fresh { IfOk result (λ report. IsReportOf report (tables_of rules.now) trace [] []) }
+        ensures fresh { IfOk result (λ report.
+            IsReportOf report (tables_of rules.now) trace [] []) }
         ensures room { IfOk result (λ report. report.room ≡ INITIAL_NOTES) }
     {
         let tallies = RulesetTallies::new(alloc, rules)?;
@@ -92,8 +105,10 @@ impl Report {
         })
     }
 
-    /// Makes room for the notes of one record of at most 65,536 events, so that `note` needs no
-    /// memory for it. `Err` comes only for want of memory, and not where there is room already.
+    /// Reserves the notes of one record of at most 65,536 events, so that `note` doesn't allocate.
+    ///
+    /// # Errors
+    /// An allocation failed; never where the notes are reserved already. The report is unchanged.
     pub fn reserve(&mut self) -> Result<(), AllocError>
         ensures ok { OnOk result (MOST_NOTES ≤ self.new.room) }
         ensures same { self.new ≡ record self.old { room = self.new.room } }
@@ -104,16 +119,23 @@ impl Report {
         self.notes.reserve(MOST_NOTES)
     }
 
-    /// Notes how one more record ended, and what happened on the way; the rules are those of `new`.
-    /// On `Err`, which comes only for want of memory where room is short, the report is as it was.
+    /// Adds the entry of one more record, of the rules given to `new`.
+    ///
+    /// # Errors
+    /// An allocation failed; never after `reserve`. The report is unchanged.
     pub fn note(&mut self, entry: &history::Entry) -> Result<(), AllocError>
         requires few { self.old.records < 4294967296 }
-        // Whatever story it stands for, it then stands for that story with the entry.
-        ensures noted { (rules : List TableTree) (trace : Bool) (history : List Entry) (written : Text) (e : Entry) → IsReportOf self.old rules trace history written → IsEntry e history entry.now → OnOk result (IsReportOf self.new rules trace (e ∷ history) written) }
+        // A report of a history becomes one of that history and the entry.
+        ensures noted { (rules : List TableTree) (trace : Bool) (history : List Entry)
+            (written : Text) (e : Entry) → IsReportOf self.old rules trace history written
+            → IsEntry e history entry.now
+            → OnOk result (IsReportOf self.new rules trace (e ∷ history) written) }
         ensures records { OnOk result (self.new.records ≡ self.old.records + 1) }
         ensures room { length entry.now.events.now + 1 ≤ self.old.room → IsOk result }
-        ensures pending { length self.new.notes ≤ length self.old.notes + length entry.now.events.now + 1 }
-        ensures left { self.old.room + length self.old.notes ≤ self.new.room + length self.new.notes }
+        ensures pending { length self.new.notes ≤ length self.old.notes + length
+            entry.now.events.now + 1 }
+        ensures left { self.old.room + length self.old.notes ≤ self.new.room + length
+            self.new.notes }
         ensures err { OnErr result (self.new ≡ self.old) }
     {
         self.notes.reserve(entry.events.len() + 1)?;
@@ -129,32 +151,42 @@ impl Report {
         Ok(())
     }
 
-    /// How many records were noted.
+    /// The number of records.
     pub fn records(&self) -> u64
         ensures { result ≡ self.now.records }
     {
         self.records
     }
 
-    /// How many notes aren't written yet.
+    /// The number of notes not written yet.
     pub fn pending(&self) -> usize
         ensures { result ≡ length self.now.notes }
     {
         self.notes.len()
     }
 
-    /// Writes the lines of what was noted since the last call, and forgets it; no call is made where
-    /// there is none. After an `Err` the writer holds a beginning of the lines, and the report is
-    /// as it was; the call that failed isn't tried again.
+    /// Writes the lines of the notes and removes the notes. The writer isn't called where there are
+    /// none.
+    ///
+    /// # Errors
+    /// A write failed, which isn't tried again. The writer then holds a prefix of the lines, and
+    /// the report is unchanged.
     pub fn drain<W: Write>(
         &mut self,
         rules: &Ruleset,
         writer: &mut Counted<W>,
     ) -> Result<(), DeviceFailed>
-        ensures ok { (trace : Bool) (history : List Entry) (written : Text) → IsReportOf self.old (tables_of rules.now) trace history written
-            → OnOk result (AppendsRest (W.contents writer.old.inner) (W.contents writer.new.inner) written (entry_lines (tables_of rules.now) trace history) × IsReportOf self.new (tables_of rules.now) trace history (entry_lines (tables_of rules.now) trace history)) }
-        ensures part { (trace : Bool) (history : List Entry) (written : Text) → IsReportOf self.old (tables_of rules.now) trace history written
-            → OnErr result (AppendsRestPrefix (W.contents writer.old.inner) (W.contents writer.new.inner) written (entry_lines (tables_of rules.now) trace history)) }
+        ensures ok { (trace : Bool) (history : List Entry) (written : Text)
+            → IsReportOf self.old (tables_of rules.now) trace history written
+            → OnOk result (AppendsRest (W.contents writer.old.inner) (W.contents writer.new.inner)
+            written (entry_lines (tables_of rules.now) trace history)
+            × IsReportOf self.new (tables_of rules.now) trace history
+            (entry_lines (tables_of rules.now) trace history)) }
+        ensures part { (trace : Bool) (history : List Entry) (written : Text)
+            → IsReportOf self.old (tables_of rules.now) trace history written
+            → OnErr result (AppendsRestPrefix (W.contents writer.old.inner)
+            (W.contents writer.new.inner) written
+            (entry_lines (tables_of rules.now) trace history)) }
         ensures none { self.old.notes ≡ [] → writer.new ≡ writer.old }
         ensures empty { OnOk result (self.new.notes ≡ []) }
         ensures room { OnOk result (self.new.room ≡ self.old.room + length self.old.notes) }
@@ -171,12 +203,13 @@ impl Report {
         Ok(())
     }
 
-    /// Writes the rest of the report: the lines that weren't drained, and those that come after the
-    /// last record; and flushes the writer. So many connections live, and `torn` tells whether the
-    /// capture ends inside a record.
+    /// Writes the rest of the report (the notes, the counters and the totals) and flushes the
+    /// writer. `live` is the number of live connections, and `torn` says whether the capture ends
+    /// inside a record.
     ///
-    /// After an `Err` the writer holds a beginning of the lines; the call that failed isn't tried
-    /// again.
+    /// # Errors
+    /// A write or the flush failed, which isn't tried again. The writer then holds a prefix of the
+    /// lines.
     pub fn lines<W: Write>(
         &self,
         rules: &Ruleset,
@@ -184,11 +217,17 @@ impl Report {
         torn: bool,
         writer: &mut Counted<W>,
     ) -> Result<(), DeviceFailed>
-        ensures ok { (trace : Bool) (history : List Entry) (written : Text) → IsReportOf self.now (tables_of rules.now) trace history written
-            → OnOk result (AppendsRest (W.contents writer.old.inner) (W.contents writer.new.inner) written (entry_lines (tables_of rules.now) trace history ++ closing_lines (tables_of rules.now) history live torn)) }
+        ensures ok { (trace : Bool) (history : List Entry) (written : Text)
+            → IsReportOf self.now (tables_of rules.now) trace history written
+            → OnOk result (AppendsRest (W.contents writer.old.inner) (W.contents writer.new.inner)
+            written (entry_lines (tables_of rules.now) trace history
+            ++ closing_lines (tables_of rules.now) history live torn)) }
         ensures flushed { OnOk result (writer.new.is_flushed ≡ true) }
-        ensures part { (trace : Bool) (history : List Entry) (written : Text) → IsReportOf self.now (tables_of rules.now) trace history written
-            → OnErr result (AppendsRestPrefix (W.contents writer.old.inner) (W.contents writer.new.inner) written (entry_lines (tables_of rules.now) trace history ++ closing_lines (tables_of rules.now) history live torn)) }
+        ensures part { (trace : Bool) (history : List Entry) (written : Text)
+            → IsReportOf self.now (tables_of rules.now) trace history written
+            → OnErr result (AppendsRestPrefix (W.contents writer.old.inner)
+            (W.contents writer.new.inner) written (entry_lines (tables_of rules.now) trace history
+            ++ closing_lines (tables_of rules.now) history live torn)) }
         ensures no_failure { OnOk result (writer.new.failures ≡ writer.old.failures) }
         ensures device { OnErr result (writer.new.failures ≡ one_more writer.old.failures) }
     {
@@ -209,13 +248,14 @@ impl Report {
     }
 }
 
-/// Writes the lines of these notes.
+/// Writes the lines of notes.
 fn write_notes<W: Write>(
     rules: &Ruleset,
     notes: &[Note],
     writer: &mut Counted<W>,
 ) -> Result<(), DeviceFailed>
-    ensures wrote_text { WroteText result (W.contents writer.old.inner) (W.contents writer.new.inner) (flat_map (note_line (tables_of rules.now)) notes.now) }
+    ensures wrote_text { WroteText result (W.contents writer.old.inner)
+        (W.contents writer.new.inner) (flat_map (note_line (tables_of rules.now)) notes.now) }
     ensures counts { CountsFailure result writer.old.failures writer.new.failures }
 {
     let mut page = Page::new();
@@ -223,7 +263,7 @@ fn write_notes<W: Write>(
     page.send(writer)
 }
 
-/// Writes the lines of these notes, those of the counters, and the totals.
+/// Writes the lines of notes, the counters and the totals.
 fn write_rest<W: Write>(
     rules: &Ruleset,
     notes: &[Note],
@@ -231,7 +271,10 @@ fn write_rest<W: Write>(
     totals: &Totals,
     writer: &mut Counted<W>,
 ) -> Result<(), DeviceFailed>
-    ensures wrote_text { WroteText result (W.contents writer.old.inner) (W.contents writer.new.inner) (rest_text (tables_of rules.now) notes.now tallies.now totals.now.records totals.now.passed totals.now.local totals.now.dropped.now totals.now.begun totals.now.live totals.now.torn) }
+    ensures wrote_text { WroteText result (W.contents writer.old.inner)
+        (W.contents writer.new.inner) (rest_text (tables_of rules.now) notes.now tallies.now
+        totals.now.records totals.now.passed totals.now.local totals.now.dropped.now
+        totals.now.begun totals.now.live totals.now.torn) }
     ensures counts { CountsFailure result writer.old.failures writer.new.failures }
 {
     let mut page = Page::new();

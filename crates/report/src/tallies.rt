@@ -1,13 +1,13 @@
-//! Where the counters of a ruleset stand, nested as its tree is.
+//! The counters of a ruleset, nested as its tree is.
 //!
-//! Each statement has a tally, whether it counts or not, so that the place of a counter leads to its
-//! tally without a search.
+//! Each statement has a tally, a counter or not, so that a position is an index and no search is
+//! needed.
 use nft_tree::{Chain, CounterStart, Rule, Ruleset, Table};
 use rule_meaning::{Event, StatementPosition};
 use std::alloc::{AllocError, Global};
 use std::marker::Model;
 
-/// Where a counter stands.
+/// The value of a counter.
 #[derive(Clone, Copy)]
 pub struct Tally {
     pub packets: u128,
@@ -18,7 +18,7 @@ impl Tally {
     ghost use Rattle.std.specs.Prelude.{◌≡◌, ◌<◌, ◌^◌};
     ghost use Rattle.report.specs.steps.Tallying.{raised, started};
 
-    /// Where a statement starts: at nothing if it is no counter.
+    /// The initial value of a counter; zero for a statement that is none.
     fn starting(counter: Option<CounterStart>) -> Self
         ensures starts { result ≡ started counter }
         ensures fits { (result.packets < 2 ^ 64) × (result.bytes < 2 ^ 64) }
@@ -35,7 +35,7 @@ impl Tally {
         }
     }
 
-    /// Counts one more packet of this length. No run is long enough to come to the greatest number.
+    /// Counts one packet of this length. Saturation isn't reached in any run.
     fn count(&mut self, length: u16)
         ensures { self.new ≡ raised length self.old }
     {
@@ -44,7 +44,7 @@ impl Tally {
     }
 }
 
-/// The numbers by which a statement is found: tables and chains from 0, rules and statements from 1.
+/// A statement's position: tables and chains from 0, rules and statements from 1.
 #[derive(Clone, Copy)]
 pub struct Location {
     pub table: usize,
@@ -129,7 +129,8 @@ impl ChainTallies {
 
     fn new(alloc: Global, chain: &Chain) -> Result<Self, AllocError>
         ensures starts { IfOk result (λ c. c ≡ fresh_chain (chain_tree chain.now)) }
-        ensures fits { IfOk result (λ c. All (All (λ n. (n.packets < 2 ^ 64) × (n.bytes < 2 ^ 64))) c) }
+        ensures fits { IfOk result (λ c.
+            All (All (λ n. (n.packets < 2 ^ 64) × (n.bytes < 2 ^ 64))) c) }
     {
         let mut rules = Vec::with_capacity(alloc, chain.rules.len())?;
         for rule in &chain.rules {
@@ -149,7 +150,8 @@ impl ChainTallies {
     }
 
     fn at(&self, rule: usize, statement: usize) -> Option<Tally>
-        ensures { result ≡ option_and_then (λ r. numbered_from_one r statement) (numbered_from_one self.now rule) }
+        ensures { result ≡ option_and_then (λ r. numbered_from_one r statement)
+            (numbered_from_one self.now rule) }
     {
         if rule == 0 {
             return None;
@@ -182,7 +184,8 @@ impl TableTallies {
 
     fn new(alloc: Global, table: &Table) -> Result<Self, AllocError>
         ensures starts { IfOk result (λ t. t ≡ fresh_table (table_tree table.now)) }
-        ensures fits { IfOk result (λ t. All (All (All (λ n. (n.packets < 2 ^ 64) × (n.bytes < 2 ^ 64)))) t) }
+        ensures fits { IfOk result (λ t.
+            All (All (All (λ n. (n.packets < 2 ^ 64) × (n.bytes < 2 ^ 64)))) t) }
     {
         let mut chains = Vec::new(alloc);
         for item in &table.items {
@@ -204,7 +207,8 @@ impl TableTallies {
     }
 
     fn at(&self, chain: usize, rule: usize, statement: usize) -> Option<Tally>
-        ensures { result ≡ option_and_then (λ r. numbered_from_one r statement) (option_and_then (λ c. numbered_from_one c rule) (slice_get self.now chain)) }
+        ensures { result ≡ option_and_then (λ r. numbered_from_one r statement) (option_and_then
+            (λ c. numbered_from_one c rule) (slice_get self.now chain)) }
     {
         self.chains.get(chain)?.at(rule, statement)
     }
@@ -231,10 +235,11 @@ impl RulesetTallies {
     ghost use Rattle.report.specs.steps.TallyLines.{position_of};
     ghost use Rattle.report.specs.steps.Tallying.{fresh, counted, counted_all};
 
-    /// Each counter stands where it starts.
+    /// The counters at their initial values.
     pub fn new(alloc: Global, rules: &Ruleset) -> Result<Self, AllocError>
         ensures starts { IfOk result (λ tallies. tallies ≡ fresh (tables_of rules.now)) }
-        ensures fits { IfOk result (λ tallies. All (All (All (All (λ n. (n.packets < 2 ^ 64) × (n.bytes < 2 ^ 64))))) tallies) }
+        ensures fits { IfOk result (λ tallies.
+            All (All (All (All (λ n. (n.packets < 2 ^ 64) × (n.bytes < 2 ^ 64))))) tallies) }
     {
         let mut tables = Vec::with_capacity(alloc, rules.tables.len())?;
         for table in &rules.tables {
@@ -243,7 +248,7 @@ impl RulesetTallies {
         Ok(RulesetTallies { tables })
     }
 
-    /// Counts one more packet of this length at a place, if it is one of the rules'.
+    /// Counts one packet of this length at a position, if the rules have it.
     pub fn count(&mut self, position: StatementPosition, length: u16)
         ensures { self.new ≡ counted length position self.old }
     {
@@ -259,7 +264,7 @@ impl RulesetTallies {
         }
     }
 
-    /// Counts one more packet of this length as often as these events say.
+    /// Counts one packet of this length for each `Counted` event.
     pub fn count_events(&mut self, events: &[Event], length: u16)
         ensures { self.new ≡ counted_all length events.now self.old }
     {
@@ -270,7 +275,7 @@ impl RulesetTallies {
         }
     }
 
-    /// Where the statement of that place stands, if the rules have one there.
+    /// The value of the statement at a position, if the rules have it.
     pub fn at(&self, position: Location) -> Option<Tally>
         ensures { result ≡ tally_at self.now (position_of position) }
     {

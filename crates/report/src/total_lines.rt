@@ -1,4 +1,4 @@
-//! The lines of totals.
+//! The totals of a report.
 ghost use Rattle.std.specs.Prelude.{◌≡◌};
 ghost use Rattle.std.specs.List.{flat_map};
 ghost use Rattle.report.specs.Report.{drop_line, number_lines};
@@ -11,7 +11,7 @@ use history::Cause;
 use pcap_io::{Counted, DeviceFailed};
 use std::io::Write;
 
-/// How many records there were, and what became of them.
+/// The totals of a run.
 #[derive(Clone, Copy)]
 pub struct Totals<'a> {
     pub records: u64,
@@ -19,21 +19,24 @@ pub struct Totals<'a> {
     pub local: u64,
     /// In the order of `Cause::ALL`.
     pub dropped: &'a [u64; 17],
-    /// How many connections were begun.
+    /// The number of connections begun.
     pub begun: u64,
-    /// How many connections live.
+    /// The number of connections alive.
     pub live: u64,
     /// Whether the capture ends inside a record.
     pub torn: bool,
 }
 
-/// Puts the lines of the totals.
+/// Appends the lines of the totals.
 pub fn put_totals<W: Write>(
     page: &mut Page,
     writer: &mut Counted<W>,
     totals: &Totals,
 ) -> Result<(), DeviceFailed>
-    ensures puts { Puts result page.old.text.items (W.contents writer.old.inner) page.new.text.items (W.contents writer.new.inner) (number_lines totals.now.records totals.now.passed totals.now.local (drops_in totals.now.dropped.now) totals.now.begun totals.now.live totals.now.torn) }
+    ensures puts { Puts result page.old.text.items (W.contents writer.old.inner) page.new.text.items
+        (W.contents writer.new.inner) (number_lines totals.now.records totals.now.passed
+        totals.now.local (drops_in totals.now.dropped.now) totals.now.begun totals.now.live
+        totals.now.torn) }
     ensures counts { CountsFailure result writer.old.failures writer.new.failures }
 {
     page.put_all(
@@ -63,14 +66,15 @@ pub fn put_totals<W: Write>(
     )
 }
 
-/// Puts a line for each of these causes of a drop.
+/// Appends a line for each cause.
 fn put_drops<W: Write>(
     page: &mut Page,
     writer: &mut Counted<W>,
     dropped: &[u64; 17],
     causes: &[Cause],
 ) -> Result<(), DeviceFailed>
-    ensures puts { Puts result page.old.text.items (W.contents writer.old.inner) page.new.text.items (W.contents writer.new.inner) (flat_map (drop_line (drops_in dropped.now)) causes.now) }
+    ensures puts { Puts result page.old.text.items (W.contents writer.old.inner) page.new.text.items
+        (W.contents writer.new.inner) (flat_map (drop_line (drops_in dropped.now)) causes.now) }
     ensures counts { CountsFailure result writer.old.failures writer.new.failures }
 {
     for cause in causes {
@@ -79,22 +83,23 @@ fn put_drops<W: Write>(
     Ok(())
 }
 
-/// Puts the line of one cause of a drop, which so many records met.
+/// Appends the line of one cause, which `lost` records have.
 fn put_drop<W: Write>(
     page: &mut Page,
     writer: &mut Counted<W>,
     cause: Cause,
     lost: u64,
 ) -> Result<(), DeviceFailed>
-    ensures puts { Puts result page.old.text.items (W.contents writer.old.inner) page.new.text.items (W.contents writer.new.inner) (drop_line (λ _. lost) cause) }
+    ensures puts { Puts result page.old.text.items (W.contents writer.old.inner) page.new.text.items
+        (W.contents writer.new.inner) (drop_line (λ _. lost) cause) }
     ensures counts { CountsFailure result writer.old.failures writer.new.failures }
 {
-    let report_word = cause.report_word().as_bytes();
+    let word = cause.report_word().as_bytes();
     page.put_all(
         writer,
         &[
             Piece::Text(b"drop"),
-            Piece::Word(report_word),
+            Piece::Word(word),
             Piece::Number(u128::from(lost)),
             Piece::Text(b"\n"),
         ],

@@ -1,5 +1,5 @@
-//! The laws of translation, of what calls answer: of the list of connections, of each record that is
-//! taken, and of a whole run.
+//! The laws of NAT for the program's calls: for the list of connections, for each record processed,
+//! and for a whole run.
 #![tactic(auto)]
 
 ghost use Rattle.std.specs.Prelude.{◌<◌, ℕ, Bool, List, Option, IfOk};
@@ -19,39 +19,48 @@ use std::alloc::{AllocError, Global};
 use stepping::Engine;
 use translation_laws::translation_laws;
 
-/// What `Engine::connections` answers: just the connections that are alive at the moment of the last
-/// record, in the order in which they were begun, and the laws hold of that list.
+/// `Engine::connections` with the laws of its list: exactly the connections alive at the time of
+/// the last record, in the order in which they began.
+///
+/// # Errors
+/// An allocation failed.
 pub fn connections_keep_the_laws<T: Tracker>(
     engine: &Engine<T>,
     alloc: Global,
 ) -> Result<Vec<Connection>, AllocError>
-    ensures { (history : List Entry) → IsHistory engine.now.setup history → Represents engine.now history
-        → IfOk result (λ all. LiveLaws engine.now.setup history (moment_of history) all.items) }
+    ensures { (history : List Entry) → IsHistory engine.now.setup history
+        → Represents engine.now history → IfOk result (λ all.
+        LiveLaws engine.now.setup history (moment_of history) all.items) }
 {
     translation_laws();
     engine.connections(alloc)
 }
 
-/// What `Engine::step` answers and leaves: of whatever story from nothing the engine stood for, it then
-/// stands for one that is longer by the next entry, and the laws hold of both and of the entry.
+/// `Engine::step` with the laws of its entry: an engine that represents a history represents it
+/// with the next entry then, and the laws hold of both.
+///
+/// # Errors
+/// An allocation failed. The engine is unchanged.
 pub fn steps_keep_the_laws<T: Tracker>(
     engine: &mut Engine<T>,
     recorded: &Record,
 ) -> Result<Outcome, AllocError>
     requires few { engine.old.records < 4294967296 }
-    ensures { (history : List Entry) → IsHistory engine.old.setup history → Represents engine.old history
-        → IfOk result (λ outcome. StepKeepsLaws engine.old history (recorded_of recorded.now) engine.new outcome) }
+    ensures { (history : List Entry) → IsHistory engine.old.setup history
+        → Represents engine.old history → IfOk result (λ outcome.
+        StepKeepsLaws engine.old history (recorded_of recorded.now) engine.new outcome) }
 {
     translation_laws();
     engine.step(recorded)
 }
 
-/// The story of a run obeys the laws at each of its beginnings, and so does that of the records that
-/// were taken before a fault.
+/// Each prefix of a run's history obeys the laws, also of a run that ends with a fault.
 pub fn runs_keep_the_laws()
-    ensures whole { (rules box capture : List ℕ) (trace : Bool) (count : ℕ) (torn : Bool) (old new old_report new_report : Option (List ℕ))
+    ensures whole { (rules box capture : List ℕ) (trace : Bool) (count : ℕ) (torn : Bool)
+        (old new old_report new_report : Option (List ℕ))
         → (wrote : WroteOutputs rules box capture trace count torn old new old_report new_report)
-        → AtEachPrefix wrote.meaning.accepted.setup (decoded_records wrote.meaning.read.format wrote.meaning.records) wrote.meaning.history }
+        → AtEachPrefix wrote.meaning.accepted.setup
+        (decoded_records wrote.meaning.read.format wrote.meaning.records) wrote.meaning.history }
     ensures taken_so_far { (rules box capture : List ℕ) (new : Devices)
         → (left : RecordsTaken rules box capture new)
         → AtEachPrefix left.accepted.setup (decoded_records left.format left.records) left.history }

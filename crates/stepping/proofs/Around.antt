@@ -1,4 +1,4 @@
--- Chains around a step at which a packet is translated: where it ends, and with which way it goes on.
+-- The chains around a NAT step: their result, and the state behind them.
 use Rattle.std.proofs.Common.{◌≡◌, Bool, true, false, List, unwrap_or, refl, sym, ap, subst, ◌∙◌}
 use Rattle.ip_headers.specs.declared.tuple.Mapping.{Mapping}
 use Rattle.nft_tree.specs.declared.chain.Hook.{Hook}
@@ -15,14 +15,15 @@ use Rattle.translation.specs.declared.ct_info.CtInfo.{CtInfo}
 use Rattle.translation.specs.declared.ct_info.CtInfo.TheVariants.{Tracked, Related, New, Invalid, Untracked}
 use Rattle.translation.specs.CtInfos.{facts_after_destination_nat, facts_after_source_nat}
 use Rattle.translation.specs.Nat.{after_destination_nat, after_source_nat}
-use Rattle.stepping.specs.NatSteps.{RunsNatChains, RunsDestinationNat, RunsSourceNat, destination_verdict, source_verdict}
+use Rattle.stepping.specs.NatSteps.{RunsNatChains, RunsDestinationNat, RunsSourceNat, destination_verdict}
+use Rattle.stepping.specs.NatSteps.{source_verdict}
 use Rattle.stepping.specs.Paths.{RunsPrerouting, RunsForwardAndPostrouting}
 use Rattle.stepping.proofs.Passages.{goes_on, on_of, off_of}
 
--- ---- passages by what they leave a packet with
+-- ---- traversals by their results
 
 module _ {X : Type 0} (passage : X → Traversal) where
-  -- they end in one way at most, and where they go on they leave it with one thing
+  -- they have at most one result, and one state behind them
   abbrev pub OneLeft : Type 0
   OneLeft =
       (x y : X) (f : Facts) (es : List Event) (end other : HookResult) → passage x f es end → passage y f es other
@@ -32,7 +33,7 @@ module _ {X : Type 0} (passage : X → Traversal) where
   abbrev pub SomeLeft : Type 0
   SomeLeft = (f : Facts) (es : List Event) → (x : X) × (end : HookResult) × passage x f es end
 
--- behind another passage
+-- behind another traversal
 pub one_behind : {X : Type 0} (first : Traversal) (second : X → Traversal) → AtMostOneResult first → OneLeft second
     → OneLeft (λ x. Then first (second x))
 one_behind first second one two x y f es end other (meaning.goes_on m r on s) (meaning.goes_on n r' on' s') =
@@ -57,7 +58,8 @@ one_before first second one two x y f es end other (meaning.stops r off) (meanin
 one_before first second one two x y f es end other (meaning.stops r off) (meaning.stops r' off') =
     one x y f es end other r r'
 
-module _ {X : Type 0} (first : Traversal) (second : X → Traversal) (x : X) (one : Terminates first) (two : SomeLeft second)
+module _ {X : Type 0} (first : Traversal) (second : X → Traversal) (x : X) (one : Terminates first) (two : SomeLeft
+    second)
     (f : Facts) (es : List Event) where
   abbrev SomeBehind : Type 0
   SomeBehind = (x : X) × (end : HookResult) × Then first (second x) f es end
@@ -68,11 +70,12 @@ module _ {X : Type 0} (first : Traversal) (second : X → Traversal) (x : X) (on
       (q.0, q.1, meaning.goes_on m r (on_of m.verdict is) q.2)
   behind_by_test m r false is = (x, m, meaning.stops r (off_of m.verdict is))
 
-  -- where the first ends all, the packet may be left with anything
+  -- where the first traversal stops the packet, the second may have any result
   pub some_behind : SomeBehind
   some_behind = let q = one f es in behind_by_test q.0 q.1 (goes_on q.0.verdict) refl
 
-module _ {X : Type 0} (first : X → Traversal) (second : Traversal) (one : SomeLeft first) (two : Terminates second) (f : Facts)
+module _ {X : Type 0} (first : X → Traversal) (second : Traversal) (one : SomeLeft first) (two : Terminates second)
+    (f : Facts)
     (es : List Event) where
   abbrev SomeBefore : Type 0
   SomeBefore = (x : X) × (end : HookResult) × Then (first x) second f es end
@@ -86,9 +89,9 @@ module _ {X : Type 0} (first : X → Traversal) (second : Traversal) (one : Some
   pub some_before : SomeBefore
   some_before = let q = one f es in before_by_test q.0 q.1 q.2 (goes_on q.1.verdict) refl
 
--- ---- the two steps
+-- ---- destination NAT and source NAT
 
--- all chains of a ruleset end in one way at most
+-- the chains of a ruleset have at most one result
 abbrev pub OneChains : Setup → Type 0
 OneChains setup = (test : BaseChain → Bool) → AtMostOneResult (Chains setup.plant setup.rules test)
 
@@ -114,7 +117,7 @@ module _ (setup : Setup) where
     some_asked hook Untracked f es = (record { verdict = Accepted; facts = f; events = es }, refl)
 
   module _ (mappings : List Mapping) (info : CtInfo) where
-    -- its way then, and how the step ends, by what was asked
+    -- the state after it, and its verdict, by the result of the nat chains
     abbrev after_info : HookResult → CtInfo
     after_info asked = after_destination_nat setup.plant mappings asked.facts info asked.verdict
 
@@ -177,4 +180,5 @@ module _ (setup : Setup) where
       some_arrives = some_behind _ _ info (some _) (some_before _ _ some_redirect (some _))
 
       pub some_departs : SomeLeft (RunsForwardAndPostrouting setup mappings info)
-      some_departs = some_behind _ _ info (some _) (some_behind _ _ info (some _) (some_before _ _ some_source (some _)))
+      some_departs = some_behind _ _ info (some _) (some_behind _ _ info (some _)
+          (some_before _ _ some_source (some _)))

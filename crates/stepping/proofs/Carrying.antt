@@ -1,4 +1,4 @@
--- A record carries one thing.
+-- A record carries at most one packet, or has one cause.
 use Rattle.std.proofs.Common.{◌≡◌, ℕ, List, drop, Option, Some, None, Result, Ok, Err, refl, sym, ap, ◌∙◌}
 use Rattle.ip_headers.specs.declared.view.HeaderFault.{HeaderFault}
 use Rattle.ip_headers.specs.Header.{fault_of, packet_of}
@@ -20,7 +20,7 @@ module _ (setup : Setup) (r : Recorded) where
   abbrev link : Result Link LinkCause
   link = link_of r.link r.bytes
 
-  -- what the bytes behind a link header carry
+  -- the packet behind a link header
   abbrev behind : Link → ℕ → Result ReceivedPacket Cause
   behind l index = by_fault index (drop l.packet r.bytes) (fault_of (drop l.packet r.bytes))
 

@@ -1,5 +1,6 @@
--- What the last step of a packet comes to, by its way.
-use Rattle.std.proofs.Common.{◌≡◌, ℕ, ◌≤◌, ◌<◌, true, false, List, [], ◌∷◌, ◌++◌, length, Option, Some, None, Ok, Err, refl, sym, ap}
+-- The confirmation of a packet, by its state.
+use Rattle.std.proofs.Common.{◌≡◌, ℕ, ◌≤◌, ◌<◌, true, false, List, [], ◌∷◌, ◌++◌, length, Option, Some, None, Ok, Err}
+use Rattle.std.proofs.Common.{refl, sym, ap}
 use Rattle.std.proofs.lemmas.Bool.{le-leb, lt-leb}
 use Rattle.ip_headers.specs.declared.tuple.Tuple.{Tuple}
 use Rattle.conntrack.specs.declared.belonging.Belonging.{Belonging}
@@ -33,42 +34,89 @@ use Rattle.stepping.specs.steps.Processing.{held_after}
 use Rattle.stepping.specs.steps.RunningHooks.{path_result_of}
 use Rattle.stepping.specs.steps.Confirming.{CanConfirm, Confirms, begins, touched_for, held_after_confirm}
 
--- ---- why none is begun
+-- ---- why no connection begins
 
-pub refused_full : (reply : Tuple) (old : List ConntrackEntry) → max_connections ≤ length old → refusal reply old ≡ Some causes.Full
+pub refused_full : (reply : Tuple) (old : List ConntrackEntry) → max_connections ≤ length old
+    → refusal reply old ≡ Some causes.Full
 refused_full reply old many = rw (le-leb max_connections (length old) many) refl
 
-pub refused_clash : (reply : Tuple) (old : List ConntrackEntry) → length old < max_connections → is_taken reply old ≡ true → refusal reply old ≡ Some causes.Clash
+pub refused_clash : (reply : Tuple) (old : List ConntrackEntry) → length old < max_connections
+    → is_taken reply old ≡ true → refusal reply old ≡ Some causes.Clash
 refused_clash reply old few taken = rw (lt-leb max_connections (length old) few, taken) refl
 
-pub not_refused : (reply : Tuple) (old : List ConntrackEntry) → length old < max_connections → is_taken reply old ≡ false → refusal reply old ≡ None
+pub not_refused : (reply : Tuple) (old : List ConntrackEntry) → length old < max_connections
+    → is_taken reply old ≡ false → refusal reply old ≡ None
 not_refused reply old few free = rw (lt-leb max_connections (length old) few, free) refl
 
--- ---- what is settled
+-- ---- the confirmation
 
 module _ (now : ℕ) (flags : Flags) (hooks_passed : HooksPassed) (old : List ConntrackEntry) where
   no_id : ConnId
   no_id = record { 0 = 0 }
 
-  pub confirms_tracked : (b : Belonging) (connection : TrackedConnection) → Confirms now flags hooks_passed b (Tracked connection) old (touched_for b flags hooks_passed.mark now old) (Ok (record { decision = hooks_passed.decision; begun = false; info = Tracked connection }))
-  confirms_tracked b connection = record { id = no_id; outcome = λ events. refl; held = λ events. refl; begun = λ events. refl; goes = λ events. refl }
+  pub confirms_tracked : (b : Belonging) (connection : TrackedConnection)
+      → Confirms now flags hooks_passed b (Tracked connection) old (touched_for b flags hooks_passed.mark now old) (Ok
+      (record { decision = hooks_passed.decision; begun = false; info = Tracked connection }))
+  confirms_tracked b connection = record {
+    id = no_id;
+    outcome = λ events. refl;
+    held = λ events. refl;
+    begun = λ events. refl;
+    goes = λ events. refl;
+  }
 
-  pub confirms_invalid : (b : Belonging) → Confirms now flags hooks_passed b Invalid old old (Ok (record { decision = hooks_passed.decision; begun = false; info = Invalid }))
-  confirms_invalid b = record { id = no_id; outcome = λ events. refl; held = λ events. refl; begun = λ events. refl; goes = λ events. refl }
+  pub confirms_invalid : (b : Belonging)
+      → Confirms now flags hooks_passed b Invalid old old (Ok (record {
+        decision = hooks_passed.decision;
+        begun = false;
+        info = Invalid;
+      }))
+  confirms_invalid b = record {
+    id = no_id;
+    outcome = λ events. refl;
+    held = λ events. refl;
+    begun = λ events. refl;
+    goes = λ events. refl;
+  }
 
-  pub confirms_related : (b : Belonging) (connection : TrackedConnection) → Confirms now flags hooks_passed b (Related connection) old old (Ok (record { decision = hooks_passed.decision; begun = false; info = Related connection }))
-  confirms_related b connection = record { id = no_id; outcome = λ events. refl; held = λ events. refl; begun = λ events. refl; goes = λ events. refl }
+  pub confirms_related : (b : Belonging) (connection : TrackedConnection)
+      → Confirms now flags hooks_passed b (Related connection) old old (Ok (record {
+        decision = hooks_passed.decision;
+        begun = false;
+        info = Related connection;
+      }))
+  confirms_related b connection = record {
+    id = no_id;
+    outcome = λ events. refl;
+    held = λ events. refl;
+    begun = λ events. refl;
+    goes = λ events. refl;
+  }
 
-  pub confirms_untracked : (b : Belonging) → Confirms now flags hooks_passed b Untracked old old (Ok (record { decision = hooks_passed.decision; begun = false; info = Untracked }))
-  confirms_untracked b = record { id = no_id; outcome = λ events. refl; held = λ events. refl; begun = λ events. refl; goes = λ events. refl }
+  pub confirms_untracked : (b : Belonging)
+      → Confirms now flags hooks_passed b Untracked old old (Ok (record {
+        decision = hooks_passed.decision;
+        begun = false;
+        info = Untracked;
+      }))
+  confirms_untracked b = record {
+    id = no_id;
+    outcome = λ events. refl;
+    held = λ events. refl;
+    begun = λ events. refl;
+    goes = λ events. refl;
+  }
 
   module _ (b : Belonging) (new_connection : NewConnection) where
     abbrev path_result : List Event → PathResult
     path_result events = path_result_of (Ok hooks_passed) (New new_connection) events
 
-    packet_result_is : (refused : Option Cause) → refusal (reply_to new_connection) old ≡ refused → (events : List Event)
-        → confirmed_by (New new_connection) old (path_result events) ≡ begun_unless refused old new_connection (path_result events)
-    packet_result_is refused is events = ap (λ (r : Option Cause). begun_unless r old new_connection (path_result events)) is
+    packet_result_is : (refused : Option Cause) → refusal (reply_to new_connection) old ≡ refused
+        → (events : List Event)
+        → confirmed_by (New new_connection) old (path_result events)
+        ≡ begun_unless refused old new_connection (path_result events)
+    packet_result_is refused is events =
+        ap (λ (r : Option Cause). begun_unless r old new_connection (path_result events)) is
 
     pub confirms_refused : (cause : Cause) → refusal (reply_to new_connection) old ≡ Some cause
         → Confirms now flags hooks_passed b (New new_connection) old old (Err cause)
@@ -81,7 +129,8 @@ module _ (now : ℕ) (flags : Flags) (hooks_passed : HooksPassed) (old : List Co
     }
 
     pub confirms_new : (id : ConnId) → refusal (reply_to new_connection) old ≡ None
-        → Confirms now flags hooks_passed b (New new_connection) old (old ++ begun_with id (begun_as new_connection hooks_passed.mark now) flags ∷ [])
+        → Confirms now flags hooks_passed b (New new_connection) old (old
+        ++ begun_with id (begun_as new_connection hooks_passed.mark now) flags ∷ [])
         (Ok (record { decision = hooks_passed.decision; begun = true; info = New new_connection }))
     confirms_new id is = record {
       id = id;
@@ -91,15 +140,16 @@ module _ (now : ℕ) (flags : Flags) (hooks_passed : HooksPassed) (old : List Co
       goes = λ events. sym (ap (λ (f : PacketResult). f.info) (packet_result_is None is events));
     }
 
--- ---- what is held then, and what is recorded
+-- ---- the connections held then, and the entry
 
--- a packet that doesn't count ends its closing connection all the same
-pub after_unconfirmed : (b : Belonging) (id : ConnId) (p : Arrival) (held : List ConntrackEntry) → after_packet b id p Unconfirmed held ≡ after_end b held
+-- an unconfirmed packet removes its closing connection all the same
+pub after_unconfirmed : (b : Belonging) (id : ConnId) (p : Arrival) (held : List ConntrackEntry)
+    → after_packet b id p Unconfirmed held ≡ after_end b held
 after_unconfirmed (Found found) id p held = refl
 after_unconfirmed NotFound id p held = refl
 after_unconfirmed (Ends e) id p held = refl
 
--- ---- a translated packet is one of the connection that it was of before
+-- ---- NAT doesn't change a packet's connection
 
 abbrev original_or : Tuple → CtInfo → Tuple
 original_or t (New d) = d.original
@@ -108,11 +158,13 @@ original_or t (Related connection) = t
 original_or t Invalid = t
 original_or t Untracked = t
 
-same_original : (d e : NewConnection) → New (new_connection_of d.original) ≡ New (new_connection_of e.original) → d.original ≡ e.original
+same_original : (d e : NewConnection) → New (new_connection_of d.original) ≡ New (new_connection_of e.original)
+    → d.original ≡ e.original
 same_original d e same = ap (original_or e.original) same
 
 -- with this tuple it is the first packet of a connection, if it is one
-first_open : (b : Belonging) (held : List ConntrackEntry) (state : LookupState) (t : Tuple) (info : CtInfo) → is_taken t held ≡ false
+first_open : (b : Belonging) (held : List ConntrackEntry) (state : LookupState) (t : Tuple) (info : CtInfo)
+    → is_taken t held ≡ false
     → untranslated info ≡ untranslated (new_ct_info state t) → CanConfirm b info held
 first_open b held states.New t (New d) free same = rw (same_original d (new_connection_of t) same) free
 first_open b held states.New t (Tracked connection) free same = cc
@@ -140,8 +192,9 @@ still_open t (Found found) held Untracked at same = tt
 still_open t NotFound held info at same = first_open NotFound held (first_state t.kind) t info at same
 still_open t (Ends id) held info at same = first_open (Ends id) held (first_state t.kind) t info at same
 
--- a packet that isn't looked up may be an error, which counts for no connection
-pub error_open : (b : Belonging) (held : List ConntrackEntry) (info : CtInfo) → untranslated info ≡ untranslated (error_ct_info b) → CanConfirm NotFound info held
+-- a packet without a key may be an ICMP error, which refreshes no connection
+pub error_open : (b : Belonging) (held : List ConntrackEntry) (info : CtInfo)
+    → untranslated info ≡ untranslated (error_ct_info b) → CanConfirm NotFound info held
 error_open b held Invalid same = tt
 error_open b held Untracked same = tt
 error_open b held (Related connection) same = tt
@@ -152,8 +205,9 @@ error_open NotFound held (New d) same = cc
 error_open (Ends id) held (New d) same = cc
 error_open (Found found) held (New d) same = cc
 
--- nor does one that passes untracked
-pub untracked_open : (held : List ConntrackEntry) (info : CtInfo) → untranslated info ≡ untranslated Untracked → CanConfirm NotFound info held
+-- nor does one exempted by `notrack`
+pub untracked_open : (held : List ConntrackEntry) (info : CtInfo) → untranslated info ≡ untranslated Untracked
+    → CanConfirm NotFound info held
 untracked_open held Untracked same = tt
 untracked_open held Invalid same = tt
 untracked_open held (Related connection) same = tt
@@ -165,17 +219,20 @@ error_fits NotFound mappings = tt
 error_fits (Ends id) mappings = tt
 error_fits (Found found) mappings = tt
 
--- a packet that counts so beside the others counts so among all that were held, and it is recorded whether it begins one
+-- a confirmation beside the other connections is one among all that were held, and the entry says whether one began
 module _ (id : ConnId) (now : ℕ) (s : LookupKey) (b : Belonging) (old : List ConntrackEntry) where
   abbrev pub lookup_result : Option Lookup
   lookup_result = Some (record { lookup_key = s; belonging = b; others = after_end b old })
 
   pub record Agrees (info : CtInfo) (packet_result : PacketResult) : Type 0 where
-    pub held : held_after_confirm id s.flags now b info packet_result.confirmation (after_end b old) ≡ held_after now id lookup_result packet_result.confirmation old
-    pub begun : begins info packet_result.confirmation ≡ is_creation (tracked_by now lookup_result packet_result.confirmation).change
+    pub held : held_after_confirm id s.flags now b info packet_result.confirmation (after_end b old)
+        ≡ held_after now id lookup_result packet_result.confirmation old
+    pub begun : begins info packet_result.confirmation
+        ≡ is_creation (tracked_by now lookup_result packet_result.confirmation).change
 
 -- the first packet of a connection, by why it is refused
-module _ (id : ConnId) (now : ℕ) (s : LookupKey) (old : List ConntrackEntry) (d : NewConnection) (is : d.original ≡ s.tuple) where
+module _ (id : ConnId) (now : ℕ) (s : LookupKey) (old : List ConntrackEntry) (d : NewConnection)
+    (is : d.original ≡ s.tuple) where
   first_nowhere : (refused : Option Cause) (others : List ConntrackEntry) (path_result : PathResult)
       → Agrees id now s NotFound old (New d) (begun_unless refused others d path_result)
   first_nowhere None others path_result = record { held = rw is refl; begun = refl }
@@ -190,8 +247,10 @@ module _ (id : ConnId) (now : ℕ) (s : LookupKey) (old : List ConntrackEntry) (
   abbrev AgreesSo : Belonging → CtInfo → Type 0
   AgreesSo b info = Agrees id now s b old info (confirmed_by info (after_end b old) path_result)
 
-  nowhere : (state : LookupState) (info : CtInfo) → untranslated info ≡ untranslated (new_ct_info state s.tuple) → AgreesSo NotFound info
-  nowhere states.New (New d) same = first_nowhere id now s old d (same_original d (new_connection_of s.tuple) same) (refusal (reply_to d) old) old path_result
+  nowhere : (state : LookupState) (info : CtInfo) → untranslated info ≡ untranslated (new_ct_info state s.tuple)
+      → AgreesSo NotFound info
+  nowhere states.New (New d) same = first_nowhere id now s old d (same_original d (new_connection_of s.tuple) same)
+      (refusal (reply_to d) old) old path_result
   nowhere states.New (Tracked connection) same = cc
   nowhere states.New (Related connection) same = cc
   nowhere states.New Invalid same = cc
@@ -207,8 +266,10 @@ module _ (id : ConnId) (now : ℕ) (s : LookupKey) (old : List ConntrackEntry) (
   nowhere states.Invalid Invalid same = record { held = refl; begun = refl }
   nowhere states.Invalid Untracked same = cc
 
-  ends : (e : ConnId) (state : LookupState) (info : CtInfo) → untranslated info ≡ untranslated (new_ct_info state s.tuple) → AgreesSo (Ends e) info
-  ends e states.New (New d) same = first_ends id now s old d (same_original d (new_connection_of s.tuple) same) e (refusal (reply_to d) (without e old)) (without e old) path_result
+  ends : (e : ConnId) (state : LookupState) (info : CtInfo)
+      → untranslated info ≡ untranslated (new_ct_info state s.tuple) → AgreesSo (Ends e) info
+  ends e states.New (New d) same = first_ends id now s old d (same_original d (new_connection_of s.tuple) same) e
+      (refusal (reply_to d) (without e old)) (without e old) path_result
   ends e states.New (Tracked connection) same = cc
   ends e states.New (Related connection) same = cc
   ends e states.New Invalid same = cc
@@ -224,7 +285,8 @@ module _ (id : ConnId) (now : ℕ) (s : LookupKey) (old : List ConntrackEntry) (
   ends e states.Invalid Invalid same = record { held = refl; begun = refl }
   ends e states.Invalid Untracked same = cc
 
-  pub agrees : (b : Belonging) (info : CtInfo) → untranslated info ≡ untranslated (ct_info_by s.tuple b) → AgreesSo b info
+  pub agrees : (b : Belonging) (info : CtInfo) → untranslated info ≡ untranslated (ct_info_by s.tuple b)
+      → AgreesSo b info
   agrees (Found found) (Tracked connection) same = record { held = refl; begun = refl }
   agrees (Found found) (New d) same = cc
   agrees (Found found) (Related connection) same = cc

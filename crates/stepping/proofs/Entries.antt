@@ -1,4 +1,4 @@
--- After the entries of any story each record has one entry at most, and one where the chains that it meets end.
+-- After a history a record has at most one entry, and one if the chains that it traverses end.
 use Rattle.std.proofs.Common.{◌≡◌, ℕ, ◌≤◌, ◌<◌, Bool, true, false, cond, nat_lt, List, [], Option, Some, None}
 use Rattle.std.proofs.Common.{Result, Ok, Err, refl, sym, ap, subst, ◌∙◌, arith}
 use Rattle.list_laws.specs.Options.{none_not_some, some_unique}
@@ -21,9 +21,11 @@ use Rattle.translation.specs.CtInfos.{ct_facts_of}
 use Rattle.stepping.specs.Carried.{ReceivedPacket, initial_facts, forwarded_facts, with_ct}
 use Rattle.stepping.specs.Lookups.{Lookup, mappings_beside, unless_notrack, ct_info_of, ct_info_unless_notrack}
 use Rattle.stepping.specs.Paths as paths
-use Rattle.stepping.specs.Paths.{PathResult, RunsInput, ForwardsOn, RunsAfterPrerouting, RunsUnlessStopped, RunsHooks, dropped, passed_result, stopped_result}
+use Rattle.stepping.specs.Paths.{PathResult, RunsInput, ForwardsOn, RunsAfterPrerouting, RunsUnlessStopped, RunsHooks}
+use Rattle.stepping.specs.Paths.{dropped, passed_result, stopped_result}
 use Rattle.stepping.specs.Confirmations.{PacketResult, confirmed_result, not_looked_up}
-use Rattle.stepping.specs.Next.{ProcessesAfterLookup, ProcessesPacket, ProcessesRecord, Next, answered, live_at_record, moment_after, entry_of}
+use Rattle.stepping.specs.Next.{ProcessesAfterLookup, ProcessesPacket, ProcessesRecord, Next, record_lookup}
+use Rattle.stepping.specs.Next.{live_at_record, moment_after, entry_of}
 use Rattle.stepping.proofs.Carrying.{one_carried, some_carried}
 use Rattle.stepping.proofs.Passages.{goes_on, on_of, off_of}
 use Rattle.stepping.proofs.Around.{OneChains, SomeChains, one_arrives, one_departs, some_arrives, some_departs}
@@ -31,7 +33,7 @@ use Rattle.stepping.proofs.Around.{OneChains, SomeChains, one_arrives, one_depar
 both : (b : Bool) → b ≡ true → b ≡ false → ⊥
 both b e f = cc
 
--- ---- how a packet is led
+-- ---- the hooks
 
 going : (verdict : HookVerdict) → Continues verdict → goes_on verdict ≡ true
 going verdict on = by_test (goes_on verdict) refl
@@ -48,16 +50,16 @@ stopping verdict off = by_test (goes_on verdict) refl
     by_test false is = is
 
 module _ (setup : Setup) (mappings : List Mapping) where
-  -- ---- one course
+  -- ---- one path
 
-  -- what the chains on input make of it
+  -- the result of input
   abbrev local_by : CtInfo → HookResult → Bool → PathResult
   local_by info local b = cond b (passed_result Local info local) (stopped_result local)
 
   abbrev by_local : CtInfo → HookResult → PathResult
   by_local info local = local_by info local (goes_on local.verdict)
 
-  -- what the chains on its way out make of it
+  -- the result of forward and postrouting
   abbrev departure_by : ℕ → CtInfo → HookResult → Bool → PathResult
   departure_by interface after departure b =
       cond b (passed_result (Passed interface) after departure) (stopped_result departure)
@@ -65,7 +67,8 @@ module _ (setup : Setup) (mappings : List Mapping) where
   abbrev by_departure : ℕ → CtInfo → HookResult → PathResult
   by_departure interface after departure = departure_by interface after departure (goes_on departure.verdict)
 
-  local_on : (info : CtInfo) (local : HookResult) → Continues local.verdict → passed_result Local info local ≡ by_local info local
+  local_on : (info : CtInfo) (local : HookResult) → Continues local.verdict
+      → passed_result Local info local ≡ by_local info local
   local_on info local on = sym (ap (local_by info local) (going local.verdict on))
 
   local_off : (info : CtInfo) (local : HookResult) → Stops local.verdict → stopped_result local ≡ by_local info local
@@ -81,7 +84,7 @@ module _ (setup : Setup) (mappings : List Mapping) where
   departure_off interface after departure off =
       sym (ap (departure_by interface after departure) (stopping departure.verdict off))
 
-  -- it tells the way on only where they go on
+  -- the state behind it matters only where it continues
   same_by_departure : (interface : ℕ) (after after' : CtInfo) (departure : HookResult)
       → (Continues departure.verdict → after ≡ after') → (b : Bool) → goes_on departure.verdict ≡ b
       → by_departure interface after departure ≡ by_departure interface after' departure
@@ -127,10 +130,12 @@ module _ (setup : Setup) (mappings : List Mapping) where
     of_none is none path_result (paths.without_route o w) = refl
     of_none is none path_result (paths.at_last_hop i o w t) = absurd (none_not_some routed i none w)
     of_none is none path_result (paths.forwarded i after departure o w t d on) = absurd (none_not_some routed i none w)
-    of_none is none path_result (paths.not_forwarded i after departure o w t d off) = absurd (none_not_some routed i none w)
+    of_none is none path_result (paths.not_forwarded i after departure o w t d off) =
+        absurd (none_not_some routed i none w)
 
     module _ (interface : ℕ) (is : own ≡ false) (by : routed ≡ Some interface) where
-      of_last : hops < 2 → (path_result : PathResult) → HooksPassed path_result → path_result ≡ dropped causes.Ttl arrival.events
+      of_last : hops < 2 → (path_result : PathResult) → HooksPassed path_result
+          → path_result ≡ dropped causes.Ttl arrival.events
       of_last low path_result (paths.delivered local o d on) = absurd (both own o is)
       of_last low path_result (paths.not_delivered local o d off) = absurd (both own o is)
       of_last low path_result (paths.without_route o w) = absurd (none_not_some routed interface w by)
@@ -138,7 +143,8 @@ module _ (setup : Setup) (mappings : List Mapping) where
       of_last low path_result (paths.forwarded i after departure o w t d on) = absurd (omega (arith, low, t))
       of_last low path_result (paths.not_forwarded i after departure o w t d off) = absurd (omega (arith, low, t))
 
-      of_routed : 2 ≤ hops → (path_result : PathResult) → HooksPassed path_result → RunsAfterRouting interface path_result
+      of_routed : 2 ≤ hops → (path_result : PathResult) → HooksPassed path_result
+          → RunsAfterRouting interface path_result
       of_routed more path_result (paths.delivered local o d on) = absurd (both own o is)
       of_routed more path_result (paths.not_delivered local o d off) = absurd (both own o is)
       of_routed more path_result (paths.without_route o w) = absurd (none_not_some routed interface w by)
@@ -150,11 +156,13 @@ module _ (setup : Setup) (mappings : List Mapping) where
           subst (λ (j : ℕ). RunsAfterRouting j path_result) (some_unique routed i interface w by)
           (after, departure, d, departure_off i after departure off)
 
-    module _ (one : OneChains setup) (path_result other : PathResult) (x : HooksPassed path_result) (y : HooksPassed other) where
+    module _ (one : OneChains setup) (path_result other : PathResult) (x : HooksPassed path_result)
+        (y : HooksPassed other) where
       same_local : IsLocal path_result → IsLocal other → path_result ≡ other
       same_local m n = m.2 ∙ ap (by_local info) (one _ arrival.facts arrival.events m.0 n.0 m.1 n.1) ∙ sym n.2
 
-      same_departure : (interface : ℕ) → RunsAfterRouting interface path_result → RunsAfterRouting interface other → path_result ≡ other
+      same_departure : (interface : ℕ) → RunsAfterRouting interface path_result → RunsAfterRouting interface other
+          → path_result ≡ other
       same_departure i m n =
           let f = forwarded_facts setup i arrival.facts in
           let q = one_departs setup mappings info one m.0 n.0 f arrival.events m.1 n.1 m.2 n.2 in
@@ -181,7 +189,7 @@ module _ (setup : Setup) (mappings : List Mapping) where
       one_run_after_prerouting : path_result ≡ other
       one_run_after_prerouting = one_by_own own refl
 
-    -- ---- some course
+    -- ---- some path
 
     abbrev SomePath : Type 0
     SomePath = (path_result : PathResult) × HooksPassed path_result
@@ -196,8 +204,10 @@ module _ (setup : Setup) (mappings : List Mapping) where
       some_departure : (i : ℕ) → own ≡ false → routed ≡ Some i → 2 ≤ hops → (after : CtInfo) (departure : HookResult)
           → ForwardsOn setup mappings info after i arrival departure → (b : Bool) → goes_on departure.verdict ≡ b
           → SomePath
-      some_departure i o w t after departure d true is =
-          (passed_result (Passed i) after departure, paths.forwarded i after departure o w t d (on_of departure.verdict is))
+      some_departure i o w t after departure d true is = (
+        passed_result (Passed i) after departure,
+        paths.forwarded i after departure o w t d (on_of departure.verdict is),
+      )
       some_departure i o w t after departure d false is =
           (stopped_result departure, paths.not_forwarded i after departure o w t d (off_of departure.verdict is))
 
@@ -221,12 +231,14 @@ module _ (setup : Setup) (mappings : List Mapping) where
       some_run_after_prerouting : SomePath
       some_run_after_prerouting = some_by_own own refl
 
-  -- ---- by its arrival
+  -- ---- by its input
 
   module _ (one : OneChains setup) where
-    -- the way with which it arrives counts only where it goes on
-    one_by : (after after' : CtInfo) (arrival : HookResult) (path_result other : PathResult) → (Continues arrival.verdict → after' ≡ after)
-        → RunsUnlessStopped setup mappings after arrival path_result → RunsUnlessStopped setup mappings after' arrival other → (b : Bool)
+    -- the state after prerouting matters only where the packet continues
+    one_by : (after after' : CtInfo) (arrival : HookResult) (path_result other : PathResult)
+        → (Continues arrival.verdict → after' ≡ after)
+        → RunsUnlessStopped setup mappings after arrival path_result
+        → RunsUnlessStopped setup mappings after' arrival other → (b : Bool)
         → goes_on arrival.verdict ≡ b → path_result ≡ other
     one_by after after' arrival path_result other same x y true is =
         let on : Continues arrival.verdict = on_of arrival.verdict is in
@@ -236,9 +248,10 @@ module _ (setup : Setup) (mappings : List Mapping) where
         let off : Stops arrival.verdict = off_of arrival.verdict is in
         x.0 off ∙ sym (y.0 off)
 
-    -- rules lead it in one way at most
+    -- its path is unique
     one_run : (info : CtInfo) (f : Facts) (es : List Event) (path_result other : PathResult)
-        → RunsHooks setup mappings info f es path_result → RunsHooks setup mappings info f es other → path_result ≡ other
+        → RunsHooks setup mappings info f es path_result → RunsHooks setup mappings info f es other
+        → path_result ≡ other
     one_run info f es path_result other x y =
         let q = one_arrives setup mappings info one y.after x.after f es y.arrival x.arrival y.arrived x.arrived in
         let same : Continues x.arrival.verdict → y.after ≡ x.after =
@@ -262,89 +275,103 @@ module _ (setup : Setup) (mappings : List Mapping) where
         let r = some_by q.0 q.1 (goes_on q.1.verdict) refl in
         (r.0, record { after = q.0; arrival = q.1; arrived = q.2; by = r.1 })
 
--- ---- how it fares
+-- ---- its processing
 
 module _ (setup : Setup) (live : List ConntrackEntry) (lookup : Option Lookup) (a : ReceivedPacket) where
   abbrev asked : HookResult → Option Lookup
-  asked early = unless_notrack early.facts.ct lookup
+  asked raw = unless_notrack raw.facts.ct lookup
 
   abbrev mappings : HookResult → List Mapping
-  mappings early = mappings_beside live (asked early)
+  mappings raw = mappings_beside live (asked raw)
 
   abbrev info : HookResult → CtInfo
-  info early = ct_info_unless_notrack early.facts.ct (ct_info_of live a.packet lookup)
+  info raw = ct_info_unless_notrack raw.facts.ct (ct_info_of live a.packet lookup)
 
   abbrev known : HookResult → Facts
-  known early = with_ct (ct_facts_of (info early)) early.facts
+  known raw = with_ct (ct_facts_of (info raw)) raw.facts
 
   abbrev ProcessesOn : HookResult → PacketResult → Type 0
-  ProcessesOn early packet_result = ProcessesAfterLookup setup live (asked early) (info early) early packet_result
+  ProcessesOn raw packet_result = ProcessesAfterLookup setup live (asked raw) (info raw) raw packet_result
 
-  -- what the early chains make of it
+  -- the result of raw prerouting
   abbrev ProcessesBy : PacketResult → HookResult → Type 0
-  ProcessesBy packet_result early =
-      (Stops early.verdict → packet_result ≡ not_looked_up (stopped_result early))
-      × (Continues early.verdict → ProcessesOn early packet_result)
+  ProcessesBy packet_result raw =
+      (Stops raw.verdict → packet_result ≡ not_looked_up (stopped_result raw))
+      × (Continues raw.verdict → ProcessesOn raw packet_result)
 
   module _ (one : OneChains setup) where
-    -- its course is one, and the last step follows from it
-    one_in : (early : HookResult) (packet_result other : PacketResult) → ProcessesOn early packet_result → ProcessesOn early other → packet_result ≡ other
-    one_in early packet_result other x y =
+    -- its path is unique, and so is the confirmation
+    one_in : (raw : HookResult) (packet_result other : PacketResult) → ProcessesOn raw packet_result
+        → ProcessesOn raw other → packet_result ≡ other
+    one_in raw packet_result other x y =
         let same : x.path_result ≡ y.path_result =
-        one_run setup (mappings early) one (info early) (known early) early.events x.path_result y.path_result x.runs_hooks y.runs_hooks in
-        x.is ∙ ap (confirmed_result (asked early)) same ∙ sym y.is
+        one_run setup (mappings raw) one (info raw) (known raw) raw.events x.path_result y.path_result x.runs_hooks
+        y.runs_hooks in
+        x.is ∙ ap (confirmed_result (asked raw)) same ∙ sym y.is
 
-    one_from : (early : HookResult) (packet_result other : PacketResult) → ProcessesBy packet_result early → ProcessesBy other early → (b : Bool)
-        → goes_on early.verdict ≡ b → packet_result ≡ other
-    one_from early packet_result other x y true is =
-        let on : Continues early.verdict = on_of early.verdict is in
-        one_in early packet_result other (x.1 on) (y.1 on)
-    one_from early packet_result other x y false is = x.0 (off_of early.verdict is) ∙ sym (y.0 (off_of early.verdict is))
+    one_from : (raw : HookResult) (packet_result other : PacketResult) → ProcessesBy packet_result raw
+        → ProcessesBy other raw → (b : Bool)
+        → goes_on raw.verdict ≡ b → packet_result ≡ other
+    one_from raw packet_result other x y true is =
+        let on : Continues raw.verdict = on_of raw.verdict is in
+        one_in raw packet_result other (x.1 on) (y.1 on)
+    one_from raw packet_result other x y false is = x.0 (off_of raw.verdict is) ∙ sym (y.0 (off_of raw.verdict is))
 
-    one_processing : (packet_result other : PacketResult) → ProcessesPacket setup live lookup a packet_result → ProcessesPacket setup live lookup a other
+    one_processing : (packet_result other : PacketResult) → ProcessesPacket setup live lookup a packet_result
+        → ProcessesPacket setup live lookup a other
         → packet_result ≡ other
     one_processing packet_result other x y =
-        let same : y.early ≡ x.early = one _ (initial_facts setup a) [] y.early x.early y.first x.first in
-        one_from x.early packet_result other (x.stopped, x.goes_on) (subst (ProcessesBy other) same (y.stopped, y.goes_on))
-        (goes_on x.early.verdict) refl
+        let same : y.raw ≡ x.raw = one _ (initial_facts setup a) [] y.raw x.raw y.first x.first in
+        one_from x.raw packet_result other (x.stopped, x.goes_on) (subst (ProcessesBy other) same (
+          y.stopped,
+          y.goes_on,
+        ))
+        (goes_on x.raw.verdict) refl
 
   module _ (ends : SomeChains setup) where
-    some_in : (early : HookResult) → (packet_result : PacketResult) × ProcessesOn early packet_result
-    some_in early =
-        let q = some_run setup (mappings early) ends (info early) (known early) early.events in
-        (confirmed_result (asked early) q.0, record { path_result = q.0; runs_hooks = q.1; is = refl })
+    some_in : (raw : HookResult) → (packet_result : PacketResult) × ProcessesOn raw packet_result
+    some_in raw =
+        let q = some_run setup (mappings raw) ends (info raw) (known raw) raw.events in
+        (confirmed_result (asked raw) q.0, record { path_result = q.0; runs_hooks = q.1; is = refl })
 
-    some_from : (early : HookResult) → (b : Bool) → goes_on early.verdict ≡ b → (packet_result : PacketResult) × ProcessesBy packet_result early
-    some_from early true is =
-        let q = some_in early in
-        (q.0, (λ stops. absurd (stops (on_of early.verdict is)), λ _. q.1))
-    some_from early false is = (not_looked_up (stopped_result early), (λ _. refl, λ on. absurd (off_of early.verdict is on)))
+    some_from : (raw : HookResult) → (b : Bool) → goes_on raw.verdict ≡ b → (packet_result : PacketResult)
+        × ProcessesBy packet_result raw
+    some_from raw true is =
+        let q = some_in raw in
+        (q.0, (λ stops. absurd (stops (on_of raw.verdict is)), λ _. q.1))
+    some_from raw false is = (not_looked_up (stopped_result raw), (λ _. refl, λ on. absurd (off_of raw.verdict is on)))
 
     some_processing : (packet_result : PacketResult) × ProcessesPacket setup live lookup a packet_result
     some_processing =
         let q = ends _ (initial_facts setup a) [] in
         let r = some_from q.0 (goes_on q.0.verdict) refl in
-        (r.0, record { early = q.0; first = q.1; stopped = r.1.0; goes_on = r.1.1 })
+        (r.0, record { raw = q.0; first = q.1; stopped = r.1.0; goes_on = r.1.1 })
 
 -- ---- the entry
 
 module _ (setup : Setup) where
   module _ (one : OneChains setup) where
-    one_packet_result : (live : List ConntrackEntry) (lookup : Option Lookup) (arrived : Result ReceivedPacket Cause) (packet_result other : PacketResult)
-        → ProcessesRecord setup live lookup arrived packet_result → ProcessesRecord setup live lookup arrived other → packet_result ≡ other
-    one_packet_result live lookup (Ok a) packet_result other x y = one_processing setup live lookup a one packet_result other x y
+    one_packet_result : (live : List ConntrackEntry) (lookup : Option Lookup) (arrived : Result ReceivedPacket Cause)
+        (packet_result other : PacketResult)
+        → ProcessesRecord setup live lookup arrived packet_result → ProcessesRecord setup live lookup arrived other
+        → packet_result ≡ other
+    one_packet_result live lookup (Ok a) packet_result other x y =
+        one_processing setup live lookup a one packet_result other x y
     one_packet_result live lookup (Err cause) packet_result other x y = x ∙ sym y
 
-    -- a record has one entry at most, where all chains end in one way at most
+    -- a record has at most one entry, if chains have at most one result
     pub one_next : (history : List Entry) (r : Recorded) (e other : Entry) → Next setup history r e
         → Next setup history r other → e ≡ other
     one_next history r e other n m =
         let live = live_at_record setup history r in
         let now = moment_after history r in
         let same : m.arrived ≡ n.arrived = one_carried setup r m.arrived n.arrived m.carried n.carried in
-        let lookup_result : m.lookup ≡ n.lookup = m.lookup_result ∙ ap (answered live) same ∙ sym n.lookup_result in
-        let processes : ProcessesRecord setup live n.lookup n.arrived m.packet_result = rw (← same, ← lookup_result) m.processes in
-        n.is ∙ ap (entry_of now n.lookup n.arrived) (one_packet_result live n.lookup n.arrived n.packet_result m.packet_result n.processes processes)
+        let lookup_result : m.lookup ≡ n.lookup =
+        m.lookup_result ∙ ap (record_lookup live) same ∙ sym n.lookup_result in
+        let processes : ProcessesRecord setup live n.lookup n.arrived m.packet_result =
+        rw (← same, ← lookup_result) m.processes in
+        n.is ∙ ap (entry_of now n.lookup n.arrived) (one_packet_result live n.lookup n.arrived n.packet_result
+        m.packet_result n.processes processes)
         ∙ rw (← same, ← lookup_result) (sym m.is)
 
   module _ (ends : SomeChains setup) where
@@ -358,8 +385,16 @@ module _ (setup : Setup) where
     some_next history r =
         let c = some_carried setup r in
         let live = live_at_record setup history r in
-        let lookup = answered live c.0 in
+        let lookup = record_lookup live c.0 in
         let q = some_packet_result live lookup c.0 in (
           entry_of (moment_after history r) lookup c.0 q.0,
-          record { arrived = c.0; carried = c.1; lookup = lookup; lookup_result = refl; packet_result = q.0; processes = q.1; is = refl },
+          record {
+            arrived = c.0;
+            carried = c.1;
+            lookup = lookup;
+            lookup_result = refl;
+            packet_result = q.0;
+            processes = q.1;
+            is = refl;
+          },
         )

@@ -1,11 +1,12 @@
--- What a record carries: its packet, the interface that it entered by, and what rules may read of it on arrival.
+-- The packet of a record, its input interface, and what rules read of it at first.
 use Rattle.std.specs.Prelude.{◌≡◌, ℕ, ◌-◌, List, [], drop, Option, Some, None, Result, Ok, Err, unwrap_or}
 use Rattle.std.specs.Option.{option_map}
 use Rattle.box_file.specs.Box.{PlantTree, name_of}
 use Rattle.nft_values.specs.Values.{padded}
 use Rattle.ip_headers.specs.declared.view.HeaderFault.{HeaderFault}
 use Rattle.ip_headers.specs.declared.view.HeaderFault.TheVariants as headers
-use Rattle.ip_headers.specs.Header.{fault_of, packet_of, total_len, protocol, source, destination, ttl, transport_of}
+use Rattle.ip_headers.specs.Header.{fault_of, packet_of, total_len, protocol, source, destination, ttl}
+use Rattle.ip_headers.specs.Header.{transport_of}
 use Rattle.pcap_io.specs.declared.link.Link.{Link}
 use Rattle.pcap_io.specs.declared.link.LinkCause.{LinkCause}
 use Rattle.pcap_io.specs.declared.link.LinkCause.TheVariants as links
@@ -22,7 +23,7 @@ use Rattle.history.specs.Setup.{Setup}
 
 -- ---- the packet of a record
 
--- a packet that entered by the interface of this index
+-- a packet and the index of its input interface
 pub record ReceivedPacket : Type 0 where
   pub interface : ℕ
   pub packet : List ℕ
@@ -42,17 +43,18 @@ cause_of headers.Checksum = causes.Checksum
 cause_of headers.Fragment = causes.Fragment
 cause_of headers.Transport = causes.Transport
 
--- the interface that a packet enters by: the one that its link header tells, if the box has it; where none is told,
--- the one that the box file names
+-- the input interface: the link header's, if the box has it; without one the box file's default (own)
 abbrev pub input_interface : Setup → Option ℕ → Option ℕ
 input_interface setup None = Some setup.plant.entering
 input_interface setup (Some index) = option_map (λ name. index) (name_of setup.plant index)
 
--- a record carries this packet, or none for this cause: its link header, the interface that it entered by, and the
--- packet's own header (RFC 791) are tested in this order, and the first test that fails is the cause
+-- a record carries this packet, or none for this cause: the first test that fails, of the link header, the
+-- input interface and the packet's headers (RFC 791), in this order (own)
 pub data Carries (setup : Setup) (r : Recorded) : Result ReceivedPacket Cause → Type 0 where
-  no_link : (cause : LinkCause) → link_of r.link r.bytes ≡ Err cause → Carries setup r (Err (link_cause cause))
-  no_interface : (link : Link) → link_of r.link r.bytes ≡ Ok link → input_interface setup link.interface ≡ None
+  no_link : (cause : LinkCause) → link_of r.link r.bytes ≡ Err cause
+      → Carries setup r (Err (link_cause cause))
+  no_interface : (link : Link) → link_of r.link r.bytes ≡ Ok link
+      → input_interface setup link.interface ≡ None
       → Carries setup r (Err causes.Interface)
   no_header : (link : Link) (index : ℕ) (fault : HeaderFault) → link_of r.link r.bytes ≡ Ok link
       → input_interface setup link.interface ≡ Some index → fault_of (drop link.packet r.bytes) ≡ Some fault
@@ -61,7 +63,7 @@ pub data Carries (setup : Setup) (r : Recorded) : Result ReceivedPacket Cause �
       → input_interface setup link.interface ≡ Some index → fault_of (drop link.packet r.bytes) ≡ None
       → Carries setup r (Ok (record { interface = index; packet = packet_of (drop link.packet r.bytes) }))
 
--- ---- what rules may read of it
+-- ---- what rules read of it
 
 abbrev pub packet_facts : List ℕ → Packet
 packet_facts p = record {
@@ -73,11 +75,11 @@ packet_facts p = record {
   transport = transport_of p;
 }
 
--- an interface of the box, its name filled with zeros
+-- an interface of the box; its name is padded with zeros
 abbrev pub interface_facts : PlantTree → ℕ → Interface
 interface_facts plant index = record { index = index; name = padded 0 (unwrap_or (name_of plant index) []) }
 
--- on arrival: nothing is known of its way or its connection, and its mark is 0
+-- the facts of a received packet: not routed, not looked up, mark 0
 abbrev pub initial_facts : Setup → ReceivedPacket → Facts
 initial_facts setup a = record {
   packet = packet_facts a.packet;
@@ -87,11 +89,11 @@ initial_facts setup a = record {
   ct = NotLookedUp;
 }
 
--- once its connection was looked up
+-- after the look-up
 abbrev pub with_ct : CtFacts → Facts → Facts
 with_ct known f = record f { ct = known }
 
--- when it is sent on: by this interface, with its TTL lowered (RFC 1812, 5.3.1)
+-- forwarded by this interface, the TTL decremented (RFC 1812, section 5.3.1)
 abbrev pub forwarded_facts : Setup → ℕ → Facts → Facts
 forwarded_facts setup interface f = record f {
   output = Some (interface_facts setup.plant interface);

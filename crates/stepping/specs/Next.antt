@@ -1,4 +1,5 @@
--- What a forwarding box makes of each record: the one entry that follows the entries of all earlier ones.
+-- What a forwarding box does with a record: the entry that extends a history. Each step has its source
+-- where it is defined; their order is netfilter's (nft(8), ADDRESS FAMILIES and CHAINS).
 use Rattle.std.specs.Prelude.{◌≡◌, ℕ, ◌-◌, max, List, [], ◌∷◌, Option, Some, None, Result, Ok, Err}
 use Rattle.std.specs.Option.{option_and_then, option_map}
 use Rattle.ip_headers.specs.declared.tuple.Tuple.{Tuple}
@@ -13,94 +14,101 @@ use Rattle.pcap_io.specs.Pcap.{Recorded}
 use Rattle.rule_meaning.specs.Hooks.{HookResult, Continues, Stops, PreroutingRaw}
 use Rattle.history.specs.declared.outcome.Cause.{Cause}
 use Rattle.history.specs.declared.outcome.Outcome.{Outcome}
-use Rattle.history.specs.declared.outcome.Outcome.TheVariants.{Passed, Local, Dropped}
+use Rattle.history.specs.declared.outcome.Outcome.TheVariants.{Passed}
 use Rattle.history.specs.Setup.{Setup, limits_of}
 use Rattle.history.specs.History.{Entry, moment_of, tracked_of}
 use Rattle.stepping.specs.declared.lookup_key.LookupKey.{LookupKey}
 use Rattle.stepping.specs.Carried.{ReceivedPacket, Carries, initial_facts, with_ct}
 use Rattle.translation.specs.declared.ct_info.CtInfo.{CtInfo}
 use Rattle.translation.specs.CtInfos.{change_of, ct_facts_of}
-use Rattle.stepping.specs.Lookups.{Lookup, lookup_of, mappings_beside, unless_notrack, ct_info_of, ct_info_unless_notrack}
+use Rattle.stepping.specs.Lookups.{Lookup, lookup_of, mappings_beside, unless_notrack, ct_info_of}
+use Rattle.stepping.specs.Lookups.{ct_info_unless_notrack}
 use Rattle.stepping.specs.Paths.{PathResult, RunsHooks, dropped, stopped_result}
 use Rattle.stepping.specs.Confirmations.{PacketResult, confirmed_result, not_looked_up}
 
--- ---- how a packet fares
+-- ---- processing a packet
 
--- a packet that the early chains let through, of which the connections alive answer this, and which stands so to them:
--- the rules lead it, and the last step follows
-pub record ProcessesAfterLookup (setup : Setup) (live : List ConntrackEntry) (lookup : Option Lookup) (info : CtInfo) (early : HookResult) (packet_result : PacketResult)
+-- a packet after raw prerouting, with its look-up among the live connections and its state: the hooks, then
+-- the confirmation
+pub record ProcessesAfterLookup (setup : Setup) (live : List ConntrackEntry) (lookup : Option Lookup)
+    (info : CtInfo) (raw : HookResult) (packet_result : PacketResult)
     : Type 0 where
   pub path_result : PathResult
-  pub runs_hooks : RunsHooks setup (mappings_beside live lookup) info (with_ct (ct_facts_of info) early.facts) early.events
+  pub runs_hooks : RunsHooks setup (mappings_beside live lookup) info (with_ct (ct_facts_of info) raw.facts)
+      raw.events
       path_result
   pub is : packet_result ≡ confirmed_result lookup path_result
 
--- the early chains come first: what they drop isn't looked up, nor what they have pass untracked
-pub record ProcessesPacket (setup : Setup) (live : List ConntrackEntry) (lookup : Option Lookup) (a : ReceivedPacket) (packet_result : PacketResult)
+-- raw prerouting comes first: what it drops isn't looked up, nor what `notrack` exempts
+pub record ProcessesPacket (setup : Setup) (live : List ConntrackEntry) (lookup : Option Lookup)
+    (a : ReceivedPacket) (packet_result : PacketResult)
     : Type 0 where
-  pub early : HookResult
-  pub first : PreroutingRaw setup.plant setup.rules (initial_facts setup a) [] early
-  pub stopped : Stops early.verdict → packet_result ≡ not_looked_up (stopped_result early)
-  pub goes_on : Continues early.verdict → ProcessesAfterLookup setup live (unless_notrack early.facts.ct lookup)
-      (ct_info_unless_notrack early.facts.ct (ct_info_of live a.packet lookup)) early packet_result
+  pub raw : HookResult
+  pub first : PreroutingRaw setup.plant setup.rules (initial_facts setup a) [] raw
+  pub stopped : Stops raw.verdict → packet_result ≡ not_looked_up (stopped_result raw)
+  pub goes_on : Continues raw.verdict → ProcessesAfterLookup setup live (unless_notrack raw.facts.ct lookup)
+      (ct_info_unless_notrack raw.facts.ct (ct_info_of live a.packet lookup)) raw packet_result
 
--- what carries no packet is dropped for its cause, and nothing happens
-abbrev pub ProcessesRecord : Setup → List ConntrackEntry → Option Lookup → Result ReceivedPacket Cause → PacketResult → Type 0
+-- a record without a packet is dropped for its cause, without events
+abbrev pub ProcessesRecord : Setup → List ConntrackEntry → Option Lookup → Result ReceivedPacket Cause
+    → PacketResult → Type 0
 ProcessesRecord setup live lookup (Ok a) packet_result = ProcessesPacket setup live lookup a packet_result
-ProcessesRecord setup live lookup (Err cause) packet_result = packet_result ≡ not_looked_up (dropped cause [])
+ProcessesRecord setup live lookup (Err cause) packet_result =
+    packet_result ≡ not_looked_up (dropped cause [])
 
--- what the connections alive answer for it, if they are asked
-abbrev pub answered : List ConntrackEntry → Result ReceivedPacket Cause → Option Lookup
-answered live (Ok a) = lookup_of live a.packet
-answered live (Err cause) = None
+-- its look-up among the live connections
+abbrev pub record_lookup : List ConntrackEntry → Result ReceivedPacket Cause → Option Lookup
+record_lookup live (Ok a) = lookup_of live a.packet
+record_lookup live (Err cause) = None
 
--- ---- its entry
+-- ---- the entry
 
--- the total length of the packet as received; 0 where there is none
+-- the packet's total length as received; 0 where there is none
 abbrev pub length_of : Result ReceivedPacket Cause → ℕ
 length_of (Ok a) = total_len a.packet
 length_of (Err cause) = 0
 
--- the packet as it is sent on: with the tuple of its connection, and its TTL lowered
+-- the packet as forwarded: with its tuple after NAT, and its TTL decremented (RFC 1812, section 5.3.1)
 abbrev pub sent_on : List ℕ → CtInfo → Outcome → List ℕ
 sent_on p info (Passed interface) = rewritten p (change_of info p (ttl p - 1))
-sent_on p info Local = []
-sent_on p info (Dropped cause) = []
+sent_on p info _ = []
 
--- the bytes that leave
+-- the bytes of the forwarded packet
 abbrev pub leaving : Result ReceivedPacket Cause → CtInfo → Outcome → List ℕ
 leaving (Ok a) info outcome = sent_on a.packet info outcome
 leaving (Err cause) info outcome = []
 
--- a packet that is looked up at a moment
+-- the look-up key and the time
 abbrev pub at_moment : ℕ → LookupKey → Arrival
 at_moment now s = record { tuple = s.tuple; flags = s.flags; moment = now }
 
--- what is recorded of it as far as connections go
+-- what the packet did to connections
 abbrev pub tracked_as : ℕ → Lookup → Option Confirmation → connections.TrackedPacket
 tracked_as now l None = entry_at now
-tracked_as now l (Some confirmation) = updates.entry_of l.belonging (at_moment now l.lookup_key) confirmation
+tracked_as now l (Some confirmation) =
+    updates.entry_of l.belonging (at_moment now l.lookup_key) confirmation
 
 abbrev pub tracked_by : ℕ → Option Lookup → Option Confirmation → connections.TrackedPacket
 tracked_by now None confirmation = entry_at now
 tracked_by now (Some l) confirmation = tracked_as now l confirmation
 
--- the tuple as received, where it was looked up
+-- the tuple with which it was looked up
 abbrev pub tuple_in : Option Lookup → Option Confirmation → Option Tuple
-tuple_in lookup confirmation = option_and_then (λ c. option_map (λ l. l.lookup_key.tuple) lookup) confirmation
+tuple_in lookup confirmation = option_and_then (λ c. option_map (λ l. l.lookup_key.tuple) lookup)
+    confirmation
 
--- the moment of a record is the greatest of its own and all earlier ones
+-- the time of a record is the greatest of its own and all earlier ones (own)
 abbrev pub moment_after : List Entry → Recorded → ℕ
 moment_after history r = max (moment_of history) r.moment
 
--- the connections that are alive then
+-- the connections alive then
 abbrev pub live_at_record : Setup → List Entry → Recorded → List ConntrackEntry
 live_at_record setup history r = live_list (limits_of setup) (tracked_of history) (moment_after history r)
 
 abbrev pub entry_of : ℕ → Option Lookup → Result ReceivedPacket Cause → PacketResult → Entry
 entry_of now lookup carried packet_result = record {
   tracked = tracked_by now lookup packet_result.confirmation;
-  lookup_key = tuple_in lookup packet_result.confirmation;
+  lookup_tuple = tuple_in lookup packet_result.confirmation;
   port_choice = packet_result.port_choice;
   length = length_of carried;
   events = packet_result.events;
@@ -108,23 +116,23 @@ entry_of now lookup carried packet_result = record {
   packet = leaving carried packet_result.info packet_result.outcome;
 }
 
--- this is the entry of the record after those of the story: each answer that it rests on is judged by its own relation,
--- and what is asked of connections is answered by the list of all entries before
+-- the entry of a record after a history; all that is known of connections comes from the history's entries
 pub record Next (setup : Setup) (history : List Entry) (r : Recorded) (e : Entry) : Type 0 where
-  -- the packet that the record carries, or why it carries none
+  -- the packet of the record, or why it carries none
   pub arrived : Result ReceivedPacket Cause
   pub carried : Carries setup r arrived
-  -- what the connections alive answer for it, if they are asked
+  -- its look-up among the live connections
   pub lookup : Option Lookup
-  pub lookup_result : lookup ≡ answered (live_at_record setup history r) arrived
-  -- what becomes of it
+  pub lookup_result : lookup ≡ record_lookup (live_at_record setup history r) arrived
+  -- its result
   pub packet_result : PacketResult
   pub processes : ProcessesRecord setup (live_at_record setup history r) lookup arrived packet_result
   pub is : e ≡ entry_of (moment_after history r) lookup arrived packet_result
 
--- ---- stories
+-- ---- histories
 
--- a story grows to another by these records: each is followed by its entry
+-- a history extended by the entries of these records, one after another
 abbrev pub IsHistoryOf : Setup → List Entry → List Recorded → List Entry → Type 0
 IsHistoryOf setup history [] after = after ≡ history
-IsHistoryOf setup history (r ∷ rs) after = (e : Entry) × Next setup history r e × IsHistoryOf setup (e ∷ history) rs after
+IsHistoryOf setup history (r ∷ rs) after = (e : Entry) × Next setup history r e
+    × IsHistoryOf setup (e ∷ history) rs after

@@ -1,14 +1,15 @@
--- How the rules lead a packet, from its look-up to the box itself or out of it.
+-- A packet's path through the hooks, from its look-up to local delivery or transmission. The order of
+-- hooks, NAT and routing is netfilter's (nft(8), ADDRESS FAMILIES and CHAINS).
 use Rattle.std.specs.Prelude.{◌≡◌, ℕ, ◌<◌, ◌≤◌, true, false, List, Some, None}
 use Rattle.box_file.specs.Box.{is_own, route}
 use Rattle.rule_meaning.specs.declared.facts.Facts.{Facts}
 use Rattle.rule_meaning.specs.declared.facts.CtFacts.{CtFacts}
-use Rattle.rule_meaning.specs.declared.facts.CtFacts.TheVariants.{NotLookedUp, Notrack, Untracked, Invalid, Known}
+use Rattle.rule_meaning.specs.declared.facts.CtFacts.TheVariants.{Known}
 use Rattle.rule_meaning.specs.declared.event.Event.{Event}
 use Rattle.rule_meaning.specs.declared.event.HookVerdict.{HookVerdict}
-use Rattle.rule_meaning.specs.declared.event.HookVerdict.TheVariants.{Accepted, Translated}
-use Rattle.rule_meaning.specs.declared.event.HookVerdict.TheVariants as endings
-use Rattle.rule_meaning.specs.Hooks.{Traversal, HookResult, Continues, Stops, Then, Prerouting, Input, Forward, Postrouting}
+use Rattle.rule_meaning.specs.declared.event.HookVerdict.TheVariants.{Translated}
+use Rattle.rule_meaning.specs.Hooks.{Traversal, HookResult, Continues, Stops, Then, Prerouting, Input}
+use Rattle.rule_meaning.specs.Hooks.{Forward, Postrouting}
 use Rattle.history.specs.declared.outcome.Cause.{Cause}
 use Rattle.history.specs.declared.outcome.Cause.TheVariants as causes
 use Rattle.history.specs.declared.outcome.Outcome.{Outcome}
@@ -20,102 +21,103 @@ use Rattle.translation.specs.declared.ct_info.CtInfo.TheVariants.{Invalid}
 use Rattle.stepping.specs.Carried.{forwarded_facts}
 use Rattle.stepping.specs.NatSteps.{RunsDestinationNat, RunsSourceNat}
 
--- how it ends as far as rules, routes and its TTL go, what happened, the mark that its connection has by then, and how
--- it stands to connections once it was translated
+-- the outcome by rules, routes and TTL, the events, the mark of its connection, and its state after NAT
 pub record PathResult : Type 0 where
   pub outcome : Outcome
   pub events : List Event
   pub mark : ℕ
   pub info : CtInfo
 
--- the mark of its connection, as written last
+-- the mark of its connection, as last set
 abbrev pub mark_in : CtFacts → ℕ
 mark_in (Known c) = c.mark
-mark_in NotLookedUp = 0
-mark_in Notrack = 0
-mark_in Untracked = 0
-mark_in Invalid = 0
+mark_in _ = 0
 
 abbrev pub dropped : Cause → List Event → PathResult
 dropped cause events = record { outcome = Dropped cause; events = events; mark = 0; info = Invalid }
 
--- with all that the last chains left
+-- a packet that the last chains let through
 abbrev pub passed_result : Outcome → CtInfo → HookResult → PathResult
 passed_result outcome info end =
     record { outcome = outcome; events = end.events; mark = mark_in end.facts.ct; info = info }
 
--- a packet that doesn't go on was dropped by a rule or a policy, or got no port
+-- a packet that stops was dropped by a rule or a policy, or has no free port
 abbrev pub stop_cause : HookVerdict → Cause
-stop_cause endings.Dropped = causes.Rule
-stop_cause Accepted = causes.Rule
 stop_cause (Translated t) = causes.NoPort
+stop_cause _ = causes.Rule
 
 abbrev pub stopped_result : HookResult → PathResult
 stopped_result end = dropped (stop_cause end.verdict) end.events
 
--- ---- the chains on its way, with the steps between them at which it is translated among these live mappings
+-- ---- the hooks, with NAT among these live mappings
 
--- before it is routed: its destination is translated on the way
+-- before routing, with destination NAT
 abbrev pub RunsPrerouting : Setup → List Mapping → CtInfo → CtInfo → Traversal
-RunsPrerouting setup mappings info after = Prerouting setup.plant setup.rules (RunsDestinationNat setup mappings info after)
+RunsPrerouting setup mappings info after =
+    Prerouting setup.plant setup.rules (RunsDestinationNat setup mappings info after)
 
--- when it is for the box
+-- for local delivery
 abbrev pub RunsInput : Setup → Traversal
 RunsInput setup = Input setup.plant setup.rules
 
--- when it is sent on: its source is translated last
+-- for forwarding, with source NAT
 abbrev pub RunsForwardAndPostrouting : Setup → List Mapping → CtInfo → CtInfo → Traversal
 RunsForwardAndPostrouting setup mappings info after =
     Then (Forward setup.plant setup.rules)
     (Postrouting setup.plant setup.rules (RunsSourceNat setup mappings info after))
 
--- ---- its way on
+-- ---- routing
 
--- where it goes, and how many hops it has left, once it has arrived
+-- the destination and the TTL after prerouting
 abbrev pub destination_of : HookResult → ℕ
 destination_of arrival = arrival.facts.packet.destination
 
 abbrev pub hops_left : HookResult → ℕ
 hops_left arrival = arrival.facts.packet.ttl
 
--- the chains on its way out, by this interface
+-- forward and postrouting with this output interface
 abbrev pub ForwardsOn : Setup → List Mapping → CtInfo → CtInfo → ℕ → HookResult → HookResult → Type 0
 ForwardsOn setup mappings info after interface arrival departure =
-    RunsForwardAndPostrouting setup mappings info after (forwarded_facts setup interface arrival.facts) arrival.events departure
+    RunsForwardAndPostrouting setup mappings info after (forwarded_facts setup interface arrival.facts)
+    arrival.events departure
 
--- a packet that has arrived is led so: for the box, or routed, both by its translated destination; then its TTL, and
--- the chains on its way out
-pub data RunsAfterPrerouting (setup : Setup) (mappings : List Mapping) (info : CtInfo) (arrival : HookResult) : PathResult → Type 0 where
+-- after prerouting: local delivery or a route, by the destination after NAT; then the TTL (RFC 1812,
+-- section 5.3.1), and forward and postrouting
+pub data RunsAfterPrerouting (setup : Setup) (mappings : List Mapping) (info : CtInfo)
+    (arrival : HookResult) : PathResult → Type 0 where
   delivered : (local : HookResult) → is_own setup.plant (destination_of arrival) ≡ true
       → RunsInput setup arrival.facts arrival.events local → Continues local.verdict
       → RunsAfterPrerouting setup mappings info arrival (passed_result Local info local)
   not_delivered : (local : HookResult) → is_own setup.plant (destination_of arrival) ≡ true
       → RunsInput setup arrival.facts arrival.events local → Stops local.verdict
       → RunsAfterPrerouting setup mappings info arrival (stopped_result local)
-  without_route : is_own setup.plant (destination_of arrival) ≡ false → route setup.plant (destination_of arrival) ≡ None
+  without_route : is_own setup.plant (destination_of arrival) ≡ false
+      → route setup.plant (destination_of arrival) ≡ None
       → RunsAfterPrerouting setup mappings info arrival (dropped causes.Route arrival.events)
   at_last_hop : (interface : ℕ) → is_own setup.plant (destination_of arrival) ≡ false
       → route setup.plant (destination_of arrival) ≡ Some interface → hops_left arrival < 2
       → RunsAfterPrerouting setup mappings info arrival (dropped causes.Ttl arrival.events)
-  forwarded : (interface : ℕ) (after : CtInfo) (departure : HookResult) → is_own setup.plant (destination_of arrival) ≡ false
+  forwarded : (interface : ℕ) (after : CtInfo) (departure : HookResult)
+      → is_own setup.plant (destination_of arrival) ≡ false
       → route setup.plant (destination_of arrival) ≡ Some interface → 2 ≤ hops_left arrival
       → ForwardsOn setup mappings info after interface arrival departure → Continues departure.verdict
       → RunsAfterPrerouting setup mappings info arrival (passed_result (Passed interface) after departure)
-  not_forwarded : (interface : ℕ) (after : CtInfo) (departure : HookResult) → is_own setup.plant (destination_of arrival) ≡ false
+  not_forwarded : (interface : ℕ) (after : CtInfo) (departure : HookResult)
+      → is_own setup.plant (destination_of arrival) ≡ false
       → route setup.plant (destination_of arrival) ≡ Some interface → 2 ≤ hops_left arrival
       → ForwardsOn setup mappings info after interface arrival departure → Stops departure.verdict
       → RunsAfterPrerouting setup mappings info arrival (stopped_result departure)
 
--- what doesn't come through prerouting is dropped; else it is led on
+-- a packet that prerouting stops is dropped
 abbrev pub RunsUnlessStopped : Setup → List Mapping → CtInfo → HookResult → PathResult → Type 0
 RunsUnlessStopped setup mappings info arrival path_result =
     (Stops arrival.verdict → path_result ≡ stopped_result arrival)
     × (Continues arrival.verdict → RunsAfterPrerouting setup mappings info arrival path_result)
 
--- a packet with this way, of which rules may read this, after these events
+-- the path of a packet with this state and these facts, after these events
 pub record RunsHooks (setup : Setup) (mappings : List Mapping) (info : CtInfo) (f : Facts) (es : List Event)
     (path_result : PathResult) : Type 0 where
-  -- its way once its destination was translated
+  -- its state after destination NAT
   pub after : CtInfo
   pub arrival : HookResult
   pub arrived : RunsPrerouting setup mappings info after f es arrival

@@ -1,4 +1,4 @@
--- When an engine stands for a story.
+-- When an engine represents a history (own).
 use Rattle.std.specs.Prelude.{◌≡◌, ℕ, Bool, List, [], ◌∷◌, length, map, Option, Some, None}
 use Rattle.conntrack.specs.declared.connection.ConntrackEntry.{ConntrackEntry}
 use Rattle.conntrack.specs.ConntrackEntry.{without_id}
@@ -13,7 +13,7 @@ use Rattle.history.specs.History.{Entry, live_in, sent_by}
 use Rattle.rule_check.specs.Checked.{CheckedTree}
 use Rattle.history.specs.Setup.{Setup}
 
--- what is shown of an entry: all of it but which connection it touched or ended
+-- the part of an entry that an engine shows: all but the connection that it refreshed or removed
 pub record ShownEntry : Type 0 where
   pub moment : ℕ
   pub length : ℕ
@@ -32,8 +32,9 @@ shown_entry e = record {
   begun = is_creation e.tracked.change;
 }
 
--- what an engine shows: what it was set up with, how many records it took, how many statements of rules it started, the
--- connections that it holds, what it tells of the last record, if it took one, and whether it has room for the next one
+-- the state of an engine: its configuration, how many records it processed and how many statements it
+-- evaluated, the connections held, the last record's entry, and whether all that the next record needs is
+-- reserved
 pub record EngineState : Type 0 where
   pub setup : Setup
   pub records : ℕ
@@ -42,7 +43,7 @@ pub record EngineState : Type 0 where
   pub newest : Option ShownEntry
   pub ready : Bool
 
--- what a checked ruleset is set up with
+-- the configuration of a checked ruleset
 abbrev pub setup_of : CheckedTree → Setup
 setup_of checked = record { rules = checked.rules; plant = checked.plant }
 
@@ -50,28 +51,28 @@ abbrev pub newest_of : List Entry → Option ShownEntry
 newest_of [] = None
 newest_of (e ∷ history) = Some (shown_entry e)
 
--- its number of records is the story's, it tells of the newest entry, and it holds exactly the connections that are
--- alive at the story's last moment, in the order in which they were begun, whatever it calls them
+-- it has the history's number of records, shows its newest entry, and holds the connections alive at the
+-- time of that, in the order in which they began, under ids of its own
 pub record Represents (engine : EngineState) (history : List Entry) : Type 0 where
   pub records : engine.records ≡ length history
   pub newest : engine.newest ≡ newest_of history
   pub held : map without_id engine.held ≡ map without_id (live_in engine.setup history)
 
--- a record as it is told
+-- a lent record
 abbrev pub recorded_of : Record → Recorded
 recorded_of r = record { moment = r.moment; link = r.link_type; bytes = r.bytes.now }
 
--- a packet that the engine lends
+-- a lent packet
 abbrev pub sent_packets : Option Leaving → List Sent
 sent_packets None = []
 sent_packets (Some leaving) = sent leaving ∷ []
 
--- what is sent by the newest entry
+-- the packet that the newest entry sends
 abbrev pub sends_of : Option ShownEntry → List Sent
 sends_of None = []
 sends_of (Some newest) = sent_by newest.outcome newest.moment newest.packet
 
--- the bytes of the packet that leaves; none where none does
+-- the bytes of the forwarded packet; none where there is none
 abbrev pub packet_of : Option ShownEntry → List ℕ
 packet_of None = []
 packet_of (Some newest) = newest.packet

@@ -1,4 +1,4 @@
-//! What a record carries.
+//! The packet of a record.
 ghost use Rattle.std.specs.Prelude.{◌≡◌, IfOk};
 ghost use Rattle.stepping.specs.Carried.{Carries, cause_of, interface_facts, link_cause};
 ghost use Rattle.stepping.specs.Representing.{recorded_of};
@@ -11,19 +11,23 @@ use ip_headers::{HeaderFault, View};
 use pcap_io::{LinkCause, Record};
 use rule_meaning::Interface;
 
-/// A packet, and the interface that it entered by.
+/// A packet and its input interface.
 #[derive(Clone, Copy)]
 pub struct IncomingPacket<'a> {
     pub input: Interface,
     pub view: View<'a>,
 }
 
-/// The packet of a record; or why it carries none: the first that fails of the tests of its link
-/// header, of the interface that it entered by, and of the packet's own header.
+/// Decodes the packet of a record.
+///
+/// # Errors
+/// The first test that fails, of the link header, the input interface and the packet's headers.
 #[inline(always)]
 pub fn carried<'a>(setup: &Setup, record: &Record<'a>) -> Result<IncomingPacket<'a>, Cause>
-    ensures carries { Carries (setup_in setup.now.hooks) (recorded_of record.now) (arrived_in result) }
-    ensures known { IfOk result (λ incoming. incoming.input ≡ interface_facts setup.now.hooks.plant incoming.input.index) }
+    ensures carries { Carries (setup_in setup.now.hooks) (recorded_of record.now)
+        (arrived_in result) }
+    ensures known { IfOk result (λ incoming.
+        incoming.input ≡ interface_facts setup.now.hooks.plant incoming.input.index) }
 {
     let link = match record.link() {
         Ok(link) => link,
@@ -38,7 +42,7 @@ pub fn carried<'a>(setup: &Setup, record: &Record<'a>) -> Result<IncomingPacket<
     }
 }
 
-/// The cause that a test of the link header stands for.
+/// The cause of a link header's fault.
 fn link_cause(cause: LinkCause) -> Cause
     ensures { result ≡ link_cause cause }
 {
@@ -49,7 +53,7 @@ fn link_cause(cause: LinkCause) -> Cause
     }
 }
 
-/// The cause that a test of the packet's header stands for.
+/// The cause of a packet header's fault.
 fn cause_of(fault: HeaderFault) -> Cause
     ensures { result ≡ cause_of fault }
 {

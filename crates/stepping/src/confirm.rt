@@ -1,4 +1,4 @@
-//! The last step of a packet: whether it counts as one of its connection, or begins one.
+//! The end of a packet's path, as nf_conntrack_confirm: refreshes or begins its connection.
 ghost use Rattle.std.specs.Prelude.{◌≡◌, IsTrue, false, Some, None, Result, Ok};
 ghost use Rattle.conntrack.specs.ConntrackEntry.{IsNoneLater, is_taken};
 ghost use Rattle.translation.specs.declared.ct_info.CtInfo.TheVariants.{New};
@@ -13,19 +13,20 @@ use conntrack::{BeginError, Belonging, Flags, Moment, Tracker};
 use history::Cause;
 use translation::{CtInfo, NewConnection};
 
-/// How a packet ends that isn't dropped.
+/// The result of a packet that isn't dropped.
 #[derive(Clone, Copy)]
 pub struct ConfirmedPacket {
     pub decision: RoutingDecision,
-    /// Whether it began a connection.
+    /// Whether the packet began a connection.
     pub begun: bool,
-    /// How it stands to connections in the end, which tells with which tuple it leaves.
+    /// Its final state, which has the tuple with which it leaves.
     pub info: CtInfo,
 }
 
-/// Settles a packet that the rules let through: it counts where it belongs to a connection, and
-/// begins one where it is the first of one. `Full` or `Clash` where none can be begun: then no mapping
-/// is held for it either.
+/// Confirms a packet that the hooks let through: refreshes its connection, or begins a new one.
+///
+/// # Errors
+/// `Full` or `Clash` where a new connection can't begin; then it holds no mapping either.
 pub fn confirm<T: Tracker>(
     connections: &mut ConnectionTable<T>,
     belonging: Belonging,
@@ -38,7 +39,8 @@ pub fn confirm<T: Tracker>(
     requires later { IsNoneLater now connections.old.held }
     requires room { IsTrue connections.old.has_room }
     requires fits { Fits info.now (mappings_in connections.old.held) }
-    ensures confirms { Confirms now flags hooks_passed.now belonging info.now connections.old.held connections.new.held result }
+    ensures confirms { Confirms now flags hooks_passed.now belonging info.now connections.old.held
+        connections.new.held result }
     ensures limits { connections.new.limits ≡ connections.old.limits }
 {
     let confirmed = ConfirmedPacket {
@@ -52,14 +54,14 @@ pub fn confirm<T: Tracker>(
             Ok(confirmed)
         }
         CtInfo::New(new_connection) => begin(connections, new_connection, flags, hooks_passed, now),
-        // An error is none of its connection's packets.
+        // An ICMP error doesn't refresh its connection.
         CtInfo::Related(_) => Ok(confirmed),
         CtInfo::Invalid => Ok(confirmed),
         CtInfo::Untracked => Ok(confirmed),
     }
 }
 
-/// Counts a packet as one of the connection that it belongs to.
+/// Refreshes the connection of a packet.
 fn touch<T: Tracker>(
     connections: &mut ConnectionTable<T>,
     belonging: Belonging,
@@ -69,7 +71,8 @@ fn touch<T: Tracker>(
 )
     requires is_held { IsHeld belonging connections.old.held }
     requires later { IsNoneLater now connections.old.held }
-    ensures held { connections.new.held ≡ touched_for belonging flags mark now connections.old.held }
+    ensures held { connections.new.held
+        ≡ touched_for belonging flags mark now connections.old.held }
     ensures limits { connections.new.limits ≡ connections.old.limits }
 {
     if let Belonging::Found(found) = belonging {
@@ -77,7 +80,10 @@ fn touch<T: Tracker>(
     }
 }
 
-/// Begins a connection with its first packet, or tells why it can't be begun.
+/// Begins a connection with its first packet.
+///
+/// # Errors
+/// `Full` or `Clash`.
 fn begin<T: Tracker>(
     connections: &mut ConnectionTable<T>,
     new_connection: &NewConnection,
@@ -89,7 +95,9 @@ fn begin<T: Tracker>(
     requires later { IsNoneLater now connections.old.held }
     requires room { IsTrue connections.old.has_room }
     requires fits { IsFitting new_connection.now (mappings_in connections.old.held) }
-    ensures confirms { (belonging : TheBelonging) → Confirms now flags hooks_passed.now belonging (New new_connection.now) connections.old.held connections.new.held result }
+    ensures confirms { (belonging : TheBelonging)
+        → Confirms now flags hooks_passed.now belonging (New new_connection.now)
+        connections.old.held connections.new.held result }
     ensures limits { connections.new.limits ≡ connections.old.limits }
 {
     match connections.begin(new_connection, flags, hooks_passed.mark, now) {

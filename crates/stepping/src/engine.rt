@@ -1,4 +1,4 @@
-//! One record at a time.
+//! The engine: a box that processes one record at a time.
 ghost use Rattle.std.specs.Prelude.{◌≡◌, ◌<◌, ◌≤◌, ◌+◌, ℕ, [], ◌∷◌, List, length, map, true, IsOk, IsTrue, IfOk, IfSome, OnErr, OnOk};
 ghost use Rattle.conntrack.specs.ConntrackEntry.{connection_of};
 ghost use Rattle.pcap_io.specs.Sll2.{IsSent, sent};
@@ -9,7 +9,7 @@ ghost use Rattle.rule_paths.specs.Paths.{AreAllCosts, Caller, ruleset_cost};
 ghost use Rattle.stepping.specs.Next.{Next};
 ghost use Rattle.stepping.specs.Representing.{Represents, sent_packets, packet_of, sends_of, setup_of, recorded_of};
 
-use crate::process_record::{RecordResult, output_interface, process_record};
+use crate::process::{RecordResult, output_interface, process_record};
 use crate::setup::Setup;
 use connection_table::ConnectionTable;
 use conntrack::laws::{independent_of_ids, none_later, one_more_entry};
@@ -24,23 +24,23 @@ use std::hash::RandomState;
 use std::marker::Model;
 use translation::laws::independent_of_ids as mappings_aside;
 
-/// The greatest length of a packet.
+/// The greatest total length of an IPv4 packet, in bytes.
 const MOST_PACKET_BYTES: usize = 65_535;
 
-/// A box with its rules, and what it has to know of the records so far. Connections are kept by `T`.
+/// A box with its ruleset and its state after the records so far. `T` is the connection tracker.
 pub struct Engine<T: Tracker> {
     setup: Setup,
     connections: ConnectionTable<T>,
     records: u64,
-    /// The moment of the last record, 0 before one.
+    /// The time of the last record in nanoseconds; 0 before the first.
     latest: u64,
-    /// What happened while the rules ran on the last record.
+    /// The events of the last record.
     events: Events,
-    /// How the last record ended; none before one.
+    /// The result of the last record; none before the first.
     ended: Option<RecordResult>,
-    /// The packet that the last record sent on; empty where it sent none, or before a record.
+    /// The packet that the last record forwarded; empty where there is none.
     packet: Vec<u8>,
-    /// There is room for what the next record may need.
+    /// All that the next record may need is reserved.
     ready: bool,
 }
 
@@ -67,15 +67,25 @@ impl<T: Tracker> Model for Engine<T> {
 
     ghost Value = { EngineState };
 
-    ghost view = { λ e. record { setup = setup_in e.setup.hooks; records = e.records; ticks = e.events.ticks; held = e.connections.held; newest = newest_in e.ended e.latest e.events e.packet; ready = e.ready } };
+    ghost view = { λ e. record {
+      setup = setup_in e.setup.hooks;
+      records = e.records;
+      ticks = e.events.ticks;
+      held = e.connections.held;
+      newest = newest_in e.ended e.latest e.events e.packet;
+      ready = e.ready;
+    } };
 
-    ghost invariant = { λ e. IsReady (setup_in e.setup.hooks) e.connections e.ended e.latest e.events e.packet e.ready };
+    ghost invariant = { λ e. IsReady (setup_in e.setup.hooks) e.connections e.ended e.latest
+        e.events e.packet e.ready };
 }
 
 impl<T: Tracker> Engine<T> {
-    /// Before the first record: the rules are compiled, and there is room for what may happen while
-    /// they run. Its hash tables hash by `hasher`; nothing that it tells depends on the keys. On `Err`,
-    /// which comes only for want of memory, the ruleset is dropped.
+    /// The engine before the first record, with the rules compiled. The keys of `hasher` seed its
+    /// hash tables; no result depends on them.
+    ///
+    /// # Errors
+    /// An allocation failed. The ruleset is dropped.
     pub fn new(alloc: Global, hasher: RandomState, checked: Checked) -> Result<Self, AllocError>
         ensures setup { IfOk result (λ engine. engine.setup ≡ setup_of checked) }
         ensures none { IfOk result (λ engine. Represents engine []) }
@@ -96,8 +106,10 @@ impl<T: Tracker> Engine<T> {
         })
     }
 
-    /// Makes room for what the next record may need. Where it is there already nothing changes. On `Err`,
-    /// which comes only for want of memory, the engine is as it was.
+    /// Reserves all that the next record may need.
+    ///
+    /// # Errors
+    /// An allocation failed. The engine is unchanged.
     pub fn reserve(&mut self) -> Result<(), AllocError>
         ensures ok { OnOk result (self.new ≡ record self.old { ready = true }) }
         ensures err { OnErr result (self.new ≡ self.old) }
@@ -113,34 +125,40 @@ impl<T: Tracker> Engine<T> {
         Ok(())
     }
 
-    /// Takes a record, and tells how it ends: with room made by `reserve`, or here. On `Err`, which
-    /// comes only for want of memory, the engine is as it was.
+    /// Processes one record, and returns its outcome.
+    ///
+    /// # Errors
+    /// An allocation failed; never after `reserve`. The engine is unchanged.
     pub fn step(&mut self, record: &Record) -> Result<Outcome, AllocError>
         requires few { self.old.records < 4294967296 }
-        // Whatever story the engine stands for, it then stands for that story and the one entry that follows.
-        ensures represents { (history : List Entry) → Represents self.old history → IfOk result (λ outcome. (e : Entry) × Next self.old.setup history (recorded_of record.now) e × Represents self.new (e ∷ history) × (outcome ≡ e.outcome)) }
+        // An engine that represents a history then represents it with the record's entry.
+        ensures represents { (history : List Entry) → Represents self.old history
+            → IfOk result (λ outcome. (e : Entry)
+            × Next self.old.setup history (recorded_of record.now) e
+            × Represents self.new (e ∷ history) × (outcome ≡ e.outcome)) }
         ensures setup { self.new.setup ≡ self.old.setup }
         ensures records { OnOk result (self.new.records ≡ self.old.records + 1) }
-        // All runs of rules on the record together start no more statements than the ruleset costs.
-        ensures ticks { (cost : TableTree → Caller → ℕ) → AreAllCosts self.old.setup.rules cost → self.new.ticks ≤ self.old.ticks + ruleset_cost cost self.old.setup.rules }
+        // The record evaluates no more statements than the ruleset's cost.
+        ensures ticks { (cost : TableTree → Caller → ℕ) → AreAllCosts self.old.setup.rules cost
+            → self.new.ticks ≤ self.old.ticks + ruleset_cost cost self.old.setup.rules }
         ensures no_fewer { self.old.ticks ≤ self.new.ticks }
         ensures err { OnErr result (self.new ≡ self.old) }
-        // After an `Ok` of `reserve` nothing can fail, whatever the record.
+        // After `reserve` it can't fail, whatever the record.
         ensures ready { IsTrue self.old.ready → IsOk result }
     {
-        // What is held is known but for the names that the tracker gives.
+        // The connections held are known but for their ids.
         independent_of_ids();
         one_more_entry();
         none_later();
         mappings_aside();
-        // All growth first: after it nothing can fail.
+        // All allocation first: nothing after it can fail.
         self.reserve()?;
         self.ready = false;
         self.packet.clear();
         self.events.clear();
         let now = self.latest.max(record.moment);
         self.connections.age_all(now);
-        // What its chains cost is known of the ruleset.
+        // The costs of the hooks' chains are bounded by the ruleset's.
         self.setup.hooks.costs();
         let ended = process_record(
             &self.setup,
@@ -156,8 +174,8 @@ impl<T: Tracker> Engine<T> {
         Ok(ended.outcome)
     }
 
-    /// The packet that the last record sent on, with the moment and the interface; none where it
-    /// sent none, or before a record.
+    /// The packet that the last record forwarded, with its time and output interface; `None` where
+    /// there is none.
     pub fn leaving(&self) -> Option<Leaving<'_>>
         ensures sends { sent_packets result ≡ sends_of self.now.newest }
         ensures fits { IfSome result (λ leaving. IsSent (sent leaving)) }
@@ -170,18 +188,19 @@ impl<T: Tracker> Engine<T> {
         })
     }
 
-    /// The packet that the last record sent on; empty where it sent none, or before a record.
+    /// The packet that the last record forwarded; empty where there is none.
     pub fn packet(&self) -> &[u8]
         ensures { result.now ≡ packet_of self.now.newest }
     {
         &self.packet
     }
 
-    /// What is told of the last record; none before one.
+    /// The entry of the last record; `None` before the first.
     pub fn entry(&self) -> Option<history::Entry<'_>>
-        // Whatever story the engine stands for, it is the newest entry of that story.
-        ensures newest { (history : List Entry) → Represents self.now history → IsNewest result history }
-        // The chains that one record meets make no more events than a ruleset may cost.
+        // It is the newest entry of each history that the engine represents.
+        ensures newest { (history : List Entry) → Represents self.now history
+            → IsNewest result history }
+        // A record has no more events than a ruleset may cost.
         ensures few { IfSome result (λ entry. length entry.events.now ≤ 65536) }
     {
         let ended = self.ended?;
@@ -194,38 +213,42 @@ impl<T: Tracker> Engine<T> {
         })
     }
 
-    /// How many connections are alive at the moment of the last record.
+    /// The number of connections alive at the time of the last record.
     pub fn live(&self) -> usize
-        ensures { (history : List Entry) → Represents self.now history → result ≡ length (live_in self.now.setup history) }
+        ensures { (history : List Entry) → Represents self.now history
+            → result ≡ length (live_in self.now.setup history) }
     {
         independent_of_ids();
         self.connections.live()
     }
 
-    /// The connections that are alive at the moment of the last record, in the order in which they
-    /// were begun.
+    /// The connections alive at the time of the last record, in the order in which they began.
+    ///
+    /// # Errors
+    /// An allocation failed.
     pub fn connections(&self, alloc: Global) -> Result<Vec<Connection>, AllocError>
-        ensures { (history : List Entry) → Represents self.now history → IfOk result (λ all. all.items ≡ map connection_of (live_in self.now.setup history)) }
+        ensures { (history : List Entry) → Represents self.now history → IfOk result (λ all.
+            all.items ≡ map connection_of (live_in self.now.setup history)) }
     {
         independent_of_ids();
         self.connections.list(alloc)
     }
 
-    /// Its rules.
+    /// The ruleset.
     pub fn rules(&self) -> &Ruleset
         ensures { tables_of result.now ≡ self.now.setup.rules }
     {
         self.setup.hooks.checked().tree()
     }
 
-    /// What is known of its rules: nothing is wrong with them. It does nothing.
+    /// The law that the ruleset is well-formed. It does nothing.
     pub fn judged(&self)
         ensures { WellFormed self.now.setup.rules self.now.setup.plant }
     {
         self.setup.hooks.checked().known_bounds();
     }
 
-    /// How many records it took.
+    /// The number of records processed.
     pub fn records(&self) -> u64
         ensures { result ≡ self.now.records }
     {

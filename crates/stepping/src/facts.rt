@@ -1,4 +1,4 @@
-//! What rules may read of a packet.
+//! What rules read of a packet.
 ghost use Rattle.std.specs.Prelude.{◌≡◌, ◌-◌, Some, None};
 ghost use Rattle.std.specs.Option.{option_map};
 ghost use Rattle.box_file.specs.Box.{name_of};
@@ -11,10 +11,11 @@ use ip_headers::View;
 use nft_values::name_number;
 use rule_meaning::{CtFacts, Facts, Interface, Packet};
 
-/// The interface of the index, if the box has it.
+/// The interface of this index, if the box has it.
 #[inline(always)]
 pub fn interface_of(plant: &Plant, index: u32) -> Option<Interface>
-    ensures { result ≡ option_map (λ name. interface_facts plant.now index) (name_of plant.now index) }
+    ensures { result ≡ option_map (λ name. interface_facts plant.now index)
+        (name_of plant.now index) }
 {
     let name = plant.name(index)?;
     Some(Interface {
@@ -23,7 +24,7 @@ pub fn interface_of(plant: &Plant, index: u32) -> Option<Interface>
     })
 }
 
-/// An interface of the box, by its index.
+/// The interface of this index, which the box has.
 #[inline(always)]
 pub fn interface_facts(plant: &Plant, index: u32) -> Interface
     ensures { result ≡ interface_facts plant.now index }
@@ -35,10 +36,16 @@ pub fn interface_facts(plant: &Plant, index: u32) -> Interface
     Interface { index, name }
 }
 
-/// On arrival by the interface: nothing is known of its way or its connection, and its mark is 0.
+/// The facts of a received packet: not routed, not looked up, mark 0.
 #[inline(always)]
 pub fn initial_facts(view: &View, input: Interface) -> Facts
-    ensures { result ≡ record { packet = packet_facts view.now.packet.now; input = input; output = None; mark = 0; ct = NotLookedUp } }
+    ensures { result ≡ record {
+      packet = packet_facts view.now.packet.now;
+      input = input;
+      output = None;
+      mark = 0;
+      ct = NotLookedUp;
+    } }
 {
     Facts {
         packet: packet_facts(view),
@@ -49,7 +56,7 @@ pub fn initial_facts(view: &View, input: Interface) -> Facts
     }
 }
 
-/// Its connection was looked for.
+/// Sets the conntrack facts after the look-up.
 #[inline(always)]
 pub fn set_ct(facts: &mut Facts, ct: CtFacts)
     ensures { facts.new ≡ with_ct ct facts.old }
@@ -57,16 +64,20 @@ pub fn set_ct(facts: &mut Facts, ct: CtFacts)
     facts.ct = ct;
 }
 
-/// It is sent on: the way is known, and the TTL is one lower (RFC 1812, section 5.3.1).
+/// Sets the output interface of a forwarded packet and decrements its TTL (RFC 1812, section
+/// 5.3.1).
 #[inline(always)]
 pub fn set_output(facts: &mut Facts, output: Interface)
-    ensures { facts.new ≡ record facts.old { output = Some output; packet = record facts.old.packet { ttl = facts.old.packet.ttl - 1 } } }
+    ensures { facts.new ≡ record facts.old {
+      output = Some output;
+      packet = record facts.old.packet { ttl = facts.old.packet.ttl - 1 };
+    } }
 {
     facts.output = Some(output);
     facts.packet.ttl = facts.packet.ttl.saturating_sub(1);
 }
 
-/// The mark of the connection, as written last; 0 where there is none.
+/// The connection's mark, as last set; 0 without a connection.
 pub fn mark_in(ct: CtFacts) -> u32
     ensures { result ≡ mark_in ct }
 {
@@ -77,7 +88,7 @@ pub fn mark_in(ct: CtFacts) -> u32
     }
 }
 
-/// The fields of its headers.
+/// The header fields.
 #[inline(always)]
 fn packet_facts(view: &View) -> Packet
     ensures { result ≡ packet_facts view.now.packet.now }

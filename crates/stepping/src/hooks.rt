@@ -1,4 +1,4 @@
-//! How the rules lead a packet that was looked up.
+//! The hooks after the look-up, with routing between them.
 ghost use Rattle.std.specs.Prelude.{◌≡◌, List};
 ghost use Rattle.ip_headers.specs.declared.tuple.Mapping.{Mapping};
 ghost use Rattle.nat_mapping.specs.Mappings.{HoldsSame};
@@ -19,25 +19,27 @@ use nat_mapping::Mappings;
 use rule_meaning::{Facts, Packet};
 use translation::CtInfo;
 
-/// Where a packet goes that isn't dropped.
+/// Where a packet goes.
 #[derive(Clone, Copy)]
 pub enum RoutingDecision {
-    /// To the box itself.
+    /// Delivered to the box itself.
     Local,
-    /// Out of the box, by the interface of this index.
-    Passed(u32),
+    /// Forwarded, by the interface of this index.
+    Forward(u32),
 }
 
-/// How the rules lead a packet that they let through.
+/// The result of the hooks for a packet that they let through.
 #[derive(Clone, Copy)]
 pub struct HooksPassed {
     pub decision: RoutingDecision,
-    /// The mark that its connection has by then.
+    /// The mark of its connection.
     pub mark: u32,
 }
 
-/// Leads a packet on this way through the rules, or tells the cause for which it is dropped. What is
-/// translated on the way shows in its way and in what rules may read of it.
+/// Runs the hooks after the look-up, updating the packet's state and facts in place.
+///
+/// # Errors
+/// The cause for which the packet is dropped.
 #[inline(always)]
 pub fn run_hooks(
     setup: &Setup,
@@ -48,8 +50,10 @@ pub fn run_hooks(
 ) -> Result<HooksPassed, Cause>
     requires room { HasRoom events.old (hooks_cost setup.now.hooks.costs) }
     ensures runs_hooks { (held : List Mapping) → HoldsSame held mappings.now.held
-        → RunsHooks (setup_in setup.now.hooks) held info.old facts.old events.old.events (path_result_of result info.new events.new.events) }
-    ensures fits { (held : List Mapping) → HoldsSame held mappings.now.held → Fits info.old held → Fits info.new held }
+        → RunsHooks (setup_in setup.now.hooks) held info.old facts.old events.old.events
+        (path_result_of result info.new events.new.events) }
+    ensures fits { (held : List Mapping) → HoldsSame held mappings.now.held → Fits info.old held
+        → Fits info.new held }
     ensures same { untranslated info.new ≡ untranslated info.old }
     ensures spent { Spends events.old events.new (hooks_cost setup.now.hooks.costs) }
 {
@@ -57,7 +61,7 @@ pub fn run_hooks(
     after_prerouting(setup, mappings, info, facts, events)
 }
 
-/// Runs a packet through the chains on prerouting that come after its look-up.
+/// Runs the prerouting chains after the look-up, with destination NAT at its priority.
 #[inline(always)]
 fn prerouting(
     setup: &Setup,
@@ -68,8 +72,10 @@ fn prerouting(
 ) -> Result<(), Cause>
     requires room { HasRoom events.old (prerouting_cost setup.now.hooks.costs) }
     ensures traverses { (held : List Mapping) → HoldsSame held mappings.now.held
-        → Traverses (RunsPrerouting (setup_in setup.now.hooks) held info.old info.new) facts.old events.old.events result facts.new events.new.events }
-    ensures fits { (held : List Mapping) → HoldsSame held mappings.now.held → Fits info.old held → Fits info.new held }
+        → Traverses (RunsPrerouting (setup_in setup.now.hooks) held info.old info.new) facts.old
+        events.old.events result facts.new events.new.events }
+    ensures fits { (held : List Mapping) → HoldsSame held mappings.now.held → Fits info.old held
+        → Fits info.new held }
     ensures same { untranslated info.new ≡ untranslated info.old }
     ensures spent { Spends events.old events.new (prerouting_cost setup.now.hooks.costs) }
 {
@@ -78,7 +84,7 @@ fn prerouting(
     setup.run(HookStage::PreroutingAfterNat, facts, events)
 }
 
-/// Leads on a packet that has arrived.
+/// Routes a packet and runs the hooks behind the routing decision.
 #[inline(always)]
 fn after_prerouting(
     setup: &Setup,
@@ -88,9 +94,12 @@ fn after_prerouting(
     events: &mut Events,
 ) -> Result<HooksPassed, Cause>
     requires room { HasRoom events.old (after_routing_cost setup.now.hooks.costs) }
-    ensures runs_hooks { (held : List Mapping) → HoldsSame held mappings.now.held → (verdict : HookVerdict)
-        → RunsAfterPrerouting (setup_in setup.now.hooks) held info.old (record { verdict = verdict; facts = facts.old; events = events.old.events }) (path_result_of result info.new events.new.events) }
-    ensures fits { (held : List Mapping) → HoldsSame held mappings.now.held → Fits info.old held → Fits info.new held }
+    ensures runs_hooks { (held : List Mapping) → HoldsSame held mappings.now.held
+        → (verdict : HookVerdict) → RunsAfterPrerouting (setup_in setup.now.hooks) held info.old
+        (record { verdict = verdict; facts = facts.old; events = events.old.events })
+        (path_result_of result info.new events.new.events) }
+    ensures fits { (held : List Mapping) → HoldsSame held mappings.now.held → Fits info.old held
+        → Fits info.new held }
     ensures same { untranslated info.new ≡ untranslated info.old }
     ensures spent { Spends events.old events.new (after_routing_cost setup.now.hooks.costs) }
 {
@@ -102,7 +111,10 @@ fn after_prerouting(
     })
 }
 
-/// Where a packet goes that has arrived: to the box itself, or by its route, with a hop left.
+/// The routing decision, by the destination after NAT.
+///
+/// # Errors
+/// `Route` without a route, `Ttl` where the TTL is below 2.
 #[inline(always)]
 fn routing_decision(plant: &Plant, packet: &Packet) -> Result<RoutingDecision, Cause>
     ensures { result ≡ routing_decision plant.now packet.now }
@@ -116,10 +128,10 @@ fn routing_decision(plant: &Plant, packet: &Packet) -> Result<RoutingDecision, C
     if packet.ttl < 2 {
         return Err(Cause::Ttl);
     }
-    Ok(RoutingDecision::Passed(interface))
+    Ok(RoutingDecision::Forward(interface))
 }
 
-/// Runs a packet through the chains on its way: those of input, or those of forward and postrouting.
+/// Runs input, or forward and postrouting.
 #[inline(always)]
 fn after_routing(
     setup: &Setup,
@@ -131,14 +143,16 @@ fn after_routing(
 ) -> Result<(), Cause>
     requires room { HasRoom events.old (after_routing_cost setup.now.hooks.costs) }
     ensures traverses { (held : List Mapping) → HoldsSame held mappings.now.held
-        → Traverses (RunsAfterRouting (setup_in setup.now.hooks) held info.old info.new decision) facts.old events.old.events result facts.new events.new.events }
-    ensures fits { (held : List Mapping) → HoldsSame held mappings.now.held → Fits info.old held → Fits info.new held }
+        → Traverses (RunsAfterRouting (setup_in setup.now.hooks) held info.old info.new decision)
+        facts.old events.old.events result facts.new events.new.events }
+    ensures fits { (held : List Mapping) → HoldsSame held mappings.now.held → Fits info.old held
+        → Fits info.new held }
     ensures same { untranslated info.new ≡ untranslated info.old }
     ensures spent { Spends events.old events.new (after_routing_cost setup.now.hooks.costs) }
 {
     match decision {
         RoutingDecision::Local => setup.run(HookStage::Input, facts, events),
-        RoutingDecision::Passed(interface) => {
+        RoutingDecision::Forward(interface) => {
             let output = interface_facts(setup.plant(), interface);
             set_output(facts, output);
             forward_and_postrouting(setup, mappings, info, facts, events)
@@ -146,7 +160,7 @@ fn after_routing(
     }
 }
 
-/// Runs a packet through the chains on forward and then those on postrouting.
+/// Runs forward and then postrouting, with source NAT at its priority.
 #[inline(always)]
 fn forward_and_postrouting(
     setup: &Setup,
@@ -157,8 +171,10 @@ fn forward_and_postrouting(
 ) -> Result<(), Cause>
     requires room { HasRoom events.old (after_routing_cost setup.now.hooks.costs) }
     ensures traverses { (held : List Mapping) → HoldsSame held mappings.now.held
-        → Traverses (RunsForwardAndPostrouting (setup_in setup.now.hooks) held info.old info.new) facts.old events.old.events result facts.new events.new.events }
-    ensures fits { (held : List Mapping) → HoldsSame held mappings.now.held → Fits info.old held → Fits info.new held }
+        → Traverses (RunsForwardAndPostrouting (setup_in setup.now.hooks) held info.old info.new)
+        facts.old events.old.events result facts.new events.new.events }
+    ensures fits { (held : List Mapping) → HoldsSame held mappings.now.held → Fits info.old held
+        → Fits info.new held }
     ensures same { untranslated info.new ≡ untranslated info.old }
     ensures spent { Spends events.old events.new (after_routing_cost setup.now.hooks.costs) }
 {

@@ -1,4 +1,4 @@
-//! One record at a time: what a forwarding box with its rules makes of it.
+//! Processes a capture record by record, as a forwarding box with a ruleset would.
 #![tactic(auto)]
 
 mod arrival;
@@ -10,7 +10,7 @@ mod laws;
 mod lookup;
 mod lookup_key;
 mod nat;
-mod process_record;
+mod process;
 mod setup;
 
 pub use engine::Engine;

@@ -1,4 +1,4 @@
-//! What a packet belongs to, among the connections that are alive.
+//! The connection look-up of a packet.
 ghost use Rattle.std.specs.Prelude.{◌≡◌, IsTrue};
 ghost use Rattle.std.specs.Option.{option_map};
 ghost use Rattle.conntrack.specs.ConntrackEntry.{IsNoneLater, live_at};
@@ -18,17 +18,17 @@ use ip_headers::View;
 use rule_meaning::CtFacts;
 use translation::CtInfo;
 
-/// What the look-up of a packet found.
+/// The result of a look-up.
 #[derive(Clone, Copy)]
 pub struct LookupResult {
-    /// What it belongs to: nothing, where it has no tuple, as an ICMP error.
+    /// What the tuple belongs to; nothing for a packet without one, such as an ICMP error.
     pub belonging: Belonging,
-    /// How it stands to connections then.
+    /// The packet's state.
     pub info: CtInfo,
 }
 
-/// Looks a packet up at a moment at which all that is held is live, unless a rule had it pass
-/// untracked: then nothing is asked of connections, whatever it carries.
+/// Looks up a packet's connection, unless a `notrack` statement was evaluated. All connections held
+/// are live at `now`.
 pub fn look_up_packet<T: Tracker>(
     connections: &mut ConnectionTable<T>,
     ct: CtFacts,
@@ -38,14 +38,19 @@ pub fn look_up_packet<T: Tracker>(
     requires live { live_at connections.old.limits now connections.old.held ≡ connections.old.held }
     requires later { IsNoneLater now connections.old.held }
     requires room { IsTrue connections.old.has_room }
-    ensures belonging { result.belonging ≡ belonging_in (unless_notrack ct (lookup_of connections.old.held view.now.packet.now)) }
-    ensures info { result.info ≡ ct_info_unless_notrack ct (ct_info_of connections.old.held view.now.packet.now (lookup_of connections.old.held view.now.packet.now)) }
-    ensures held { connections.new.held ≡ others_in connections.old.held (unless_notrack ct (lookup_of connections.old.held view.now.packet.now)) }
+    ensures belonging { result.belonging
+        ≡ belonging_in (unless_notrack ct (lookup_of connections.old.held view.now.packet.now)) }
+    ensures info { result.info ≡ ct_info_unless_notrack ct (ct_info_of connections.old.held
+        view.now.packet.now (lookup_of connections.old.held view.now.packet.now)) }
+    ensures held { connections.new.held
+        ≡ others_in connections.old.held (unless_notrack ct
+        (lookup_of connections.old.held view.now.packet.now)) }
     ensures limits { connections.new.limits ≡ connections.old.limits }
     ensures later { IsNoneLater now connections.new.held }
     ensures room { IsTrue connections.new.has_room }
-    // The last step can count it, or begin its connection, however it was translated.
-    ensures open { (after : TheCtInfo) → untranslated after ≡ untranslated result.info → CanConfirm result.belonging after connections.new.held }
+    // It can be confirmed, whatever NAT does to it.
+    ensures open { (after : TheCtInfo) → untranslated after ≡ untranslated result.info
+        → CanConfirm result.belonging after connections.new.held }
     ensures fits { Fits result.info (mappings_in connections.new.held) }
 {
     match ct {
@@ -59,9 +64,8 @@ pub fn look_up_packet<T: Tracker>(
     }
 }
 
-/// Looks a packet up at a moment at which all that is held is live. A lone SYN ends the closing
-/// connection that it came on, whatever rules make of it. An ICMP error may be about a connection,
-/// of which it is none of the packets.
+/// Looks up a packet by its key, or without one as an ICMP error. All connections held are live at
+/// `now`. A lone SYN removes the closing connection that it belongs to, whatever the rules do.
 fn look_up<T: Tracker>(
     connections: &mut ConnectionTable<T>,
     lookup_key: Option<LookupKey>,
@@ -71,14 +75,18 @@ fn look_up<T: Tracker>(
     requires live { live_at connections.old.limits now connections.old.held ≡ connections.old.held }
     requires later { IsNoneLater now connections.old.held }
     requires room { IsTrue connections.old.has_room }
-    ensures belonging { result.belonging ≡ belonging_in (option_map (look_up connections.old.held) lookup_key) }
-    ensures info { result.info ≡ ct_info_of connections.old.held view.now.packet.now (option_map (look_up connections.old.held) lookup_key) }
-    ensures held { connections.new.held ≡ others_in connections.old.held (option_map (look_up connections.old.held) lookup_key) }
+    ensures belonging { result.belonging
+        ≡ belonging_in (option_map (look_up connections.old.held) lookup_key) }
+    ensures info { result.info ≡ ct_info_of connections.old.held view.now.packet.now
+        (option_map (look_up connections.old.held) lookup_key) }
+    ensures held { connections.new.held
+        ≡ others_in connections.old.held (option_map (look_up connections.old.held) lookup_key) }
     ensures limits { connections.new.limits ≡ connections.old.limits }
     ensures later { IsNoneLater now connections.new.held }
     ensures room { IsTrue connections.new.has_room }
-    // The last step can count it, or begin its connection, however it was translated.
-    ensures open { (after : TheCtInfo) → untranslated after ≡ untranslated result.info → CanConfirm result.belonging after connections.new.held }
+    // It can be confirmed, whatever NAT does to it.
+    ensures open { (after : TheCtInfo) → untranslated after ≡ untranslated result.info
+        → CanConfirm result.belonging after connections.new.held }
     ensures fits { Fits result.info (mappings_in connections.new.held) }
 {
     match lookup_key {
@@ -96,10 +104,11 @@ fn look_up<T: Tracker>(
     }
 }
 
-/// How a packet stands to connections that has no tuple: it may be an ICMP error about one.
+/// The state of a packet without a tuple: RELATED for an ICMP error about a live connection.
 fn error_ct_info<T: Tracker>(connections: &ConnectionTable<T>, view: &View, now: Moment) -> CtInfo
     requires live { live_at connections.now.limits now connections.now.held ≡ connections.now.held }
-    ensures { result ≡ error_ct_info (error_belonging connections.now.held (inner_tuple_of view.now.packet.now)) }
+    ensures { result ≡ error_ct_info (error_belonging connections.now.held
+        (inner_tuple_of view.now.packet.now)) }
 {
     match view.inner_tuple() {
         Some(inner) => CtInfo::of_error(connections.look_up_error(inner, now)),

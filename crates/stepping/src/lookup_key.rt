@@ -1,19 +1,19 @@
-//! What a packet's connection is looked up by.
+//! The key of a connection look-up.
 ghost use Rattle.std.specs.Prelude.{◌≡◌};
 ghost use Rattle.stepping.specs.Lookups.{flags_in, lookup_key_of};
 
 use conntrack::Flags;
 use ip_headers::{Transport, Tuple, View};
 
-/// What a packet's connection is looked up by.
+/// The key of a connection look-up.
 #[derive(Clone, Copy)]
 pub struct LookupKey {
     pub tuple: Tuple,
-    /// None of them, for a packet of another protocol than TCP.
+    /// TCP flags; none set for other protocols.
     pub flags: Flags,
 }
 
-/// What the packet's connection is looked up by; `None` where it has no tuple.
+/// The packet's look-up key; `None` where it has no tuple.
 #[inline(always)]
 pub fn lookup_key_of(view: &View) -> Option<LookupKey>
     ensures { result ≡ lookup_key_of view.now.packet.now }
@@ -25,7 +25,7 @@ pub fn lookup_key_of(view: &View) -> Option<LookupKey>
     })
 }
 
-/// The flags of TCP.
+/// The TCP flags that conntrack reads.
 pub fn flags_in(transport: Transport) -> Flags
     ensures { result ≡ flags_in transport }
 {

@@ -1,4 +1,4 @@
-//! The two steps at which a packet is translated.
+//! Destination NAT and source NAT with their nat chains.
 ghost use Rattle.std.specs.Prelude.{◌≡◌, List};
 ghost use Rattle.std.specs.declared.option.Option.{Option};
 ghost use Rattle.ip_headers.specs.declared.tuple.Mapping.{Mapping};
@@ -19,8 +19,8 @@ use translation::{
     CtInfo, apply_destination_nat, apply_source_nat, update_destination, update_source,
 };
 
-/// Translates the destination: the nat chains of prerouting are asked of the first packet of a
-/// connection. What is changed is its way and what rules may read of it.
+/// Destination NAT: runs the nat chains of prerouting for a new connection, and updates the
+/// packet's state and facts in place.
 #[inline(always)]
 pub fn translate_destination(
     setup: &Setup,
@@ -31,8 +31,10 @@ pub fn translate_destination(
 ) -> Result<(), Cause>
     requires room { HasRoom events.old setup.now.hooks.costs.prerouting_nat }
     ensures traverses { (held : List Mapping) → HoldsSame held mappings.now.held
-        → Traverses (RunsDestinationNat (setup_in setup.now.hooks) held info.old info.new) facts.old events.old.events result facts.new events.new.events }
-    ensures fits { (held : List Mapping) → HoldsSame held mappings.now.held → Fits info.old held → Fits info.new held }
+        → Traverses (RunsDestinationNat (setup_in setup.now.hooks) held info.old info.new) facts.old
+        events.old.events result facts.new events.new.events }
+    ensures fits { (held : List Mapping) → HoldsSame held mappings.now.held → Fits info.old held
+        → Fits info.new held }
     ensures same { untranslated info.new ≡ untranslated info.old }
     ensures spent { Spends events.old events.new setup.now.hooks.costs.prerouting_nat }
 {
@@ -42,8 +44,11 @@ pub fn translate_destination(
     verdict_result(destination_verdict(verdict))
 }
 
-/// Translates the source: the nat chains of postrouting are asked of the first packet of a connection.
-/// `NoPort` where no port is left for it.
+/// Source NAT: runs the nat chains of postrouting for a new connection, and updates the packet's
+/// state and facts in place.
+///
+/// # Errors
+/// `NoPort` where no port is free.
 #[inline(always)]
 pub fn translate_source(
     setup: &Setup,
@@ -54,8 +59,10 @@ pub fn translate_source(
 ) -> Result<(), Cause>
     requires room { HasRoom events.old setup.now.hooks.costs.postrouting_nat }
     ensures traverses { (held : List Mapping) → HoldsSame held mappings.now.held
-        → Traverses (RunsSourceNat (setup_in setup.now.hooks) held info.old info.new) facts.old events.old.events result facts.new events.new.events }
-    ensures fits { (held : List Mapping) → HoldsSame held mappings.now.held → Fits info.old held → Fits info.new held }
+        → Traverses (RunsSourceNat (setup_in setup.now.hooks) held info.old info.new) facts.old
+        events.old.events result facts.new events.new.events }
+    ensures fits { (held : List Mapping) → HoldsSame held mappings.now.held → Fits info.old held
+        → Fits info.new held }
     ensures same { untranslated info.new ≡ untranslated info.old }
     ensures spent { Spends events.old events.new setup.now.hooks.costs.postrouting_nat }
 {
@@ -66,29 +73,29 @@ pub fn translate_source(
     verdict_result(source_verdict(verdict, found))
 }
 
-/// Asks the nat chains of a hook what becomes of a packet, if it is the first of a connection; else
-/// none of them sees it.
+/// Runs the nat chains of a hook for a new connection; no other packet sees them.
 #[inline(always)]
 fn run_nat_chains(
     setup: &Setup,
-    part: HookStage,
+    stage: HookStage,
     info: &CtInfo,
     facts: &mut Facts,
     events: &mut Events,
 ) -> HookVerdict
-    requires room { HasRoom events.old (stage_cost setup.now.hooks part) }
-    ensures asked { (hook : Hook) → IsNatStage part hook → RunsNatChains (setup_in setup.now.hooks) hook info.now facts.old events.old.events
+    requires room { HasRoom events.old (stage_cost setup.now.hooks stage) }
+    ensures asked { (hook : Hook) → IsNatStage stage hook
+        → RunsNatChains (setup_in setup.now.hooks) hook info.now facts.old events.old.events
         (record { verdict = result; facts = facts.new; events = events.new.events }) }
-    ensures spent { Spends events.old events.new (stage_cost setup.now.hooks part) }
+    ensures spent { Spends events.old events.new (stage_cost setup.now.hooks stage) }
 {
     match info {
-        CtInfo::New(_) => setup.hooks.run(part, facts, events),
+        CtInfo::New(_) => setup.hooks.run(stage, facts, events),
         CtInfo::Tracked(_) | CtInfo::Related(_) | CtInfo::Invalid | CtInfo::Untracked =>
             HookVerdict::Accepted,
     }
 }
 
-/// What the chains drop goes no further; all else goes on.
+/// The verdict after destination NAT: only a drop stops the packet.
 fn destination_verdict(verdict: HookVerdict) -> HookVerdict
     ensures { result ≡ destination_verdict verdict }
 {
@@ -98,7 +105,7 @@ fn destination_verdict(verdict: HookVerdict) -> HookVerdict
     }
 }
 
-/// Where no port is left, a packet goes no further.
+/// The verdict after source NAT: a drop, or no free port, stops the packet.
 fn source_verdict(verdict: HookVerdict, found: Option<CtInfo>) -> HookVerdict
     ensures { result ≡ source_verdict verdict found }
 {

@@ -1,4 +1,4 @@
-//! What a box was set up with, made ready to take packets.
+//! The configuration of a box, compiled.
 ghost use Rattle.std.specs.Prelude.{◌≡◌, ◌≤◌, ℕ, IfOk, IfSome};
 ghost use Rattle.std.specs.Option.{option_map};
 ghost use Rattle.nft_tree.specs.Tree.{TableTree};
@@ -17,18 +17,21 @@ use rule_check::Checked;
 use rule_meaning::{Facts, HookVerdict, Interface};
 use std::alloc::{AllocError, Global};
 
-/// A box with its rules, ready to run, and the interface that packets enter by where no link header
-/// tells one.
+/// The compiled chains of a box, and the input interface of packets whose link header has none.
 #[derive(Drop)]
 pub struct Setup {
     pub hooks: HookRuns,
     pub entering: Interface,
     pub ghost enters: { entering ≡ interface_facts hooks.plant hooks.plant.entering },
-    pub ghost costs: { (cost : TableTree → Caller → ℕ) → AreAllCosts hooks.rules cost → total_stage_cost hooks ≤ ruleset_cost cost hooks.rules },
+    pub ghost costs: { (cost : TableTree → Caller → ℕ) → AreAllCosts hooks.rules cost
+        → total_stage_cost hooks ≤ ruleset_cost cost hooks.rules },
 }
 
 impl Setup {
-    /// On `Err`, which comes only for want of memory, the ruleset is dropped.
+    /// Compiles a checked ruleset.
+    ///
+    /// # Errors
+    /// An allocation failed. The ruleset is dropped.
     pub fn new(alloc: Global, checked: Checked) -> Result<Self, AllocError>
         ensures { IfOk result (λ setup. setup_in setup.hooks ≡ setup_of checked) }
     {
@@ -38,19 +41,21 @@ impl Setup {
         Ok(Setup { hooks, entering })
     }
 
-    /// The box.
+    /// The box file.
     pub fn plant(&self) -> &Plant
         ensures { result.now ≡ self.now.hooks.plant }
     {
         self.hooks.checked().plant()
     }
 
-    /// The interface that a packet entered by: the one that its link header tells, if the box has it;
-    /// where none is told, the one that the box file names.
+    /// The input interface: the link header's, if the box has it; without one the box file's
+    /// default.
     #[inline(always)]
     pub fn input_interface(&self, link_interface: Option<u32>) -> Option<Interface>
-        ensures index { option_map (λ input. input.index) result ≡ input_interface (setup_in self.now.hooks) link_interface }
-        ensures known { IfSome result (λ input. input ≡ interface_facts self.now.hooks.plant input.index) }
+        ensures index { option_map (λ input. input.index) result
+            ≡ input_interface (setup_in self.now.hooks) link_interface }
+        ensures known { IfSome result (λ input.
+            input ≡ interface_facts self.now.hooks.plant input.index) }
     {
         match link_interface {
             Some(index) => interface_of(self.plant(), index),
@@ -58,20 +63,24 @@ impl Setup {
         }
     }
 
-    /// Runs a packet through the chains of a part, which change in place what rules may read of it; or
-    /// tells that a rule or a policy drops it.
+    /// Runs the chains of a stage, which update the facts in place.
+    ///
+    /// # Errors
+    /// The cause for which the packet is dropped.
     #[inline(always)]
-    pub fn run(&self, part: HookStage, facts: &mut Facts, events: &mut Events) -> Result<(), Cause>
-        requires room { HasRoom events.old (stage_cost self.now.hooks part) }
-        ensures traverses { Traverses (Chains self.now.hooks.plant self.now.hooks.rules (chains_in_stage part)) facts.old events.old.events result facts.new events.new.events }
-        ensures spent { Spends events.old events.new (stage_cost self.now.hooks part) }
+    pub fn run(&self, stage: HookStage, facts: &mut Facts, events: &mut Events) -> Result<(), Cause>
+        requires room { HasRoom events.old (stage_cost self.now.hooks stage) }
+        ensures traverses { Traverses
+            (Chains self.now.hooks.plant self.now.hooks.rules (chains_in_stage stage)) facts.old
+            events.old.events result facts.new events.new.events }
+        ensures spent { Spends events.old events.new (stage_cost self.now.hooks stage) }
     {
-        verdict_result(self.hooks.run(part, facts, events))
+        verdict_result(self.hooks.run(stage, facts, events))
     }
 }
 
-/// Whether a packet goes on that met this end: a rule or a policy may have dropped it, or no port was
-/// left for it.
+/// The result of a hook's verdict: `Rule` for a drop, `NoPort` for a translation without a free
+/// port.
 #[inline(always)]
 pub fn verdict_result(verdict: HookVerdict) -> Result<(), Cause>
     ensures { result ≡ verdict_result verdict }

@@ -1,4 +1,4 @@
--- The mappings of connections don't show their names.
+-- The mappings of connections don't depend on their ids.
 use Rattle.std.proofs.Common.{◌≡◌, List, [], ◌∷◌, ◌++◌, map, refl, sym, ap, ◌∙◌}
 use Rattle.std.specs.List.{flat_map}
 use Rattle.ip_headers.specs.declared.tuple.Mapping.{Mapping}

@@ -1,4 +1,4 @@
--- How a packet stands to connections, between which endpoints it goes by now, and what rules may read of that.
+-- A packet's state in connection tracking, its tuple, and what rules read of both.
 use Rattle.std.specs.Prelude.{ℕ, Bool, false, not, ◌||◌, ◌==◌, if◌then◌else◌, List, Some, None}
 use Rattle.ip_headers.specs.declared.transport.Transport.{Transport}
 use Rattle.ip_headers.specs.declared.transport.Transport.TheVariants as transports
@@ -25,16 +25,16 @@ use Rattle.rule_meaning.specs.declared.facts.CtState.TheVariants as states
 use Rattle.rule_meaning.specs.declared.facts.CtDirection as facts_direction
 use Rattle.rule_meaning.specs.declared.facts.CtDirection.TheVariants as directions
 use Rattle.rule_meaning.specs.declared.facts.CtFacts.{CtFacts}
-use Rattle.rule_meaning.specs.declared.facts.CtFacts.TheVariants.{NotLookedUp, Notrack, Invalid, Known}
-use Rattle.rule_meaning.specs.declared.facts.CtFacts.TheVariants as trackings
+use Rattle.rule_meaning.specs.declared.facts.CtFacts.TheVariants.{Known}
+use Rattle.rule_meaning.specs.declared.facts.CtFacts.TheVariants as ct_facts
 use Rattle.translation.specs.declared.ct_info.NewConnection.{NewConnection}
 use Rattle.translation.specs.declared.ct_info.TrackedConnection.{TrackedConnection}
 use Rattle.translation.specs.declared.ct_info.CtInfo.{CtInfo}
 use Rattle.translation.specs.declared.ct_info.CtInfo.TheVariants.{Tracked, Related, New, Invalid, Untracked}
 
--- ---- the tuples of a connection
+-- ---- the tuples of a connection (RFC 3022, section 4.1)
 
--- with this one the packets of a direction come
+-- the tuple of a direction's packets as received
 abbrev pub incoming_by : Direction → Tuple → Tuple → Tuple
 incoming_by sides.Original original reply = original
 incoming_by sides.Reply original reply = reply
@@ -42,7 +42,7 @@ incoming_by sides.Reply original reply = reply
 abbrev pub incoming : TrackedConnection → Tuple
 incoming connection = incoming_by connection.direction connection.original connection.reply
 
--- with this one the packets of a direction leave: the inverse of the one with which those of the other direction come
+-- their tuple after NAT: the inverse of the other direction's as received
 abbrev pub outgoing_by : Direction → Tuple → Tuple → Tuple
 outgoing_by sides.Original original reply = inverse reply
 outgoing_by sides.Reply original reply = inverse original
@@ -50,9 +50,9 @@ outgoing_by sides.Reply original reply = inverse original
 abbrev pub outgoing : TrackedConnection → Tuple
 outgoing connection = outgoing_by connection.direction connection.original connection.reply
 
--- ---- how a packet stands to connections
+-- ---- the state of a packet
 
--- as one of its connection, whatever that is called
+-- a connection without its id
 abbrev pub tracked_connection : ConnectionRef → TrackedConnection
 tracked_connection found = record {
   direction = found.direction;
@@ -62,46 +62,42 @@ tracked_connection found = record {
   replied = found.replied;
 }
 
--- nothing is translated yet
+-- before NAT
 abbrev pub new_connection_of : Tuple → NewConnection
 new_connection_of t = record { original = t; tuple = t; source = None; has_port_range = false; dest = None }
 
--- the first packet of a connection is one of which a connection may begin; an answer to no ask is neither
+-- without a connection: an unsolicited echo reply is INVALID (own)
 abbrev pub new_ct_info : LookupState → Tuple → CtInfo
 new_ct_info connection_states.New t = New (new_connection_of t)
-new_ct_info connection_states.Established t = Invalid
-new_ct_info connection_states.Invalid t = Invalid
+new_ct_info _ t = Invalid
 
 abbrev pub ct_info_by : Tuple → Belonging → CtInfo
 ct_info_by t (Found found) = Tracked (tracked_connection found)
 ct_info_by t other = new_ct_info (first_state t.kind) t
 
--- an ICMP error is about a packet of a connection where the way back of that packet is one of the connection
--- (RFC 5508, section 4.2); else it is of none
+-- an ICMP error is RELATED to the connection that has the inverse of its embedded tuple (RFC 5508, section
+-- 4.2), else INVALID
 abbrev pub error_ct_info : Belonging → CtInfo
 error_ct_info (Found found) = Related (tracked_connection found)
 error_ct_info other = Invalid
 
--- as it was when it was found, before anything was translated
+-- the state before NAT
 abbrev pub untranslated : CtInfo → CtInfo
-untranslated (Tracked connection) = Tracked connection
-untranslated (Related connection) = Related connection
 untranslated (New new_connection) = New (new_connection_of new_connection.original)
-untranslated Invalid = Invalid
-untranslated Untracked = Untracked
+untranslated info = info
 
--- ---- what rules may read of its connection (nft(8), "Conntrack expressions")
+-- ---- what rules read of its connection (nft(8), CONNTRACK EXPRESSIONS)
 
 abbrev pub direction_of : Direction → facts_direction.CtDirection
 direction_of sides.Original = directions.Original
 direction_of sides.Reply = directions.Reply
 
--- it is a reply, or comes after one
+-- the packet is a reply, or one was seen before
 abbrev pub is_reply_seen : TrackedConnection → Bool
 is_reply_seen connection = is_reply connection.direction || connection.replied
 
--- of the connection that it belongs to: in direction original its packets leave with the inverse of the reply tuple, so
--- an end is translated where that differs from the one received
+-- of an existing connection: an endpoint is translated where the original direction's tuple after NAT, the
+-- inverse of the reply tuple, differs from the one received
 abbrev pub known_ct_facts : CtState → Bool → TrackedConnection → CtFacts
 known_ct_facts state seen_reply connection = Known (record {
   state = state;
@@ -109,14 +105,16 @@ known_ct_facts state seen_reply connection = Known (record {
   mark = connection.mark;
   seen_reply = seen_reply;
   source_translated = not (same_endpoint (inverse connection.reply).source connection.original.source);
-  destination_translated = not (same_endpoint (inverse connection.reply).destination connection.original.destination);
+  destination_translated = not (same_endpoint (inverse connection.reply).destination
+      connection.original.destination);
 })
 
--- of the one that it is to begin: an end is translated where it is another by now than the one received
+-- of a new one: an endpoint is translated where it differs from the one received
 abbrev pub with_nat_status : NewConnection → ConnectionFacts → ConnectionFacts
 with_nat_status new_connection c = record c {
   source_translated = not (same_endpoint new_connection.tuple.source new_connection.original.source);
-  destination_translated = not (same_endpoint new_connection.tuple.destination new_connection.original.destination);
+  destination_translated = not (same_endpoint new_connection.tuple.destination
+      new_connection.original.destination);
 }
 
 abbrev pub new_ct_facts : NewConnection → ConnectionFacts
@@ -130,86 +128,92 @@ new_ct_facts new_connection = with_nat_status new_connection (record {
 })
 
 abbrev pub ct_facts_of : CtInfo → CtFacts
-ct_facts_of (Tracked connection) = known_ct_facts (if is_reply_seen connection then states.Established else states.New) (is_reply_seen connection) connection
--- an error isn't a reply itself
+ct_facts_of (Tracked connection) =
+    known_ct_facts (if is_reply_seen connection then states.Established else states.New)
+    (is_reply_seen connection) connection
+-- an error doesn't count as a reply
 ct_facts_of (Related connection) = known_ct_facts states.Related connection.replied connection
 ct_facts_of (New new_connection) = Known (new_ct_facts new_connection)
-ct_facts_of Invalid = Invalid
-ct_facts_of Untracked = trackings.Untracked
+ct_facts_of Invalid = ct_facts.Invalid
+ct_facts_of Untracked = ct_facts.Untracked
 
--- once a packet that is to begin a connection was translated: what rules wrote stays
+-- after NAT of a new connection; the mark that rules set stays
 abbrev pub ct_facts_after_nat : CtInfo → CtFacts → CtFacts
 ct_facts_after_nat (New new_connection) (Known c) = Known (with_nat_status new_connection c)
-ct_facts_after_nat (New new_connection) NotLookedUp = NotLookedUp
-ct_facts_after_nat (New new_connection) Notrack = Notrack
-ct_facts_after_nat (New new_connection) trackings.Untracked = trackings.Untracked
-ct_facts_after_nat (New new_connection) Invalid = Invalid
-ct_facts_after_nat (Tracked connection) ct = ct
-ct_facts_after_nat (Related connection) ct = ct
-ct_facts_after_nat Invalid ct = ct
-ct_facts_after_nat Untracked ct = ct
+ct_facts_after_nat _ ct = ct
 
--- ---- what rules may read of its headers
+-- ---- what rules read of its headers
 
 abbrev pub with_source_port : ℕ → Transport → Transport
 with_source_port port (transports.Tcp from to bits) = transports.Tcp port to bits
 with_source_port port (transports.Udp from to) = transports.Udp port to
-with_source_port port (transports.Icmp message) = transports.Icmp message
-with_source_port port transports.Other = transports.Other
+with_source_port port transport = transport
 
 abbrev pub with_destination_port : ℕ → Transport → Transport
 with_destination_port port (transports.Tcp from to bits) = transports.Tcp from port bits
 with_destination_port port (transports.Udp from to) = transports.Udp from port
-with_destination_port port (transports.Icmp message) = transports.Icmp message
-with_destination_port port transports.Other = transports.Other
+with_destination_port port transport = transport
 
 abbrev pub with_source : Endpoint → Packet → Packet
 with_source e p = record p { source = e.address; transport = with_source_port e.port p.transport }
 
 abbrev pub with_destination : Endpoint → Packet → Packet
-with_destination e p = record p { destination = e.address; transport = with_destination_port e.port p.transport }
+with_destination e p = record p {
+  destination = e.address;
+  transport = with_destination_port e.port p.transport;
+}
 
--- an error comes from a host on the way, and goes to the one that sent the packet: its own addresses are translated
--- where they are those of its connection's packets (RFC 5508, section 4.2)
+-- an ICMP error may come from a router: an address of its own is translated only where it is the
+-- connection's (RFC 5508, section 4.2)
 abbrev pub outer_source : TrackedConnection → ℕ → ℕ
-outer_source connection address = if address == (incoming connection).source.address then (outgoing connection).source.address else address
+outer_source connection address =
+    if address == (incoming connection).source.address then (outgoing connection).source.address
+    else address
 
 abbrev pub outer_destination : TrackedConnection → ℕ → ℕ
 outer_destination connection address =
-    if address == (incoming connection).destination.address then (outgoing connection).destination.address else address
+    if address == (incoming connection).destination.address then (outgoing connection).destination.address
+    else address
 
--- going to where its connection leads by now
+-- with the destination after NAT
 abbrev pub packet_after_destination_nat : CtInfo → Packet → Packet
 packet_after_destination_nat (Tracked connection) p = with_destination (outgoing connection).destination p
-packet_after_destination_nat (Related connection) p = record p { destination = outer_destination connection p.destination }
+packet_after_destination_nat (Related connection) p = record p {
+  destination =
+      outer_destination connection p.destination;
+}
 packet_after_destination_nat (New new_connection) p = with_destination new_connection.tuple.destination p
-packet_after_destination_nat Invalid p = p
-packet_after_destination_nat Untracked p = p
+packet_after_destination_nat _ p = p
 
--- coming from where its connection begins by now
+-- with the source after NAT
 abbrev pub packet_after_source_nat : CtInfo → Packet → Packet
 packet_after_source_nat (Tracked connection) p = with_source (outgoing connection).source p
 packet_after_source_nat (Related connection) p = record p { source = outer_source connection p.source }
 packet_after_source_nat (New new_connection) p = with_source new_connection.tuple.source p
-packet_after_source_nat Invalid p = p
-packet_after_source_nat Untracked p = p
+packet_after_source_nat _ p = p
 
--- once its destination was translated
+-- the facts after destination NAT
 abbrev pub facts_after_destination_nat : CtInfo → Facts → Facts
-facts_after_destination_nat info f = record f { packet = packet_after_destination_nat info f.packet; ct = ct_facts_after_nat info f.ct }
+facts_after_destination_nat info f = record f {
+  packet = packet_after_destination_nat info f.packet;
+  ct = ct_facts_after_nat info f.ct;
+}
 
--- once its source was translated
+-- the facts after source NAT
 abbrev pub facts_after_source_nat : CtInfo → Facts → Facts
-facts_after_source_nat info f = record f { packet = packet_after_source_nat info f.packet; ct = ct_facts_after_nat info f.ct }
+facts_after_source_nat info f = record f {
+  packet = packet_after_source_nat info f.packet;
+  ct = ct_facts_after_nat info f.ct;
+}
 
--- ---- what becomes of its bytes
+-- ---- the header rewrite
 
--- nothing but its TTL is another
+-- only the TTL changes
 abbrev pub ttl_only : ℕ → Change
 ttl_only ttl = record { source = None; destination = None; numbers = None; ttl = Some ttl; inner = None }
 
--- a packet that leaves with this TTL has the tuple with which the packets of its connection leave; an error is then
--- about one that came back with it
+-- a packet forwarded with this TTL gets its connection's tuple after NAT; an error's embedded datagram gets
+-- the inverse of it
 abbrev pub change_of : CtInfo → List ℕ → ℕ → Change
 change_of (Tracked connection) packet ttl = between (outgoing connection) (Some ttl)
 change_of (Related connection) packet ttl = record {
@@ -220,5 +224,4 @@ change_of (Related connection) packet ttl = record {
   inner = Some (inverse (outgoing connection));
 }
 change_of (New new_connection) packet ttl = between new_connection.tuple (Some ttl)
-change_of Invalid packet ttl = ttl_only ttl
-change_of Untracked packet ttl = ttl_only ttl
+change_of _ packet ttl = ttl_only ttl

@@ -1,4 +1,4 @@
--- The mappings that are live: those that live connections were begun with.
+-- Live mappings: those of live connections.
 use Rattle.std.specs.Prelude.{List, [], ◌∷◌, ◌++◌, Option, Some, None}
 use Rattle.std.specs.List.{flat_map}
 use Rattle.ip_headers.specs.declared.tuple.Mapping.{Mapping}
@@ -8,10 +8,10 @@ abbrev pub listed : {A : Type 0} → Option A → List A
 listed None = []
 listed (Some x) = x ∷ []
 
--- those that a connection was begun with, two at most: its source's, and the one by which its destination was found
+-- those of a connection: its source's, and the one that gave its destination
 abbrev pub mappings_of : ConntrackEntry → List Mapping
 mappings_of h = listed h.source ++ listed h.dest
 
--- a mapping is live as long as a connection is that was begun with it (RFC 4787, section 4.3)
+-- a mapping lives as long as a connection that began with it (RFC 4787, section 4.3)
 abbrev pub mappings_in : List ConntrackEntry → List Mapping
 mappings_in live = flat_map mappings_of live

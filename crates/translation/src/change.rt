@@ -1,4 +1,4 @@
-//! What becomes of the bytes of a packet that leaves.
+//! The header rewrite of a forwarded packet.
 ghost use Rattle.std.specs.Prelude.{◌≡◌, Some};
 ghost use Rattle.rewrite.specs.Endpoints.{between, ports_or_identifier};
 ghost use Rattle.translation.specs.CtInfos.{change_of, outgoing};
@@ -10,9 +10,8 @@ use ip_headers::{Kind, Tuple, View};
 use rewrite::{Change, PortsOrIdentifier};
 
 impl CtInfo {
-    /// What is to be other in the packet if it leaves with this TTL: it goes between the ends of the
-    /// tuple with which packets of its connection leave, and an ICMP error is about one that came back
-    /// with it.
+    /// The header rewrite for a packet forwarded with this TTL. An ICMP error gets new addresses,
+    /// and its embedded datagram the inverse of the connection's outgoing tuple.
     pub fn change(&self, view: &View, ttl: u8) -> Change
         ensures { result ≡ change_of self.now view.now.packet.now ttl }
     {
@@ -49,9 +48,10 @@ fn between(tuple: Tuple, ttl: u8) -> Change
     }
 }
 
-/// The numbers of a tuple: ports, or the identifier at the end that asks.
+/// The ports of a tuple, or an echo's identifier, which is at the endpoint that sends the requests.
 fn numbers_of(tuple: &Tuple) -> Option<PortsOrIdentifier>
-    ensures { result ≡ ports_or_identifier tuple.now.kind tuple.now.source.port tuple.now.destination.port }
+    ensures { result ≡ ports_or_identifier tuple.now.kind tuple.now.source.port
+        tuple.now.destination.port }
 {
     let (from, to) = (tuple.source.port, tuple.destination.port);
     match tuple.kind {

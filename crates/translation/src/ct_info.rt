@@ -1,4 +1,4 @@
-//! How a packet stands to connections, and what rules may read of that.
+//! A packet's state in connection tracking, as netfilter's `ctinfo`, and what rules read of it.
 ghost use Rattle.std.specs.Prelude.{◌≡◌, if◌then◌else◌};
 ghost use Rattle.rule_meaning.specs.declared.facts.CtState.TheVariants as states;
 ghost use Rattle.translation.specs.declared.ct_info.CtInfo.TheVariants.{New};
@@ -8,53 +8,53 @@ use conntrack::{Belonging, ConnectionRef, Direction};
 use ip_headers::{Kind, Mapping, Tuple};
 use rule_meaning::{ConnectionFacts, CtFacts, CtState};
 
-/// A connection as it is to be begun.
+/// The connection that a packet in state NEW will begin.
 #[derive(Clone, Copy)]
 pub struct NewConnection {
-    /// The tuple that its packet came with.
+    /// The packet's tuple as received.
     pub original: Tuple,
-    /// The tuple with which its packet goes on by now.
+    /// The packet's tuple after the NAT so far.
     pub tuple: Tuple,
-    /// The mapping that its source got.
+    /// The mapping of its source, if it was translated.
     pub source: Option<Mapping>,
-    /// Whether ports were named for that mapping.
+    /// Whether a port range was given for that mapping.
     pub has_port_range: bool,
-    /// The mapping by which its destination was found.
+    /// The mapping that gave its destination, if one did.
     pub dest: Option<Mapping>,
 }
 
-/// A packet as one of a connection that is alive, whatever that is called.
+/// A packet's connection: a live one, without its id.
 #[derive(Clone, Copy)]
 pub struct TrackedConnection {
     pub direction: Direction,
-    /// The connection's tuple of incoming packets in direction original.
+    /// The tuple of packets received in direction original.
     pub original: Tuple,
-    /// And in direction reply.
+    /// The tuple of packets received in direction reply.
     pub reply: Tuple,
-    /// The connection's mark.
+    /// The connection's mark (`ct mark`).
     pub mark: u32,
-    /// A packet of direction reply has come before.
+    /// A packet in direction reply was seen before.
     pub replied: bool,
 }
 
-/// How a packet stands to connections. It is found when the packet is looked up, goes with it through
-/// both steps of translation, and tells in the end with which tuple it leaves.
+/// A packet's state in connection tracking. The look-up sets it, NAT updates it, and it has the
+/// tuple with which the packet leaves.
 #[derive(Clone, Copy)]
 pub enum CtInfo {
-    /// It belongs to this connection.
+    /// The packet belongs to this connection (NEW without a reply so far, else ESTABLISHED).
     Tracked(TrackedConnection),
-    /// It is an ICMP error about a packet of this connection, in the direction in which the error goes.
+    /// The packet is an ICMP error about this connection; the direction is the error's.
     Related(TrackedConnection),
-    /// It belongs to none, and begins this one if it goes through.
+    /// The packet begins this connection, if it isn't dropped.
     New(NewConnection),
-    /// It belongs to none and begins none.
+    /// The packet belongs to no connection and begins none.
     Invalid,
-    /// It wasn't looked up: a rule had it pass untracked.
+    /// The packet wasn't looked up: a `notrack` statement was evaluated.
     Untracked,
 }
 
 impl NewConnection {
-    /// Of a packet that came with this tuple: nothing is translated yet.
+    /// For a packet with this tuple, before NAT.
     fn of(tuple: Tuple) -> NewConnection
         ensures { result ≡ new_connection_of tuple }
     {
@@ -67,8 +67,8 @@ impl NewConnection {
         }
     }
 
-    /// What rules may read of the connection, where this was known of it: an end of it is translated
-    /// where it is another by now.
+    /// `connection` with the NAT status of this tuple: an endpoint is translated where it has
+    /// changed.
     pub(crate) fn with_nat_status(&self, connection: ConnectionFacts) -> ConnectionFacts
         ensures { result ≡ with_nat_status self.now connection }
     {
@@ -81,7 +81,7 @@ impl NewConnection {
 }
 
 impl CtInfo {
-    /// The way of a packet with this tuple that belongs so: an answer to no ask begins no connection.
+    /// The state after a look-up. An unsolicited echo reply is INVALID.
     pub fn of(tuple: Tuple, belonging: Belonging) -> CtInfo
         ensures { result ≡ ct_info_by tuple belonging }
     {
@@ -95,7 +95,7 @@ impl CtInfo {
         }
     }
 
-    /// The way of an ICMP error, where the way back of the packet that it is about belongs so.
+    /// The state of an ICMP error, by the look-up of the inverse of its embedded tuple.
     pub fn of_error(belonging: Belonging) -> CtInfo
         ensures { result ≡ error_ct_info belonging }
     {
@@ -105,7 +105,7 @@ impl CtInfo {
         }
     }
 
-    /// What rules may read of the connection of a packet on this way.
+    /// What rules read of the packet's connection.
     pub fn ct(&self) -> CtFacts
         ensures { result ≡ ct_facts_of self.now }
     {
@@ -114,7 +114,7 @@ impl CtInfo {
                 let reply_seen = connection.direction == Direction::Reply || connection.replied;
                 known_ct_facts(state_of(reply_seen), reply_seen, connection)
             }
-            // An error is no reply itself.
+            // An error doesn't count as a reply.
             CtInfo::Related(connection) => {
                 known_ct_facts(CtState::Related, connection.replied, connection)
             }
@@ -137,7 +137,7 @@ fn tracked_connection(found: &ConnectionRef) -> TrackedConnection
     }
 }
 
-/// The tuple with which the packets of a direction come.
+/// The tuple of the packet's direction as received.
 pub(crate) fn incoming(connection: &TrackedConnection) -> Tuple
     ensures { result ≡ incoming connection.now }
 {
@@ -147,7 +147,7 @@ pub(crate) fn incoming(connection: &TrackedConnection) -> Tuple
     }
 }
 
-/// The tuple with which the packets of a direction leave.
+/// The tuple of the packet's direction after NAT.
 pub(crate) fn outgoing(connection: &TrackedConnection) -> Tuple
     ensures { result ≡ outgoing connection.now }
 {
@@ -157,8 +157,7 @@ pub(crate) fn outgoing(connection: &TrackedConnection) -> Tuple
     }
 }
 
-/// What is known of the connection that a packet belongs to. An end of it is translated where its
-/// packets leave with another than they came with.
+/// What rules read of an existing connection. An endpoint is translated where NAT changes it.
 fn known_ct_facts(state: CtState, seen_reply: bool, connection: &TrackedConnection) -> CtFacts
     ensures { result ≡ known_ct_facts state seen_reply connection.now }
 {
@@ -174,7 +173,7 @@ fn known_ct_facts(state: CtState, seen_reply: bool, connection: &TrackedConnecti
     })
 }
 
-/// The state of a packet of a connection: established once one of direction reply has come.
+/// ESTABLISHED once a packet in direction reply was seen, else NEW.
 fn state_of(reply_seen: bool) -> CtState
     ensures { result ≡ (if reply_seen then states.Established else states.New) }
 {
@@ -185,7 +184,7 @@ fn state_of(reply_seen: bool) -> CtState
     }
 }
 
-/// What is known of the connection that a packet is to begin.
+/// What rules read of the connection that a packet will begin.
 fn new_ct_facts(new_connection: &NewConnection) -> CtFacts
     ensures { result ≡ ct_facts_of (New new_connection.now) }
 {
@@ -199,7 +198,7 @@ fn new_ct_facts(new_connection: &NewConnection) -> CtFacts
     }))
 }
 
-/// A direction, as rules read it.
+/// `ct direction`.
 fn direction_of(direction: Direction) -> rule_meaning::CtDirection
     ensures { result ≡ direction_of direction }
 {

@@ -1,4 +1,4 @@
-//! The step at which a destination is translated.
+//! Destination NAT.
 ghost use Rattle.std.specs.Prelude.{◌≡◌, List};
 ghost use Rattle.ip_headers.specs.declared.tuple.Mapping.{Mapping as Mapped};
 ghost use Rattle.nat_mapping.specs.Mappings.{HoldsSame};
@@ -13,9 +13,8 @@ use nat_mapping::Mappings;
 use nat_mapping::laws::inbound_is_held;
 use rule_meaning::{Facts, HookVerdict, NatAction};
 
-/// The way on which a packet goes on from the step, once nat chains ended so: the first packet of a
-/// connection goes to where a statement sends it, and where none did to the internal endpoint of a
-/// live mapping.
+/// The state after destination NAT, by the verdict of the nat chains: a new connection goes where a
+/// NAT statement sends it, or without one to the internal endpoint of a live mapping.
 pub fn apply_destination_nat(
     plant: &Plant,
     mappings: &Mappings,
@@ -23,10 +22,12 @@ pub fn apply_destination_nat(
     info: &CtInfo,
     verdict: HookVerdict,
 ) -> CtInfo
-    // Whatever list stands for what is held.
-    ensures info { (held : List Mapped) → HoldsSame held mappings.now.held → result ≡ after_destination_nat plant.now held facts.now info.now verdict }
-    ensures fits { (held : List Mapped) → HoldsSame held mappings.now.held → Fits info.now held → Fits result held }
-    // It stays a packet of the same connection.
+    // For each list that represents the mappings held.
+    ensures info { (held : List Mapped) → HoldsSame held mappings.now.held
+        → result ≡ after_destination_nat plant.now held facts.now info.now verdict }
+    ensures fits { (held : List Mapped) → HoldsSame held mappings.now.held → Fits info.now held
+        → Fits result held }
+    // The connection stays the same.
     ensures same { untranslated result ≡ untranslated info.now }
 {
     match info {
@@ -48,8 +49,10 @@ fn with_destination_nat(
     new_connection: NewConnection,
     verdict: HookVerdict,
 ) -> NewConnection
-    ensures new_connection { (held : List Mapped) → HoldsSame held mappings.now.held → result ≡ with_destination_nat plant.now held facts.now new_connection verdict }
-    ensures fits { (held : List Mapped) → HoldsSame held mappings.now.held → IsFitting new_connection held → IsFitting result held }
+    ensures new_connection { (held : List Mapped) → HoldsSame held mappings.now.held
+        → result ≡ with_destination_nat plant.now held facts.now new_connection verdict }
+    ensures fits { (held : List Mapped) → HoldsSame held mappings.now.held
+        → IsFitting new_connection held → IsFitting result held }
     ensures same { result.original ≡ new_connection.original }
 {
     match verdict {
@@ -68,7 +71,7 @@ fn with_destination_nat(
     }
 }
 
-/// Where a statement sends a packet; one that doesn't translate a destination leaves it.
+/// The destination by a NAT statement; a statement that doesn't translate destinations keeps it.
 fn statement_destination(
     plant: &Plant,
     facts: &Facts,
@@ -91,7 +94,7 @@ fn statement_destination(
     }
 }
 
-/// The port that is named, where the kind has ports; else the old one.
+/// The port of the statement, if it has one and the kind has ports; else the old one.
 fn port_named(kind: Kind, port: Option<u16>, old: u16) -> u16
     ensures { result ≡ port_named kind port old }
 {
@@ -107,10 +110,12 @@ fn has_ports(kind: Kind) -> bool
     matches!(kind, Kind::Tcp | Kind::Udp)
 }
 
-/// To the internal endpoint behind its destination, if a live mapping has one there.
+/// Sends a connection to the internal endpoint of the live mapping at its destination, if any.
 fn to_internal(mappings: &Mappings, new_connection: NewConnection) -> NewConnection
-    ensures new_connection { (held : List Mapped) → HoldsSame held mappings.now.held → result ≡ to_internal new_connection (internal_endpoint held new_connection) }
-    ensures fits { (held : List Mapped) → HoldsSame held mappings.now.held → IsFitting new_connection held → IsFitting result held }
+    ensures new_connection { (held : List Mapped) → HoldsSame held mappings.now.held
+        → result ≡ to_internal new_connection (internal_endpoint held new_connection) }
+    ensures fits { (held : List Mapped) → HoldsSame held mappings.now.held
+        → IsFitting new_connection held → IsFitting result held }
     ensures same { result.original ≡ new_connection.original }
 {
     let kind = new_connection.tuple.kind;
@@ -118,7 +123,7 @@ fn to_internal(mappings: &Mappings, new_connection: NewConnection) -> NewConnect
         return new_connection;
     }
     let external = new_connection.tuple.destination;
-    // What is found behind it is held.
+    // The mapping found is one of those held.
     inbound_is_held();
     let Some(internal) = mappings.inbound(kind, external) else {
         return new_connection;

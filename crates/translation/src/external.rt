@@ -1,6 +1,6 @@
-//! Which external address a source is to have.
+//! The external address for source NAT.
 ghost use Rattle.std.specs.Prelude.{◌≡◌, None, Some};
-ghost use Rattle.rule_meaning.specs.declared.event.NatAction.TheVariants as translations;
+ghost use Rattle.rule_meaning.specs.declared.event.NatAction.TheVariants as nat_actions;
 ghost use Rattle.translation.specs.Nat.{hairpin, is_same_interface, external_source, statement_source};
 
 use crate::ct_info::NewConnection;
@@ -8,15 +8,15 @@ use box_file::Plant;
 use ip_headers::Mapping;
 use rule_meaning::{Facts, HookVerdict, NatAction, PortInterval};
 
-/// The external address that a source is to have, and the ports that are named for it.
+/// The external address for a source, and the port range where one is given.
 #[derive(Clone, Copy)]
 pub struct ExternalSource {
     pub address: u32,
     pub ports: Option<PortInterval>,
 }
 
-/// By the statement that ended the nat chains; and where none did by the mapping by which the
-/// packet's destination was found.
+/// By the NAT statement that ended the nat chains, or without one by the mapping that gave the
+/// packet its destination.
 pub(crate) fn external_source(
     plant: &Plant,
     facts: &Facts,
@@ -32,7 +32,7 @@ pub(crate) fn external_source(
     }
 }
 
-/// Of a statement that translates a source; the others give none.
+/// The external source of a NAT statement that translates a source.
 fn statement_source(plant: &Plant, facts: &Facts, translation: NatAction) -> Option<ExternalSource>
     ensures { result ≡ statement_source plant.now facts.now translation }
 {
@@ -46,9 +46,10 @@ fn statement_source(plant: &Plant, facts: &Facts, translation: NatAction) -> Opt
     }
 }
 
-/// The first address of the interface that the packet leaves by.
+/// The first address of the output interface.
 fn masquerade_address(plant: &Plant, facts: &Facts) -> u32
-    ensures { statement_source plant.now facts.now (translations.Masquerade None) ≡ Some (record { address = result; ports = None }) }
+    ensures { statement_source plant.now facts.now (nat_actions.Masquerade None)
+        ≡ Some (record { address = result; ports = None }) }
 {
     let index = match facts.output {
         Some(output) => output.index,
@@ -57,9 +58,9 @@ fn masquerade_address(plant: &Plant, facts: &Facts) -> u32
     plant.first_address(index).unwrap_or(0)
 }
 
-/// A destination that was found by a mapping: unless the packet entered by the interface that owns
-/// the external address, its source is mapped to that address too, so that the answer comes back this
-/// way (RFC 4787, REQ-9).
+/// Hairpinning (RFC 4787, REQ-9): where the destination came from a mapping, and the packet didn't
+/// enter by the interface that owns the external address, its source is mapped to that address too,
+/// so that the reply comes back through the box.
 fn hairpin(plant: &Plant, entered: u32, dest: Option<Mapping>) -> Option<ExternalSource>
     ensures { result ≡ hairpin plant.now entered dest }
 {

@@ -1,4 +1,4 @@
-//! What rules may read of a packet that was translated.
+//! What rules read of a packet after NAT.
 ghost use Rattle.std.specs.Prelude.{◌≡◌};
 ghost use Rattle.translation.specs.CtInfos.{facts_after_source_nat, facts_after_destination_nat, outer_destination, outer_source, with_source, with_destination, ct_facts_after_nat, with_destination_port, with_source_port};
 
@@ -6,7 +6,7 @@ use crate::ct_info::{CtInfo, TrackedConnection, incoming, outgoing};
 use ip_headers::{Endpoint, Transport};
 use rule_meaning::{CtFacts, Facts, Packet};
 
-/// The packet's destination was translated, as its way has it by now.
+/// Updates the facts after destination NAT.
 #[inline(always)]
 pub fn update_destination(info: &CtInfo, facts: &mut Facts)
     ensures { facts.new ≡ facts_after_destination_nat info.now facts.old }
@@ -29,7 +29,7 @@ pub fn update_destination(info: &CtInfo, facts: &mut Facts)
     facts.ct = ct_facts_after_nat(info, facts.ct);
 }
 
-/// The packet's source was translated, as its way has it by now.
+/// Updates the facts after source NAT.
 #[inline(always)]
 pub fn update_source(info: &CtInfo, facts: &mut Facts)
     ensures { facts.new ≡ facts_after_source_nat info.now facts.old }
@@ -46,7 +46,7 @@ pub fn update_source(info: &CtInfo, facts: &mut Facts)
     facts.ct = ct_facts_after_nat(info, facts.ct);
 }
 
-/// What is known of its connection then.
+/// The conntrack facts after NAT: a new connection's NAT status follows its tuple.
 fn ct_facts_after_nat(info: &CtInfo, ct: CtFacts) -> CtFacts
     ensures { result ≡ ct_facts_after_nat info.now ct }
 {
@@ -58,7 +58,7 @@ fn ct_facts_after_nat(info: &CtInfo, ct: CtFacts) -> CtFacts
     }
 }
 
-/// The source of an ICMP error about a packet of the connection, where it comes with this one.
+/// The translated source address of an ICMP error about a packet of the connection.
 pub(crate) fn outer_source(connection: &TrackedConnection, address: u32) -> u32
     ensures { result ≡ outer_source connection.now address }
 {
@@ -69,7 +69,7 @@ pub(crate) fn outer_source(connection: &TrackedConnection, address: u32) -> u32
     }
 }
 
-/// Its destination likewise.
+/// Its translated destination address.
 pub(crate) fn outer_destination(connection: &TrackedConnection, address: u32) -> u32
     ensures { result ≡ outer_destination connection.now address }
 {

@@ -1,5 +1,5 @@
-//! Network address translation of one packet (RFC 3022): how it stands to connections, and what the
-//! two steps make of it at which destination and source are translated.
+//! Network address translation of one packet (RFC 3022): its state in connection tracking, and what
+//! destination NAT and source NAT do to it.
 #![tactic(auto)]
 
 mod change;

@@ -1,4 +1,4 @@
-//! The step at which a source is translated.
+//! Source NAT.
 ghost use Rattle.std.specs.Prelude.{◌≡◌, List, IfSome};
 ghost use Rattle.ip_headers.specs.declared.tuple.Mapping.{Mapping as Mapped};
 ghost use Rattle.nat_mapping.specs.Mappings.{HoldsSame};
@@ -15,9 +15,8 @@ use nat_mapping::{MapError, Mappings};
 use port_pool::CandidateRange;
 use rule_meaning::{Facts, HookVerdict, PortInterval};
 
-/// The way on which a packet goes on from the step, once nat chains ended so: the source of the first
-/// packet of a connection is mapped where a statement asks for it, or where the packet came to its
-/// destination by a mapping and from inside. `None` where no port is left for it.
+/// The state after source NAT, by the verdict of the nat chains: the source of a new connection is
+/// mapped by a NAT statement, or for hairpinning. `None` where no port is free.
 pub fn apply_source_nat(
     plant: &Plant,
     mappings: &Mappings,
@@ -25,10 +24,12 @@ pub fn apply_source_nat(
     info: &CtInfo,
     verdict: HookVerdict,
 ) -> Option<CtInfo>
-    // Whatever list stands for what is held.
-    ensures info { (held : List Mapped) → HoldsSame held mappings.now.held → result ≡ after_source_nat plant.now held facts.now info.now verdict }
-    ensures fits { (held : List Mapped) → HoldsSame held mappings.now.held → Fits info.now held → IfSome result (λ after. Fits after held) }
-    // It stays a packet of the same connection.
+    // For each list that represents the mappings held.
+    ensures info { (held : List Mapped) → HoldsSame held mappings.now.held
+        → result ≡ after_source_nat plant.now held facts.now info.now verdict }
+    ensures fits { (held : List Mapped) → HoldsSame held mappings.now.held → Fits info.now held
+        → IfSome result (λ after. Fits after held) }
+    // The connection stays the same.
     ensures same { IfSome result (λ after. untranslated after ≡ untranslated info.now) }
 {
     match info {
@@ -42,14 +43,16 @@ pub fn apply_source_nat(
     }
 }
 
-/// `None` where no port is left.
+/// `None` where no port is free.
 fn with_source_nat(
     mappings: &Mappings,
     new_connection: NewConnection,
     external_source: Option<ExternalSource>,
 ) -> Option<NewConnection>
-    ensures new_connection { (held : List Mapped) → HoldsSame held mappings.now.held → result ≡ with_source_nat held new_connection external_source }
-    ensures fits { (held : List Mapped) → HoldsSame held mappings.now.held → IsFitting new_connection held → IfSome result (λ after. IsFitting after held) }
+    ensures new_connection { (held : List Mapped) → HoldsSame held mappings.now.held
+        → result ≡ with_source_nat held new_connection external_source }
+    ensures fits { (held : List Mapped) → HoldsSame held mappings.now.held
+        → IsFitting new_connection held → IfSome result (λ after. IsFitting after held) }
     ensures same { IfSome result (λ after. after.original ≡ new_connection.original) }
 {
     let Some(external_source) = external_source else {
@@ -57,7 +60,7 @@ fn with_source_nat(
     };
     let (kind, internal) = (new_connection.tuple.kind, new_connection.tuple.source);
     let range = range_of(external_source.ports);
-    // With that port what is held stays one to one.
+    // With that port the mappings stay one to one.
     stays_one_to_one();
     match mappings.source(kind, internal, external_source.address, range) {
         Ok(port) => Some(with_source_mapping(new_connection, &external_source, port)),
@@ -65,7 +68,7 @@ fn with_source_nat(
     }
 }
 
-/// The source is mapped to this port there.
+/// Maps the source to this port of the external address.
 fn with_source_mapping(
     new_connection: NewConnection,
     external_source: &ExternalSource,

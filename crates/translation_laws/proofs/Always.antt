@@ -1,6 +1,7 @@
--- The laws, in every story.
+-- The laws, in each history.
 use Rattle.std.specs.Prelude.{max}
-use Rattle.std.proofs.Common.{◌≤◌, arith, ◌≡◌, ◌≢◌, ℕ, true, false, IsTrue, List, None, Result, Ok, Err, inl, refl, sym, ap, subst, ◌∙◌}
+use Rattle.std.proofs.Common.{◌≤◌, arith, ◌≡◌, ◌≢◌, ℕ, true, false, IsTrue, List, None, Result, Ok, Err, inl, refl, sym}
+use Rattle.std.proofs.Common.{ap, subst, ◌∙◌}
 use Rattle.std.specs.List.{All, Contains}
 use Rattle.std.proofs.lemmas.List.Elements.{All-contains}
 use Rattle.box_file.specs.Box.{owner}
@@ -19,7 +20,8 @@ use Rattle.stepping.proofs.Carrying.{one_carried}
 use Rattle.stepping.specs.Carried.{ReceivedPacket}
 use Rattle.stepping.specs.Next.{Next, live_at_record, moment_after}
 use Rattle.translation_laws.specs.Histories.{IsHistory, alive_at, latest_choice, listed_at}
-use Rattle.translation_laws.specs.Laws.{AreApart, GivenToOne, Hairpins, KeepsClass, LeavesTranslated, LiveLaws, OneInternal, OnePort, HistoryLaws, IsHairpinned, WasChosen, mappings_before}
+use Rattle.translation_laws.specs.Laws.{AreApart, GivenToOne, Hairpins, KeepsClass, LeavesTranslated, LiveLaws}
+use Rattle.translation_laws.specs.Laws.{OneInternal, OnePort, HistoryLaws, IsHairpinned, WasChosen, mappings_before}
 use Rattle.translation_laws.proofs.Chosen.{AllChosen, CandidatesAlike, HasClass, chosen_kept, class_kept}
 use Rattle.translation_laws.proofs.Each.{each_mapping}
 use Rattle.translation_laws.proofs.Given.{given_one}
@@ -36,7 +38,7 @@ abbrev interface_in : Result ReceivedPacket Cause → ℕ
 interface_in (Ok a) = a.interface
 interface_in (Err cause) = 0
 
--- what the laws stand on
+-- what the laws follow from
 pub record Known : Type 0 where
   pub more : OneEntryMore
   pub still : StillApart
@@ -57,11 +59,13 @@ module _ (known : Known) (setup : Setup) where
 
   apart_always : Always setup (λ history now. AreApart (listed_at setup history now))
   apart_always history is now le =
-      apart_listed (alive_at setup history now) (lifted known.more setup IsApart (apart_kept known.still) history is now le)
+      apart_listed (alive_at setup history now) (lifted known.more setup IsApart (apart_kept known.still) history is now
+      le)
 
   given_always : Always setup (λ history now. GivenToOne (alive_at setup history now))
   given_always history is now le h t flags among incoming =
-      given_one t (alive_at setup history now) h flags (lifted known.more setup IsApart (apart_kept known.still) history is now le) among incoming
+      given_one t (alive_at setup history now) h flags
+      (lifted known.more setup IsApart (apart_kept known.still) history is now le) among incoming
 
   chosen_always : Always setup (λ history now. WasChosen history (listed_at setup history now))
   chosen_always history is now le c m live holds =
@@ -93,33 +97,37 @@ module _ (known : Known) (setup : Setup) where
     lives = lives_always setup history now;
   }
 
-  module _ (history : List Entry) (is : IsHistory setup history) (r : Recorded) (e : Entry) (n : Next setup history r e) where
-    hairpins_so : Hairpins setup history r e
-    hairpins_so a carried t lookup_tuple ports m among kind external other begins untold interface passed =
-        let held = live_at_record setup history r in
-        let p = passes_with setup history r e n t lookup_tuple interface passed in
-        let s = p.passes.s in
-        let one = lifted_before known.more setup IsOne (one_to_one_kept known.laws) history is r in
-        let entered : a.interface ≡ p.passes.a.interface =
-        ap interface_in (one_carried setup r (Ok a) p.arrived carried p.carried ∙ p.passes.arrives) in
-        subst (λ (f : Flags). IsHairpinned t m (mappings_before setup history r t f) e) (sym p.flags)
-        (subst (λ (x : Tuple). IsHairpinned x m (mappings_before setup history r x s.flags) e) p.tuple
-        (turns_back setup held (moment_after history r) r e t interface p begins known.laws known.sending
-        (after_one known.laws held (belongs_in held s.tuple s.flags) one)
-        (subst (λ (x : Tuple). has_ports x.kind ≡ true) (sym p.tuple) ports) m
-        (subst (λ (x : Tuple). Contains (mappings_before setup history r x s.flags) m) (sym p.tuple)
-        (subst (λ (f : Flags). Contains (mappings_before setup history r t f) m) p.flags among))
-        (subst (λ (x : Tuple). m.kind ≡ x.kind) (sym p.tuple) kind)
-        (subst (λ (x : Tuple). m.external ≡ x.destination) (sym p.tuple) external)
-        (subst (λ (i : ℕ). is_same_interface i (owner setup.plant m.external.address) ≡ false) entered other) untold))
+  module _ (history : List Entry) (is : IsHistory setup history) (r : Recorded) (e : Entry) (n : Next setup history r e)
+    where
+      hairpins_so : Hairpins setup history r e
+      hairpins_so a carried t lookup_tuple ports m among kind external other begins untold interface passed =
+          let held = live_at_record setup history r in
+          let p = passes_with setup history r e n t lookup_tuple interface passed in
+          let s = p.passes.s in
+          let one = lifted_before known.more setup IsOne (one_to_one_kept known.laws) history is r in
+          let entered : a.interface ≡ p.passes.a.interface =
+          ap interface_in (one_carried setup r (Ok a) p.arrived carried p.carried ∙ p.passes.arrives) in
+          subst (λ (f : Flags). IsHairpinned t m (mappings_before setup history r t f) e) (sym p.flags)
+          (subst (λ (x : Tuple). IsHairpinned x m (mappings_before setup history r x s.flags) e) p.tuple
+          (turns_back setup held (moment_after history r) r e t interface p begins known.laws known.sending
+          (after_one known.laws held (belongs_in held s.tuple s.flags) one)
+          (subst (λ (x : Tuple). has_ports x.kind ≡ true) (sym p.tuple) ports) m
+          (subst (λ (x : Tuple). Contains (mappings_before setup history r x s.flags) m) (sym p.tuple)
+          (subst (λ (f : Flags). Contains (mappings_before setup history r t f) m) p.flags among))
+          (subst (λ (x : Tuple). m.kind ≡ x.kind) (sym p.tuple) kind)
+          (subst (λ (x : Tuple). m.external ≡ x.destination) (sym p.tuple) external)
+          (subst (λ (i : ℕ). is_same_interface i (owner setup.plant m.external.address) ≡ false) entered other) untold))
 
-    leaves_so : LeavesTranslated setup history r e
-    leaves_so t lookup_tuple h among incoming unended interface passed =
-        let held = live_at_record setup history r in
-        let apart = lifted_before known.more setup IsApart (apart_kept known.still) history is r in
-        let made = lifted_before known.more setup (λ history held. All IsMade held) (made_kept known.laws) history is r in
-        goes_with setup held (moment_after history r) r e t interface (passes_with setup history r e n t lookup_tuple interface passed) known.sending h
-        (All-contains IsMade held h made among) apart among incoming unended
+      leaves_so : LeavesTranslated setup history r e
+      leaves_so t lookup_tuple h among incoming unended interface passed =
+          let held = live_at_record setup history r in
+          let apart = lifted_before known.more setup IsApart (apart_kept known.still) history is r in
+          let made = lifted_before known.more setup (λ history held. All IsMade held) (made_kept known.laws) history is
+          r
+          in
+          goes_with setup held (moment_after history r) r e t interface
+          (passes_with setup history r e n t lookup_tuple interface passed) known.sending h
+          (All-contains IsMade held h made among) apart among incoming unended
 
   pub history_obeys : (history : List Entry) → IsHistory setup history → HistoryLaws setup history
   history_obeys history is = record {

@@ -21,9 +21,11 @@ IsFaultless (Ok a) = fault_of a.packet ≡ None
 IsFaultless (Err cause) = Unit {0}
 
 module _ (setup : Setup) (r : Recorded) where
-  pub carried_faultless : FaultLaws → (arrived : Result ReceivedPacket Cause) → Carries setup r arrived → IsFaultless arrived
+  pub carried_faultless : FaultLaws → (arrived : Result ReceivedPacket Cause) → Carries setup r arrived
+      → IsFaultless arrived
   carried_faultless laws arrived (carried.no_link cause e) = tt
   carried_faultless laws arrived (carried.no_interface l e f) = tt
   carried_faultless laws arrived (carried.no_header l index fault e f g) = tt
   carried_faultless laws arrived (carried.carries l index e f g) =
-      laws.faultless (packet_of (drop l.packet r.bytes)) (packet_passes (drop l.packet r.bytes) (laws.passes (drop l.packet r.bytes) g))
+      laws.faultless (packet_of (drop l.packet r.bytes)) (packet_passes (drop l.packet r.bytes)
+      (laws.passes (drop l.packet r.bytes) g))

@@ -1,4 +1,4 @@
--- Each entry of a story follows the story before it.
+-- Each entry of a history extends the history before it.
 use Rattle.std.proofs.Common.{◌≡◌, List, [], ◌∷◌, ◌++◌, ◌⊎◌, inl, inr, refl, sym, ap, subst}
 use Rattle.pcap_io.specs.Pcap.{Recorded}
 use Rattle.history.specs.Setup.{Setup}
@@ -16,11 +16,13 @@ none_grown : (e : Entry) (history : List Entry) → [] ≡ e ∷ history → ⊥
 none_grown e history same = cc
 
 module _ (setup : Setup) (history : List Entry) (e : Entry) where
-  -- to what a story grew, but for its newest entry
+  -- an extended history, without its newest entry
   abbrev Before : List Entry → Type 0
-  Before first = (records : List Recorded) × IsHistoryOf setup first records history × ((r : Recorded) × Next setup history r e)
+  Before first = (records : List Recorded) × IsHistoryOf setup first records history × ((r : Recorded)
+      × Next setup history r e)
 
-  grown_before : (records : List Recorded) (first : List Entry) → IsHistoryOf setup first records (e ∷ history) → (first ≡ e ∷ history) ⊎ Before first
+  grown_before : (records : List Recorded) (first : List Entry) → IsHistoryOf setup first records (e ∷ history)
+      → (first ≡ e ∷ history) ⊎ Before first
   grown_before [] first g = inl (sym g)
   grown_before (r ∷ records) first g = by_first (grown_before records (g.0 ∷ first) g.2)
     where
@@ -38,16 +40,23 @@ module _ (setup : Setup) (history : List Entry) (e : Entry) where
           )
       by_first (inr b) = inr (r ∷ b.0, (g.0, g.1, b.1), b.2)
 
-before_last : (setup : Setup) (history : List Entry) (e : Entry) → IsHistory setup (e ∷ history) → IsHistory setup history × ((r : Recorded) × Next setup history r e)
+before_last : (setup : Setup) (history : List Entry) (e : Entry) → IsHistory setup (e ∷ history)
+    → IsHistory setup history × ((r : Recorded) × Next setup history r e)
 before_last setup history e is = by_first (grown_before setup history e is.records [] is.is_history)
   where
-    by_first : ([] ≡ e ∷ history) ⊎ Before setup history e [] → IsHistory setup history × ((r : Recorded) × Next setup history r e)
+    by_first : ([] ≡ e ∷ history) ⊎ Before setup history e [] → IsHistory setup history × ((r : Recorded)
+        × Next setup history r e)
     by_first (inl none) = absurd (none_grown e history none)
     by_first (inr b) = (record { records = b.0; is_history = b.1 }, b.2)
 
 one_more : (setup : Setup) (records : List Recorded) (first history : List Entry) (r : Recorded) (e : Entry)
-    → IsHistoryOf setup first records history → Next setup history r e → IsHistoryOf setup first (records ++ r ∷ []) (e ∷ history)
-one_more setup [] first history r e g n = (e, subst (λ (s : List Entry). Next setup s r e) g n, ap (λ (s : List Entry). e ∷ s) g)
+    → IsHistoryOf setup first records history → Next setup history r e
+    → IsHistoryOf setup first (records ++ r ∷ []) (e ∷ history)
+one_more setup [] first history r e g n = (
+  e,
+  subst (λ (s : List Entry). Next setup s r e) g n,
+  ap (λ (s : List Entry). e ∷ s) g,
+)
 one_more setup (x ∷ records) first history r e g n = (g.0, g.1, one_more setup records (g.0 ∷ first) history r e g.2 n)
 
 pub no_records : (setup : Setup) → IsHistory setup []
@@ -56,5 +65,8 @@ no_records setup = record { records = []; is_history = refl }
 pub entries_follow : (setup : Setup) → EntriesFollow setup
 entries_follow setup history e = (
   before_last setup history e,
-  λ so. record { records = so.0.records ++ so.1.0 ∷ []; is_history = one_more setup so.0.records [] history so.1.0 e so.0.is_history so.1.1 },
+  λ so. record {
+    records = so.0.records ++ so.1.0 ∷ [];
+    is_history = one_more setup so.0.records [] history so.1.0 e so.0.is_history so.1.1;
+  },
 )

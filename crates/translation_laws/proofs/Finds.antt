@@ -1,5 +1,6 @@
 -- What a search finds, and what the searches for mappings find.
-use Rattle.std.proofs.Common.{◌≡◌, ℕ, Bool, true, false, List, [], ◌∷◌, Option, Some, ◌⊎◌, inl, inr, refl, sym, ap, subst, ◌∙◌, arith}
+use Rattle.std.proofs.Common.{◌≡◌, ℕ, Bool, true, false, List, [], ◌∷◌, Option, Some, ◌⊎◌, inl, inr, refl, sym, ap}
+use Rattle.std.proofs.Common.{subst, ◌∙◌, arith}
 use Rattle.std.specs.List.{Contains, find}
 use Rattle.std.specs.Option.{option_map}
 use Rattle.std.proofs.lemmas.Bool.{and_parts, and_from, cases_Bool, cond-true, cond-false, true_and_false, eqb-true}
@@ -49,9 +50,11 @@ module _ {X : Type 0} (p : X → Bool) where
 -- ---- equal mappings
 
 pub mapping_same : (m : Mapping) → same_mapping m m ≡ true
-mapping_same m = and_from _ _ (same_kind-refl m.kind) (and_from _ _ (same_endpoint-refl m.internal) (same_endpoint-refl m.external))
+mapping_same m = and_from _ _ (same_kind-refl m.kind) (and_from _ _ (same_endpoint-refl m.internal)
+    (same_endpoint-refl m.external))
 
-pub parts_same : (m : Mapping) (kind : Kind) (internal external : Endpoint) → m.kind ≡ kind → m.internal ≡ internal → m.external ≡ external
+pub parts_same : (m : Mapping) (kind : Kind) (internal external : Endpoint) → m.kind ≡ kind → m.internal ≡ internal
+    → m.external ≡ external
     → m ≡ mapping_at kind internal external
 parts_same m kind internal external k i e =
     ap (λ (x : Kind). mapping_at x m.internal m.external) k ∙ ap (λ (x : Endpoint). mapping_at kind x m.external) i
@@ -61,16 +64,19 @@ pub mapping_exact : (m n : Mapping) → same_mapping m n ≡ true → m ≡ n
 mapping_exact m n h =
     let kinds = and_parts _ _ h in
     let ends = and_parts _ _ kinds.1 in
-    parts_same m n.kind n.internal n.external (same_kind-true _ _ kinds.0) (same_endpoint-true _ _ ends.0) (same_endpoint-true _ _ ends.1)
+    parts_same m n.kind n.internal n.external (same_kind-true _ _ kinds.0) (same_endpoint-true _ _ ends.0)
+    (same_endpoint-true _ _ ends.1)
 
 -- ---- those that are live
 
 -- the port that an internal endpoint has is one of a live mapping
 pub port_held : (kind : Kind) (internal : Endpoint) (address port : ℕ) (mappings : List Mapping)
-    → port_of kind internal address mappings ≡ Some port → Contains mappings (mapping_at kind internal (end_at address port))
+    → port_of kind internal address mappings ≡ Some port
+    → Contains mappings (mapping_at kind internal (end_at address port))
 unfolding port_of
 port_held kind internal address port mappings e =
-    let r = some_of_map (λ (m : Mapping). m.external.port) (find (has_internal kind internal address) mappings) port e in
+    let r = some_of_map (λ (m : Mapping). m.external.port) (find (has_internal kind internal address) mappings) port e
+    in
     let n = r.0 in
     let so = found_so (has_internal kind internal address) mappings r.0 r.1 in
     let kinds = and_parts _ _ so.1 in
@@ -79,12 +85,14 @@ port_held kind internal address port mappings e =
     let external : r.0.external ≡ end_at address port =
     ap (λ (a : ℕ). end_at a r.0.external.port) at ∙ ap (λ (q : ℕ). end_at address q) r.2 in
     subst (Contains mappings)
-    (parts_same r.0 kind internal (end_at address port) (same_kind-true _ _ kinds.0) (same_endpoint-true _ _ ends.0) external) so.0
+    (parts_same r.0 kind internal (end_at address port) (same_kind-true _ _ kinds.0) (same_endpoint-true _ _ ends.0)
+    external) so.0
 
 -- behind the external endpoint of a live mapping an internal one is found
 pub inbound_found : (m : Mapping) (mappings : List Mapping) → Contains mappings m
     → (internal : Endpoint) × (inbound_of m.kind m.external mappings ≡ Some internal)
 unfolding inbound_of
 inbound_found m mappings among =
-    let r = one_found (has_external m.kind m.external) mappings m among (and_from _ _ (same_kind-refl m.kind) (same_endpoint-refl m.external)) in
+    let r = one_found (has_external m.kind m.external) mappings m among
+    (and_from _ _ (same_kind-refl m.kind) (same_endpoint-refl m.external)) in
     (r.0.internal, ap (λ (o : Option Mapping). option_map (λ (n : Mapping). n.internal) o) r.1)

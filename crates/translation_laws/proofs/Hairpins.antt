@@ -1,4 +1,4 @@
--- A packet from inside to the external endpoint of a live mapping is turned back.
+-- Hairpinning.
 use Rattle.std.proofs.Common.{◌≡◌, ℕ, ◌-◌, true, false, IsTrue, List, Option, Some, None, Ok, refl, sym, ap, subst, ◌∙◌}
 use Rattle.std.specs.List.{Contains}
 use Rattle.std.specs.Option.{option_map}
@@ -41,7 +41,8 @@ use Rattle.translation.specs.declared.ct_info.CtInfo.{CtInfo}
 use Rattle.translation.specs.declared.ct_info.CtInfo.TheVariants.{Tracked, Related, New, Invalid, Untracked}
 use Rattle.translation.specs.LiveMappings.{mappings_in}
 use Rattle.translation.specs.CtInfos.{new_connection_of, new_ct_info, ct_info_by}
-use Rattle.translation.specs.Nat.{with_source_nat, has_ports, to_internal, is_same_interface, with_source_mapping, external_source, after_source_nat, after_destination_nat}
+use Rattle.translation.specs.Nat.{with_source_nat, has_ports, to_internal, is_same_interface, with_source_mapping}
+use Rattle.translation.specs.Nat.{external_source, after_source_nat, after_destination_nat}
 use Rattle.stepping.specs.Lookups.{look_up}
 use Rattle.stepping.specs.Paths.{PathResult}
 use Rattle.stepping.specs.Confirmations.{PacketResult, begun, begun_unless, confirmed_by, refusal, reply_to}
@@ -55,16 +56,18 @@ use Rattle.translation_laws.proofs.Kept.{MappingLaws}
 use Rattle.translation_laws.proofs.Leaves.{SendingLaws, leaves_between, found_so}
 use Rattle.translation_laws.proofs.Passing.{PassesWith, not_local, not_passed}
 
--- ---- no NAT statement acted
+-- ---- no NAT statement took effect
 
-accepted : (verdict : HookVerdict) (events : List Event) → IsOpen verdict → RecordsNat verdict events → did_nat_act events ≡ false → verdict ≡ Accepted
+accepted : (verdict : HookVerdict) (events : List Event) → IsOpen verdict → RecordsNat verdict events
+    → did_nat_act events ≡ false → verdict ≡ Accepted
 accepted Accepted events kept told untold = refl
 accepted Dropped events kept told untold = absurd kept
 accepted (Translated t) events kept told untold = absurd (true_and_false (did_nat_act events) untold told)
 
--- ---- behind the first step
+-- ---- behind destination NAT
 
-module _ (laws : MappingLaws) (mappings : List Mapping) (one : IsOneToOne mappings) (t : Tuple) (ports : has_ports t.kind ≡ true)
+module _ (laws : MappingLaws) (mappings : List Mapping) (one : IsOneToOne mappings) (t : Tuple) (ports : has_ports
+    t.kind ≡ true)
     (m : Mapping) (among : Contains mappings m) (kind : m.kind ≡ t.kind) (external : m.external ≡ t.destination) where
   -- the mapping, by the packet's tuple
   its_own : m ≡ mapping_at t.kind m.internal t.destination
@@ -79,16 +82,17 @@ module _ (laws : MappingLaws) (mappings : List Mapping) (one : IsOneToOne mappin
       let there = laws.inbound mappings t.kind r.0 t.destination found in
       found ∙ ap Some (one.one_internal (mapping_at t.kind r.0 t.destination) m there among (sym kind) (sym external))
 
-  -- led inside
+  -- inside the hooks
   abbrev run_inside : NewConnection
   run_inside = to_internal (new_connection_of t) (Some m.internal)
 
-  turned : (plant : PlantTree) (f : Facts) → after_destination_nat plant mappings f (New (new_connection_of t)) Accepted ≡ New run_inside
+  turned : (plant : PlantTree) (f : Facts)
+      → after_destination_nat plant mappings f (New (new_connection_of t)) Accepted ≡ New run_inside
   turned plant f =
       ap (λ (o : Option Endpoint). New (to_internal (new_connection_of t) o))
       (cond-true (has_ports t.kind) (inbound_of t.kind t.destination mappings) None ports ∙ inbound_is)
 
-  -- ---- behind the second
+  -- ---- behind source NAT
 
   -- its source is mapped at the external address
   record LeftSo (after : CtInfo) : Type 0 where
@@ -100,16 +104,19 @@ module _ (laws : MappingLaws) (mappings : List Mapping) (one : IsOneToOne mappin
     pub source : new_connection.source ≡ Some (mapping_at t.kind t.source (end_at t.destination.address port))
     pub dest : new_connection.dest ≡ Some (mapping_at t.kind m.internal t.destination)
 
-  left_so : (plant : PlantTree) (f : Facts) (after : CtInfo) → is_same_interface f.input.index (owner plant t.destination.address) ≡ false
+  left_so : (plant : PlantTree) (f : Facts) (after : CtInfo)
+      → is_same_interface f.input.index (owner plant t.destination.address) ≡ false
       → after_source_nat plant mappings f (New run_inside) Accepted ≡ Some after → LeftSo after
   left_so plant f after other left =
       let x : ExternalSource = record { address = t.destination.address; ports = None } in
       let out : external_source plant f run_inside Accepted ≡ Some x =
       cond-false (is_same_interface f.input.index (owner plant t.destination.address)) None (Some x) other in
       let from : option_map (λ (d : NewConnection). New d) (with_source_nat mappings run_inside (Some x)) ≡ Some after =
-      ap (λ (o : Option ExternalSource). option_map (λ (d : NewConnection). New d) (with_source_nat mappings run_inside o)) (sym out) ∙ left in
+      ap (λ (o : Option ExternalSource). option_map (λ (d : NewConnection). New d)
+      (with_source_nat mappings run_inside o)) (sym out) ∙ left in
       let d = some_of_map (λ (d : NewConnection). New d) (with_source_nat mappings run_inside (Some x)) after from in
-      let p = some_of_map (with_source_mapping run_inside x) (source_of t.kind t.source t.destination.address None mappings) d.0 d.1 in
+      let p = some_of_map (with_source_mapping run_inside x)
+      (source_of t.kind t.source t.destination.address None mappings) d.0 d.1 in
       record {
         port = p.0;
         chosen = p.1;
@@ -120,31 +127,43 @@ module _ (laws : MappingLaws) (mappings : List Mapping) (one : IsOneToOne mappin
         dest = ap (λ (d : NewConnection). d.dest) (sym p.2);
       }
 
-  module _ (setup : Setup) (f : Facts) (events : List Event) (entered : is_same_interface f.input.index (owner setup.plant t.destination.address) ≡ false)
+  module _ (setup : Setup) (f : Facts) (events : List Event) (entered : is_same_interface f.input.index
+      (owner setup.plant t.destination.address) ≡ false)
       (untold : did_nat_act events ≡ false) where
     by_left : (outcome : Outcome) (interface : ℕ) → outcome ≡ outcomes.Passed interface → (after : CtInfo)
         → LeftBy setup mappings f events (New run_inside) outcome after → LeftSo after
     by_left (outcomes.Passed i) interface is after left =
         let verdict = accepted left.0.verdict events left.1.undropped left.1.told untold in
         left_so setup.plant left.0.facts after
-        (subst (λ (i : Interface). is_same_interface i.index (owner setup.plant t.destination.address) ≡ false) (sym left.1.input) entered)
-        (subst (λ (x : HookVerdict). after_source_nat setup.plant mappings left.0.facts (New run_inside) x ≡ Some after) verdict left.2)
+        (subst (λ (i : Interface). is_same_interface i.index (owner setup.plant t.destination.address) ≡ false)
+        (sym left.1.input) entered)
+        (subst (λ (x : HookVerdict). after_source_nat setup.plant mappings left.0.facts (New run_inside) x ≡ Some after)
+        verdict left.2)
     by_left outcomes.Local interface is after left = absurd (not_local interface is)
     by_left (outcomes.Dropped cause) interface is after left = absurd (not_passed cause interface is)
 
-    by_goes : (asked : HookResult) → AskedSo f events asked → (outcome : Outcome) (interface : ℕ) → outcome ≡ outcomes.Passed interface → (after : CtInfo)
-        → LeftBy setup mappings f events (after_destination_nat setup.plant mappings asked.facts (New (new_connection_of t)) asked.verdict) outcome after → LeftSo after
+    by_goes : (asked : HookResult) → AskedSo f events asked → (outcome : Outcome) (interface : ℕ)
+        → outcome ≡ outcomes.Passed interface → (after : CtInfo)
+        → LeftBy setup mappings f events (after_destination_nat setup.plant mappings asked.facts
+        (New (new_connection_of t)) asked.verdict) outcome after → LeftSo after
     by_goes asked so outcome interface is after left =
         let verdict = accepted asked.verdict events so.undropped so.told untold in
-        let goes : after_destination_nat setup.plant mappings asked.facts (New (new_connection_of t)) asked.verdict ≡ New run_inside =
-        ap (after_destination_nat setup.plant mappings asked.facts (New (new_connection_of t))) verdict ∙ turned setup.plant asked.facts in
+        let goes : after_destination_nat setup.plant mappings asked.facts (New (new_connection_of t)) asked.verdict
+        ≡ New run_inside =
+        ap (after_destination_nat setup.plant mappings asked.facts (New (new_connection_of t))) verdict
+        ∙ turned setup.plant asked.facts in
         by_left outcome interface is after
         (subst (λ (w : CtInfo). LeftBy setup mappings f events w outcome after) goes left)
 
 -- ---- the entry
 
 abbrev begins_with : Tuple → Tuple → Option Mapping → Option Mapping → ConnectionChange
-begins_with original reply source dest = Begins (record { original = original; reply = reply; source = source; dest = dest })
+begins_with original reply source dest = Begins (record {
+  original = original;
+  reply = reply;
+  source = source;
+  dest = dest;
+})
 
 new_of : (kind : Kind) → has_ports kind ≡ true → first_state kind ≡ states.New
 new_of Tcp ports = refl
@@ -164,8 +183,9 @@ first_of t NotFound none ports = ap (λ (s : LookupState). new_ct_info s t) (new
 first_of t (Ends id) none ports = ap (λ (s : LookupState). new_ct_info s t) (new_of t.kind ports)
 first_of t (Found place) none ports = absurd none
 
--- whatever its way, what happened is its course's
-events_so : (w : CtInfo) (others : List ConntrackEntry) (path_result : PathResult) → (confirmed_by w others path_result).events ≡ path_result.events
+-- whatever its state, its events are its path's
+events_so : (w : CtInfo) (others : List ConntrackEntry) (path_result : PathResult)
+    → (confirmed_by w others path_result).events ≡ path_result.events
 events_so (Tracked of) others path_result = refl
 events_so (Related of) others path_result = refl
 events_so Invalid others path_result = refl
@@ -180,9 +200,11 @@ events_so (New new_connection) others path_result = by_refusal (refusal (reply_t
 begins_so : (others : List ConntrackEntry) (new_connection : NewConnection) (path_result : PathResult) (interface : ℕ)
     → (confirmed_by (New new_connection) others path_result).outcome ≡ outcomes.Passed interface
     → confirmed_by (New new_connection) others path_result ≡ begun others new_connection path_result
-begins_so others new_connection path_result interface passed = by_refusal (refusal (reply_to new_connection) others) passed
+begins_so others new_connection path_result interface passed =
+    by_refusal (refusal (reply_to new_connection) others) passed
   where
-    by_refusal : (o : Option Cause) → (begun_unless o others new_connection path_result).outcome ≡ outcomes.Passed interface
+    by_refusal : (o : Option Cause) → (begun_unless o others new_connection path_result).outcome
+        ≡ outcomes.Passed interface
         → begun_unless o others new_connection path_result ≡ begun others new_connection path_result
     by_refusal None e = refl
     by_refusal (Some cause) e = absurd (not_passed cause interface e)
@@ -194,7 +216,8 @@ change_begun NotFound none p mark reply source dest = refl
 change_begun (Ends id) none p mark reply source dest = refl
 change_begun (Found place) none p mark reply source dest = absurd none
 
-module _ (setup : Setup) (held : List ConntrackEntry) (now : ℕ) (r : Recorded) (e : Entry) (t : Tuple) (interface : ℕ) (p : PassesWith setup held now r e t interface)
+module _ (setup : Setup) (held : List ConntrackEntry) (now : ℕ) (r : Recorded) (e : Entry) (t : Tuple) (interface : ℕ)
+    (p : PassesWith setup held now r e t interface)
     (begins : IsTrue (is_creation e.tracked.change)) where
   none_so : (b : Belonging) → belongs_in held p.passes.s.tuple p.passes.s.flags ≡ b → IsNone b
   none_so NotFound is = tt
@@ -206,29 +229,44 @@ module _ (setup : Setup) (held : List ConntrackEntry) (now : ℕ) (r : Recorded)
   none : IsNone (belongs_in held p.passes.s.tuple p.passes.s.flags)
   none = none_so (belongs_in held p.passes.s.tuple p.passes.s.flags) refl
 
-  -- what a draft comes to
+  -- the result of a new connection
   module _ (new_connection : NewConnection) (is : p.passes.path_result.info ≡ New new_connection) where
-    its_entry : e ≡ entry_of now (Some (look_up held p.passes.s)) (Ok p.passes.a) (begun (look_up held p.passes.s).others new_connection p.passes.path_result)
+    its_entry : e ≡ entry_of now (Some (look_up held p.passes.s)) (Ok p.passes.a) (begun
+        (look_up held p.passes.s).others new_connection p.passes.path_result)
     its_entry =
         let q = p.passes in
         let others = (look_up held q.s).others in
-        let first : p.packet_result ≡ confirmed_by (New new_connection) others q.path_result = q.is ∙ ap (λ (w : CtInfo). confirmed_by w others q.path_result) is in
-        let passed : (confirmed_by (New new_connection) others q.path_result).outcome ≡ outcomes.Passed interface = sym (ap (λ (x : PacketResult). x.outcome) first) ∙ p.passed in
-        p.is ∙ ap (entry_of now (Some (look_up held q.s)) (Ok q.a)) (first ∙ begins_so others new_connection q.path_result interface passed)
+        let first : p.packet_result ≡ confirmed_by (New new_connection) others q.path_result =
+        q.is ∙ ap (λ (w : CtInfo). confirmed_by w others q.path_result) is in
+        let passed : (confirmed_by (New new_connection) others q.path_result).outcome ≡ outcomes.Passed interface =
+        sym (ap (λ (x : PacketResult). x.outcome) first) ∙ p.passed in
+        p.is ∙ ap (entry_of now (Some (look_up held q.s)) (Ok q.a)) (first
+        ∙ begins_so others new_connection q.path_result interface passed)
 
-    its_beginning : e.tracked.change ≡ Begins (record { original = p.passes.s.tuple; reply = reply_to new_connection; source = new_connection.source; dest = new_connection.dest })
+    its_beginning : e.tracked.change ≡ Begins (record {
+      original = p.passes.s.tuple;
+      reply = reply_to new_connection;
+      source = new_connection.source;
+      dest = new_connection.dest;
+    })
     its_beginning =
         ap (λ (x : Entry). x.tracked.change) its_entry
-        ∙ change_begun (belongs_in held p.passes.s.tuple p.passes.s.flags) none (at_moment now p.passes.s) p.passes.path_result.mark (reply_to new_connection) new_connection.source new_connection.dest
+        ∙ change_begun (belongs_in held p.passes.s.tuple p.passes.s.flags) none (at_moment now p.passes.s)
+        p.passes.path_result.mark (reply_to new_connection) new_connection.source new_connection.dest
 
-    its_packet : e.packet ≡ rewritten p.passes.a.packet (between new_connection.tuple (Some (ttl p.passes.a.packet - 1)))
+    its_packet : e.packet ≡ rewritten p.passes.a.packet (between new_connection.tuple
+        (Some (ttl p.passes.a.packet - 1)))
     its_packet =
-        ap (λ (x : Entry). x.packet) its_entry ∙ ap (λ (w : CtInfo). sent_on p.passes.a.packet w p.passes.path_result.outcome) is
+        ap (λ (x : Entry). x.packet) its_entry
+        ∙ ap (λ (w : CtInfo). sent_on p.passes.a.packet w p.passes.path_result.outcome) is
         ∙ ap (sent_on p.passes.a.packet (New new_connection)) p.passes.outcome
 
-  module _ (laws : MappingLaws) (sending : SendingLaws) (one : IsOneToOne (mappings_in (look_up held p.passes.s).others)) (ports : has_ports p.passes.s.tuple.kind ≡ true)
-      (m : Mapping) (among : Contains (mappings_in (look_up held p.passes.s).others) m) (kind : m.kind ≡ p.passes.s.tuple.kind)
-      (external : m.external ≡ p.passes.s.tuple.destination) (other : is_same_interface p.passes.a.interface (owner setup.plant m.external.address) ≡ false)
+  module _ (laws : MappingLaws) (sending : SendingLaws)
+      (one : IsOneToOne (mappings_in (look_up held p.passes.s).others)) (ports : has_ports p.passes.s.tuple.kind ≡ true)
+      (m : Mapping) (among : Contains (mappings_in (look_up held p.passes.s).others) m) (kind : m.kind
+      ≡ p.passes.s.tuple.kind)
+      (external : m.external ≡ p.passes.s.tuple.destination) (other : is_same_interface p.passes.a.interface
+      (owner setup.plant m.external.address) ≡ false)
       (untold : did_nat_act e.events ≡ false) where
     abbrev mappings : List Mapping
     mappings = mappings_in (look_up held p.passes.s).others
@@ -237,19 +275,24 @@ module _ (setup : Setup) (held : List ConntrackEntry) (now : ℕ) (r : Recorded)
     path_without_nat =
         let q = p.passes in
         let same : e.events ≡ q.path_result.events =
-        ap (λ (x : Entry). x.events) p.is ∙ ap (λ (x : PacketResult). x.events) q.is ∙ events_so q.path_result.info (look_up held q.s).others q.path_result in
+        ap (λ (x : Entry). x.events) p.is ∙ ap (λ (x : PacketResult). x.events) q.is
+        ∙ events_so q.path_result.info (look_up held q.s).others q.path_result in
         subst (λ (es : List Event). did_nat_act es ≡ false) same untold
 
     entered : is_same_interface p.passes.f.input.index (owner setup.plant p.passes.s.tuple.destination.address) ≡ false
     entered =
-        subst (λ (i : Interface). is_same_interface i.index (owner setup.plant p.passes.s.tuple.destination.address) ≡ false) (sym p.passes.input)
-        (subst (λ (x : Endpoint). is_same_interface p.passes.a.interface (owner setup.plant x.address) ≡ false) external other)
+        subst (λ (i : Interface). is_same_interface i.index (owner setup.plant p.passes.s.tuple.destination.address)
+        ≡ false) (sym p.passes.input)
+        (subst (λ (x : Endpoint). is_same_interface p.passes.a.interface (owner setup.plant x.address) ≡ false) external
+        other)
 
     left : LeftSo laws mappings one p.passes.s.tuple ports m among kind external p.passes.path_result.info
     left =
         let q = p.passes in
-        let goes = subst (λ (w : CtInfo). Goes setup mappings q.f w q.path_result) (first_of q.s.tuple (belongs_in held q.s.tuple q.s.flags) none ports) q.goes in
-        by_goes laws mappings one q.s.tuple ports m among kind external setup q.f q.path_result.events entered path_without_nat
+        let goes = subst (λ (w : CtInfo). Goes setup mappings q.f w q.path_result)
+        (first_of q.s.tuple (belongs_in held q.s.tuple q.s.flags) none ports) q.goes in
+        by_goes laws mappings one q.s.tuple ports m among kind external setup q.f q.path_result.events entered
+        path_without_nat
         goes.asked goes.so q.path_result.outcome interface q.outcome q.path_result.info goes.left
 
     abbrev here : Mapping
@@ -266,10 +309,12 @@ module _ (setup : Setup) (held : List ConntrackEntry) (now : ℕ) (r : Recorded)
           began = its_beginning d left.is
               ∙ ap (λ (x : Tuple). begins_with u (inverse x) d.source d.dest) left.reply
               ∙ ap (λ (o : Option Mapping). begins_with u (inverse (hairpinned u here left.port)) o d.dest) left.source
-              ∙ ap (λ (o : Option Mapping). begins_with u (inverse (hairpinned u here left.port)) (Some (mapping_at u.kind u.source (end_at u.destination.address left.port))) o) left.dest;
+              ∙ ap (λ (o : Option Mapping). begins_with u (inverse (hairpinned u here left.port))
+              (Some (mapping_at u.kind u.source (end_at u.destination.address left.port))) o) left.dest;
           left = ap tuple_of (its_packet d left.is)
               ∙ leaves_between setup held now r e t interface p sending d.tuple same
-              (subst (λ (k : Kind). PortsMatchKind k d.tuple.source.port d.tuple.destination.port) (sym same) (ported_suits u.kind d.tuple.source.port d.tuple.destination.port ports))
+              (subst (λ (k : Kind). PortsMatchKind k d.tuple.source.port d.tuple.destination.port) (sym same)
+              (ported_suits u.kind d.tuple.source.port d.tuple.destination.port ports))
               (Some (ttl p.passes.a.packet - 1))
               ∙ ap Some left.reply;
         }

@@ -1,5 +1,6 @@
--- No two connections that are held have a tuple in common, and their mappings stay one to one.
-use Rattle.std.proofs.Common.{◌≡◌, ℕ, Bool, IsTrue, List, [], ◌∷◌, ◌++◌, Option, Some, inl, inr, refl, sym, subst, ◌∙◌, arith}
+-- The connections held share no tuple, and their mappings stay one to one.
+use Rattle.std.proofs.Common.{◌≡◌, ℕ, Bool, IsTrue, List, [], ◌∷◌, ◌++◌, Option, Some, inl, inr, refl, sym, subst, ◌∙◌}
+use Rattle.std.proofs.Common.{arith}
 use Rattle.std.specs.List.{Contains}
 use Rattle.std.proofs.lemmas.List.Elements.{All-filter, Contains-append_left, Contains-append_right}
 use Rattle.list_laws.specs.Lists.{Contains-head}
@@ -15,26 +16,31 @@ use Rattle.conntrack.specs.declared.connection.ConnId.{ConnId}
 use Rattle.conntrack.specs.declared.connection.ConntrackEntry.{ConntrackEntry}
 use Rattle.box_file.specs.declared.limits.Limits.{Limits}
 use Rattle.conntrack.specs.ConntrackEntry.{have_disjoint_tuples, belongs_in, has_distinct_ids, is_live, live_at}
-use Rattle.conntrack.specs.Updates.{Arrival, Confirmation, Unconfirmed, Confirmed, DoesNotClash, after_end, after_packet}
+use Rattle.conntrack.specs.Updates.{Arrival, Confirmation, Unconfirmed, Confirmed, DoesNotClash, after_end}
+use Rattle.conntrack.specs.Updates.{after_packet}
 use Rattle.translation.specs.declared.ct_info.NewConnection.{NewConnection}
 use Rattle.translation.specs.LiveMappings.{listed, mappings_in}
 use Rattle.translation.specs.Nat.{range_of}
 use Rattle.stepping.specs.Next.{at_moment}
 use Rattle.translation_laws.proofs.Begun.{IsBegun, IsCounted}
 use Rattle.translation_laws.proofs.NewConnections.{NewConnectionSo, SourceSo, stayed, went, with_nat_status_so}
-use Rattle.translation_laws.proofs.Each.{IsBegunSo, MappingsAre, begun_by, each_after_end, each_after_packet, each_holder, each_mapping}
+use Rattle.translation_laws.proofs.Each.{IsBegunSo, MappingsAre, begun_by, each_after_end, each_after_packet}
+use Rattle.translation_laws.proofs.Each.{each_holder, each_mapping}
 use Rattle.translation_laws.proofs.Lifted.{IsKept}
 
 -- ---- no tuple in common
 
 -- what is known of connections that are apart
 pub record StillApart : Type 0 where
-  pub packet : (held : List ConntrackEntry) (id : ConnId) (p : Arrival) (confirmation : Confirmation) → IsTrue (has_distinct_ids held) → IsTrue (have_disjoint_tuples held)
+  pub packet : (held : List ConntrackEntry) (id : ConnId) (p : Arrival) (confirmation : Confirmation)
+      → IsTrue (has_distinct_ids held) → IsTrue (have_disjoint_tuples held)
       → DoesNotClash (belongs_in held p.tuple p.flags) confirmation held
       → IsTrue (have_disjoint_tuples (after_packet (belongs_in held p.tuple p.flags) id p confirmation held))
-  pub live : (limits : Limits) (held : List ConntrackEntry) (now : ℕ) → IsTrue (have_disjoint_tuples held) → IsTrue (have_disjoint_tuples (live_at limits now held))
+  pub live : (limits : Limits) (held : List ConntrackEntry) (now : ℕ) → IsTrue (have_disjoint_tuples held)
+      → IsTrue (have_disjoint_tuples (live_at limits now held))
 
-begun_apart : (port_choice : Option Bool) (confirmation : Confirmation) (b : Belonging) (t : Tuple) (held : List ConntrackEntry) → IsCounted port_choice confirmation b t held
+begun_apart : (port_choice : Option Bool) (confirmation : Confirmation) (b : Belonging) (t : Tuple)
+    (held : List ConntrackEntry) → IsCounted port_choice confirmation b t held
     → DoesNotClash b confirmation held
 begun_apart port_choice Unconfirmed NotFound t held c = tt
 begun_apart port_choice Unconfirmed (Ends id) t held c = tt
@@ -49,23 +55,29 @@ apart_kept still = record {
   live = λ limits history held now apart. still.live limits held now apart;
   none = λ history held e now is apart. apart;
   packet = λ history held e id now s confirmation p distinct read is touched apart.
-      still.packet held id _ confirmation distinct apart (begun_apart e.port_choice confirmation (belongs_in held s.tuple s.flags) s.tuple held touched);
+      still.packet held id _ confirmation distinct apart (begun_apart e.port_choice confirmation
+      (belongs_in held s.tuple s.flags) s.tuple held touched);
 }
 
 -- ---- one to one
 
 -- what is known of lists of mappings
 pub record MappingLaws : Type 0 where
-  pub source : (held : List Mapping) (kind : Kind) (internal : Endpoint) (address : ℕ) (range : Option CandidateRange) (port : ℕ)
+  pub source : (held : List Mapping) (kind : Kind) (internal : Endpoint) (address : ℕ) (range : Option CandidateRange)
+      (port : ℕ)
       → IsOneToOne held → source_of kind internal address range held ≡ Some port
-      → IsOneToOne (record { kind = kind; internal = internal; external = record { address = address; port = port } } ∷ held)
-  pub within : (some all : List Mapping) → ((m : Mapping) → Contains some m → Contains all m) → IsOneToOne all → IsOneToOne some
-  pub inbound : (held : List Mapping) (kind : Kind) (internal external : Endpoint) → inbound_of kind external held ≡ Some internal
+      → IsOneToOne (record { kind = kind; internal = internal; external = record { address = address; port = port } }
+      ∷ held)
+  pub within : (some all : List Mapping) → ((m : Mapping) → Contains some m → Contains all m) → IsOneToOne all
+      → IsOneToOne some
+  pub inbound : (held : List Mapping) (kind : Kind) (internal external : Endpoint)
+      → inbound_of kind external held ≡ Some internal
       → Contains held (record { kind = kind; internal = internal; external = external })
 
 module _ (laws : MappingLaws) where
   -- with the mapping of its source all stay one to one
-  source_one : (mappings : List Mapping) (t : Tuple) (d : NewConnection) → NewConnectionSo mappings t d → IsOneToOne mappings
+  source_one : (mappings : List Mapping) (t : Tuple) (d : NewConnection) → NewConnectionSo mappings t d
+      → IsOneToOne mappings
       → IsOneToOne (listed d.source ++ mappings)
   source_one mappings t d drafted one = by_source drafted.source
     where
@@ -76,7 +88,8 @@ module _ (laws : MappingLaws) where
           (laws.source mappings t.kind t.source x.address (range_of x.ports) port one chosen)
 
   -- that of its destination is live already
-  pub dest_held : (mappings : List Mapping) (t : Tuple) (d : NewConnection) → NewConnectionSo mappings t d → (m : Mapping) → d.dest ≡ Some m → Contains mappings m
+  pub dest_held : (mappings : List Mapping) (t : Tuple) (d : NewConnection) → NewConnectionSo mappings t d
+      → (m : Mapping) → d.dest ≡ Some m → Contains mappings m
   dest_held mappings t d drafted m is =
       let r = drafted.dest m is in
       subst (Contains mappings) (sym r.0) (laws.inbound mappings t.kind d.tuple.destination t.destination r.1)
@@ -86,27 +99,34 @@ module _ (laws : MappingLaws) where
     after_one b one =
         laws.within (mappings_in (after_end b held)) (mappings_in held)
         (each_mapping (Contains (mappings_in held)) (after_end b held)
-        (each_after_end (MappingsAre (Contains (mappings_in held))) b held (each_holder (Contains (mappings_in held)) held (λ m k. k)))) one
+        (each_after_end (MappingsAre (Contains (mappings_in held))) b held
+        (each_holder (Contains (mappings_in held)) held (λ m k. k)))) one
 
-    live_one : (limits : Limits) (now : ℕ) → IsOneToOne (mappings_in held) → IsOneToOne (mappings_in (live_at limits now held))
+    live_one : (limits : Limits) (now : ℕ) → IsOneToOne (mappings_in held)
+        → IsOneToOne (mappings_in (live_at limits now held))
     live_one limits now one =
         laws.within (mappings_in (live_at limits now held)) (mappings_in held)
         (each_mapping (Contains (mappings_in held)) (live_at limits now held)
-        (All-filter (is_live limits now) (MappingsAre (Contains (mappings_in held))) held (each_holder (Contains (mappings_in held)) held (λ m k. k)))) one
+        (All-filter (is_live limits now) (MappingsAre (Contains (mappings_in held))) held
+        (each_holder (Contains (mappings_in held)) held (λ m k. k)))) one
 
     module _ (b : Belonging) (id : ConnId) (p : Arrival) (confirmation : Confirmation) where
       -- where all that are held in the end are among some that are one to one
-      among_one : (all : List Mapping) → IsOneToOne all → ((m : Mapping) → Contains (mappings_in (after_end b held)) m → Contains all m)
-          → IsBegunSo (MappingsAre (Contains all)) b id p confirmation → IsOneToOne (mappings_in (after_packet b id p confirmation held))
+      among_one : (all : List Mapping) → IsOneToOne all → ((m : Mapping) → Contains (mappings_in (after_end b held)) m
+          → Contains all m)
+          → IsBegunSo (MappingsAre (Contains all)) b id p confirmation
+          → IsOneToOne (mappings_in (after_packet b id p confirmation held))
       among_one all one within begun =
           laws.within (mappings_in (after_packet b id p confirmation held)) all
           (each_mapping (Contains all) (after_packet b id p confirmation held)
           (each_after_packet (MappingsAre (Contains all)) (λ direction flags mark now h k. k) b id p confirmation held
           (each_holder (Contains all) (after_end b held) within) begun)) one
 
-    -- one that is begun beside others
-    module _ (others : List ConntrackEntry) (one : IsOneToOne (mappings_in others)) (port_choice : Option Bool) (id : ConnId) (p : Arrival)
-        (mark : ℕ) (reply : Tuple) (source dest : Option Mapping) (begun : IsBegun others p.tuple reply source dest port_choice) where
+    -- a new one beside others
+    module _ (others : List ConntrackEntry) (one : IsOneToOne (mappings_in others)) (port_choice : Option Bool)
+        (id : ConnId) (p : Arrival)
+        (mark : ℕ) (reply : Tuple) (source dest : Option Mapping)
+        (begun : IsBegun others p.tuple reply source dest port_choice) where
       drafted : NewConnectionSo (mappings_in others) p.tuple begun.new_connection
       drafted = with_nat_status_so (mappings_in others) p.tuple begun.new_connection begun.drafted
 
@@ -123,8 +143,10 @@ module _ (laws : MappingLaws) where
           Contains-append_right (listed source) (mappings_in others) m
           (dest_held (mappings_in others) p.tuple begun.new_connection drafted m (sym begun.to ∙ e))
 
-  one_after_packet : (port_choice : Option Bool) (b : Belonging) (id : ConnId) (p : Arrival) (confirmation : Confirmation) (held : List ConntrackEntry)
-      → IsOneToOne (mappings_in held) → IsCounted port_choice confirmation b p.tuple held → IsOneToOne (mappings_in (after_packet b id p confirmation held))
+  one_after_packet : (port_choice : Option Bool) (b : Belonging) (id : ConnId) (p : Arrival)
+      (confirmation : Confirmation) (held : List ConntrackEntry)
+      → IsOneToOne (mappings_in held) → IsCounted port_choice confirmation b p.tuple held
+      → IsOneToOne (mappings_in (after_packet b id p confirmation held))
   one_after_packet port_choice (Found place) id p Unconfirmed held one c = one
   one_after_packet port_choice (Found place) id p (Confirmed mark reply source dest) held one c =
       among_one held (Found place) id p (Confirmed mark reply source dest) (mappings_in held) one (λ m k. k) tt
@@ -152,5 +174,6 @@ module _ (laws : MappingLaws) where
     live = λ limits history held now one. live_one held limits now one;
     none = λ history held e now is one. one;
     packet = λ history held e id now s confirmation p distinct read is touched one.
-        one_after_packet e.port_choice (belongs_in held s.tuple s.flags) id (at_moment now s) confirmation held one touched;
+        one_after_packet e.port_choice (belongs_in held s.tuple s.flags) id (at_moment now s) confirmation held one
+        touched;
   }

@@ -24,7 +24,8 @@ comes_to h t (inl e) = or_left (same_tuple h.original t) (same_tuple h.reply t) 
 comes_to h t (inr e) = or_right (same_tuple h.original t) (same_tuple h.reply t) (same_tuple-is h.reply t e)
 
 -- no tuple of the first is one of those behind it
-not_behind : (x : ConntrackEntry) (held : List ConntrackEntry) (t : Tuple) → have_disjoint_tuples (x ∷ held) ≡ true → HasIncoming (connection_of x) t → is_taken t held ≡ false
+not_behind : (x : ConntrackEntry) (held : List ConntrackEntry) (t : Tuple) → have_disjoint_tuples (x ∷ held) ≡ true
+    → HasIncoming (connection_of x) t → is_taken t held ≡ false
 not_behind x held t apart (inl e) = subst (λ (u : Tuple). is_taken u held ≡ false) e (parts x held apart).0
 not_behind x held t apart (inr e) = subst (λ (u : Tuple). is_taken u held ≡ false) e (parts x held apart).1
 
@@ -33,12 +34,14 @@ apart_listed [] apart = tt
 apart_listed (x ∷ held) apart = (
   λ d t among first later.
       let u = Contains-unmap connection_of held d among in
-      let taken = taken_by t held u.0 u.1 (comes_to u.0 t (subst (λ (c : Connection). HasIncoming c t) (sym u.2) later)) in
+      let taken = taken_by t held u.0 u.1 (comes_to u.0 t (subst (λ (c : Connection). HasIncoming c t) (sym u.2) later))
+      in
       true_and_false (is_taken t held) (not_behind x held t apart first) taken,
   apart_listed held (parts x held apart).2,
 )
 
-pub listed_mapping : (held : List ConntrackEntry) (c : Connection) (m : Mapping) → Contains (map connection_of held) c → HoldsMapping c m → Contains (mappings_in held) m
+pub listed_mapping : (held : List ConntrackEntry) (c : Connection) (m : Mapping) → Contains (map connection_of held) c
+    → HoldsMapping c m → Contains (mappings_in held) m
 listed_mapping held c m among holds =
     let u = Contains-unmap connection_of held c among in
     mapping_of_holder held u.0 m u.1 (subst (λ (d : Connection). HoldsMapping d m) (sym u.2) holds)

@@ -1,8 +1,10 @@
--- A connection that wasn't ended lives exactly as long as its last packet says.
+-- A connection that wasn't removed lives while its idle time is below its limit.
 use Rattle.std.specs.Prelude.{filter, map, nat_lt}
-use Rattle.std.proofs.Common.{◌≡◌, ℕ, ◌<◌, Bool, true, false, cond, not, List, [], ◌∷◌, ◌⊎◌, inl, inr, refl, sym, ap, subst, arith}
+use Rattle.std.proofs.Common.{◌≡◌, ℕ, ◌<◌, Bool, true, false, cond, not, List, [], ◌∷◌, ◌⊎◌, inl, inr, refl, sym, ap}
+use Rattle.std.proofs.Common.{subst, arith}
 use Rattle.std.specs.List.{Contains}
-use Rattle.std.proofs.lemmas.Bool.{and_parts, and_from, cases_Bool, true_and_false, not_from_false, cond-true, cond-false}
+use Rattle.std.proofs.lemmas.Bool.{and_parts, and_from, cases_Bool, true_and_false, not_from_false, cond-true}
+use Rattle.std.proofs.lemmas.Bool.{cond-false}
 use Rattle.std.proofs.lemmas.Bool.Decides.{nat_tests}
 use Rattle.list_laws.specs.Lists.{Contains-head}
 use Rattle.list_laws.specs.Elements.{Contains-cases, Contains-tail}
@@ -18,19 +20,26 @@ their_names history (c ∷ cs) = ap (λ l. c ∷ l) (their_names history cs)
 
 has_filter : (p : ℕ → Bool) (cs : List ℕ) (c : ℕ) → Contains cs c → p c ≡ true → Contains (filter p cs) c
 has_filter p [] c among passes = among
-has_filter p (d ∷ cs) c among passes = by_place (λ k. has_filter p cs c k passes) (Contains-cases d cs c among) (cases_Bool (p d))
+has_filter p (d ∷ cs) c among passes =
+    by_place (λ k. has_filter p cs c k passes) (Contains-cases d cs c among) (cases_Bool (p d))
   where
-    by_place : (Contains cs c → Contains (filter p cs) c) → (d ≡ c) ⊎ Contains cs c → (p d ≡ true) ⊎ (p d ≡ false) → Contains (cond (p d) (d ∷ filter p cs) (filter p cs)) c
-    by_place rest (inl e) (inl y) = subst (λ (l : List ℕ). Contains l c) (sym (cond-true (p d) (d ∷ filter p cs) (filter p cs) y)) (subst (λ (n : ℕ). Contains (d ∷ filter p cs) n) e (Contains-head d (filter p cs)))
+    by_place : (Contains cs c → Contains (filter p cs) c) → (d ≡ c) ⊎ Contains cs c → (p d ≡ true) ⊎ (p d ≡ false)
+        → Contains (cond (p d) (d ∷ filter p cs) (filter p cs)) c
+    by_place rest (inl e) (inl y) = subst (λ (l : List ℕ). Contains l c)
+        (sym (cond-true (p d) (d ∷ filter p cs) (filter p cs) y)) (subst (λ (n : ℕ). Contains (d ∷ filter p cs) n) e
+        (Contains-head d (filter p cs)))
     by_place rest (inl e) (inr n) = absurd (true_and_false (p d) n (subst (λ (k : ℕ). p k ≡ true) (sym e) passes))
-    by_place rest (inr k) (inl y) = subst (λ (l : List ℕ). Contains l c) (sym (cond-true (p d) (d ∷ filter p cs) (filter p cs) y)) (Contains-tail d (filter p cs) c (rest k))
-    by_place rest (inr k) (inr n) = subst (λ (l : List ℕ). Contains l c) (sym (cond-false (p d) (d ∷ filter p cs) (filter p cs) n)) (rest k)
+    by_place rest (inr k) (inl y) = subst (λ (l : List ℕ). Contains l c)
+        (sym (cond-true (p d) (d ∷ filter p cs) (filter p cs) y)) (Contains-tail d (filter p cs) c (rest k))
+    by_place rest (inr k) (inr n) = subst (λ (l : List ℕ). Contains l c)
+        (sym (cond-false (p d) (d ∷ filter p cs) (filter p cs) n)) (rest k)
 
 filter_passes : (p : ℕ → Bool) (cs : List ℕ) (c : ℕ) → Contains (filter p cs) c → p c ≡ true
 filter_passes p [] c among = absurd (omega (arith, among.1))
 filter_passes p (d ∷ cs) c among = by_test (λ k. filter_passes p cs c k) (p d) refl among
   where
-    by_test : (Contains (filter p cs) c → p c ≡ true) → (b : Bool) → p d ≡ b → Contains (cond b (d ∷ filter p cs) (filter p cs)) c → p c ≡ true
+    by_test : (Contains (filter p cs) c → p c ≡ true) → (b : Bool) → p d ≡ b
+        → Contains (cond b (d ∷ filter p cs) (filter p cs)) c → p c ≡ true
     by_test rest false e k = rest k
     by_test rest true e k = by_place (Contains-cases d (filter p cs) c k)
       where
@@ -49,6 +58,11 @@ pub lives_always : (setup : Setup) (history : List Entry) (now : ℕ) → LivesO
 lives_always setup history now c among unended =
     let alive : ℕ → Bool = λ k. is_alive (limits_of setup) k (tracked_of history) now in
     let same = their_names (tracked_of history) (filter alive (begun_in (tracked_of history))) in (
-      λ listed. below_so _ _ (and_parts (not (is_ended c (tracked_of history))) (is_live (limits_of setup) now (connection_in c (tracked_of history))) (filter_passes alive (begun_in (tracked_of history)) c (subst (λ (l : List ℕ). Contains l c) same listed))).1,
-      λ lt. subst (λ (l : List ℕ). Contains l c) (sym same) (has_filter alive (begun_in (tracked_of history)) c among (and_from (not (is_ended c (tracked_of history))) (is_live (limits_of setup) now (connection_in c (tracked_of history))) (not_from_false (is_ended c (tracked_of history)) unended) (so_below _ _ lt))),
+      λ listed. below_so _ _ (and_parts (not (is_ended c (tracked_of history)))
+          (is_live (limits_of setup) now (connection_in c (tracked_of history)))
+          (filter_passes alive (begun_in (tracked_of history)) c (subst (λ (l : List ℕ). Contains l c) same listed))).1,
+      λ lt. subst (λ (l : List ℕ). Contains l c) (sym same) (has_filter alive (begun_in (tracked_of history)) c among
+          (and_from (not (is_ended c (tracked_of history)))
+          (is_live (limits_of setup) now (connection_in c (tracked_of history)))
+          (not_from_false (is_ended c (tracked_of history)) unended) (so_below _ _ lt))),
     )

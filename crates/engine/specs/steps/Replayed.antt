@@ -1,11 +1,12 @@
--- What taking the records of a capture gives.
+-- The replay of a capture's records.
 use Rattle.std.specs.Prelude.{◌≡◌, ◌≤◌, ℕ, Bool, List, [], ◌∷◌, ◌++◌, length, All, ◌⊎◌, Option, Some, None}
 use Rattle.std.specs.List.{flat_map}
 use Rattle.std.specs.Io.KnownBytes.{Appends, prepend_known}
 use Rattle.pcap_io.specs.declared.format.Format.{Format}
 use Rattle.pcap_io.specs.declared.fault.CaptureFault.{CaptureFault}
 use Rattle.pcap_io.specs.declared.fault.CaptureFault.TheVariants as captures
-use Rattle.pcap_io.specs.Pcap.{Captured, Recorded, IsRecord, Ending, Whole, Torn, Malformed, Over, Ends, frame, stream_of, decoded_records, MOST_RECORDS}
+use Rattle.pcap_io.specs.Pcap.{Captured, Recorded, IsRecord, Ending, Whole, Torn, Malformed, Over, Ends}
+use Rattle.pcap_io.specs.Pcap.{frame, stream_of, decoded_records, MOST_RECORDS}
 use Rattle.pcap_io.specs.CaptureStates.{CaptureState, READ_AHEAD}
 use Rattle.pcap_io.specs.Sll2.{sll2_record}
 use Rattle.pcap_io.specs.Counting.{AppendsPrefix, one_more}
@@ -17,57 +18,55 @@ use Rattle.history.specs.Setup.{Setup}
 use Rattle.stepping.specs.Next.{Next, IsHistoryOf}
 use Rattle.stepping.specs.Representing.{Represents}
 use Rattle.engine.specs.declared.fault.RunFault.{RunFault}
-use Rattle.engine.specs.declared.fault.RunFault.TheVariants.{Rules, Box, Capture, Device, Memory}
+use Rattle.engine.specs.declared.fault.RunFault.TheVariants.{Device, Memory}
 use Rattle.engine.specs.declared.replay.Replay.{Replay}
 use Rattle.engine.specs.Meaning.{ending_of}
 
--- the records of the packets that a story sends
+-- the output capture's records of a history
 abbrev pub sent_records : List Entry → List ℕ
 sent_records history = flat_map sll2_record (flat_map sends (in_order history))
 
--- the faults at which the records stop
+-- the faults at which records stop
 abbrev pub IsStop : Option CaptureFault → Type 0
 IsStop None = Unit {0}
 IsStop (Some captures.TornEnd) = Unit {0}
 IsStop (Some captures.Malformed) = Unit {0}
 IsStop (Some captures.TooMany) = Unit {0}
-IsStop (Some captures.Magic) = ⊥
-IsStop (Some captures.Version) = ⊥
-IsStop (Some captures.LinkType) = ⊥
+IsStop _ = ⊥
 
--- how they stop at such a fault, or at none
+-- the ending at such a fault, or at none
 abbrev pub ending_at : Option CaptureFault → Ending
-ending_at None = Whole
 ending_at (Some captures.TornEnd) = Torn
 ending_at (Some captures.Malformed) = Malformed
 ending_at (Some captures.TooMany) = Over
-ending_at (Some captures.Magic) = Whole
-ending_at (Some captures.Version) = Whole
-ending_at (Some captures.LinkType) = Whole
+ending_at _ = Whole
 
 -- ---- the writers
 
--- what a replay starts from: the rules and the box, whether it traces, and what the writers of the capture and of the report hold, where it is known
+-- the start of a replay: the configuration, whether it traces, and what the two writers hold, where it is
+-- known
 pub record ReplayStart : Type 0 where
   pub setup : Setup
   pub trace : Bool
   pub sent : Option (List ℕ)
   pub report : Option (List ℕ)
 
--- both writers got all that a story gives, but for what comes after the last record
+-- both outputs of a history are written, but for counters and totals
 pub record AllWritten (start : ReplayStart) (history : List Entry) (w r : Option (List ℕ)) : Type 0 where
   pub all_sent : Appends start.sent w (capture_text history)
   pub all_lines : Appends start.report r (entry_lines start.setup.rules start.trace history)
 
--- both got a beginning of it
+-- a prefix of each is written
 pub record PrefixWritten (start : ReplayStart) (history : List Entry) (w r : Option (List ℕ)) : Type 0 where
   pub part_sent : AppendsPrefix start.sent w (capture_text history)
   pub part_lines : AppendsPrefix start.report r (entry_lines start.setup.rules start.trace history)
 
 -- ---- one record after another
 
--- a replay stands for a story: its engine and its report do, and the writers got all that the story gives, but for what waits in the sink and what is noted in the report
-pub record ReplayRepresents (replay : Replay) (start : ReplayStart) (history : List Entry) (w r : Option (List ℕ)) : Type 0 where
+-- a replay represents a history: its engine and its report do, and both outputs are written but for the
+-- sink's buffer and the report's notes
+pub record ReplayRepresents (replay : Replay) (start : ReplayStart) (history : List Entry)
+    (w r : Option (List ℕ)) : Type 0 where
   pub same : replay.engine.setup ≡ start.setup
   pub represents : Represents replay.engine history
   pub gets : AppendsBuffered [] start.sent w replay.sink.buffered (capture_text history)
@@ -75,64 +74,75 @@ pub record ReplayRepresents (replay : Replay) (start : ReplayStart) (history : L
   pub reports : IsReportOf replay.numbers start.setup.rules start.trace history lines
   pub appends_report : Appends start.report r lines
 
--- one more record was taken
-pub record TakesRecord (replay : Replay) (start : ReplayStart) (history : List Entry) (taken : Recorded) (w r : Option (List ℕ)) : Type 0 where
+-- one more record was processed
+pub record TakesRecord (replay : Replay) (start : ReplayStart) (history : List Entry) (taken : Recorded)
+    (w r : Option (List ℕ)) : Type 0 where
   pub entry : Entry
   pub next : Next start.setup history taken entry
   pub replay_represents : ReplayRepresents replay start (entry ∷ history) w r
 
--- the record's entry was reached, and the writers got a beginning of what the story gives with it
-pub record BreaksAtRecord (start : ReplayStart) (history : List Entry) (taken : Recorded) (w r : Option (List ℕ)) : Type 0 where
+-- the replay stopped at the record: a prefix of the outputs with its entry is written
+pub record BreaksAtRecord (start : ReplayStart) (history : List Entry) (taken : Recorded)
+    (w r : Option (List ℕ)) : Type 0 where
   pub entry : Entry
   pub next : Next start.setup history taken entry
   pub part : PrefixWritten start (entry ∷ history) w r
 
 -- ---- all records
 
--- the bytes to come: those that the capture holds, and those that the reader has left
+-- the bytes to come: the capture's buffer and what the reader has left
 abbrev pub unread_input : CaptureState → Option (List ℕ) → Option (List ℕ)
 unread_input s unread = prepend_known s.held unread
 
--- these bytes begin with records by which this story grew, and then these follow
-pub record BeginsWithRecords (setup : Setup) (format : Format) (bytes after : List ℕ) (history : List Entry) : Type 0 where
+-- these bytes begin with the records of this history, and then these follow
+pub record BeginsWithRecords (setup : Setup) (format : Format) (bytes after : List ℕ)
+    (history : List Entry) : Type 0 where
   pub records : List Captured
   pub joined : bytes ≡ stream_of records after
   pub each : All (IsRecord format) records
   pub not_over : length records ≤ MOST_RECORDS
   pub is_history : IsHistoryOf setup [] (decoded_records format records) history
 
--- these bytes begin with records by which a story grew; then some were read ahead, and the reader has the rest left
-pub record ReadSoFar (setup : Setup) (format : Format) (bytes : List ℕ) (unread : Option (List ℕ)) : Type 0 where
-  pub ahead : List ℕ
-  pub left : List ℕ
-  pub is_left : unread ≡ Some left
-  pub history : List Entry
-  pub follows : BeginsWithRecords setup format bytes (ahead ++ left) history
+-- these bytes begin with the records of a history; then some were read ahead, and the reader has the rest
+-- left
+pub record ReadSoFar (setup : Setup) (format : Format) (bytes : List ℕ) (unread : Option (List ℕ)) : Type 0
+  where
+    pub ahead : List ℕ
+    pub left : List ℕ
+    pub is_left : unread ≡ Some left
+    pub history : List Entry
+    pub follows : BeginsWithRecords setup format bytes (ahead ++ left) history
 
--- these bytes are records that were taken, and stop so
-pub record Replayed (replay : Replay) (start : ReplayStart) (format : Format) (bytes : List ℕ) (ending : Ending)
+-- these bytes are the records processed, and end so
+pub record Replayed (replay : Replay) (start : ReplayStart) (format : Format) (bytes : List ℕ)
+    (ending : Ending)
     (unread w r : Option (List ℕ)) : Type 0 where
   pub reached : ReadSoFar start.setup format bytes unread
   pub few : length reached.ahead ≤ READ_AHEAD
   pub ends : Ends format ending (length reached.follows.records) (reached.ahead ++ reached.left)
   pub replay_represents : ReplayRepresents replay start reached.history w r
 
--- these bytes begin with records that were read, and the writers got a beginning of what they give
-pub record HaltedByWrite (start : ReplayStart) (format : Format) (bytes : List ℕ) (unread w r : Option (List ℕ)) : Type 0 where
+-- these bytes begin with the records read, and a prefix of their outputs is written
+pub record HaltedByWrite (start : ReplayStart) (format : Format) (bytes : List ℕ)
+    (unread w r : Option (List ℕ)) : Type 0 where
   pub reached : ReadSoFar start.setup format bytes unread
   pub few : length reached.ahead ≤ READ_AHEAD
   pub part : PrefixWritten start reached.history w r
 
--- these bytes begin with records that were taken, and what was read after them is no further record; and the writers got all that the records give
-pub record CutByRead (start : ReplayStart) (format : Format) (bytes : List ℕ) (unread w r : Option (List ℕ)) : Type 0 where
+-- these bytes begin with the records processed, and what was read after them is no whole record; the
+-- outputs are written
+pub record CutByRead (start : ReplayStart) (format : Format) (bytes : List ℕ)
+    (unread w r : Option (List ℕ)) : Type 0 where
   pub reached : ReadSoFar start.setup format bytes unread
   pub few : length reached.ahead ≤ READ_AHEAD
   pub torn : Bool
   pub ends : Ends format (ending_of torn) (length reached.follows.records) reached.ahead
   pub all : AllWritten start reached.history w r
 
--- these bytes begin with records that were taken, and one that was read and not taken; and the writers got all that the records before it give
-pub record CutByMemory (start : ReplayStart) (format : Format) (bytes : List ℕ) (unread w r : Option (List ℕ)) : Type 0 where
+-- these bytes begin with the records processed and one that was read only; the outputs of the former are
+-- written
+pub record CutByMemory (start : ReplayStart) (format : Format) (bytes : List ℕ)
+    (unread w r : Option (List ℕ)) : Type 0 where
   pub reached : ReadSoFar start.setup format bytes unread
   pub untaken : Captured
   pub is_record : IsRecord format untaken
@@ -141,17 +151,18 @@ pub record CutByMemory (start : ReplayStart) (format : Format) (bytes : List ℕ
   pub few : length more ≤ READ_AHEAD
   pub all : AllWritten start reached.history w r
 
--- what a fault among the records says of the bytes, of the writers, and of the reads that failed
-abbrev pub Interrupts : ReplayStart → Format → List ℕ → Option (List ℕ) → Option (List ℕ) → Option (List ℕ) → ℕ → ℕ → RunFault → Type 0
-Interrupts start format bytes unread w r before after (Rules fault) = ⊥
-Interrupts start format bytes unread w r before after (Box fault) = ⊥
-Interrupts start format bytes unread w r before after (Capture fault) = ⊥
+-- the bytes, the writers and the failed reads after a fault among the records
+abbrev pub Interrupts : ReplayStart → Format → List ℕ → Option (List ℕ) → Option (List ℕ) → Option (List ℕ)
+    → ℕ → ℕ → RunFault → Type 0
 Interrupts start format bytes unread w r before after Device =
-    (CutByRead start format bytes unread w r × (after ≡ one_more before)) ⊎ (HaltedByWrite start format bytes unread w r × (after ≡ before))
-Interrupts start format bytes unread w r before after Memory = CutByMemory start format bytes unread w r × (after ≡ before)
+    (CutByRead start format bytes unread w r × (after ≡ one_more before))
+    ⊎ (HaltedByWrite start format bytes unread w r × (after ≡ before))
+Interrupts start format bytes unread w r before after Memory = CutByMemory start format bytes unread w r
+    × (after ≡ before)
+Interrupts start format bytes unread w r before after _ = ⊥
 
--- ---- calls that failed
+-- ---- failed calls
 
--- of two counts just one rose, by one
+-- exactly one of two counts rose, by one
 abbrev pub OneOfTwo : (a a' b b' : ℕ) → Type 0
 OneOfTwo a a' b b' = ((a' ≡ one_more a) × (b' ≡ b)) ⊎ ((a' ≡ a) × (b' ≡ one_more b))

@@ -1,5 +1,6 @@
--- What is written of a capture whose header is accepted.
-use Rattle.std.specs.Prelude.{◌≡◌, ◌≤◌, ◌++◌, ℕ, Bool, true, false, List, length, Option, Some, None, Result, Ok, Err, ◌⊎◌}
+-- The outputs of a capture whose header is accepted.
+use Rattle.std.specs.Prelude.{◌≡◌, ◌≤◌, ◌++◌, ℕ, Bool, true, false, List, length, Option, Some, None}
+use Rattle.std.specs.Prelude.{Result, Ok, Err, ◌⊎◌}
 use Rattle.std.specs.Io.KnownBytes.{Appends}
 use Rattle.pcap_io.specs.declared.format.Format.{Format}
 use Rattle.pcap_io.specs.declared.fault.CaptureFault.{CaptureFault}
@@ -11,53 +12,55 @@ use Rattle.history.specs.History.{Entry, capture_text}
 use Rattle.report.specs.Report.{report_text}
 use Rattle.history.specs.Setup.{Setup}
 use Rattle.engine.specs.declared.fault.RunFault.{RunFault}
-use Rattle.engine.specs.declared.fault.RunFault.TheVariants.{Rules, Box, Capture, Device, Memory}
+use Rattle.engine.specs.declared.fault.RunFault.TheVariants.{Capture, Device, Memory}
 use Rattle.engine.specs.Meaning.{ending_of}
 use Rattle.engine.specs.Refusals.{fault_at}
 use Rattle.engine.specs.AfterFault.{Devices, Untouched}
 use Rattle.engine.specs.steps.Replayed.{AllWritten, Interrupts, PrefixWritten, ReadSoFar, ReplayStart}
 
--- whether the end of the records is torn, or the fault that they stop at
+-- whether the capture ends inside a record, or the fault at which its records stop
 abbrev pub torn_at : Option CaptureFault → Result Bool RunFault
 torn_at None = Ok false
 torn_at (Some captures.TornEnd) = Ok true
-torn_at (Some captures.Magic) = Err (Capture captures.Magic)
-torn_at (Some captures.Version) = Err (Capture captures.Version)
-torn_at (Some captures.LinkType) = Err (Capture captures.LinkType)
-torn_at (Some captures.Malformed) = Err (Capture captures.Malformed)
-torn_at (Some captures.TooMany) = Err (Capture captures.TooMany)
+torn_at (Some fault) = Err (Capture fault)
 
 -- ---- after the last record
 
--- the writers got the two texts of a story
-pub record OutputsFinished (start : ReplayStart) (history : List Entry) (torn : Bool) (w r : Option (List ℕ)) : Type 0 where
+-- both outputs of a history are written
+pub record OutputsFinished (start : ReplayStart) (history : List Entry) (torn : Bool)
+    (w r : Option (List ℕ)) : Type 0 where
   pub all_sent : Appends start.sent w (capture_text history)
   pub all_lines : Appends start.report r (report_text start.setup start.trace history torn)
 
--- the capture's writer got all of its text, and the report's a beginning of its own
-pub record ReportUnfinished (start : ReplayStart) (history : List Entry) (torn : Bool) (w r : Option (List ℕ)) : Type 0 where
+-- the output capture is written, and a prefix of the report
+pub record ReportUnfinished (start : ReplayStart) (history : List Entry) (torn : Bool)
+    (w r : Option (List ℕ)) : Type 0 where
   pub all_sent : Appends start.sent w (capture_text history)
   pub part_lines : AppendsPrefix start.report r (report_text start.setup start.trace history torn)
 
--- what a fault after the last record says of the writers, and of the report's calls that failed
-abbrev pub FinishFails : ReplayStart → List Entry → Option CaptureFault → Option (List ℕ) → Option (List ℕ) → ℕ → ℕ → RunFault → Type 0
-FinishFails start history stop w r before after (Rules fault) = ⊥
-FinishFails start history stop w r before after (Box fault) = ⊥
-FinishFails start history stop w r before after (Capture fault) = (torn_at stop ≡ Err (Capture fault)) × AllWritten start history w r
-FinishFails start history stop w r before after Device = PrefixWritten start history w r ⊎ ((torn : Bool) × (torn_at stop ≡ Ok torn) × ReportUnfinished start history torn w r × (after ≡ one_more before))
-FinishFails start history stop w r before after Memory = ⊥
+-- the writers, and the report's failed calls, after a fault behind the last record
+abbrev pub FinishFails : ReplayStart → List Entry → Option CaptureFault → Option (List ℕ) → Option (List ℕ)
+    → ℕ → ℕ → RunFault → Type 0
+FinishFails start history stop w r before after (Capture fault) = (torn_at stop ≡ Err (Capture fault))
+    × AllWritten start history w r
+FinishFails start history stop w r before after Device = PrefixWritten start history w r ⊎ ((torn : Bool)
+    × (torn_at stop ≡ Ok torn) × ReportUnfinished start history torn w r × (after ≡ one_more before))
+FinishFails start history stop w r before after _ = ⊥
 
 -- ---- the whole
 
--- these bytes are so many records, with a torn end or none, and the writers got the two texts of them
-pub record OutputsWritten (start : ReplayStart) (format : Format) (bytes : List ℕ) (count : ℕ) (torn : Bool) (unread w r : Option (List ℕ)) : Type 0 where
+-- these bytes are so many records, with a torn end or none, and both outputs of them are written
+pub record OutputsWritten (start : ReplayStart) (format : Format) (bytes : List ℕ) (count : ℕ) (torn : Bool)
+    (unread w r : Option (List ℕ)) : Type 0 where
   pub reached : ReadSoFar start.setup format bytes unread
   pub ends : Ends format (ending_of torn) (length reached.follows.records) (reached.ahead ++ reached.left)
   pub counted : count ≡ length reached.follows.records
   pub finished : OutputsFinished start reached.history torn w r
 
--- these bytes are records and stop at a fault, and the writers got all that the records give
-pub record RefusedAtRecord (start : ReplayStart) (format : Format) (bytes : List ℕ) (fault : CaptureFault) (unread w r : Option (List ℕ)) : Type 0 where
+-- these bytes are records and stop at a fault, and the records' outputs are written, but for counters and
+-- totals
+pub record RefusedAtRecord (start : ReplayStart) (format : Format) (bytes : List ℕ) (fault : CaptureFault)
+    (unread w r : Option (List ℕ)) : Type 0 where
   pub reached : ReadSoFar start.setup format bytes unread
   pub few : length reached.ahead ≤ READ_AHEAD
   pub ending : Ending
@@ -65,8 +68,9 @@ pub record RefusedAtRecord (start : ReplayStart) (format : Format) (bytes : List
   pub ends : Ends format ending (length reached.follows.records) (reached.ahead ++ reached.left)
   pub all : AllWritten start reached.history w r
 
--- these bytes are records, the capture's writer got all of its text of them, and the report's a beginning of its own
-pub record RecordsUnreported (start : ReplayStart) (format : Format) (bytes : List ℕ) (unread w r : Option (List ℕ)) : Type 0 where
+-- these bytes are records, the output capture of them is written, and a prefix of the report
+pub record RecordsUnreported (start : ReplayStart) (format : Format) (bytes : List ℕ)
+    (unread w r : Option (List ℕ)) : Type 0 where
   pub reached : ReadSoFar start.setup format bytes unread
   pub few : length reached.ahead ≤ READ_AHEAD
   pub torn : Bool
@@ -80,28 +84,26 @@ start_of setup trace old = record { setup = setup; trace = trace; sent = old.sen
 abbrev pub Unchanged : Devices → Devices → Type 0
 Unchanged old new = (new.unread ≡ old.unread) × Untouched old new × (new.reads_failed ≡ old.reads_failed)
 
--- what a fault within the records, or before the first, says of the bytes and of the devices
+-- the bytes and the devices after a fault among the records or before the first
 abbrev pub FaultLeaves : Setup → Bool → Format → List ℕ → Devices → Devices → RunFault → Type 0
-FaultLeaves setup trace format bytes old new (Rules fault) = ⊥
-FaultLeaves setup trace format bytes old new (Box fault) = ⊥
 FaultLeaves setup trace format bytes old new (Capture fault) =
-    RefusedAtRecord (start_of setup trace old) format bytes fault new.unread new.sent new.report × (new.reads_failed ≡ old.reads_failed)
+    RefusedAtRecord (start_of setup trace old) format bytes fault new.unread new.sent new.report
+    × (new.reads_failed ≡ old.reads_failed)
 FaultLeaves setup trace format bytes old new Device =
-    Interrupts (start_of setup trace old) format bytes new.unread new.sent new.report old.reads_failed new.reads_failed Device
-    ⊎ (RecordsUnreported (start_of setup trace old) format bytes new.unread new.sent new.report × (new.reports_failed ≡ one_more old.reports_failed))
+    Interrupts (start_of setup trace old) format bytes new.unread new.sent new.report old.reads_failed
+    new.reads_failed Device
+    ⊎ (RecordsUnreported (start_of setup trace old) format bytes new.unread new.sent new.report
+    × (new.reports_failed ≡ one_more old.reports_failed))
 FaultLeaves setup trace format bytes old new Memory =
-    Interrupts (start_of setup trace old) format bytes new.unread new.sent new.report old.reads_failed new.reads_failed Memory
+    Interrupts (start_of setup trace old) format bytes new.unread new.sent new.report old.reads_failed
+    new.reads_failed Memory
     ⊎ Unchanged old new
+FaultLeaves setup trace format bytes old new _ = ⊥
 
--- a fault that comes within the records
+-- a fault among the records
 abbrev pub IsWithin : RunFault → Type 0
-IsWithin (Rules fault) = ⊥
-IsWithin (Box fault) = ⊥
-IsWithin (Capture captures.TornEnd) = ⊥
-IsWithin (Capture captures.Magic) = ⊥
-IsWithin (Capture captures.Version) = ⊥
-IsWithin (Capture captures.LinkType) = ⊥
 IsWithin (Capture captures.Malformed) = Unit {0}
 IsWithin (Capture captures.TooMany) = Unit {0}
 IsWithin Device = Unit {0}
 IsWithin Memory = Unit {0}
+IsWithin _ = ⊥

@@ -1,4 +1,4 @@
--- A capture that holds the bytes read ahead.
+-- The invariant of a capture, and the state that it shows.
 use Rattle.std.specs.Prelude.{◌<◌, ◌≤◌, ℕ, List, length, Option, Some, None, IfSome}
 use Rattle.pcap_io.specs.declared.fault.CaptureError.{CaptureError}
 use Rattle.pcap_io.specs.declared.format.LinkType.{LinkType}
@@ -7,12 +7,12 @@ use Rattle.pcap_io.specs.Pcap.{Recorded, MOMENTS_END, MOST_RECORDS, MOST_CAPTURE
 use Rattle.pcap_io.specs.CaptureStates.{CaptureState, READ_AHEAD}
 use Rattle.pcap_io.specs.steps.ReadAhead.{BufferState, last_of}
 
--- the record that was read last: the last bytes that were taken, at the greatest moment
+-- the last record: the bytes taken last, at the latest timestamp
 abbrev pub last_in : LinkType → List ℕ → ℕ → Option ℕ → Option Recorded
 last_in link taken latest None = None
 last_in link taken latest (Some n) = Some (record { moment = latest; link = link; bytes = last_of n taken })
 
--- what it shows
+-- the state that it shows
 abbrev pub capture_state_of : Format → BufferState → ℕ → ℕ → Option CaptureError → Option ℕ → CaptureState
 capture_state_of format ahead count latest fault last =
     record {
@@ -25,7 +25,7 @@ capture_state_of format ahead count latest fault last =
       last = last_in format.link ahead.taken latest last;
     }
 
--- what holds of it after every call
+-- the invariant
 pub record IsConsistent (ahead : BufferState) (count latest : ℕ) (last : Option ℕ) : Type 0 where
   pub few : count ≤ MOST_RECORDS
   pub early : latest < MOMENTS_END

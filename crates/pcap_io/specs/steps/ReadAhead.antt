@@ -1,8 +1,9 @@
--- Bytes that are read ahead.
-use Rattle.std.specs.Prelude.{◌≡◌, ◌-◌, ◌<◌, ◌⊎◌, ℕ, Bool, true, false, List, [], ◌++◌, length, drop, Option}
+-- The state of a read buffer.
+use Rattle.std.specs.Prelude.{◌≡◌, ◌-◌, ◌<◌, ◌⊎◌, ℕ, Bool, true, false, List, [], ◌++◌, length, drop}
+use Rattle.std.specs.Prelude.{Option}
 use Rattle.std.specs.Io.KnownBytes.{Consumes, IsAtEnd}
 
--- those that were taken last and still stand, those that weren't taken yet, and whether the reader has no more
+-- the bytes taken last that are still there, those not taken yet, and whether the reader has ended
 pub record BufferState : Type 0 where
   pub taken : List ℕ
   pub held : List ℕ
@@ -12,9 +13,10 @@ pub record BufferState : Type 0 where
 abbrev pub last_of : ℕ → List ℕ → List ℕ
 last_of n bytes = drop (length bytes - n) bytes
 
--- the reader gave some more, or has come to its end
+-- the reader gave more bytes, or has ended
 pub record FillsBuffer (old new : BufferState) (before after : Option (List ℕ)) : Type 0 where
   pub more : List ℕ
   pub held : new.held ≡ old.held ++ more
   pub consumed : Consumes before after more
-  pub progress : ((new.ended ≡ false) × (0 < length more)) ⊎ ((new.ended ≡ true) × (more ≡ []) × IsAtEnd after)
+  pub progress : ((new.ended ≡ false) × (0 < length more)) ⊎ ((new.ended ≡ true) × (more ≡ [])
+      × IsAtEnd after)

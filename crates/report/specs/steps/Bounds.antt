@@ -1,4 +1,4 @@
--- No number of a report comes near its greatest.
+-- No counter of a report overflows.
 use Rattle.std.specs.Prelude.{◌≡◌, ℕ, ◌+◌, ◌*◌, ◌^◌, ◌≤◌, List, Some, slice_index}
 use Rattle.rule_meaning.specs.declared.event.StatementPosition.{StatementPosition}
 use Rattle.report.specs.declared.tallies.Tally.{Tally}
@@ -6,12 +6,14 @@ use Rattle.report.specs.Representing.{Tallies, tally_at}
 
 -- each counter is within these bounds
 abbrev pub AllWithin : ℕ → ℕ → Tallies → Type 0
-AllWithin packets bytes tallies = (at : StatementPosition) (tally : Tally) → tally_at tallies at ≡ Some tally → (tally.packets ≤ packets) × (tally.bytes ≤ bytes)
+AllWithin packets bytes tallies = (at : StatementPosition) (tally : Tally)
+    → tally_at tallies at ≡ Some tally → (tally.packets ≤ packets) × (tally.bytes ≤ bytes)
 
--- so many records, each of fewer than 2^64 events and 2^16 bytes, lead no further
-pub record IsBounded (records passed local : ℕ) (dropped : List ℕ) (begun : ℕ) (tallies : Tallies) : Type 0 where
-  pub passed_fits : passed ≤ records
-  pub local_fits : local ≤ records
-  pub dropped_fit : (i : ℕ) → slice_index dropped i ≤ records
-  pub begun_fits : begun ≤ records
-  pub tallies_fit : AllWithin ((records + 1) * 2 ^ 64) ((records + 1) * 2 ^ 80) tallies
+-- the bounds after so many records, each of fewer than 2^64 events and 2^16 bytes
+pub record IsBounded (records passed local : ℕ) (dropped : List ℕ) (begun : ℕ) (tallies : Tallies) : Type 0
+  where
+    pub passed_fits : passed ≤ records
+    pub local_fits : local ≤ records
+    pub dropped_fit : (i : ℕ) → slice_index dropped i ≤ records
+    pub begun_fits : begun ≤ records
+    pub tallies_fit : AllWithin ((records + 1) * 2 ^ 64) ((records + 1) * 2 ^ 80) tallies

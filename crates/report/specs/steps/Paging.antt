@@ -1,4 +1,4 @@
--- How a text goes by pieces through a page to a writer.
+-- Text that is written through a page.
 use Rattle.std.specs.Prelude.{◌≡◌, ℕ, ◌++◌, ◌∷◌, List, Option, Result, MatchResult}
 use Rattle.std.specs.List.{flat_map}
 use Rattle.std.specs.Io.KnownBytes.{Appends}
@@ -17,18 +17,20 @@ piece_text (pieces.Number n) = and_number n
 abbrev pub pieces_text : List Piece → Text
 pieces_text parts = flat_map piece_text parts
 
--- a text is put behind what waited; where a write fails the writer got a beginning of both
+-- a text is appended behind the buffered bytes; where a write fails, the writer got a prefix of both
 abbrev pub Puts : {T E : Type 0} → Result T E → Text → Option Text → Text → Option Text → Text → Type 0
-Puts r waited old pending new text = MatchResult r (λ _. AppendsBuffered waited old new pending text) (λ _. AppendsPrefix old new (waited ++ text))
+Puts r before old after new text = MatchResult r (λ _. AppendsBuffered before old new after text) (λ _.
+    AppendsPrefix old new (before ++ text))
 
--- a failed call is counted once
+-- a failure is counted as one failed call
 abbrev pub CountsFailure : {T E : Type 0} → Result T E → ℕ → ℕ → Type 0
 CountsFailure r before after = MatchResult r (λ _. after ≡ before) (λ _. after ≡ one_more before)
 
--- of a whole text all is put but this rest
+-- all of a text is appended but this rest
 abbrev pub PutsAllBut : Text → Option Text → Text → Option Text → Text → Text → Type 0
-PutsAllBut waited old pending new rest whole = (part : Text) × (part ++ rest ≡ whole) × AppendsBuffered waited old new pending part
+PutsAllBut before old after new rest whole = (part : Text) × (part ++ rest ≡ whole)
+    × AppendsBuffered before old new after part
 
--- all of a text is written, or a beginning of it where a write fails
+-- a text is written, or a prefix of it where a write fails
 abbrev pub WroteText : {T E : Type 0} → Result T E → Option Text → Option Text → Text → Type 0
 WroteText r old new text = MatchResult r (λ _. Appends old new text) (λ _. AppendsPrefix old new text)

@@ -1,7 +1,7 @@
--- Where counters start, and what one more packet makes of them.
-use Rattle.std.specs.Prelude.{ℕ, zero, suc, ◌+◌, ◌-◌, ◌^◌, min, List, [], ◌∷◌, map, Option, Some, None, unwrap_or}
+-- Counters before the first record, and after one more packet.
+use Rattle.std.specs.Prelude.{ℕ, zero, suc, ◌+◌, ◌-◌, ◌^◌, min, List, [], ◌∷◌, map, Option, Some, None}
 use Rattle.nft_tree.specs.declared.statement.CounterStart.{CounterStart}
-use Rattle.nft_tree.specs.Tree.{Text, Statement, RuleTree, ChainTree, TableTree}
+use Rattle.nft_tree.specs.Tree.{Statement, RuleTree, ChainTree, TableTree}
 use Rattle.nft_tree.specs.TableItems.{chains_of, counter_in}
 use Rattle.rule_meaning.specs.declared.event.StatementPosition.{StatementPosition}
 use Rattle.rule_meaning.specs.declared.event.Event.{Event}
@@ -32,7 +32,7 @@ fresh rules = map fresh_table rules
 
 -- ---- one more packet
 
--- what stands at a number, from 0, is changed, if anything stands there
+-- the item of this number, from 0, is changed, if there is one
 abbrev pub changed : {A : Type 0} → (A → A) → ℕ → List A → List A
 changed f n [] = []
 changed f zero (x ∷ xs) = f x ∷ xs
@@ -46,7 +46,7 @@ changed_from_one f (suc n) xs = changed f n xs
 abbrev pub GREATEST : ℕ
 GREATEST = 2 ^ 128 - 1
 
--- a packet of this length more; the greatest numbers stay
+-- one more packet of this length, saturating
 abbrev pub raised : ℕ → Tally → Tally
 raised length t = record { packets = min (t.packets + 1) GREATEST; bytes = min (t.bytes + length) GREATEST }
 
@@ -64,13 +64,9 @@ counted length at = changed (table_counted length at.statement at.rule.rule at.r
 
 abbrev pub counted_event : ℕ → Event → Tallies → Tallies
 counted_event length (events.Counted at) tallies = counted length at tallies
-counted_event length (events.Logged at) tallies = tallies
-counted_event length (events.Marked field value) tallies = tallies
-counted_event length events.Untracked tallies = tallies
-counted_event length (events.TookVerdict rule verdict) tallies = tallies
-counted_event length (events.TookPolicy chain policy) tallies = tallies
+counted_event length _ tallies = tallies
 
--- after these events, in their order
+-- after these events
 abbrev pub counted_all : ℕ → List Event → Tallies → Tallies
 counted_all length [] tallies = tallies
 counted_all length (e ∷ es) tallies = counted_all length es (counted_event length e tallies)

@@ -6,5 +6,6 @@ pub returns : goal.returns
 returns g c = λ history is represents.
     let laws = c.translation_laws.ensures in
     ok_so c.step.result _ _
-    (steps_so laws.obeys laws.entries c.args.engine.now c.step.new.self history (recorded_of c.args.recorded.now) is c.step.ensures.setup)
+    (steps_so laws.obeys laws.entries c.args.engine.now c.step.new.self history (recorded_of c.args.recorded.now) is
+    c.step.ensures.setup)
     (c.step.ensures.represents history represents)

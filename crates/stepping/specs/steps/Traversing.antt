@@ -1,4 +1,4 @@
--- How chains are passed, as it is answered.
+-- Traversals of chains in the code's terms.
 use Rattle.std.specs.Prelude.{◌≡◌, ℕ, ◌+◌, ◌≤◌, List, length, Result, Ok, Err, ⊤}
 use Rattle.rule_meaning.specs.declared.facts.Facts.{Facts}
 use Rattle.rule_meaning.specs.declared.event.Event.{Event}
@@ -13,35 +13,36 @@ use Rattle.history.specs.declared.outcome.Cause.{Cause}
 use Rattle.history.specs.declared.outcome.Cause.TheVariants as causes
 use Rattle.history.specs.Setup.{Setup}
 
--- what a box was set up with whose chains are ready to run
+-- the configuration of compiled chains
 abbrev pub setup_in : CostedTree → Setup
 setup_in runs = record { rules = runs.rules; plant = runs.plant }
 
--- a packet goes on, or a rule or a policy drops it, or it got no port
+-- a packet continues, or is dropped by a rule or a policy, or has no free port
 abbrev pub verdict_result : HookVerdict → Result ⊤ Cause
 verdict_result Accepted = Ok tt
 verdict_result Dropped = Err causes.Rule
 verdict_result (Translated t) = Err causes.NoPort
 
--- a passage comes to an end that is answered so, with these facts and events
-pub record Traverses (passage : Traversal) (f : Facts) (es : List Event) (answer : Result ⊤ Cause) (facts : Facts) (events : List Event) : Type 0 where
+-- a traversal ends with this answer, these facts and these events
+pub record Traverses (passage : Traversal) (f : Facts) (es : List Event) (answer : Result ⊤ Cause)
+    (facts : Facts) (events : List Event) : Type 0 where
   pub end : HookResult
   pub run : passage f es end
   pub answered : answer ≡ verdict_result end.verdict
   pub left : facts ≡ end.facts
   pub happened : events ≡ end.events
 
--- the nat chains of a hook run in this part
+-- this stage has the nat chains of the hook
 abbrev pub IsNatStage : HookStage → Hook → Type 0
-IsNatStage part hook = chains_in_stage part ≡ nat_chains_on hook
+IsNatStage stage hook = chains_in_stage stage ≡ nat_chains_on hook
 
--- ---- what it costs
+-- ---- costs: the most events, and statements evaluated
 
--- there is room for so many events more
+-- room for this many more events is reserved
 abbrev pub HasRoom : EventsAndTicks → ℕ → Type 0
 HasRoom ran cost = length ran.events + cost ≤ 65536
 
--- so many events came at most, and so many statements were started
+-- at most this many events and statements
 pub record Spends (before after : EventsAndTicks) (cost : ℕ) : Type 0 where
   pub events : length after.events ≤ length before.events + cost
   pub no_fewer : before.ticks ≤ after.ticks

@@ -9,7 +9,12 @@ returns-clause-accepted c =
     let same = c.tree-tree.ensures in
     let many : c.len.result ≡ length c.tree-tree.result.now.tables.items = omega arith in
     record {
-      texts = record { tables = c.in_ok-checked.checked.rules; spelled = fine.spelled; plant = c.in_ok-checked.checked.plant; read = fine.read };
+      texts = record {
+        tables = c.in_ok-checked.checked.rules;
+        spelled = fine.spelled;
+        plant = c.in_ok-checked.checked.plant;
+        read = fine.read;
+      };
       well_formed = fine.well_formed;
       all_tables = many ∙ length_of_tables c.tree-tree.result.now ∙ ap length same;
       all_chains = c.chain_count.ensures ∙ ap (λ ts. min (chain_count ts) (2 ^ 64 - 1)) same;

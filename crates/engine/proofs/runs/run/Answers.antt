@@ -4,7 +4,8 @@ use Rattle.std.proofs.lemmas.Result.{err_from_is_err_and}
 use Rattle.engine.specs.AfterFault.{Devices}
 use Rattle.engine.specs.steps.Replayed.{ReplayStart}
 use Rattle.engine.proofs.JudgeRefusing.{misjudged}
-use Rattle.engine.proofs.Meanings.{Single, accepted_of, if_ok_then, if_err_both, left_all, left_of_texts, left_unopened, left_unread, left_untouched, opened, refused_unread, refuses_all, wrote_all}
+use Rattle.engine.proofs.Meanings.{Single, accepted_of, if_ok_then, if_err_both, left_all, left_of_texts, left_unopened}
+use Rattle.engine.proofs.Meanings.{left_unread, left_untouched, opened, refused_unread, refuses_all, wrote_all}
 use Rattle.engine.proofs.runs.run.Goals as goal
 
 pub returns-in_err-checked-clause-refusals : goal.returns-in_err-checked-clause-refusals
@@ -15,64 +16,154 @@ returns-in_err-checked-clause-refusals g c =
 pub returns-in_err-checked-clause-left : goal.returns-in_err-checked-clause-left
 returns-in_err-checked-clause-left g c =
     let p = err_from_is_err_and c.from_residual.result c.from_residual.ensures.1 in
-    let old : Devices = record { unread = g.R.Read.remaining c.args.capture.now.inner; sent = g.W.Write.contents c.args.sent.now.inner; report = g.W2.Write.contents c.args.report.now.inner; reads_failed = c.args.capture.now.failures; sends_failed = c.args.sent.now.failures; reports_failed = c.args.report.now.failures } in
-    rw p.1 (rw p.2 (left_of_texts _ _ _ _ old old c.in_err-checked.field-0.0 (Consumes-nil _) (Keeps-refl _, Keeps-refl _) refl c.in_err-checked.ensures.refused))
+    let old : Devices = record {
+      unread = g.R.Read.remaining c.args.capture.now.inner;
+      sent = g.W.Write.contents c.args.sent.now.inner;
+      report = g.W2.Write.contents c.args.report.now.inner;
+      reads_failed = c.args.capture.now.failures;
+      sends_failed = c.args.sent.now.failures;
+      reports_failed = c.args.report.now.failures;
+    } in
+    rw p.1 (rw p.2 (left_of_texts _ _ _ _ old old c.in_err-checked.field-0.0 (Consumes-nil _)
+    (Keeps-refl _, Keeps-refl _) refl c.in_err-checked.ensures.refused))
 
 pub returns-in-Err-Refused-clause-refusals : goal.returns-in-Err-Refused-clause-refusals
 returns-in-Err-Refused-clause-refusals g c =
-    rw c.in-Err-Refused.fault-is (refused_unread _ _ _ c.in-Err-Refused.fault (accepted_of _ _ c.in_ok-checked.checked c.in_ok-checked.ensures.fine)
+    rw c.in-Err-Refused.fault-is (refused_unread _ _ _ c.in-Err-Refused.fault (accepted_of _ _ c.in_ok-checked.checked
+    c.in_ok-checked.ensures.fine)
     (rw c.in-Err-Refused.field-0-is at c.in-Err-Refused.ensures.refused))
 
 pub returns-in-Err-Refused-clause-left : goal.returns-in-Err-Refused-clause-left
 returns-in-Err-Refused-clause-left g c =
-    let old : Devices = record { unread = g.R.Read.remaining c.args.capture.now.inner; sent = g.W.Write.contents c.args.sent.now.inner; report = g.W2.Write.contents c.args.report.now.inner; reads_failed = c.args.capture.now.failures; sends_failed = c.args.sent.now.failures; reports_failed = c.args.report.now.failures } in
-    let new : Devices = record { unread = g.R.Read.remaining c.open.new.reader.inner; sent = g.W.Write.contents c.args.sent.now.inner; report = g.W2.Write.contents c.args.report.now.inner; reads_failed = c.open.new.reader.failures; sends_failed = c.args.sent.now.failures; reports_failed = c.args.report.now.failures } in
+    let old : Devices = record {
+      unread = g.R.Read.remaining c.args.capture.now.inner;
+      sent = g.W.Write.contents c.args.sent.now.inner;
+      report = g.W2.Write.contents c.args.report.now.inner;
+      reads_failed = c.args.capture.now.failures;
+      sends_failed = c.args.sent.now.failures;
+      reports_failed = c.args.report.now.failures;
+    } in
+    let new : Devices = record {
+      unread = g.R.Read.remaining c.open.new.reader.inner;
+      sent = g.W.Write.contents c.args.sent.now.inner;
+      report = g.W2.Write.contents c.args.report.now.inner;
+      reads_failed = c.open.new.reader.failures;
+      sends_failed = c.args.sent.now.failures;
+      reports_failed = c.args.report.now.failures;
+    } in
     let read = c.open.ensures.read in
-    let h = left_unread c.args.rules.now c.args.plant.now c.args.trace _ old new read.0 c.in-Err-Refused.fault read.1 read.2 (Keeps-refl _, Keeps-refl _) (c.in-Err-Refused.ensures.no_failure (λ e. cc)) (rw c.in-Err-Refused.field-0-is at c.in-Err-Refused.ensures.refused) in
+    let h = left_unread c.args.rules.now c.args.plant.now c.args.trace _ old new read.0 c.in-Err-Refused.fault read.1
+    read.2 (Keeps-refl _, Keeps-refl _) (c.in-Err-Refused.ensures.no_failure (λ e. cc))
+    (rw c.in-Err-Refused.field-0-is at c.in-Err-Refused.ensures.refused) in
     rw c.in-Err-Refused.fault-is h
 
 pub returns-in-Err-Memory-clause-left : goal.returns-in-Err-Memory-clause-left
 returns-in-Err-Memory-clause-left g c =
-    let old : Devices = record { unread = g.R.Read.remaining c.args.capture.now.inner; sent = g.W.Write.contents c.args.sent.now.inner; report = g.W2.Write.contents c.args.report.now.inner; reads_failed = c.args.capture.now.failures; sends_failed = c.args.sent.now.failures; reports_failed = c.args.report.now.failures } in
-    let new : Devices = record { unread = g.R.Read.remaining c.open.new.reader.inner; sent = g.W.Write.contents c.args.sent.now.inner; report = g.W2.Write.contents c.args.report.now.inner; reads_failed = c.open.new.reader.failures; sends_failed = c.args.sent.now.failures; reports_failed = c.args.report.now.failures } in
+    let old : Devices = record {
+      unread = g.R.Read.remaining c.args.capture.now.inner;
+      sent = g.W.Write.contents c.args.sent.now.inner;
+      report = g.W2.Write.contents c.args.report.now.inner;
+      reads_failed = c.args.capture.now.failures;
+      sends_failed = c.args.sent.now.failures;
+      reports_failed = c.args.report.now.failures;
+    } in
+    let new : Devices = record {
+      unread = g.R.Read.remaining c.open.new.reader.inner;
+      sent = g.W.Write.contents c.args.sent.now.inner;
+      report = g.W2.Write.contents c.args.report.now.inner;
+      reads_failed = c.open.new.reader.failures;
+      sends_failed = c.args.sent.now.failures;
+      reports_failed = c.args.report.now.failures;
+    } in
     let read = c.open.ensures.read in
-    left_untouched _ _ _ _ old new read.0 read.1 read.2 (Keeps-refl _, Keeps-refl _) (c.in-Err-Memory.ensures.no_failure (λ e. cc))
+    left_untouched _ _ _ _ old new read.0 read.1 read.2 (Keeps-refl _, Keeps-refl _) (c.in-Err-Memory.ensures.no_failure
+    (λ e. cc))
 
 pub returns-clause-meaning : goal.returns-clause-meaning
 returns-clause-meaning g c =
-    let one : Single = record { tree = c.one_tree.ensures.one; plant = c.one_box.ensures.one; reading = c.one_reading.ensures; entry = c.one_entry.ensures.one } in
-    let start : ReplayStart = record { setup = c.in_ok-engine.engine.setup; trace = c.args.trace; sent = g.W.Write.contents c.args.sent.now.inner; report = g.W2.Write.contents c.args.report.now.inner } in
+    let one : Single = record {
+      tree = c.one_tree.ensures.one;
+      plant = c.one_box.ensures.one;
+      reading = c.one_reading.ensures;
+      entry = c.one_entry.ensures.one;
+    } in
+    let start : ReplayStart = record {
+      setup = c.in_ok-engine.engine.setup;
+      trace = c.args.trace;
+      sent = g.W.Write.contents c.args.sent.now.inner;
+      report = g.W2.Write.contents c.args.report.now.inner;
+    } in
     let read = c.open.ensures.read in
     if_ok_then _ _ _ c.write_texts.ensures.ok (λ summary done.
-    wrote_all one _ _ _ start _ _ _ _ _ _ _ _ c.in_ok-checked.ensures.fine c.in_ok-engine.ensures.setup (opened _ c.in-Ok.records _ read.0 read.1 c.in-Ok.ensures.drained c.in-Ok.ensures.bytes) done)
+    wrote_all one _ _ _ start _ _ _ _ _ _ _ _ c.in_ok-checked.ensures.fine c.in_ok-engine.ensures.setup
+    (opened _ c.in-Ok.records _ read.0 read.1 c.in-Ok.ensures.drained c.in-Ok.ensures.bytes) done)
 
 pub returns-clause-left : goal.returns-clause-left
 returns-clause-left g c =
-    let old : Devices = record { unread = g.R.Read.remaining c.args.capture.now.inner; sent = g.W.Write.contents c.args.sent.now.inner; report = g.W2.Write.contents c.args.report.now.inner; reads_failed = c.args.capture.now.failures; sends_failed = c.args.sent.now.failures; reports_failed = c.args.report.now.failures } in
+    let old : Devices = record {
+      unread = g.R.Read.remaining c.args.capture.now.inner;
+      sent = g.W.Write.contents c.args.sent.now.inner;
+      report = g.W2.Write.contents c.args.report.now.inner;
+      reads_failed = c.args.capture.now.failures;
+      sends_failed = c.args.sent.now.failures;
+      reports_failed = c.args.report.now.failures;
+    } in
     let no_failure = c.in-Ok.ensures.no_failure (λ e. cc) in
     let read = c.open.ensures.read in
     if_err_both _ _ _ _ c.write_texts.ensures.within c.write_texts.ensures.left (λ fault within says.
-    left_all _ _ _ _ _ _ _ _ old _ (g.R.Read.remaining c.open.new.reader.inner) c.open.new.reader.failures read.0 fault no_failure read.1 read.2 c.in_ok-checked.ensures.fine c.in_ok-engine.ensures.setup
+    left_all _ _ _ _ _ _ _ _ old _ (g.R.Read.remaining c.open.new.reader.inner) c.open.new.reader.failures read.0 fault
+    no_failure read.1 read.2 c.in_ok-checked.ensures.fine c.in_ok-engine.ensures.setup
     (opened _ c.in-Ok.records _ read.0 read.1 c.in-Ok.ensures.drained c.in-Ok.ensures.bytes) within says)
 
 pub returns-in-Err-Device-clause-left : goal.returns-in-Err-Device-clause-left
 returns-in-Err-Device-clause-left g c =
     let failed = ap Err c.in-Err-Device.field-0-is in
     let read = c.in-Err-Device.ensures.broken failed in
-    left_unopened _ _ (accepted_of _ _ c.in_ok-checked.checked c.in_ok-checked.ensures.fine) _ _ _ _ read.0 read.1 read.2 (Keeps-refl _, Keeps-refl _) (c.in-Err-Device.ensures.device failed)
+    left_unopened _ _ (accepted_of _ _ c.in_ok-checked.checked c.in_ok-checked.ensures.fine) _ _ _ _ read.0 read.1
+    read.2 (Keeps-refl _, Keeps-refl _) (c.in-Err-Device.ensures.device failed)
 
 pub returns-in_err-engine-clause-left : goal.returns-in_err-engine-clause-left
 returns-in_err-engine-clause-left g c =
     let p = err_from_is_err_and c.from_residual-in_err-engine.result c.from_residual-in_err-engine.ensures.1 in
-    let old : Devices = record { unread = g.R.Read.remaining c.args.capture.now.inner; sent = g.W.Write.contents c.args.sent.now.inner; report = g.W2.Write.contents c.args.report.now.inner; reads_failed = c.args.capture.now.failures; sends_failed = c.args.sent.now.failures; reports_failed = c.args.report.now.failures } in
-    let new : Devices = record { unread = g.R.Read.remaining c.open.new.reader.inner; sent = g.W.Write.contents c.args.sent.now.inner; report = g.W2.Write.contents c.args.report.now.inner; reads_failed = c.open.new.reader.failures; sends_failed = c.args.sent.now.failures; reports_failed = c.args.report.now.failures } in
+    let old : Devices = record {
+      unread = g.R.Read.remaining c.args.capture.now.inner;
+      sent = g.W.Write.contents c.args.sent.now.inner;
+      report = g.W2.Write.contents c.args.report.now.inner;
+      reads_failed = c.args.capture.now.failures;
+      sends_failed = c.args.sent.now.failures;
+      reports_failed = c.args.report.now.failures;
+    } in
+    let new : Devices = record {
+      unread = g.R.Read.remaining c.open.new.reader.inner;
+      sent = g.W.Write.contents c.args.sent.now.inner;
+      report = g.W2.Write.contents c.args.report.now.inner;
+      reads_failed = c.open.new.reader.failures;
+      sends_failed = c.args.sent.now.failures;
+      reports_failed = c.args.report.now.failures;
+    } in
     let read = c.open.ensures.read in
-    rw p.1 (rw p.2 (left_untouched _ _ _ _ old new read.0 read.1 read.2 (Keeps-refl _, Keeps-refl _) (c.in-Ok.ensures.no_failure (λ e. cc))))
+    rw p.1 (rw p.2 (left_untouched _ _ _ _ old new read.0 read.1 read.2 (Keeps-refl _, Keeps-refl _)
+    (c.in-Ok.ensures.no_failure (λ e. cc))))
 
 pub returns-clause-refusals : goal.returns-clause-refusals
 returns-clause-refusals g c =
-    let old : Devices = record { unread = g.R.Read.remaining c.open.new.reader.inner; sent = g.W.Write.contents c.args.sent.now.inner; report = g.W2.Write.contents c.args.report.now.inner; reads_failed = c.open.new.reader.failures; sends_failed = c.args.sent.now.failures; reports_failed = c.args.report.now.failures } in
-    let new : Devices = record { unread = g.R.Read.remaining c.write_texts.new.capture.inner; sent = g.W.Write.contents c.write_texts.new.sent.inner; report = g.W2.Write.contents c.write_texts.new.report.inner; reads_failed = c.write_texts.new.capture.failures; sends_failed = c.write_texts.new.sent.failures; reports_failed = c.write_texts.new.report.failures } in
+    let old : Devices = record {
+      unread = g.R.Read.remaining c.open.new.reader.inner;
+      sent = g.W.Write.contents c.args.sent.now.inner;
+      report = g.W2.Write.contents c.args.report.now.inner;
+      reads_failed = c.open.new.reader.failures;
+      sends_failed = c.args.sent.now.failures;
+      reports_failed = c.args.report.now.failures;
+    } in
+    let new : Devices = record {
+      unread = g.R.Read.remaining c.write_texts.new.capture.inner;
+      sent = g.W.Write.contents c.write_texts.new.sent.inner;
+      report = g.W2.Write.contents c.write_texts.new.report.inner;
+      reads_failed = c.write_texts.new.capture.failures;
+      sends_failed = c.write_texts.new.sent.failures;
+      reports_failed = c.write_texts.new.report.failures;
+    } in
     let read = c.open.ensures.read in
     if_err_both _ _ _ _ c.write_texts.ensures.within c.write_texts.ensures.left (λ fault within says.
-    refuses_all _ _ _ _ _ _ _ _ old new fault c.in_ok-checked.ensures.fine (opened _ c.in-Ok.records _ read.0 read.1 c.in-Ok.ensures.drained c.in-Ok.ensures.bytes) within says)
+    refuses_all _ _ _ _ _ _ _ _ old new fault c.in_ok-checked.ensures.fine
+    (opened _ c.in-Ok.records _ read.0 read.1 c.in-Ok.ensures.drained c.in-Ok.ensures.bytes) within says)

@@ -6,6 +6,11 @@ use Rattle.pcap_io.proofs.whole.write_whole.Goals as goal
 pub loop-rest-preserved : goal.loop-rest-preserved
 loop-rest-preserved g c =
     let (done, whole, written) = c.loop-rest.invariant.done in record {
-      done = (done ++ take c.in-Ok.count c.loop-rest.rest.now, moved_on _ done c.loop-rest.rest.now c.in-Ok.count whole, Appends-trans _ _ _ _ _ written c.in-Ok.ensures.bytes);
-      no_failure = c.in-Ok.ensures.counts ∙ took_some c.in-Ok.count _ _ _ (grind (arith, c.in-Ok.count-test)) ∙ c.loop-rest.invariant.no_failure;
+      done = (
+        done ++ take c.in-Ok.count c.loop-rest.rest.now,
+        moved_on _ done c.loop-rest.rest.now c.in-Ok.count whole,
+        Appends-trans _ _ _ _ _ written c.in-Ok.ensures.bytes,
+      );
+      no_failure = c.in-Ok.ensures.counts ∙ took_some c.in-Ok.count _ _ _ (grind (arith, c.in-Ok.count-test))
+          ∙ c.loop-rest.invariant.no_failure;
     }

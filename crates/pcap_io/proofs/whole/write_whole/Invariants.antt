@@ -5,7 +5,8 @@ use Rattle.pcap_io.proofs.whole.write_whole.Given as goal
 
 abbrev pub invariant-loop-rest : goal.invariant-loop-rest
 invariant-loop-rest g l = record {
-  done : (done : List ℕ) × (l.fn.bytes ≡ done ++ l.rest) × Appends (g.W.Write.contents l.initial.writer.inner) (g.W.Write.contents l.writer.inner) done;
+  done : (done : List ℕ) × (l.fn.bytes ≡ done ++ l.rest)
+      × Appends (g.W.Write.contents l.initial.writer.inner) (g.W.Write.contents l.writer.inner) done;
   no_failure : l.writer.failures ≡ l.initial.writer.failures;
 }
 

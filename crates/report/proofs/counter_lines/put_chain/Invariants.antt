@@ -7,8 +7,11 @@ use Rattle.report.proofs.counter_lines.put_chain.Given as goal
 
 abbrev pub invariant-loop-before : goal.invariant-loop-before
 invariant-loop-before g l = record {
-  left : PutsAllBut l.initial.page.text.items (g.W.Write.contents l.initial.writer.inner) l.page.text.items (g.W.Write.contents l.writer.inner)
-      (rules_text l.tallies (table_tree l.found.table.now) (chain_tree l.found.chain.now) l.table l.chain (l.before + 1) (map rule_tree (drop l.before l.found.chain.now.rules.items)))
-      (rules_text l.tallies (table_tree l.found.table.now) (chain_tree l.found.chain.now) l.table l.chain 1 (chain_tree l.found.chain.now).rules);
+  left : PutsAllBut l.initial.page.text.items (g.W.Write.contents l.initial.writer.inner) l.page.text.items
+      (g.W.Write.contents l.writer.inner)
+      (rules_text l.tallies (table_tree l.found.table.now) (chain_tree l.found.chain.now) l.table l.chain (l.before + 1)
+      (map rule_tree (drop l.before l.found.chain.now.rules.items)))
+      (rules_text l.tallies (table_tree l.found.table.now) (chain_tree l.found.chain.now) l.table l.chain 1
+      (chain_tree l.found.chain.now).rules);
   no_failure : l.writer.failures ≡ l.initial.writer.failures;
 }

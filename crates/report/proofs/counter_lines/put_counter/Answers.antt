@@ -12,5 +12,7 @@ use Rattle.report.proofs.counter_lines.put_counter.Goals as goal
 pub returns-clause-puts : goal.returns-clause-puts
 returns-clause-puts g c =
     puts_as c.put_all.result _ _ _ _ _ _ c.put_all.ensures.puts
-    (tally_written (table_tree c.args.found.table.now) (chain_tree c.args.found.chain.now) c.args.position.rule c.args.number (tally_or_zero c.args.tallies.now (position_of c.args.position)) c.unwrap_or-tally.result _ _ _
-    c.family_word-family.ensures c.deref.ensures.value c.deref-2.ensures.value (c.unwrap_or-tally.ensures ∙ ap (λ (o : Option Tally). unwrap_or o (started None)) c.at.ensures))
+    (tally_written (table_tree c.args.found.table.now) (chain_tree c.args.found.chain.now) c.args.position.rule
+    c.args.number (tally_or_zero c.args.tallies.now (position_of c.args.position)) c.unwrap_or-tally.result _ _ _
+    c.family_word-family.ensures c.deref.ensures.value c.deref-2.ensures.value (c.unwrap_or-tally.ensures
+    ∙ ap (λ (o : Option Tally). unwrap_or o (started None)) c.at.ensures))

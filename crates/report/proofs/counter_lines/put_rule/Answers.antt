@@ -13,8 +13,12 @@ returns-in_err-put_counter-clause-puts g c =
     let p = err_from_is_err_and c.from_residual.result c.from_residual.ensures.1 in
     let i = c.loop-before.before in
     rw p.1 (left_part _ _ _ _ _ _ _ _ _ c.loop-before.invariant.left
-    (statements_on c.args.tallies.now (table_tree c.args.found.table.now) (chain_tree c.args.found.chain.now) (record { rule = (position_of c.args.first).rule; statement = i + 1 }) c.loop-before.number c.args.rule.now.statements.items i c.statement-item.result
-    (rw (← c.deref-statement-items.ensures.value) c.loop-before-test.true) (rw (← c.deref-statement-items.ensures.value) c.statement-item.is) (ap is_some (sym c.counter.ensures) ∙ sym c.is_some.ensures ∙ c.if-is_some.true))
+    (statements_on c.args.tallies.now (table_tree c.args.found.table.now) (chain_tree c.args.found.chain.now)
+    (record { rule = (position_of c.args.first).rule; statement = i + 1 }) c.loop-before.number
+    c.args.rule.now.statements.items i c.statement-item.result
+    (rw (← c.deref-statement-items.ensures.value) c.loop-before-test.true)
+    (rw (← c.deref-statement-items.ensures.value) c.statement-item.is) (ap is_some (sym c.counter.ensures)
+    ∙ sym c.is_some.ensures ∙ c.if-is_some.true))
     c.in_err-put_counter.ensures.puts)
 
 pub loop-before-preserved : goal.loop-before-preserved
@@ -22,17 +26,27 @@ loop-before-preserved g c =
     let i = c.loop-before.before in
     elim c.if-is_some.branch [
       | then-is_some+in_ok-put_counter w ↦ rw (w.page-is, w.writer-is, w.number-is) (record {
-        left = left_more _ _ _ _ _ _ _ _ _ _ c.loop-before.invariant.left
-            (statements_on c.args.tallies.now (table_tree c.args.found.table.now) (chain_tree c.args.found.chain.now) (record { rule = (position_of c.args.first).rule; statement = i + 1 }) c.loop-before.number c.args.rule.now.statements.items i c.statement-item.result
-            (rw (← c.deref-statement-items.ensures.value) c.loop-before-test.true) (rw (← c.deref-statement-items.ensures.value) c.statement-item.is) (ap is_some (sym c.counter.ensures) ∙ sym c.is_some.ensures ∙ w.if-is_some.true))
+        left =
+            left_more _ _ _ _ _ _ _ _ _ _ c.loop-before.invariant.left
+            (statements_on c.args.tallies.now (table_tree c.args.found.table.now) (chain_tree c.args.found.chain.now)
+            (record { rule = (position_of c.args.first).rule; statement = i + 1 }) c.loop-before.number
+            c.args.rule.now.statements.items i c.statement-item.result
+            (rw (← c.deref-statement-items.ensures.value) c.loop-before-test.true)
+            (rw (← c.deref-statement-items.ensures.value) c.statement-item.is) (ap is_some (sym c.counter.ensures)
+            ∙ sym c.is_some.ensures ∙ w.if-is_some.true))
             w.in_ok-put_counter.ensures.puts;
         no_failure = w.in_ok-put_counter.ensures.counts ∙ c.loop-before.invariant.no_failure;
         few = omega arith;
       })
       | else-is_some w ↦ rw (w.page-is, w.writer-is, w.number-is) (record {
-        left = left_as _ _ _ _ _ _ _ c.loop-before.invariant.left
-            (statements_past c.args.tallies.now (table_tree c.args.found.table.now) (chain_tree c.args.found.chain.now) (record { rule = (position_of c.args.first).rule; statement = i + 1 }) c.loop-before.number c.args.rule.now.statements.items i c.statement-item.result
-            (rw (← c.deref-statement-items.ensures.value) c.loop-before-test.true) (rw (← c.deref-statement-items.ensures.value) c.statement-item.is) (ap is_some (sym c.counter.ensures) ∙ sym c.is_some.ensures ∙ w.if-is_some.false));
+        left =
+            left_as _ _ _ _ _ _ _ c.loop-before.invariant.left
+            (statements_past c.args.tallies.now (table_tree c.args.found.table.now) (chain_tree c.args.found.chain.now)
+            (record { rule = (position_of c.args.first).rule; statement = i + 1 }) c.loop-before.number
+            c.args.rule.now.statements.items i c.statement-item.result
+            (rw (← c.deref-statement-items.ensures.value) c.loop-before-test.true)
+            (rw (← c.deref-statement-items.ensures.value) c.statement-item.is) (ap is_some (sym c.counter.ensures)
+            ∙ sym c.is_some.ensures ∙ w.if-is_some.false));
         no_failure = c.loop-before.invariant.no_failure;
         few = omega arith;
       })

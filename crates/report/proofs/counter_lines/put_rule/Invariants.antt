@@ -7,9 +7,13 @@ use Rattle.report.proofs.counter_lines.put_rule.Given as goal
 
 abbrev pub invariant-loop-before : goal.invariant-loop-before
 invariant-loop-before g l = record {
-  left : PutsAllBut l.initial.page.text.items (g.W.Write.contents l.initial.writer.inner) l.page.text.items (g.W.Write.contents l.writer.inner)
-      (statements_text l.tallies (table_tree l.found.table.now) (chain_tree l.found.chain.now) (record { rule = (position_of l.first).rule; statement = l.before + 1 }) l.number (map statement (drop l.before l.rule.statements.items)))
-      (statements_text l.tallies (table_tree l.found.table.now) (chain_tree l.found.chain.now) (position_of l.first) 1 (rule_tree l.rule).statements);
+  left : PutsAllBut l.initial.page.text.items (g.W.Write.contents l.initial.writer.inner) l.page.text.items
+      (g.W.Write.contents l.writer.inner)
+      (statements_text l.tallies (table_tree l.found.table.now) (chain_tree l.found.chain.now)
+      (record { rule = (position_of l.first).rule; statement = l.before + 1 }) l.number
+      (map statement (drop l.before l.rule.statements.items)))
+      (statements_text l.tallies (table_tree l.found.table.now) (chain_tree l.found.chain.now) (position_of l.first) 1
+      (rule_tree l.rule).statements);
   no_failure : l.writer.failures ≡ l.initial.writer.failures;
   few : l.number ≤ l.before + 1;
 }

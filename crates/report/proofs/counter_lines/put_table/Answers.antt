@@ -10,22 +10,33 @@ pub returns-in_err-put_chain-clause-puts : goal.returns-in_err-put_chain-clause-
 returns-in_err-put_chain-clause-puts g c =
     let p = err_from_is_err_and c.from_residual.result c.from_residual.ensures.1 in
     rw p.1 (left_part _ _ _ _ _ _ _ _ _ c.loop-item.invariant.left
-    (chains_on c.args.tallies.now (table_tree c.args.table.now) c.args.number c.loop-item.chain_number c.args.table.now.items.items c.loop-item.item-index c.item-item.result (chain_tree c.in-Some.chain.now) (rw (← c.deref-item-items.ensures.value) c.loop-item-test.true) (rw (← c.deref-item-items.ensures.value) c.item-item.is) c.in-Some.ensures)
+    (chains_on c.args.tallies.now (table_tree c.args.table.now) c.args.number c.loop-item.chain_number
+    c.args.table.now.items.items c.loop-item.item-index c.item-item.result (chain_tree c.in-Some.chain.now)
+    (rw (← c.deref-item-items.ensures.value) c.loop-item-test.true)
+    (rw (← c.deref-item-items.ensures.value) c.item-item.is) c.in-Some.ensures)
     c.in_err-put_chain.ensures.puts)
 
 pub loop-item-preserved : goal.loop-item-preserved
 loop-item-preserved g c =
     elim c.match-chain.branch [
       | in-Some+in_ok-put_chain w ↦ rw (w.page-is, w.writer-is, w.chain_number-is) (record {
-        left = left_more _ _ _ _ _ _ _ _ _ _ c.loop-item.invariant.left
-            (chains_on c.args.tallies.now (table_tree c.args.table.now) c.args.number c.loop-item.chain_number c.args.table.now.items.items c.loop-item.item-index c.item-item.result (chain_tree w.in-Some.chain.now) (rw (← c.deref-item-items.ensures.value) c.loop-item-test.true) (rw (← c.deref-item-items.ensures.value) c.item-item.is) w.in-Some.ensures)
+        left =
+            left_more _ _ _ _ _ _ _ _ _ _ c.loop-item.invariant.left
+            (chains_on c.args.tallies.now (table_tree c.args.table.now) c.args.number c.loop-item.chain_number
+            c.args.table.now.items.items c.loop-item.item-index c.item-item.result (chain_tree w.in-Some.chain.now)
+            (rw (← c.deref-item-items.ensures.value) c.loop-item-test.true)
+            (rw (← c.deref-item-items.ensures.value) c.item-item.is) w.in-Some.ensures)
             w.in_ok-put_chain.ensures.puts;
         no_failure = w.in_ok-put_chain.ensures.counts ∙ c.loop-item.invariant.no_failure;
         few = omega arith;
       })
       | in_default w ↦ rw (w.page-is, w.writer-is, w.chain_number-is) (record {
-        left = left_as _ _ _ _ _ _ _ c.loop-item.invariant.left
-            (chains_past c.args.tallies.now (table_tree c.args.table.now) c.args.number c.loop-item.chain_number c.args.table.now.items.items c.loop-item.item-index c.item-item.result (rw (← c.deref-item-items.ensures.value) c.loop-item-test.true) (rw (← c.deref-item-items.ensures.value) c.item-item.is) w.in_default.ensures);
+        left =
+            left_as _ _ _ _ _ _ _ c.loop-item.invariant.left
+            (chains_past c.args.tallies.now (table_tree c.args.table.now) c.args.number c.loop-item.chain_number
+            c.args.table.now.items.items c.loop-item.item-index c.item-item.result
+            (rw (← c.deref-item-items.ensures.value) c.loop-item-test.true)
+            (rw (← c.deref-item-items.ensures.value) c.item-item.is) w.in_default.ensures);
         no_failure = c.loop-item.invariant.no_failure;
         few = omega arith;
       })

@@ -8,5 +8,9 @@ pub returns : goal.returns
 returns c =
     let here = c.args.rule.now.statements.items in
     let before = c.args.number - 1 in
-    rw (numbered_is_get (map tree.statement here) c.args.number (omega (arith, c.if-number-eq0.false)), slice_get-map tree.statement here before)
-    (rw c.deref.ensures.value at (mapped_get tree.statement _ c.deref.result.now before c.get.result c.get.ensures.lookup.1 c.get.ensures.lookup.3))
+    rw (
+      numbered_is_get (map tree.statement here) c.args.number (omega (arith, c.if-number-eq0.false)),
+      slice_get-map tree.statement here before,
+    )
+    (rw c.deref.ensures.value at (mapped_get tree.statement _ c.deref.result.now before c.get.result
+    c.get.ensures.lookup.1 c.get.ensures.lookup.3))

@@ -10,5 +10,7 @@ returns-clause-puts g c =
     let k = chain_tree c.in-Some.found.chain.now in
     let at = c.args.position in
     puts_as c.put_all.result _ _ _ _ _ _ c.put_all.ensures.puts
-    (log_written _ _ _ at t k _ _ _ _ c.from.ensures c.family_word-family.ensures c.deref.ensures.value c.deref-2.ensures.value c.from-2.ensures c.prefix-before.ensures
-    ∙ on_found (tables_of c.args.rules.now) at.rule.table at.rule.chain (log_line c.args.number at) t k c.in-Some.ensures)
+    (log_written _ _ _ at t k _ _ _ _ c.from.ensures c.family_word-family.ensures c.deref.ensures.value
+    c.deref-2.ensures.value c.from-2.ensures c.prefix-before.ensures
+    ∙ on_found (tables_of c.args.rules.now) at.rule.table at.rule.chain (log_line c.args.number at) t k
+    c.in-Some.ensures)

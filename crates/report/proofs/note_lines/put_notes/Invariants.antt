@@ -8,6 +8,8 @@ use Rattle.report.proofs.note_lines.put_notes.Given as goal
 
 abbrev pub invariant-loop-note : goal.invariant-loop-note
 invariant-loop-note g l = record {
-  left : PutsAllBut l.initial.page.text.items (g.W.Write.contents l.initial.writer.inner) l.page.text.items (g.W.Write.contents l.writer.inner) (flat_map (note_line (tables_of l.rules)) (drop l.note-index l.notes)) (flat_map (note_line (tables_of l.rules)) l.notes);
+  left : PutsAllBut l.initial.page.text.items (g.W.Write.contents l.initial.writer.inner) l.page.text.items
+      (g.W.Write.contents l.writer.inner) (flat_map (note_line (tables_of l.rules)) (drop l.note-index l.notes))
+      (flat_map (note_line (tables_of l.rules)) l.notes);
   no_failure : l.writer.failures ≡ l.initial.writer.failures;
 }

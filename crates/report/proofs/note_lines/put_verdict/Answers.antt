@@ -10,5 +10,7 @@ returns-clause-puts g c =
     let k = chain_tree c.in-Some.found.chain.now in
     let rule = c.args.rule in
     puts_as c.put_all.result _ _ _ _ _ _ c.put_all.ensures.puts
-    (verdict_written _ _ _ _ c.args.verdict t k _ _ _ _ _ c.from.ensures c.family_word-family.ensures c.deref.ensures.value c.deref-2.ensures.value c.from-2.ensures c.verdict_pieces.ensures
-    ∙ on_found (tables_of c.args.rules.now) rule.table rule.chain (verdict_line c.args.number rule.rule c.args.verdict) t k c.in-Some.ensures)
+    (verdict_written _ _ _ _ c.args.verdict t k _ _ _ _ _ c.from.ensures c.family_word-family.ensures
+    c.deref.ensures.value c.deref-2.ensures.value c.from-2.ensures c.verdict_pieces.ensures
+    ∙ on_found (tables_of c.args.rules.now) rule.table rule.chain (verdict_line c.args.number rule.rule c.args.verdict)
+    t k c.in-Some.ensures)

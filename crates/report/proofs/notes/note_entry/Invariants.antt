@@ -5,7 +5,9 @@ use Rattle.report.proofs.notes.note_entry.Given as goal
 
 abbrev pub invariant-loop-event : goal.invariant-loop-event
 invariant-loop-event l = record {
-  left : l.notes.items ++ noted_events l.trace l.entry.number (drop l.event-index l.entry.events.now) ≡ l.initial.notes.items ++ noted_events l.trace l.entry.number l.entry.events.now;
-  few : vec_len l.notes + (length l.entry.events.now - l.event-index) ≤ vec_len l.initial.notes + length l.entry.events.now;
+  left : l.notes.items ++ noted_events l.trace l.entry.number (drop l.event-index l.entry.events.now)
+      ≡ l.initial.notes.items ++ noted_events l.trace l.entry.number l.entry.events.now;
+  few : vec_len l.notes + (length l.entry.events.now - l.event-index) ≤ vec_len l.initial.notes + length
+      l.entry.events.now;
   capacity : vec_capacity l.notes ≡ vec_capacity l.initial.notes;
 }

@@ -8,4 +8,5 @@ returns-in_err-put_notes-clause-wrote_text g c =
     rw p.1 (part_empty _ _ _ _ c.new-page.ensures c.in_err-put_notes.ensures.puts)
 
 pub returns-clause-wrote_text : goal.returns-clause-wrote_text
-returns-clause-wrote_text g c = sent_all c.send.result _ _ _ _ _ _ c.new-page.ensures c.in_ok-put_notes.ensures.puts c.send.ensures.ok c.send.ensures.part
+returns-clause-wrote_text g c = sent_all c.send.result _ _ _ _ _ _ c.new-page.ensures c.in_ok-put_notes.ensures.puts
+    c.send.ensures.ok c.send.ensures.part

@@ -17,24 +17,31 @@ returns-in_err-put_notes-clause-wrote_text g c =
     let first = flat_map (note_line (tables_of c.args.rules.now)) c.args.notes.now in
     let second = tables_text c.args.tallies.now 0 (tables_of c.args.rules.now) in
     let third = number_lines t.records t.passed t.local (drops_in t.dropped.now) t.begun t.live t.torn in
-    rw p.1 (part_empty _ _ _ _ c.new-page.ensures (left_part _ _ _ _ _ _ first (second ++ third) _ (left_start _ _ _) (append_assoc first second third) c.in_err-put_notes.ensures.puts))
+    rw p.1 (part_empty _ _ _ _ c.new-page.ensures (left_part _ _ _ _ _ _ first (second ++ third) _ (left_start _ _ _)
+    (append_assoc first second third) c.in_err-put_notes.ensures.puts))
 
 pub returns-in_err-put_counters-clause-wrote_text : goal.returns-in_err-put_counters-clause-wrote_text
 returns-in_err-put_counters-clause-wrote_text g c =
-    let p = err_from_is_err_and c.from_residual-in_err-put_counters.result c.from_residual-in_err-put_counters.ensures.1 in
+    let p = err_from_is_err_and c.from_residual-in_err-put_counters.result c.from_residual-in_err-put_counters.ensures.1
+    in
     let t = c.args.totals.now in
     let first = flat_map (note_line (tables_of c.args.rules.now)) c.args.notes.now in
     let second = tables_text c.args.tallies.now 0 (tables_of c.args.rules.now) in
     let third = number_lines t.records t.passed t.local (drops_in t.dropped.now) t.begun t.live t.torn in
     rw p.1 (part_empty _ _ _ _ c.new-page.ensures (left_part _ _ _ _ _ _ second third _
-    (left_more _ _ _ _ _ _ _ first (second ++ third) _ (left_start _ _ _) (append_assoc first second third) c.in_ok-put_notes.ensures.puts) refl c.in_err-put_counters.ensures.puts))
+    (left_more _ _ _ _ _ _ _ first (second ++ third) _ (left_start _ _ _) (append_assoc first second third)
+    c.in_ok-put_notes.ensures.puts) refl c.in_err-put_counters.ensures.puts))
 
 pub returns-in_err-put_totals-clause-wrote_text : goal.returns-in_err-put_totals-clause-wrote_text
 returns-in_err-put_totals-clause-wrote_text g c =
     let p = err_from_is_err_and c.from_residual-in_err-put_totals.result c.from_residual-in_err-put_totals.ensures.1 in
-    rw p.1 (part_empty _ _ _ _ c.new-page.ensures (gets_part _ _ _ _ _ _ _ (gets_more _ _ _ _ _ _ _ _ c.in_ok-put_notes.ensures.puts c.in_ok-put_counters.ensures.puts) c.in_err-put_totals.ensures.puts))
+    rw p.1 (part_empty _ _ _ _ c.new-page.ensures (gets_part _ _ _ _ _ _ _ (gets_more _ _ _ _ _ _ _ _
+    c.in_ok-put_notes.ensures.puts c.in_ok-put_counters.ensures.puts)
+    c.in_err-put_totals.ensures.puts))
 
 pub returns-clause-wrote_text : goal.returns-clause-wrote_text
 returns-clause-wrote_text g c =
-    sent_all c.send.result _ _ _ _ _ _ c.new-page.ensures (gets_more _ _ _ _ _ _ _ _ (gets_more _ _ _ _ _ _ _ _ c.in_ok-put_notes.ensures.puts c.in_ok-put_counters.ensures.puts) c.in_ok-put_totals.ensures.puts)
+    sent_all c.send.result _ _ _ _ _ _ c.new-page.ensures (gets_more _ _ _ _ _ _ _ _
+    (gets_more _ _ _ _ _ _ _ _ c.in_ok-put_notes.ensures.puts c.in_ok-put_counters.ensures.puts)
+    c.in_ok-put_totals.ensures.puts)
     c.send.ensures.ok c.send.ensures.part

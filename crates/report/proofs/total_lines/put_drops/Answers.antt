@@ -8,12 +8,14 @@ use Rattle.report.proofs.total_lines.put_drops.Goals as goal
 pub returns-in_err-put_drop-clause-puts : goal.returns-in_err-put_drop-clause-puts
 returns-in_err-put_drop-clause-puts g c =
     let p = err_from_is_err_and c.from_residual.result c.from_residual.ensures.1 in
-    rw p.1 (left_part _ _ _ _ _ _ _ _ _ c.loop-cause.invariant.left (written_at (drop_line (drops_in c.args.dropped.now)) _ _ _ c.loop-cause-test.true)
+    rw p.1 (left_part _ _ _ _ _ _ _ _ _ c.loop-cause.invariant.left
+    (written_at (drop_line (drops_in c.args.dropped.now)) _ _ _ c.loop-cause-test.true)
     (rw c.report_index.ensures.report_index at c.in_err-put_drop.ensures.puts))
 
 pub loop-cause-preserved : goal.loop-cause-preserved
 loop-cause-preserved g c = record {
-  left = left_more _ _ _ _ _ _ _ _ _ _ c.loop-cause.invariant.left (written_at (drop_line (drops_in c.args.dropped.now)) _ _ _ c.loop-cause-test.true)
+  left = left_more _ _ _ _ _ _ _ _ _ _ c.loop-cause.invariant.left (written_at (drop_line (drops_in c.args.dropped.now))
+      _ _ _ c.loop-cause-test.true)
       (rw c.report_index.ensures.report_index at c.in_ok-put_drop.ensures.puts);
   no_failure = c.in_ok-put_drop.ensures.counts ∙ c.loop-cause.invariant.no_failure;
 }

@@ -8,6 +8,8 @@ use Rattle.report.proofs.total_lines.put_drops.Given as goal
 
 abbrev pub invariant-loop-cause : goal.invariant-loop-cause
 invariant-loop-cause g l = record {
-  left : PutsAllBut l.initial.page.text.items (g.W.Write.contents l.initial.writer.inner) l.page.text.items (g.W.Write.contents l.writer.inner) (flat_map (drop_line (drops_in l.dropped)) (drop l.cause-index l.causes)) (flat_map (drop_line (drops_in l.dropped)) l.causes);
+  left : PutsAllBut l.initial.page.text.items (g.W.Write.contents l.initial.writer.inner) l.page.text.items
+      (g.W.Write.contents l.writer.inner) (flat_map (drop_line (drops_in l.dropped)) (drop l.cause-index l.causes))
+      (flat_map (drop_line (drops_in l.dropped)) l.causes);
   no_failure : l.writer.failures ≡ l.initial.writer.failures;
 }

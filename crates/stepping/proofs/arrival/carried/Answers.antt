@@ -4,13 +4,20 @@ use Rattle.stepping.proofs.Arrivals.{without_link, without_interface, without_he
 use Rattle.stepping.proofs.arrival.carried.Goals as goal
 
 pub returns-in-Err-clause-carries : goal.returns-in-Err-clause-carries
-returns-in-Err-clause-carries c = without_link (setup_in c.args.setup.now.hooks) (recorded_of c.args.record.now) _ _ c.in-Err.ensures.link c.link_cause.ensures
+returns-in-Err-clause-carries c = without_link (setup_in c.args.setup.now.hooks) (recorded_of c.args.record.now) _ _
+    c.in-Err.ensures.link c.link_cause.ensures
 
 pub returns-in_default-clause-carries : goal.returns-in_default-clause-carries
-returns-in_default-clause-carries c = without_interface (setup_in c.args.setup.now.hooks) (recorded_of c.args.record.now) c.in-Ok.link _ c.in-Ok.ensures.link c.input_interface.ensures.index c.in_default.is
+returns-in_default-clause-carries c =
+    without_interface (setup_in c.args.setup.now.hooks) (recorded_of c.args.record.now) c.in-Ok.link _
+    c.in-Ok.ensures.link c.input_interface.ensures.index c.in_default.is
 
 pub returns-in-Ok-read-clause-carries : goal.returns-in-Ok-read-clause-carries
-returns-in-Ok-read-clause-carries c = with_packet (setup_in c.args.setup.now.hooks) (recorded_of c.args.record.now) c.in-Ok.link _ c.in-Ok.ensures.link c.input_interface.ensures.index _ _ c.in-Some.is c.in-Ok-read.ensures.fault c.in-Ok-read.ensures.packet
+returns-in-Ok-read-clause-carries c =
+    with_packet (setup_in c.args.setup.now.hooks) (recorded_of c.args.record.now) c.in-Ok.link _ c.in-Ok.ensures.link
+    c.input_interface.ensures.index _ _ c.in-Some.is c.in-Ok-read.ensures.fault c.in-Ok-read.ensures.packet
 
 pub returns-in-Err-read-clause-carries : goal.returns-in-Err-read-clause-carries
-returns-in-Err-read-clause-carries c = without_header (setup_in c.args.setup.now.hooks) (recorded_of c.args.record.now) c.in-Ok.link _ c.in-Ok.ensures.link c.input_interface.ensures.index _ _ _ c.in-Some.is c.in-Err-read.ensures.fault c.cause_of.ensures
+returns-in-Err-read-clause-carries c =
+    without_header (setup_in c.args.setup.now.hooks) (recorded_of c.args.record.now) c.in-Ok.link _ c.in-Ok.ensures.link
+    c.input_interface.ensures.index _ _ _ c.in-Some.is c.in-Err-read.ensures.fault c.cause_of.ensures

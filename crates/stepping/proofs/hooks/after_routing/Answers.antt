@@ -4,10 +4,13 @@ use Rattle.stepping.proofs.hooks.after_routing.Goals as goal
 
 pub returns-in-Local-clause-traverses : goal.returns-in-Local-clause-traverses
 returns-in-Local-clause-traverses c = λ held same.
-    rw c.in-Local.is (delivers_by (setup_in c.args.setup.now.hooks) held c.args.info.now c.args.facts.now c.args.events.now.events _ _ _ c.run.ensures.traverses)
+    rw c.in-Local.is (delivers_by (setup_in c.args.setup.now.hooks) held c.args.info.now c.args.facts.now
+    c.args.events.now.events _ _ _ c.run.ensures.traverses)
 
-pub returns-in-Passed-clause-traverses : goal.returns-in-Passed-clause-traverses
-returns-in-Passed-clause-traverses c = λ held same.
+pub returns-in-Forward-clause-traverses : goal.returns-in-Forward-clause-traverses
+returns-in-Forward-clause-traverses c = λ held same.
     let setup = setup_in c.args.setup.now.hooks in
-    let known = departs_with setup _ c.in-Passed.interface _ c.args.facts.now _ c.plant.ensures c.interface_facts-output.ensures c.set_output.ensures in
-    rw c.in-Passed.is (leaves_by setup held c.args.info.now _ c.in-Passed.interface c.args.facts.now _ c.args.events.now.events _ _ _ known (c.forward_and_postrouting.ensures.traverses held same))
+    let known = departs_with setup _ c.in-Forward.interface _ c.args.facts.now _ c.plant.ensures
+    c.interface_facts-output.ensures c.set_output.ensures in
+    rw c.in-Forward.is (leaves_by setup held c.args.info.now _ c.in-Forward.interface c.args.facts.now _
+    c.args.events.now.events _ _ _ known (c.forward_and_postrouting.ensures.traverses held same))

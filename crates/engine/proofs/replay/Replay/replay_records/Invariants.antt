@@ -1,4 +1,4 @@
--- the records so far were taken, what they give is written or waits, and no call failed
+-- the records so far are processed, their output is written or pending, and no call failed
 use Rattle.std.proofs.Common.{◌≡◌, ◌≤◌, ◌-◌, true, None, IfSome, List, [], length}
 use Rattle.std.specs.Io.KnownBytes.{IsAtEnd}
 use Rattle.pcap_io.specs.CaptureStates.{READ_AHEAD}
@@ -20,9 +20,11 @@ invariant-each g l = record {
   few : length l.self.records.held ≤ READ_AHEAD;
   drained : l.self.records.ended ≡ true → IsAtEnd (g.R.Read.remaining l.capture.inner);
   represents : (history : List Entry) × Represents l.self.engine history;
-  carried : (start : ReplayStart) → ReplayRepresents l.fn.self start [] (g.W.Write.contents l.fn.sent.inner) (g.W2.Write.contents l.fn.report.inner)
+  carried : (start : ReplayStart) → ReplayRepresents l.fn.self start [] (g.W.Write.contents l.fn.sent.inner)
+      (g.W2.Write.contents l.fn.report.inner)
       → IfSome (unread_input l.fn.self.records (g.R.Read.remaining l.fn.capture.inner)) (λ bytes.
-      Carried l.self start l.fn.self.records.format bytes (g.R.Read.remaining l.capture.inner) (g.W.Write.contents l.sent.inner) (g.W2.Write.contents l.report.inner));
+      Carried l.self start l.fn.self.records.format bytes (g.R.Read.remaining l.capture.inner)
+      (g.W.Write.contents l.sent.inner) (g.W2.Write.contents l.report.inner));
 }
 
 abbrev pub decreases-each : goal.decreases-each

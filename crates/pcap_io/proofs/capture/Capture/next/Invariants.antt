@@ -11,10 +11,13 @@ invariant-loop-self g l = record {
   latest : l.self.latest ≡ l.initial.self.latest;
   fault : l.self.fault ≡ None;
   last : l.self.last ≡ None;
-  whole : Keeps (ahead l.initial.self (g.R.Read.remaining l.initial.reader.inner)) (ahead l.self (g.R.Read.remaining l.reader.inner));
+  whole : Keeps (ahead l.initial.self (g.R.Read.remaining l.initial.reader.inner))
+      (ahead l.self (g.R.Read.remaining l.reader.inner));
   unread : is_ready l.initial.self ≡ true → (l.self ≡ l.initial.self) × (l.reader ≡ l.initial.reader);
-  drained : (l.initial.self.ended ≡ true → IsAtEnd (g.R.Read.remaining l.initial.reader.inner)) → l.self.ended ≡ true → IsAtEnd (g.R.Read.remaining l.reader.inner);
-  read : (part : List ℕ) × Consumes (g.R.Read.remaining l.initial.reader.inner) (g.R.Read.remaining l.reader.inner) part;
+  drained : (l.initial.self.ended ≡ true → IsAtEnd (g.R.Read.remaining l.initial.reader.inner)) → l.self.ended ≡ true
+      → IsAtEnd (g.R.Read.remaining l.reader.inner);
+  read : (part : List ℕ) × Consumes (g.R.Read.remaining l.initial.reader.inner) (g.R.Read.remaining l.reader.inner)
+      part;
   no_failure : l.reader.failures ≡ l.initial.reader.failures;
 }
 

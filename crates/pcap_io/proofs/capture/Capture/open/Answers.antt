@@ -14,9 +14,13 @@ returns-in_err-format-clause-refused g c =
       | then-loop-buffer-test+else-not-is_ended w ↦ inr (cc)
       | else-loop-buffer-test w ↦ inl (omega (arith, w.loop-buffer-test, long))
     ] in
-    rw (p.1, p.2) (refused _ _ buffer.held buffer.ended c.in_err-format.field-0.0 c.loop-buffer.invariant.read c.loop-buffer.invariant.end (ap format_of (sym c.held-2.ensures) ∙ sym c.read.ensures.format ∙ c.in_err-format.was) whole)
+    rw (p.1, p.2) (refused _ _ buffer.held buffer.ended c.in_err-format.field-0.0 c.loop-buffer.invariant.read
+    c.loop-buffer.invariant.end (ap format_of (sym c.held-2.ensures) ∙ sym c.read.ensures.format
+    ∙ c.in_err-format.was) whole)
 
 pub returns-clause-bytes : goal.returns-clause-bytes
 returns-clause-bytes g c =
     let buffer = c.loop-buffer.buffer in
-    rw c.take.ensures (opened _ _ buffer.held buffer.ended c.in_ok-format.format c.loop-buffer.invariant.read c.loop-buffer.invariant.end (ap format_of (sym c.held-2.ensures) ∙ sym c.read.ensures.format ∙ c.in_ok-format.was) (omega (arith, c.in_ok-format.ensures.long, ap length c.held-2.ensures)))
+    rw c.take.ensures (opened _ _ buffer.held buffer.ended c.in_ok-format.format c.loop-buffer.invariant.read
+    c.loop-buffer.invariant.end (ap format_of (sym c.held-2.ensures) ∙ sym c.read.ensures.format
+    ∙ c.in_ok-format.was) (omega (arith, c.in_ok-format.ensures.long, ap length c.held-2.ensures)))

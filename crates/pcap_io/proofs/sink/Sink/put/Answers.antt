@@ -12,7 +12,8 @@ pub returns-in_err-write_whole-clause-part : goal.returns-in_err-write_whole-cla
 returns-in_err-write_whole-clause-part g c =
     let p = err_from_is_err_and c.from_residual.result c.from_residual.ensures.1 in
     let is = c.deref.ensures.value ∙ ap (λ v. v.buffered) c.self.view_is in
-    rw p.1 (part_first _ _ c.args.self.now.buffered (sll2_record (sent c.args.leaving.now)) (subst (AppendsPrefix _ _) is c.in_err-write_whole.ensures.part))
+    rw p.1 (part_first _ _ c.args.self.now.buffered (sll2_record (sent c.args.leaving.now)) (subst (AppendsPrefix _ _)
+    is c.in_err-write_whole.ensures.part))
 
 pub returns-clause-ok : goal.returns-clause-ok
 returns-clause-ok g c =
@@ -21,8 +22,13 @@ returns-clause-ok g c =
     let old = c.args.self.now.buffered in
     let mid = c.if-len-length.self-inside.buffered.items in
     let so_far : AppendsBuffered old a b mid [] = elim c.if-len-length.branch [
-      | then-len-length+in_ok-write_whole w ↦ rw (w.writer-is, w.self-inside-is) (drained _ _ old w.deref.result.now _ w.in_ok-write_whole.ensures.ok (w.deref.ensures.value ∙ ap (λ v. v.buffered) c.self.view_is) w.clear.ensures.items)
-      | else-len-length w ↦ rw (w.writer-is, w.self-inside-is) (left_buffered _ old _ (ap (λ v. v.buffered) c.self.view_is))
+      | then-len-length+in_ok-write_whole w ↦ rw (w.writer-is, w.self-inside-is) (drained _ _ old w.deref.result.now _
+          w.in_ok-write_whole.ensures.ok (w.deref.ensures.value ∙ ap (λ v. v.buffered) c.self.view_is)
+          w.clear.ensures.items)
+      | else-len-length w ↦ rw (w.writer-is, w.self-inside-is) (left_buffered _ old _ (ap (λ v. v.buffered)
+          c.self.view_is))
     ] in
-    buffers_more a b old mid c.headers.result c.args.leaving.now.packet.now c.append-2.new.buffered.items (sll2_record (sent c.args.leaving.now)) so_far
-    (c.append-2.ensures.items ∙ ap (λ l. l ++ c.args.leaving.now.packet.now) c.append.ensures.items) c.headers.ensures.bytes
+    buffers_more a b old mid c.headers.result c.args.leaving.now.packet.now c.append-2.new.buffered.items
+    (sll2_record (sent c.args.leaving.now)) so_far
+    (c.append-2.ensures.items ∙ ap (λ l. l ++ c.args.leaving.now.packet.now) c.append.ensures.items)
+    c.headers.ensures.bytes

@@ -10,4 +10,5 @@ returns-in_err-send-clause-puts g c =
 
 pub returns-then-bytes-gt-PAGE_BYTES-clause-puts : goal.returns-then-bytes-gt-PAGE_BYTES-clause-puts
 returns-then-bytes-gt-PAGE_BYTES-clause-puts g c =
-    puts_past c.write_whole.result _ _ _ _ _ _ c.in_ok-send.ensures.ok c.in_ok-send.ensures.empty c.write_whole.ensures.ok c.write_whole.ensures.part
+    puts_past c.write_whole.result _ _ _ _ _ _ c.in_ok-send.ensures.ok c.in_ok-send.ensures.empty
+    c.write_whole.ensures.ok c.write_whole.ensures.part

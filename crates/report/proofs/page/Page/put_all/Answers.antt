@@ -7,10 +7,12 @@ use Rattle.report.proofs.page.Page.put_all.Goals as goal
 pub returns-in_err-put_piece-clause-puts : goal.returns-in_err-put_piece-clause-puts
 returns-in_err-put_piece-clause-puts g c =
     let p = err_from_is_err_and c.from_residual.result c.from_residual.ensures.1 in
-    rw p.1 (left_part _ _ _ _ _ _ _ _ _ c.loop-piece.invariant.left (written_at piece_text _ _ _ c.loop-piece-test.true) c.in_err-put_piece.ensures.puts)
+    rw p.1 (left_part _ _ _ _ _ _ _ _ _ c.loop-piece.invariant.left (written_at piece_text _ _ _ c.loop-piece-test.true)
+    c.in_err-put_piece.ensures.puts)
 
 pub loop-piece-preserved : goal.loop-piece-preserved
 loop-piece-preserved g c = record {
-  left = left_more _ _ _ _ _ _ _ _ _ _ c.loop-piece.invariant.left (written_at piece_text _ _ _ c.loop-piece-test.true) c.in_ok-put_piece.ensures.puts;
+  left = left_more _ _ _ _ _ _ _ _ _ _ c.loop-piece.invariant.left (written_at piece_text _ _ _ c.loop-piece-test.true)
+      c.in_ok-put_piece.ensures.puts;
   no_failure = c.in_ok-put_piece.ensures.counts ∙ c.loop-piece.invariant.no_failure;
 }

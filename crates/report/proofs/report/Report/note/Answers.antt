@@ -10,7 +10,8 @@ invariant_of-self-in-Passed c = record {
   local_fits = omega arith;
   dropped_fit = fits_more _ _ c.self.invariant.dropped_fit;
   begun_fits = omega (arith, test_most c.args.entry.now.begun, c.from.ensures);
-  tallies_fit = tallies_fit_more c.self.inside.records c.args.entry.now.length c.args.entry.now.events.now _ _ c.self.invariant.tallies_fit (omega arith) (omega arith) c.count_events.ensures;
+  tallies_fit = tallies_fit_more c.self.inside.records c.args.entry.now.length c.args.entry.now.events.now _ _
+      c.self.invariant.tallies_fit (omega arith) (omega arith) c.count_events.ensures;
 }
 
 pub invariant_of-self-in-Local : goal.invariant_of-self-in-Local
@@ -19,7 +20,8 @@ invariant_of-self-in-Local c = record {
   local_fits = omega arith;
   dropped_fit = fits_more _ _ c.self.invariant.dropped_fit;
   begun_fits = omega (arith, test_most c.args.entry.now.begun, c.from.ensures);
-  tallies_fit = tallies_fit_more c.self.inside.records c.args.entry.now.length c.args.entry.now.events.now _ _ c.self.invariant.tallies_fit (omega arith) (omega arith) c.count_events.ensures;
+  tallies_fit = tallies_fit_more c.self.inside.records c.args.entry.now.length c.args.entry.now.events.now _ _
+      c.self.invariant.tallies_fit (omega arith) (omega arith) c.count_events.ensures;
 }
 
 pub invariant_of-self-in-Dropped : goal.invariant_of-self-in-Dropped
@@ -28,20 +30,32 @@ invariant_of-self-in-Dropped c = record {
   local_fits = omega arith;
   dropped_fit = raised_fits _ _ _ c.self.invariant.dropped_fit;
   begun_fits = omega (arith, test_most c.args.entry.now.begun, c.from.ensures);
-  tallies_fit = tallies_fit_more c.self.inside.records c.args.entry.now.length c.args.entry.now.events.now _ _ c.self.invariant.tallies_fit (omega arith) (omega arith) c.count_events.ensures;
+  tallies_fit = tallies_fit_more c.self.inside.records c.args.entry.now.length c.args.entry.now.events.now _ _
+      c.self.invariant.tallies_fit (omega arith) (omega arith) c.count_events.ensures;
 }
 
 pub returns-in-Passed-clause-noted : goal.returns-in-Passed-clause-noted
 returns-in-Passed-clause-noted c = λ rules trace history written e r is.
-    reports_more (the_view c.self.inside) _ rules trace history written e c.args.entry.now _ _ _ _ _ _ _ c.self.view_is r is c.self.invariant.tallies_fit c.requires.few (omega arith) (omega arith)
-    (rw c.in-Passed.is (omega arith)) (rw c.in-Passed.is (omega arith)) (λ cause. rw c.in-Passed.is (omega arith)) (ap (λ n. c.self.inside.begun + n) c.from.ensures ∙ more_by_test c.args.entry.now.begun c.self.inside.begun) c.count_events.ensures (cc)
+    reports_more (the_view c.self.inside) _ rules trace history written e c.args.entry.now _ _ _ _ _ _ _ c.self.view_is
+    r is c.self.invariant.tallies_fit c.requires.few (omega arith) (omega arith)
+    (rw c.in-Passed.is (omega arith)) (rw c.in-Passed.is (omega arith)) (λ cause. rw c.in-Passed.is (omega arith))
+    (ap (λ n. c.self.inside.begun + n) c.from.ensures ∙ more_by_test c.args.entry.now.begun c.self.inside.begun)
+    c.count_events.ensures (cc)
 
 pub returns-in-Local-clause-noted : goal.returns-in-Local-clause-noted
 returns-in-Local-clause-noted c = λ rules trace history written e r is.
-    reports_more (the_view c.self.inside) _ rules trace history written e c.args.entry.now _ _ _ _ _ _ _ c.self.view_is r is c.self.invariant.tallies_fit c.requires.few (omega arith) (omega arith)
-    (rw c.in-Local.is (omega arith)) (rw c.in-Local.is (omega arith)) (λ cause. rw c.in-Local.is (omega arith)) (ap (λ n. c.self.inside.begun + n) c.from.ensures ∙ more_by_test c.args.entry.now.begun c.self.inside.begun) c.count_events.ensures (cc)
+    reports_more (the_view c.self.inside) _ rules trace history written e c.args.entry.now _ _ _ _ _ _ _ c.self.view_is
+    r is c.self.invariant.tallies_fit c.requires.few (omega arith) (omega arith)
+    (rw c.in-Local.is (omega arith)) (rw c.in-Local.is (omega arith)) (λ cause. rw c.in-Local.is (omega arith))
+    (ap (λ n. c.self.inside.begun + n) c.from.ensures ∙ more_by_test c.args.entry.now.begun c.self.inside.begun)
+    c.count_events.ensures (cc)
 
 pub returns-in-Dropped-clause-noted : goal.returns-in-Dropped-clause-noted
 returns-in-Dropped-clause-noted c = λ rules trace history written e r is.
-    reports_more (the_view c.self.inside) _ rules trace history written e c.args.entry.now _ _ _ _ _ _ _ c.self.view_is r is c.self.invariant.tallies_fit c.requires.few (omega arith) (omega arith)
-    (rw c.in-Dropped.is (omega arith)) (rw c.in-Dropped.is (omega arith)) (λ cause. rw c.in-Dropped.is (drop_more _ _ _ c.report_index.ensures.report_index (omega (arith, c.report_index.ensures.within, c.self.written)) cause)) (ap (λ n. c.self.inside.begun + n) c.from.ensures ∙ more_by_test c.args.entry.now.begun c.self.inside.begun) c.count_events.ensures (cc)
+    reports_more (the_view c.self.inside) _ rules trace history written e c.args.entry.now _ _ _ _ _ _ _ c.self.view_is
+    r is c.self.invariant.tallies_fit c.requires.few (omega arith) (omega arith)
+    (rw c.in-Dropped.is (omega arith)) (rw c.in-Dropped.is (omega arith))
+    (λ cause. rw c.in-Dropped.is (drop_more _ _ _ c.report_index.ensures.report_index
+    (omega (arith, c.report_index.ensures.within, c.self.written)) cause))
+    (ap (λ n. c.self.inside.begun + n) c.from.ensures ∙ more_by_test c.args.entry.now.begun c.self.inside.begun)
+    c.count_events.ensures (cc)

@@ -8,5 +8,6 @@ use Rattle.report.proofs.tallies.RulesetTallies.new.Goals as goal
 pub loop-table-preserved : goal.loop-table-preserved
 loop-table-preserved c = record {
   are = grind (arith, common_steps);
-  fit = rw c.in_ok-push.ensures.items (All-push (All (All (All FitsStart))) _ _ c.loop-table.invariant.fit c.in_ok-new.ensures.fits);
+  fit = rw c.in_ok-push.ensures.items (All-push (All (All (All FitsStart))) _ _ c.loop-table.invariant.fit
+      c.in_ok-new.ensures.fits);
 }

@@ -9,6 +9,7 @@ use Rattle.report.proofs.tallies.TableTallies.new.Given as goal
 
 abbrev pub invariant-loop-item : goal.invariant-loop-item
 invariant-loop-item l = record {
-  are : l.chains.items ++ map fresh_chain (chains_among (drop l.item-index l.table.items.items)) ≡ fresh_table (table_tree l.table);
+  are : l.chains.items ++ map fresh_chain (chains_among (drop l.item-index l.table.items.items))
+      ≡ fresh_table (table_tree l.table);
   fit : All (All (All FitsStart)) l.chains.items;
 }

@@ -1,4 +1,4 @@
-//! What becomes of a record.
+//! Processes a record.
 ghost use Rattle.std.specs.Prelude.{◌≡◌, ◌≤◌, IsTrue, false, [], length, vec_capacity};
 ghost use Rattle.history.specs.declared.outcome.Outcome.TheVariants as outcomes;
 ghost use Rattle.conntrack.specs.ConntrackEntry.{IsNoneLater, live_at};
@@ -26,7 +26,7 @@ use pcap_io::Record;
 use rewrite::emit;
 use translation::CtInfo;
 
-/// How a record ended.
+/// The result of a record.
 #[derive(Clone, Copy)]
 pub struct RecordResult {
     pub outcome: Outcome,
@@ -36,9 +36,8 @@ pub struct RecordResult {
     pub begun: bool,
 }
 
-/// How a record ends at a moment at which all connections held are live: as its packet does, or
-/// dropped for the first test that fails of those that tell whether it carries one. The packet that
-/// leaves, where one does, is left in `packet`, and what happened while the rules ran in `events`.
+/// Processes one record. All connections held are live at `now`. `events` gets the events of the
+/// rules' evaluation, and `packet` the bytes of the packet, if it is forwarded.
 pub fn process_record<T: Tracker>(
     setup: &Setup,
     record: &Record,
@@ -53,7 +52,8 @@ pub fn process_record<T: Tracker>(
     requires none { events.old.events ≡ [] }
     requires empty { packet.old.items ≡ [] }
     requires room { 65535 ≤ vec_capacity packet.old }
-    ensures process_record { HasProcessedRecord (setup_in setup.now.hooks) (recorded_of record.now) now connections.old.held connections.new.held result events.new.events packet.new.items }
+    ensures processed { HasProcessedRecord (setup_in setup.now.hooks) (recorded_of record.now) now
+        connections.old.held connections.new.held result events.new.events packet.new.items }
     ensures limits { connections.new.limits ≡ connections.old.limits }
     ensures spent { Spends events.old events.new (total_stage_cost setup.now.hooks) }
     ensures small { length packet.new.items ≤ 65535 }
@@ -76,8 +76,11 @@ pub fn process_record<T: Tracker>(
     }
 }
 
-/// Takes a packet through the box: the chains before its look-up, the look-up, the other chains and
-/// its route, and the last step; or tells the cause for which it is dropped.
+/// Processes one packet: raw prerouting, the look-up, the other hooks with routing, and the
+/// confirmation.
+///
+/// # Errors
+/// The cause for which the packet is dropped.
 #[inline(always)]
 fn process_packet<T: Tracker>(
     setup: &Setup,
@@ -86,16 +89,18 @@ fn process_packet<T: Tracker>(
     connections: &mut ConnectionTable<T>,
     events: &mut Events,
 ) -> Result<ConfirmedPacket, Cause>
-    requires known { incoming.now.input ≡ interface_facts setup.now.hooks.plant incoming.now.input.index }
+    requires known { incoming.now.input
+        ≡ interface_facts setup.now.hooks.plant incoming.now.input.index }
     requires live { live_at connections.old.limits now connections.old.held ≡ connections.old.held }
     requires later { IsNoneLater now connections.old.held }
     requires ready { IsTrue connections.old.has_room }
     requires none { events.old.events ≡ [] }
-    ensures processed { HasProcessedPacket (setup_in setup.now.hooks) (arrived_of incoming.now) now connections.old.held connections.new.held result events.new.events }
+    ensures processed { HasProcessedPacket (setup_in setup.now.hooks) (arrived_of incoming.now) now
+        connections.old.held connections.new.held result events.new.events }
     ensures limits { connections.new.limits ≡ connections.old.limits }
     ensures spent { Spends events.old events.new (total_stage_cost setup.now.hooks) }
 {
-    // The parts together cost no more than there is room for.
+    // The stages together have no more events than are reserved.
     setup.hooks.costs();
     let view = &incoming.view;
     let mut facts = initial_facts(view, incoming.input);
@@ -115,7 +120,8 @@ fn process_packet<T: Tracker>(
     )
 }
 
-/// Leaves the packet as it is sent on, if it is: with the tuple of its connection, and its TTL lowered.
+/// Writes the packet as it leaves, if it is forwarded: with its tuple after NAT and its TTL
+/// decremented.
 #[inline(always)]
 fn send(view: &View, info: &CtInfo, decision: RoutingDecision, packet: &mut Vec<u8>)
     requires empty { packet.old.items ≡ [] }
@@ -123,7 +129,7 @@ fn send(view: &View, info: &CtInfo, decision: RoutingDecision, packet: &mut Vec<
     ensures sent { packet.new.items ≡ sent_on view.now.packet.now info.now (outcome_of decision) }
     ensures small { length packet.new.items ≤ 65535 }
 {
-    let RoutingDecision::Passed(_) = decision else {
+    let RoutingDecision::Forward(_) = decision else {
         return;
     };
     let change = info.change(view, view.ttl().saturating_sub(1));
@@ -132,18 +138,18 @@ fn send(view: &View, info: &CtInfo, decision: RoutingDecision, packet: &mut Vec<
     };
 }
 
-/// How a packet ends that goes there.
+/// The outcome of a routing decision.
 #[inline(always)]
 fn outcome_of(decision: RoutingDecision) -> Outcome
     ensures { result ≡ outcome_of decision }
 {
     match decision {
         RoutingDecision::Local => Outcome::Local,
-        RoutingDecision::Passed(interface) => Outcome::Passed(interface),
+        RoutingDecision::Forward(interface) => Outcome::Passed(interface),
     }
 }
 
-/// A record is dropped, whose packet has this length.
+/// The result of a dropped record; `length` is the packet's total length.
 fn dropped(cause: Cause, length: u16) -> RecordResult
     ensures { result ≡ record { outcome = outcomes.Dropped cause; length = length; begun = false } }
 {
@@ -154,7 +160,7 @@ fn dropped(cause: Cause, length: u16) -> RecordResult
     }
 }
 
-/// The interface that a packet leaves by, if it leaves.
+/// The output interface of a forwarded packet.
 pub fn output_interface(outcome: Outcome) -> Option<u32>
     ensures { result ≡ output_interface outcome }
 {
