@@ -1,22 +1,24 @@
--- A text is one box, or has one fault.
+-- A text describes one box or has one fault.
 use Rattle.std.proofs.Common.{◌≡◌, ℕ, Bool, true, false, cond, List, Option, Some, None, ◌⊎◌, refl, inl, inr, sym, ap, subst, ◌∙◌}
 use Rattle.std.proofs.lemmas.Option.{same_Some}
 use Rattle.box_file.specs.declared.fault.BoxFault.{BoxFault}
 use Rattle.box_file.specs.declared.fault.BoxFault.TheVariants.{Form, Repeated, UnknownName, TooLarge, OutOfRange}
 use Rattle.box_file.specs.steps.Reading.{lines_in}
-use Rattle.box_file.specs.Box.{Line, each_is_line, Reads, HasBoxFault, IsBox, PlantTree, least_fault, plant_of, idles_in, idle_for, is_out_of_range}
+use Rattle.box_file.specs.Box.{Line, each_is_line, Reads, HasBoxFault, IsBox, PlantTree, least_fault}
+use Rattle.box_file.specs.Box.{plant_of, idles_in, idle_for, is_out_of_range}
 use Rattle.std.specs.List.{list_any}
 use Rattle.box_file.proofs.IdleLaws.{same_limits, limits_of, are_limits}
 use Rattle.box_file.proofs.LineLaws.{lines_found, lines_only}
 
--- a text is read in one way
+-- a text is parsed in one way only
 pub one_reading_of_box : (text : List ℕ) (ls ms : List Line) → Reads text ls → Reads text ms → ls ≡ ms
 one_reading_of_box text ls ms r s = same_Some ls ms (sym (lines_only text ls r) ∙ lines_only text ms s)
 
 pub one_plant : (text : List ℕ) (p q : PlantTree) → IsBox text p → IsBox text q → p ≡ q
 one_plant text p q b c =
     let same = one_reading_of_box text b.lines c.lines b.read c.read in
-    let idle : p.idle ≡ q.idle = same_limits p.idle q.idle (λ k. b.limits k ∙ ap (λ ls. idle_for (idles_in ls) k) same ∙ sym (c.limits k)) in
+    let idle : p.idle ≡ q.idle =
+    same_limits p.idle q.idle (λ k. b.limits k ∙ ap (λ ls. idle_for (idles_in ls) k) same ∙ sym (c.limits k)) in
     b.meant ∙ ap (λ ls. plant_of ls p.idle) same ∙ ap (plant_of c.lines) idle ∙ sym c.meant
 
 pub box_or_fault : (text : List ℕ) (p : PlantTree) (fault : BoxFault) → IsBox text p → HasBoxFault text fault → ⊥
@@ -34,7 +36,9 @@ one_fault text fault other (inr f) (inr g) =
     let same = one_reading_of_box text f.0 g.0 f.1 g.1 in
     same_Some fault other (sym f.2 ∙ ap (least_fault text) same ∙ g.2)
 
-all_right : (a b c d e : Bool) → cond a (Some Form) (cond b (Some Repeated) (cond c (Some UnknownName) (cond d (Some TooLarge) (cond e (Some OutOfRange) None)))) ≡ None → e ≡ false
+all_right : (a b c d e : Bool) → cond a (Some Form)
+    (cond b (Some Repeated) (cond c (Some UnknownName) (cond d (Some TooLarge) (cond e (Some OutOfRange) None)))) ≡ None
+    → e ≡ false
 all_right true b c d e h = absurd cc
 all_right false true c d e h = absurd cc
 all_right false false true d e h = absurd cc
@@ -42,11 +46,12 @@ all_right false false false true e h = absurd cc
 all_right false false false false true h = absurd cc
 all_right false false false false false h = refl
 
--- the idle limits of a text without fault are in range
+-- the idle timeouts of a faultless text are in range
 pub idle_right : (text : List ℕ) (ls : List Line) → least_fault text ls ≡ None → list_any is_out_of_range (idles_in ls) ≡ false
 idle_right text ls e = all_right _ _ _ _ (list_any is_out_of_range (idles_in ls)) e
 
-judged : (text : List ℕ) (ls : List Line) → Reads text ls → (o : Option BoxFault) → least_fault text ls ≡ o → ((plant : PlantTree) × IsBox text plant) ⊎ ((fault : BoxFault) × HasBoxFault text fault)
+judged : (text : List ℕ) (ls : List Line) → Reads text ls → (o : Option BoxFault) → least_fault text ls ≡ o
+    → ((plant : PlantTree) × IsBox text plant) ⊎ ((fault : BoxFault) × HasBoxFault text fault)
 judged text ls r None e =
     let right = idle_right text ls e in
     let idle = limits_of (idles_in ls) right in
@@ -56,7 +61,8 @@ judged text ls r (Some fault) e = inr (fault, inr (ls, r, e))
 pub none_read : (text : List ℕ) (ls : List Line) → lines_in text ≡ None → Reads text ls → ⊥
 none_read text ls e r = let none : ◌≡◌ {A = Option (List Line)} None (Some ls) = sym e ∙ lines_only text ls r in absurd cc
 
-read_or_not : (text : List ℕ) (o : Option (List Line)) → lines_in text ≡ o → ((plant : PlantTree) × IsBox text plant) ⊎ ((fault : BoxFault) × HasBoxFault text fault)
+read_or_not : (text : List ℕ) (o : Option (List Line)) → lines_in text ≡ o
+    → ((plant : PlantTree) × IsBox text plant) ⊎ ((fault : BoxFault) × HasBoxFault text fault)
 read_or_not text None e = inr (Form, inl (λ ls r. none_read text ls e r, refl))
 read_or_not text (Some ls) e = judged text ls (lines_found text ls e) (least_fault text ls) refl
 

@@ -1,5 +1,6 @@
--- The limits that lines say: lines in range say some, and only these.
-use Rattle.std.proofs.Common.{◌≡◌, ℕ, ◌^◌, ◌<◌, ◌≤◌, Bool, true, false, ◌&&◌, cond, List, [], ◌∷◌, Option, Some, None, refl, sym, ap, subst, arith}
+-- Lines in range set one value for each timeout.
+use Rattle.std.proofs.Common.{◌≡◌, ℕ, ◌^◌, ◌<◌, ◌≤◌, Bool, true, false, ◌&&◌, cond, List, [], ◌∷◌}
+use Rattle.std.proofs.Common.{Option, Some, None, refl, sym, ap, subst, arith}
 use Rattle.std.specs.Prelude.{nat_lt, find, unwrap_or, IfSome, IsTrue}
 use Rattle.std.specs.List.{list_any}
 use Rattle.std.specs.Option.{option_map}
@@ -15,7 +16,7 @@ use Rattle.box_file.specs.steps.Reading.{number_in}
 use Rattle.box_file.specs.Idle.{max_idle_seconds, minimum_for, limit_for, usual_limits}
 use Rattle.box_file.specs.Box.{AreLimits, Idle, idle_for, is_of_kind, is_out_of_range, seconds_of}
 
--- ---- limits by their numbers
+-- ---- timeouts by their values
 
 abbrev Numbers : Type 0
 Numbers = ℕ × ℕ × ℕ × ℕ × ℕ
@@ -38,8 +39,10 @@ same_limits l m same =
     let u = same kinds.Udp in
     let a = same kinds.Echo in
     let o = same kinds.Other in
-    let all : ◌≡◌ {A = Numbers} (l.established, l.transitory, l.udp, l.echo, l.other) (m.established, m.transitory, m.udp, m.echo, m.other) = cc in
-    same_made (l.established, l.transitory, l.udp, l.echo, l.other) (m.established, m.transitory, m.udp, m.echo, m.other) all l.positive m.positive
+    let all : ◌≡◌ {A = Numbers} (l.established, l.transitory, l.udp, l.echo, l.other)
+    (m.established, m.transitory, m.udp, m.echo, m.other) = cc in
+    same_made (l.established, l.transitory, l.udp, l.echo, l.other)
+    (m.established, m.transitory, m.udp, m.echo, m.other) all l.positive m.positive
 
 -- ---- lines in range
 
@@ -62,27 +65,31 @@ in_range i e =
     let p = or_parts (nat_lt (seconds_of i) (minimum_for i.kind)) (nat_lt max_idle_seconds (seconds_of i)) e in
     (not_below (seconds_of i) (minimum_for i.kind) (some_minimum i.kind) p.0, not_above (seconds_of i) p.1)
 
-found_step : (p : Idle → Bool) (i : Idle) (is : List Idle) (v : Bool) → is_out_of_range i ≡ false → IfSome (find p is) (λ j. is_out_of_range j ≡ false) → IfSome (cond v (Some i) (find p is)) (λ j. is_out_of_range j ≡ false)
+found_step : (p : Idle → Bool) (i : Idle) (is : List Idle) (v : Bool) → is_out_of_range i ≡ false
+    → IfSome (find p is) (λ j. is_out_of_range j ≡ false)
+    → IfSome (cond v (Some i) (find p is)) (λ j. is_out_of_range j ≡ false)
 found_step p i is true h k = h
 found_step p i is false h k = k
 
-found_in_range : (p : Idle → Bool) (is : List Idle) → list_any is_out_of_range is ≡ false → IfSome (find p is) (λ j. is_out_of_range j ≡ false)
+found_in_range : (p : Idle → Bool) (is : List Idle) → list_any is_out_of_range is ≡ false
+    → IfSome (find p is) (λ j. is_out_of_range j ≡ false)
 found_in_range p [] e = tt
 found_in_range p (i ∷ is) e =
     let q = or_parts (is_out_of_range i) (list_any is_out_of_range is) e in
     found_step p i is (p i) q.0 (found_in_range p is q.1)
 
--- the line that is found says a second at least
-pub found : (k : IdleKind) (i : Idle) (is : List Idle) → list_any is_out_of_range is ≡ false → Some i ≡ find (is_of_kind k) is → (0 < seconds_of i) × (seconds_of i < 2 ^ 32)
+-- the line for a kind sets at least one second
+pub found : (k : IdleKind) (i : Idle) (is : List Idle) → list_any is_out_of_range is ≡ false
+    → Some i ≡ find (is_of_kind k) is → (0 < seconds_of i) × (seconds_of i < 2 ^ 32)
 found k i is e there =
     let P : Option Idle → Type 0 = λ o. IfSome o (λ j. is_out_of_range j ≡ false) in
     in_range i (subst P (sym there) (found_in_range (is_of_kind k) is e))
 
--- what it says is what is said for the kind
+-- it sets the timeout of the kind
 pub found_limit : (k : IdleKind) (i : Idle) (is : List Idle) → Some i ≡ find (is_of_kind k) is → seconds_of i ≡ idle_for is k
 found_limit k i is there = ap (λ o. unwrap_or (option_map seconds_of o) (limit_for usual_limits k)) there
 
--- where no line says it, the usual ones are
+-- a kind without a line has the default
 pub usual_limit : (k : IdleKind) (is : List Idle) → None ≡ find (is_of_kind k) is → limit_for usual_limits k ≡ idle_for is k
 usual_limit k is none = ap (λ o. unwrap_or (option_map seconds_of o) (limit_for usual_limits k)) none
 
@@ -93,18 +100,31 @@ usual_positive kinds.Transitory = omega arith
 usual_positive kinds.Echo = omega arith
 usual_positive kinds.Other = omega arith
 
-limit_at_least_one : (k : IdleKind) (is : List Idle) → list_any is_out_of_range is ≡ false → (o : Option Idle) → o ≡ find (is_of_kind k) is → 0 < idle_for is k
+limit_at_least_one : (k : IdleKind) (is : List Idle) → list_any is_out_of_range is ≡ false → (o : Option Idle)
+    → o ≡ find (is_of_kind k) is → 0 < idle_for is k
 limit_at_least_one k is e None there = subst (λ (n : ℕ). 0 < n) (usual_limit k is there) (usual_positive k)
 limit_at_least_one k is e (Some i) there = subst (λ (n : ℕ). 0 < n) (found_limit k i is there) (found k i is e there).0
 
 limit_positive : (k : IdleKind) (is : List Idle) → list_any is_out_of_range is ≡ false → nat_lt 0 (idle_for is k) ≡ true
 limit_positive k is e = lt-ltb _ _ (limit_at_least_one k is e (find (is_of_kind k) is) refl)
 
--- lines in range say limits
+-- lines in range set all timeouts
 pub limits_of : (is : List Idle) → list_any is_out_of_range is ≡ false → Limits
 limits_of is e =
-    made (idle_for is kinds.Established, idle_for is kinds.Transitory, idle_for is kinds.Udp, idle_for is kinds.Echo, idle_for is kinds.Other)
-    (rw (limit_positive kinds.Established is e, limit_positive kinds.Transitory is e, limit_positive kinds.Udp is e, limit_positive kinds.Echo is e, limit_positive kinds.Other is e) refl)
+    made (
+      idle_for is kinds.Established,
+      idle_for is kinds.Transitory,
+      idle_for is kinds.Udp,
+      idle_for is kinds.Echo,
+      idle_for is kinds.Other,
+    )
+    (rw (
+      limit_positive kinds.Established is e,
+      limit_positive kinds.Transitory is e,
+      limit_positive kinds.Udp is e,
+      limit_positive kinds.Echo is e,
+      limit_positive kinds.Other is e,
+    ) refl)
 
 pub are_limits : (is : List Idle) (e : list_any is_out_of_range is ≡ false) → AreLimits is (limits_of is e)
 unfolding limits_of
@@ -117,7 +137,8 @@ are_limits is e kinds.Other = refl
 -- ---- the code's seconds
 
 -- a number that a `u32` holds is read as it is
-pub number_small : (ds : List ℕ) → is_numeral ds ≡ true → digits_value 10 ds < 2 ^ 32 → unwrap_or (number_in ds) 4294967295 ≡ digits_value 10 ds
+pub number_small : (ds : List ℕ) → is_numeral ds ≡ true → digits_value 10 ds < 2 ^ 32
+    → unwrap_or (number_in ds) 4294967295 ≡ digits_value 10 ds
 unfolding number_in
 number_small ds e small =
     let fits : nat_lt (digits_value 10 ds) 4294967296 ≡ true = lt-ltb _ _ small in
@@ -126,7 +147,7 @@ number_small ds e small =
 not_less : (n m : ℕ) → m ≤ n → nat_lt n m ≡ false
 not_less n m le = grind (arith, nat_tests, le)
 
--- any greater one isn't read
+-- a greater number isn't parsed
 pub number_large : (ds : List ℕ) → is_numeral ds ≡ true → 2 ^ 32 ≤ digits_value 10 ds → unwrap_or (number_in ds) 4294967295 ≡ 4294967295
 unfolding number_in
 number_large ds e large =

@@ -1,5 +1,6 @@
--- Names have numbers of their own.
-use Rattle.std.proofs.Common.{◌≡◌, ℕ, zero, suc, ◌+◌, ◌*◌, ◌%◌, ◌^◌, ◌<◌, ◌≤◌, Bool, true, false, ◌==◌, ◌&&◌, List, [], ◌∷◌, length, refl, sym, ap, eqb-true, ◌∙◌, arith}
+-- The integer keys of names are injective.
+use Rattle.std.proofs.Common.{◌≡◌, ℕ, zero, suc, ◌+◌, ◌*◌, ◌%◌, ◌^◌, ◌<◌, ◌≤◌, Bool, true, false, ◌==◌, ◌&&◌}
+use Rattle.std.proofs.Common.{List, [], ◌∷◌, length, refl, sym, ap, eqb-true, ◌∙◌, arith}
 use Rattle.std.specs.Prelude.{fold, reverse}
 use Rattle.std.specs.List.{list_all}
 use Rattle.std.proofs.lemmas.Bool.{false≢true, and_parts}
@@ -11,7 +12,7 @@ use Rattle.box_file.specs.Box.{is_name_byte, IsName, same_text}
 use Rattle.box_file.specs.steps.Tests.{with_byte, key_of}
 use Rattle.box_file.proofs.RepeatLaws.{same_number, other_number}
 
--- the number without a limit
+-- the integer without a bound
 abbrev plain : List ℕ → ℕ
 plain [] = 0
 plain (b ∷ bs) = plain bs * 256 + b
@@ -76,7 +77,7 @@ plain_same [] (y ∷ ys) h k = let some = k.0.0 in other_number 0 (plain ys * 25
 plain_same (x ∷ xs) [] h k = let some = h.0.0 in other_number (plain xs * 256 + x) 0 (λ e. absurd (omega arith))
 plain_same (x ∷ xs) (y ∷ ys) h k = digits_agree x y (plain xs) (plain ys) h.0.1 k.0.1 ∙ ap (λ v. (x == y) && v) (plain_same xs ys h.1 k.1)
 
--- names are the same where their numbers are
+-- names are equal where their integers are
 pub same_key : (n m : List ℕ) → IsName n → IsName m → (key_of n == key_of m) ≡ same_text n m
 same_key n m h k =
     let hn = name_bytes n h.2 in

@@ -1,5 +1,7 @@
--- The reading functions give just the lines that the words are.
-use Rattle.std.proofs.Common.{◌≡◌, ◌≢◌, ℕ, zero, suc, ◌+◌, ◌-◌, ◌*◌, ◌/◌, ◌%◌, ◌^◌, ◌<◌, Bool, true, false, ◌&&◌, ◌||◌, not, cond, List, [], ◌∷◌, ◌++◌, map, length, get_or, Option, Some, None, ◌⊎◌, inl, inr, refl, sym, ap, ◌∙◌, append_assoc, arith}
+-- The parsers accept exactly the lines that the words spell.
+use Rattle.std.proofs.Common.{◌≡◌, ◌≢◌, ℕ, zero, suc, ◌+◌, ◌-◌, ◌*◌, ◌/◌, ◌%◌, ◌^◌, ◌<◌, Bool, true, false, ◌&&◌}
+use Rattle.std.proofs.Common.{◌||◌, not, cond, List, [], ◌∷◌, ◌++◌, map, length, get_or, Option, Some, None, ◌⊎◌}
+use Rattle.std.proofs.Common.{inl, inr, refl, sym, ap, ◌∙◌, append_assoc, arith}
 use Rattle.std.specs.Prelude.{◌==◌, nat_lt, IfSome, codes, filter}
 use Rattle.std.specs.List.{list_all}
 use Rattle.std.specs.Char.{is_ascii_digit}
@@ -7,26 +9,32 @@ use Rattle.std.specs.Fmt.{decimal}
 use Rattle.std.specs.Str.Parse.{digits_value}
 use Rattle.std.proofs.lemmas.Bool.{ltb-true, lt-ltb, eqb-true, false≢true, and_parts}
 use Rattle.std.proofs.lemmas.Bool.Decides.{nat_tests}
-use Rattle.std.proofs.lemmas.Fmt.{digits_decimal, digits_value-decimal, decimal-digits_value, decimal_nonempty, first_decimal, length-decimal-le}
+use Rattle.std.proofs.lemmas.Fmt.{digits_decimal, digits_value-decimal, decimal-digits_value}
+use Rattle.std.proofs.lemmas.Fmt.{decimal_nonempty, first_decimal, length-decimal-le}
 use Rattle.std.specs.Option.{option_map}
 use Rattle.list_laws.specs.Options.{IfSome_cond, IfSome_bind}
 use Rattle.box_file.specs.declared.idle_line.IdleKind.{IdleKind}
 use Rattle.box_file.specs.declared.idle_line.IdleKind.TheVariants as kinds
 use Rattle.box_file.specs.Text.{is_nonempty, words_of, lines_of, dotted, dotted_prefix, is_numeral}
 use Rattle.box_file.specs.Idle.{word_of}
-use Rattle.box_file.specs.Box.{Interface, NamedRoute, Idle, Line, interface_line, route_line, default_line, idle_line, words_in, is_name_byte, IsName, IsLine, each_is_line, same_text, Reads}
-use Rattle.box_file.specs.steps.Reading.{uncons, has_none, onto, cut, number_in, is_name, name_in, octet_in, address_in, prefixed_in, interface_words, route_words, default_words, kind_in, idle_words, line_of, line_in, all_in, lines_in}
+use Rattle.box_file.specs.Box.{Interface, NamedRoute, Idle, Line, interface_line, route_line, default_line, idle_line}
+use Rattle.box_file.specs.Box.{words_in, is_name_byte, IsName, IsLine, each_is_line, same_text, Reads}
+use Rattle.box_file.specs.steps.Reading.{uncons, has_none, onto, cut, number_in, is_name, name_in, octet_in}
+use Rattle.box_file.specs.steps.Reading.{address_in, prefixed_in, interface_words, route_words, default_words}
+use Rattle.box_file.specs.steps.Reading.{kind_in, idle_words, line_of, line_in, all_in, lines_in}
 use Rattle.box_file.proofs.NumberLaws.{digits, numeral_digits}
 
--- ---- steps
+-- ---- basic parsers
 
 choice_found : {A : Type 0} (Q : A → Type 0) (b : Bool) (o p : Option A) → (b ≡ true → IfSome o Q) → IfSome p Q → IfSome (cond b o p) Q
 choice_found Q true o p h k = h refl
 choice_found Q false o p h k = k
 
--- ---- cutting
+-- ---- splitting
 
-cut_step : (at b : ℕ) (bs : List ℕ) (v : Bool) (o : Option (List ℕ × List ℕ)) → (b == at) ≡ v → IfSome o (λ x. bs ≡ x.0 ++ at ∷ x.1) → IfSome {T = List ℕ × List ℕ} (cond v (Some ([], bs)) (option_map (onto b) o)) (λ x. b ∷ bs ≡ x.0 ++ at ∷ x.1)
+cut_step : (at b : ℕ) (bs : List ℕ) (v : Bool) (o : Option (List ℕ × List ℕ)) → (b == at) ≡ v
+    → IfSome o (λ x. bs ≡ x.0 ++ at ∷ x.1) → IfSome {T = List ℕ × List ℕ}
+    (cond v (Some ([], bs)) (option_map (onto b) o)) (λ x. b ∷ bs ≡ x.0 ++ at ∷ x.1)
 cut_step at b bs true o e h = ap (λ (y : ℕ). y ∷ bs) (eqb-true _ _ e)
 cut_step at b bs false None e h = tt
 cut_step at b bs false (Some x) e h = ap (λ (ys : List ℕ). b ∷ ys) h
@@ -35,7 +43,7 @@ cut_found : (at : ℕ) (ts : List ℕ) → IfSome (cut at ts) (λ x. ts ≡ x.0 
 cut_found at [] = tt
 cut_found at (b ∷ bs) = cut_step at b bs (b == at) (cut at bs) refl (cut_found at bs)
 
--- no byte is this one
+-- this byte doesn't occur
 abbrev Lacks : ℕ → List ℕ → Type 0
 Lacks at [] = Unit {0}
 Lacks at (b ∷ bs) = ((b == at) ≡ false) × Lacks at bs
@@ -82,7 +90,8 @@ or_true : (b : Bool) → b || true ≡ true
 or_true true = refl
 or_true false = refl
 
-numeral_from : (ds : List ℕ) → list_all is_ascii_digit ds ≡ true → 0 < length ds → (get_or ds 0 0 ≢ 48) ⊎ (length ds ≡ 1) → is_numeral ds ≡ true
+numeral_from : (ds : List ℕ) → list_all is_ascii_digit ds ≡ true → 0 < length ds
+    → (get_or ds 0 0 ≢ 48) ⊎ (length ds ≡ 1) → is_numeral ds ≡ true
 numeral_from [] all some first = absurd (omega arith)
 numeral_from (d ∷ ds) all some (inl other) =
     let e : (d == 48) ≡ false = grind (arith, nat_tests) in
@@ -119,7 +128,7 @@ octet_only : (n : ℕ) → n < 256 → octet_in (decimal n) ≡ Some n
 unfolding octet_in
 octet_only n small = let fits : nat_lt n 256 ≡ true = lt-ltb _ _ small in rw (number_only n (omega arith), fits) refl
 
--- four parts with a dot between each two
+-- four parts separated by dots
 abbrev quad : List ℕ → List ℕ → List ℕ → List ℕ → List ℕ
 quad w x y z = w ++ 46 ∷ (x ++ 46 ∷ (y ++ 46 ∷ z))
 
@@ -130,7 +139,8 @@ dotted_is a = simp append_assoc
 abbrev joined : ℕ → ℕ → ℕ → ℕ → ℕ
 joined w x y z = w * 16777216 + x * 65536 + y * 256 + z
 
-dotted_joined : (w x y z : ℕ) → w < 256 → x < 256 → y < 256 → z < 256 → (dotted (joined w x y z) ≡ quad (decimal w) (decimal x) (decimal y) (decimal z)) × (joined w x y z < 2 ^ 32)
+dotted_joined : (w x y z : ℕ) → w < 256 → x < 256 → y < 256 → z < 256
+    → (dotted (joined w x y z) ≡ quad (decimal w) (decimal x) (decimal y) (decimal z)) × (joined w x y z < 2 ^ 32)
 dotted_joined w x y z hw hx hy hz =
     let a = joined w x y z in
     let first : a / 16777216 ≡ w = omega arith in
@@ -195,7 +205,12 @@ prefixed_only : (a p : ℕ) → a < 2 ^ 32 → p < 33 → prefixed_in (dotted_pr
 unfolding prefixed_in
 prefixed_only a p small short =
     let fits : nat_lt p 33 ≡ true = lt-ltb _ _ short in
-    rw (cut_only 47 (dotted a) (decimal p) (dotted_lacks 47 a refl refl small), address_only a small, number_only p (omega arith), fits) refl
+    rw (
+      cut_only 47 (dotted a) (decimal p) (dotted_lacks 47 a refl refl small),
+      address_only a small,
+      number_only p (omega arith),
+      fits,
+    ) refl
 
 -- ---- names
 
@@ -232,13 +247,17 @@ interface_found ws =
     IfSome_bind _ (number_in a.0) _ (number_found a.0) (λ i ei.
     IfSome_bind _ (name_in b.0) _ (name_found b.0) (λ n en.
     IfSome_bind _ (prefixed_in c.0) _ (prefixed_found c.0) (λ p ep.
-    IfSome_cond _ (has_none c.1 && nat_lt 0 i && nat_lt i 2147483648 && nat_lt 0 p.1) (interface_line (record { index = i; name = n; address = p.0; prefix = p.1 })) (λ e.
+    IfSome_cond _ (has_none c.1 && nat_lt 0 i && nat_lt i 2147483648 && nat_lt 0 p.1)
+    (interface_line (record { index = i; name = n; address = p.0; prefix = p.1 })) (λ e.
     let f = and_parts (has_none c.1 && nat_lt 0 i && nat_lt i 2147483648) (nat_lt 0 p.1) e in
     let g = and_parts (has_none c.1 && nat_lt 0 i) (nat_lt i 2147483648) f.0 in
-    let h = and_parts (has_none c.1) (nat_lt 0 i) g.0 in
-    ((ltb-true _ _ h.1, ltb-true _ _ g.1, en.1, ep.1, ltb-true _ _ f.1, ep.2), rw (ea, eb, ec, none_left c.1 h.0, ei.0, en.0, ep.0) refl))))))))
+    let h = and_parts (has_none c.1) (nat_lt 0 i) g.0 in (
+      (ltb-true _ _ h.1, ltb-true _ _ g.1, en.1, ep.1, ltb-true _ _ f.1, ep.2),
+      rw (ea, eb, ec, none_left c.1 h.0, ei.0, en.0, ep.0) refl,
+    ))))))))
 
-interface_only : (i : Interface) → IsLine (interface_line i) → interface_words (decimal i.index ∷ i.name ∷ dotted_prefix i.address i.prefix ∷ []) ≡ Some (interface_line i)
+interface_only : (i : Interface) → IsLine (interface_line i)
+    → interface_words (decimal i.index ∷ i.name ∷ dotted_prefix i.address i.prefix ∷ []) ≡ Some (interface_line i)
 unfolding interface_words
 interface_only i h =
     let some : nat_lt 0 i.index ≡ true = lt-ltb _ _ h.0 in
@@ -284,12 +303,15 @@ same_text-true (x ∷ xs) (y ∷ ys) e =
     let tail : xs ≡ ys = same_text-true xs ys p.1 in
     cc
 
-kind_by : (word : List ℕ) (k : IdleKind) (o : Option IdleKind) → IfSome o (λ l. word_of l ≡ word) → IfSome (cond (same_text word (word_of k)) (Some k) o) (λ l. word_of l ≡ word)
-kind_by word k o h = choice_found (λ l. word_of l ≡ word) (same_text word (word_of k)) (Some k) o (λ e. sym (same_text-true word (word_of k) e)) h
+kind_by : (word : List ℕ) (k : IdleKind) (o : Option IdleKind) → IfSome o (λ l. word_of l ≡ word)
+    → IfSome (cond (same_text word (word_of k)) (Some k) o) (λ l. word_of l ≡ word)
+kind_by word k o h = choice_found (λ l. word_of l ≡ word) (same_text word (word_of k)) (Some k) o
+    (λ e. sym (same_text-true word (word_of k) e)) h
 
 kind_found : (word : List ℕ) → IfSome (kind_in word) (λ k. word_of k ≡ word)
 kind_found word =
-    kind_by word kinds.Udp _ (kind_by word kinds.Established _ (kind_by word kinds.Transitory _ (kind_by word kinds.Echo _ (kind_by word kinds.Other None tt))))
+    kind_by word kinds.Udp _ (kind_by word kinds.Established _
+    (kind_by word kinds.Transitory _ (kind_by word kinds.Echo _ (kind_by word kinds.Other None tt))))
 
 kind_only : (k : IdleKind) → kind_in (word_of k) ≡ Some k
 kind_only kinds.Udp = refl
@@ -312,15 +334,18 @@ idle_only : (i : Idle) → IsLine (idle_line i) → idle_words (word_of i.kind �
 unfolding idle_words
 idle_only i h = rw (kind_only i.kind, h) refl
 
--- the word in front is this one, and a reader finds what follows it
-after_word : (word w : List ℕ) (ws : List (List ℕ)) (o : Option Line) → same_text word w ≡ true → IfSome o (λ l. IsLine l × (words_in l ≡ w ∷ ws)) → IfSome o (λ l. IsLine l × (words_in l ≡ word ∷ ws))
+-- the first word is this one, and its parser accepts the rest
+after_word : (word w : List ℕ) (ws : List (List ℕ)) (o : Option Line) → same_text word w ≡ true
+    → IfSome o (λ l. IsLine l × (words_in l ≡ w ∷ ws)) → IfSome o (λ l. IsLine l × (words_in l ≡ word ∷ ws))
 after_word word w ws o e h = rw (same_text-true word w e) h
 
 line_of_found : (word : List ℕ) (ws : List (List ℕ)) → IfSome (line_of word ws) (λ l. IsLine l × (words_in l ≡ word ∷ ws))
 line_of_found word ws =
-    choice_found _ (same_text word (codes "interface")) (interface_words ws) _ (λ e. after_word word (codes "interface") ws _ e (interface_found ws))
+    choice_found _ (same_text word (codes "interface")) (interface_words ws) _
+    (λ e. after_word word (codes "interface") ws _ e (interface_found ws))
     (choice_found _ (same_text word (codes "route")) (route_words ws) _ (λ e. after_word word (codes "route") ws _ e (route_found ws))
-    (choice_found _ (same_text word (codes "default")) (default_words ws) _ (λ e. after_word word (codes "default") ws _ e (default_found ws))
+    (choice_found _ (same_text word (codes "default")) (default_words ws) _
+    (λ e. after_word word (codes "default") ws _ e (default_found ws))
     (choice_found _ (same_text word (codes "idle")) (idle_words ws) None (λ e. after_word word (codes "idle") ws _ e (idle_found ws)) tt)))
 
 line_found : (ws : List (List ℕ)) → IfSome (line_in ws) (λ l. IsLine l × (words_in l ≡ ws))
@@ -336,7 +361,9 @@ line_only (idle_line i) h = idle_only i h
 
 -- ---- texts
 
-next_found : (t : List (List ℕ)) (l : Line) (ts : List (List (List ℕ))) (o : Option (List Line)) → IsLine l × (words_in l ≡ t) → IfSome o (λ ls. each_is_line ls × (ts ≡ map words_in ls)) → IfSome {T = List Line} (option_map (λ ls. l ∷ ls) o) (λ ls. each_is_line ls × (t ∷ ts ≡ map words_in ls))
+next_found : (t : List (List ℕ)) (l : Line) (ts : List (List (List ℕ))) (o : Option (List Line))
+    → IsLine l × (words_in l ≡ t) → IfSome o (λ ls. each_is_line ls × (ts ≡ map words_in ls))
+    → IfSome {T = List Line} (option_map (λ ls. l ∷ ls) o) (λ ls. each_is_line ls × (t ∷ ts ≡ map words_in ls))
 next_found t l ts None h k = tt
 next_found t l ts (Some ls) h k = let head = sym h.1 in let tail = k.1 in ((h.0, k.0), cc)
 

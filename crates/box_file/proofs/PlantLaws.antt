@@ -1,15 +1,19 @@
--- What a plant is, and that its numbers are those of interfaces.
-use Rattle.std.proofs.Common.{◌≡◌, ℕ, ◌==◌, Bool, true, false, ◌||◌, not, cond, List, [], ◌∷◌, Option, Some, None, refl, sym, ap, subst, ◌∙◌}
+-- The invariant of a `Plant`: its interface indexes are valid, and its lookup table is right.
+use Rattle.std.proofs.Common.{◌≡◌, ℕ, ◌==◌, Bool, true, false, ◌||◌, not, cond, List, [], ◌∷◌}
+use Rattle.std.proofs.Common.{Option, Some, None, refl, sym, ap, subst, ◌∙◌}
 use Rattle.std.specs.Prelude.{filter, find, unwrap_or, IfSome, is_some}
 use Rattle.std.specs.List.{list_any, filter_map}
 use Rattle.std.specs.Option.{option_map}
 use Rattle.std.proofs.lemmas.Bool.{or_parts}
-use Rattle.box_file.specs.Box.{Interface, NamedRoute, RouteEntry, Line, interface_line, route_line, default_line, idle_line, each_is_line, IsIndex, interfaces_in, routes_in, defaults_in, route_of_line, is_named, is_unknown, is_malformed, known_index, entering_of, covers, greatest, best_interface}
+use Rattle.box_file.specs.Box.{Interface, NamedRoute, RouteEntry, Line, interface_line, route_line}
+use Rattle.box_file.specs.Box.{default_line, idle_line, each_is_line, IsIndex, interfaces_in, routes_in}
+use Rattle.box_file.specs.Box.{defaults_in, route_of_line, is_named, is_unknown, is_malformed, known_index}
+use Rattle.box_file.specs.Box.{entering_of, covers, greatest, best_interface}
 use Rattle.set_intervals.specs.declared.range.Range.{Range}
 use Rattle.box_file.specs.steps.Best.{GivesBest}
 use Rattle.box_file.specs.steps.Plant.{EachIndexed, EachRouteIndexed, KnowsNames}
 
--- ---- numbers of interfaces
+-- ---- interface indexes
 
 pub each_indexed : (ls : List Line) → each_is_line ls → EachIndexed (interfaces_in ls)
 each_indexed [] h = tt
@@ -18,8 +22,10 @@ each_indexed (route_line r ∷ ls) h = each_indexed ls h.1
 each_indexed (default_line n ∷ ls) h = each_indexed ls h.1
 each_indexed (idle_line i ∷ ls) h = each_indexed ls h.1
 
--- what a search finds has a number
-found_step : (p : Interface → Bool) (i : Interface) (is : List Interface) (b : Bool) → IsIndex i.index → IfSome (option_map (λ j. j.index) (find p is)) IsIndex → IfSome (option_map (λ (j : Interface). j.index) (cond b (Some i) (find p is))) IsIndex
+-- what a search finds has a valid index
+found_step : (p : Interface → Bool) (i : Interface) (is : List Interface) (b : Bool) → IsIndex i.index
+    → IfSome (option_map (λ j. j.index) (find p is)) IsIndex
+    → IfSome (option_map (λ (j : Interface). j.index) (cond b (Some i) (find p is))) IsIndex
 found_step p i is true h k = h
 found_step p i is false h k = k
 
@@ -27,7 +33,9 @@ pub found_index : (p : Interface → Bool) (is : List Interface) → EachIndexed
 found_index p [] h = tt
 found_index p (i ∷ is) h = found_step p i is (p i) h.0 (found_index p is h.1)
 
-known_step : (p : Interface → Bool) (i : Interface) (is : List Interface) (b : Bool) → IsIndex i.index → b || list_any p is ≡ true → (list_any p is ≡ true → IsIndex (unwrap_or (option_map (λ j. j.index) (find p is)) 0)) → IsIndex (unwrap_or (option_map (λ (j : Interface). j.index) (cond b (Some i) (find p is))) 0)
+known_step : (p : Interface → Bool) (i : Interface) (is : List Interface) (b : Bool) → IsIndex i.index
+    → b || list_any p is ≡ true → (list_any p is ≡ true → IsIndex (unwrap_or (option_map (λ j. j.index) (find p is)) 0))
+    → IsIndex (unwrap_or (option_map (λ (j : Interface). j.index) (cond b (Some i) (find p is))) 0)
 known_step p i is true h e k = h
 known_step p i is false h e k = k e
 
@@ -39,8 +47,10 @@ not_unknown : (n : List ℕ) (is : List Interface) (v : Bool) → list_any (is_n
 not_unknown n is true e f = e
 not_unknown n is false e f = absurd cc
 
--- each route has the number of an interface
-route_indexes : (is : List Interface) → EachIndexed is → (ls : List Line) → each_is_line ls → list_any (λ (r : NamedRoute). is_unknown is r.name) (routes_in ls) ≡ false → EachRouteIndexed (filter_map (route_of_line is) ls)
+-- each route has a valid interface index
+route_indexes : (is : List Interface) → EachIndexed is → (ls : List Line) → each_is_line ls
+    → list_any (λ (r : NamedRoute). is_unknown is r.name) (routes_in ls) ≡ false
+    → EachRouteIndexed (filter_map (route_of_line is) ls)
 route_indexes is h [] k e = tt
 route_indexes is h (interface_line i ∷ ls) k e = ((k.0.0, k.0.1), route_indexes is h ls k.1 e)
 route_indexes is h (route_line r ∷ ls) k e =
@@ -49,10 +59,12 @@ route_indexes is h (route_line r ∷ ls) k e =
 route_indexes is h (default_line n ∷ ls) k e = route_indexes is h ls k.1 e
 route_indexes is h (idle_line i ∷ ls) k e = route_indexes is h ls k.1 e
 
-pub each_route_indexed : (ls : List Line) → each_is_line ls → KnowsNames ls → EachRouteIndexed (filter_map (route_of_line (interfaces_in ls)) ls)
+pub each_route_indexed : (ls : List Line) → each_is_line ls → KnowsNames ls
+    → EachRouteIndexed (filter_map (route_of_line (interfaces_in ls)) ls)
 each_route_indexed ls h k = route_indexes (interfaces_in ls) (each_indexed ls h) ls h (or_parts _ _ k.known).0
 
-entry_number : (is : List Interface) (ns : List (List ℕ)) → EachIndexed is → is_malformed ns ≡ false → list_any (is_unknown is) ns ≡ false → IsIndex (entering_of is ns)
+entry_number : (is : List Interface) (ns : List (List ℕ)) → EachIndexed is → is_malformed ns ≡ false
+    → list_any (is_unknown is) ns ≡ false → IsIndex (entering_of is ns)
 entry_number is [] h one e = absurd cc
 entry_number is (n ∷ ns) h one e =
     let p = or_parts (is_unknown is n) (list_any (is_unknown is) ns) e in
@@ -61,9 +73,10 @@ entry_number is (n ∷ ns) h one e =
 pub entry_is_index : (ls : List Line) → each_is_line ls → KnowsNames ls → IsIndex (entering_of (interfaces_in ls) (defaults_in ls))
 entry_is_index ls h k = entry_number (interfaces_in ls) (defaults_in ls) (each_indexed ls h) k.formed (or_parts _ _ k.known).1
 
--- ---- the best way's number
+-- ---- the index that a route lookup gives
 
-kept_step : (p : RouteEntry → Bool) (r : RouteEntry) (rs : List RouteEntry) (b : Bool) → IsIndex r.interface → EachRouteIndexed (filter p rs) → EachRouteIndexed (cond b (r ∷ filter p rs) (filter p rs))
+kept_step : (p : RouteEntry → Bool) (r : RouteEntry) (rs : List RouteEntry) (b : Bool) → IsIndex r.interface
+    → EachRouteIndexed (filter p rs) → EachRouteIndexed (cond b (r ∷ filter p rs) (filter p rs))
 kept_step p r rs true h k = (h, k)
 kept_step p r rs false h k = k
 
@@ -71,28 +84,37 @@ filtered_routes : (p : RouteEntry → Bool) (rs : List RouteEntry) → EachRoute
 filtered_routes p [] h = tt
 filtered_routes p (r ∷ rs) h = kept_step p r rs (p r) h.0 (filtered_routes p rs h.1)
 
-found_route_step : (p : RouteEntry → Bool) (r : RouteEntry) (rs : List RouteEntry) (b : Bool) → IsIndex r.interface → IfSome (option_map (λ s. s.interface) (find p rs)) IsIndex → IfSome (option_map (λ (s : RouteEntry). s.interface) (cond b (Some r) (find p rs))) IsIndex
+found_route_step : (p : RouteEntry → Bool) (r : RouteEntry) (rs : List RouteEntry) (b : Bool) → IsIndex r.interface
+    → IfSome (option_map (λ s. s.interface) (find p rs)) IsIndex
+    → IfSome (option_map (λ (s : RouteEntry). s.interface) (cond b (Some r) (find p rs))) IsIndex
 found_route_step p r rs true h k = h
 found_route_step p r rs false h k = k
 
-found_routes : (p : RouteEntry → Bool) (rs : List RouteEntry) → EachRouteIndexed rs → IfSome (option_map (λ s. s.interface) (find p rs)) IsIndex
+found_routes : (p : RouteEntry → Bool) (rs : List RouteEntry) → EachRouteIndexed rs
+    → IfSome (option_map (λ s. s.interface) (find p rs)) IsIndex
 found_routes p [] h = tt
 found_routes p (r ∷ rs) h = found_route_step p r rs (p r) h.0 (found_routes p rs h.1)
 
 pub best_number : (rs : List RouteEntry) (a : ℕ) → EachRouteIndexed rs → IfSome (best_interface rs a) IsIndex
-best_number rs a h = let covering = filter (covers a) rs in found_routes (λ r. r.prefix == greatest covering) covering (filtered_routes (covers a) rs h)
+best_number rs a h = let covering = filter (covers a) rs in
+    found_routes (λ r. r.prefix == greatest covering) covering (filtered_routes (covers a) rs h)
 
--- ---- finding and being there
+-- ---- a search and membership
 
 pub some-found : {A : Type 0} (p : A → Bool) (xs : List A) → is_some (find p xs) ≡ list_any p xs
 some-found p [] = refl
-some-found p (x ∷ xs) = elim (p x) as (λ v. is_some (cond v (Some x) (find p xs)) ≡ v || list_any p xs) [ true ↦ refl | false ↦ some-found p xs ]
+some-found p (x ∷ xs) = elim (p x) as (λ v. is_some (cond v (Some x) (find p xs)) ≡ v || list_any p xs) [
+  | true ↦
+      refl
+  | false ↦ some-found p xs
+]
 
 some-map : {A B : Type 0} (f : A → B) (o : Option A) → is_some (option_map f o) ≡ is_some o
 some-map f None = refl
 some-map f (Some x) = refl
 
-pub is_there : {A : Type 0} (f : A → Interface) (p : Interface → Bool) (is : List Interface) (o : Option A) (b : Bool) → option_map f o ≡ find p is → b ≡ is_some o → b ≡ list_any p is
+pub is_there : {A : Type 0} (f : A → Interface) (p : Interface → Bool) (is : List Interface) (o : Option A) (b : Bool)
+    → option_map f o ≡ find p is → b ≡ is_some o → b ≡ list_any p is
 is_there f p is o b e decided = decided ∙ sym (some-map f o) ∙ ap is_some e ∙ some-found p is
 
 pub number_found : (p : Interface → Bool) (is : List Interface) (i : Interface) → EachIndexed is → Some i ≡ find p is → IsIndex i.index

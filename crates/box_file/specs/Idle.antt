@@ -1,12 +1,13 @@
--- For how long connections may be idle: the kinds that a box file tells apart, what is usual, and what may be said.
+-- Idle timeouts of connections: the kinds that a box file distinguishes, their defaults and their ranges,
+-- all in seconds.
 use Rattle.std.specs.Prelude.{refl, ℕ, ◌==◌, Bool, List, codes}
 use Rattle.box_file.specs.declared.idle_line.IdleKind.{IdleKind}
 use Rattle.box_file.specs.declared.idle_line.IdleKind.TheVariants.{Udp, Established, Transitory, Echo, Other}
 use Rattle.box_file.specs.declared.limits.Limits.{Limits}
 
--- in seconds: two hours and four minutes for an established connection of TCP and four minutes for one that opens or
--- closes, the least of RFC 5382, REQ-5; five minutes for UDP, as RFC 4787, REQ-5 recommends; one minute for an echo,
--- the least of RFC 5508, REQ-2; ten minutes for other protocols (own)
+-- the defaults: TCP established 2 h 4 min, TCP opening or closing 4 min, the minima of RFC 5382, REQ-5; UDP
+-- 5 min, as recommended by RFC 4787, REQ-5; ICMP echo 1 min, the minimum of RFC 5508, REQ-2; other protocols
+-- 10 min (own)
 abbrev pub usual_limits : Limits
 usual_limits = record {
   established = 7440;
@@ -17,7 +18,7 @@ usual_limits = record {
   positive = refl;
 }
 
--- how a box file names a kind
+-- the keyword of a kind in a box file
 abbrev pub word_of : IdleKind → List ℕ
 word_of Udp = codes "udp"
 word_of Established = codes "established"
@@ -35,7 +36,7 @@ number_of Other = 4
 abbrev pub is_same_kind : IdleKind → IdleKind → Bool
 is_same_kind one other = number_of one == number_of other
 
--- the limit of a kind, in seconds
+-- the timeout of a kind
 abbrev pub limit_for : Limits → IdleKind → ℕ
 limit_for limits Udp = limits.udp
 limit_for limits Established = limits.established
@@ -43,9 +44,8 @@ limit_for limits Transitory = limits.transitory
 limit_for limits Echo = limits.echo
 limit_for limits Other = limits.other
 
--- the least that a box file may say, in seconds: two minutes for UDP (RFC 4787, REQ-5), two hours and four minutes
--- for an established connection of TCP and four minutes for one that opens or closes (RFC 5382, REQ-5), one second
--- for the others (own)
+-- the smallest timeout that a box file may set: UDP 2 min (RFC 4787, REQ-5); TCP established 2 h 4 min, TCP
+-- opening or closing 4 min (RFC 5382, REQ-5); the others 1 s (own)
 abbrev pub minimum_for : IdleKind → ℕ
 minimum_for Udp = 120
 minimum_for Established = 7440
@@ -53,6 +53,6 @@ minimum_for Transitory = 240
 minimum_for Echo = 1
 minimum_for Other = 1
 
--- the most that it may say: a week (own)
+-- the largest: a week (own)
 abbrev pub max_idle_seconds : ℕ
 max_idle_seconds = 604800

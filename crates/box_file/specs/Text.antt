@@ -1,15 +1,16 @@
--- A text as lines, a line as words, a number and an address as they are written.
-use Rattle.std.specs.Prelude.{ℕ, ◌/◌, ◌%◌, ◌==◌, ◌&&◌, ◌||◌, not, Bool, true, false, List, [], ◌∷◌, ◌++◌, length, filter, if◌then◌else◌}
+-- Lexical structure of a box file: lines, words, decimal numbers, dotted addresses (own).
+use Rattle.std.specs.Prelude.{ℕ, ◌/◌, ◌%◌, ◌==◌, ◌&&◌, ◌||◌, not, Bool, true, false, List, []}
+use Rattle.std.specs.Prelude.{◌∷◌, ◌++◌, length, filter, if◌then◌else◌}
 use Rattle.std.specs.List.{list_all}
 use Rattle.std.specs.Char.{is_ascii_digit}
 use Rattle.std.specs.Fmt.{decimal}
 
--- a byte put before the first part
+-- a byte put at the front of the first part
 abbrev pub onto_first : ℕ → List (List ℕ) → List (List ℕ)
 onto_first b [] = (b ∷ []) ∷ []
 onto_first b (p ∷ ps) = (b ∷ p) ∷ ps
 
--- the parts of a text: each ends with a byte that passes, which the last may lack
+-- the parts of a text: each ends with a byte that passes, which is dropped and which the last part may lack
 abbrev pub parts_of : (ℕ → Bool) → List ℕ → List (List ℕ)
 parts_of ends [] = []
 parts_of ends (b ∷ bs) = if ends b then [] ∷ parts_of ends bs else onto_first b (parts_of ends bs)
@@ -25,12 +26,12 @@ abbrev pub is_nonempty : {A : Type 0} → List A → Bool
 is_nonempty [] = false
 is_nonempty (x ∷ xs) = true
 
--- what stands before the first `#`
+-- the bytes before the first `#`
 abbrev pub before_comment : List ℕ → List ℕ
 before_comment [] = []
 before_comment (b ∷ bs) = if b == 35 then [] else b ∷ before_comment bs
 
--- the words of a line: parted by blanks, up to a comment
+-- the words of a line: separated by blanks, up to a comment
 abbrev pub words_of : List ℕ → List (List ℕ)
 words_of line = filter is_nonempty (parts_of is_blank (before_comment line))
 
@@ -42,11 +43,12 @@ abbrev pub is_numeral : List ℕ → Bool
 is_numeral [] = false
 is_numeral (d ∷ ds) = list_all is_ascii_digit (d ∷ ds) && (not (d == 48) || length ds == 0)
 
--- an address as it is written: four numbers with a dot between each two, the highest byte first
+-- an address in dotted decimal, the most significant byte first
 abbrev pub dotted : ℕ → List ℕ
 dotted a =
-    decimal (a / 16777216) ++ 46 ∷ decimal (a / 65536 % 256) ++ 46 ∷ decimal (a / 256 % 256) ++ 46 ∷ decimal (a % 256)
+    decimal (a / 16777216) ++ 46 ∷ decimal (a / 65536 % 256) ++ 46 ∷ decimal (a / 256 % 256) ++ 46
+    ∷ decimal (a % 256)
 
--- an address, a slash, the length of a prefix
+-- a prefix in CIDR notation (RFC 4632, section 3.1)
 abbrev pub dotted_prefix : ℕ → ℕ → List ℕ
 dotted_prefix a prefix = dotted a ++ 47 ∷ decimal prefix

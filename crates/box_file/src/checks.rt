@@ -1,4 +1,4 @@
-//! Finds what the lines of a box file are refused for.
+//! Checks the lines of a box file.
 ghost use Rattle.std.specs.Prelude.{◌≡◌, ◌++◌, map, length, IfOk};
 ghost use Rattle.std.specs.List.{list_any};
 ghost use Rattle.box_file.specs.Box.{interfaces_in, routes_in, defaults_in, idles_in, each_is_line, is_out_of_range, is_repeated, has_unknown, is_too_large, least_fault};
@@ -12,11 +12,11 @@ use crate::idle_line::IdleLine;
 use crate::line::{InterfaceLine, Line, RouteLine};
 use std::alloc::{AllocError, Global};
 
-/// A longer text is refused.
+/// The largest text that is accepted, in bytes.
 const MAX_BYTES: usize = 1_048_576;
-/// More interface lines are refused.
+/// The most `interface` lines that are accepted.
 const MAX_INTERFACES: usize = 64;
-/// More route lines are refused.
+/// The most `route` lines that are accepted.
 const MAX_ROUTES: usize = 1024;
 
 /// The interface lines among the lines.
@@ -75,8 +75,8 @@ pub fn idles<'t>(alloc: Global, lines: &[Line<'t>]) -> Result<Vec<IdleLine<'t>>,
     Ok(found)
 }
 
-/// A name's bytes as one number, the first byte lowest: other names have other numbers, since no
-/// byte of a name is 0.
+/// A name as an integer, its first byte the least significant. Different names have different
+/// integers, since a name has at most 15 bytes and none of them is 0.
 fn name_key(name: &[u8]) -> u128
     ensures { result ≡ key_of name.now }
 {
@@ -120,7 +120,7 @@ fn addresses(alloc: Global, interfaces: &[InterfaceLine]) -> Result<Vec<u128>, A
     Ok(found)
 }
 
-/// Each route's address and prefix as one number.
+/// Each route's address and prefix as one integer.
 fn prefixes(alloc: Global, routes: &[RouteLine]) -> Result<Vec<u128>, AllocError>
     ensures { IfOk result (λ v. v.items ≡ map prefix_key (map route_tree routes.now)) }
 {
@@ -152,7 +152,7 @@ fn route_names(alloc: Global, routes: &[RouteLine]) -> Result<Vec<u128>, AllocEr
     Ok(found)
 }
 
-/// The names of the routes, and then of the defaults.
+/// The names of the routes, then those of the default lines.
 fn used_names(
     alloc: Global,
     routes: &[RouteLine],
@@ -169,7 +169,7 @@ fn used_names(
     Ok(found)
 }
 
-/// The kinds of the idle lines as numbers.
+/// The kinds of the idle lines as integers.
 fn kinds(alloc: Global, idles: &[IdleLine]) -> Result<Vec<u128>, AllocError>
     ensures { IfOk result (λ v. v.items ≡ map kind_key (map idle_tree idles.now)) }
 {
@@ -181,7 +181,7 @@ fn kinds(alloc: Global, idles: &[IdleLine]) -> Result<Vec<u128>, AllocError>
 }
 
 /// Whether an index has two names, a name two indexes, or an address, a route's prefix or a kind of
-/// idle limit stands twice.
+/// idle timeout is given twice.
 fn is_repeated(
     alloc: Global,
     interfaces: &[InterfaceLine],
@@ -191,7 +191,8 @@ fn is_repeated(
     requires named { EachNamed (map interface_tree interfaces.now) }
     requires short { EachShort (map route_tree routes.now) }
     ensures { IfOk result (λ r. r
-        ≡ is_repeated (map interface_tree interfaces.now) (map route_tree routes.now) (map idle_tree idles.now)) }
+        ≡ is_repeated (map interface_tree interfaces.now) (map route_tree routes.now)
+        (map idle_tree idles.now)) }
 {
     let by_index = index_names(alloc, interfaces)?;
     if has_conflicting_values(alloc, &by_index)? {
@@ -213,7 +214,7 @@ fn is_repeated(
     has_duplicate(alloc, &kinds)
 }
 
-/// Whether a route or the default names no interface.
+/// Whether a route or the default line uses an unknown interface name.
 fn names_unknown_interface(
     alloc: Global,
     interfaces: &[InterfaceLine],
@@ -224,7 +225,8 @@ fn names_unknown_interface(
     requires short { EachShort (map route_tree routes.now) }
     requires names { EachName (map (λ n. n.now) defaults.now) }
     ensures { IfOk result (λ r. r
-        ≡ has_unknown (map interface_tree interfaces.now) (map route_tree routes.now) (map (λ n. n.now) defaults.now)) }
+        ≡ has_unknown (map interface_tree interfaces.now) (map route_tree routes.now)
+        (map (λ n. n.now) defaults.now)) }
 {
     let known = interface_names(alloc, interfaces)?;
     let used = used_names(alloc, routes, defaults)?;
@@ -233,19 +235,20 @@ fn names_unknown_interface(
 
 /// Whether the text or the number of its lines is above a limit.
 fn is_too_large(text: &[u8], interfaces: &[InterfaceLine], routes: &[RouteLine]) -> bool
-    ensures { result ≡ is_too_large text.now (map interface_tree interfaces.now) (map route_tree routes.now) }
+    ensures { result ≡ is_too_large text.now (map interface_tree interfaces.now)
+        (map route_tree routes.now) }
 {
     text.len() > MAX_BYTES || interfaces.len() > MAX_INTERFACES || routes.len() > MAX_ROUTES
 }
 
-/// Whether an idle limit is out of its range.
+/// Whether an idle timeout is out of its range.
 fn has_out_of_range(idles: &[IdleLine]) -> bool
     ensures { result ≡ list_any is_out_of_range (map idle_tree idles.now) }
 {
     idles.iter().any(|idle| is_out_of_range(idle))
 }
 
-/// The lines of a text by their kinds.
+/// The lines of a text, split by kind.
 #[derive(Drop)]
 struct LinesByKind<'t> {
     interfaces: Vec<InterfaceLine<'t>>,
@@ -254,9 +257,11 @@ struct LinesByKind<'t> {
     idles: Vec<IdleLine<'t>>,
 }
 
-/// Sorts the lines.
+/// Splits the lines by kind.
 fn lines_by_kind<'t>(alloc: Global, lines: &[Line<'t>]) -> Result<LinesByKind<'t>, AllocError>
-    ensures { IfOk result (λ s. AreLinesByKind (map line_tree lines.now) (map interface_tree s.interfaces.items) (map route_tree s.routes.items) (map (λ n. n.now) s.defaults.items) (map idle_tree s.idles.items)) }
+    ensures { IfOk result (λ s. AreLinesByKind (map line_tree lines.now)
+        (map interface_tree s.interfaces.items) (map route_tree s.routes.items)
+        (map (λ n. n.now) s.defaults.items) (map idle_tree s.idles.items)) }
 {
     Ok(LinesByKind {
         interfaces: interfaces(alloc, lines)?,
@@ -266,7 +271,7 @@ fn lines_by_kind<'t>(alloc: Global, lines: &[Line<'t>]) -> Result<LinesByKind<'t
     })
 }
 
-/// The least fault that applies, of a text with these lines of each kind.
+/// The first fault that applies to a text with these lines.
 fn least_fault_of(
     alloc: Global,
     text: &[u8],
@@ -279,7 +284,8 @@ fn least_fault_of(
     requires short { EachShort (map route_tree routes.now) }
     requires names { EachName (map (λ n. n.now) defaults.now) }
     ensures { IfOk result (λ o. o
-        ≡ least_fault_of text.now (map interface_tree interfaces.now) (map route_tree routes.now) (map (λ n. n.now) defaults.now) (map idle_tree idles.now)) }
+        ≡ least_fault_of text.now (map interface_tree interfaces.now) (map route_tree routes.now)
+        (map (λ n. n.now) defaults.now) (map idle_tree idles.now)) }
 {
     if defaults.len() != 1 {
         return Ok(Some(BoxFault::Form));
@@ -299,7 +305,7 @@ fn least_fault_of(
     Ok(None)
 }
 
-/// The least fault that applies, of a text that is these lines.
+/// The first fault that applies to a text that consists of these lines.
 pub fn fault_of(alloc: Global, text: &[u8], lines: &[Line]) -> Result<Option<BoxFault>, AllocError>
     requires { each_is_line (map line_tree lines.now) }
     ensures { IfOk result (λ o. o ≡ least_fault text.now (map line_tree lines.now)) }

@@ -1,4 +1,4 @@
-//! Finds what stands twice in a list, in time n log n.
+//! Finds duplicates in lists, in time n log n.
 ghost use Rattle.std.specs.Prelude.{◌≡◌, ℕ, nat_eq, IfOk};
 ghost use Rattle.std.specs.List.{list_any};
 ghost use Rattle.std.specs.Ordering.{nat_cmp};
@@ -9,7 +9,7 @@ ghost use Rattle.box_file.specs.steps.Tests.{two_values, is_missing};
 use std::alloc::{AllocError, Global};
 use std::collections::{BTreeMap, BTreeSet};
 
-/// Whether some number stands twice.
+/// Whether some number occurs twice.
 pub fn has_duplicate(alloc: Global, keys: &[u128]) -> Result<bool, AllocError>
     ensures { IfOk result (λ r. r ≡ any_pair nat_eq keys.now) }
 {
@@ -22,7 +22,7 @@ pub fn has_duplicate(alloc: Global, keys: &[u128]) -> Result<bool, AllocError>
     Ok(false)
 }
 
-/// Whether some key stands with two values.
+/// Whether some key occurs with two values.
 pub fn has_conflicting_values(alloc: Global, pairs: &[(u128, u128)]) -> Result<bool, AllocError>
     ensures { IfOk result (λ r. r ≡ any_pair two_values pairs.now) }
 {

@@ -1,4 +1,4 @@
-//! What the idle lines say.
+//! The timeouts that the idle lines set.
 ghost use Rattle.std.specs.Prelude.{◌≡◌, ◌<◌, ◌≤◌, ◌^◌, false, find, map};
 ghost use Rattle.std.specs.List.{list_any};
 ghost use Rattle.std.specs.Option.{option_map};
@@ -10,15 +10,16 @@ use crate::idle_line::{IdleKind, IdleLine, MAX_IDLE_SECONDS};
 use crate::limits::Limits;
 use crate::numbers::number;
 
-/// The seconds that the line says, or where they are more than a `u32` holds the greatest of these.
+/// The seconds of the line, saturated at the greatest `u32`.
 fn seconds(line: &IdleLine) -> u32
-    ensures small { seconds_of (idle_tree line.now) < 2 ^ 32 → result ≡ seconds_of (idle_tree line.now) }
+    ensures small { seconds_of (idle_tree line.now) < 2 ^ 32
+        → result ≡ seconds_of (idle_tree line.now) }
     ensures large { 2 ^ 32 ≤ seconds_of (idle_tree line.now) → result ≡ 4294967295 }
 {
     number(line.seconds).unwrap_or(u32::MAX)
 }
 
-/// Whether the seconds are below the least for the line's kind, or above a week.
+/// Whether the seconds are below the minimum for the line's kind, or above a week.
 pub fn is_out_of_range(line: &IdleLine) -> bool
     ensures { result ≡ is_out_of_range (idle_tree line.now) }
 {
@@ -28,7 +29,8 @@ pub fn is_out_of_range(line: &IdleLine) -> bool
 
 /// The first line of the kind.
 fn find_by_kind<'i, 't>(lines: &'i [IdleLine<'t>], kind: IdleKind) -> Option<&'i IdleLine<'t>>
-    ensures { option_map (λ i. idle_tree i.now) result ≡ find (is_of_kind kind) (map idle_tree lines.now) }
+    ensures { option_map (λ i. idle_tree i.now) result
+        ≡ find (is_of_kind kind) (map idle_tree lines.now) }
 {
     let mut rest = lines;
     while let [line, others @ ..] = rest {
@@ -40,7 +42,7 @@ fn find_by_kind<'i, 't>(lines: &'i [IdleLine<'t>], kind: IdleKind) -> Option<&'i
     None
 }
 
-/// The seconds that the lines, which are all in range, say for the kind.
+/// The timeout of the kind in seconds: its line's, else the default. All lines must be in range.
 fn limit(lines: &[IdleLine], kind: IdleKind) -> u32
     requires { list_any is_out_of_range (map idle_tree lines.now) ≡ false }
     ensures value { result ≡ idle_for (map idle_tree lines.now) kind }
@@ -52,7 +54,7 @@ fn limit(lines: &[IdleLine], kind: IdleKind) -> u32
     }
 }
 
-/// What the lines, which are all in range, say for each kind.
+/// The timeouts of all kinds. All lines must be in range.
 pub fn limits(lines: &[IdleLine]) -> Limits
     requires { list_any is_out_of_range (map idle_tree lines.now) ≡ false }
     ensures { AreLimits (map idle_tree lines.now) result }

@@ -1,20 +1,20 @@
-//! Lines that say for how long connections may be idle.
+//! The idle lines of a box file.
 ghost use Rattle.std.specs.Prelude.{IsTrue};
 ghost use Rattle.box_file.specs.Text.{is_numeral};
 
-// The least that may be said, in seconds. For UDP: two minutes (RFC 4787, REQ-5).
+// The smallest timeouts in seconds. UDP: two minutes (RFC 4787, REQ-5).
 const MIN_UDP: u32 = 120;
-// For an established connection of TCP: two hours and four minutes (RFC 5382, REQ-5).
+// TCP, established: two hours and four minutes (RFC 5382, REQ-5).
 const MIN_ESTABLISHED: u32 = 7_440;
-// For one of TCP that opens or closes: four minutes (RFC 5382, REQ-5).
+// TCP, opening or closing: four minutes (RFC 5382, REQ-5).
 const MIN_TRANSITORY: u32 = 240;
-// For the others no limit is 0.
+// ICMP echo and other protocols: not 0.
 const MIN_OTHER: u32 = 1;
 
-/// The most that may be said for any kind, in seconds: a week.
+/// The largest timeout of any kind, in seconds: a week.
 pub const MAX_IDLE_SECONDS: u32 = 604_800;
 
-/// `idle udp 120`. Its number, of any size, borrows the text.
+/// `idle udp 120`. The digits of its number, which may have any size, borrow the text.
 #[derive(Clone, Copy)]
 pub struct IdleLine<'t> {
     pub kind: IdleKind,
@@ -22,18 +22,18 @@ pub struct IdleLine<'t> {
     pub ghost numeral: { IsTrue (is_numeral seconds.now) },
 }
 
-/// What connections a limit is for.
+/// The connections that a timeout is for.
 #[derive(Clone, Copy, Debug, PartialEq, Eq)]
 pub enum IdleKind {
-    /// Those of UDP.
+    /// UDP.
     Udp,
-    /// Those of TCP that are established.
+    /// TCP, once established.
     Established,
-    /// Those of TCP that open or close.
+    /// TCP, while opening or closing.
     Transitory,
-    /// Those begun by an ask for an echo.
+    /// ICMP echo.
     Echo,
-    /// Those of other protocols.
+    /// Other protocols.
     Other,
 }
 
@@ -41,7 +41,7 @@ impl IdleKind {
     ghost use Rattle.std.specs.Prelude.{◌≡◌};
     ghost use Rattle.box_file.specs.Idle.{minimum_for, number_of};
 
-    /// The least that a box file may say for it.
+    /// The smallest timeout that a box file may set for it, in seconds.
     pub fn minimum(self) -> u32
         ensures { result ≡ minimum_for self }
     {
@@ -53,7 +53,7 @@ impl IdleKind {
         }
     }
 
-    /// Its place among the kinds.
+    /// A number for each kind.
     pub fn number(self) -> u128
         ensures { result ≡ number_of self }
     {

@@ -3,7 +3,7 @@ ghost use Rattle.std.specs.Prelude.{◌≡◌, ◌⊎◌, List, ℕ};
 ghost use Rattle.box_file.specs.declared.fault.BoxFault.{BoxFault};
 ghost use Rattle.box_file.specs.Box.{PlantTree, IsBox, HasBoxFault};
 
-/// A text has at most one plant, at most one fault, and never both.
+/// A text describes at most one box or has at most one fault, never both.
 pub fn one_box()
     ensures one { (text : List ℕ) (plant other : PlantTree) → IsBox text plant
         → IsBox text other → plant ≡ other }
@@ -13,7 +13,7 @@ pub fn one_box()
         → IsBox text plant → HasBoxFault text fault → ⊥ }
 {}
 
-/// Each text has a plant or a fault.
+/// Each text describes a box or has a fault.
 pub fn some_box()
     ensures { (text : List ℕ) → ((plant : PlantTree) × IsBox text plant)
         ⊎ ((fault : BoxFault) × HasBoxFault text fault) }

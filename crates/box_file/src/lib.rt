@@ -1,5 +1,5 @@
-//! Reads a box file: a box's interfaces with their addresses, its routes, and the interface that
-//! packets enter by; and looks things up in it.
+//! Box files: the interfaces of a box with their addresses, its routes, the interface for captures
+//! without interfaces and the idle timeouts; and lookups in them.
 #![tactic(auto)]
 
 mod checks;

@@ -1,4 +1,4 @@
-//! Reads the lines of a box file.
+//! Parses the lines of a box file.
 ghost use Rattle.std.specs.Prelude.{◌≡◌, map, IfOk};
 ghost use Rattle.std.specs.Option.{option_map};
 ghost use Rattle.box_file.specs.Text.{words_of};
@@ -43,7 +43,7 @@ fn is_end(rest: &[u8]) -> bool
     word(rest).is_none()
 }
 
-/// What follows `interface`.
+/// Parses what follows `interface`.
 #[tactic(auto, unfolding(crate::specs::steps::Reading::interface_words))]
 fn interface(rest: &[u8]) -> Option<Line<'_>>
     ensures { option_map line_tree result ≡ interface_words (words_of rest.now) }
@@ -66,7 +66,7 @@ fn interface(rest: &[u8]) -> Option<Line<'_>>
     }
 }
 
-/// What follows `route`.
+/// Parses what follows `route`.
 #[tactic(auto, unfolding(crate::specs::steps::Reading::route_words, crate::specs::steps::Reading::prefixed_in))]
 fn route(rest: &[u8]) -> Option<Line<'_>>
     ensures { option_map line_tree result ≡ route_words (words_of rest.now) }
@@ -86,7 +86,7 @@ fn route(rest: &[u8]) -> Option<Line<'_>>
     }
 }
 
-/// What follows `default`.
+/// Parses what follows `default`.
 #[tactic(auto, unfolding(crate::specs::steps::Reading::default_words))]
 fn default(rest: &[u8]) -> Option<Line<'_>>
     ensures { option_map line_tree result ≡ default_words (words_of rest.now) }
@@ -100,7 +100,7 @@ fn default(rest: &[u8]) -> Option<Line<'_>>
     }
 }
 
-/// The kind that the word names.
+/// The kind with this keyword.
 fn idle_kind(word: &[u8]) -> Option<IdleKind>
     ensures { result ≡ kind_in word.now }
 {
@@ -119,7 +119,7 @@ fn idle_kind(word: &[u8]) -> Option<IdleKind>
     }
 }
 
-/// What follows `idle`.
+/// Parses what follows `idle`.
 #[tactic(auto, unfolding(crate::specs::steps::Reading::idle_words))]
 fn idle(rest: &[u8]) -> Option<Line<'_>>
     ensures { option_map line_tree result ≡ idle_words (words_of rest.now) }
@@ -134,7 +134,7 @@ fn idle(rest: &[u8]) -> Option<Line<'_>>
     }
 }
 
-/// The line that begins with the word, and goes on with what follows it.
+/// Parses a line by its first word and the rest.
 fn line_of<'t>(first: &[u8], rest: &'t [u8]) -> Option<Line<'t>>
     ensures { option_map line_tree result ≡ line_of first.now (words_of rest.now) }
 {
@@ -151,7 +151,7 @@ fn line_of<'t>(first: &[u8], rest: &'t [u8]) -> Option<Line<'t>>
     }
 }
 
-/// The lines of a text, those without words left out; none where one of them is no line.
+/// The lines of a text without blank ones; `None` where one of them is malformed.
 pub fn lines<'t>(alloc: Global, text: &'t [u8]) -> Result<Option<Vec<Line<'t>>>, AllocError>
     ensures { IfOk result (λ o. option_map (λ v. map line_tree v.items) o ≡ lines_in text.now) }
 {

@@ -1,4 +1,4 @@
-//! Reads numbers, names and addresses.
+//! Parses numbers, names and addresses.
 ghost use Rattle.std.specs.Prelude.{◌≡◌, ◌<◌, ◌-◌, ◌^◌, ◌%◌, ◌==◌};
 ghost use Rattle.std.specs.List.{list_all};
 ghost use Rattle.std.specs.Option.{option_map};
@@ -10,7 +10,7 @@ ghost use Rattle.box_file.specs.steps.Reading.{is_name, number_in, name_in, octe
 use crate::words::cut;
 use std::str;
 
-/// An interface's name has fewer bytes, as in the kernel, where a zero byte ends it.
+/// An interface's name has fewer bytes (Linux's IFNAMSIZ, which counts the zero byte after a name).
 const NAME_BYTES: usize = 16;
 
 fn is_digits(bytes: &[u8]) -> bool
@@ -29,7 +29,7 @@ pub fn is_numeral(bytes: &[u8]) -> bool
     }
 }
 
-/// The number that all of the bytes write.
+/// The decimal number that the bytes spell.
 #[tactic(auto, unfolding(crate::specs::steps::Reading::number_in))]
 pub fn number(bytes: &[u8]) -> Option<u32>
     ensures { result ≡ number_in bytes.now }
@@ -60,7 +60,7 @@ fn is_name(bytes: &[u8]) -> bool
     0 < bytes.len() && bytes.len() < NAME_BYTES && is_name_bytes(bytes)
 }
 
-/// The name that all of the bytes are.
+/// The bytes, if they are an interface's name.
 #[tactic(auto, unfolding(crate::specs::steps::Reading::name_in))]
 pub fn name(bytes: &[u8]) -> Option<&[u8]>
     ensures { option_map (λ x. x.now) result ≡ name_in bytes.now }
@@ -68,7 +68,7 @@ pub fn name(bytes: &[u8]) -> Option<&[u8]>
     if is_name(bytes) { Some(bytes) } else { None }
 }
 
-/// One of the four numbers of an address.
+/// A byte of a dotted address.
 #[tactic(auto, unfolding(crate::specs::steps::Reading::octet_in))]
 fn octet(bytes: &[u8]) -> Option<u8>
     ensures { result ≡ octet_in bytes.now }
@@ -77,7 +77,7 @@ fn octet(bytes: &[u8]) -> Option<u8>
     if value < 256 { Some(value as u8) } else { None }
 }
 
-/// An address as it is written: four numbers with a dot between each two, the highest byte first.
+/// An address in dotted decimal, the most significant byte first.
 #[tactic(auto, unfolding(crate::specs::steps::Reading::address_in))]
 fn address(bytes: &[u8]) -> Option<u32>
     ensures { result ≡ address_in bytes.now }
@@ -97,7 +97,7 @@ fn address(bytes: &[u8]) -> Option<u32>
     )
 }
 
-/// An address, a slash and a prefix's length.
+/// A prefix in CIDR notation: its address and its length.
 #[tactic(auto, unfolding(crate::specs::steps::Reading::prefixed_in))]
 pub fn prefixed(bytes: &[u8]) -> Option<(u32, u8)>
     ensures { result ≡ prefixed_in bytes.now }
@@ -112,7 +112,7 @@ pub fn prefixed(bytes: &[u8]) -> Option<(u32, u8)>
     }
 }
 
-/// Whether the bits of the address behind its prefix are zero.
+/// Whether the host bits of the address are zero.
 pub fn is_network(address: u32, prefix: u8) -> bool
     requires { prefix < 33 }
     ensures { result ≡ (address % 2 ^ (32 - prefix) == 0) }

@@ -1,4 +1,4 @@
-//! A box: its interfaces, its routes, the interface that packets enter by.
+//! A box, and lookups in it.
 ghost use Rattle.std.specs.Prelude.{◌≡◌, map, find, unwrap_or, false, IfOk, IfErr, IfSome};
 ghost use Rattle.std.specs.List.{filter_map, list_any};
 ghost use Rattle.std.specs.Option.{option_map};
@@ -18,10 +18,10 @@ use set_intervals::Intervals;
 use std::alloc::{AllocError, Global};
 use std::marker::Model;
 
-/// The number of an interface, 1 to 2147483647, as the kernel counts them.
+/// The index of an interface, 1 to 2147483647, as Linux numbers them.
 pub type IfIndex = u32;
 
-/// The first multicast address (RFC 5771): packets to it and above are not routed.
+/// The first multicast address (RFC 5771). It and those above have no route.
 const FIRST_MULTICAST: u32 = 0xe000_0000;
 
 /// An interface with one of its addresses.
@@ -33,18 +33,19 @@ struct Interface {
     prefix: u8,
 }
 
-/// What a box file says, ready to be asked.
+/// The box that a box file describes: its interfaces with their addresses, its routes, the entering
+/// interface of captures without interfaces, and the idle timeouts.
 #[derive(Drop)]
 pub struct Plant {
-    /// One for each interface line, in text order.
+    /// One for each `interface` line, in text order.
     interfaces: Vec<Interface>,
-    /// In text order; an interface's own prefix stands at the place of its line.
+    /// In text order; an interface line is also a route to its connected prefix.
     routes: Vec<Route>,
-    /// The routes as a table.
+    /// The routes as a lookup table: address intervals, each with its outgoing interface.
     table: Intervals<IfIndex>,
-    /// The interface that packets of a capture without interfaces enter by.
+    /// The interface by which packets are received where the capture names none.
     entering: IfIndex,
-    /// For how long connections may be idle.
+    /// The idle timeouts.
     idle: Limits,
 }
 
@@ -59,7 +60,7 @@ impl Model for Plant {
     ghost invariant = { λ p. IsSound p.interfaces.items p.routes.items p.table p.entering };
 }
 
-/// The interfaces with their names copied.
+/// Copies the interfaces with their names.
 fn copied(alloc: Global, lines: &[InterfaceLine]) -> Result<Vec<Interface>, AllocError>
     ensures { IfOk result (λ v. map interface_of v.items ≡ map interface_tree lines.now) }
 {
@@ -90,14 +91,14 @@ fn index_of(lines: &[InterfaceLine], name: &[u8]) -> Option<IfIndex>
     None
 }
 
-/// The same where some line has the name.
+/// The same for a known name (0 for others).
 fn known_index(lines: &[InterfaceLine], name: &[u8]) -> IfIndex
     ensures { result ≡ known_index (map interface_tree lines.now) name.now }
 {
     index_of(lines, name).unwrap_or(0)
 }
 
-/// The route that the line gives: an interface's line gives one to its own prefix.
+/// The route of a line: an interface line is also a route to its connected prefix.
 fn route_of_line(interfaces: &[InterfaceLine], line: &Line) -> Option<Route>
     ensures { option_map route_entry result
         ≡ route_of_line (map interface_tree interfaces.now) (line_tree line.now) }
@@ -117,14 +118,15 @@ fn route_of_line(interfaces: &[InterfaceLine], line: &Line) -> Option<Route>
     }
 }
 
-/// The routes that the lines give, in text order.
+/// The routes of the lines, in text order.
 fn routes(
     alloc: Global,
     interfaces: &[InterfaceLine],
     lines: &[Line],
 ) -> Result<Vec<Route>, AllocError>
     ensures { IfOk result (λ v. map route_entry v.items
-        ≡ filter_map (route_of_line (map interface_tree interfaces.now)) (map line_tree lines.now)) }
+        ≡ filter_map (route_of_line (map interface_tree interfaces.now))
+        (map line_tree lines.now)) }
 {
     let mut found = Vec::new(alloc);
     for line in lines {
@@ -135,9 +137,10 @@ fn routes(
     Ok(found)
 }
 
-/// The index of the interface that the first default names.
+/// The index of the interface of the first default line.
 fn entering(interfaces: &[InterfaceLine], defaults: &[&[u8]]) -> IfIndex
-    ensures { result ≡ entering_of (map interface_tree interfaces.now) (map (λ n. n.now) defaults.now) }
+    ensures { result ≡ entering_of (map interface_tree interfaces.now)
+        (map (λ n. n.now) defaults.now) }
 {
     match defaults {
         [] => 0,
@@ -145,13 +148,14 @@ fn entering(interfaces: &[InterfaceLine], defaults: &[&[u8]]) -> IfIndex
     }
 }
 
-/// The plant of faultless lines.
+/// The box that faultless lines describe.
 fn plant_of(alloc: Global, lines: &[Line]) -> Result<Plant, AllocError>
     requires lines { each_is_line (map line_tree lines.now) }
     requires names { KnowsNames (map line_tree lines.now) }
     requires range { list_any is_out_of_range (idles_in (map line_tree lines.now)) ≡ false }
     ensures value { IfOk result (λ plant. plant ≡ plant_of (map line_tree lines.now) plant.idle) }
-    ensures limits { IfOk result (λ plant. AreLimits (idles_in (map line_tree lines.now)) plant.idle) }
+    ensures limits { IfOk result (λ plant. AreLimits
+        (idles_in (map line_tree lines.now)) plant.idle) }
 {
     let found = interfaces(alloc, lines)?;
     let defaults = defaults(alloc, lines)?;
@@ -216,7 +220,11 @@ fn find_by_name<'p>(interfaces: &'p [Interface], name: &[u8]) -> Option<&'p Inte
 }
 
 impl Plant {
-    /// The box that the text spells, or the least fault that applies.
+    /// Parses and checks a box file.
+    ///
+    /// # Errors
+    ///
+    /// `Refused` with the first fault that applies; `Memory` where memory ran out.
     pub fn read(alloc: Global, text: &[u8]) -> Result<Plant, BoxError>
         ensures ok { IfOk result (λ plant. IsBox text.now plant) }
         ensures refused { IfErr result (λ error. IsBoxRefusal text.now error) }
@@ -230,8 +238,8 @@ impl Plant {
         Ok(plant_of(alloc, &lines)?)
     }
 
-    /// The interface that packets to the address leave by: of the routes that cover it one of
-    /// greatest prefix, the first in the text; none for 224.0.0.0 and above.
+    /// The outgoing interface for a destination address: longest prefix match, among equals the
+    /// first in the text; `None` for 224.0.0.0 and above.
     pub fn route(&self, address: u32) -> Option<IfIndex>
         ensures value { result ≡ route self.now address }
         ensures index { IfSome result IsIndex }
@@ -249,7 +257,7 @@ impl Plant {
         find_by_address(&self.interfaces, address).is_some()
     }
 
-    /// The interface that has the address.
+    /// The interface that has the address as one of its own.
     pub fn owner(&self, address: u32) -> Option<IfIndex>
         ensures value { result ≡ owner self.now address }
         ensures index { IfSome result IsIndex }
@@ -266,7 +274,7 @@ impl Plant {
         Some(interface.address)
     }
 
-    /// The interface of the name.
+    /// The interface with this name.
     pub fn named(&self, name: &[u8]) -> Option<IfIndex>
         ensures value { result ≡ named self.now name.now }
         ensures index { IfSome result IsIndex }
@@ -275,7 +283,7 @@ impl Plant {
         Some(interface.index)
     }
 
-    /// The name of the interface.
+    /// The name of the interface with this index.
     pub fn name(&self, index: IfIndex) -> Option<&[u8]>
         ensures { option_map (λ n. n.now) result ≡ name_of self.now index }
     {
@@ -283,7 +291,7 @@ impl Plant {
         Some(&interface.name)
     }
 
-    /// The interface that packets of a capture without interfaces enter by.
+    /// The interface by which packets are received where the capture names none.
     pub fn entering(&self) -> IfIndex
         ensures value { result ≡ self.now.entering }
         ensures index { IsIndex result }
@@ -291,8 +299,7 @@ impl Plant {
         self.entering
     }
 
-    /// For how long connections may be idle: as the text says, and of a kind that it doesn't name as
-    /// is usual.
+    /// The idle timeouts: those that the text sets, and the defaults of the other kinds.
     pub fn idle(&self) -> Limits
         ensures { result ≡ self.now.idle }
     {

@@ -1,11 +1,11 @@
-//! Routes, and the table in which an address finds the best of them.
+//! Routes, and the lookup table for longest prefix match.
 ghost use Rattle.std.specs.Prelude.{◌≡◌, ◌+◌, ◌-◌, ◌<◌, ◌≤◌, ◌^◌, map, IfOk};
 ghost use Rattle.box_file.specs.steps.Best.{begin_of, end_of, route_entry, GivesBest, GivesFirst, IsLongestFirst};
 
 use set_intervals::{Intervals, Range};
 use std::alloc::{AllocError, Global};
 
-/// A way out: packets to the prefix leave by the interface of this index.
+/// Packets to the prefix leave by the interface with this index.
 #[derive(Clone, Copy)]
 pub struct Route {
     pub address: u32,
@@ -42,7 +42,7 @@ fn range_of(route: &Route) -> Range
     Range::new(begin, begin + (size_of(route) - 1)).unwrap()
 }
 
-/// The routes by their prefixes, the longest first; those of one length stay in order.
+/// The routes sorted by the length of their prefixes, the longest first (stable).
 fn longest_first(alloc: Global, routes: &[Route]) -> Result<Vec<Route>, AllocError>
     ensures { IfOk result (λ sorted.
         IsLongestFirst (map route_entry routes.now) (map route_entry sorted.items)) }
@@ -52,7 +52,7 @@ fn longest_first(alloc: Global, routes: &[Route]) -> Result<Vec<Route>, AllocErr
     Ok(sorted)
 }
 
-/// The routes' addresses with their interfaces.
+/// The address interval of each route with its interface.
 fn pairs_of(alloc: Global, routes: &[Route]) -> Result<Vec<(Range, u32)>, AllocError>
     ensures { IfOk result (λ pairs. GivesFirst pairs.items (map route_entry routes.now)) }
 {
@@ -63,7 +63,7 @@ fn pairs_of(alloc: Global, routes: &[Route]) -> Result<Vec<(Range, u32)>, AllocE
     Ok(pairs)
 }
 
-/// The table of the routes: the interface of the best of those that cover an address.
+/// The lookup table: for each address the interface of its longest prefix match.
 pub fn table(alloc: Global, routes: &[Route]) -> Result<Intervals<u32>, AllocError>
     ensures { IfOk result (λ table. GivesBest table (map route_entry routes.now)) }
 {

@@ -1,4 +1,4 @@
-//! Cuts a text into lines, and a line into words.
+//! Splits a text into lines, and a line into words.
 ghost use Rattle.std.specs.Prelude.{◌≡◌};
 ghost use Rattle.std.specs.List.{position_or_len};
 ghost use Rattle.std.specs.Option.{option_map};
@@ -6,7 +6,7 @@ ghost use Rattle.box_file.specs.Text.{words_of};
 ghost use Rattle.box_file.specs.Box.{same_text};
 ghost use Rattle.box_file.specs.steps.Reading.{cut, first_line, begins_word, ends_word, uncons};
 
-/// What stands before the first such byte, and what follows it.
+/// The bytes before the first such byte, and those after it.
 pub fn cut(bytes: &[u8], at: u8) -> Option<(&[u8], &[u8])>
     ensures { option_map (λ x. (x.0.now, x.1.now)) result ≡ cut at bytes.now }
 {
@@ -14,7 +14,7 @@ pub fn cut(bytes: &[u8], at: u8) -> Option<(&[u8], &[u8])>
     Some((&bytes[..index], &bytes[index + 1..]))
 }
 
-/// The front of a text up to its first newline, and what follows that.
+/// The first line of a text, and the text after it.
 pub fn first_line(text: &[u8]) -> (&[u8], &[u8])
     ensures { (result.0.now, result.1.now) ≡ first_line text.now }
 {
@@ -36,7 +36,7 @@ fn ends_word(byte: u8) -> bool
     byte == b' ' || byte == b'\t' || byte == b'#'
 }
 
-/// How many blanks a line begins with.
+/// How many blanks the line begins with.
 fn blanks(line: &[u8]) -> usize
     ensures { result ≡ position_or_len begins_word line.now }
 {
@@ -45,7 +45,7 @@ fn blanks(line: &[u8]) -> usize
         .unwrap_or(line.len())
 }
 
-/// How many bytes stand before the first that ends a word.
+/// The length of the word that the line begins with.
 fn word_length(line: &[u8]) -> usize
     ensures { result ≡ position_or_len ends_word line.now }
 {
@@ -54,7 +54,7 @@ fn word_length(line: &[u8]) -> usize
         .unwrap_or(line.len())
 }
 
-/// The first word of a line, and what follows it.
+/// The first word of a line, and the rest of the line.
 #[tactic(auto, using(crate::proofs::WordLaws::place_within))]
 pub fn word(line: &[u8]) -> Option<(&[u8], &[u8])>
     ensures { option_map (λ x. (x.0.now, words_of x.1.now)) result ≡ uncons (words_of line.now) }

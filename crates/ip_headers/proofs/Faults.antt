@@ -1,25 +1,29 @@
--- What the tests of a header leave.
+-- What the tests on a header establish.
 use Rattle.std.proofs.Common.{◌≡◌, ◌≢◌, ℕ, ◌<◌, ◌≤◌, List, length, Option, Some, None, Bool, true, false, refl, ap, ◌∙◌, arith}
 use Rattle.std.specs.Prelude.{◌==◌, nat_lt, not, if◌then◌else◌}
 use Rattle.std.proofs.lemmas.Bool.{le-ltb, lt-ltb, eq-eqb, ne_eqb}
 use Rattle.std.proofs.lemmas.Grind.{common_steps}
 use Rattle.ip_headers.specs.declared.view.HeaderFault.{HeaderFault}
-use Rattle.ip_headers.specs.declared.view.HeaderFault.TheVariants.{Short, Version, HeaderLength, Length, Truncated, Checksum, Fragment, Transport}
+use Rattle.ip_headers.specs.declared.view.HeaderFault.TheVariants.{Short, Version, HeaderLength, Length, Truncated}
+use Rattle.ip_headers.specs.declared.view.HeaderFault.TheVariants.{Checksum, Fragment, Transport}
 use Rattle.ip_headers.specs.Sum.{ones_sum_of}
 use Rattle.ip_headers.specs.Transport.{transport_is_malformed}
 use Rattle.ip_headers.specs.Passing.{Passes, PassesHeader}
 use Rattle.ip_headers.specs.steps.Ports.{has_ports}
 use Rattle.ip_headers.specs.Header.{header, header_len, total_len, version, protocol, is_fragment, fault_of, packet_of, payload_of}
 
--- ---- the tests by their answers
+-- ---- the tests by their results
 
 abbrev first : Bool → Bool → Bool → Bool → Bool → Bool → Bool → Bool → Option HeaderFault
 first a b c d e f g h =
     if a then Some Short else (if b then Some Version else (if c then Some HeaderLength else (if d then Some Length
-    else (if e then Some Truncated else (if f then Some Checksum else (if g then Some Fragment else (if h then Some Transport else None)))))))
+    else (if e then Some Truncated else (if f then Some Checksum
+    else (if g then Some Fragment else (if h then Some Transport else None)))))))
 
 after_three : (a b c d e f g h : Bool) → a ≡ false → b ≡ false → c ≡ false
-    → first a b c d e f g h ≡ (if d then Some Length else (if e then Some Truncated else (if f then Some Checksum else (if g then Some Fragment else (if h then Some Transport else None)))))
+    → first a b c d e f g h ≡ (if d then Some Length
+    else (if e then Some Truncated else (if f then Some Checksum
+    else (if g then Some Fragment else (if h then Some Transport else None)))))
 after_three a b c d e f g h is_a is_b is_c = rw (is_a, is_b, is_c) refl
 
 last_is : (a b c d e f g h : Bool) → first a b c d e f g h ≡ None → h ≡ false
@@ -43,10 +47,12 @@ passes p none = record {
     sum = grind (arith, none);
   };
   unbroken = grind (arith, none);
-  carried = last_is (nat_lt (length p) 20) (not (version p == 4)) (nat_lt (header_len p) 20) (nat_lt (total_len p) (header_len p)) (nat_lt (length p) (total_len p)) (not (ones_sum_of (header p) == 65535)) (is_fragment p) (transport_is_malformed (protocol p) (payload_of p)) none;
+  transport = last_is (nat_lt (length p) 20) (not (version p == 4)) (nat_lt (header_len p) 20)
+      (nat_lt (total_len p) (header_len p)) (nat_lt (length p) (total_len p)) (not (ones_sum_of (header p) == 65535))
+      (is_fragment p) (transport_is_malformed (protocol p) (payload_of p)) none;
 }
 
--- what the first three tests let through, the others judge
+-- what passed the first three tests is decided by the others
 abbrev judged : List ℕ → Option HeaderFault
 judged p =
     if nat_lt (total_len p) (header_len p) then Some Length else (if nat_lt (length p) (total_len p) then Some Truncated
@@ -55,31 +61,39 @@ judged p =
 
 by_others : (p : List ℕ) → 20 ≤ length p → version p ≡ 4 → 20 ≤ header_len p → fault_of p ≡ judged p
 by_others p long four head =
-    after_three (nat_lt (length p) 20) (not (version p == 4)) (nat_lt (header_len p) 20) (nat_lt (total_len p) (header_len p)) (nat_lt (length p) (total_len p)) (not (ones_sum_of (header p) == 65535)) (is_fragment p) (transport_is_malformed (protocol p) (payload_of p))
+    after_three (nat_lt (length p) 20) (not (version p == 4)) (nat_lt (header_len p) 20)
+    (nat_lt (total_len p) (header_len p)) (nat_lt (length p) (total_len p)) (not (ones_sum_of (header p) == 65535))
+    (is_fragment p) (transport_is_malformed (protocol p) (payload_of p))
     (le-ltb _ _ long) (ap not (eq-eqb _ _ four)) (le-ltb _ _ head)
 
 pub too_small : (p : List ℕ) → 20 ≤ length p → version p ≡ 4 → 20 ≤ header_len p → total_len p < header_len p → fault_of p ≡ Some Length
 too_small p long four head small = by_others p long four head ∙ rw (lt-ltb _ _ small) refl
 
-pub cut : (p : List ℕ) → 20 ≤ length p → version p ≡ 4 → 20 ≤ header_len p → header_len p ≤ total_len p → length p < total_len p → fault_of p ≡ Some Truncated
+pub cut : (p : List ℕ) → 20 ≤ length p → version p ≡ 4 → 20 ≤ header_len p → header_len p ≤ total_len p
+    → length p < total_len p → fault_of p ≡ Some Truncated
 cut p long four head fits short = by_others p long four head ∙ rw (le-ltb _ _ fits, lt-ltb _ _ short) refl
 
-pub damaged : (p : List ℕ) → 20 ≤ length p → version p ≡ 4 → 20 ≤ header_len p → header_len p ≤ total_len p → total_len p ≤ length p → ones_sum_of (header p) ≢ 65535 → fault_of p ≡ Some Checksum
+pub damaged : (p : List ℕ) → 20 ≤ length p → version p ≡ 4 → 20 ≤ header_len p → header_len p ≤ total_len p
+    → total_len p ≤ length p → ones_sum_of (header p) ≢ 65535 → fault_of p ≡ Some Checksum
 damaged p long four head fits whole wrong = by_others p long four head ∙ rw (le-ltb _ _ fits, le-ltb _ _ whole, ne_eqb _ _ wrong) refl
 
-by_last_two : (p : List ℕ) → PassesHeader p → fault_of p ≡ (if is_fragment p then Some Fragment else (if transport_is_malformed (protocol p) (payload_of p) then Some Transport else None))
-by_last_two p ok = by_others p (omega (arith, ok.long, ok.head, ok.whole)) ok.four ok.long ∙ rw (le-ltb _ _ ok.head, le-ltb _ _ ok.whole, eq-eqb _ _ ok.sum) refl
+by_last_two : (p : List ℕ) → PassesHeader p
+    → fault_of p ≡ (if is_fragment p then Some Fragment
+    else (if transport_is_malformed (protocol p) (payload_of p) then Some Transport else None))
+by_last_two p ok = by_others p (omega (arith, ok.long, ok.head, ok.whole)) ok.four ok.long
+    ∙ rw (le-ltb _ _ ok.head, le-ltb _ _ ok.whole, eq-eqb _ _ ok.sum) refl
 
 pub fault_free : (p : List ℕ) → Passes p → fault_of p ≡ None
-fault_free p ok = by_last_two p ok.head ∙ rw (ok.unbroken, ok.carried) refl
+fault_free p ok = by_last_two p ok.head ∙ rw (ok.unbroken, ok.transport) refl
 
 pub broken : (p : List ℕ) → PassesHeader p → is_fragment p ≡ true → fault_of p ≡ Some Fragment
 broken p ok is = by_last_two p ok ∙ rw is refl
 
-pub refused : (p : List ℕ) → PassesHeader p → is_fragment p ≡ false → transport_is_malformed (protocol p) (payload_of p) ≡ true → fault_of p ≡ Some Transport
+pub refused : (p : List ℕ) → PassesHeader p → is_fragment p ≡ false
+    → transport_is_malformed (protocol p) (payload_of p) ≡ true → fault_of p ≡ Some Transport
 refused p ok unbroken wrong = by_last_two p ok ∙ rw (unbroken, wrong) refl
 
--- ---- a packet passes by itself
+-- ---- a packet without the bytes past it passes as well
 
 pub total_len-packet : (p : List ℕ) → PassesHeader p → total_len (packet_of p) ≡ total_len p
 total_len-packet p ok = grind (arith, common_steps, ok.long, ok.head)
@@ -103,10 +117,10 @@ packet_passes p ok =
         sum = grind (arith, common_steps, one.long, one.head, one.sum);
       };
       unbroken = grind (arith, common_steps, one.long, one.head, ok.unbroken);
-      carried = rw (same, header_len-packet p one, packet-packet p one) ok.carried;
+      transport = rw (same, header_len-packet p one, packet-packet p one) ok.transport;
     }
 
--- ---- how long a packet is that passes
+-- ---- the length of a packet that passes
 
 pub long_enough : (p : List ℕ) → fault_of p ≡ None → 20 ≤ length p
 long_enough p none = let ok = (passes p none).head in omega (arith, ok.long, ok.head, ok.whole)
@@ -115,4 +129,4 @@ eight_of : (number : ℕ) (payload : List ℕ) → transport_is_malformed number
 eight_of number payload right some = grind (arith, right, some)
 
 pub eight_bytes : (p : List ℕ) → Passes p → has_ports (protocol p) ≡ true → 8 ≤ length (payload_of p)
-eight_bytes p ok some = eight_of (protocol p) (payload_of p) ok.carried some
+eight_bytes p ok some = eight_of (protocol p) (payload_of p) ok.transport some

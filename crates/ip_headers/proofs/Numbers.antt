@@ -1,8 +1,9 @@
--- Numbers as they are read from slices.
+-- Numbers read from slices.
 use Rattle.std.proofs.Common.{◌≡◌, ℕ, ◌+◌, ◌-◌, ◌≤◌, List, length, take, drop, arith}
 use Rattle.std.proofs.lemmas.Grind.{common_steps}
 use Rattle.byteorder.specs.Endian.{big_number}
 use Rattle.ip_headers.specs.Bytes.{u32_at}
 
-pub number_read : (bytes : List ℕ) (i number : ℕ) → i + 4 ≤ length bytes → number ≡ big_number 4 (take (length bytes - i) (drop i bytes)) → number ≡ u32_at bytes i
+pub number_read : (bytes : List ℕ) (i number : ℕ) → i + 4 ≤ length bytes
+    → number ≡ big_number 4 (take (length bytes - i) (drop i bytes)) → number ≡ u32_at bytes i
 number_read bytes i number whole read = grind (arith, common_steps, read)

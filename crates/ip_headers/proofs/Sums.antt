@@ -1,5 +1,6 @@
--- Sums of words, byte by byte and by their carries.
-use Rattle.std.proofs.Common.{◌≡◌, ℕ, zero, suc, ◌+◌, ◌*◌, ◌<◌, ◌≤◌, List, [], ◌∷◌, length, get_or, take, drop, drop-cons, add-one, Bool, true, false, refl, ap, ◌∙◌, arith, ◌++◌, map, Fits, w8, w32}
+-- Sums of words, byte by byte and with end-around carries.
+use Rattle.std.proofs.Common.{◌≡◌, ℕ, zero, suc, ◌+◌, ◌*◌, ◌<◌, ◌≤◌, List, [], ◌∷◌, length, get_or, take, drop}
+use Rattle.std.proofs.Common.{drop-cons, add-one, Bool, true, false, refl, ap, ◌∙◌, arith, ◌++◌, map, Fits, w8, w32}
 use mathlib.Core.Bool.{not}
 use Rattle.std.specs.Simd.Lanes.{sum_l, fold_l, zip2, Each1, Each2}
 use Rattle.std.proofs.lemmas.Simd.{fold-sum}
@@ -48,7 +49,10 @@ products_fit zero [] e small = tt
 products_fit zero (x ∷ xs) e small = absurd (omega arith)
 products_fit (suc n) [] e small = absurd (omega arith)
 products_fit (suc n) (x ∷ []) e small = absurd (omega arith)
-products_fit (suc n) (x ∷ y ∷ xs) e small = (record { fits = omega (arith, small.0.fits) }, (record { fits = omega (arith, small.1.0.fits) }, products_fit n xs (omega arith) small.1.1))
+products_fit (suc n) (x ∷ y ∷ xs) e small = (
+  record { fits = omega (arith, small.0.fits) },
+  (record { fits = omega (arith, small.1.0.fits) }, products_fit n xs (omega arith) small.1.1),
+)
 
 -- lanes that are loaded and widened have the bytes' numbers
 pub lanes_are : (n : ℕ) (xs : List ℕ) → length xs ≡ n → map (λ x. x) (take n xs) ≡ xs
@@ -68,7 +72,7 @@ placed_is [] = refl
 placed_is (x ∷ []) = omega arith
 placed_is (x ∷ y ∷ xs) = omega (arith, placed_is xs)
 
--- the place of one byte
+-- the weight of one byte
 abbrev pub at_place : Bool → ℕ → ℕ
 at_place true x = x * 256
 at_place false x = x
@@ -78,7 +82,8 @@ placed_cons true x xs = refl
 placed_cons false x xs = refl
 
 -- one byte fewer is left
-pub placed_step : (high : Bool) (xs : List ℕ) (i : ℕ) → i < length xs → placed high (drop i xs) ≡ at_place high (get_or xs i 0) + placed (not high) (drop (i + 1) xs)
+pub placed_step : (high : Bool) (xs : List ℕ) (i : ℕ) → i < length xs
+    → placed high (drop i xs) ≡ at_place high (get_or xs i 0) + placed (not high) (drop (i + 1) xs)
 placed_step high xs i lt = rw (drop-cons xs i 0 lt, add-one) (placed_cons high _ _)
 
 pub add_folded_right : (a b : ℕ) → a < 65536 → ones_add a (folded b) ≡ folded (a + b)
@@ -87,7 +92,9 @@ add_folded_right a b small = grind arith
 pub sum_with_carries_is : (xs : List ℕ) → ((i : ℕ) → get_or xs i 0 < 256) → sum_with_carries xs ≡ ones_sum_of xs
 sum_with_carries_is [] small = refl
 sum_with_carries_is (x ∷ []) small = grind (arith, small 0)
-sum_with_carries_is (x ∷ y ∷ xs) small = ap (λ n. ones_add (x * 256 + y) n) (sum_with_carries_is xs (λ i. small (suc (suc i)))) ∙ add_folded_right (x * 256 + y) (words_sum xs) (omega (arith, small 0, small 1))
+sum_with_carries_is (x ∷ y ∷ xs) small = ap (λ n. ones_add (x * 256 + y) n)
+    (sum_with_carries_is xs (λ i. small (suc (suc i))))
+    ∙ add_folded_right (x * 256 + y) (words_sum xs) (omega (arith, small 0, small 1))
 
 -- 0 only where every byte is 0
 pub zero_bytes : (xs : List ℕ) → ones_sum_of xs ≡ 0 → All (λ b. b ≡ 0) xs

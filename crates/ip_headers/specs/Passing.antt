@@ -1,10 +1,11 @@
--- A record that begins with a packet, test by test.
+-- The tests on a record's bytes, as facts (RFC 791, section 3.1).
 use Rattle.std.specs.Prelude.{◌≡◌, ℕ, ◌≤◌, false, List, length}
 use Rattle.ip_headers.specs.Sum.{ones_sum_of}
-use Rattle.ip_headers.specs.Header.{header, header_len, total_len, version, protocol, is_fragment, payload_of}
+use Rattle.ip_headers.specs.Header.{header, header_len, total_len, version, protocol}
+use Rattle.ip_headers.specs.Header.{is_fragment, payload_of}
 use Rattle.ip_headers.specs.Transport.{transport_is_malformed}
 
--- the tests of the header but the one for fragments
+-- the tests on the header except that for fragments
 pub record PassesHeader (bytes : List ℕ) : Type 0 where
   pub long : 20 ≤ header_len bytes
   pub head : header_len bytes ≤ total_len bytes
@@ -16,4 +17,4 @@ pub record PassesHeader (bytes : List ℕ) : Type 0 where
 pub record Passes (bytes : List ℕ) : Type 0 where
   pub head : PassesHeader bytes
   pub unbroken : is_fragment bytes ≡ false
-  pub carried : transport_is_malformed (protocol bytes) (payload_of bytes) ≡ false
+  pub transport : transport_is_malformed (protocol bytes) (payload_of bytes) ≡ false

@@ -1,11 +1,11 @@
--- When two tuples are one.
+-- Equality of tuples (own: identifiers of ICMP queries aren't ports).
 use Rattle.std.specs.Prelude.{Bool, true, false, ◌==◌, ◌&&◌}
 use Rattle.ip_headers.specs.declared.tuple.Kind.{Kind}
 use Rattle.ip_headers.specs.declared.tuple.Kind.TheVariants.{Tcp, Udp, EchoRequest, EchoReply, Other}
 use Rattle.ip_headers.specs.declared.tuple.Endpoint.{Endpoint}
 use Rattle.ip_headers.specs.declared.tuple.Tuple.{Tuple}
 
--- ports of one kind say nothing of those of another: an identifier isn't a port
+-- ports of different kinds are never the same, so an identifier is no port
 abbrev pub same_kind : Kind → Kind → Bool
 same_kind Tcp Tcp = true
 same_kind Udp Udp = true

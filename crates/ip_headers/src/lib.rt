@@ -1,4 +1,4 @@
-//! IPv4 packets read in place, their fields lent for writing, and the Internet checksum.
+//! IPv4 packets: views that read them in place, writable fields, tuples, and the Internet checksum.
 #![tactic(auto)]
 
 pub mod laws;

@@ -1,17 +1,18 @@
-//! The ones' complement sum (RFC 1071).
+//! The Internet checksum's ones' complement sum (RFC 1071).
 ghost use Rattle.std.specs.Prelude.{◌≡◌, ◌+◌, All, length};
 ghost use Rattle.ip_headers.specs.Sum.{words_sum, ones_sum_of, ones_add, sum_with_carries, folded};
 
 use std::simd::prelude::*;
 
-/// How many bytes are summed at once.
+/// How many bytes are summed at a time, one in each SIMD lane.
 const BLOCK: usize = 16;
 
-/// The ones' complement sum of the big-endian 16-bit words; an odd last byte is a high byte (RFC 1071).
-/// It is 0 only where every byte is 0.
+/// The ones' complement sum of the big-endian 16-bit words (RFC 1071); an odd last byte is padded
+/// with a zero byte. It is 0 only where every byte is 0. A header with a correct checksum sums up
+/// to ffff.
 pub fn ones_sum(bytes: &[u8]) -> u16
     ensures sum { result ≡ ones_sum_of bytes.now }
-    // The same by its carries, word by word.
+    // The same with the end-around carry at each word.
     ensures carries { result ≡ sum_with_carries bytes.now }
     ensures zero { result ≡ 0 → All (λ byte. byte ≡ 0) bytes.now }
 {
@@ -24,7 +25,7 @@ pub fn ones_sum(bytes: &[u8]) -> u16
     add_bytes(sum, rest)
 }
 
-/// The plain sum of a block's eight words, each of its bytes in a lane of its own.
+/// The sum of a block's eight words without reduction, each byte in a lane of its own.
 fn block_sum(block: &[u8]) -> u32
     requires { length block.now ≡ 16 }
     ensures { result ≡ words_sum block.now }
@@ -38,7 +39,7 @@ fn block_sum(block: &[u8]) -> u32
         .strict_reduce_sum()
 }
 
-/// Carries out of the top come back in at the bottom.
+/// Folds the carries in (end-around carry).
 fn fold(sum: u32) -> u16
     ensures { result ≡ folded sum }
 {
@@ -49,7 +50,7 @@ fn fold(sum: u32) -> u16
     }
 }
 
-/// The sum goes on over these bytes, of which the first is a high one.
+/// Adds these bytes to the sum, the first of them as a high byte.
 fn add_bytes(start: u16, bytes: &[u8]) -> u16
     ensures { result ≡ folded (start + words_sum bytes.now) }
 {
@@ -67,7 +68,7 @@ fn add_bytes(start: u16, bytes: &[u8]) -> u16
     sum
 }
 
-// The sum of two words, whose carry comes back in at the bottom.
+// Ones' complement addition, with the end-around carry.
 fn add(first: u16, second: u16) -> u16
     ensures { result ≡ ones_add first second }
 {

@@ -1,36 +1,36 @@
-//! What a packet carries: TCP, UDP or ICMP.
+//! The transport header of a packet: TCP, UDP or ICMP.
 ghost use Rattle.std.specs.Prelude.{◌≡◌, false, length};
 ghost use Rattle.ip_headers.specs.Transport.{destination_port_of, icmp_is_malformed, icmp_type_of, source_port_of, tcp_flags_of, tcp_is_malformed, transport_in, transport_is_malformed, udp_is_malformed};
 
 use byteorder::{BigEndian, ByteOrder};
 
-/// The number of ICMP in an IPv4 header, as IANA assigns it.
+/// Protocol number of ICMP (IANA).
 pub(crate) const ICMP: u8 = 1;
-/// The number of TCP.
+/// Protocol number of TCP.
 pub(crate) const TCP: u8 = 6;
-/// The number of UDP.
+/// Protocol number of UDP.
 pub(crate) const UDP: u8 = 17;
 
-/// What a packet carries, by its protocol, with the fields that rules ask for.
+/// What a packet carries, by its protocol number, with the fields that rules match on.
 #[derive(Clone, Copy, Debug, PartialEq)]
 pub enum Transport {
-    /// A segment of TCP (RFC 9293, section 3.1).
+    /// A TCP segment (RFC 9293, section 3.1).
     Tcp {
         /// The source port.
         source: u16,
         /// The destination port.
         destination: u16,
-        /// CWR, ECE, URG, ACK, PSH, RST, SYN and FIN, from the highest bit to the lowest.
+        /// CWR, ECE, URG, ACK, PSH, RST, SYN and FIN, from the most to the least significant bit.
         flags: u8,
     },
-    /// A datagram of UDP (RFC 768).
+    /// A UDP datagram (RFC 768).
     Udp {
         /// The source port.
         source: u16,
         /// The destination port.
         destination: u16,
     },
-    /// A message of ICMP (RFC 792).
+    /// An ICMP message (RFC 792).
     Icmp {
         /// Its type.
         icmp_type: u8,
@@ -40,7 +40,7 @@ pub enum Transport {
 }
 
 impl Transport {
-    /// The source port; `None` but for TCP and UDP.
+    /// The source port; `None` except for TCP and UDP.
     pub fn source_port(self) -> Option<u16>
         ensures { result ≡ source_port_of self }
     {
@@ -50,7 +50,7 @@ impl Transport {
         }
     }
 
-    /// The destination port; `None` but for TCP and UDP.
+    /// The destination port; `None` except for TCP and UDP.
     pub fn destination_port(self) -> Option<u16>
         ensures { result ≡ destination_port_of self }
     {
@@ -60,7 +60,7 @@ impl Transport {
         }
     }
 
-    /// The flags of TCP, FIN the lowest bit; `None` for other protocols.
+    /// The TCP flags, FIN the least significant bit; `None` for other protocols.
     pub fn tcp_flags(self) -> Option<u8>
         ensures { result ≡ tcp_flags_of self }
     {
@@ -81,7 +81,8 @@ impl Transport {
     }
 }
 
-/// Whether a payload is too short for its protocol, or tells a length that isn't there.
+/// Whether a payload is too short for its protocol, or its length field or data offset doesn't fit
+/// it.
 pub(crate) fn is_malformed(protocol: u8, payload: &[u8]) -> bool
     ensures { result ≡ transport_is_malformed protocol payload.now }
 {
@@ -99,7 +100,7 @@ fn tcp_is_malformed(payload: &[u8]) -> bool
     if payload.len() < 20 {
         return true;
     }
-    // The data offset counts words of four bytes.
+    // The data offset counts 32-bit words.
     let offset = (payload[12] / 16) as usize;
     offset < 5 || payload.len() < offset * 4
 }
@@ -114,7 +115,7 @@ fn udp_is_malformed(payload: &[u8]) -> bool
     length < 8 || payload.len() < length
 }
 
-/// What a payload is that the tests let through.
+/// Parses a payload that passed the tests.
 pub(crate) fn read(protocol: u8, payload: &[u8]) -> Transport
     requires { transport_is_malformed protocol payload.now ≡ false }
     ensures { result ≡ transport_in protocol payload.now }

@@ -1,61 +1,62 @@
-//! Between which endpoints a packet goes.
+//! Tuples: kind, source and destination endpoint of a packet.
 ghost use Rattle.std.specs.Prelude.{◌≡◌, ◌≤◌, true, length};
 ghost use Rattle.ip_headers.specs.Header.{protocol};
 ghost use Rattle.ip_headers.specs.Transport.{icmp_type};
 ghost use Rattle.ip_headers.specs.Tuple.{inner_tuple, inverse, inverse_kind, is_error_type, echo_kind, tuple_in};
-ghost use Rattle.ip_headers.specs.steps.Ports.{kind_and_ports, with_ports, has_ports};
+ghost use Rattle.ip_headers.specs.steps.Ports.{kind_and_ports, kind_with_ports, has_ports};
 
 use crate::transport::{ICMP, TCP, UDP};
 use byteorder::{BigEndian, ByteOrder};
 
-/// An address and a port (RFC 4787, section 4.1). Where there is no port it is 0.
+/// An address and a port (RFC 4787, section 4.1). The port is 0 for kinds without ports.
 #[derive(Clone, Copy, Debug, PartialEq, Eq, Hash)]
 pub struct Endpoint {
-    /// The address, its first group the highest byte.
+    /// The address in host byte order: the first octet is the most significant byte.
     pub address: u32,
-    /// The port; of an ICMP query the identifier, at the end that asks.
+    /// The port. Of ICMP echo the identifier, at the endpoint that sends the requests.
     pub port: u16,
 }
 
-/// What goes between two endpoints: ports of one kind say nothing of those of another.
+/// A protocol, as far as tuples distinguish it: ports of different kinds are never the same.
 #[derive(Clone, Copy, Debug, PartialEq, Eq, Hash)]
 pub enum Kind {
     /// TCP.
     Tcp,
     /// UDP.
     Udp,
-    /// An ICMP echo (RFC 792), a query in RFC 5508.
+    /// ICMP echo request (RFC 792; a query in RFC 5508).
     EchoRequest,
-    /// The reply to an echo.
+    /// ICMP echo reply.
     EchoReply,
-    /// The protocol of this number, without ports.
+    /// Any other protocol, by its number; it has no ports.
     Other(u8),
 }
 
-/// A packet's kind, and the endpoints that it goes from and to.
+/// A packet's kind, source and destination: what connection tracking identifies it by.
 #[derive(Clone, Copy, Debug, PartialEq, Eq, Hash)]
 pub struct Tuple {
-    /// What goes between the endpoints.
+    /// The protocol.
     pub kind: Kind,
-    /// Where the packet comes from.
+    /// The source.
     pub source: Endpoint,
-    /// Where it goes.
+    /// The destination.
     pub destination: Endpoint,
 }
 
-/// An internal endpoint and the external one that stands for it outside (RFC 4787, section 4.1).
+/// A NAT mapping: an internal endpoint and the external one that translation puts in its place (RFC
+/// 4787, section 4.1).
 #[derive(Clone, Copy, Debug, PartialEq, Eq, Hash)]
 pub struct Mapping {
-    /// What goes between the endpoints.
+    /// The protocol.
     pub kind: Kind,
-    /// The endpoint behind the translator.
+    /// The endpoint behind the NAT.
     pub internal: Endpoint,
-    /// The endpoint that others see.
+    /// The endpoint that hosts outside see.
     pub external: Endpoint,
 }
 
 impl Kind {
-    /// The kind of what comes back: an answer for an ask, and an ask for an answer.
+    /// The kind of packets in the other direction: echo request and echo reply change places.
     pub fn inverse(self) -> Self
         ensures value { result ≡ inverse_kind self }
         ensures back { inverse_kind result ≡ self }
@@ -69,10 +70,11 @@ impl Kind {
 }
 
 impl Tuple {
-    /// The tuple of what comes back: the ends change places, and ask with answer.
+    /// The tuple of packets in the other direction: source and destination change places, and echo
+    /// request with echo reply.
     pub fn inverse(self) -> Self
         ensures value { result ≡ inverse self }
-        // The way back of the way back is the way.
+        // Inversion is an involution.
         ensures back { inverse result ≡ self }
     {
         Tuple {
@@ -83,16 +85,16 @@ impl Tuple {
     }
 }
 
-/// Whether it is the type of an ICMP message about another datagram (RFC 792): destination
-/// unreachable, source quench, redirect, time exceeded or parameter problem.
+/// Whether this is the type of an ICMP error (RFC 792): destination unreachable, source quench,
+/// redirect, time exceeded or parameter problem.
 pub(crate) fn is_error_type(message: u8) -> bool
     ensures { result ≡ is_error_type message }
 {
     matches!(message, 3 | 4 | 5 | 11 | 12)
 }
 
-/// The tuple of a datagram, by its header and the first bytes of its payload; `None` for messages of
-/// ICMP other than an echo and its reply.
+/// The tuple of a datagram, by its header and the first bytes of its payload; `None` for ICMP
+/// messages other than echo request and echo reply.
 pub(crate) fn tuple_in(datagram: &[u8], payload: &[u8]) -> Option<Tuple>
     requires header { 20 ≤ length datagram.now }
     requires ports { has_ports (protocol datagram.now) ≡ true → 8 ≤ length payload.now }
@@ -112,7 +114,7 @@ pub(crate) fn tuple_in(datagram: &[u8], payload: &[u8]) -> Option<Tuple>
     })
 }
 
-/// The kind of what a protocol carries, and the ports that it comes from and goes to.
+/// Kind, source port and destination port of a payload.
 fn kind_and_ports(protocol: u8, payload: &[u8]) -> Option<(Kind, u16, u16)>
     requires { has_ports protocol ≡ true → 8 ≤ length payload.now }
     ensures { result ≡ kind_and_ports protocol payload.now }
@@ -133,10 +135,10 @@ fn kind_and_ports(protocol: u8, payload: &[u8]) -> Option<(Kind, u16, u16)>
     }
 }
 
-/// The same of a message of ICMP: an echo or its reply.
+/// The same of an ICMP message: echo request or echo reply.
 fn query_kind_and_ports(message: &[u8]) -> Option<(Kind, u16, u16)>
     requires { 8 ≤ length message.now }
-    ensures { result ≡ with_ports (echo_kind (icmp_type message.now)) message.now }
+    ensures { result ≡ kind_with_ports (echo_kind (icmp_type message.now)) message.now }
 {
     let identifier = BigEndian::read_u16(&message[4..]);
     match message[0] {
@@ -146,19 +148,19 @@ fn query_kind_and_ports(message: &[u8]) -> Option<(Kind, u16, u16)>
     }
 }
 
-/// The tuple of the datagram that an ICMP error is about, if its beginning can be read and has one.
+/// The tuple of the datagram that an ICMP error quotes, if it can be translated and has one.
 pub(crate) fn inner_tuple(inner: &[u8]) -> Option<Tuple>
     ensures { result ≡ inner_tuple inner.now }
 {
     if inner.len() < 28 || inner[0] / 16 != 4 {
         return None;
     }
-    // IHL counts words of four bytes.
+    // IHL counts 32-bit words.
     let header_len = (inner[0] % 16) as usize * 4;
     if header_len < 20 || inner.len() < header_len + 8 {
         return None;
     }
-    // All but the reserved bit, DF and MF.
+    // The fragment offset: all but the reserved bit, DF and MF.
     if BigEndian::read_u16(&inner[6..]) % 8192 != 0 {
         return None;
     }

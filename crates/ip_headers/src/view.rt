@@ -1,4 +1,4 @@
-//! A packet of IPv4, read in place.
+//! IPv4 packets, read in place.
 ghost use Rattle.std.specs.Prelude.{◌≤◌, length, ◌≡◌, None, take, drop, IfOk};
 ghost use Rattle.std.specs.Result.{result_err as err_of};
 ghost use Rattle.ip_headers.specs.Header.{fault_of, packet_of, payload_of, header_len, total_len, protocol, source, destination, transport_of, ttl};
@@ -10,7 +10,8 @@ use crate::tuple::{self, Tuple};
 use byteorder::{BigEndian, ByteOrder};
 use thiserror::Error;
 
-/// Why a record carries no packet: the first test that fails (RFC 791, section 3.1, but for the last).
+/// Why a record has no valid packet: the first test that fails (RFC 791, section 3.1; for the last
+/// one see there).
 #[derive(Clone, Copy, Debug, PartialEq, Error)]
 pub enum HeaderFault {
     /// Fewer than 20 bytes.
@@ -25,7 +26,7 @@ pub enum HeaderFault {
     /// The total length is below four times IHL.
     #[error("length")]
     Length,
-    /// Fewer bytes than the total length.
+    /// Fewer bytes than the total length says.
     #[error("truncated")]
     Truncated,
     /// The ones' complement sum of the header's words isn't ffff.
@@ -34,20 +35,20 @@ pub enum HeaderFault {
     /// MF is set, or the offset isn't 0.
     #[error("fragment")]
     Fragment,
-    /// The payload is too short for TCP, UDP or ICMP, or its data offset or length is too small or
-    /// beyond the end (RFC 9293, section 3.1; RFC 768; RFC 792).
+    /// The payload is too short for TCP, UDP or ICMP, or its data offset or length field is too
+    /// small or beyond the end (RFC 9293, section 3.1; RFC 768; RFC 792).
     #[error("transport")]
     Transport,
 }
 
-/// The parts of a packet, which borrow the record. Bytes past the total length are left out.
+/// A valid packet: its parts, which borrow the record. Bytes past the total length are left out.
 #[derive(Clone, Copy)]
 pub struct View<'a> {
     /// The header and the payload, as long as the total length says.
     pub packet: &'a [u8],
     /// The header with its options: four times IHL bytes.
     pub header: &'a [u8],
-    /// What follows the header.
+    /// The bytes after the header.
     pub payload: &'a [u8],
     pub ghost whole: { fault_of packet.now ≡ None },
     pub ghost head: { header.now ≡ take (header_len packet.now) packet.now },
@@ -57,7 +58,11 @@ pub struct View<'a> {
 }
 
 impl<'a> View<'a> {
-    /// The packet that a record begins with, or the first test that fails.
+    /// The packet at the front of a record.
+    ///
+    /// # Errors
+    ///
+    /// The first test that fails, in the order of [`HeaderFault`].
     pub fn read(bytes: &'a [u8]) -> Result<View<'a>, HeaderFault>
         ensures fault { err_of result ≡ fault_of bytes.entry.now }
         ensures packet { IfOk result (λ view. view.packet.now ≡ packet_of bytes.entry.now) }
@@ -68,7 +73,7 @@ impl<'a> View<'a> {
         if bytes[0] / 16 != 4 {
             return Err(HeaderFault::Version);
         }
-        // IHL counts words of four bytes.
+        // IHL counts 32-bit words.
         let header_len = (bytes[0] % 16) as usize * 4;
         if header_len < 20 {
             return Err(HeaderFault::HeaderLength);
@@ -85,7 +90,7 @@ impl<'a> View<'a> {
         if ones_sum(header) != 0xffff {
             return Err(HeaderFault::Checksum);
         }
-        // All but the reserved bit and DF.
+        // MF and the fragment offset: all but the reserved bit and DF.
         if BigEndian::read_u16(&packet[6..]) % 16384 != 0 {
             return Err(HeaderFault::Fragment);
         }
@@ -99,14 +104,14 @@ impl<'a> View<'a> {
         })
     }
 
-    /// The source address, its first group the highest byte.
+    /// The source address in host byte order: the first octet is the most significant byte.
     pub fn source(&self) -> u32
         ensures { result ≡ source self.now.packet.now }
     {
         BigEndian::read_u32(&self.packet[12..])
     }
 
-    /// The destination address, its first group the highest byte.
+    /// The destination address in host byte order.
     pub fn destination(&self) -> u32
         ensures { result ≡ destination self.now.packet.now }
     {
@@ -120,45 +125,44 @@ impl<'a> View<'a> {
         self.packet[8]
     }
 
-    /// The number of the protocol that the packet carries.
+    /// The protocol number (IANA).
     pub fn protocol(&self) -> u8
         ensures { result ≡ protocol self.now.packet.now }
     {
         self.packet[9]
     }
 
-    /// The bytes of the packet, its header among them.
+    /// The length of the packet in bytes, with its header.
     pub fn total_length(&self) -> u16
         ensures { result ≡ total_len self.now.packet.now }
     {
         BigEndian::read_u16(&self.packet[2..])
     }
 
-    /// What the packet carries.
+    /// The transport header.
     pub fn transport(&self) -> Transport
         ensures { result ≡ transport_of self.now.packet.now }
     {
         transport::read(self.protocol(), self.payload)
     }
 
-    /// The kind of the packet and its two endpoints; `None` for messages of ICMP other than an echo and
-    /// its reply.
+    /// The packet's tuple; `None` for ICMP messages other than echo request and echo reply.
     pub fn tuple(&self) -> Option<Tuple>
         ensures { result ≡ tuple_of self.now.packet.now }
     {
         tuple::tuple_in(self.packet, self.payload)
     }
 
-    /// Whether the packet is a message of ICMP about another datagram, of type 3, 4, 5, 11 or 12.
+    /// Whether the packet is an ICMP error: type 3, 4, 5, 11 or 12.
     pub fn is_error(&self) -> bool
         ensures { result ≡ is_error self.now.packet.now }
     {
         self.protocol() == transport::ICMP && tuple::is_error_type(self.payload[0])
     }
 
-    /// The tuple of the datagram that an ICMP error is about. `None` where the packet is no such
-    /// error, where the datagram's beginning can't be read (version 4, a header of at least 20 bytes,
-    /// offset 0, 8 bytes past it), and where it has no tuple.
+    /// The tuple of the datagram that an ICMP error quotes. `None` where the packet is no ICMP
+    /// error, where the quoted datagram can't be translated (version 4, a header of at least 20
+    /// bytes, fragment offset 0 and 8 bytes past the header are needed), and where it has no tuple.
     pub fn inner_tuple(&self) -> Option<Tuple>
         ensures { result ≡ inner_tuple_of self.now.packet.now }
     {

@@ -1,5 +1,6 @@
--- The best of the routes that cover an address, as the first of the routes in order.
-use Rattle.std.specs.Prelude.{◌≡◌, ℕ, ◌+◌, ◌-◌, ◌*◌, ◌/◌, ◌^◌, ◌<◌, ◌≤◌, ◌==◌, List, length, filter, find, Option, slice_index_or}
+-- Longest prefix match as the first match in the routes sorted by the length of their prefixes.
+use Rattle.std.specs.Prelude.{◌≡◌, ℕ, ◌+◌, ◌-◌, ◌*◌, ◌/◌, ◌^◌, ◌<◌, ◌≤◌, ◌==◌, List, length}
+use Rattle.std.specs.Prelude.{filter, find, Option, slice_index_or}
 use Rattle.std.specs.Option.{option_map}
 use Rattle.set_intervals.specs.declared.range.Range.{Range}
 use Rattle.set_intervals.specs.Pairs.{first_value}
@@ -13,23 +14,24 @@ route_entry r = record { address = r.address; prefix = r.prefix; interface = r.i
 abbrev pub begin_of : RouteEntry → ℕ
 begin_of r = r.address / 2 ^ (32 - r.prefix) * 2 ^ (32 - r.prefix)
 
--- one more than the last
+-- one more than the last address
 abbrev pub end_of : RouteEntry → ℕ
 end_of r = begin_of r + 2 ^ (32 - r.prefix)
 
--- the same routes by their prefixes, the longest first, and those of one length in the order that they had
+-- the same routes in a stable sort by the length of their prefixes, the longest first
 pub record IsLongestFirst (routes sorted : List RouteEntry) : Type 0 where
-  pub falling : (i j : ℕ) (d : RouteEntry) → i ≤ j → j < length sorted → (slice_index_or sorted j d).prefix ≤ (slice_index_or sorted i d).prefix
+  pub falling : (i j : ℕ) (d : RouteEntry) → i ≤ j → j < length sorted
+      → (slice_index_or sorted j d).prefix ≤ (slice_index_or sorted i d).prefix
   pub kept : (n : ℕ) → filter (λ r. r.prefix == n) sorted ≡ filter (λ r. r.prefix == n) routes
 
--- the interface of the first of the routes that cover the address
+-- the interface of the first route that covers the address
 abbrev pub first_interface : List RouteEntry → ℕ → Option ℕ
 first_interface routes a = option_map (λ r. r.interface) (find (covers a) routes)
 
--- the pairs say of each address the first way
+-- the pairs map each address to the interface of the first route that covers it
 abbrev pub GivesFirst : List (Range × ℕ) → List RouteEntry → Type 0
 GivesFirst pairs routes = (a : ℕ) → first_value pairs a ≡ first_interface routes a
 
--- the pairs say of each address the best way
+-- the pairs map each address to its outgoing interface
 abbrev pub GivesBest : List (Range × ℕ) → List RouteEntry → Type 0
 GivesBest pairs routes = (a : ℕ) → first_value pairs a ≡ best_interface routes a

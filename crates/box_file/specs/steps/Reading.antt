@@ -1,5 +1,7 @@
--- Reading a box file from left to right: what the code computes, as functions on lists.
-use Rattle.std.specs.Prelude.{ℕ, ◌+◌, ◌*◌, ◌-◌, ◌^◌, ◌%◌, ◌==◌, ◌&&◌, ◌||◌, not, nat_lt, Bool, true, false, List, [], ◌∷◌, length, map, filter, Option, Some, None, unwrap_or, if◌then◌else◌, codes}
+-- Parsing a box file from left to right: what the code computes, as functions on lists.
+use Rattle.std.specs.Prelude.{ℕ, ◌+◌, ◌*◌, ◌-◌, ◌^◌, ◌%◌, ◌==◌, ◌&&◌, ◌||◌, not, nat_lt, Bool}
+use Rattle.std.specs.Prelude.{true, false, List, [], ◌∷◌, length, map, filter, Option, Some, None}
+use Rattle.std.specs.Prelude.{unwrap_or, if◌then◌else◌, codes}
 use Rattle.std.specs.List.{list_all}
 use Rattle.std.specs.Option.{option_map}
 use Rattle.std.specs.Str.Parse.{digits_value}
@@ -13,9 +15,10 @@ use Rattle.box_file.specs.declared.line.Line as kept
 use Rattle.box_file.specs.declared.line.Line.TheVariants as lines
 use Rattle.box_file.specs.Text.{is_blank, is_numeral, is_nonempty, words_of, lines_of}
 use Rattle.box_file.specs.Idle.{word_of}
-use Rattle.box_file.specs.Box.{Interface, NamedRoute, Idle, Line, interface_line, route_line, default_line, idle_line, is_name_byte, same_text}
+use Rattle.box_file.specs.Box.{Interface, NamedRoute, Idle, Line, interface_line, route_line}
+use Rattle.box_file.specs.Box.{default_line, idle_line, is_name_byte, same_text}
 
--- ---- lines without where their names lie in memory
+-- ---- lines without their borrows
 
 abbrev pub interface_tree : InterfaceLine → Interface
 interface_tree i = record { index = i.index; name = i.name.now; address = i.address; prefix = i.prefix }
@@ -32,9 +35,9 @@ line_tree (lines.Route r) = route_line (route_tree r)
 line_tree (lines.Default n) = default_line n.now
 line_tree (lines.Idle i) = idle_line (idle_tree i)
 
--- ---- steps
+-- ---- basic parsers
 
--- the first of a list, and the others
+-- the head and the tail of a list
 abbrev pub uncons : {A : Type 0} → List A → Option (A × List A)
 uncons [] = None
 uncons (x ∷ xs) = Some (x, xs)
@@ -43,16 +46,16 @@ abbrev pub has_none : {A : Type 0} → List A → Bool
 has_none [] = true
 has_none (x ∷ xs) = false
 
--- a byte put before the first part
+-- a byte put at the front of the first part
 abbrev pub onto : ℕ → List ℕ × List ℕ → List ℕ × List ℕ
 onto b x = (b ∷ x.0, x.1)
 
--- what stands before the first such byte, and what follows it
+-- the bytes before the first such byte, and those after it
 abbrev pub cut : ℕ → List ℕ → Option (List ℕ × List ℕ)
 cut at [] = None
 cut at (b ∷ bs) = if b == at then Some ([], bs) else option_map (onto b) (cut at bs)
 
--- the front of a text up to its first newline, and what follows that
+-- the first line of a text, and the text after it
 abbrev pub first_line : List ℕ → List ℕ × List ℕ
 first_line bs = unwrap_or (cut 10 bs) (bs, [])
 
@@ -64,9 +67,10 @@ ends_word b = is_blank b || b == 35
 
 -- ---- numbers, names, addresses
 
--- the number that all of the bytes write
+-- the decimal number that the bytes spell, below 2^32
 unfoldable pub number_in : List ℕ → Option ℕ
-number_in ds = if is_numeral ds && nat_lt (digits_value 10 ds) 4294967296 then Some (digits_value 10 ds) else None
+number_in ds =
+    if is_numeral ds && nat_lt (digits_value 10 ds) 4294967296 then Some (digits_value 10 ds) else None
 
 abbrev pub is_name : List ℕ → Bool
 is_name bs = nat_lt 0 (length bs) && nat_lt (length bs) 16 && list_all is_name_byte bs
@@ -74,7 +78,7 @@ is_name bs = nat_lt 0 (length bs) && nat_lt (length bs) 16 && list_all is_name_b
 unfoldable pub name_in : List ℕ → Option (List ℕ)
 name_in bs = if is_name bs then Some bs else None
 
--- a number of an address
+-- a byte of a dotted address
 unfoldable pub octet_in : List ℕ → Option ℕ
 octet_in ds = number_in ds >>= λ n. if nat_lt n 256 then Some n else None
 
@@ -89,7 +93,7 @@ address_in bs = do
   fourth ← octet_in c.1
   Some (first * 16777216 + second * 65536 + third * 256 + fourth)
 
--- an address, and a prefix's length
+-- a prefix in CIDR notation: its address and its length
 unfoldable pub prefixed_in : List ℕ → Option (ℕ × ℕ)
 prefixed_in bs = do
   a ← cut 47 bs
@@ -99,7 +103,7 @@ prefixed_in bs = do
 
 -- ---- lines
 
--- the words behind `interface`
+-- a line by the words after `interface`
 unfoldable pub interface_words : List (List ℕ) → Option Line
 interface_words ws = do
   a ← uncons ws
@@ -108,25 +112,29 @@ interface_words ws = do
   index ← number_in a.0
   name ← name_in b.0
   p ← prefixed_in c.0
-  if has_none c.1 && nat_lt 0 index && nat_lt index 2147483648 && nat_lt 0 p.1 then Some (interface_line (record { index = index; name = name; address = p.0; prefix = p.1 })) else None
+  if has_none c.1 && nat_lt 0 index && nat_lt index 2147483648 && nat_lt 0 p.1
+      then Some (interface_line (record { index = index; name = name; address = p.0; prefix = p.1 }))
+      else None
 
--- the words behind `route`
+-- a line by the words after `route`
 unfoldable pub route_words : List (List ℕ) → Option Line
 route_words ws = do
   a ← uncons ws
   b ← uncons a.1
   p ← prefixed_in a.0
   name ← name_in b.0
-  if has_none b.1 && p.0 % 2 ^ (32 - p.1) == 0 then Some (route_line (record { address = p.0; prefix = p.1; name = name })) else None
+  if has_none b.1 && p.0 % 2 ^ (32 - p.1) == 0
+      then Some (route_line (record { address = p.0; prefix = p.1; name = name }))
+      else None
 
--- the words behind `default`
+-- a line by the words after `default`
 unfoldable pub default_words : List (List ℕ) → Option Line
 default_words ws = do
   a ← uncons ws
   name ← name_in a.0
   if has_none a.1 then Some (default_line name) else None
 
--- the kind of a word
+-- the kind with this keyword
 abbrev pub kind_in : List ℕ → Option IdleKind
 kind_in word =
     if same_text word (word_of kinds.Udp) then Some kinds.Udp
@@ -136,7 +144,7 @@ kind_in word =
     else (if same_text word (word_of kinds.Other) then Some kinds.Other
     else None))))
 
--- the words behind `idle`
+-- a line by the words after `idle`
 unfoldable pub idle_words : List (List ℕ) → Option Line
 idle_words ws = do
   a ← uncons ws
@@ -144,7 +152,7 @@ idle_words ws = do
   kind ← kind_in a.0
   if has_none b.1 && is_numeral b.0 then Some (idle_line (record { kind = kind; digits = b.0 })) else None
 
--- the line that begins with the word
+-- a line by its first word and the others
 abbrev pub line_of : List ℕ → List (List ℕ) → Option Line
 line_of word ws =
     if same_text word (codes "interface") then interface_words ws
@@ -156,7 +164,7 @@ line_of word ws =
 unfoldable pub line_in : List (List ℕ) → Option Line
 line_in ws = uncons ws >>= λ a. line_of a.0 a.1
 
--- each of the lists of words is a line
+-- the lines of these lists of words, if each is one
 unfoldable pub all_in : List (List (List ℕ)) → Option (List Line)
 all_in [] = Some []
 all_in (t ∷ ts) = line_in t >>= λ l. option_map (λ ls. l ∷ ls) (all_in ts)

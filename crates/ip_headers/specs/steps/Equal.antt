@@ -1,4 +1,4 @@
--- Equal kinds, endpoints and tuples.
+-- The equality tests of kinds, endpoints and tuples decide equality.
 use Rattle.std.proofs.Common.{◌≡◌, true, refl, ◌∙◌, ap}
 use Rattle.std.proofs.lemmas.Bool.{eqb-true, eq-eqb, and_parts, and_from}
 use Rattle.ip_headers.specs.declared.tuple.Kind.{Kind}
@@ -27,13 +27,15 @@ same_endpoint-true a b h =
     let parts = and_parts _ _ h in
     let address : a.address ≡ b.address = eqb-true _ _ parts.0 in
     let port : a.port ≡ b.port = eqb-true _ _ parts.1 in
-    ap (λ x. record { address = x; port = a.port }) address ∙ ap (λ x. record { address = b.address; port = x }) port
+    ap (λ x. record { address = x; port = a.port }) address
+    ∙ ap (λ x. record { address = b.address; port = x }) port
 
 pub same_endpoint-refl : (e : Endpoint) → same_endpoint e e ≡ true
 same_endpoint-refl e = and_from _ _ (eq-eqb e.address e.address refl) (eq-eqb e.port e.port refl)
 
 pub same_tuple-refl : (t : Tuple) → same_tuple t t ≡ true
-same_tuple-refl t = and_from _ _ (same_kind-refl t.kind) (and_from _ _ (same_endpoint-refl t.source) (same_endpoint-refl t.destination))
+same_tuple-refl t = and_from _ _ (same_kind-refl t.kind)
+    (and_from _ _ (same_endpoint-refl t.source) (same_endpoint-refl t.destination))
 
 pub same_tuple-true : (a b : Tuple) → same_tuple a b ≡ true → a ≡ b
 same_tuple-true a b h =

@@ -6,4 +6,8 @@ use Rattle.box_file.specs.Box.{any_pair}
 use Rattle.box_file.proofs.duplicates.has_duplicate.Given as goal
 
 abbrev pub invariant-loop-key : goal.invariant-loop-key
-invariant-loop-key l = record { none_twice : any_pair nat_eq (take l.key-index l.keys) ≡ false; seen : (q : ℕ) → contains nat_cmp l.seen q ≡ list_any (nat_eq q) (take l.key-index l.keys) }
+invariant-loop-key l = record {
+  none_twice : any_pair nat_eq (take l.key-index l.keys) ≡ false;
+  seen : (q : ℕ)
+      → contains nat_cmp l.seen q ≡ list_any (nat_eq q) (take l.key-index l.keys);
+}

@@ -10,4 +10,5 @@ returns-in_err-ok c =
 pub returns : goal.returns
 returns c =
     let same = ok_holds _ _ c.from_utf8.result c.in_ok-ok.field-0 c.from_utf8.ensures.cases (sym c.ok.ensures.value ∙ c.in_ok-ok.was) in
-    c.ok-2.ensures.value ∙ number_parsed c.args.bytes.now c.parse.result (sym c.is_numeral.ensures ∙ c.if-not-is_numeral.false) (rw same.0 at c.parse.ensures.value.0)
+    c.ok-2.ensures.value ∙ number_parsed c.args.bytes.now c.parse.result
+    (sym c.is_numeral.ensures ∙ c.if-not-is_numeral.false) (rw same.0 at c.parse.ensures.value.0)

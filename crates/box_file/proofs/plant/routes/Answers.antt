@@ -13,7 +13,15 @@ loop-line-preserved c =
     let is = map interface_tree c.args.interfaces.now in
     elim c.match-route_of_line.branch [
       | in-Some+in_ok-push w ↦
-          let pushed : map route_entry c.match-route_of_line.found.items ≡ map route_entry c.loop-line.found.items ++ route_entry w.in-Some.route ∷ [] = rw (w.found-is, w.in_ok-push.ensures.items) (map_push route_entry c.loop-line.found.items w.in-Some.route) in
-          taken line_tree (route_of_line is) c.args.lines.now c.loop-line.line-index c.line-item.result (route_entry w.in-Some.route) _ _ c.loop-line-test.true c.line-item.is (sym c.route_of_line.ensures ∙ ap (option_map route_entry) w.in-Some.is) c.loop-line.invariant pushed
-      | in_default w ↦ left_out line_tree (route_of_line is) c.args.lines.now c.loop-line.line-index c.line-item.result _ _ c.loop-line-test.true c.line-item.is (sym c.route_of_line.ensures ∙ ap (option_map route_entry) w.in_default.is) c.loop-line.invariant (ap (λ v. map route_entry v.items) w.found-is)
+          let pushed : map route_entry c.match-route_of_line.found.items
+          ≡ map route_entry c.loop-line.found.items ++ route_entry w.in-Some.route ∷ [] =
+          rw (w.found-is, w.in_ok-push.ensures.items)
+          (map_push route_entry c.loop-line.found.items w.in-Some.route) in
+          taken line_tree (route_of_line is) c.args.lines.now c.loop-line.line-index c.line-item.result
+          (route_entry w.in-Some.route) _ _ c.loop-line-test.true c.line-item.is
+          (sym c.route_of_line.ensures ∙ ap (option_map route_entry) w.in-Some.is) c.loop-line.invariant pushed
+      | in_default w ↦ left_out line_tree (route_of_line is) c.args.lines.now c.loop-line.line-index c.line-item.result
+          _ _ c.loop-line-test.true c.line-item.is
+          (sym c.route_of_line.ensures ∙ ap (option_map route_entry) w.in_default.is) c.loop-line.invariant
+          (ap (λ v. map route_entry v.items) w.found-is)
     ]

@@ -8,4 +8,6 @@ pub returns : goal.returns
 returns c =
     longest_first c.args.routes.now c.sort_by.new.self.items
     (c.in_ok-sort_by.ensures.sorted is_longer longer_ranks (always_returns_same _ _ _ (λ a r g h. search (rules, tests))))
-    (subst (λ l. IsStableBy is_longer l c.sort_by.new.self.items) c.in_ok-sorted.ensures.items (c.sort_by.ensures.stable is_longer longer_ranks (always_returns_same _ _ _ (λ a r g h. search (rules, tests)))))
+    (subst (λ l. IsStableBy is_longer l c.sort_by.new.self.items) c.in_ok-sorted.ensures.items
+    (c.sort_by.ensures.stable is_longer longer_ranks
+    (always_returns_same _ _ _ (λ a r g h. search (rules, tests)))))

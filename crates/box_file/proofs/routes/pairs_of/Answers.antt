@@ -7,4 +7,6 @@ pub loop-route-preserved : goal.loop-route-preserved
 loop-route-preserved c =
     let routes = c.args.routes.now in
     let i = c.loop-route.route-index in
-    subst (λ pairs. GivesFirst pairs (map route_entry (take (i + 1) routes))) (sym c.in_ok-push.ensures.items) (gives_more c.loop-route.pairs.items routes i _ c.range_of.result c.loop-route-test.true c.range_of.ensures.low c.range_of.ensures.high c.loop-route.invariant)
+    subst (λ pairs. GivesFirst pairs (map route_entry (take (i + 1) routes))) (sym c.in_ok-push.ensures.items)
+    (gives_more c.loop-route.pairs.items routes i _ c.range_of.result c.loop-route-test.true c.range_of.ensures.low
+    c.range_of.ensures.high c.loop-route.invariant)

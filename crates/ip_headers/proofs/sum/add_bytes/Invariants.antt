@@ -5,4 +5,7 @@ use Rattle.ip_headers.proofs.sum.add_bytes.Given as goal
 
 -- what remains is the rest of the sum
 abbrev pub invariant-loop-byte : goal.invariant-loop-byte
-invariant-loop-byte l = record { small : l.sum < 65536; same : folded (l.sum + placed l.is_high (drop l.byte-index l.bytes)) ≡ folded (l.start + words_sum l.bytes) }
+invariant-loop-byte l = record {
+  small : l.sum < 65536;
+  same : folded (l.sum + placed l.is_high (drop l.byte-index l.bytes)) ≡ folded (l.start + words_sum l.bytes);
+}

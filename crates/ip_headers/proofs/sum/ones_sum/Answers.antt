@@ -10,10 +10,15 @@ loop-block-preserved c =
     let block = c.in-Some.block.now in
     let others = c.in-Some.others.now in
     let start = c.loop-block.sum in
-    let whole : block ++ others ≡ c.loop-block.rest.now = ap (λ xs. xs ++ others) cases.1 ∙ ap (λ xs. take 16 c.loop-block.rest.now ++ xs) cases.2 ∙ take-append-drop 16 c.loop-block.rest.now in
-    let words : words_sum c.loop-block.rest.now ≡ words_sum block + words_sum others = ap words_sum (sym whole) ∙ words_sum_append 8 block others cases.3 in
-    let sum : c.add-sum.result ≡ folded (start + words_sum block) = c.add-sum.ensures ∙ ap (ones_add start) (c.fold.ensures ∙ ap folded c.block_sum.ensures) ∙ add_folded_right start (words_sum block) c.loop-block.invariant.small in
-    let same = ap (λ n. folded (n + words_sum others)) sum ∙ folded_again (start + words_sum block) (words_sum others) ∙ ap folded (omega (arith, words)) ∙ c.loop-block.invariant.same in
+    let whole : block ++ others ≡ c.loop-block.rest.now = ap (λ xs. xs ++ others) cases.1
+    ∙ ap (λ xs. take 16 c.loop-block.rest.now ++ xs) cases.2 ∙ take-append-drop 16 c.loop-block.rest.now in
+    let words : words_sum c.loop-block.rest.now ≡ words_sum block + words_sum others =
+    ap words_sum (sym whole) ∙ words_sum_append 8 block others cases.3 in
+    let sum : c.add-sum.result ≡ folded (start + words_sum block) = c.add-sum.ensures
+    ∙ ap (ones_add start) (c.fold.ensures ∙ ap folded c.block_sum.ensures)
+    ∙ add_folded_right start (words_sum block) c.loop-block.invariant.small in
+    let same = ap (λ n. folded (n + words_sum others)) sum ∙ folded_again (start + words_sum block) (words_sum others)
+    ∙ ap folded (omega (arith, words)) ∙ c.loop-block.invariant.same in
     record { small = omega (arith, c.add-sum.type_inv); same = same }
 
 pub returns-clause-sum : goal.returns-clause-sum

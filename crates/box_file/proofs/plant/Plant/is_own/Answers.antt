@@ -9,5 +9,8 @@ use Rattle.box_file.proofs.plant.Plant.is_own.Goals as goal
 
 pub returns : goal.returns
 returns c =
-    is_there (λ (i : Bor Interface). interface_of i.now) (has_address c.args.address) (map interface_of c.self.inside.interfaces.items) c.find_by_address.result c.is_some.result (c.find_by_address.ensures ∙ ap (λ xs. find (has_address c.args.address) (map interface_of xs)) c.deref.ensures.value) c.is_some.ensures
+    is_there (λ (i : Bor Interface). interface_of i.now) (has_address c.args.address)
+    (map interface_of c.self.inside.interfaces.items) c.find_by_address.result c.is_some.result
+    (c.find_by_address.ensures ∙ ap (λ xs. find (has_address c.args.address) (map interface_of xs))
+    c.deref.ensures.value) c.is_some.ensures
     ∙ ap (λ p. is_own p c.args.address) c.self.view_is

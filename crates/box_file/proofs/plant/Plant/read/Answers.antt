@@ -8,19 +8,28 @@ pub returns-in_default-clause-refused : goal.returns-in_default-clause-refused
 returns-in_default-clause-refused c = inl (λ ls r. none_read c.args.text.now ls (sym (rw c.in_default.is at c.in_ok-lines.ensures)) r, refl)
 
 pub fault_of-requires : goal.fault_of-requires
-fault_of-requires c = lines_as _ _ (ap (map line_tree) c.deref.ensures.value) (lines_found c.args.text.now (map line_tree c.in-Some.lines.items) (sym (rw c.in-Some.is at c.in_ok-lines.ensures))).each
+fault_of-requires c = lines_as _ _ (ap (map line_tree) c.deref.ensures.value)
+    (lines_found c.args.text.now (map line_tree c.in-Some.lines.items)
+    (sym (rw c.in-Some.is at c.in_ok-lines.ensures))).each
 
 pub returns-in-Some-2-clause-refused : goal.returns-in-Some-2-clause-refused
 returns-in-Some-2-clause-refused c =
     let lines = map line_tree c.in-Some.lines.items in
-    inr (lines, lines_found c.args.text.now lines (sym (rw c.in-Some.is at c.in_ok-lines.ensures)), sym (rw (c.deref.ensures.value, c.in-Some-2.is) at c.in_ok-fault.ensures))
+    inr (
+      lines,
+      lines_found c.args.text.now lines (sym (rw c.in-Some.is at c.in_ok-lines.ensures)),
+      sym (rw (c.deref.ensures.value, c.in-Some-2.is) at c.in_ok-fault.ensures),
+    )
 
 pub plant_of-requires-clause-lines : goal.plant_of-requires-clause-lines
-plant_of-requires-clause-lines c = lines_as _ _ (ap (map line_tree) c.deref-2.ensures.value) (lines_found c.args.text.now (map line_tree c.in-Some.lines.items) (sym (rw c.in-Some.is at c.in_ok-lines.ensures))).each
+plant_of-requires-clause-lines c = lines_as _ _ (ap (map line_tree) c.deref-2.ensures.value)
+    (lines_found c.args.text.now (map line_tree c.in-Some.lines.items)
+    (sym (rw c.in-Some.is at c.in_ok-lines.ensures))).each
 
 pub plant_of-requires-clause-range : goal.plant_of-requires-clause-range
 plant_of-requires-clause-range c =
-    rw c.deref-2.ensures.value (idle_right c.args.text.now (map line_tree c.in-Some.lines.items) (sym (rw (c.deref.ensures.value, c.in_default-2.is) at c.in_ok-fault.ensures)))
+    rw c.deref-2.ensures.value (idle_right c.args.text.now (map line_tree c.in-Some.lines.items)
+    (sym (rw (c.deref.ensures.value, c.in_default-2.is) at c.in_ok-fault.ensures)))
 
 pub returns-clause-ok : goal.returns-clause-ok
 returns-clause-ok c =

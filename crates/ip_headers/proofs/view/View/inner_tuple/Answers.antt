@@ -12,4 +12,5 @@ pub returns : goal.returns
 returns c =
     let p = c.args.self.now.packet.now in
     let inner = rest_from c.args.self.now.payload.now 8 ∙ ap (drop 8) c.args.self.now.tail in
-    c.inner_tuple.ensures ∙ ap inner_tuple inner ∙ chosen (is_error p) (inner_tuple (inner_of p)) (sym c.is_error.ensures ∙ c.if-not-is_error.false)
+    c.inner_tuple.ensures ∙ ap inner_tuple inner
+    ∙ chosen (is_error p) (inner_tuple (inner_of p)) (sym c.is_error.ensures ∙ c.if-not-is_error.false)

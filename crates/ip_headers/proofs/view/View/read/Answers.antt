@@ -1,4 +1,5 @@
-use Rattle.std.proofs.Common.{◌≡◌, ◌≢◌, take, drop, get_or, List, ℕ, ◌+◌, ◌-◌, ◌%◌, length, ◌≤◌, ◌<◌, Bool, false, true, sym, ap, ◌∙◌, arith}
+use Rattle.std.proofs.Common.{◌≡◌, ◌≢◌, take, drop, get_or, List, ℕ, ◌+◌, ◌-◌, ◌%◌, length, ◌≤◌}
+use Rattle.std.proofs.Common.{◌<◌, Bool, false, true, sym, ap, ◌∙◌, arith}
 use Rattle.std.proofs.lemmas.Grind.{common_steps}
 use Rattle.byteorder.specs.Endian.{big_number}
 use Rattle.ip_headers.specs.Bytes.{u16_at}
@@ -9,8 +10,9 @@ use Rattle.ip_headers.specs.Passing.{PassesHeader}
 use Rattle.ip_headers.proofs.Faults.{packet_passes, fault_free, too_small, cut, damaged, broken, refused}
 use Rattle.ip_headers.proofs.view.View.read.Goals as goal
 
--- a word of the first n bytes
-read_word : (p : List ℕ) (n i r : ℕ) → n ≤ length p → i + 1 < n → r ≡ big_number 2 (take (length (take n p) - i) (drop i (take n p))) → r ≡ u16_at p i
+-- a 16-bit word of the first n bytes
+read_word : (p : List ℕ) (n i r : ℕ) → n ≤ length p → i + 1 < n
+    → r ≡ big_number 2 (take (length (take n p) - i) (drop i (take n p))) → r ≡ u16_at p i
 read_word p n i r whole lt read = grind (arith, common_steps)
 
 unbroken_by : (p : List ℕ) (word : ℕ) → word ≡ flags_and_offset p → word % 16384 ≡ 0 → is_fragment p ≡ false
@@ -19,7 +21,8 @@ unbroken_by p word is none = grind (arith, is, none)
 broken_by : (p : List ℕ) (word : ℕ) → word ≡ flags_and_offset p → word % 16384 ≢ 0 → is_fragment p ≡ true
 broken_by p word is some = grind (arith, is, some)
 
-head_by : (p : List ℕ) (n : ℕ) → n ≡ total_len p → 20 ≤ header_len p → header_len p ≤ n → n ≤ length p → version p ≡ 4 → ones_sum_of (take (header_len p) (take n p)) ≡ 65535 → PassesHeader p
+head_by : (p : List ℕ) (n : ℕ) → n ≡ total_len p → 20 ≤ header_len p → header_len p ≤ n → n ≤ length p → version p ≡ 4
+    → ones_sum_of (take (header_len p) (take n p)) ≡ 65535 → PassesHeader p
 head_by p n total long head whole four sum = record {
   long = long;
   head = omega arith;
@@ -28,8 +31,9 @@ head_by p n total long head whole four sum = record {
   sum = grind (arith, common_steps, sum);
 }
 
--- what is read of the packet is what the record has
-carried_by : (p payload : List ℕ) (n : ℕ) (answer : Bool) → n ≡ total_len p → 20 ≤ n → n ≤ length p → payload ≡ drop (header_len p) (take n p) → answer ≡ transport_is_malformed (get_or (take n p) 9 0) payload
+-- a field of the packet is that of the record
+carried_by : (p payload : List ℕ) (n : ℕ) (answer : Bool) → n ≡ total_len p → 20 ≤ n → n ≤ length p
+    → payload ≡ drop (header_len p) (take n p) → answer ≡ transport_is_malformed (get_or (take n p) 9 0) payload
     → transport_is_malformed (protocol p) (payload_of p) ≡ answer
 carried_by p payload n answer total long whole of is =
     let ninth : get_or (take n p) 9 0 ≡ get_or p 9 0 = grind (arith, common_steps) in
@@ -42,7 +46,8 @@ total_len-front p n long = grind (arith, common_steps)
 exact_by : (p : List ℕ) (n : ℕ) → n ≡ total_len p → 20 ≤ n → n ≤ length p → length (take n p) ≡ total_len (take n p)
 exact_by p n total long whole = grind (arith, common_steps, total_len-front p n long)
 
-tail_by : (p payload : List ℕ) (n : ℕ) → n ≡ total_len p → 20 ≤ n → n ≤ length p → payload ≡ drop (header_len p) (take n p) → payload ≡ payload_of (take n p)
+tail_by : (p payload : List ℕ) (n : ℕ) → n ≡ total_len p → 20 ≤ n → n ≤ length p
+    → payload ≡ drop (header_len p) (take n p) → payload ≡ payload_of (take n p)
 tail_by p payload n total long whole is =
     let same : header_len (take n p) ≡ header_len p = grind (arith, common_steps) in
     let all : take (total_len (take n p)) (take n p) ≡ take n p = grind (arith, common_steps, exact_by p n total long whole) in
@@ -88,8 +93,9 @@ returns-then-is_malformed-clause-fault c =
     let sum : ones_sum_of (take (header_len p) (take n p)) ≡ 65535 = grind (arith, common_steps, c.ones_sum.ensures.sum) in
     let head = head_by p n total (omega arith) (omega arith) (omega arith) (omega arith) sum in
     let flags = read_word p n 6 c.read_u16.result (omega arith) (omega arith) c.read_u16.ensures in
-    let carried = carried_by p c.split_at.result.1.now n c.is_malformed.result total (omega arith) (omega arith) c.split_at.ensures.back c.is_malformed.ensures in
-    sym (refused p head (unbroken_by p c.read_u16.result flags c.if-read_u16-ne0.false) (carried ∙ c.if-is_malformed.true))
+    let transport = carried_by p c.split_at.result.1.now n c.is_malformed.result total (omega arith)
+    (omega arith) c.split_at.ensures.back c.is_malformed.ensures in
+    sym (refused p head (unbroken_by p c.read_u16.result flags c.if-read_u16-ne0.false) (transport ∙ c.if-is_malformed.true))
 
 pub returns-clause-fault : goal.returns-clause-fault
 returns-clause-fault c =
@@ -99,8 +105,13 @@ returns-clause-fault c =
     let sum : ones_sum_of (take (header_len p) (take n p)) ≡ 65535 = grind (arith, common_steps, c.ones_sum.ensures.sum) in
     let head = head_by p n total (omega arith) (omega arith) (omega arith) (omega arith) sum in
     let flags = read_word p n 6 c.read_u16.result (omega arith) (omega arith) c.read_u16.ensures in
-    let carried = carried_by p c.split_at.result.1.now n c.is_malformed.result total (omega arith) (omega arith) c.split_at.ensures.back c.is_malformed.ensures in
-    sym (fault_free p (record { head = head; unbroken = unbroken_by p c.read_u16.result flags c.if-read_u16-ne0.false; carried = carried ∙ c.if-is_malformed.false }))
+    let transport = carried_by p c.split_at.result.1.now n c.is_malformed.result total (omega arith)
+    (omega arith) c.split_at.ensures.back c.is_malformed.ensures in
+    sym (fault_free p (record {
+      head = head;
+      unbroken = unbroken_by p c.read_u16.result flags c.if-read_u16-ne0.false;
+      transport = transport ∙ c.if-is_malformed.false;
+    }))
 
 pub invariant_of-result-clause-whole : goal.invariant_of-result-clause-whole
 invariant_of-result-clause-whole c =
@@ -110,8 +121,14 @@ invariant_of-result-clause-whole c =
     let sum : ones_sum_of (take (header_len p) (take n p)) ≡ 65535 = grind (arith, common_steps, c.ones_sum.ensures.sum) in
     let head = head_by p n total (omega arith) (omega arith) (omega arith) (omega arith) sum in
     let flags = read_word p n 6 c.read_u16.result (omega arith) (omega arith) c.read_u16.ensures in
-    let carried = carried_by p c.split_at.result.1.now n c.is_malformed.result total (omega arith) (omega arith) c.split_at.ensures.back c.is_malformed.ensures in
-    rw total (fault_free (packet_of p) (packet_passes p (record { head = head; unbroken = unbroken_by p c.read_u16.result flags c.if-read_u16-ne0.false; carried = carried ∙ c.if-is_malformed.false })))
+    let transport = carried_by p c.split_at.result.1.now n c.is_malformed.result total (omega arith)
+    (omega arith) c.split_at.ensures.back c.is_malformed.ensures in
+    rw total (fault_free (packet_of p) (packet_passes p
+    (record {
+      head = head;
+      unbroken = unbroken_by p c.read_u16.result flags c.if-read_u16-ne0.false;
+      transport = transport ∙ c.if-is_malformed.false;
+    })))
 
 pub invariant_of-result-clause-tail : goal.invariant_of-result-clause-tail
 invariant_of-result-clause-tail c =

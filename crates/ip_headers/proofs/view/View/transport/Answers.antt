@@ -3,5 +3,5 @@ use Rattle.ip_headers.proofs.view.View.transport.Goals as goal
 
 pub read-requires : goal.read-requires
 read-requires c =
-    let carried = (passes c.args.self.now.packet.now c.args.self.now.whole).carried in
-    rw (c.protocol.ensures, c.args.self.now.tail) carried
+    let transport = (passes c.args.self.now.packet.now c.args.self.now.whole).transport in
+    rw (c.protocol.ensures, c.args.self.now.tail) transport
