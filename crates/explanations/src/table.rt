@@ -34,13 +34,13 @@ leading zero, and a group is at most 255: `192.168.1.256` and `010` are E03.",
         sentence: "The grammar doesn't allow the text.",
         paragraph: "The text doesn't follow the syntax, as `tcp dport accept`, where a port is
 wanted. A word after a selector is one that its type lists, so `tcp dport
-telnet` is E05, and `tcp dport 23` isn't. docs/LANGUAGE.md has the grammar.",
+telnet` is E05, and `tcp dport 23` isn't. docs/SPEC.md has the grammar.",
     },
     Explanation {
         code: "E06",
         sentence: "The grammar doesn't allow the text, and it has a word of nft(8) that isn't supported.",
         paragraph: "One of the words is one of nft(8) that is left out, such as `reject`:
-docs/LANGUAGE.md, \"What is left out\", lists them. The word counts wherever it
+docs/SPEC.md, section 1.4, lists them. The word counts wherever it
 stands, as a chain's name too, so the fault that keeps the text from being
 read may stand elsewhere.",
     },
