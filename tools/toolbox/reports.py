@@ -6,6 +6,7 @@ from toolbox.commands import Refused
 
 CHUNK = 1 << 20
 OUTCOME = re.compile(rb"^trace \d+ outcome (\w+)$", re.MULTILINE)
+EVENT = re.compile(rb"^(trace|log) [0-9]+ (.*)$", re.MULTILINE)
 TOTAL = re.compile(rb"[a-z]+(?: [a-z]+)? [0-9]+")
 COUNTER = re.compile(rb"counter (\S+ \S+ \S+) ([0-9]+) ([0-9]+) packets ([0-9]+) bytes ([0-9]+)")
 DECISION = re.compile(rb"(\S+ \S+ \S+) ([0-9]+|policy) (.+)", re.DOTALL)
@@ -91,47 +92,57 @@ class Summary:
 
     def __init__(self, path, name=None):
         self.name = name or path
+        self.counted = Counter()  # what stands behind `trace N ` or `log N `, with that word
+        self.counters, self.totals = [], {}
+        rest, lines = b"", 0
+        try:
+            with open(path, "rb") as file:
+                while chunk := file.read(CHUNK):
+                    rest += chunk
+                    end = rest.rfind(b"\n") + 1
+                    self.take_lines(rest[:end], lines)
+                    lines += rest.count(b"\n", 0, end)
+                    rest = rest[end:]
+        except OSError as error:
+            raise Refused(f"{path}: {error.strerror}") from None
         self.events, self.outcomes = Counter(), Counter()
-        self.counters, self.totals, self.records = [], {}, 0
-        self.lines = 0
-        for line in lines_of(path):
-            self.lines += 1
-            self.take(line)
-
-    def take(self, line):
-        word, _, rest = line.partition(b" ")
-        what = rest.partition(b" ")[2]
-        if word == b"trace" and what:
-            if what.startswith(b"outcome "):
-                self.outcomes[text_of(what[8:])] += 1
-                self.records += 1
+        for (word, what), number in self.counted.items():
+            if word == b"trace" and what.startswith(b"outcome "):
+                self.outcomes[text_of(what[8:])] += number
             else:
-                self.events[what] += 1
-        elif word == b"log" and what:
-            self.events[b"log " + what] += 1
-        else:
-            self.take_total(line)
+                self.events[event_of(b"log " + what if word == b"log" else what)] += number
 
-    def take_total(self, line):
+    def take_lines(self, lines, number):
+        """Takes whole lines, of which the first is line `number` + 1 of the report."""
+        events = EVENT.findall(lines)
+        self.counted.update(events)
+        if len(events) == lines.count(b"\n"):
+            return
+        for line in lines.split(b"\n")[:-1]:
+            number += 1
+            if not EVENT.fullmatch(line):
+                self.take_total(line, number)
+
+    def take_total(self, line, number):
         parts = COUNTER.fullmatch(line)
         if parts:
             self.counters.append(RuleCounter(text_of(parts[1]), *map(int, parts.groups()[1:])))
         elif TOTAL.fullmatch(line):
-            name, _, number = text_of(line).rpartition(" ")
-            self.totals[name] = int(number)
+            name, _, total = text_of(line).rpartition(" ")
+            self.totals[name] = int(total)
         else:
-            raise Refused(f"{self.name}: line {self.lines} is none of a report: {text_of(line)}")
+            raise Refused(f"{self.name}: line {number} is none of a report: {text_of(line)}")
 
     def check_whole(self):
         """Refuses a report that broke off, or that was made without --trace."""
         if "torn" not in self.totals or "records" not in self.totals:
             raise Refused(f"{self.name}: the report isn't whole: it has no line `torn`")
-        if self.records != self.totals["records"]:
+        if self.outcomes.total() != self.totals["records"]:
             raise Refused(f"{self.name}: the report lacks outcomes: run nftrun with --trace")
 
     def decisions(self):
         """Each decision with how often it was taken."""
-        return {event_of(event): number for event, number in self.events.items() if not event.startswith(b"log ")}
+        return {event: number for event, number in self.events.items() if isinstance(event, Decision)}
 
     def logs(self):
-        return {event_of(event): number for event, number in self.events.items() if event.startswith(b"log ")}
+        return {event: number for event, number in self.events.items() if isinstance(event, Log)}
