@@ -51,6 +51,8 @@ class Replay:
         self.rounds, self.settled = 0, as_captured
         if as_captured:
             self.run()
+            if not flows.copies or flows.aligned:
+                flows.join(self.decide(False).joined)
         while not self.settled and self.rounds < MOST_ROUNDS:
             self.rounds += 1
             self.run()
@@ -87,7 +89,7 @@ class Replay:
     def leaving_packets(self):
         """Of each record in order (from 1) the frame that left, or None."""
         leaving = records(self.files.leaving)
-        for outcome in memoryview(self.outcomes)[1:]:
+        for outcome in self.outcomes[1:]:
             yield next(leaving)[6] if outcome == PASSED else None
 
     def redirected(self):
@@ -216,8 +218,10 @@ class Decisions:
 
     def look_for_join(self, record, flow):
         """Whether this flow is the other side of an earlier one, as what left of that one tells."""
-        value = self.expected.get(self.flows.tuple_of(record))
-        if flow not in self.joined and value is not None and value >> 1 != flow:
+        value = self.expected.pop(self.flows.tuple_of(record), None)
+        if value is not None and value >> 1 in self.joined:
+            value = self.joined[value >> 1] ^ value & 1
+        if value is not None and value >> 1 != flow:
             self.joined[flow] = value
 
     def learn(self, record, flow, side, frame):

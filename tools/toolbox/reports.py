@@ -37,23 +37,28 @@ def lines_of(path):
 
 
 def records_of(path):
-    """Each record of a report with a trace, as (number, events, outcome). Events are what stands behind `trace N `, and
-    `log` with what stands behind `log N `, all as bytes; `event_of` reads them. A report without a trace gives nothing,
-    and one that broke off gives what is whole."""
-    events = []
+    """Each record of a report, as (number, events, outcome). Events are what stands behind `trace N `, and `log ` with
+    what stands behind `log N `, all as bytes; `event_of` reads them. Without a trace there are records only where
+    something was logged, and the outcome is None; a report that broke off gives what is whole."""
+    current, events = None, []
     for line in lines_of(path):
         word, _, rest = line.partition(b" ")
-        if word == b"trace":
-            number, _, what = rest.partition(b" ")
-            if what.startswith(b"outcome "):
-                yield int(number), events, what[8:]
-                events = []
-            else:
-                events.append(what)
-        elif word == b"log":
-            events.append(b"log " + rest.partition(b" ")[2])
+        if word != b"trace" and word != b"log":
+            break
+        number, _, what = rest.partition(b" ")
+        if number != current:
+            if events:
+                yield int(current), events, None
+            current, events = number, []
+        if word == b"log":
+            events.append(b"log " + what)
+        elif what.startswith(b"outcome "):
+            yield int(number), events, what[8:]
+            events = []
         else:
-            return
+            events.append(what)
+    if events:
+        yield int(current), events, None
 
 
 def event_of(event):
