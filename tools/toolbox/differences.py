@@ -5,7 +5,7 @@ from collections import Counter, namedtuple
 
 from toolbox.captures import records
 from toolbox.flows import BEGUN, SIDE
-from toolbox.packets import ANSWER, ASK, TCP, UDP, address_text, describe
+from toolbox.packets import ANSWER, ASK, TCP, UDP, address_text, describe, inverse
 from toolbox.replay import ELSEWHERE, LOCAL, NOT_SENT, PASSED
 from toolbox.reports import Decision, event_of, records_of
 from toolbox.rulesets import TRANSLATIONS, read_ruleset
@@ -124,17 +124,17 @@ class Group:
         self.hosts, self.ports, self.ranges = set(), Counter(), []
         self.filtered = set()  # destination ports and kinds, on both sides of a translation
 
-    def take(self, record, begins, ends):
-        """Takes a record whose flow has the ends (13 bytes, as its first packet) or none."""
+    def take(self, record, begins, key):
+        """Takes a record whose flow has the tuple `key`, as its first packet, or none."""
         self.packets += 1
         self.flows += begins
-        if ends is not None:
+        if key is not None:
             if begins and len(self.hosts) < MOST_TOLD_APART:
-                self.hosts.add(ends[:4])
+                self.hosts.add(key[:4])
             if begins and len(self.ports) < MOST_TOLD_APART:
-                self.ports[ends[10:]] += 1
+                self.ports[key[10:]] += 1
             if len(self.filtered) < MOST_TOLD_APART:
-                self.filtered.add(ends[10:])
+                self.filtered.add(key[10:])
         if self.ranges and self.ranges[-1][1] == record - 1:
             self.ranges[-1][1] = record
         elif len(self.ranges) <= MOST_RANGES:
@@ -200,7 +200,7 @@ class Groups:
             group = Group(len(self.all) + 1, *key, (record, describe(data, at if len(data) >= at else None)))
             self.by_key[key] = group
             self.all.append(group)
-        group.take(record, self.begins(flow, group), self.ends_of(record))
+        group.take(record, self.begins(flow, group), self.tuple_of(record))
         if not flow and len(data) >= self.flows_of.at + 20 and len(group.hosts) < MOST_TOLD_APART:
             group.hosts.add(data[self.flows_of.at + 12:self.flows_of.at + 16])
         group.not_sent += bool(unsent)
@@ -230,14 +230,12 @@ class Groups:
         self.several.add((flow, group.number))
         return not known
 
-    def ends_of(self, record):
+    def tuple_of(self, record):
         """The tuple of the flow's side 0, as this record has it."""
         flows = self.flows_of
-        flow = flows.of[record]
-        if not flow:
+        if not flows.of[record]:
             return None
-        ends, kind = bytes(flows.ends[12 * record:12 * record + 12]), bytes(flows.kind[flow:flow + 1])
-        return (ends[6:] + ends[:6] if flows.role[record] & SIDE else ends) + kind
+        return inverse(flows.tuple_of(record)) if flows.role[record] & SIDE else flows.tuple_of(record)
 
 
 def without_beginning(flows):

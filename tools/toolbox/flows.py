@@ -7,33 +7,36 @@ what a first run made of it (`Flows.join`). Side 0 is that of the flow's first r
 from array import array
 
 from toolbox.captures import ETHERNET, IPV4, LINK_LENGTHS, LINUX_SLL2, PROTOCOL_AT, SENT_BY_US, TO_US, header_of, records
-from toolbox.packets import (
-    ACK, FIN, RST, SYN, TCP, error_tuple_at, identity, inverse, inverse_kind, tuple_at)
+from toolbox.packets import ACK, FIN, RST, SYN, TCP, error_tuple_at, identity, inverse, tuple_at
 
 # Of a record: its side, and what it is. An opener comes before any answer to its flow.
 SIDE, OPENER, SYN_ACK, ERROR = 1, 2, 4, 8
 # Of a flow. BEGUN: its beginning is in the capture. TRANSLATED, LEARNED: what Linux made of its tuple is another, is
-# known. SAW_SYN_ACK, ANSWERED_MIDWAY: of TCP, whether an answer came to a SYN, or to a flow without one.
+# known. SAW_SYN_ACK, ANSWERED_MIDWAY: of TCP, whether an answer came to a SYN, or to a flow without one. OWN: the box
+# began it itself.
 BEGUN, TRANSLATED, LEARNED, SAW_SYN_ACK, ANSWERED_MIDWAY, OWN = 1, 2, 4, 8, 16, 32
 
 MOST_READ = 160  # bytes of a record that are looked at: all headers, also those within an ICMP error
 WINDOW = 4096  # how many packets may come between one and its outgoing copy
 MOST_ALIKE = 15  # packets of one identity that wait for their copies
-NO_ENDS = bytes(12)
+SURELY_KEPT = 10  # seconds for which Linux keeps any connection that had a packet
 
 
 class Flows:
-    """Of each record its flow (0: none), role, place in the file and tuple, 25 bytes a record; of each flow some 40 bytes.
+    """Of each record its flow (0: none), role, tuple and place in the file, 17 bytes a record; of each flow some 40 bytes;
+    and the tuples.
 
-    `of`, `role`, `offset` and `ends` go by the record's number (from 1), `first`, `answered`, `acked`, `flags` and `kind`
-    by the flow's. `answered` is the record of the first answer; `acked` the first record of the client behind a SYN and
+    `of`, `role`, `seen` and `offset` go by the record's number (from 1), `first`, `answered`, `acked`, `flags` and `kind`
+    by the flow's. `seen` is the place of the record's tuple in `tuples`; of an ICMP error the tuple of the answer to the
+    datagram in it. `answered` is the record of the first answer; `acked` the first record of the client behind a SYN and
     ACK. `copies` and `own` count outgoing copies, and those that no packet came for: the box's own."""
 
     def __init__(self, path, box, use_copies=True):
         header = header_of(path)
         self.path, self.link_type, self.aligned = path, header.link_type, header.aligned
         self.at = LINK_LENGTHS[header.link_type]
-        self.of, self.role, self.offset, self.ends = array("I", [0]), bytearray(1), array("Q", [0]), bytearray(12)
+        self.of, self.role, self.seen, self.offset = array("I", [0]), bytearray(1), array("I", [0]), array("Q", [0])
+        self.tuples = [bytes(13)]
         self.first, self.answered, self.acked = array("I", [0]), array("I", [0]), array("I", [0])
         self.flags, self.kind = bytearray(1), bytearray(1)
         self.copies = self.own = 0
@@ -46,11 +49,8 @@ class Flows:
         return len(self.first) - 1
 
     def tuple_of(self, record):
-        """The tuple of a record of a flow, with its flow's kind in its direction."""
-        flow = self.of[record]
-        kind = self.kind[flow:flow + 1]
-        ends = bytes(self.ends[12 * record:12 * record + 12])
-        return ends + (inverse_kind(kind) if self.role[record] & SIDE else bytes(kind))
+        """The tuple of a record of a flow."""
+        return self.tuples[self.seen[record]]
 
     def join(self, joined):
         """Makes one of two flows each: `joined` has of a flow the one (times two, and side) that its side 0 is."""
@@ -76,76 +76,96 @@ class Reader:
         self.flows, self.at = flows, flows.at
         self.use_copies = use_copies and flows.link_type == LINUX_SLL2
         self.limits, self.indices = box.limits(), box.index_bytes()
-        self.find = {}  # tuple: flow times two, and side
-        self.last, self.begun_with = array("I", [0]), array("q", [-1])  # by the flow: its last second, its SYN's number
+        self.find = {}  # by tuple its place in `tuples`
+        self.owner = array("I", [0])  # by that place the flow times two, and side
+        # by the flow: its last second, its SYN's number, the sides of which it is known how they leave (1, 2)
+        self.last, self.begun_with, self.learned = array("I", [0]), array("q", [-1]), bytearray(1)
         self.young, self.old, self.waiting = {}, {}, 0  # by identity: packets whose copies may come
         self.syns, self.old_syns = {}, {}  # by the number that acknowledges them
         self.sweep_at = 1 << 16
-        self.seen = NO_ENDS
 
     def read(self):
         flows = self.flows
-        of, role, offsets, ends = flows.of.append, flows.role.append, flows.offset.append, flows.ends.extend
-        smallest, latest = self.at + 28, 0
+        of, role, seen, offsets = flows.of.append, flows.role.append, flows.seen.append, flows.offset.append
+        smallest, latest, indices, enter = self.at + 28, 0, self.indices, self.enter
         protocol_at, is_sll2, is_ethernet = (
             PROTOCOL_AT[flows.link_type], flows.link_type == LINUX_SLL2, flows.link_type == ETHERNET)
         for number, seconds, _, offset, _, _, data in records(flows.path, MOST_READ):
-            value = what = 0
-            latest = seconds = max(seconds, latest)
+            value = what = place = 0
+            if seconds > latest:
+                latest = seconds
             if len(data) >= smallest and (protocol_at is None or data[protocol_at:protocol_at + 2] == IPV4):
                 if is_sll2:
-                    if data[4:8] in self.indices:
+                    if data[4:8] in indices:
                         if data[10] == TO_US:
-                            value, what = self.enter(number, seconds, data)
+                            value, what, place = enter(number, latest, data)
                         elif data[10] == SENT_BY_US:
-                            self.leave(number, seconds, data)
+                            self.leave(number, latest, data)
                 elif not is_ethernet or not data[0] & 1:
-                    value, what = self.enter(number, seconds, data)
+                    value, what, place = enter(number, latest, data)
             of(value >> 1)
             role(what)
+            seen(place)
             offsets(offset)
-            ends(self.seen if value else NO_ENDS)
+
+    def place_of(self, key, value):
+        """The place of a tuple, which from now on is that of this flow and side."""
+        place = self.find.get(key)
+        if place is None:
+            place = self.find[key] = len(self.owner)
+            self.flows.tuples.append(key)
+            self.owner.append(value)
+        else:
+            self.owner[place] = value
+        return place
 
     # Packets that enter
 
     def enter(self, number, seconds, data):
-        """The flow of an entering packet (times two, and its side), and its role."""
-        found = tuple_at(data, self.at)
-        if found is None:
+        """The flow of an entering packet (times two, and its side), its role, and its tuple's place."""
+        key = tuple_at(data, self.at)
+        if key is None:
             return self.enter_error(number, data)
-        key, inverted, behind = found
-        self.seen = key[:12]
-        is_tcp = key[12] == TCP
-        flags = data[behind + 13] & (FIN | SYN | RST | ACK) if is_tcp else 0
-        value = self.find.get(key)
-        if value is None:
-            value = self.find.get(inverted)
-            if value is not None:
-                value ^= 1
-        if value is not None and self.begins_anew(value >> 1, seconds, key, flags, data, behind):
-            value = None
-        if value is None and flags & (SYN | ACK) == SYN | ACK:
-            value = self.by_handshake(key, data[behind + 8:behind + 12])
-        if value is None:
-            value = self.begin(number, key, inverted, flags, data, behind)
-            if len(self.find) > self.sweep_at:
-                self.sweep(seconds)
+        flows, is_tcp, flags = self.flows, key[12] == TCP, 0
+        if is_tcp:
+            flags = data[self.at + 4 * (data[self.at] & 15) + 13] & (FIN | SYN | RST | ACK)
+        place = self.find.get(key)
+        value = self.by_inverse(key) if place is None else self.owner[place]
+        if value and (flags == SYN or seconds - self.last[value >> 1] >= self.limits[key[12]]):
+            value = self.still(value, seconds, key, flags, data)
+        if not value and flags & (SYN | ACK) == SYN | ACK:
+            value = self.by_handshake(key, data)
+        if not value:
+            value = self.begin(number, seconds, key, flags, data)
+            place = None
+        if place is None:
+            place = self.place_of(key, value)
         flow, side = value >> 1, value & 1
+        if self.use_copies and (not self.learned[flow] >> side & 1 or seconds - self.last[flow] >= SURELY_KEPT):
+            self.wait(data, (value, key, number))
         self.last[flow] = seconds
-        if self.use_copies:
-            self.wait(identity(data, self.at, behind), (value, key, number))
-        return value, side | (self.role_of_tcp(number, flow, side, flags) if is_tcp
-                              else self.role_of_other(number, flow, side))
+        if is_tcp:
+            return value, side if flows.acked[flow] else side | self.role_of_tcp(number, flow, side, flags), place
+        return value, side if flows.answered[flow] else side | self.role_of_other(number, flow, side), place
 
-    def begins_anew(self, flow, seconds, key, flags, data, behind):
-        """Whether a packet of a known tuple is the first of another flow: a lone SYN of another number, or it comes when
-        the flow has expired."""
-        if flags == SYN and self.begun_with[flow] != int.from_bytes(data[behind + 4:behind + 8], "big"):
-            return True
-        return seconds - self.last[flow] >= self.limits[key[12]]
+    def by_inverse(self, key):
+        """The flow and side of a tuple that comes for the first time, by its inverse; 0 if none."""
+        place = self.find.get(inverse(key))
+        return 0 if place is None else self.owner[place] ^ 1
 
-    def wait(self, mark, entry):
-        young = self.young
+    def still(self, value, seconds, key, flags, data):
+        """The flow of a packet of a known tuple, or 0 if it is the first of another: a lone SYN of another number, or one
+        that comes when the flow has expired."""
+        flow = value >> 1
+        if seconds - self.last[flow] >= self.limits[key[12]]:
+            return 0
+        if flags == SYN and self.begun_with[flow] != sequence_of(data, self.at):
+            return 0
+        return value
+
+    def wait(self, data, entry):
+        """Has a packet wait for its copy."""
+        mark, young = identity(data, self.at), self.young
         # packets all alike mustn't cost more and more
         young[mark] = young[mark][-MOST_ALIKE:] + (entry,) if mark in young else (entry,)
         self.waiting += 1
@@ -161,12 +181,11 @@ class Reader:
             return 0 if flows.answered[flow] else OPENER
         if not flows.answered[flow]:
             flows.answered[flow] = number
-        if not flows.acked[flow]:
-            if side == 1 and flags & (SYN | ACK) == SYN | ACK:
-                flows.flags[flow] = known | SAW_SYN_ACK
-                return SYN_ACK
-            if side == 0 and known & SAW_SYN_ACK:
-                flows.acked[flow] = number
+        if side == 1 and flags & (SYN | ACK) == SYN | ACK:
+            flows.flags[flow] = known | SAW_SYN_ACK
+            return SYN_ACK
+        if side == 0 and known & SAW_SYN_ACK:
+            flows.acked[flow] = number
         return 0
 
     def role_midway(self, number, flow, side, flags):
@@ -184,8 +203,6 @@ class Reader:
         return 0
 
     def role_of_other(self, number, flow, side):
-        if self.flows.answered[flow]:
-            return 0
         if side == 0:
             return OPENER
         self.flows.answered[flow] = number
@@ -195,43 +212,46 @@ class Reader:
         """An ICMP error belongs to the flow of the datagram in it, on the side that answers that."""
         key = error_tuple_at(data, self.at)
         if key is None:
-            return 0, 0
-        value = self.find.get(key)
-        if value is None:
-            value = self.find.get(inverse(key))
-            if value is None:
-                return 0, 0
-            value ^= 1
-        self.seen = key[:12]
+            return 0, 0, 0
+        place = self.find.get(key)
+        value = self.by_inverse(key) if place is None else self.owner[place]
+        if not value:
+            return 0, 0, 0
         if value & 1 and not self.flows.answered[value >> 1]:
             self.flows.answered[value >> 1] = number
-        return value, ERROR | value & 1
+        return value, ERROR | value & 1, self.place_of(key, value) if place is None else place
 
-    def begin(self, number, key, inverted, flags, data, behind):
+    def begin(self, number, seconds, key, flags, data):
+        """Begins a flow; whatever had its tuple, or the inverse, hasn't any longer."""
         flows, flow = self.flows, len(self.flows.first)
-        sequence = int.from_bytes(data[behind + 4:behind + 8], "big") if flags == SYN else -1
         flows.first.append(number)
         flows.answered.append(0)
         flows.acked.append(0)
         flows.flags.append(0 if key[12] == TCP and flags != SYN else BEGUN)
         flows.kind.append(key[12])
-        self.last.append(0)
-        self.begun_with.append(sequence)
-        self.find.pop(inverted, None)
-        self.find[key] = 2 * flow
+        self.last.append(seconds)
+        self.learned.append(0)
+        self.begun_with.append(sequence_of(data, self.at) if flags == SYN else -1)
+        place = self.find.get(key)
+        if place is not None:
+            self.learned[self.owner[place] >> 1] = 0
+        self.find.pop(inverse(key), None)
+        self.place_of(key, 2 * flow)
         if flags == SYN:
-            self.syns[(sequence + 1 & 0xFFFFFFFF).to_bytes(4, "big")] = flow, key
+            self.syns[self.begun_with[flow] + 1 & 0xFFFFFFFF] = flow, key
             if len(self.syns) > WINDOW:
                 self.old_syns, self.syns = self.syns, {}
+        if len(self.find) > self.sweep_at:
+            self.sweep(seconds)
         return 2 * flow
 
-    def by_handshake(self, key, acknowledged):
+    def by_handshake(self, key, data):
         """The flow of a SYN and ACK whose tuple isn't known, by the SYN that it acknowledges, if one end is the same."""
-        flow, asked = self.syns.get(acknowledged) or self.old_syns.get(acknowledged) or (None, None)
-        if flow is None or asked[6:12] != key[:6] and asked[:6] != key[6:12]:
-            return None
+        acknowledged = sequence_of(data, self.at, 8)
+        flow, asked = self.syns.get(acknowledged) or self.old_syns.get(acknowledged) or (0, None)
+        if flow == 0 or not has_common_end(asked, key):
+            return 0
         self.flows.flags[flow] |= TRANSLATED | LEARNED
-        self.find[key] = 2 * flow + 1
         return 2 * flow + 1
 
     # Copies of what the box sent
@@ -240,29 +260,37 @@ class Reader:
         """An outgoing copy: what Linux made of a packet that came, or a packet of the box's own."""
         flows = self.flows
         flows.copies += 1
-        found = tuple_at(data, self.at) if self.use_copies else None
-        if found is None:
+        key = tuple_at(data, self.at) if self.use_copies else None
+        if key is None:
             return
-        key, inverted, behind = found
-        came = self.take_waiting(identity(data, self.at, behind), key)
+        inverted = inverse(key)
+        place = self.find.get(inverted)
+        value = 0 if place is None else self.owner[place] ^ 1
+        if value and self.learned[value >> 1] >> (value & 1) & 1:
+            return  # a packet of this side has left so before
+        came = self.take_waiting(identity(data, self.at), key)
         if came is not None:
-            value, as_it_came, its_number = came
-            if key != as_it_came:
-                value = self.adopted(value, as_it_came, its_number, seconds, inverted)
-                flows.flags[value >> 1] |= TRANSLATED
-                self.find[inverted] = value ^ 1
-            flows.flags[value >> 1] |= LEARNED
-            return
-        value = self.find.get(inverted)
-        if value is not None:
-            if value & 1 == 0 and not flows.answered[value >> 1]:
+            self.learn(key, inverted, seconds, *came)
+        elif value:
+            # an answer of the box itself
+            if value & 1 and not flows.answered[value >> 1]:
                 flows.answered[value >> 1] = number
-            return
-        flows.own += 1
-        if key not in self.find:
-            # a question of the box's own: the answers to it begin nothing
-            flow = self.begin(number, key, inverted, 0, data, behind) >> 1
-            flows.flags[flow], self.last[flow] = OWN, seconds
+        else:
+            flows.own += 1
+            if key not in self.find:
+                # a question of the box's own: the answers to it begin nothing
+                flow = self.begin(number, seconds, key, 0, data) >> 1
+                flows.flags[flow] = OWN
+
+    def learn(self, key, inverted, seconds, value, as_it_came, its_number):
+        """A packet left with the tuple `key`: what answers it belongs to its flow."""
+        flows = self.flows
+        if key != as_it_came:
+            value = self.adopted(value, as_it_came, its_number, seconds, inverted)
+            flows.flags[value >> 1] |= TRANSLATED
+        flows.flags[value >> 1] |= LEARNED
+        self.place_of(inverted, value ^ 1)
+        self.learned[value >> 1] |= 1 << (value & 1)
 
     def take_waiting(self, mark, key):
         """The packet that came as this copy's: of several alike the one that changed least."""
@@ -281,12 +309,13 @@ class Reader:
     def adopted(self, value, as_it_came, number, seconds, inverted):
         """The flow of a translated packet: that of `inverted`, if such a one lives and the packet seemed to begin
         another, since the copy that would have told was lost."""
-        flows, other, flow = self.flows, self.find.get(inverted), value >> 1
-        if (other is None or other >> 1 == flow or flows.first[flow] != number or self.begun_with[flow] >= 0
+        flows, flow, place = self.flows, value >> 1, self.find.get(inverted)
+        other = 0 if place is None else self.owner[place]
+        if (not other or other >> 1 == flow or flows.first[flow] != number or self.begun_with[flow] >= 0
                 or seconds - self.last[other >> 1] >= self.limits[inverted[12]]):
             return value
         value = other ^ 1
-        self.find[as_it_came] = value
+        self.place_of(as_it_came, value)
         flow, side = value >> 1, value & 1
         flows.of[number], flows.role[number] = flow, side
         self.last[flow] = seconds
@@ -296,10 +325,24 @@ class Reader:
 
     def sweep(self, seconds):
         """Forgets the tuples of what has expired."""
-        self.find = {key: value for key, value in self.find.items()
-                     if seconds - self.last[value >> 1] < self.limits[key[12]]}
+        owner, last, limits = self.owner, self.last, self.limits
+        self.find = {key: place for key, place in self.find.items() if seconds - last[owner[place] >> 1] < limits[key[12]]}
         self.sweep_at = max(1 << 16, 2 * len(self.find))
 
 
+def sequence_of(data, at, place=4):
+    """The sequence number of TCP; 8 bytes behind its beginning stands the acknowledgement number."""
+    behind = at + 4 * (data[at] & 15) + place
+    return int.from_bytes(data[behind:behind + 4], "big")
+
+
+def has_common_end(asked, answer):
+    """Whether a tuple of an answer has an end of the question's: only the other one is translated."""
+    back = inverse(answer)
+    return (asked[4:8] == back[4:8] and asked[10:12] == back[10:12]) or (asked[:4] == back[:4] and asked[8:10] == back[8:10])
+
+
 def likeness(came, left):
-    return (came[6:12] == left[6:12]) + (came[:6] == left[:6]) + (came[4:6] == left[4:6]) / 2
+    """How much of a tuple stayed: the destination, the source, at least its port."""
+    same_port = came[8:10] == left[8:10]
+    return ((came[4:8] == left[4:8] and came[10:12] == left[10:12]) + (came[:4] == left[:4] and same_port) + same_port / 2)

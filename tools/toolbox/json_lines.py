@@ -43,13 +43,13 @@ def events_cache(ruleset=None):
 def tuple_json(key):
     """The parts of a tuple."""
     kind = key[12]
-    told = {"protocol": PROTOCOL_NAMES.get(kind, str(kind)), "saddr": address_text(key[:4]), "daddr": address_text(key[6:10])}
+    told = {"protocol": PROTOCOL_NAMES.get(kind, str(kind)), "saddr": address_text(key[:4]), "daddr": address_text(key[4:8])}
     if kind in (TCP, UDP):
-        told["sport"], told["dport"] = int.from_bytes(key[4:6], "big"), int.from_bytes(key[10:12], "big")
+        told["sport"], told["dport"] = int.from_bytes(key[8:10], "big"), int.from_bytes(key[10:12], "big")
     elif kind in (ICMP, 255):
         told["protocol"] = "icmp"
         told["type"] = ECHO_REQUEST if kind == ICMP else ECHO_REPLY
-        told["id"] = int.from_bytes(key[4:6] if kind == ICMP else key[10:12], "big")
+        told["id"] = int.from_bytes(key[8:10] if kind == ICMP else key[10:12], "big")
     return told
 
 
@@ -75,16 +75,11 @@ def packet_json(data, at):
     return told
 
 
-def ports_json(key):
-    """The JSON of a TCP or UDP packet: 12 bytes of addresses and ports as they stand in it, and the protocol."""
-    return json.dumps(tuple_json(key[:4] + key[8:10] + key[4:8] + key[10:]))
-
-
 class PacketTexts:
-    """The JSON of packets; that of TCP and UDP without IP options is kept by their ends."""
+    """The JSON of packets; that of TCP and UDP without IP options is kept by their tuple."""
 
     def __init__(self):
-        self.kept = Cache(ports_json)
+        self.kept = Cache(lambda key: json.dumps(tuple_json(key)))
 
     def text(self, data, at):
         if at is not None and len(data) >= at + 24 and data[at] == 0x45 and data[at + 9] in (TCP, UDP):

@@ -1,8 +1,8 @@
 """IPv4 packets: their tuples, what translation leaves of them, other ends for them, and words for them.
 
-An end is 6 bytes, address and port. A tuple is 13: source, destination and kind, where the kind is the protocol's
-number, but 1 for an echo request and 255 (which is reserved) for an echo reply; an echo's identifier stands in a
-port's place, as conntrack has it.
+A tuple is 13 bytes: source and destination address, source and destination port, as they stand in a packet, and the
+kind. The kind is the protocol's number, but 1 for an echo request and 255 (which is reserved) for an echo reply; an
+echo's identifier stands in a port's place, as conntrack has it. An end is 6 bytes, address and port.
 """
 import struct
 
@@ -18,28 +18,24 @@ ICMP_NAMES = {0: "echo-reply", 3: "destination-unreachable", 4: "source-quench",
 
 
 def tuple_at(data, at, cut=False):
-    """Of the IPv4 packet that begins at `at`: its tuple, the inverse, and where its transport header stands; None where
-    it has no tuple (a fragment, an ICMP error, a header that doesn't fit). `cut` allows 8 bytes of transport header."""
-    if len(data) < at + 24 or data[at] >> 4 != 4 or data[at + 6] & 0x3F or data[at + 7]:
+    """The tuple of the IPv4 packet that begins at `at`; None where it has none (a fragment, an ICMP error, a header that
+    doesn't fit). `cut` allows a transport header of 8 bytes."""
+    size = len(data)
+    if size < at + 24 or data[at] >> 4 != 4 or data[at + 6] & 0x3F or data[at + 7]:
         return None
-    behind = at + 4 * (data[at] & 15)
-    protocol = data[at + 9]
-    if len(data) < behind + (14 if protocol == TCP else 8) and not (cut and len(data) >= behind + 8):
+    protocol, behind = data[at + 9], at + 4 * (data[at] & 15)
+    if size < behind + (14 if protocol == TCP else 8) and not (cut and size >= behind + 8):
         return None
     if protocol == TCP or protocol == UDP:
-        kind = data[at + 9:at + 10]
-        source = data[at + 12:at + 16] + data[behind:behind + 2]
-        target = data[at + 16:at + 20] + data[behind + 2:behind + 4]
-        return source + target + kind, target + source + kind, behind
-    source, target = data[at + 12:at + 16], data[at + 16:at + 20]
+        if behind == at + 20:
+            return data[at + 12:at + 24] + data[at + 9:at + 10]
+        return data[at + 12:at + 20] + data[behind:behind + 4] + data[at + 9:at + 10]
     if protocol != ICMP:
-        kind = data[at + 9:at + 10]
-        return source + NO_PORT + target + NO_PORT + kind, target + NO_PORT + source + NO_PORT + kind, behind
-    identifier = data[behind + 4:behind + 6]
+        return data[at + 12:at + 20] + NO_PORT + NO_PORT + data[at + 9:at + 10]
     if data[behind] == ECHO_REQUEST:
-        return source + identifier + target + NO_PORT + ASK, target + NO_PORT + source + identifier + ANSWER, behind
+        return data[at + 12:at + 20] + data[behind + 4:behind + 6] + NO_PORT + ASK
     if data[behind] == ECHO_REPLY:
-        return source + NO_PORT + target + identifier + ANSWER, target + identifier + source + NO_PORT + ASK, behind
+        return data[at + 12:at + 20] + NO_PORT + data[behind + 4:behind + 6] + ANSWER
     return None
 
 
@@ -52,22 +48,33 @@ def error_tuple_at(data, at):
         return None
     # the datagram is cut, so its own length isn't asked
     inner = tuple_at(data, behind + 8, cut=True)
-    return inner and inner[1]
+    return inner and inverse(inner)
 
 
 def inverse_kind(kind):
-    return {ASK[0]: ANSWER, ANSWER[0]: ASK}.get(kind[0], kind)
+    return {ASK: ANSWER, ANSWER: ASK}.get(kind, kind)
 
 
 def inverse(key):
     """The tuple of what answers."""
-    return key[6:12] + key[:6] + inverse_kind(key[12:])
+    kind = key[12:]
+    if kind == ASK or kind == ANSWER:
+        kind = inverse_kind(kind)
+    return key[4:8] + key[:4] + key[10:12] + key[8:10] + kind
 
 
-def identity(data, at, behind):
+def source_end(key):
+    return key[:4] + key[8:10]
+
+
+def destination_end(key):
+    return key[4:8] + key[10:12]
+
+
+def identity(data, at):
     """What translation and forwarding leave of a packet, to know it again in its outgoing copy: length, identification,
     and of the transport what isn't a port or a checksum."""
-    protocol = data[at + 9]
+    protocol, behind = data[at + 9], at + 4 * (data[at] & 15)
     if protocol == TCP:
         return data[at + 2:at + 6] + data[behind + 4:behind + 16]
     if protocol == UDP:
@@ -106,9 +113,9 @@ def checksum(data):
 
 def corrected(check, old, new):
     """The checksum over words that change from `old` to `new` (RFC 1624): a wrong one stays as wrong as it was."""
+    words = f">{len(old) // 2}H"
     total = 0xFFFF - int.from_bytes(check, "big")
-    for place in range(0, len(old), 2):
-        total += 0xFFFF - int.from_bytes(old[place:place + 2], "big") + int.from_bytes(new[place:place + 2], "big")
+    total += 0xFFFF * (len(old) // 2) - sum(struct.unpack(words, old)) + sum(struct.unpack(words, new))
     while total >> 16:
         total = (total & 0xFFFF) + (total >> 16)
     return (0xFFFF - total).to_bytes(2, "big")
@@ -137,12 +144,12 @@ def change_end(packet, at, behind, address_place, port_place, end):
     """Makes `end` the address and the port that stand at these places, with all checksums over them."""
     protocol = packet[at + 9]
     check = checksum_place(packet, at, behind)
-    covers_addresses = [check] if check and protocol != ICMP else []
-    put(packet, address_place, end[:4], [at + 10] + covers_addresses)
+    checks = [check] if check else []
+    put(packet, address_place, end[:4], [at + 10] + (checks if protocol != ICMP else []))
     if protocol in (TCP, UDP):
-        put(packet, port_place, end[4:], [check] if check else [])
+        put(packet, port_place, end[4:], checks)
     elif protocol == ICMP and packet[behind] in (ECHO_REPLY, ECHO_REQUEST):
-        put(packet, behind + 4, end[4:], [check] if check else [])
+        put(packet, behind + 4, end[4:], checks)
     if protocol == UDP and check and packet[check:check + 2] == NO_PORT:
         packet[check:check + 2] = b"\xff\xff"  # 0 would say that there is none
 
@@ -184,10 +191,10 @@ def tuple_text(key):
     """udp 192.168.1.10:5000 > 198.51.100.7:53"""
     kind = key[12]
     if kind in (TCP, UDP):
-        return f"{PROTOCOL_NAMES[kind]} {end_text(key[:6])} > {end_text(key[6:12])}"
-    addresses = f"{address_text(key[:4])} > {address_text(key[6:10])}"
+        return f"{PROTOCOL_NAMES[kind]} {end_text(source_end(key))} > {end_text(destination_end(key))}"
+    addresses = f"{address_text(key[:4])} > {address_text(key[4:8])}"
     if kind == ASK[0]:
-        return f"icmp {addresses} echo-request id {int.from_bytes(key[4:6], 'big')}"
+        return f"icmp {addresses} echo-request id {int.from_bytes(key[8:10], 'big')}"
     if kind == ANSWER[0]:
         return f"icmp {addresses} echo-reply id {int.from_bytes(key[10:12], 'big')}"
     return f"protocol {kind} {addresses}"
@@ -199,7 +206,7 @@ def describe(data, at):
         return "no IPv4 packet"
     found = tuple_at(data, at)
     if found:
-        return tuple_text(found[0])
+        return tuple_text(found)
     addresses = f"{address_text(data[at + 12:at + 16])} > {address_text(data[at + 16:at + 20])}"
     if data[at + 6] & 0x3F or data[at + 7]:
         return f"fragment {addresses}"

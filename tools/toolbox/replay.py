@@ -13,7 +13,7 @@ from toolbox import program
 from toolbox.captures import LINK_LENGTHS, LINUX_SLL2, RAW_IP, SENT_BY_US, header_of, records
 from toolbox.commands import Refused
 from toolbox.flows import BEGUN, ERROR, OPENER, SAW_SYN_ACK, SIDE, SYN_ACK, TRANSLATED
-from toolbox.packets import TCP, tuple_at, with_destination
+from toolbox.packets import TCP, destination_end, inverse, source_end, tuple_at, with_destination
 from toolbox.reports import outcomes_of
 
 # Where a record goes: as it came, to an end (its place in `ends`, from 1), or nowhere
@@ -23,6 +23,7 @@ STOPPED, ELSEWHERE = 1, 2
 PASSED, LOCAL = 1, 2  # as `outcomes_of` numbers them here
 OUT_LINK = LINK_LENGTHS[LINUX_SLL2]
 MOST_ROUNDS = 12
+MOST_CHANGED = 2048  # bytes of a record within which its headers stand, or the whole datagram of an ICMP error
 
 
 class Files:
@@ -48,7 +49,7 @@ class Replay:
         self.names = {b"passed": PASSED, b"local": LOCAL}
         self.to, self.ends = (like.to, like.ends) if like else (array("I", bytes(4 * (flows.count + 1))), [])
         self.cut = bytearray(flows.number() + 1)
-        self.rounds, self.settled = 0, as_captured
+        self.rounds, self.settled, self.written_to = 0, as_captured, None
         if as_captured:
             self.run()
             if not flows.copies or flows.aligned:
@@ -99,9 +100,11 @@ class Replay:
     def written(self):
         """The capture as it would have been. What isn't sent becomes a record of the same length and time that no rule
         sees, so that numbers stay."""
+        if self.written_to == (self.to, self.ends):
+            return self.files.replayed
         flows = self.flows
         shutil.copyfile(flows.path, self.files.replayed)
-        order = header_of(flows.path).order
+        lengths = struct.Struct(header_of(flows.path).order + "I")
         with open(flows.path, "rb") as source, open(self.files.replayed, "r+b", buffering=0) as target:
             read, write = source.fileno(), target.fileno()
             for record, place in enumerate(self.to):
@@ -111,9 +114,10 @@ class Replay:
                 if place == NOT_SENT:
                     silence(write, offset, flows.link_type)
                     continue
-                length = struct.unpack(order + "I", os.pread(read, 4, offset - 8))[0]
-                packet = os.pread(read, length - flows.at, offset + flows.at)
+                head = os.pread(read, MOST_CHANGED, offset - 8)
+                packet = head[8 + flows.at:8 + lengths.unpack_from(head)[0]]
                 os.pwrite(write, with_destination(packet, self.ends[place - 1]), offset + flows.at)
+        self.written_to = self.to, self.ends
         return self.files.replayed
 
 
@@ -137,15 +141,16 @@ class Decisions:
         self.to, self.ends, self.places = array("I", bytes(4 * (flows.count + 1))), [], {}
         self.cut = bytearray(len(flows.first))
         self.opened = bytearray(len(flows.first))  # PASSED, LOCAL: an opener went through; 4: a SYN and ACK did
-        self.choice = {}  # by flow times two, and side: the ends with which its packets have to come
+        # by flow times two, and side: the tuple with which its packets have to come, the one with which they last left
+        self.choice, self.left_as = {}, {}
         # without copies a run tells which later flow is the other side of an earlier one
         self.expected = None if flows.copies and not flows.aligned or replay.spared else {}
         self.joined = {}
 
     def make(self):
         flows, outcomes, leaving = self.flows, self.outcomes, self.leaving
-        of, role, seen, known, cuts = flows.of, flows.role, flows.ends, flows.flags, self.cuts
-        choice = self.choice
+        of, role, seen, tuples, known, cuts = flows.of, flows.role, flows.seen, flows.tuples, flows.flags, self.cuts
+        choice, left_as = self.choice, self.left_as
         for record in range(1, flows.count + 1):
             outcome = outcomes[record]
             frame = next(leaving)[6] if outcome == PASSED else None
@@ -164,8 +169,8 @@ class Decisions:
                     self.opened[flow] |= 4
             wanted = choice.get(2 * flow + side)
             if wanted is not None:
-                ends = seen[12 * record:12 * record + 12]
-                if ends != wanted and not self.send_to(record, flow, side, ends, wanted):
+                came = tuples[seen[record]]
+                if came != wanted and not self.send_to(record, flow, side, came, wanted):
                     continue
             elif side and cuts and self.is_answered_by_box(record, flow):
                 continue
@@ -174,7 +179,9 @@ class Decisions:
             if self.expected is not None and flows.first[flow] == record:
                 self.look_for_join(record, flow)
             if frame is not None:
-                self.learn(record, flow, side, frame)
+                left = tuple_at(frame, OUT_LINK)
+                if left is not None and left_as.get(2 * flow + side) != left:
+                    self.learn(record, flow, side, left)
 
     def is_cut(self, record, flow):
         if self.spared and self.spared[flow]:
@@ -191,15 +198,15 @@ class Decisions:
             return True
         return bool(acked and record >= acked and flows.flags[flow] & SAW_SYN_ACK and not opened & 4)
 
-    def send_to(self, record, flow, side, ends, wanted):
+    def send_to(self, record, flow, side, came, wanted):
         """Sends a record to the end that the ruleset chose; not where it comes from another host than the ruleset sent
         the flow to: that one's answers aren't known. Answers whether it is sent."""
-        if ends[:6] != wanted[:6]:
+        if source_end(came) != source_end(wanted):
             if self.cuts and side and self.flows.flags[flow] & BEGUN:
                 self.cut[flow], self.to[record] = ELSEWHERE, NOT_SENT
                 return False
             return True
-        end = bytes(wanted[6:])
+        end = destination_end(wanted)
         place = self.places.get(end)
         if place is None:
             self.ends.append(end)
@@ -224,13 +231,11 @@ class Decisions:
         if value is not None and value >> 1 != flow:
             self.joined[flow] = value
 
-    def learn(self, record, flow, side, frame):
-        """What left tells with which ends the other side's packets have to come."""
-        left = tuple_at(frame, OUT_LINK)
-        if left is None:
-            return
-        key, inverted, _ = left
-        if self.flows.flags[flow] & TRANSLATED or key[:12] != self.flows.ends[12 * record:12 * record + 12]:
-            self.choice[2 * flow + (side ^ 1)] = inverted[:12]
+    def learn(self, record, flow, side, left):
+        """What left, as the tuple `left`, tells with which one the other side's packets have to come."""
+        self.left_as[2 * flow + side] = left
+        if self.flows.flags[flow] & TRANSLATED or left != self.flows.tuple_of(record):
+            answer = inverse(left)
+            self.choice[2 * flow + (side ^ 1)] = answer
             if self.expected is not None:
-                self.expected[inverted] = 2 * flow + (side ^ 1)
+                self.expected[answer] = 2 * flow + (side ^ 1)
