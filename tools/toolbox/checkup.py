@@ -127,7 +127,7 @@ class Checkup:
         if alone:
             yield Finding(
                 "bridge", True, f"{plural(alone, 'packet')} entered by interfaces that the box file lacks (index "
-                f"{', '.join(map(str, sorted(self.alone)[:MOST_LISTED]))}) and were seen on none that it has",
+                f"{', '.join(map(str, sorted(self.alone)[:MOST_LISTED]))}) and seen on none that it has",
                 "bridged from port to port, if these are bridge ports: with net.bridge.bridge-nf-call-iptables=1 Linux shows "
                 "them to prerouting, forward and postrouting; a run doesn't (docs/CAPTURES.md)", {"packets": alone})
 
@@ -161,7 +161,7 @@ class Checkup:
         flows = self.flows
         own = sum(1 for record in range(1, flows.count + 1) if flows.of[record] and flows.flags[flows.of[record]] & OWN)
         if own:
-            yield Finding("answers to the box", True, f"{plural(own, 'record')} that answer packets of the box itself",
+            yield Finding("answers to the box", True, f"{plural(own, 'record')} with answers to packets of the box itself",
                           "on Linux they are established; here they are new, since a run has no packets of the box, and "
                           "input drops them, or a mapping leads them inside", {"records": own})
         midway = [flow for flow in range(1, flows.number() + 1) if flows.kind[flow] == TCP and not flows.flags[flow] & (BEGUN | OWN)]

@@ -52,8 +52,11 @@ class Flows:
         """The tuple of a record of a flow."""
         return self.tuples[self.seen[record]]
 
-    def join(self, joined):
-        """Makes one of two flows each: `joined` has of a flow the one (times two, and side) that its side 0 is."""
+    def join(self, joined, errors=()):
+        """Makes one of two flows each: `joined` has of a flow the one (times two, and side) that its side 0 is. `errors`
+        has of records with ICMP errors the flow and side to which they belong."""
+        for number, value in dict(errors).items():
+            self.of[number], self.role[number] = value >> 1, ERROR | value & SIDE
         of, role, answered = self.of, self.role, self.answered
         for number in range(1, self.count + 1):
             value = joined.get(of[number])
@@ -130,7 +133,7 @@ class Reader:
         if is_tcp:
             flags = data[self.at + 4 * (data[self.at] & 15) + 13] & (FIN | SYN | RST | ACK)
         place = self.find.get(key)
-        value = self.by_inverse(key) if place is None else self.owner[place]
+        value = (self.owner[place] if place else 0) or self.by_inverse(key)
         if value and (flags == SYN or seconds - self.last[value >> 1] >= self.limits[key[12]]):
             value = self.still(value, seconds, key, flags, data)
         if not value and flags & (SYN | ACK) == SYN | ACK:
@@ -151,7 +154,8 @@ class Reader:
     def by_inverse(self, key):
         """The flow and side of a tuple that comes for the first time, by its inverse; 0 if none."""
         place = self.find.get(inverse(key))
-        return 0 if place is None else self.owner[place] ^ 1
+        value = self.owner[place] if place else 0
+        return value and value ^ 1
 
     def still(self, value, seconds, key, flags, data):
         """The flow of a packet of a known tuple, or 0 if it is the first of another: a lone SYN of another number, or one
@@ -214,12 +218,14 @@ class Reader:
         if key is None:
             return 0, 0, 0
         place = self.find.get(key)
-        value = self.by_inverse(key) if place is None else self.owner[place]
+        value = (self.owner[place] if place else 0) or self.by_inverse(key)
+        if place is None:
+            place = self.place_of(key, value)
         if not value:
-            return 0, 0, 0
+            return 0, ERROR, place  # a run may tell to which flow it belongs
         if value & 1 and not self.flows.answered[value >> 1]:
             self.flows.answered[value >> 1] = number
-        return value, ERROR | value & 1, self.place_of(key, value) if place is None else place
+        return value, ERROR | value & 1, place
 
     def begin(self, number, seconds, key, flags, data):
         """Begins a flow; whatever had its tuple, or the inverse, hasn't any longer."""
@@ -265,7 +271,8 @@ class Reader:
             return
         inverted = inverse(key)
         place = self.find.get(inverted)
-        value = 0 if place is None else self.owner[place] ^ 1
+        value = self.owner[place] if place else 0
+        value = value and value ^ 1
         if value and self.learned[value >> 1] >> (value & 1) & 1:
             return  # a packet of this side has left so before
         came = self.take_waiting(identity(data, self.at), key)

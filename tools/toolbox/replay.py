@@ -53,7 +53,7 @@ class Replay:
         if as_captured:
             self.run()
             if not flows.copies or flows.aligned:
-                flows.join(self.decide(False).joined)
+                self.join(self.decide(False))
         while not self.settled and self.rounds < MOST_ROUNDS:
             self.rounds += 1
             self.run()
@@ -74,11 +74,17 @@ class Replay:
         decisions.make()
         return decisions
 
+    def join(self, decisions):
+        """Joins the flows that a run shows to be one; answers whether there are any."""
+        if decisions.joined or decisions.joined_errors:
+            self.flows.join(decisions.joined, decisions.joined_errors)
+            return True
+        return False
+
     def take(self, decisions):
         """Takes the decisions of a round, and settles if they are those of the round before."""
-        if decisions.joined:
-            self.flows.join(decisions.joined)
-        if decisions.joined or self.rounds == 1 and self.cuts and not any(decisions.to):
+        joins = self.join(decisions)
+        if joins or self.rounds == 1 and self.cuts and not any(decisions.to):
             decisions = self.decide(self.cuts)
         self.settled = decisions.to == self.to and decisions.ends == self.ends
         self.to, self.ends, self.cut = decisions.to, decisions.ends, decisions.cut
@@ -145,7 +151,7 @@ class Decisions:
         self.choice, self.left_as = {}, {}
         # without copies a run tells which later flow is the other side of an earlier one
         self.expected = None if flows.copies and not flows.aligned or replay.spared else {}
-        self.joined = {}
+        self.joined, self.joined_errors = {}, {}
 
     def make(self):
         flows, outcomes, leaving = self.flows, self.outcomes, self.leaving
@@ -155,9 +161,11 @@ class Decisions:
             outcome = outcomes[record]
             frame = next(leaving)[6] if outcome == PASSED else None
             flow = of[record]
-            if not flow:
-                continue
             what = role[record]
+            if not flow:
+                if what and self.expected is not None:
+                    self.look_for_error(record)
+                continue
             side = what & SIDE
             if cuts and known[flow] & BEGUN and self.is_cut(record, flow):
                 self.to[record] = NOT_SENT
@@ -230,6 +238,12 @@ class Decisions:
             value = self.joined[value >> 1] ^ value & 1
         if value is not None and value >> 1 != flow:
             self.joined[flow] = value
+
+    def look_for_error(self, record):
+        """Whether an ICMP error of no flow is about what left of one."""
+        value = self.expected.get(self.flows.tuple_of(record))
+        if value is not None:
+            self.joined_errors[record] = self.joined.get(value >> 1, value & ~1) ^ value & 1
 
     def learn(self, record, flow, side, left):
         """What left, as the tuple `left`, tells with which one the other side's packets have to come."""
