@@ -142,7 +142,7 @@ class Summary:
         """Refuses a report that broke off, or that was made without --trace."""
         if "torn" not in self.totals or "records" not in self.totals:
             raise Refused(f"{self.name}: the report isn't whole: it has no line `torn`")
-        if self.outcomes.total() != self.totals["records"]:
+        if sum(self.outcomes.values()) != self.totals["records"]:
             raise Refused(f"{self.name}: the report lacks outcomes: run nftrun with --trace")
 
     def decisions(self):
