@@ -121,7 +121,7 @@ class Checkup:
             yield Finding(
                 "interfaces", lacking > self.types[SENT_BY_US], f"{plural(lacking, 'record')} of interfaces that the box file "
                 f"lacks ({listed}{', ..' if len(self.lacking) > MOST_LISTED else ''})",
-                "they are dropped for `interface`: right for bridge ports and devices below a VLAN; else add the interface "
+                "they are dropped for `interface` or `link`: right for bridge ports and devices below a VLAN; else add the interface "
                 "(tools/box-from-ip)", {"records": lacking, "by_index": dict(self.lacking)})
         alone = sum(self.alone.values())
         if alone:

@@ -5,7 +5,7 @@ from toolbox.captures import LINK_LENGTHS, LINUX_SLL2, interface_of, packet_at
 from toolbox.flows import SIDE
 from toolbox.packets import (
     ECHO_REPLY, ECHO_REQUEST, ICMP, PROTOCOL_NAMES, TCP, UDP, address_text, error_tuple_at, inverse)
-from toolbox.reports import Log, event_of
+from toolbox.reports import Log, event_of, text_of
 
 MOST_CACHED = 1 << 16
 OUT_LINK = LINK_LENGTHS[LINUX_SLL2]
@@ -110,4 +110,4 @@ class RecordTexts:
         return (f'{{"record": {number}, "time": {seconds}.{fraction:0{self.digits}}, "flow": {flow or "null"}, '
                 f'"direction": {json.dumps(direction)}, "in": {self.names[index]}, '
                 f'"before": {self.packets.text(data, packet_at(data, link_type))}, "events": {self.events[tuple(events)]}, '
-                f'"outcome": {json.dumps(outcome.decode()) if outcome else "null"}, "out": {leaving}, "after": {left}}}\n')
+                f'"outcome": {json.dumps(text_of(outcome)) if outcome else "null"}, "out": {leaving}, "after": {left}}}\n')

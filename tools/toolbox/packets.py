@@ -113,12 +113,9 @@ def checksum(data):
 
 def corrected(check, old, new):
     """The checksum over words that change from `old` to `new` (RFC 1624): a wrong one stays as wrong as it was."""
-    words = f">{len(old) // 2}H"
-    total = 0xFFFF - int.from_bytes(check, "big")
-    total += 0xFFFF * (len(old) // 2) - sum(struct.unpack(words, old)) + sum(struct.unpack(words, new))
-    while total >> 16:
-        total = (total & 0xFFFF) + (total >> 16)
-    return (0xFFFF - total).to_bytes(2, "big")
+    # 65,536 is 1 modulo 65,535, so the words' sum is that of the whole as one number
+    total = (int.from_bytes(check, "big") + int.from_bytes(old, "big") - int.from_bytes(new, "big")) % 0xFFFF
+    return total.to_bytes(2, "big")
 
 
 def checksum_place(packet, at, behind):
@@ -142,16 +139,19 @@ def put(packet, place, new, checksums):
 
 def change_end(packet, at, behind, address_place, port_place, end):
     """Makes `end` the address and the port that stand at these places, with all checksums over them."""
-    protocol = packet[at + 9]
-    check = checksum_place(packet, at, behind)
-    checks = [check] if check else []
-    put(packet, address_place, end[:4], [at + 10] + (checks if protocol != ICMP else []))
+    protocol, check = packet[at + 9], checksum_place(packet, at, behind)
+    address = bytes(packet[address_place:address_place + 4])
+    packet[address_place:address_place + 4] = end[:4]
+    packet[at + 10:at + 12] = corrected(packet[at + 10:at + 12], address, end[:4])
     if protocol in (TCP, UDP):
-        put(packet, port_place, end[4:], checks)
+        port = bytes(packet[port_place:port_place + 2])
+        packet[port_place:port_place + 2] = end[4:]
+        if check:
+            new = corrected(packet[check:check + 2], address + port, end)
+            # 0 would say that there is none
+            packet[check:check + 2] = b"\xff\xff" if protocol == UDP and new == NO_PORT else new
     elif protocol == ICMP and packet[behind] in (ECHO_REPLY, ECHO_REQUEST):
-        put(packet, behind + 4, end[4:], checks)
-    if protocol == UDP and check and packet[check:check + 2] == NO_PORT:
-        packet[check:check + 2] = b"\xff\xff"  # 0 would say that there is none
+        put(packet, behind + 4, end[4:], [check] if check else [])
 
 
 def with_destination(packet, end):

@@ -48,17 +48,23 @@ def records_of(path):
         number, _, what = rest.partition(b" ")
         if number != current:
             if events:
-                yield int(current), events, None
+                yield number_of(current), events, None
             current, events = number, []
         if word == b"log":
             events.append(b"log " + what)
         elif what.startswith(b"outcome "):
-            yield int(number), events, what[8:]
+            yield number_of(number), events, what[8:]
             events = []
         else:
             events.append(what)
     if events:
-        yield int(current), events, None
+        yield number_of(current), events, None
+
+
+def number_of(word):
+    if not word.isdigit():
+        raise Refused(f"no line of a report: record {text_of(word)}")
+    return int(word)
 
 
 def event_of(event):

@@ -7,7 +7,7 @@ from toolbox.commands import Refused
 from toolbox.flows import ERROR, SIDE, Flows
 from toolbox.packets import TCP, describe, destination_end, end_text, flags_text, inverse, source_end, tuple_at
 from toolbox.replay import AS_CAPTURED, Replay
-from toolbox.reports import Decision, event_of, records_of
+from toolbox.reports import Decision, event_of, records_of, text_of
 from toolbox.rulesets import TRANSLATIONS, read_ruleset
 
 OUT_LINK = LINK_LENGTHS[LINUX_SLL2]
@@ -53,7 +53,7 @@ class Why:
 
     def read_events(self):
         _, events, outcome = next(islice(records_of(self.replay.files.report), self.record - 1, None))
-        self.outcome = outcome.decode()
+        self.outcome = text_of(outcome)
         self.events = [event_of(event) for event in events]
         self.decisions = [event for event in self.events if isinstance(event, Decision)]
 
