@@ -79,7 +79,7 @@ class Reader:
         self.flows, self.at = flows, flows.at
         self.use_copies = use_copies and flows.link_type == LINUX_SLL2
         self.limits, self.indices = box.limits(), box.index_bytes()
-        self.find = {}  # by tuple its place in `tuples`
+        self.find, self.left = {}, {}  # by tuple its place in `tuples`; by tuple of a copy the flow and side that left so
         self.owner = array("I", [0])  # by that place the flow times two, and side
         # by the flow: its last second, its SYN's number, the sides of which it is known how they leave (1, 2)
         self.last, self.begun_with, self.learned = array("I", [0]), array("q", [-1]), bytearray(1)
@@ -90,21 +90,22 @@ class Reader:
     def read(self):
         flows = self.flows
         of, role, seen, offsets = flows.of.append, flows.role.append, flows.seen.append, flows.offset.append
-        smallest, latest, indices, enter = self.at + 28, 0, self.indices, self.enter
+        smallest, latest, indices, enter, leave = self.at + 28, 0, self.indices, self.enter, self.leave
         protocol_at, is_sll2, is_ethernet = (
             PROTOCOL_AT[flows.link_type], flows.link_type == LINUX_SLL2, flows.link_type == ETHERNET)
         for number, seconds, _, offset, _, _, data in records(flows.path, MOST_READ):
             value = what = place = 0
             if seconds > latest:
                 latest = seconds
-            if len(data) >= smallest and (protocol_at is None or data[protocol_at:protocol_at + 2] == IPV4):
-                if is_sll2:
-                    if data[4:8] in indices:
-                        if data[10] == TO_US:
-                            value, what, place = enter(number, latest, data)
-                        elif data[10] == SENT_BY_US:
-                            self.leave(number, latest, data)
-                elif not is_ethernet or not data[0] & 1:
+            if len(data) < smallest or protocol_at is not None and data[protocol_at:protocol_at + 2] != IPV4:
+                pass
+            elif not is_sll2:
+                if not is_ethernet or not data[0] & 1:
+                    value, what, place = enter(number, latest, data)
+            elif data[4:8] in indices:
+                if data[10] == SENT_BY_US:
+                    leave(number, latest, data)
+                elif data[10] == TO_US:
                     value, what, place = enter(number, latest, data)
             of(value >> 1)
             role(what)
@@ -269,12 +270,14 @@ class Reader:
         key = tuple_at(data, self.at) if self.use_copies else None
         if key is None:
             return
+        value = self.left.get(key)
+        if (value and self.learned[value >> 1] >> (value & 1) & 1
+                and seconds - self.last[value >> 1] < SURELY_KEPT):
+            return  # a packet of this side has left so before, and Linux gave its port to no other since
         inverted = inverse(key)
         place = self.find.get(inverted)
         value = self.owner[place] if place else 0
         value = value and value ^ 1
-        if value and self.learned[value >> 1] >> (value & 1) & 1:
-            return  # a packet of this side has left so before
         came = self.take_waiting(identity(data, self.at), key)
         if came is not None:
             self.learn(key, inverted, seconds, *came)
@@ -298,6 +301,7 @@ class Reader:
         flows.flags[value >> 1] |= LEARNED
         self.place_of(inverted, value ^ 1)
         self.learned[value >> 1] |= 1 << (value & 1)
+        self.left[key] = value
 
     def take_waiting(self, mark, key):
         """The packet that came as this copy's: of several alike the one that changed least."""
@@ -334,6 +338,7 @@ class Reader:
         """Forgets the tuples of what has expired."""
         owner, last, limits = self.owner, self.last, self.limits
         self.find = {key: place for key, place in self.find.items() if seconds - last[owner[place] >> 1] < limits[key[12]]}
+        self.left = {key: value for key, value in self.left.items() if seconds - last[value >> 1] < limits[key[12]]}
         self.sweep_at = max(1 << 16, 2 * len(self.find))
 
 

@@ -7,7 +7,8 @@ echo's identifier stands in a port's place, as conntrack has it. An end is 6 byt
 import struct
 
 ICMP, TCP, UDP = 1, 6, 17
-ASK, ANSWER = b"\x01", b"\xff"
+ASK, ANSWER, TCP_KIND, UDP_KIND = b"\x01", b"\xff", bytes([TCP]), bytes([UDP])
+USUAL_HEADER = 0x45  # version 4, without options
 ECHO_REPLY, ECHO_REQUEST = 0, 8
 ICMP_ERRORS = frozenset((3, 4, 5, 11, 12))
 FIN, SYN, RST, PSH, ACK, URG = 1, 2, 4, 8, 16, 32
@@ -21,14 +22,18 @@ def tuple_at(data, at, cut=False):
     """The tuple of the IPv4 packet that begins at `at`; None where it has none (a fragment, an ICMP error, a header that
     doesn't fit). `cut` allows a transport header of 8 bytes."""
     size = len(data)
+    if size >= at + 34 and data[at] == USUAL_HEADER and not data[at + 6] & 0x3F and not data[at + 7]:
+        protocol = data[at + 9]
+        if protocol == TCP:
+            return data[at + 12:at + 24] + TCP_KIND
+        if protocol == UDP:
+            return data[at + 12:at + 24] + UDP_KIND
     if size < at + 24 or data[at] >> 4 != 4 or data[at + 6] & 0x3F or data[at + 7]:
         return None
     protocol, behind = data[at + 9], at + 4 * (data[at] & 15)
     if size < behind + (14 if protocol == TCP else 8) and not (cut and size >= behind + 8):
         return None
     if protocol == TCP or protocol == UDP:
-        if behind == at + 20:
-            return data[at + 12:at + 24] + data[at + 9:at + 10]
         return data[at + 12:at + 20] + data[behind:behind + 4] + data[at + 9:at + 10]
     if protocol != ICMP:
         return data[at + 12:at + 20] + NO_PORT + NO_PORT + data[at + 9:at + 10]
@@ -58,9 +63,7 @@ def inverse_kind(kind):
 def inverse(key):
     """The tuple of what answers."""
     kind = key[12:]
-    if kind == ASK or kind == ANSWER:
-        kind = inverse_kind(kind)
-    return key[4:8] + key[:4] + key[10:12] + key[8:10] + kind
+    return key[4:8] + key[:4] + key[10:12] + key[8:10] + (kind if kind != ASK and kind != ANSWER else inverse_kind(kind))
 
 
 def source_end(key):
