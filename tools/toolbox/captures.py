@@ -1,0 +1,121 @@
+"""Classic libpcap files (docs/CAPTURES.md), streamed: reading their records, and writing LINUX_SLL2."""
+import struct
+from collections import namedtuple
+
+from toolbox.commands import Refused
+
+MICROSECONDS_MAGIC, NANOSECONDS_MAGIC = 0xA1B2C3D4, 0xA1B23C4D
+# the first bytes of a capture, with the order of its numbers and how many fractions make a second
+MAGICS = {
+    struct.pack(order + "I", magic): (order, fractions)
+    for order in "<>"
+    for magic, fractions in ((MICROSECONDS_MAGIC, 10**6), (NANOSECONDS_MAGIC, 10**9))
+}
+ETHERNET, RAW_IP, LINUX_SLL2 = 1, 101, 276
+LINK_NAMES = {ETHERNET: "Ethernet", RAW_IP: "raw IP", LINUX_SLL2: "LINUX_SLL2"}
+LINK_LENGTHS = {ETHERNET: 14, RAW_IP: 0, LINUX_SLL2: 20}
+# where the protocol stands in a link header
+PROTOCOL_AT = {ETHERNET: 12, RAW_IP: None, LINUX_SLL2: 0}
+IPV4 = b"\x08\x00"
+# packet types of LINUX_SLL2, in byte 10: sent to us, broadcast, multicast, to another station, sent by us
+TO_US, BROADCAST, MULTICAST, OTHER_STATION, SENT_BY_US = range(5)
+
+FILE_HEADER, RECORD_HEADER = 24, 16
+SNAPLEN = 262144
+# Stands in the header's field `sigfigs`, which readers ignore: answers were sent to nftrun's ports.
+ALIGNED_MARK = int.from_bytes(b"alig", "big")
+CHUNK = 1 << 20
+
+Header = namedtuple("Header", "order fractions link_type snaplen aligned")
+
+
+def header_of(path):
+    """The header of a capture; refused is what nftrun wouldn't read."""
+    try:
+        with open(path, "rb") as file:
+            data = file.read(FILE_HEADER)
+    except OSError as error:
+        raise Refused(f"{path}: {error.strerror}") from None
+    if data[:4] not in MAGICS or len(data) < FILE_HEADER:
+        raise Refused(f"{path}: no classic libpcap file (docs/CAPTURES.md tells how to make one)")
+    order, fractions = MAGICS[data[:4]]
+    _, sigfigs, snaplen, link_type = struct.unpack_from(order + "4I", data, 8)
+    if link_type & 0xFFFF not in LINK_LENGTHS:
+        raise Refused(f"{path}: link type {link_type & 0xFFFF}, which nftrun doesn't read")
+    return Header(order, fractions, link_type & 0xFFFF, snaplen, sigfigs == ALIGNED_MARK)
+
+
+def records(path, most=SNAPLEN):
+    """The whole records in order, each as (number, seconds, fraction, offset, length, original length, data): `offset`
+    is where its bytes begin in the file, and `data` has the first `most` of them. One that is torn at the end isn't
+    among them."""
+    unpack = struct.Struct(header_of(path).order + "4I").unpack_from
+    with open(path, "rb") as file:
+        file.seek(FILE_HEADER)
+        base, number, chunk, at, size = FILE_HEADER, 0, b"", 0, 0
+        while True:
+            start = at + RECORD_HEADER
+            if start <= size:
+                seconds, fraction, length, original = unpack(chunk, at)
+                end = start + length
+                if end <= size:
+                    number += 1
+                    yield (number, seconds, fraction, base + start, length, original,
+                           chunk[start:end if length <= most else start + most])
+                    at = end
+                    continue
+                if length > SNAPLEN:
+                    raise Refused(f"{path}: record {number + 1} claims {length} bytes: the file is damaged there")
+            more = file.read(CHUNK)
+            if not more:
+                return
+            base += at
+            chunk = chunk[at:] + more
+            at, size = 0, len(chunk)
+
+
+def count_records(path):
+    number = 0
+    for number, *_ in records(path, 0):
+        pass
+    return number
+
+
+def packet_at(data, link_type):
+    """Where an IPv4 packet begins in a record's bytes, or None where the link header tells of none."""
+    protocol = PROTOCOL_AT[link_type]
+    if protocol is not None and data[protocol:protocol + 2] != IPV4:
+        return None
+    return LINK_LENGTHS[link_type] if len(data) > LINK_LENGTHS[link_type] else None
+
+
+def interface_of(data, link_type):
+    """The index of the interface that the link header tells, or None."""
+    return int.from_bytes(data[4:8], "big") if link_type == LINUX_SLL2 and len(data) >= 8 else None
+
+
+# Writing
+
+
+def write_header(file, link_type=LINUX_SLL2):
+    """A header with nanoseconds, lowest byte first."""
+    file.write(struct.pack("<IHHIIII", NANOSECONDS_MAGIC, 2, 4, 0, 0, SNAPLEN, link_type))
+
+
+def write_record(file, nanoseconds, data):
+    """A record behind `write_header`, with its moment in nanoseconds."""
+    seconds, fraction = divmod(nanoseconds, 10**9)
+    file.write(struct.pack("<IIII", seconds, fraction, len(data), len(data)) + data)
+
+
+def sll2_header(interface, packet_type=TO_US):
+    """A link header of LINUX_SLL2: IPv4, the interface's index, Ethernet, the packet type, no address."""
+    return struct.pack(">HHIHBB8x", 0x0800, 0, interface, 1, packet_type, 0)
+
+
+def mark_aligned(path):
+    """Writes into the header of a capture that its answers go to nftrun's ports."""
+    order = header_of(path).order
+    with open(path, "r+b") as file:
+        file.seek(12)
+        file.write(struct.pack(order + "I", ALIGNED_MARK))

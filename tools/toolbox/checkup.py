@@ -1,0 +1,204 @@
+"""What in a capture and a box file misleads a run, found in one pass over the records, beside the flows."""
+import os
+from collections import Counter, namedtuple
+
+from toolbox.captures import (
+    BROADCAST, LINUX_SLL2, MULTICAST, OTHER_STATION, PROTOCOL_AT, SENT_BY_US, TO_US, header_of, packet_at,
+    records)
+from toolbox.commands import plural
+from toolbox.flows import BEGUN, MOST_READ, OWN, TRANSLATED, Flows
+from toolbox.packets import TCP, address_text, identity
+
+ETHER_TYPES = {b"\x86\xdd": "IPv6", b"\x08\x06": "ARP", b"\x81\x00": "VLAN tags", b"\x88\xa8": "VLAN tags",
+               b"\x88\x64": "PPPoE"}
+LONGEST_PACKET = 1500  # bytes that fit into a frame of Ethernet
+WINDOW = 4096  # how many packets may come between two sights of one
+MOST_LISTED = 5
+FEW_FLOWS = 10
+
+# `misleads` tells whether a run differs by it from what the box did; `numbers` are for scripts
+Finding = namedtuple("Finding", "name misleads text advice numbers")
+
+
+class Checkup:
+    """The counts of one pass over the records."""
+
+    def __init__(self, capture, box):
+        self.capture, self.box, self.header = capture, box, header_of(capture)
+        self.link_type = self.header.link_type
+        self.flows = Flows(capture, box)
+        self.not_ip, self.lacking, self.own_sources, self.types = Counter(), Counter(), Counter(), Counter()
+        self.cut = self.joined = self.backwards = self.fragments = self.by_loopback = 0
+        # entering packets by identity that were seen on interfaces that the box file lacks alone, so far
+        self.elsewhere, self.elsewhere_before, self.alone = {}, {}, Counter()
+        self.ip = self.count = 0
+        self.end = 0  # of the last whole record
+        self.protocol_at, self.indices = PROTOCOL_AT[self.link_type], box.index_bytes()
+        self.read()
+
+    def read(self):
+        latest = 0
+        for self.count, seconds, fraction, offset, length, original, data in records(self.capture, MOST_READ):
+            moment = seconds * self.header.fractions + fraction
+            self.backwards += moment < latest
+            latest = max(moment, latest)
+            self.cut += length < original
+            self.end = offset + length
+            at = packet_at(data, self.link_type)
+            if at is None or len(data) < at + 20 or data[at] >> 4 != 4:
+                self.take_other(data, at)
+            else:
+                self.take_packet(data, at)
+        for mark in (*self.elsewhere_before.values(), *self.elsewhere.values()):
+            self.alone[mark] += 1
+
+    def take_other(self, data, at):
+        """A record without an IPv4 packet."""
+        if at is not None:
+            self.not_ip["IPv6" if len(data) > at and data[at] >> 4 == 6 else "damaged"] += 1
+        elif self.protocol_at is None or len(data) < self.protocol_at + 2:
+            self.not_ip["damaged"] += 1
+        else:
+            kind = data[self.protocol_at:self.protocol_at + 2]
+            self.not_ip[ETHER_TYPES.get(kind, f"EtherType {kind.hex()}")] += 1
+
+    def take_packet(self, data, at):
+        self.ip += 1
+        self.fragments += bool(data[at + 6] & 0x3F or data[at + 7])
+        if self.link_type == LINUX_SLL2 and not self.take_interface(data, at):
+            return
+        if data[at + 12:at + 16] in self.box.addresses:
+            if self.link_type == LINUX_SLL2 and self.box.names.get(int.from_bytes(data[4:8], "big")) == "lo":
+                self.by_loopback += 1
+            else:
+                self.own_sources[data[at + 12:at + 16]] += 1
+        self.joined += int.from_bytes(data[at + 2:at + 4], "big") > LONGEST_PACKET
+
+    def take_interface(self, data, at):
+        """Counts a packet by its interface and type; answers whether it enters the box."""
+        self.types[data[10]] += 1
+        if data[4:8] in self.indices:
+            if data[10] == TO_US and (self.elsewhere or self.elsewhere_before) and len(data) >= at + 28:
+                mark = identity(data, at)
+                self.elsewhere.pop(mark, None)
+                self.elsewhere_before.pop(mark, None)
+            return data[10] == TO_US
+        index = int.from_bytes(data[4:8], "big")
+        self.lacking[index] += 1
+        if data[10] in (TO_US, OTHER_STATION) and len(data) >= at + 28:
+            self.elsewhere[identity(data, at)] = index
+            if len(self.elsewhere) > WINDOW:
+                for gone in self.elsewhere_before.values():
+                    self.alone[gone] += 1
+                self.elsewhere, self.elsewhere_before = {}, self.elsewhere
+        return False
+
+    # What was found
+
+    def findings(self):
+        """All findings, those that mislead a run first."""
+        found = [one for part in (self.of_file, self.of_interfaces, self.of_packets, self.of_flows) for one in part()]
+        return sorted(found, key=lambda one: not one.misleads)
+
+    def of_file(self):
+        if self.cut:
+            yield Finding("snap length", True, f"{plural(self.cut, 'record')} cut by the snap length ({self.header.snaplen})",
+                          "they are dropped for `truncated`: capture with tcpdump -s 0", {"records": self.cut})
+        if self.end and self.end < os.path.getsize(self.capture):
+            yield Finding("torn", True, "the file ends within a record",
+                          "a run takes the whole records before it, and ends with status 7", {})
+        if self.backwards:
+            yield Finding("time", False, f"{plural(self.backwards, 'record')} with an earlier time than the one before",
+                          "a run takes the order of the file, and the greatest time so far", {"records": self.backwards})
+        if self.header.aligned:
+            yield Finding("aligned", False, "answers were sent to the ports that nftrun chose (tools/align)",
+                          "replay it with the rules with which it was aligned", {})
+
+    def of_interfaces(self):
+        lacking = sum(self.lacking.values())
+        if lacking:
+            listed = ", ".join(f"index {index}: {number}" for index, number in self.lacking.most_common(MOST_LISTED))
+            yield Finding(
+                "interfaces", lacking > self.types[SENT_BY_US], f"{plural(lacking, 'record')} of interfaces that the box file "
+                f"lacks ({listed}{', ..' if len(self.lacking) > MOST_LISTED else ''})",
+                "they are dropped for `interface` or `link`: right for bridge ports and devices below a VLAN; else add the interface "
+                "(tools/box-from-ip)", {"records": lacking, "by_index": dict(self.lacking)})
+        alone = sum(self.alone.values())
+        if alone:
+            yield Finding(
+                "bridge", True, f"{plural(alone, 'packet')} entered by interfaces that the box file lacks (index "
+                f"{', '.join(map(str, sorted(self.alone)[:MOST_LISTED]))}) and seen on none that it has",
+                "bridged from port to port, if these are bridge ports: with net.bridge.bridge-nf-call-iptables=1 Linux shows "
+                "them to prerouting, forward and postrouting; a run doesn't (docs/CAPTURES.md)", {"packets": alone})
+
+    def of_packets(self):
+        own = sum(self.own_sources.values())
+        if own:
+            addresses = ", ".join(address_text(address) for address, _ in self.own_sources.most_common(MOST_LISTED))
+            yield Finding("own source", True, f"{plural(own, 'record')} from the box's own addresses ({addresses}) taken as entering",
+                          "captured without -Q in: what the box sent is replayed as if it came. Capture with tcpdump -Q in, "
+                          "or on all interfaces with -i any -y LINUX_SLL2", {"records": own})
+        if self.by_loopback:
+            yield Finding("loopback", True, f"{plural(self.by_loopback, 'record')} of the box's own by lo",
+                          "they are replayed as if they came from outside: capture with 'not ifindex 1'",
+                          {"records": self.by_loopback})
+        if self.fragments:
+            yield Finding("fragments", True, plural(self.fragments, "fragment"),
+                          "dropped for `fragment`; Linux puts them together where connections are tracked", {"records": self.fragments})
+        if self.joined:
+            yield Finding("joined", False, f"{plural(self.joined, 'packet')} longer than {LONGEST_PACKET} bytes",
+                          "joined by the card or the kernel (GRO, LRO): counters count them as the box does", {"packets": self.joined})
+        for name, number in self.not_ip.most_common():
+            share = 100 * number / self.count
+            yield Finding(name, name == "IPv6" and share >= 1, f"{plural(number, 'record')} of {name}, {share:.1f} % of all",
+                          "no rule sees them: a table of family inet counts IPv4 alone here", {"records": number})
+        for kinds, name in (((OTHER_STATION,), "frames for other stations"), ((BROADCAST, MULTICAST), "broadcasts and multicasts")):
+            number = sum(self.types[kind] for kind in kinds)
+            if number:
+                yield Finding(name, False, f"{number} {name}", "dropped for `link`: no rule sees them", {"records": number})
+
+    def of_flows(self):
+        flows = self.flows
+        own = sum(1 for record in range(1, flows.count + 1) if flows.of[record] and flows.flags[flows.of[record]] & OWN)
+        if own:
+            yield Finding("answers to the box", True, f"{plural(own, 'record')} with answers to packets of the box itself",
+                          "on Linux they are established; here they are new, since a run has no packets of the box, and "
+                          "input drops them, or a mapping leads them inside", {"records": own})
+        midway = [flow for flow in range(1, flows.number() + 1) if flows.kind[flow] == TCP and not flows.flags[flow] & (BEGUN | OWN)]
+        if midway:
+            yield Finding("no beginning", True, f"{plural(len(midway), 'TCP flow')} without a SYN in the capture",
+                          "they began before it: new at their first packet here, established on Linux", {"flows": len(midway)})
+        yield from self.of_answers()
+        yield from self.of_copies()
+
+    def of_answers(self):
+        flows = self.flows
+        begun = [flow for flow in range(1, flows.number() + 1) if flows.kind[flow] == TCP and flows.flags[flow] & BEGUN]
+        unanswered = sum(not flows.answered[flow] for flow in begun)
+        if len(begun) >= FEW_FLOWS and unanswered > 0.9 * len(begun):
+            yield Finding("one direction", True, f"{unanswered} of {plural(len(begun), 'TCP flow')} without any answer",
+                          "the other direction isn't in the capture, or isn't taken: capture on all interfaces "
+                          "(-i any -y LINUX_SLL2)", {"flows": unanswered})
+
+    def of_copies(self):
+        flows = self.flows
+        translated = sum(bool(known & TRANSLATED) for known in flows.flags)
+        if self.link_type == LINUX_SLL2 and not flows.copies:
+            yield Finding("no copies", False, "no outgoing copies in the capture",
+                          "what Linux chose isn't known, so it can't be aligned: capture without -Q in", {})
+        elif translated and not flows.aligned:
+            yield Finding("translated", False, f"{plural(translated, 'flow')} translated by Linux",
+                          "it may have chosen other ports than a run does: tools/doctor BOX IN RULES tells, tools/align mends",
+                          {"flows": translated})
+
+
+def of_run(replay):
+    """What a run of the rules shows: answers that go to ports that Linux chose."""
+    flows = replay.flows
+    to = replay.decide(False).to
+    elsewhere = [record for record, place in enumerate(to) if place]
+    if elsewhere:
+        count = len({flows.of[record] for record in elsewhere})
+        yield Finding("ports", True, f"{plural(len(elsewhere), 'answer')} of {plural(count, 'flow')} go to ports that Linux chose "
+                      "and a run doesn't", "they are dropped, or led to another host: replay what tools/align makes of the "
+                      "capture", {"records": len(elsewhere), "flows": count})

@@ -1,0 +1,243 @@
+"""What two rulesets make of one capture otherwise: opened, blocked, rewritten only, in groups by cause."""
+import filecmp
+from array import array
+from collections import Counter, namedtuple
+
+from toolbox.captures import records
+from toolbox.flows import BEGUN, SIDE
+from toolbox.packets import ANSWER, ASK, TCP, UDP, address_text, describe, inverse
+from toolbox.replay import ELSEWHERE, LOCAL, NOT_SENT, PASSED
+from toolbox.reports import Decision, event_of, records_of
+from toolbox.rulesets import TRANSLATIONS, read_ruleset
+
+OPENED, BLOCKED, REWRITTEN, OTHERWISE = "opened", "blocked", "rewritten only", "dropped otherwise"
+KINDS = (None, OPENED, BLOCKED, REWRITTEN, OTHERWISE)
+DECIDE = ("accept", "drop", *TRANSLATIONS)
+MOST_TOLD_APART = 10_000  # hosts and ports of a group
+MOST_RANGES, MOST_IN_FILTER = 40, 20
+
+# A decision of a rule or policy; `number` is None of a policy, `chain` None where no rule decided.
+Told = namedtuple("Told", "chain number verdict text")
+
+
+class Sight:
+    """What one ruleset makes of the records, read beside the capture."""
+
+    def __init__(self, replay):
+        self.replay = replay
+        self.ruleset = read_ruleset(replay.rules)
+        self.known = {}
+
+    def told(self, event):
+        """The decision that an event of the report is, or None where it decides nothing."""
+        if event not in self.known:
+            told, one = None, event_of(event)
+            if isinstance(one, Decision) and (one.rule is None or one.verdict in DECIDE):
+                told = Told(one.chain, one.rule, one.verdict, self.ruleset.text_of(one.chain, one.rule))
+            self.known[event] = told
+        return self.known[event]
+
+    def decisions(self, wanted):
+        """Of each wanted record in order its events, and how it ended."""
+        for record, events, _ in records_of(self.replay.files.report):
+            if wanted[record]:
+                yield tuple(events), self.replay.outcome(record)
+
+
+def differing(old, new):
+    """Of each record how the replays differ, as the place in KINDS; 0: not at all."""
+    count = len(old.to) - 1
+    what = bytearray(count + 1)
+    if (old.outcomes == new.outcomes and old.to == new.to and old.names == new.names
+            and filecmp.cmp(old.files.leaving, new.files.leaving, shallow=False)):
+        return what
+    old_places, new_places = through_places(old), through_places(new)
+    for record, left, leaves in zip(range(1, count + 1), old.leaving_packets(), new.leaving_packets()):
+        is_sent, is_sent_now = old.to[record] != NOT_SENT, new.to[record] != NOT_SENT
+        before = is_sent and old_places[old.outcomes[record]]
+        after = is_sent_now and new_places[new.outcomes[record]]
+        if before and after:
+            if left != leaves or before != after:
+                what[record] = 3
+        elif after:
+            what[record] = 1
+        elif before:
+            what[record] = 2
+        elif is_sent != is_sent_now or is_sent and old.numbers[old.outcomes[record]] != new.numbers[new.outcomes[record]]:
+            what[record] = 4
+    return what
+
+
+def through_places(replay):
+    """By an outcome's number whether the packet went through, and how."""
+    return [{PASSED: PASSED, LOCAL: LOCAL}.get(number, 0) for number in range(len(replay.names) + 1)]
+
+
+# Causes
+
+
+def cause(kind, before, after, outcome_before, outcome_after):
+    """The old decision and the new one that a difference comes of."""
+    if kind == OPENED:
+        new, old = cause(BLOCKED, after, before, outcome_after, outcome_before)
+        return old, new
+    if kind == BLOCKED:
+        return blocked_by(before, after, outcome_before, outcome_after)
+    old, new = parted(before, after), parted(after, before)
+    if not old and not new and outcome_before == outcome_after:
+        same = Told(None, None, outcome_after, "the same rules; other ports, since other flows have them or leave them")
+        return same, same
+    return (old[0] if old else outcome(outcome_before)), (new[0] if new else outcome(outcome_after))
+
+
+def blocked_by(before, after, outcome_before, outcome_after):
+    """What let a packet through is the decision in the chain that now drops it, or else the first that isn't taken any
+    more; that of a policy tells least."""
+    stopped = after[-1] if after and outcome_after == "rule" else outcome(outcome_after)
+    gone = parted(before, after)
+    let_through = ([one for one in gone if one.chain == stopped.chain]
+                   or [one for one in gone if one.number is not None or one.verdict != "accept"]
+                   or before[-1:] or [outcome(outcome_before)])
+    return let_through[0], stopped
+
+
+def parted(decisions, others):
+    """The decisions that the others don't have, by text: an inserted rule doesn't shift all."""
+    there = {(one.chain, one.verdict, one.text) for one in others}
+    return [one for one in decisions if (one.chain, one.verdict, one.text) not in there]
+
+
+def outcome(name):
+    words = {"local": "addressed to this box, and let in", "not sent": "not sent: its flow was stopped before"}
+    return Told(None, None, name, words.get(name, "no rule decides"))
+
+
+# Groups
+
+
+class Group:
+    """The differences of one kind and cause: counts, the first record, and what a display filter needs."""
+
+    def __init__(self, number, kind, old, new, first):
+        self.number, self.kind, self.old, self.new, self.first = number, kind, old, new, first
+        self.packets = self.flows = self.not_sent = self.elsewhere = 0
+        self.hosts, self.ports, self.ranges = set(), Counter(), []
+        self.filtered = set()  # destination ports and kinds, on both sides of a translation
+
+    def take(self, record, begins, key):
+        """Takes a record whose flow has the tuple `key`, as its first packet, or none."""
+        self.packets += 1
+        self.flows += begins
+        if key is not None:
+            if begins and len(self.hosts) < MOST_TOLD_APART:
+                self.hosts.add(key[:4])
+            if begins and len(self.ports) < MOST_TOLD_APART:
+                self.ports[key[10:]] += 1
+            if len(self.filtered) < MOST_TOLD_APART:
+                self.filtered.add(key[10:])
+        if self.ranges and self.ranges[-1][1] == record - 1:
+            self.ranges[-1][1] = record
+        elif len(self.ranges) <= MOST_RANGES:
+            self.ranges.append([record, record])
+
+    def ports_text(self):
+        """[("tcp 443", 12), ..], the most frequent first"""
+        ports = ((port_text(end), number) for end, number in sorted(self.ports.items(), key=lambda one: (-one[1], one[0])))
+        return [one for one in ports if one[0]]
+
+    def display_filter(self):
+        """A display filter of Wireshark: the records; of many the hosts and ports."""
+        if len(self.ranges) <= MOST_RANGES:
+            pieces = (f"{first}" if first == last else f"{first}..{last}" for first, last in self.ranges)
+            return "frame.number in {" + ", ".join(pieces) + "}"
+        pieces = []
+        for name, kind in (("tcp", TCP), ("udp", UDP)):
+            ports = [str(int.from_bytes(end[:2], "big")) for end in sorted(self.filtered) if end[2] == kind]
+            if 0 < len(ports) <= MOST_IN_FILTER:
+                pieces.append(f"{name}.port in {{{', '.join(ports)}}}")
+        hosts = ", ".join(map(address_text, sorted(self.hosts)))
+        whose = [f"ip.addr in {{{hosts}}}"] if len(self.hosts) <= MOST_IN_FILTER else []
+        return " && ".join(whose + ([f"({' || '.join(pieces)})"] if pieces else [])) or "ip"
+
+
+def port_text(end):
+    """tcp 443, of 3 bytes: port and kind"""
+    kind = end[2]
+    if kind in (TCP, UDP):
+        return f"{'tcp' if kind == TCP else 'udp'} {int.from_bytes(end[:2], 'big')}"
+    return "ping" if kind in (ASK[0], ANSWER[0]) else f"protocol {kind}"
+
+
+class Groups:
+    """The groups of all differences. What isn't sent has its flow's group."""
+
+    def __init__(self, flows, old, new, what):
+        self.flows_of, self.sights, self.what = flows, (old, new), what
+        self.all, self.by_key, self.causes = [], {}, {}
+        self.flow_counts = Counter()
+        # of each flow its last group (from 1) and the kinds it is in; and what is in several groups
+        self.last, self.kinds, self.several = array("I", bytes(4 * len(flows.first))), bytearray(len(flows.first)), set()
+
+    def each(self):
+        """Groups the differences, and gives each record as (record, its bytes, its group)."""
+        if not any(self.what):
+            return
+        decisions = zip(*(sight.decisions(self.what) for sight in self.sights))
+        for record, _, _, _, _, _, data in records(self.flows_of.path, 160):
+            if self.what[record]:
+                (before, outcome_before), (after, outcome_after) = next(decisions)
+                yield record, data, self.take(record, data, (before, after, outcome_before, outcome_after))
+
+    def take(self, record, data, made):
+        flow, kind = self.flows_of.of[record], KINDS[self.what[record]]
+        unsent = [sight.replay for sight in self.sights if sight.replay.to[record] == NOT_SENT]
+        group = self.all[self.last[flow] - 1] if unsent and self.last[flow] else None
+        if group is None:
+            key = kind, *self.cause_of(kind, made)
+            group = self.by_key.get(key)
+        if group is None:
+            at = self.flows_of.at
+            group = Group(len(self.all) + 1, *key, (record, describe(data, at if len(data) >= at else None)))
+            self.by_key[key] = group
+            self.all.append(group)
+        group.take(record, self.begins(flow, group), self.tuple_of(record))
+        if not flow and len(data) >= self.flows_of.at + 20 and len(group.hosts) < MOST_TOLD_APART:
+            group.hosts.add(data[self.flows_of.at + 12:self.flows_of.at + 16])
+        group.not_sent += bool(unsent)
+        group.elsewhere += any(one.cut[flow] == ELSEWHERE for one in unsent)
+        return group
+
+    def cause_of(self, kind, made):
+        key = kind, *made
+        if key not in self.causes:
+            before, after = (
+                [told for told in map(sight.told, events) if told] for sight, events in zip(self.sights, made[:2]))
+            self.causes[key] = cause(kind, before, after, *made[2:])
+        return self.causes[key]
+
+    def begins(self, flow, group):
+        """Whether the group hasn't had this flow; a record of none is a flow of its own."""
+        bit = 1 << KINDS.index(group.kind)
+        self.flow_counts[group.kind] += not (flow and self.kinds[flow] & bit)
+        if not flow:
+            return True
+        self.kinds[flow] |= bit
+        before, self.last[flow] = self.last[flow], group.number
+        if before in (0, group.number):
+            return before == 0
+        self.several.add((flow, before))
+        known = (flow, group.number) in self.several
+        self.several.add((flow, group.number))
+        return not known
+
+    def tuple_of(self, record):
+        """The tuple of the flow's side 0, as this record has it."""
+        flows = self.flows_of
+        if not flows.of[record]:
+            return None
+        return inverse(flows.tuple_of(record)) if flows.role[record] & SIDE else flows.tuple_of(record)
+
+
+def without_beginning(flows):
+    """How many flows of TCP have no SYN in the capture."""
+    return sum(kind == TCP and not known & BEGUN for kind, known in zip(flows.kind[1:], flows.flags[1:]))

@@ -1,0 +1,360 @@
+"""Which records of a capture are one flow: both directions, through translation, with the ICMP errors about them.
+
+A flow is learned from the capture alone: by the tuples of its packets and their inverses, by the box's own outgoing
+copies (which tell what Linux made of a tuple), by the numbers of a TCP handshake, and where a capture has no copies, by
+what a first run made of it (`Flows.join`). Side 0 is that of the flow's first record, its original direction.
+"""
+from array import array
+
+from toolbox.captures import ETHERNET, IPV4, LINK_LENGTHS, LINUX_SLL2, PROTOCOL_AT, SENT_BY_US, TO_US, header_of, records
+from toolbox.packets import ACK, FIN, RST, SYN, TCP, error_tuple_at, identity, inverse, tuple_at
+
+# Of a record: its side, and what it is. An opener comes before any answer to its flow.
+SIDE, OPENER, SYN_ACK, ERROR = 1, 2, 4, 8
+# Of a flow. BEGUN: its beginning is in the capture. TRANSLATED, LEARNED: what Linux made of its tuple is another, is
+# known. SAW_SYN_ACK, ANSWERED_MIDWAY: of TCP, whether an answer came to a SYN, or to a flow without one. OWN: the box
+# began it itself.
+BEGUN, TRANSLATED, LEARNED, SAW_SYN_ACK, ANSWERED_MIDWAY, OWN = 1, 2, 4, 8, 16, 32
+
+MOST_READ = 160  # bytes of a record that are looked at: all headers, also those within an ICMP error
+WINDOW = 4096  # how many packets may come between one and its outgoing copy
+MOST_ALIKE = 15  # packets of one identity that wait for their copies
+SURELY_KEPT = 10  # seconds for which Linux keeps any connection that had a packet
+
+
+class Flows:
+    """Of each record its flow (0: none), role, tuple and place in the file, 17 bytes a record; of each flow some 40 bytes;
+    and the tuples.
+
+    `of`, `role`, `seen` and `offset` go by the record's number (from 1), `first`, `answered`, `acked`, `flags` and `kind`
+    by the flow's. `seen` is the place of the record's tuple in `tuples`; of an ICMP error the tuple of the answer to the
+    datagram in it. `answered` is the record of the first answer; `acked` the first record of the client behind a SYN and
+    ACK. `copies` and `own` count outgoing copies, and those that no packet came for: the box's own."""
+
+    def __init__(self, path, box, use_copies=True):
+        header = header_of(path)
+        self.path, self.link_type, self.aligned = path, header.link_type, header.aligned
+        self.at = LINK_LENGTHS[header.link_type]
+        self.of, self.role, self.seen, self.offset = array("I", [0]), bytearray(1), array("I", [0]), array("Q", [0])
+        self.tuples = [bytes(13)]
+        self.first, self.answered, self.acked = array("I", [0]), array("I", [0]), array("I", [0])
+        self.flags, self.kind = bytearray(1), bytearray(1)
+        self.copies = self.own = 0
+        # an aligned capture still has the ports that Linux chose in its copies
+        Reader(self, box, use_copies and not header.aligned).read()
+        self.count = len(self.of) - 1
+
+    def number(self):
+        """How many flows there are; `join` leaves numbers without records."""
+        return len(self.first) - 1
+
+    def tuple_of(self, record):
+        """The tuple of a record of a flow."""
+        return self.tuples[self.seen[record]]
+
+    def join(self, joined, errors=()):
+        """Makes one of two flows each: `joined` has of a flow the one (times two, and side) that its side 0 is. `errors`
+        has of records with ICMP errors the flow and side to which they belong."""
+        for number, value in dict(errors).items():
+            self.of[number], self.role[number] = value >> 1, ERROR | value & SIDE
+        of, role, answered = self.of, self.role, self.answered
+        for number in range(1, self.count + 1):
+            value = joined.get(of[number])
+            if value is None:
+                continue
+            flow, what = value >> 1, role[number] ^ value & SIDE
+            of[number] = flow
+            role[number] = what & ~(OPENER | SYN_ACK) if what & SIDE else what
+            if what & SIDE and not 0 < answered[flow] <= number:
+                answered[flow] = number
+        for number in range(1, self.count + 1):
+            if role[number] & OPENER and 0 < answered[of[number]] <= number:
+                role[number] &= ~OPENER  # what comes behind the answer opens nothing
+
+
+class Reader:
+    """Finds the flows of a capture in one pass; what it keeps for that is gone when it is done."""
+
+    def __init__(self, flows, box, use_copies):
+        self.flows, self.at = flows, flows.at
+        self.use_copies = use_copies and flows.link_type == LINUX_SLL2
+        self.limits, self.indices = box.limits(), box.index_bytes()
+        self.find, self.left = {}, {}  # by tuple its place in `tuples`; by tuple of a copy the flow and side that left so
+        self.owner = array("I", [0])  # by that place the flow times two, and side
+        # by the flow: its last second, its SYN's number, the sides of which it is known how they leave (1, 2)
+        self.last, self.begun_with, self.learned = array("I", [0]), array("q", [-1]), bytearray(1)
+        self.young, self.old, self.waiting = {}, {}, 0  # by identity: packets whose copies may come
+        self.syns, self.old_syns = {}, {}  # by the number that acknowledges them
+        self.sweep_at = 1 << 16
+
+    def read(self):
+        flows = self.flows
+        of, role, seen, offsets = flows.of.append, flows.role.append, flows.seen.append, flows.offset.append
+        smallest, latest, indices, enter, leave = self.at + 28, 0, self.indices, self.enter, self.leave
+        protocol_at, is_sll2, is_ethernet = (
+            PROTOCOL_AT[flows.link_type], flows.link_type == LINUX_SLL2, flows.link_type == ETHERNET)
+        for number, seconds, _, offset, _, _, data in records(flows.path, MOST_READ):
+            value = what = place = 0
+            if seconds > latest:
+                latest = seconds
+            if len(data) < smallest or protocol_at is not None and data[protocol_at:protocol_at + 2] != IPV4:
+                pass
+            elif not is_sll2:
+                if not is_ethernet or not data[0] & 1:
+                    value, what, place = enter(number, latest, data)
+            elif data[4:8] in indices:
+                if data[10] == SENT_BY_US:
+                    leave(number, latest, data)
+                elif data[10] == TO_US:
+                    value, what, place = enter(number, latest, data)
+            of(value >> 1)
+            role(what)
+            seen(place)
+            offsets(offset)
+
+    def place_of(self, key, value):
+        """The place of a tuple, which from now on is that of this flow and side."""
+        place = self.find.get(key)
+        if place is None:
+            place = self.find[key] = len(self.owner)
+            self.flows.tuples.append(key)
+            self.owner.append(value)
+        else:
+            self.owner[place] = value
+        return place
+
+    # Packets that enter
+
+    def enter(self, number, seconds, data):
+        """The flow of an entering packet (times two, and its side), its role, and its tuple's place."""
+        key = tuple_at(data, self.at)
+        if key is None:
+            return self.enter_error(number, data)
+        flows, is_tcp, flags = self.flows, key[12] == TCP, 0
+        if is_tcp:
+            flags = data[self.at + 4 * (data[self.at] & 15) + 13] & (FIN | SYN | RST | ACK)
+        place = self.find.get(key)
+        value = (self.owner[place] if place else 0) or self.by_inverse(key)
+        if value and (flags == SYN or seconds - self.last[value >> 1] >= self.limits[key[12]]):
+            value = self.still(value, seconds, key, flags, data)
+        if not value and flags & (SYN | ACK) == SYN | ACK:
+            value = self.by_handshake(key, data)
+        if not value:
+            value = self.begin(number, seconds, key, flags, data)
+            place = None
+        if place is None:
+            place = self.place_of(key, value)
+        flow, side = value >> 1, value & 1
+        if self.use_copies and (not self.learned[flow] >> side & 1 or seconds - self.last[flow] >= SURELY_KEPT):
+            self.wait(data, (value, key, number))
+        self.last[flow] = seconds
+        if is_tcp:
+            return value, side if flows.acked[flow] else side | self.role_of_tcp(number, flow, side, flags), place
+        return value, side if flows.answered[flow] else side | self.role_of_other(number, flow, side), place
+
+    def by_inverse(self, key):
+        """The flow and side of a tuple that comes for the first time, by its inverse; 0 if none."""
+        place = self.find.get(inverse(key))
+        value = self.owner[place] if place else 0
+        return value and value ^ 1
+
+    def still(self, value, seconds, key, flags, data):
+        """The flow of a packet of a known tuple, or 0 if it is the first of another: a lone SYN of another number, or one
+        that comes when the flow has expired."""
+        flow = value >> 1
+        if seconds - self.last[flow] >= self.limits[key[12]]:
+            return 0
+        if flags == SYN and self.begun_with[flow] != sequence_of(data, self.at):
+            return 0
+        return value
+
+    def wait(self, data, entry):
+        """Has a packet wait for its copy."""
+        mark, young = identity(data, self.at), self.young
+        # packets all alike mustn't cost more and more
+        young[mark] = young[mark][-MOST_ALIKE:] + (entry,) if mark in young else (entry,)
+        self.waiting += 1
+        if self.waiting > WINDOW:
+            self.old, self.young, self.waiting = young, {}, 0
+
+    def role_of_tcp(self, number, flow, side, flags):
+        flows = self.flows
+        known = flows.flags[flow]
+        if not known & BEGUN:
+            return self.role_midway(number, flow, side, flags)
+        if side == 0 and flags == SYN:
+            return 0 if flows.answered[flow] else OPENER
+        if not flows.answered[flow]:
+            flows.answered[flow] = number
+        if side == 1 and flags & (SYN | ACK) == SYN | ACK:
+            flows.flags[flow] = known | SAW_SYN_ACK
+            return SYN_ACK
+        if side == 0 and known & SAW_SYN_ACK:
+            flows.acked[flow] = number
+        return 0
+
+    def role_midway(self, number, flow, side, flags):
+        """Of a flow whose SYN isn't in the capture: it was there before, unless the other end answers with RST at once,
+        as it does to a scan."""
+        flows = self.flows
+        if flows.flags[flow] & ANSWERED_MIDWAY:
+            return 0
+        if side == 0:
+            return OPENER
+        if flags & RST:
+            flows.flags[flow] |= BEGUN
+            flows.answered[flow] = number
+        flows.flags[flow] |= ANSWERED_MIDWAY
+        return 0
+
+    def role_of_other(self, number, flow, side):
+        if side == 0:
+            return OPENER
+        self.flows.answered[flow] = number
+        return 0
+
+    def enter_error(self, number, data):
+        """An ICMP error belongs to the flow of the datagram in it, on the side that answers that."""
+        key = error_tuple_at(data, self.at)
+        if key is None:
+            return 0, 0, 0
+        place = self.find.get(key)
+        value = (self.owner[place] if place else 0) or self.by_inverse(key)
+        if place is None:
+            place = self.place_of(key, value)
+        if not value:
+            return 0, ERROR, place  # a run may tell to which flow it belongs
+        if value & 1 and not self.flows.answered[value >> 1]:
+            self.flows.answered[value >> 1] = number
+        return value, ERROR | value & 1, place
+
+    def begin(self, number, seconds, key, flags, data):
+        """Begins a flow; whatever had its tuple, or the inverse, hasn't any longer."""
+        flows, flow = self.flows, len(self.flows.first)
+        flows.first.append(number)
+        flows.answered.append(0)
+        flows.acked.append(0)
+        flows.flags.append(0 if key[12] == TCP and flags != SYN else BEGUN)
+        flows.kind.append(key[12])
+        self.last.append(seconds)
+        self.learned.append(0)
+        self.begun_with.append(sequence_of(data, self.at) if flags == SYN else -1)
+        place = self.find.get(key)
+        if place is not None:
+            self.learned[self.owner[place] >> 1] = 0
+        self.find.pop(inverse(key), None)
+        self.place_of(key, 2 * flow)
+        if flags == SYN:
+            self.syns[self.begun_with[flow] + 1 & 0xFFFFFFFF] = flow, key
+            if len(self.syns) > WINDOW:
+                self.old_syns, self.syns = self.syns, {}
+        if len(self.find) > self.sweep_at:
+            self.sweep(seconds)
+        return 2 * flow
+
+    def by_handshake(self, key, data):
+        """The flow of a SYN and ACK whose tuple isn't known, by the SYN that it acknowledges, if one end is the same."""
+        acknowledged = sequence_of(data, self.at, 8)
+        flow, asked = self.syns.get(acknowledged) or self.old_syns.get(acknowledged) or (0, None)
+        if flow == 0 or not has_common_end(asked, key):
+            return 0
+        self.flows.flags[flow] |= TRANSLATED | LEARNED
+        return 2 * flow + 1
+
+    # Copies of what the box sent
+
+    def leave(self, number, seconds, data):
+        """An outgoing copy: what Linux made of a packet that came, or a packet of the box's own."""
+        flows = self.flows
+        flows.copies += 1
+        key = tuple_at(data, self.at) if self.use_copies else None
+        if key is None:
+            return
+        value = self.left.get(key)
+        if (value and self.learned[value >> 1] >> (value & 1) & 1
+                and seconds - self.last[value >> 1] < SURELY_KEPT):
+            return  # a packet of this side has left so before, and Linux gave its port to no other since
+        inverted = inverse(key)
+        place = self.find.get(inverted)
+        value = self.owner[place] if place else 0
+        value = value and value ^ 1
+        came = self.take_waiting(identity(data, self.at), key)
+        if came is not None:
+            self.learn(key, inverted, seconds, *came)
+        elif value:
+            # an answer of the box itself
+            if value & 1 and not flows.answered[value >> 1]:
+                flows.answered[value >> 1] = number
+        else:
+            flows.own += 1
+            if key not in self.find:
+                # a question of the box's own: the answers to it begin nothing
+                flow = self.begin(number, seconds, key, 0, data) >> 1
+                flows.flags[flow] = OWN
+
+    def learn(self, key, inverted, seconds, value, as_it_came, its_number):
+        """A packet left with the tuple `key`: what answers it belongs to its flow."""
+        flows = self.flows
+        if key != as_it_came:
+            value = self.adopted(value, as_it_came, its_number, seconds, inverted)
+            flows.flags[value >> 1] |= TRANSLATED
+        flows.flags[value >> 1] |= LEARNED
+        self.place_of(inverted, value ^ 1)
+        self.learned[value >> 1] |= 1 << (value & 1)
+        self.left[key] = value
+
+    def take_waiting(self, mark, key):
+        """The packet that came as this copy's: of several alike the one that changed least."""
+        window = self.young if mark in self.young else self.old if mark in self.old else None
+        if window is None:
+            return None
+        alike = window[mark]
+        came = alike[0] if len(alike) == 1 else max(alike, key=lambda one: likeness(one[1], key))
+        rest = tuple(one for one in alike if one is not came)
+        if rest:
+            window[mark] = rest
+        else:
+            del window[mark]
+        return came
+
+    def adopted(self, value, as_it_came, number, seconds, inverted):
+        """The flow of a translated packet: that of `inverted`, if such a one lives and the packet seemed to begin
+        another, since the copy that would have told was lost."""
+        flows, flow, place = self.flows, value >> 1, self.find.get(inverted)
+        other = 0 if place is None else self.owner[place]
+        if (not other or other >> 1 == flow or flows.first[flow] != number or self.begun_with[flow] >= 0
+                or seconds - self.last[other >> 1] >= self.limits[inverted[12]]):
+            return value
+        value = other ^ 1
+        self.place_of(as_it_came, value)
+        flow, side = value >> 1, value & 1
+        flows.of[number], flows.role[number] = flow, side
+        self.last[flow] = seconds
+        if side and not flows.answered[flow]:
+            flows.answered[flow] = number
+        return value
+
+    def sweep(self, seconds):
+        """Forgets the tuples of what has expired."""
+        owner, last, limits = self.owner, self.last, self.limits
+        self.find = {key: place for key, place in self.find.items() if seconds - last[owner[place] >> 1] < limits[key[12]]}
+        self.left = {key: value for key, value in self.left.items() if seconds - last[value >> 1] < limits[key[12]]}
+        self.sweep_at = max(1 << 16, 2 * len(self.find))
+
+
+def sequence_of(data, at, place=4):
+    """The sequence number of TCP; 8 bytes behind its beginning stands the acknowledgement number."""
+    behind = at + 4 * (data[at] & 15) + place
+    return int.from_bytes(data[behind:behind + 4], "big")
+
+
+def has_common_end(asked, answer):
+    """Whether a tuple of an answer has an end of the question's: only the other one is translated."""
+    back = inverse(answer)
+    return (asked[4:8] == back[4:8] and asked[10:12] == back[10:12]) or (asked[:4] == back[:4] and asked[8:10] == back[8:10])
+
+
+def likeness(came, left):
+    """How much of a tuple stayed: the destination, the source, at least its port."""
+    same_port = came[8:10] == left[8:10]
+    return ((came[4:8] == left[4:8] and came[10:12] == left[10:12]) + (came[:4] == left[:4] and same_port) + same_port / 2)

@@ -1,0 +1,227 @@
+"""IPv4 packets: their tuples, what translation leaves of them, other ends for them, and words for them.
+
+A tuple is 13 bytes: source and destination address, source and destination port, as they stand in a packet, and the
+kind. The kind is the protocol's number, but 1 for an echo request and 255 (which is reserved) for an echo reply; an
+echo's identifier stands in a port's place, as conntrack has it. An end is 6 bytes, address and port.
+"""
+import struct
+
+ICMP, TCP, UDP = 1, 6, 17
+ASK, ANSWER, TCP_KIND, UDP_KIND = b"\x01", b"\xff", bytes([TCP]), bytes([UDP])
+USUAL_HEADER = 0x45  # version 4, without options
+ECHO_REPLY, ECHO_REQUEST = 0, 8
+ICMP_ERRORS = frozenset((3, 4, 5, 11, 12))
+FIN, SYN, RST, PSH, ACK, URG = 1, 2, 4, 8, 16, 32
+NO_PORT = b"\0\0"
+PROTOCOL_NAMES = {ICMP: "icmp", TCP: "tcp", UDP: "udp"}
+ICMP_NAMES = {0: "echo-reply", 3: "destination-unreachable", 4: "source-quench", 5: "redirect", 8: "echo-request",
+              11: "time-exceeded", 12: "parameter-problem", 13: "timestamp-request", 14: "timestamp-reply"}
+
+
+def tuple_at(data, at, cut=False):
+    """The tuple of the IPv4 packet that begins at `at`; None where it has none (a fragment, an ICMP error, a header that
+    doesn't fit). `cut` allows a transport header of 8 bytes."""
+    size = len(data)
+    if size >= at + 34 and data[at] == USUAL_HEADER and not data[at + 6] & 0x3F and not data[at + 7]:
+        protocol = data[at + 9]
+        if protocol == TCP:
+            return data[at + 12:at + 24] + TCP_KIND
+        if protocol == UDP:
+            return data[at + 12:at + 24] + UDP_KIND
+    if size < at + 24 or data[at] >> 4 != 4 or data[at + 6] & 0x3F or data[at + 7]:
+        return None
+    protocol, behind = data[at + 9], at + 4 * (data[at] & 15)
+    if size < behind + (14 if protocol == TCP else 8) and not (cut and size >= behind + 8):
+        return None
+    if protocol == TCP or protocol == UDP:
+        return data[at + 12:at + 20] + data[behind:behind + 4] + data[at + 9:at + 10]
+    if protocol != ICMP:
+        return data[at + 12:at + 20] + NO_PORT + NO_PORT + data[at + 9:at + 10]
+    if data[behind] == ECHO_REQUEST:
+        return data[at + 12:at + 20] + data[behind + 4:behind + 6] + NO_PORT + ASK
+    if data[behind] == ECHO_REPLY:
+        return data[at + 12:at + 20] + NO_PORT + data[behind + 4:behind + 6] + ANSWER
+    return None
+
+
+def error_tuple_at(data, at):
+    """Of an ICMP error the tuple of the answer to the datagram in it; None of other packets."""
+    if len(data) < at + 24 or data[at] >> 4 != 4 or data[at + 9] != ICMP or data[at + 6] & 0x3F or data[at + 7]:
+        return None
+    behind = at + 4 * (data[at] & 15)
+    if len(data) < behind + 36 or data[behind] not in ICMP_ERRORS:
+        return None
+    # the datagram is cut, so its own length isn't asked
+    inner = tuple_at(data, behind + 8, cut=True)
+    return inner and inverse(inner)
+
+
+def inverse_kind(kind):
+    return {ASK: ANSWER, ANSWER: ASK}.get(kind, kind)
+
+
+def inverse(key):
+    """The tuple of what answers."""
+    kind = key[12:]
+    return key[4:8] + key[:4] + key[10:12] + key[8:10] + (kind if kind != ASK and kind != ANSWER else inverse_kind(kind))
+
+
+def source_end(key):
+    return key[:4] + key[8:10]
+
+
+def destination_end(key):
+    return key[4:8] + key[10:12]
+
+
+def identity(data, at):
+    """What translation and forwarding leave of a packet, to know it again in its outgoing copy: length, identification,
+    and of the transport what isn't a port or a checksum."""
+    protocol, behind = data[at + 9], at + 4 * (data[at] & 15)
+    if protocol == TCP:
+        return data[at + 2:at + 6] + data[behind + 4:behind + 16]
+    if protocol == UDP:
+        return data[at + 2:at + 6] + data[behind + 4:behind + 6] + data[behind + 8:behind + 40]
+    if protocol == ICMP:
+        return data[at + 2:at + 6] + data[behind:behind + 2] + data[behind + 6:behind + 40]
+    return data[at + 2:at + 6] + data[behind:behind + 40]
+
+
+def without_ports(packet):
+    """An IPv4 packet without ports, identifier and checksums: what two boxes that chose other ports have in common."""
+    packet = bytearray(packet[:int.from_bytes(packet[2:4], "big")])
+    packet[10:12] = bytes(2)
+    behind = 4 * (packet[0] & 15)
+    if int.from_bytes(packet[6:8], "big") & 0x1FFF:
+        return bytes(packet)
+    for place, length in {TCP: ((0, 4), (16, 2)), UDP: ((0, 4), (6, 2)), ICMP: ((2, 4),)}.get(packet[9], ()):
+        packet[behind + place:behind + place + length] = bytes(length)
+    if packet[9] == ICMP and packet[behind] in ICMP_ERRORS:
+        del packet[behind + 8:]
+    return bytes(packet)
+
+
+# Checksums
+
+
+def checksum(data):
+    """The complement of the ones' complement sum of the 16-bit words (RFC 1071)."""
+    if len(data) % 2:
+        data += b"\0"
+    total = sum(struct.unpack(f">{len(data) // 2}H", data))
+    while total >> 16:
+        total = (total & 0xFFFF) + (total >> 16)
+    return total ^ 0xFFFF
+
+
+def corrected(check, old, new):
+    """The checksum over words that change from `old` to `new` (RFC 1624): a wrong one stays as wrong as it was."""
+    # 65,536 is 1 modulo 65,535, so the words' sum is that of the whole as one number
+    total = (int.from_bytes(check, "big") + int.from_bytes(old, "big") - int.from_bytes(new, "big")) % 0xFFFF
+    return total.to_bytes(2, "big")
+
+
+def checksum_place(packet, at, behind):
+    """Where the transport's checksum stands, or None where there is none."""
+    place = {TCP: behind + 16, UDP: behind + 6, ICMP: behind + 2}.get(packet[at + 9])
+    if place is None or place + 2 > len(packet) or packet[at + 9] == UDP and packet[place:place + 2] == NO_PORT:
+        return None
+    return place
+
+
+# Another destination for a packet
+
+
+def put(packet, place, new, checksums):
+    """Writes `new` at `place`, which is even, and corrects the checksums at `checksums`."""
+    old = bytes(packet[place:place + len(new)])
+    packet[place:place + len(new)] = new
+    for check in checksums:
+        packet[check:check + 2] = corrected(packet[check:check + 2], old, new)
+
+
+def change_end(packet, at, behind, address_place, port_place, end):
+    """Makes `end` the address and the port that stand at these places, with all checksums over them."""
+    protocol, check = packet[at + 9], checksum_place(packet, at, behind)
+    address = bytes(packet[address_place:address_place + 4])
+    packet[address_place:address_place + 4] = end[:4]
+    packet[at + 10:at + 12] = corrected(packet[at + 10:at + 12], address, end[:4])
+    if protocol in (TCP, UDP):
+        port = bytes(packet[port_place:port_place + 2])
+        packet[port_place:port_place + 2] = end[4:]
+        if check:
+            new = corrected(packet[check:check + 2], address + port, end)
+            # 0 would say that there is none
+            packet[check:check + 2] = b"\xff\xff" if protocol == UDP and new == NO_PORT else new
+    elif protocol == ICMP and packet[behind] in (ECHO_REPLY, ECHO_REQUEST):
+        put(packet, behind + 4, end[4:], [check] if check else [])
+
+
+def with_destination(packet, end):
+    """The IPv4 packet with `end` as its destination. Of an ICMP error the source of the datagram in it becomes `end`,
+    and the error's own destination where it was the same address."""
+    packet = bytearray(packet)
+    behind = 4 * (packet[0] & 15)
+    if packet[9] != ICMP or packet[behind] not in ICMP_ERRORS:
+        change_end(packet, 0, behind, 16, behind + 2, end)
+        return bytes(packet)
+    inner = behind + 8
+    inner_behind = inner + 4 * (packet[inner] & 15)
+    goes_to_sender = packet[16:20] == packet[inner + 12:inner + 16]
+    before = bytes(packet[inner:])
+    change_end(packet, inner, inner_behind, inner + 12, inner_behind, end)
+    after = bytes(packet[inner:])
+    padding = bytes(len(before) % 2)
+    packet[behind + 2:behind + 4] = corrected(packet[behind + 2:behind + 4], before + padding, after + padding)
+    if goes_to_sender:
+        put(packet, 16, end[:4], [10])
+    return bytes(packet)
+
+
+# Words
+
+
+def address_text(address):
+    return ".".join(map(str, address))
+
+
+def end_text(end):
+    """203.0.113.1:5000"""
+    return f"{address_text(end[:4])}:{int.from_bytes(end[4:6], 'big')}"
+
+
+def tuple_text(key):
+    """udp 192.168.1.10:5000 > 198.51.100.7:53"""
+    kind = key[12]
+    if kind in (TCP, UDP):
+        return f"{PROTOCOL_NAMES[kind]} {end_text(source_end(key))} > {end_text(destination_end(key))}"
+    addresses = f"{address_text(key[:4])} > {address_text(key[4:8])}"
+    if kind == ASK[0]:
+        return f"icmp {addresses} echo-request id {int.from_bytes(key[8:10], 'big')}"
+    if kind == ANSWER[0]:
+        return f"icmp {addresses} echo-reply id {int.from_bytes(key[10:12], 'big')}"
+    return f"protocol {kind} {addresses}"
+
+
+def describe(data, at):
+    """The packet in words: its tuple, or what else can be said of it."""
+    if at is None or len(data) < at + 20 or data[at] >> 4 != 4:
+        return "no IPv4 packet"
+    found = tuple_at(data, at)
+    if found:
+        return tuple_text(found)
+    addresses = f"{address_text(data[at + 12:at + 16])} > {address_text(data[at + 16:at + 20])}"
+    if data[at + 6] & 0x3F or data[at + 7]:
+        return f"fragment {addresses}"
+    behind = at + 4 * (data[at] & 15)
+    if data[at + 9] != ICMP or len(data) < behind + 2:
+        return f"{PROTOCOL_NAMES.get(data[at + 9], f'protocol {data[at + 9]}')} {addresses}"
+    about = error_tuple_at(data, at)
+    name = ICMP_NAMES.get(data[behind], f"type {data[behind]}")
+    return f"icmp {addresses} {name} code {data[behind + 1]}" + (f" about {tuple_text(inverse(about))}" if about else "")
+
+
+def flags_text(flags):
+    """syn ack"""
+    names = (("syn", SYN), ("ack", ACK), ("fin", FIN), ("rst", RST), ("psh", PSH), ("urg", URG))
+    return " ".join(name for name, bit in names if flags & bit) or "no flags"

@@ -1,0 +1,255 @@
+"""A ruleset over a capture as it would have been: answers go to the ends that this ruleset chose, and what a host
+wouldn't have sent, since nothing answered it, isn't sent.
+
+Each round runs nftrun and decides anew, for each record, where it goes; the rounds end when one decides as the round
+before. A decision rests on earlier records alone, so each round settles one more at least, and there is one end.
+"""
+import os
+import shutil
+import struct
+from array import array
+
+from toolbox import program
+from toolbox.captures import LINK_LENGTHS, LINUX_SLL2, RAW_IP, SENT_BY_US, header_of, records
+from toolbox.commands import Refused
+from toolbox.flows import BEGUN, ERROR, OPENER, SAW_SYN_ACK, SIDE, SYN_ACK, TRANSLATED
+from toolbox.packets import TCP, destination_end, inverse, source_end, tuple_at, with_destination
+from toolbox.reports import outcomes_of
+
+# Where a record goes: as it came, to an end (its place in `ends`, from 1), or nowhere
+AS_CAPTURED, NOT_SENT = 0, 0xFFFFFFFF
+# Why a flow's later records aren't sent: what begins it didn't go through; another host would answer
+STOPPED, ELSEWHERE = 1, 2
+PASSED, LOCAL = 1, 2  # as `outcomes_of` numbers them here
+OUT_LINK = LINK_LENGTHS[LINUX_SLL2]
+MOST_ROUNDS = 12
+MOST_CHANGED = 2048  # bytes of a record within which its headers stand, or the whole datagram of an ICMP error
+
+
+class Files:
+    """Where the runs of one ruleset put their files, in a folder that is gone in the end."""
+
+    def __init__(self, folder, name):
+        self.report = os.path.join(folder, name + ".report.txt")
+        self.leaving = os.path.join(folder, name + ".out.pcap")
+        self.replayed = os.path.join(folder, name + ".in.pcap")
+
+
+class Replay:
+    """One ruleset over the flows of a capture. With `cuts` what follows on a first packet that didn't go through isn't
+    sent, but for flows that are `spared`. `like` is another replay that is likely to end near, to begin with. With
+    `as_captured` there is one run, of the capture as it is.
+
+    Afterwards `to` and `ends` tell where each record goes, `cut` of each flow why it was cut, `outcomes` and `names` how
+    each record ended; `files` has the last report and what left."""
+
+    def __init__(self, path, rules, box, flows, files, cuts, spared=None, like=None, as_captured=False):
+        self.program, self.rules, self.box, self.flows, self.files = path, rules, box, flows, files
+        self.cuts, self.spared = cuts, spared
+        self.names = {b"passed": PASSED, b"local": LOCAL}
+        self.to, self.ends = (like.to, like.ends) if like else (array("I", bytes(4 * (flows.count + 1))), [])
+        self.cut = bytearray(flows.number() + 1)
+        self.rounds, self.settled, self.written_to = 0, as_captured, None
+        if as_captured:
+            self.run()
+            if not flows.copies or flows.aligned:
+                self.join(self.decide(False))
+        while not self.settled and self.rounds < MOST_ROUNDS:
+            self.rounds += 1
+            self.run()
+            # answers that don't go to this ruleset's ends yet are dropped, which is no reason to cut
+            self.take(self.decide(cuts and (self.rounds > 1 or like is not None)))
+        self.numbers = {number: name.decode() for name, number in self.names.items()}
+
+    def run(self):
+        capture = self.written() if any(self.to) else self.flows.path
+        program.run(self.program, self.rules, self.box, capture, self.files.leaving, self.files.report)
+        self.outcomes = outcomes_of(self.files.report, self.names)
+        if len(self.outcomes) != self.flows.count + 1:
+            raise Refused(f"{self.flows.path} has {self.flows.count} records, and the report on {self.rules} "
+                          f"{len(self.outcomes) - 1}")
+
+    def decide(self, cuts):
+        decisions = Decisions(self, cuts)
+        decisions.make()
+        return decisions
+
+    def join(self, decisions):
+        """Joins the flows that a run shows to be one; answers whether there are any."""
+        if decisions.joined or decisions.joined_errors:
+            self.flows.join(decisions.joined, decisions.joined_errors)
+            return True
+        return False
+
+    def take(self, decisions):
+        """Takes the decisions of a round, and settles if they are those of the round before."""
+        joins = self.join(decisions)
+        if joins or self.rounds == 1 and self.cuts and not any(decisions.to):
+            decisions = self.decide(self.cuts)
+        self.settled = decisions.to == self.to and decisions.ends == self.ends
+        self.to, self.ends, self.cut = decisions.to, decisions.ends, decisions.cut
+
+    def outcome(self, record):
+        """How a record ended; "not sent" where the host wouldn't have sent it."""
+        return "not sent" if self.to[record] == NOT_SENT else self.numbers[self.outcomes[record]]
+
+    def leaving_packets(self):
+        """Of each record in order (from 1) the frame that left, or None."""
+        leaving = records(self.files.leaving)
+        for outcome in self.outcomes[1:]:
+            yield next(leaving)[6] if outcome == PASSED else None
+
+    def redirected(self):
+        """The records that go to another end than they came with."""
+        return [record for record, place in enumerate(self.to) if place not in (AS_CAPTURED, NOT_SENT)]
+
+    def written(self):
+        """The capture as it would have been. What isn't sent becomes a record of the same length and time that no rule
+        sees, so that numbers stay."""
+        if self.written_to == (self.to, self.ends):
+            return self.files.replayed
+        flows = self.flows
+        shutil.copyfile(flows.path, self.files.replayed)
+        lengths = struct.Struct(header_of(flows.path).order + "I")
+        with open(flows.path, "rb") as source, open(self.files.replayed, "r+b", buffering=0) as target:
+            read, write = source.fileno(), target.fileno()
+            for record, place in enumerate(self.to):
+                if place == AS_CAPTURED:
+                    continue
+                offset = flows.offset[record]
+                if place == NOT_SENT:
+                    silence(write, offset, flows.link_type)
+                    continue
+                head = os.pread(read, MOST_CHANGED, offset - 8)
+                packet = head[8 + flows.at:8 + lengths.unpack_from(head)[0]]
+                os.pwrite(write, with_destination(packet, self.ends[place - 1]), offset + flows.at)
+        self.written_to = self.to, self.ends
+        return self.files.replayed
+
+
+def silence(file, offset, link_type):
+    """Makes a record one that no rule sees, for `link`, `version` or `notip`."""
+    if link_type == LINUX_SLL2:
+        os.pwrite(file, bytes([SENT_BY_US]), offset + 10)
+    elif link_type == RAW_IP:
+        os.pwrite(file, b"\0", offset)
+    else:
+        os.pwrite(file, b"\0\0", offset + 12)
+
+
+class Decisions:
+    """Where each record goes after a round, by the outcomes and what left."""
+
+    def __init__(self, replay, cuts):
+        flows = self.flows = replay.flows
+        self.outcomes, self.leaving = replay.outcomes, records(replay.files.leaving, OUT_LINK + 108)
+        self.cuts, self.spared = cuts, replay.spared
+        self.to, self.ends, self.places = array("I", bytes(4 * (flows.count + 1))), [], {}
+        self.cut = bytearray(len(flows.first))
+        self.opened = bytearray(len(flows.first))  # PASSED, LOCAL: an opener went through; 4: a SYN and ACK did
+        # by flow times two, and side: the tuple with which its packets have to come, the one with which they last left
+        self.choice, self.left_as = {}, {}
+        # without copies a run tells which later flow is the other side of an earlier one
+        self.expected = None if flows.copies and not flows.aligned or replay.spared else {}
+        self.joined, self.joined_errors = {}, {}
+
+    def make(self):
+        flows, outcomes, leaving = self.flows, self.outcomes, self.leaving
+        of, role, seen, tuples, known, cuts = flows.of, flows.role, flows.seen, flows.tuples, flows.flags, self.cuts
+        choice, left_as = self.choice, self.left_as
+        for record in range(1, flows.count + 1):
+            outcome = outcomes[record]
+            frame = next(leaving)[6] if outcome == PASSED else None
+            flow = of[record]
+            what = role[record]
+            if not flow:
+                if what and self.expected is not None:
+                    self.look_for_error(record)
+                continue
+            side = what & SIDE
+            if cuts and known[flow] & BEGUN and self.is_cut(record, flow):
+                self.to[record] = NOT_SENT
+                continue
+            if outcome == PASSED or outcome == LOCAL:
+                if what & OPENER:
+                    self.opened[flow] |= outcome
+                elif what & SYN_ACK:
+                    self.opened[flow] |= 4
+            wanted = choice.get(2 * flow + side)
+            if wanted is not None:
+                came = tuples[seen[record]]
+                if came != wanted and not self.send_to(record, flow, side, came, wanted):
+                    continue
+            elif side and cuts and self.is_answered_by_box(record, flow):
+                continue
+            if what & ERROR:
+                continue
+            if self.expected is not None and flows.first[flow] == record:
+                self.look_for_join(record, flow)
+            if frame is not None:
+                left = tuple_at(frame, OUT_LINK)
+                if left is not None and left_as.get(2 * flow + side) != left:
+                    self.learn(record, flow, side, left)
+
+    def is_cut(self, record, flow):
+        if self.spared and self.spared[flow]:
+            return False
+        if not self.cut[flow] and self.stops(record, flow):
+            self.cut[flow] = STOPPED
+        return self.cut[flow]
+
+    def stops(self, record, flow):
+        """Whether what comes before this record didn't go through, so that it wouldn't have been sent."""
+        flows, opened = self.flows, self.opened[flow]
+        answered, acked = flows.answered[flow], flows.acked[flow]
+        if answered and record >= answered and not opened & (PASSED | LOCAL):
+            return True
+        return bool(acked and record >= acked and flows.flags[flow] & SAW_SYN_ACK and not opened & 4)
+
+    def send_to(self, record, flow, side, came, wanted):
+        """Sends a record to the end that the ruleset chose; not where it comes from another host than the ruleset sent
+        the flow to: that one's answers aren't known. Answers whether it is sent."""
+        if source_end(came) != source_end(wanted):
+            if self.cuts and side and self.flows.flags[flow] & BEGUN:
+                self.cut[flow], self.to[record] = ELSEWHERE, NOT_SENT
+                return False
+            return True
+        end = destination_end(wanted)
+        place = self.places.get(end)
+        if place is None:
+            self.ends.append(end)
+            place = self.places[end] = len(self.ends)
+        self.to[record] = place
+        return True
+
+    def is_answered_by_box(self, record, flow):
+        """Whether the ruleset delivers a flow of TCP to the box itself, whose answers aren't known."""
+        if self.opened[flow] & (PASSED | LOCAL) != LOCAL or self.flows.kind[flow] != TCP:
+            return False
+        if not self.flows.flags[flow] & BEGUN:
+            return False
+        self.cut[flow], self.to[record] = ELSEWHERE, NOT_SENT
+        return True
+
+    def look_for_join(self, record, flow):
+        """Whether this flow is the other side of an earlier one, as what left of that one tells."""
+        value = self.expected.pop(self.flows.tuple_of(record), None)
+        if value is not None and value >> 1 in self.joined:
+            value = self.joined[value >> 1] ^ value & 1
+        if value is not None and value >> 1 != flow:
+            self.joined[flow] = value
+
+    def look_for_error(self, record):
+        """Whether an ICMP error of no flow is about what left of one."""
+        value = self.expected.get(self.flows.tuple_of(record))
+        if value is not None:
+            self.joined_errors[record] = self.joined.get(value >> 1, value & ~1) ^ value & 1
+
+    def learn(self, record, flow, side, left):
+        """What left, as the tuple `left`, tells with which one the other side's packets have to come."""
+        self.left_as[2 * flow + side] = left
+        if self.flows.flags[flow] & TRANSLATED or left != self.flows.tuple_of(record):
+            answer = inverse(left)
+            self.choice[2 * flow + (side ^ 1)] = answer
+            if self.expected is not None:
+                self.expected[answer] = 2 * flow + (side ^ 1)

@@ -1,0 +1,159 @@
+"""Reports of nftrun run --trace (README.md, "Reading the report"), streamed."""
+import re
+from collections import Counter, namedtuple
+
+from toolbox.commands import Refused
+
+CHUNK = 1 << 20
+OUTCOME = re.compile(rb"^trace \d+ outcome (\w+)$", re.MULTILINE)
+EVENT = re.compile(rb"^(trace|log) [0-9]+ (.*)$", re.MULTILINE)
+TOTAL = re.compile(rb"[a-z]+(?: [a-z]+)? [0-9]+")
+COUNTER = re.compile(rb"counter (\S+ \S+ \S+) ([0-9]+) ([0-9]+) packets ([0-9]+) bytes ([0-9]+)")
+DECISION = re.compile(rb"(\S+ \S+ \S+) ([0-9]+|policy) (.+)", re.DOTALL)
+LOGGED = re.compile(rb"(\S+ \S+ \S+) ([0-9]+)(?: (.*))?", re.DOTALL)
+
+# what became of a packet that nothing dropped
+THROUGH = ("passed", "local")
+
+# `rule` is None where the policy decides; `chain` is "FAMILY TABLE CHAIN"
+Decision = namedtuple("Decision", "chain rule verdict")
+Log = namedtuple("Log", "chain rule prefix")
+RuleCounter = namedtuple("RuleCounter", "chain rule which packets bytes")
+
+
+def text_of(data):
+    return data.decode("utf-8", "surrogateescape")
+
+
+def lines_of(path):
+    """The whole lines of a report, as bytes without their end: a log's prefix may hold any byte but that one."""
+    try:
+        with open(path, "rb") as file:
+            for line in file:
+                if line.endswith(b"\n"):
+                    yield line[:-1]
+    except OSError as error:
+        raise Refused(f"{path}: {error.strerror}") from None
+
+
+def records_of(path):
+    """Each record of a report, as (number, events, outcome). Events are what stands behind `trace N `, and `log ` with
+    what stands behind `log N `, all as bytes; `event_of` reads them. Without a trace there are records only where
+    something was logged, and the outcome is None; a report that broke off gives what is whole."""
+    current, events = None, []
+    for line in lines_of(path):
+        word, _, rest = line.partition(b" ")
+        if word != b"trace" and word != b"log":
+            break
+        number, _, what = rest.partition(b" ")
+        if number != current:
+            if events:
+                yield number_of(current), events, None
+            current, events = number, []
+        if word == b"log":
+            events.append(b"log " + what)
+        elif what.startswith(b"outcome "):
+            yield number_of(number), events, what[8:]
+            events = []
+        else:
+            events.append(what)
+    if events:
+        yield number_of(current), events, None
+
+
+def number_of(word):
+    if not word.isdigit():
+        raise Refused(f"no line of a report: record {text_of(word)}")
+    return int(word)
+
+
+def event_of(event):
+    """A Decision or a Log."""
+    is_log = event.startswith(b"log ")
+    parts = (LOGGED if is_log else DECISION).fullmatch(event[4:] if is_log else event)
+    if parts is None:
+        raise Refused(f"no line of a report: {text_of(event)}")
+    chain, rule, rest = parts.groups()
+    if is_log:
+        return Log(text_of(chain), int(rule), text_of(rest or b""))
+    return Decision(text_of(chain), None if rule == b"policy" else int(rule), text_of(rest))
+
+
+def outcomes_of(path, names):
+    """Of each record (from 1) the number of its outcome in `names`, which grows: a byte a record."""
+    outcomes, rest = bytearray(1), b""
+    with open(path, "rb") as file:
+        while True:
+            chunk = file.read(CHUNK)
+            whole = rest + chunk
+            end = whole.rfind(b"\n") + 1
+            for name in OUTCOME.findall(whole, 0, end):
+                number = names.get(name)
+                if number is None:
+                    number = names[name] = len(names) + 1
+                outcomes.append(number)
+            rest = whole[end:]
+            if not chunk:
+                return outcomes
+
+
+class Summary:
+    """What a report tells in all: how often each event, each outcome; its counters and totals. `name` is what messages
+    call the report."""
+
+    def __init__(self, path, name=None):
+        self.name = name or path
+        self.counted = Counter()  # what stands behind `trace N ` or `log N `, with that word
+        self.counters, self.totals = [], {}
+        rest, lines = b"", 0
+        try:
+            with open(path, "rb") as file:
+                while chunk := file.read(CHUNK):
+                    rest += chunk
+                    end = rest.rfind(b"\n") + 1
+                    self.take_lines(rest[:end], lines)
+                    lines += rest.count(b"\n", 0, end)
+                    rest = rest[end:]
+        except OSError as error:
+            raise Refused(f"{path}: {error.strerror}") from None
+        self.events, self.outcomes = Counter(), Counter()
+        for (word, what), number in self.counted.items():
+            if word == b"trace" and what.startswith(b"outcome "):
+                self.outcomes[text_of(what[8:])] += number
+            else:
+                self.events[event_of(b"log " + what if word == b"log" else what)] += number
+
+    def take_lines(self, lines, number):
+        """Takes whole lines, of which the first is line `number` + 1 of the report."""
+        events = EVENT.findall(lines)
+        self.counted.update(events)
+        if len(events) == lines.count(b"\n"):
+            return
+        for line in lines.split(b"\n")[:-1]:
+            number += 1
+            if not EVENT.fullmatch(line):
+                self.take_total(line, number)
+
+    def take_total(self, line, number):
+        parts = COUNTER.fullmatch(line)
+        if parts:
+            self.counters.append(RuleCounter(text_of(parts[1]), *map(int, parts.groups()[1:])))
+        elif TOTAL.fullmatch(line):
+            name, _, total = text_of(line).rpartition(" ")
+            self.totals[name] = int(total)
+        else:
+            raise Refused(f"{self.name}: line {number} is none of a report: {text_of(line)}")
+
+    def check_whole(self):
+        """Refuses a report that broke off, or that was made without --trace."""
+        if "torn" not in self.totals or "records" not in self.totals:
+            raise Refused(f"{self.name}: the report isn't whole: it has no line `torn`")
+        if sum(self.outcomes.values()) != self.totals["records"]:
+            raise Refused(f"{self.name}: the report lacks outcomes: run nftrun with --trace")
+
+    def decisions(self):
+        """Each decision with how often it was taken."""
+        return {event: number for event, number in self.events.items() if isinstance(event, Decision)}
+
+    def logs(self):
+        return {event: number for event, number in self.events.items() if isinstance(event, Log)}

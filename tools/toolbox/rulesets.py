@@ -1,0 +1,242 @@
+"""Rulesets as text (docs/LANGUAGE.md): chains and rules with their numbers, lines and texts.
+
+What nftrun refuses may be read here as anything.
+"""
+import re
+from collections import namedtuple
+
+from toolbox.commands import Refused, read_text
+
+TOKEN = re.compile(
+    r"""(?P<blank>[ \t\r]+|\\\n|\#[^\n]*)
+      | (?P<newline>\n)
+      | (?P<word>[A-Za-z_][A-Za-z0-9_./-]*)
+      | (?P<number>0x[0-9A-Fa-f]+|[0-9]+(?:\.[0-9]+){3}|[0-9]+)
+      | (?P<string>"[^"\n]*")
+      | (?P<mark>==|!=|<=|>=|.)""",
+    re.VERBOSE | re.DOTALL,
+)
+Token = namedtuple("Token", "kind text line parted")
+
+# Selectors whose values may be spelled like statements: an interface may be called `log`,
+# `redirect` is a type of ICMP, and `snat` a status.
+WORDY_SELECTORS = ("iifname", "oifname", "iif", "oif", "icmp type", "ct status")
+OPERATORS = ("==", "!=", "<", ">", "<=", ">=")
+ENDS = ("accept", "drop", "return", "goto")
+VERDICTS = (*ENDS, "continue", "jump", "vmap")
+TRANSLATIONS = ("snat", "dnat", "masquerade", "redirect")
+PRIORITIES = {"raw": -300, "mangle": -150, "dstnat": -100, "filter": 0, "security": 50, "srcnat": 100}
+EARLY = -200  # filter chains of prerouting up to here run before connections are looked for
+
+
+class Rule:
+    """One rule: its chain as reports name it, its number there, its first line and its text."""
+
+    def __init__(self, chain, number, tokens):
+        self.chain = chain
+        self.number = number
+        self.line = tokens[0].line
+        self.tokens = tokens
+        self.text = "".join((" " if token.parted else "") + token.text for token in tokens).strip()
+        self.words = list(statement_words(tokens))
+        self.decides = any(word in VERDICTS + TRANSLATIONS for word in self.words)
+        self.logs = "log" in self.words
+        self.counter_starts = list(counter_starts(self.words))
+
+    @property
+    def place(self):
+        return self.chain, self.number
+
+
+class Chain:
+    """One chain: `name` is "FAMILY TABLE CHAIN". A chain without a hook is led to by others alone."""
+
+    def __init__(self, name, line):
+        self.name = name
+        self.line = line
+        self.type = self.hook = None
+        self.priority, self.policy = 0, "accept"
+        self.rules = []
+
+    @property
+    def is_early(self):
+        return self.type == "filter" and self.hook == "prerouting" and self.priority <= EARLY
+
+    def take_head(self, texts):
+        """Reads `type filter hook forward priority filter + 5` or `policy drop`."""
+        if texts[0] == "policy":
+            self.policy = "".join(texts[1:2])
+        elif texts[0] == "type" and "hook" in texts and "priority" in texts:
+            self.type = texts[1]
+            self.hook = "".join(texts[texts.index("hook") + 1:][:1])
+            self.priority = priority_of(texts[texts.index("priority") + 1:])
+
+
+class Ruleset:
+    """The chains and rules of a text, in its order."""
+
+    def __init__(self, text):
+        self.text = text
+        self.chains = list(chains_of(text))
+        self.rules = [rule for chain in self.chains for rule in chain.rules]
+        self.by_place = {rule.place: rule for rule in self.rules}
+        self.by_name = {chain.name: chain for chain in self.chains}
+
+    def text_of(self, chain, number):
+        """The text of a rule as a report names it, or of the policy where `number` is None."""
+        if number is None:
+            return "policy"
+        rule = self.by_place.get((chain, number))
+        return rule.text if rule else f"rule {number}"
+
+
+def read_ruleset(path):
+    return Ruleset(read_text(path))
+
+
+def rules_of(text):
+    """The rules of a ruleset, in the order of its text."""
+    return Ruleset(text).rules
+
+
+def tokens_of(text):
+    """The tokens of a ruleset; `parted` tells whether something stands before one."""
+    line, parted = 1, False
+    for match in TOKEN.finditer(text):
+        if match.lastgroup != "blank":
+            yield Token(match.lastgroup, match.group(), line, parted)
+        parted = match.lastgroup in ("blank", "newline")
+        line += match.group().count("\n")
+
+
+def chains_of(text):
+    tokens = list(tokens_of(text))
+    table = None
+    position = 0
+    while position < len(tokens):
+        word = tokens[position].text
+        if word == "table" and table is None:
+            names, position = head_of_block(tokens, position + 1)
+            family, name = names if len(names) == 2 else ("ip", "".join(names[-1:]))
+            table = f"{family} {name}"
+        elif word in ("chain", "set", "map") and table is not None:
+            line = tokens[position].line
+            names, position = head_of_block(tokens, position + 1)
+            end = end_of_block(tokens, position)
+            if word == "chain":
+                yield chain_of(f"{table} {' '.join(names)}", line, tokens[position:end])
+            position = end + 1
+        else:
+            if word == "}":
+                table = None
+            position += 1
+
+
+def head_of_block(tokens, position):
+    """The names before a brace that opens, and the position behind it."""
+    names = []
+    while position < len(tokens) and tokens[position].text != "{":
+        names.append(tokens[position].text)
+        position += 1
+    return names, position + 1
+
+
+def end_of_block(tokens, position):
+    """The position of the brace that closes the block whose first token stands at `position`."""
+    depth = 1
+    while position < len(tokens):
+        depth += {"{": 1, "}": -1}.get(tokens[position].text, 0)
+        if depth == 0:
+            break
+        position += 1
+    return position
+
+
+def chain_of(name, line, tokens):
+    """The chain of the tokens between its braces."""
+    chain = Chain(name, line)
+    for piece in lines_of_chain(tokens):
+        if piece[0].text in ("type", "policy"):
+            chain.take_head([token.text for token in piece])
+        elif piece[0].text != "comment":
+            chain.rules.append(Rule(name, len(chain.rules) + 1, piece))
+    return chain
+
+
+def lines_of_chain(tokens):
+    """What stands between the ends (newlines and semicolons) that are in no braces."""
+    line, depth = [], 0
+    for token in tokens:
+        depth += {"{": 1, "}": -1}.get(token.text, 0)
+        if depth == 0 and token.text in ("\n", ";"):
+            if line:
+                yield line
+            line = []
+        elif token.kind != "newline":
+            line.append(token)
+    if line:
+        yield line
+
+
+def priority_of(texts):
+    """The number of `filter`, `-5`, `dstnat + 10`."""
+    total, sign = 0, 1
+    for text in texts:
+        if text in "+-":
+            sign = -1 if text == "-" else 1
+        elif text in PRIORITIES:
+            total += PRIORITIES[text]
+        elif text.isdecimal():
+            total += sign * int(text)
+    return total
+
+
+def statement_words(tokens):
+    """The words and numbers of a rule without names, elements, and words that are values."""
+    texts = [token.text for token in tokens]
+    position = 0
+    while position < len(texts):
+        text, kind = texts[position], tokens[position].kind
+        pair = " ".join(texts[position:position + 2])
+        if text == "{":
+            position = end_of_block(tokens, position + 1) + 1
+        elif text == "@":
+            position += 2
+        elif pair in WORDY_SELECTORS:
+            position = behind_value(tokens, position + 2)
+        elif text in WORDY_SELECTORS:
+            position = behind_value(tokens, position + 1)
+        else:
+            if kind in ("word", "number"):
+                yield text
+            position += 2 if text in ("jump", "goto") else 1
+
+
+def behind_value(tokens, position):
+    """The position behind the words with which a selector is compared, or where it was if none."""
+    texts = [token.text for token in tokens] + ["", ""]
+    if texts[position] in OPERATORS:
+        position += 1
+    if texts[position] in ("map", "vmap") and texts[position + 1] in ("@", "{"):
+        return position
+    while position < len(tokens) and tokens[position].kind == "word":
+        position += 1
+        if texts[position] not in (",", "-"):
+            break
+        position += 1
+    return position
+
+
+def counter_starts(words):
+    """For each counter statement the number of packets from which it counts."""
+    for position, word in enumerate(words):
+        if word == "counter":
+            starts_elsewhere = words[position + 1:position + 2] == ["packets"]
+            yield number_of("".join(words[position + 2:position + 3])) if starts_elsewhere else 0
+
+
+def number_of(text):
+    try:
+        return int(text, 16 if text.startswith("0x") else 10)
+    except ValueError:
+        raise Refused(f"`counter packets {text}` in the ruleset: a number is wanted") from None

@@ -1,0 +1,162 @@
+"""One record of a run: how it came, the rules on its way, what translation made of it, and its flow."""
+from itertools import islice
+
+from toolbox.boxes import Box
+from toolbox.captures import LINK_LENGTHS, LINUX_SLL2, RECORD_HEADER, header_of, interface_of, packet_at, records
+from toolbox.commands import Refused
+from toolbox.flows import ERROR, SIDE, Flows
+from toolbox.packets import TCP, describe, destination_end, end_text, flags_text, inverse, source_end, tuple_at
+from toolbox.replay import AS_CAPTURED, Replay
+from toolbox.reports import Decision, event_of, records_of, text_of
+from toolbox.rulesets import TRANSLATIONS, read_ruleset
+
+OUT_LINK = LINK_LENGTHS[LINUX_SLL2]
+
+
+class Why:
+    """What is known of one record after a run of the capture as it is."""
+
+    def __init__(self, record, rules, box, capture, program, files):
+        self.record, self.capture = record, capture
+        self.ruleset, self.box, self.header = read_ruleset(rules), Box(box), header_of(capture)
+        self.link_type = self.header.link_type
+        self.flows = Flows(capture, self.box)
+        if not 1 <= record <= self.flows.count:
+            raise Refused(f"{capture} has {self.flows.count} records, and no record {record}")
+        self.replay = Replay(program, rules, box, self.flows, files, cuts=False, as_captured=True)
+        self.read_record()
+        self.read_events()
+        self.flow, self.role = self.flows.of[record], self.flows.role[record]
+        self.members = [number for number, flow in enumerate(self.flows.of) if flow == self.flow] if self.flow else [record]
+        self.read_frames()
+        first = self.flows.first[self.flow] if self.flow else record
+        self.first_outcome = self.replay.outcome(first)
+        decisions = self.replay.decide(False)
+        # by flow times two, and side, the tuple with which its last packet left
+        self.left_as = decisions.left_as
+        place = decisions.to[record]
+        # the end to which an answer has to go in this run, where it isn't the one in the capture
+        self.wanted = None if place == AS_CAPTURED else decisions.ends[place - 1]
+
+    def read_record(self):
+        """The bytes of the record, its moment, and how it came."""
+        with open(self.capture, "rb") as file:
+            file.seek(self.flows.offset[self.record] - RECORD_HEADER)
+            head = file.read(RECORD_HEADER)
+            order = {"<": "little", ">": "big"}[self.header.order]
+            self.seconds, self.fraction, length = (int.from_bytes(head[at:at + 4], order) for at in (0, 4, 8))
+            self.data = file.read(length)
+        self.at = packet_at(self.data, self.link_type)
+        self.key = None if self.at is None else tuple_at(self.data, self.at)
+        index = interface_of(self.data, self.link_type) if self.link_type == LINUX_SLL2 else self.box.entering()
+        self.came_by = self.box.interface_name(index)
+
+    def read_events(self):
+        _, events, outcome = next(islice(records_of(self.replay.files.report), self.record - 1, None))
+        self.outcome = text_of(outcome)
+        self.events = [event_of(event) for event in events]
+        self.decisions = [event for event in self.events if isinstance(event, Decision)]
+
+    def read_frames(self):
+        """What left of the flow's records, by number."""
+        wanted = set(self.members)
+        self.left = {number: frame for number, frame in enumerate(self.replay.leaving_packets(), 1) if number in wanted}
+        frame = self.left.get(self.record)
+        self.key_left = None if frame is None else tuple_at(frame, OUT_LINK)
+
+    def behind_mapping(self):
+        """The inner end that has this packet's destination as its external one in this run, or None."""
+        outside = destination_end(self.key)
+        for value, left in self.left_as.items():
+            if value & 1 == 0 and left[12] == self.key[12] and source_end(left) == outside:
+                inside = source_end(self.flows.tuple_of(self.flows.first[value >> 1]))
+                return inside if inside != outside else None
+        return None
+
+    def answered_flow(self):
+        """An earlier flow that this packet would answer, with how many seconds had gone since its last record; or None."""
+        for value, left in self.left_as.items():
+            flow = value >> 1
+            if flow != self.flow and inverse(left) == self.key:
+                last = max((number for number, of in enumerate(self.flows.of[:self.record]) if of == flow), default=0)
+                return (flow, self.seconds - self.seconds_of(last)) if last else None
+        return None
+
+    def seconds_of(self, record):
+        with open(self.capture, "rb") as file:
+            file.seek(self.flows.offset[record] - RECORD_HEADER)
+            return int.from_bytes(file.read(4), {"<": "little", ">": "big"}[self.header.order])
+
+    def moment(self, seconds=None, fraction=None):
+        digits = len(str(self.header.fractions)) - 1
+        return f"{self.seconds if seconds is None else seconds}.{self.fraction if fraction is None else fraction:0{digits}}"
+
+    # In words, each part as lines
+
+    def arrival(self):
+        came = describe(self.data, self.at)
+        if self.at is None or len(self.data) < self.at + 20:
+            return [f"{came}, {len(self.data)} bytes"]
+        flags = ""
+        if self.key is not None and self.key[12] == TCP:
+            flags = f", {flags_text(self.data[self.at + 4 * (self.data[self.at] & 15) + 13])}"
+        length = int.from_bytes(self.data[self.at + 2:self.at + 4], "big")
+        return [f"{came}{flags}, {length} bytes, TTL {self.data[self.at + 8]}", f"came by {self.came_by}"]
+
+    def way(self):
+        """A line for each decision and log: hook, rule, verdict, text."""
+        lines, hook = [], ""
+        for event in self.events:
+            chain = self.ruleset.by_name.get(event.chain)
+            if chain is not None and chain.hook:
+                hook = chain.hook
+            rule = self.ruleset.by_place.get((event.chain, event.rule))
+            what = event.verdict if isinstance(event, Decision) else "log"
+            place = f"{event.chain} {'policy' if event.rule is None else event.rule}"
+            text = f"  line {rule.line}: {rule.text}" if rule else ""
+            lines.append(f"{hook:<11} {place:<28} {what:<11}{text}".rstrip())
+        return lines or ["no rule saw it"]
+
+    def translation(self):
+        if self.key is None or self.key_left is None:
+            return []
+        by = [event.verdict for event in self.decisions if event.verdict in TRANSLATIONS]
+        lines = []
+        for name, end in (("source", source_end), ("destination", destination_end)):
+            if end(self.key) != end(self.key_left):
+                lines.append(f"{name} {end_text(end(self.key))} became {end_text(end(self.key_left))}")
+        if lines:
+            lines.append(f"by {' and '.join(by)}" if by else "as its connection, or a mapping, says")
+        return lines
+
+    def result(self, number):
+        """Where a record went."""
+        frame = self.left.get(number)
+        if frame is None:
+            return self.replay.outcome(number)
+        return f"left by {self.box.interface_name(interface_of(frame, LINUX_SLL2))} as {describe(frame, OUT_LINK)}"
+
+    def flow_lines(self, most):
+        """The flow's records, those near this one if there are more than `most`."""
+        if not self.flow:
+            return ["it is of no flow"]
+        place = self.members.index(self.record)
+        begin = 0 if most is None else max(0, min(place - most // 2, len(self.members) - most))
+        shown = self.members[begin:None if most is None else begin + most]
+        chosen, lines = set(shown), []
+        for number, seconds, fraction, _, _, _, data in records(self.capture, 160):
+            if number in chosen:
+                lines.append(self.member_line(number, self.moment(seconds, fraction), data))
+            if number >= shown[-1]:
+                break
+        rest = len(self.members) - len(shown)
+        return lines + ([f"and {rest} more (--all)"] if rest else [])
+
+    def member_line(self, number, moment, data):
+        role = self.flows.role[number]
+        direction = ("error about " if role & ERROR else "") + ("reply" if role & SIDE else "original")
+        at = packet_at(data, self.link_type)
+        key = None if at is None else tuple_at(data, at)
+        flags = f" {flags_text(data[at + 4 * (data[at] & 15) + 13])}" if key is not None and key[12] == TCP else ""
+        mark = ">" if number == self.record else " "
+        return f"{mark} {number} at {moment}, {direction}: {describe(data, at)}{flags}; {self.result(number)}"
