@@ -58,7 +58,7 @@ static FILES: [&str; 10] = [
     "ends.rows",
     "reports.rows",
     "rules.rows",
-    "histories.rows",
+    "hihistories.rows",
 ];
 
 /// The expected diagnostics.
