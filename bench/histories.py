@@ -532,11 +532,11 @@ def rows():
 
 
 def main(words):
-    path = os.path.join(DATA, "hihistories.rows")
+    path = os.path.join(DATA, "histories.rows")
     if words == ["--check"]:
         with open(path, encoding="utf-8") as it:
             if it.read() != rows():
-                print("crates/golden_runs/data/hihistories.rows differs from what bench/histories.py writes")
+                print("crates/golden_runs/data/histories.rows differs from what bench/histories.py writes")
                 return 1
         return 0
     with open(path, "w", encoding="utf-8") as it:

@@ -58,7 +58,7 @@ static FILES: [&str; 10] = [
     "ends.rows",
     "reports.rows",
     "rules.rows",
-    "hihistories.rows",
+    "histories.rows",
 ];
 
 /// The expected diagnostics.
