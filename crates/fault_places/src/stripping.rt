@@ -68,7 +68,7 @@ pub fn with_parts(
     Ok(whole)
 }
 
-/// Where the last of these parts stands in what `with_parts` gives for them.
+/// The last of these parts, as a part of the text that `with_parts` gives for them.
 pub fn last_part(removed: &[RemovedPart]) -> Option<Span> {
     let (last, others) = removed.split_last()?;
     let mut start = last.offset;
