@@ -31,12 +31,12 @@ then_nil (k ∷ ks) b e = not_nil k ks e
 abbrev pub at : List Row → Option (Text × List Text) → Held
 at rows pending = record { rows = rows; pending = pending; skip = 0 }
 
-abbrev pub stand : Waiting → Held → ℕ → Bool → Walk
-stand waiting h p t =
+abbrev pub walk_with : Waiting → Held → ℕ → Bool → Walk
+walk_with waiting h p t =
     record { held = h; waiting = waiting; position = p; is_trailing = t; stopped = None }
 
-abbrev pub standing : Held → ℕ → Bool → Walk
-standing h p t = stand idle h p t
+abbrev pub idle_walk : Held → ℕ → Bool → Walk
+idle_walk h p t = walk_with idle h p t
 
 abbrev pub end_of : Shape → Walk → List Text → Walk
 end_of s w rest = fold (walked s.rules []) w rest
@@ -122,17 +122,17 @@ module _ (s : Shape) (asks : AsksHelp s) where
       ))
 
   abbrev pub after_met : Waiting → Held → ℕ → Text → Held × Step → Walk
-  after_met waiting h p word m = after_step s.rules word (stand waiting h p false) m.0 m.1
+  after_met waiting h p word m = after_step s.rules word (walk_with waiting h p false) m.0 m.1
 
   abbrev pub next_of : Waiting → Held → ℕ → Text → Walk
-  next_of waiting h p word = to_positional s.rules (arg_by_index s.rules p) word (stand waiting h p true) h
+  next_of waiting h p word = to_positional s.rules (arg_by_index s.rules p) word (walk_with waiting h p true) h
 
   -- one more word before any `--`
   pub parse_step : (waiting : Waiting) (rows : List Row) (pending : Option (Text × List Text)) (p : ℕ)
       (word : Text) (rest : List Text) (Out : Walk → Type 0)
-      → walk_fault s [] (stand waiting (at rows pending) p false) (word ∷ rest) ≡ []
-      → (bytes_eq word (codes "--") ≡ true → walk_fault s [] (stand waiting (at rows pending) p true) rest ≡ []
-      → Out (end_of s (stand waiting (at rows pending) p true) rest))
+      → walk_fault s [] (walk_with waiting (at rows pending) p false) (word ∷ rest) ≡ []
+      → (bytes_eq word (codes "--") ≡ true → walk_fault s [] (walk_with waiting (at rows pending) p true) rest ≡ []
+      → Out (end_of s (walk_with waiting (at rows pending) p true) rest))
       → ((q : Text × Option Text) → bytes_eq word (codes "--") ≡ false → long_of word ≡ Some q
       → long_fault s.rules s.args_override_self (arg_by_long s.rules q.0) q.1 (at rows pending) ≡ []
       → walk_fault s [] (after_met waiting (at rows pending) p word
@@ -146,7 +146,7 @@ module _ (s : Shape) (asks : AsksHelp s) where
       (plain_word s.rules waiting word (at rows pending))) rest ≡ []
       → Out (end_of s (after_met waiting (at rows pending) p word
       (plain_word s.rules waiting word (at rows pending))) rest))
-      → Out (end_of s (stand waiting (at rows pending) p false) (word ∷ rest))
+      → Out (end_of s (walk_with waiting (at rows pending) p false) (word ∷ rest))
   unfolding walked walk_fault
   parse_step waiting rows pending p word rest Out e dashes flag other =
       subst (λ (o : Option Text). P o) (sym (none_met waiting word)) base e
@@ -183,11 +183,11 @@ module _ (s : Shape) (asks : AsksHelp s) where
   -- one more word after a `--`
   pub trail : (waiting : Waiting) (rows : List Row) (pending : Option (Text × List Text)) (p : ℕ) (word : Text)
       (rest : List Text) (Out : Walk → Type 0)
-      → walk_fault s [] (stand waiting (at rows pending) p true) (word ∷ rest) ≡ []
+      → walk_fault s [] (walk_with waiting (at rows pending) p true) (word ∷ rest) ≡ []
       → (step_fault s p (at rows pending) value ≡ [] → walk_fault s []
       (next_of waiting (at rows pending) p word) rest ≡ []
       → Out (end_of s (next_of waiting (at rows pending) p word) rest))
-      → Out (end_of s (stand waiting (at rows pending) p true) (word ∷ rest))
+      → Out (end_of s (walk_with waiting (at rows pending) p true) (word ∷ rest))
   unfolding walked walk_fault
   trail waiting rows pending p word rest Out e next = next (first_nil _ _ e) (then_nil _ _ e)
 

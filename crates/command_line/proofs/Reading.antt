@@ -39,7 +39,7 @@ use Rattle.command_line.specs.steps.Given.{HasTask, GivesTask}
 use Rattle.command_line.specs.declared.task.Task.{Task}
 use Rattle.command_line.specs.steps.Program.{flag_rule, path_rule, program_app, report_rule}
 use Rattle.command_line.proofs.Rows.{Holds, appended, appended_anew, check_ends, check_rows, flag_of, has_row-at, holds_more, row, row_at, row_of, run_ends, run_rows, source_of, set_row, unset_row, with_row, Known}
-use Rattle.command_line.proofs.ParseSteps.{AsksHelp, at, end_of, first_nil, long_text, not_nil, stand, standing, then_nil, trail, parse_step, word_is}
+use Rattle.command_line.proofs.ParseSteps.{AsksHelp, at, end_of, first_nil, long_text, not_nil, walk_with, idle_walk, then_nil, trail, parse_step, word_is}
 use Rattle.command_line.proofs.Words.{Seen, View, flag_dashes, flag_end, flag_met, flag_plain, flag_view, no_flag, view, view_attached, view_dashes, view_end, view_flag, view_plain, view_waits, waiting_view}
 use Rattle.command_line.specs.declared.task.Task.TheVariants.{Run, Check, Explain}
 
@@ -103,8 +103,8 @@ run_asks x rest h next e = help_short run.rules (104 == x || false) rest h next 
 check_asks : AsksHelp check
 check_asks x rest h next e = help_short check.rules (104 == x || false) rest h next e
 
-telling_asks : AsksHelp explaining
-telling_asks x rest h next e = help_short explaining.rules (104 == x || false) rest h next e
+explaining_asks : AsksHelp explaining
+explaining_asks x rest h next e = help_short explaining.rules (104 == x || false) rest h next e
 
 -- ---- long flags
 
@@ -195,7 +195,7 @@ pub moves : (s : Shape) (b u : Bool) (rows : List Row) (pending : Pending) (id w
       position = p;
       is_trailing = u || false;
       stopped = None;
-    }) (standing (at (so_far s rows pending) (Some (id, word ∷ []))) p u)
+    }) (idle_walk (at (so_far s rows pending) (Some (id, word ∷ []))) p u)
 moves s true true rows pending id word p = refl
 moves s true false rows pending id word p = refl
 moves s false true rows pending id word p = refl
@@ -321,7 +321,7 @@ check_required a b met all h = λ j. missing_check (h.0 j) (h.1.0 j)
 -- ---- a run, word for word, with the paths that were met so far
 
 abbrev pub waits_for_file : List Row → ℕ → Bool → Walk
-waits_for_file rows p t = stand (option (codes "report")) (at rows (Some (codes "report", []))) p t
+waits_for_file rows p t = walk_with (option (codes "report")) (at rows (Some (codes "report", []))) p t
 
 module _ (a b c d : Option Text) (p : ℕ) (front : List Text → List Text) where
   abbrev Out : View → Walk → Type 0
@@ -339,7 +339,7 @@ module _ (a b c d : Option Text) (p : ℕ) (front : List Text → List Text) whe
 
   abbrev next_walk : Bool → Text → List Row → Pending → Walk
   next_walk t word rows pending = to_positional run.rules (arg_by_index run.rules p) word
-      (standing (at rows pending) p t) (at rows pending)
+      (idle_walk (at rows pending) p t) (at rows pending)
 
   abbrev Next : Type 0
   Next = (t met : Bool) (file : Option Text) (word : Text) (rest : List Text) (rows : List Row) (pending : Pending)
@@ -350,8 +350,8 @@ module _ (a b c d : Option Text) (p : ℕ) (front : List Text → List Text) whe
 
   abbrev Goes : Bool → Bool → Option Text → List Text → List Row → Pending → Type 0
   Goes t met file rest rows pending = Holds (run_rows a b c d met file) (so_far run rows pending)
-      → walk_fault run [] (standing (at rows pending) p t) rest ≡ []
-      → Out (view t met file rest) (end_of run (standing (at rows pending) p t) rest)
+      → walk_fault run [] (idle_walk (at rows pending) p t) rest ≡ []
+      → Out (view t met file rest) (end_of run (idle_walk (at rows pending) p t) rest)
 
   abbrev Waits : Bool → List Text → List Row → Type 0
   Waits met rest rows = Holds (run_rows a b c d met None) rows
@@ -374,16 +374,16 @@ module _ (a b c d : Option Text) (p : ℕ) (front : List Text → List Text) whe
 
     -- after a `--`
     doomed_trail : (waiting : Waiting) (rows : List Row) (vs : List Text) (rest : List Text) → Unsettled rows vs
-        → walk_fault run [] (stand waiting (at rows (Some (codes "report", vs))) p true) rest ≡ []
-        → Faulty (end_of run (stand waiting (at rows (Some (codes "report", vs))) p true) rest)
+        → walk_fault run [] (walk_with waiting (at rows (Some (codes "report", vs))) p true) rest ≡ []
+        → Faulty (end_of run (walk_with waiting (at rows (Some (codes "report", vs))) p true) rest)
     doomed_trail waiting rows vs [] never e = never
     doomed_trail waiting rows vs (word ∷ rest) never e =
         trail run run_asks waiting rows (Some (codes "report", vs)) p word rest Faulty e
         (λ steps left. absurd (doomed_step rows vs never steps))
 
     doomed : (rows : List Row) (vs : List Text) (rest : List Text) → Unsettled rows vs
-        → walk_fault run [] (standing (at rows (Some (codes "report", vs))) p false) rest ≡ []
-        → Faulty (end_of run (standing (at rows (Some (codes "report", vs))) p false) rest)
+        → walk_fault run [] (idle_walk (at rows (Some (codes "report", vs))) p false) rest ≡ []
+        → Faulty (end_of run (idle_walk (at rows (Some (codes "report", vs))) p false) rest)
     doomed rows vs [] never e = never
     doomed rows vs (word ∷ rest) never e = parse_step run run_asks idle rows (Some (codes "report", vs)) p word
         rest Faulty e
@@ -413,10 +413,10 @@ module _ (a b c d : Option Text) (p : ℕ) (front : List Text → List Text) whe
         → bytes_eq word (codes "--") ≡ false → long_of word ≡ Some (codes "trace", None)
         → long_fault run.rules run.args_override_self (arg_by_long run.rules (codes "trace")) None
         (at rows pending) ≡ []
-        → walk_fault run [] (standing (at (flagged (codes "trace") (so_far run rows pending)) None) p false) rest ≡ []
+        → walk_fault run [] (idle_walk (at (flagged (codes "trace") (so_far run rows pending)) None) p false) rest ≡ []
         → (met ≡ false → Goes false true file rest (flagged (codes "trace") (so_far run rows pending)) None)
         → Out (view false met file (word ∷ rest)) (end_of run
-        (standing (at (flagged (codes "trace") (so_far run rows pending)) None) p false) rest)
+        (idle_walk (at (flagged (codes "trace") (so_far run rows pending)) None) p false) rest)
     at_flag met file word rest rows pending h is long fault left goes =
         let all = so_far run rows pending in
         let unmet : met ≡ false = once (codes "trace") met all h.1.1.1.1.1.0
@@ -426,7 +426,7 @@ module _ (a b c d : Option Text) (p : ℕ) (front : List Text → List Text) whe
         holds_more (run_rows a b c d met file) all (set_row (codes "trace")) none h in
         let so = goes unmet (subst (Holds (run_rows a b c d true file))
         (sym (flagged_row (codes "trace") all none)) more) left in
-        let W : Walk = end_of run (standing (at (flagged (codes "trace") all) None) p false) rest in
+        let W : Walk = end_of run (idle_walk (at (flagged (codes "trace") all) None) p false) rest in
         subst (λ (m : Bool). Out (view false m file (word ∷ rest)) W) (sym unmet)
         (subst (λ (v : View). Out v W) (sym (view_flag file word rest is (ap report_option long)
         (flag_text word (codes "trace") long))) so)
@@ -438,10 +438,10 @@ module _ (a b c d : Option Text) (p : ℕ) (front : List Text → List Text) whe
         → bytes_eq word (codes "--") ≡ false → long_of word ≡ Some (codes "report", Some f)
         → long_fault run.rules run.args_override_self (arg_by_long run.rules (codes "report")) (Some f)
         (at rows pending) ≡ []
-        → walk_fault run [] (standing (at (reported f (so_far run rows pending)) None) p false) rest ≡ []
+        → walk_fault run [] (idle_walk (at (reported f (so_far run rows pending)) None) p false) rest ≡ []
         → Goes false met (Some f) rest (reported f (so_far run rows pending)) None
         → Out (view false met file (word ∷ rest)) (end_of run
-        (standing (at (reported f (so_far run rows pending)) None) p false) rest)
+        (idle_walk (at (reported f (so_far run rows pending)) None) p false) rest)
     at_file f met (Some g) word rest rows pending h is long fault left goes =
         absurd (again (codes "report") (row (codes "report") g) (so_far run rows pending) h.1.1.1.1.0
         (then_nil (settle_fault run.rules run.args_override_self (at rows pending)) _ fault))
@@ -451,7 +451,7 @@ module _ (a b c d : Option Text) (p : ℕ) (front : List Text → List Text) whe
         holds_more (run_rows a b c d met None) all (row (codes "report") f) h.1.1.1.1.0 h in
         let so = goes (subst (Holds (run_rows a b c d met (Some f)))
         (sym (settled_row (codes "report") f all h.1.1.1.1.0)) more) left in
-        let W : Walk = end_of run (standing (at (reported f all) None) p false) rest in
+        let W : Walk = end_of run (idle_walk (at (reported f all) None) p false) rest in
         subst (λ (v : View). Out v W) (sym (view_attached met f word rest is (ap report_option long))) so
 
     -- the file for the report, in the next word
@@ -462,7 +462,7 @@ module _ (a b c d : Option Text) (p : ℕ) (front : List Text → List Text) whe
         → Waits met rest (so_far run rows pending)
         → Out (view false met file (word ∷ rest)) (end_of run (waits_for_file (so_far run rows pending) p false) rest)
     at_option met (Some g) word rest rows pending h is long left waits =
-        λ settles checks. absurd (twice g (so_far run rows pending) rest h.1.1.1.1.0 left settles)
+        λ completes checks. absurd (twice g (so_far run rows pending) rest h.1.1.1.1.0 left completes)
     at_option met None word rest rows pending h is long left waits =
         let W : Walk = end_of run (waits_for_file (so_far run rows pending) p false) rest in
         subst (λ (v : View). Out v W) (sym (view_waits met word rest is (ap report_option long))) (waits h left)
@@ -476,7 +476,7 @@ module _ (a b c d : Option Text) (p : ℕ) (front : List Text → List Text) whe
         → Goes false met file (word ∷ rest) rows pending
     one met file word rest rows pending dashes flags files waits h e =
         parse_step run run_asks idle rows pending p word rest (Out (view false met file (word ∷ rest))) e
-        (λ is left. subst (λ (v : View). Out v (end_of run (standing (at rows pending) p true) rest))
+        (λ is left. subst (λ (v : View). Out v (end_of run (idle_walk (at rows pending) p true) rest))
         (sym (view_dashes met file word rest is)) (dashes h left))
         flag
         (λ is long steps left.
@@ -488,7 +488,7 @@ module _ (a b c d : Option Text) (p : ℕ) (front : List Text → List Text) whe
       where
         moved : Text × Option Text → Walk
         moved q = let m = long_word run.rules idle word q.0 q.1 (at rows pending) in
-            after_step run.rules word (standing (at rows pending) p false) m.0 m.1
+            after_step run.rules word (idle_walk (at rows pending) p false) m.0 m.1
 
         At : Text × Option Text → Type 0
         At q = bytes_eq word (codes "--") ≡ false → long_of word ≡ Some q
@@ -514,8 +514,8 @@ module _ (a b c d : Option Text) (p : ℕ) (front : List Text → List Text) whe
     file_word met word rest rows goes h e =
         parse_step run run_asks (option (codes "report")) rows (Some (codes "report", [])) p word rest
         (Out (waiting_view met (word ∷ rest))) e
-        (λ is left. λ settles checks. absurd (doomed_trail (option (codes "report")) rows [] rest
-        (empty_file rows) left settles))
+        (λ is left. λ completes checks. absurd (doomed_trail (option (codes "report")) rows [] rest
+        (empty_file rows) left completes))
         (λ q is long fault left. absurd (empty_file rows (run_flag q _ fault).1))
         (λ is long steps left. goes (subst (Holds (run_rows a b c d met (Some word)))
         (sym (settled_row (codes "report") word rows h.1.1.1.1.0))
@@ -524,7 +524,7 @@ module _ (a b c d : Option Text) (p : ℕ) (front : List Text → List Text) whe
     mutual
       walk_on : (t met : Bool) (file : Option Text) (rest : List Text) (rows : List Row) (pending : Pending)
           → Goes t met file rest rows pending
-      walk_on t met file [] rows pending h e = λ settles checks.
+      walk_on t met file [] rows pending h e = λ completes checks.
           subst (λ (v : View). IsRun ((front v.0.0, v.0.1), v.1) (finished run.rules (at rows pending)))
           (sym (view_end t met file)) (finish met file (so_far run rows pending) h checks)
       walk_on true met file (word ∷ rest) rows pending h e =
@@ -537,7 +537,7 @@ module _ (a b c d : Option Text) (p : ℕ) (front : List Text → List Text) whe
           (wait_on met rest (so_far run rows pending)) h e
 
       wait_on : (met : Bool) (rest : List Text) (rows : List Row) → Waits met rest rows
-      wait_on met [] rows h e = λ settles checks. absurd (empty_file rows settles)
+      wait_on met [] rows h e = λ completes checks. absurd (empty_file rows completes)
       wait_on met (word ∷ rest) rows h e = file_word met word rest rows
           (walk_on false met (Some word) rest rows (pending_value (codes "report") word)) h e
 
@@ -636,7 +636,7 @@ module _ (a b : Option Text) (p : ℕ) (front : List Text → List Text) where
 
   abbrev check_walk : Bool → Text → List Row → Pending → Walk
   check_walk t word rows pending = to_positional check.rules (arg_by_index check.rules p) word
-      (standing (at rows pending) p t) (at rows pending)
+      (idle_walk (at rows pending) p t) (at rows pending)
 
   abbrev CheckEnd : Type 0
   CheckEnd = (met : Bool) (all : List Row) → Holds (check_rows a b met) all
@@ -652,8 +652,8 @@ module _ (a b : Option Text) (p : ℕ) (front : List Text → List Text) where
 
   abbrev Checks : Bool → Bool → List Text → List Row → Pending → Type 0
   Checks t met rest rows pending = Holds (check_rows a b met) (so_far check rows pending)
-      → walk_fault check [] (standing (at rows pending) p t) rest ≡ []
-      → Checked (check_view t met rest) (end_of check (standing (at rows pending) p t) rest)
+      → walk_fault check [] (idle_walk (at rows pending) p t) rest ≡ []
+      → Checked (check_view t met rest) (end_of check (idle_walk (at rows pending) p t) rest)
 
   -- the flag
   at_all : (met : Bool) (word : Text) (rest : List Text) (rows : List Row) (pending : Pending)
@@ -661,10 +661,10 @@ module _ (a b : Option Text) (p : ℕ) (front : List Text → List Text) where
       → bytes_eq word (codes "--") ≡ false → long_of word ≡ Some (codes "all", None)
       → long_fault check.rules check.args_override_self (arg_by_long check.rules (codes "all")) None
       (at rows pending) ≡ []
-      → walk_fault check [] (standing (at (flagged (codes "all") (so_far check rows pending)) None) p false) rest ≡ []
+      → walk_fault check [] (idle_walk (at (flagged (codes "all") (so_far check rows pending)) None) p false) rest ≡ []
       → Checks false true rest (flagged (codes "all") (so_far check rows pending)) None
       → Checked (check_view false met (word ∷ rest)) (end_of check
-      (standing (at (flagged (codes "all") (so_far check rows pending)) None) p false) rest)
+      (idle_walk (at (flagged (codes "all") (so_far check rows pending)) None) p false) rest)
   at_all met word rest rows pending h is long fault left goes =
       let all = so_far check rows pending in
       let unmet : met ≡ false = once (codes "all") met all h.1.1.0
@@ -673,7 +673,7 @@ module _ (a b : Option Text) (p : ℕ) (front : List Text → List Text) where
       let more : Holds (check_rows a b true) (all ++ set_row (codes "all") ∷ []) =
       holds_more (check_rows a b met) all (set_row (codes "all")) none h in
       let so = goes (subst (Holds (check_rows a b true)) (sym (flagged_row (codes "all") all none)) more) left in
-      let W : Walk = end_of check (standing (at (flagged (codes "all") all) None) p false) rest in
+      let W : Walk = end_of check (idle_walk (at (flagged (codes "all") all) None) p false) rest in
       subst (λ (m : Bool). Checked (check_view false m (word ∷ rest)) W) (sym unmet)
       (subst (λ (v : Seen). Checked v W) (sym (flag_met (codes "--all") word rest is
       (flag_text word (codes "all") long))) so)
@@ -685,7 +685,7 @@ module _ (a b : Option Text) (p : ℕ) (front : List Text → List Text) where
         → Checks false met (word ∷ rest) rows pending
     check_one met word rest rows pending dashes flags h e =
         parse_step check check_asks idle rows pending p word rest (Checked (check_view false met (word ∷ rest))) e
-        (λ is left. subst (λ (v : Seen). Checked v (end_of check (standing (at rows pending) p true) rest))
+        (λ is left. subst (λ (v : Seen). Checked v (end_of check (idle_walk (at rows pending) p true) rest))
         (sym (flag_dashes (codes "--all") met word rest is)) (dashes h left))
         (λ q is long fault left. subst At (sym (check_flag q (at rows pending) fault))
         (λ i l f w. at_all met word rest rows pending h i l f w flags) is long fault left)
@@ -697,7 +697,7 @@ module _ (a b : Option Text) (p : ℕ) (front : List Text → List Text) where
       where
         moved : Text × Option Text → Walk
         moved q = let m = long_word check.rules idle word q.0 q.1 (at rows pending) in
-            after_step check.rules word (standing (at rows pending) p false) m.0 m.1
+            after_step check.rules word (idle_walk (at rows pending) p false) m.0 m.1
 
         At : Text × Option Text → Type 0
         At q = bytes_eq word (codes "--") ≡ false → long_of word ≡ Some q
@@ -777,36 +777,36 @@ operands_by : (word : Text) (rest : List Text) (b : Bool) → bytes_eq word (cod
 operands_by word rest b is = ap (λ (d : Bool). cond d rest (word ∷ operands rest)) is
 
 explaining1 : (a : Text) (t : Bool) (rest : List Text)
-    → walk_fault explaining [] (standing (at [] (pending_value (codes "code") a)) 2 t) rest ≡ []
+    → walk_fault explaining [] (idle_walk (at [] (pending_value (codes "code") a)) 2 t) rest ≡ []
     → GivesExplain (a ∷ operands_from t rest) (end_of explaining
-    (standing (at [] (pending_value (codes "code") a)) 2 t) rest)
+    (idle_walk (at [] (pending_value (codes "code") a)) 2 t) rest)
 explaining1 a t [] e = λ _. (a, ap (λ (l : List Text). a ∷ l) (none_left t), refl)
 explaining1 a true (word ∷ rest) e =
-    trail explaining telling_asks idle [] (pending_value (codes "code") a) 2 word rest
+    trail explaining explaining_asks idle [] (pending_value (codes "code") a) 2 word rest
     (GivesExplain (a ∷ word ∷ rest)) e (λ bad left. not_nil _ _ bad)
 explaining1 a false (word ∷ rest) e =
-    parse_step explaining telling_asks idle [] (pending_value (codes "code") a) 2 word rest
+    parse_step explaining explaining_asks idle [] (pending_value (codes "code") a) 2 word rest
     (GivesExplain (a ∷ operands (word ∷ rest))) e
     (λ is left. subst (λ (ops : List Text). GivesExplain (a ∷ ops)
-    (end_of explaining (standing (at [] (pending_value (codes "code") a)) 2 true) rest))
+    (end_of explaining (idle_walk (at [] (pending_value (codes "code") a)) 2 true) rest))
     (sym (operands_by word rest true is)) (explaining1 a true rest left))
     (λ q is long fault left. absurd (no_long_telling q _ fault))
     (λ is long bad left. not_nil _ _ bad)
 
-explaining0 : (t : Bool) (rest : List Text) → walk_fault explaining [] (standing (at [] None) 1 t) rest ≡ []
-    → GivesExplain (operands_from t rest) (end_of explaining (standing (at [] None) 1 t) rest)
+explaining0 : (t : Bool) (rest : List Text) → walk_fault explaining [] (idle_walk (at [] None) 1 t) rest ≡ []
+    → GivesExplain (operands_from t rest) (end_of explaining (idle_walk (at [] None) 1 t) rest)
 explaining0 t [] e = λ bad. not_nil _ _ bad
 explaining0 true (word ∷ rest) e =
-    trail explaining telling_asks idle [] None 1 word rest (GivesExplain (word ∷ rest)) e
+    trail explaining explaining_asks idle [] None 1 word rest (GivesExplain (word ∷ rest)) e
     (λ steps left. explaining1 word true rest left)
 explaining0 false (word ∷ rest) e =
-    parse_step explaining telling_asks idle [] None 1 word rest (GivesExplain (operands (word ∷ rest))) e
+    parse_step explaining explaining_asks idle [] None 1 word rest (GivesExplain (operands (word ∷ rest))) e
     (λ is left. subst (λ (ops : List Text). GivesExplain ops
-    (end_of explaining (standing (at [] None) 1 true) rest)) (sym (operands_by word rest true is))
+    (end_of explaining (idle_walk (at [] None) 1 true) rest)) (sym (operands_by word rest true is))
     (explaining0 true rest left))
     (λ q is long fault left. absurd (no_long_telling q _ fault))
     (λ is long steps left. subst (λ (ops : List Text). GivesExplain ops
-    (end_of explaining (standing (at [] (pending_value (codes "code") word)) 2 false) rest))
+    (end_of explaining (idle_walk (at [] (pending_value (codes "code") word)) 2 false) rest))
     (sym (operands_by word rest false is)) (explaining1 word false rest left))
 
 -- ---- all the words
@@ -853,7 +853,7 @@ is_checked w e = last_nil (entered_fault whole w.stopped) (settle_fault top.rule
     (check_fault top (finished top.rules w.held) (is_some (entered whole w.stopped))) e
 
 abbrev pub first : Walk
-first = standing nothing_held 1 false
+first = idle_walk nothing_held 1 false
 
 -- a subcommand's name, the words after it and the rows that it has of them
 abbrev pub IsTask : Text → List Text → List Row → Type 0
@@ -874,14 +874,14 @@ level_nil : (s : Shape) (rest : List Text) → level_fault s [] nothing_held res
 level_nil s rest e =
     let end = (walk s.rules [] nothing_held rest).held in
     let walks = walk_fault s [] (walk_from nothing_held) rest in
-    let settles = settle_fault s.rules s.args_override_self end in
+    let completes = settle_fault s.rules s.args_override_self end in
     let defaults = defaults_fault (settled s.rules end).rows s.rules in
     let checks = check_fault s (finished s.rules end) false in
-    let settled_so : settles ≡ [] = first_nil settles (or_else defaults checks)
-    (then_nil walks (or_else settles (or_else defaults checks)) e) in (
-      first_nil walks (or_else settles (or_else defaults checks)) e,
+    let settled_so : completes ≡ [] = first_nil completes (or_else defaults checks)
+    (then_nil walks (or_else completes (or_else defaults checks)) e) in (
+      first_nil walks (or_else completes (or_else defaults checks)) e,
       settled_so,
-      last_nil walks settles defaults checks e,
+      last_nil walks completes defaults checks e,
     )
 
 run_reads : (rest : List Text) → entered_fault whole (Some (codes "run", rest)) ≡ []
@@ -921,13 +921,13 @@ explaining_reads rest e =
     let level = level_nil explaining rest e in
     (codes "explain", rest, _, refl, refl, inr (inr (refl, explaining0 false rest level.0 level.2)))
 
-stray : (rest : List Text) → walk_fault top names (standing nothing_held 1 true) rest ≡ []
-    → ended (fold (walked top.rules names) (standing nothing_held 1 true) rest) ≡ [] → ⊥
+stray : (rest : List Text) → walk_fault top names (idle_walk nothing_held 1 true) rest ≡ []
+    → ended (fold (walked top.rules names) (idle_walk nothing_held 1 true) rest) ≡ [] → ⊥
 unfolding walked walk_fault
-stray [] e bad = not_nil _ _ (is_checked (standing nothing_held 1 true) bad)
+stray [] e bad = not_nil _ _ (is_checked (idle_walk nothing_held 1 true) bad)
 stray (word ∷ rest) e bad = not_nil _ _
-    (first_nil (turn_fault top names (standing nothing_held 1 true) word)
-    (walk_fault top names (walked top.rules names (standing nothing_held 1 true) word) rest) e)
+    (first_nil (turn_fault top names (idle_walk nothing_held 1 true) word)
+    (walk_fault top names (walked top.rules names (idle_walk nothing_held 1 true) word) rest) e)
 
 words_read : (words : List Text) → walk_fault top names first words ≡ []
     → ended (fold (walked top.rules names) first words) ≡ []

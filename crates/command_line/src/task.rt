@@ -15,9 +15,9 @@ use std::alloc::Global;
 pub enum Task<'a> {
     /// `run [--trace] [--report FILE] RULES BOX IN OUT`: replay a capture through a ruleset.
     Run(ReplayTask<'a>),
-    /// `check [--all] RULES BOX`: judge a ruleset before it is loaded.
+    /// `check [--all] RULES BOX`: check a ruleset before it is loaded.
     Check(CheckTask<'a>),
-    /// `explain CODE`: tell what a code means.
+    /// `explain CODE`: print what a code means.
     Explain(&'a str),
 }
 
