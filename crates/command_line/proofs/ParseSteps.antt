@@ -1,4 +1,4 @@
--- What clap makes of one word, at a command whose flags have no short form.
+-- How clap parses one word, for a command whose flags have no short form.
 use Rattle.std.proofs.Common.{◌==◌, ◌+◌, eqb-true, take, not, ◌≡◌, ◌∙◌, ◌⊎◌, ◌||◌, ℕ, Bool, cond, codes, true, false, zero, suc, refl, sym, ap, subst, arith, List, [], ◌∷◌, length, Option, Some, None, inl, inr, true≢false}
 use Rattle.std.specs.Prelude.{slice_get, fold, option_and_then}
 use Rattle.std.specs.Option.{option_map_or}
@@ -31,19 +31,20 @@ then_nil (k ∷ ks) b e = not_nil k ks e
 abbrev pub at : List Row → Option (Text × List Text) → Held
 at rows pending = record { rows = rows; pending = pending; skip = 0 }
 
-abbrev pub stand : Waiting → Held → ℕ → Bool → Walk
-stand waiting h p t =
+abbrev pub walk_with : Waiting → Held → ℕ → Bool → Walk
+walk_with waiting h p t =
     record { held = h; waiting = waiting; position = p; is_trailing = t; stopped = None }
 
-abbrev pub standing : Held → ℕ → Bool → Walk
-standing h p t = stand idle h p t
+abbrev pub idle_walk : Held → ℕ → Bool → Walk
+idle_walk h p t = walk_with idle h p t
 
 abbrev pub end_of : Shape → Walk → List Text → Walk
 end_of s w rest = fold (walked s.rules []) w rest
 
 -- a short flag of the command always has a fault: it has none but `-h`
 abbrev pub AsksHelp : Shape → Type 0
-AsksHelp s = (x : ℕ) (rest : Text) (h : Held) (next : Held → Kinds) → short_fault s.rules s.args_override_self (arg_by_short s.rules x) rest h next ≡ [] → ⊥
+AsksHelp s = (x : ℕ) (rest : Text) (h : Held) (next : Held → Kinds)
+    → short_fault s.rules s.args_override_self (arg_by_short s.rules x) rest h next ≡ [] → ⊥
 
 none_met : (waiting : Waiting) (word : Text) → subcommand_met [] waiting word ≡ None
 none_met idle word = refl
@@ -52,22 +53,27 @@ none_met positional word = refl
 
 module _ (s : Shape) (asks : AsksHelp s) where
   bundle_plain : (k : ℕ) (flags : Text) (rows : List Row) (pending : Option (Text × List Text))
-      → flags_fault s.rules s.args_override_self k flags 0 (at rows pending) ≡ [] → bundle_met s.rules k flags 0 plain (at rows pending) ≡ (at rows pending, plain)
+      → flags_fault s.rules s.args_override_self k flags 0 (at rows pending) ≡ []
+      → bundle_met s.rules k flags 0 plain (at rows pending) ≡ (at rows pending, plain)
   unfolding flags_fault bundle_met
   bundle_plain zero flags rows pending e = refl
   bundle_plain (suc k) flags rows pending e = go (slice_get (chars flags) 0) e
     where
-      go : (o : Option ℕ) → bundle_step_fault s.rules s.args_override_self o flags 0 (at rows pending) (flags_fault s.rules s.args_override_self k) ≡ []
+      go : (o : Option ℕ) → bundle_step_fault s.rules s.args_override_self o flags 0 (at rows pending)
+          (flags_fault s.rules s.args_override_self k) ≡ []
           → bundle_step s.rules o flags 0 plain (at rows pending) (bundle_met s.rules k) ≡ (at rows pending, plain)
       go None e = refl
       go (Some x) e = absurd (asks x _ _ _ e)
 
-  short_plain : (waiting : Waiting) (word : Text) (u : Option Text) (rows : List Row) (pending : Option (Text × List Text))
-      → option_map_or (λ flags. flags_fault s.rules s.args_override_self (length flags) flags 0 (at rows pending)) u [] ≡ []
+  short_plain : (waiting : Waiting) (word : Text) (u : Option Text) (rows : List Row)
+      (pending : Option (Text × List Text))
+      → option_map_or (λ flags. flags_fault s.rules s.args_override_self (length flags) flags 0
+      (at rows pending)) u [] ≡ []
       → short_or_plain s.rules waiting word u (at rows pending) ≡ plain_word s.rules waiting word (at rows pending)
   short_plain waiting word None rows pending e = refl
   short_plain waiting word (Some flags) rows pending e =
-      ap (λ (q : Held × Outcome). after_flag s.rules waiting word q.0 q.1) (bundle_plain (length flags) flags rows pending e)
+      ap (λ (q : Held × Outcome). after_flag s.rules waiting word q.0 q.1)
+      (bundle_plain (length flags) flags rows pending e)
 
   abbrev pub met_as : Waiting → ℕ → Text → Held → Held × Step
   met_as waiting p word h = subcommand_or_other s.rules None waiting p word h
@@ -81,47 +87,66 @@ module _ (s : Shape) (asks : AsksHelp s) where
       × (met_as waiting p word h ≡ long_word s.rules waiting word q.0 q.1 h)
 
   abbrev pub IsPlain : Waiting → ℕ → Text → Held → Type 0
-  IsPlain waiting p word h = (bytes_eq word (codes "--") ≡ false) × (long_of word ≡ None) × (met_as waiting p word h ≡ plain_word s.rules waiting word h)
+  IsPlain waiting p word h = (bytes_eq word (codes "--") ≡ false) × (long_of word ≡ None)
+      × (met_as waiting p word h ≡ plain_word s.rules waiting word h)
 
   -- without a fault the word is `--`, a long flag, or a value
   pub word_is : (waiting : Waiting) (p : ℕ) (word : Text) (rows : List Row) (pending : Option (Text × List Text))
       → other_fault s None word (at rows pending) ≡ []
-      → IsDashes waiting p word (at rows pending) ⊎ (IsLong waiting p word (at rows pending) ⊎ IsPlain waiting p word (at rows pending))
+      → IsDashes waiting p word (at rows pending) ⊎ (IsLong waiting p word (at rows pending)
+      ⊎ IsPlain waiting p word (at rows pending))
   word_is waiting p word rows pending e = go (bytes_eq word (codes "--")) refl (long_of word) refl e
     where
       h : Held
       h = at rows pending
 
-      other : bytes_eq word (codes "--") ≡ false → (o : Option (Text × Option Text)) → long_of word ≡ o → met_as waiting p word h ≡ long_or_other s.rules waiting word o h
+      other : bytes_eq word (codes "--") ≡ false → (o : Option (Text × Option Text)) → long_of word ≡ o
+          → met_as waiting p word h ≡ long_or_other s.rules waiting word o h
       other is o same = ap (λ b. cond b (h, trailing p) (long_or_other s.rules waiting word (long_of word) h)) is
           ∙ ap (λ l. long_or_other s.rules waiting word l h) same
 
       go : (b : Bool) → bytes_eq word (codes "--") ≡ b → (o : Option (Text × Option Text)) → long_of word ≡ o
           → cond b [] (flag_word_fault s.rules s.args_override_self o word h) ≡ []
           → IsDashes waiting p word h ⊎ (IsLong waiting p word h ⊎ IsPlain waiting p word h)
-      go true is o same e = inl (is, ap (λ b. cond b (h, trailing p) (long_or_other s.rules waiting word (long_of word) h)) is)
+      go true is o same e = inl (
+        is,
+        ap (λ b. cond b (h, trailing p)
+            (long_or_other s.rules waiting word (long_of word) h)) is,
+      )
       go false is (Some q) same e = inr (inl (q, is, same, e, other is (Some q) same))
-      go false is None same e = inr (inr (is, same, other is None same ∙ short_plain waiting word (short_of word) rows pending e))
+      go false is None same e = inr (inr (
+        is,
+        same,
+        other is None same
+            ∙ short_plain waiting word (short_of word) rows pending e,
+      ))
 
   abbrev pub after_met : Waiting → Held → ℕ → Text → Held × Step → Walk
-  after_met waiting h p word m = after_step s.rules word (stand waiting h p false) m.0 m.1
+  after_met waiting h p word m = after_step s.rules word (walk_with waiting h p false) m.0 m.1
 
   abbrev pub next_of : Waiting → Held → ℕ → Text → Walk
-  next_of waiting h p word = to_positional s.rules (arg_by_index s.rules p) word (stand waiting h p true) h
+  next_of waiting h p word = to_positional s.rules (arg_by_index s.rules p) word (walk_with waiting h p true) h
 
-  -- one word more before any `--`
-  pub parse_step : (waiting : Waiting) (rows : List Row) (pending : Option (Text × List Text)) (p : ℕ) (word : Text) (rest : List Text) (Out : Walk → Type 0)
-      → walk_fault s [] (stand waiting (at rows pending) p false) (word ∷ rest) ≡ []
-      → (bytes_eq word (codes "--") ≡ true → walk_fault s [] (stand waiting (at rows pending) p true) rest ≡ [] → Out (end_of s (stand waiting (at rows pending) p true) rest))
+  -- one more word before any `--`
+  pub parse_step : (waiting : Waiting) (rows : List Row) (pending : Option (Text × List Text)) (p : ℕ)
+      (word : Text) (rest : List Text) (Out : Walk → Type 0)
+      → walk_fault s [] (walk_with waiting (at rows pending) p false) (word ∷ rest) ≡ []
+      → (bytes_eq word (codes "--") ≡ true → walk_fault s [] (walk_with waiting (at rows pending) p true) rest ≡ []
+      → Out (end_of s (walk_with waiting (at rows pending) p true) rest))
       → ((q : Text × Option Text) → bytes_eq word (codes "--") ≡ false → long_of word ≡ Some q
       → long_fault s.rules s.args_override_self (arg_by_long s.rules q.0) q.1 (at rows pending) ≡ []
-      → walk_fault s [] (after_met waiting (at rows pending) p word (long_word s.rules waiting word q.0 q.1 (at rows pending))) rest ≡ []
-      → Out (end_of s (after_met waiting (at rows pending) p word (long_word s.rules waiting word q.0 q.1 (at rows pending))) rest))
+      → walk_fault s [] (after_met waiting (at rows pending) p word
+      (long_word s.rules waiting word q.0 q.1 (at rows pending))) rest ≡ []
+      → Out (end_of s (after_met waiting (at rows pending) p word
+      (long_word s.rules waiting word q.0 q.1 (at rows pending))) rest))
       → (bytes_eq word (codes "--") ≡ false → long_of word ≡ None
-      → step_fault s p (plain_word s.rules waiting word (at rows pending)).0 (plain_word s.rules waiting word (at rows pending)).1 ≡ []
-      → walk_fault s [] (after_met waiting (at rows pending) p word (plain_word s.rules waiting word (at rows pending))) rest ≡ []
-      → Out (end_of s (after_met waiting (at rows pending) p word (plain_word s.rules waiting word (at rows pending))) rest))
-      → Out (end_of s (stand waiting (at rows pending) p false) (word ∷ rest))
+      → step_fault s p (plain_word s.rules waiting word (at rows pending)).0
+      (plain_word s.rules waiting word (at rows pending)).1 ≡ []
+      → walk_fault s [] (after_met waiting (at rows pending) p word
+      (plain_word s.rules waiting word (at rows pending))) rest ≡ []
+      → Out (end_of s (after_met waiting (at rows pending) p word
+      (plain_word s.rules waiting word (at rows pending))) rest))
+      → Out (end_of s (walk_with waiting (at rows pending) p false) (word ∷ rest))
   unfolding walked walk_fault
   parse_step waiting rows pending p word rest Out e dashes flag other =
       subst (λ (o : Option Text). P o) (sym (none_met waiting word)) base e
@@ -134,7 +159,8 @@ module _ (s : Shape) (asks : AsksHelp s) where
 
       P : Option Text → Type 0
       P o = let m = subcommand_or_other s.rules o waiting p word h in
-          or_else (or_else (other_fault s o word h) (step_fault s p m.0 m.1)) (walk_fault s [] (moved m) rest) ≡ [] → Out (fold (walked s.rules []) (moved m) rest)
+          or_else (or_else (other_fault s o word h) (step_fault s p m.0 m.1)) (walk_fault s [] (moved m) rest)
+          ≡ [] → Out (fold (walked s.rules []) (moved m) rest)
 
       base : P None
       base f =
@@ -149,14 +175,19 @@ module _ (s : Shape) (asks : AsksHelp s) where
           elim (word_is waiting p word rows pending (first_nil faults steps here)) [
             | inl q ↦ subst made (sym q.1) (dashes q.0 (subst walks q.1 left))
             | inr (inl q) ↦ subst made (sym q.4) (flag q.0 q.1 q.2 q.3 (subst walks q.4 left))
-            | inr (inr q) ↦ subst made (sym q.2) (other q.0 q.1 (subst (λ (k : Held × Step). step_fault s p k.0 k.1 ≡ []) q.2 (then_nil faults steps here)) (subst walks q.2 left))
+            | inr (inr q) ↦ subst made (sym q.2) (other q.0 q.1
+                (subst (λ (k : Held × Step). step_fault s p k.0 k.1 ≡ []) q.2 (then_nil faults steps here))
+                (subst walks q.2 left))
           ]
 
-  -- one word more behind a `--`
-  pub trail : (waiting : Waiting) (rows : List Row) (pending : Option (Text × List Text)) (p : ℕ) (word : Text) (rest : List Text) (Out : Walk → Type 0)
-      → walk_fault s [] (stand waiting (at rows pending) p true) (word ∷ rest) ≡ []
-      → (step_fault s p (at rows pending) value ≡ [] → walk_fault s [] (next_of waiting (at rows pending) p word) rest ≡ [] → Out (end_of s (next_of waiting (at rows pending) p word) rest))
-      → Out (end_of s (stand waiting (at rows pending) p true) (word ∷ rest))
+  -- one more word after a `--`
+  pub trail : (waiting : Waiting) (rows : List Row) (pending : Option (Text × List Text)) (p : ℕ) (word : Text)
+      (rest : List Text) (Out : Walk → Type 0)
+      → walk_fault s [] (walk_with waiting (at rows pending) p true) (word ∷ rest) ≡ []
+      → (step_fault s p (at rows pending) value ≡ [] → walk_fault s []
+      (next_of waiting (at rows pending) p word) rest ≡ []
+      → Out (end_of s (next_of waiting (at rows pending) p word) rest))
+      → Out (end_of s (walk_with waiting (at rows pending) p true) (word ∷ rest))
   unfolding walked walk_fault
   trail waiting rows pending p word rest Out e next = next (first_nil _ _ e) (then_nil _ _ e)
 
@@ -166,7 +197,8 @@ lacks_length : (xs : Text) → list_any (λ x. x == 61) xs ≡ false → positio
 lacks_length [] e = refl
 lacks_length (x ∷ xs) e = go (x == 61) e (lacks_length xs)
   where
-    go : (b : Bool) → (b || list_any (λ y. y == 61) xs) ≡ false → (list_any (λ y. y == 61) xs ≡ false → position_or_len (λ y. y == 61) xs ≡ length xs)
+    go : (b : Bool) → (b || list_any (λ y. y == 61) xs) ≡ false
+        → (list_any (λ y. y == 61) xs ≡ false → position_or_len (λ y. y == 61) xs ≡ length xs)
         → cond (not b) (1 + position_or_len (λ y. y == 61) xs) 0 ≡ suc (length xs)
     go true bad more = absurd (true≢false bad)
     go false f more = let same = more f in omega arith
@@ -185,11 +217,13 @@ named (x ∷ xs) name e =
     let worth : Option (Text × Option Text) → Option Text = λ o. (unwrap_or o ([], None)).1 in
     sym (lacks_all (x ∷ xs) (no_value (has_byte 61 (x ∷ xs)) _ (ap worth e))) ∙ ap text e
 
-after_hyphens : (rest name : Text) → option_and_then long_of_rest (strip_byte 45 rest) ≡ Some (name, None) → rest ≡ 45 ∷ name
+after_hyphens : (rest name : Text) → option_and_then long_of_rest (strip_byte 45 rest) ≡ Some (name, None)
+    → rest ≡ 45 ∷ name
 after_hyphens [] name e = cc
 after_hyphens (x ∷ xs) name e = go (x == 45) refl e
   where
-    go : (b : Bool) → (x == 45) ≡ b → option_and_then long_of_rest (cond b (Some xs) None) ≡ Some (name, None) → x ∷ xs ≡ 45 ∷ name
+    go : (b : Bool) → (x == 45) ≡ b → option_and_then long_of_rest (cond b (Some xs) None) ≡ Some (name, None)
+        → x ∷ xs ≡ 45 ∷ name
     go true is f = let first = eqb-true x 45 is in let last = named xs name f in cc
     go false is f = cc
 
@@ -197,6 +231,7 @@ pub long_text : (word name : Text) → long_of word ≡ Some (name, None) → wo
 long_text [] name e = cc
 long_text (x ∷ xs) name e = go (x == 45) refl e
   where
-    go : (b : Bool) → (x == 45) ≡ b → option_and_then long_of_rest (option_and_then (strip_byte 45) (cond b (Some xs) None)) ≡ Some (name, None) → x ∷ xs ≡ 45 ∷ 45 ∷ name
+    go : (b : Bool) → (x == 45) ≡ b → option_and_then long_of_rest
+        (option_and_then (strip_byte 45) (cond b (Some xs) None)) ≡ Some (name, None) → x ∷ xs ≡ 45 ∷ 45 ∷ name
     go true is f = let first = eqb-true x 45 is in let last = after_hyphens xs name f in cc
     go false is f = cc

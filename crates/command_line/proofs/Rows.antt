@@ -18,11 +18,14 @@ kept : (id : Text) (all : List Row) (r : Row) → bytes_eq r.id id ≡ false →
 kept id [] r other = ap (λ (b : Bool). cond b (Some r) None) other
 kept id (x ∷ xs) r other = ap (λ (o : Option Row). cond (bytes_eq x.id id) (Some x) o) (kept id xs r other)
 
-added : (id : Text) (all : List Row) (r : Row) → bytes_eq r.id id ≡ true → row_at id all ≡ None → row_at id (all ++ r ∷ []) ≡ Some r
+added : (id : Text) (all : List Row) (r : Row) → bytes_eq r.id id ≡ true → row_at id all ≡ None
+    → row_at id (all ++ r ∷ []) ≡ Some r
 added id [] r same none = ap (λ (b : Bool). cond b (Some r) None) same
 added id (x ∷ xs) r same none = go (bytes_eq x.id id) none (added id xs r same)
   where
-    go : (b : Bool) → cond b (Some x) (row_at id xs) ≡ None → (row_at id xs ≡ None → row_at id (xs ++ r ∷ []) ≡ Some r) → cond b (Some x) (row_at id (xs ++ r ∷ [])) ≡ Some r
+    go : (b : Bool) → cond b (Some x) (row_at id xs) ≡ None
+        → (row_at id xs ≡ None → row_at id (xs ++ r ∷ []) ≡ Some r)
+        → cond b (Some x) (row_at id (xs ++ r ∷ [])) ≡ Some r
     go true bad more = cc
     go false n more = more n
 
@@ -30,15 +33,18 @@ pub has_row-at : (id : Text) (all : List Row) → has_row id all ≡ is_some (ro
 has_row-at id [] = refl
 has_row-at id (x ∷ xs) = go (bytes_eq x.id id) (has_row-at id xs)
   where
-    go : (b : Bool) → has_row id xs ≡ is_some (row_at id xs) → (b || has_row id xs) ≡ is_some (cond b (Some x) (row_at id xs))
+    go : (b : Bool) → has_row id xs ≡ is_some (row_at id xs)
+        → (b || has_row id xs) ≡ is_some (cond b (Some x) (row_at id xs))
     go true more = refl
     go false more = more
 
-at_end : (id : Text) (change : Row → List Row) (missing all : List Row) → row_at id all ≡ None → at_row id change missing all ≡ all ++ missing
+at_end : (id : Text) (change : Row → List Row) (missing all : List Row) → row_at id all ≡ None
+    → at_row id change missing all ≡ all ++ missing
 at_end id change missing [] none = refl
 at_end id change missing (x ∷ xs) none = go (bytes_eq x.id id) none (at_end id change missing xs)
   where
-    go : (b : Bool) → cond b (Some x) (row_at id xs) ≡ None → (row_at id xs ≡ None → at_row id change missing xs ≡ xs ++ missing)
+    go : (b : Bool) → cond b (Some x) (row_at id xs) ≡ None
+        → (row_at id xs ≡ None → at_row id change missing xs ≡ xs ++ missing)
         → cond b (change x ++ xs) (x ∷ at_row id change missing xs) ≡ x ∷ (xs ++ missing)
     go true bad more = cc
     go false n more = ap (λ (l : List Row). x ∷ l) (more n)
@@ -52,16 +58,19 @@ new_row id how s values = record {
   reading = how;
 }
 
-pub appended : (id : Text) (how : Reading) (s : ValueSource) (values : List Text) (all : List Row) → row_at id all ≡ None
+pub appended : (id : Text) (how : Reading) (s : ValueSource) (values : List Text) (all : List Row)
+    → row_at id all ≡ None
     → with_values id how s values all ≡ all ++ new_row id how s values ∷ []
 appended id how s values all none = at_end id (more_values s values) (new_row id how s values ∷ []) all none
 
-pub appended_anew : (id : Text) (how : Reading) (s : ValueSource) (values : List Text) (all : List Row) → row_at id all ≡ None
+pub appended_anew : (id : Text) (how : Reading) (s : ValueSource) (values : List Text) (all : List Row)
+    → row_at id all ≡ None
     → with_values id how s values (without id all) ≡ all ++ new_row id how s values ∷ []
 appended_anew id how s values all none =
-    ap (with_values id how s values) (at_end id (λ _. []) [] all none ∙ append-nil all) ∙ appended id how s values all none
+    ap (with_values id how s values) (at_end id (λ _. []) [] all none ∙ append-nil all)
+    ∙ appended id how s values all none
 
--- a value is read as it is written, of a path as of a file for the report
+-- a value is the word itself, of a path and of the report's file
 abbrev pub row : Text → Text → Row
 row id v = new_row id (reading_by (filled (path_rule id))) CommandLine (v ∷ [])
 
@@ -88,13 +97,15 @@ abbrev pub with_row : Row → Known → Known
 with_row r [] = []
 with_row r (k ∷ rest) = (k.0, cond (bytes_eq r.id k.0) (Some r) k.1) ∷ with_row r rest
 
--- a row more, of an argument that had none
-pub holds_more : (known : Known) (all : List Row) (r : Row) → row_at r.id all ≡ None → Holds known all → Holds (with_row r known) (all ++ r ∷ [])
+-- one more row, of an argument that had none
+pub holds_more : (known : Known) (all : List Row) (r : Row) → row_at r.id all ≡ None → Holds known all
+    → Holds (with_row r known) (all ++ r ∷ [])
 holds_more [] all r none h = tt
 holds_more (k ∷ rest) all r none h = (one (bytes_eq r.id k.0) refl, holds_more rest all r none h.1)
   where
     one : (b : Bool) → bytes_eq r.id k.0 ≡ b → row_at k.0 (all ++ r ∷ []) ≡ cond b (Some r) k.1
-    one true is = added k.0 all r is (subst (λ (id : Text). row_at id all ≡ None) ((bytes_eq-Decides r.id k.0).0 is) none)
+    one true is = added k.0 all r is (subst (λ (id : Text). row_at id all ≡ None)
+        ((bytes_eq-Decides r.id k.0).0 is) none)
     one false is = kept k.0 all r is ∙ h.0
 
 abbrev pub row_of : Text → Option Text → Option Row

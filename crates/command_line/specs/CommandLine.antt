@@ -1,4 +1,5 @@
--- What the words of the command line ask for.
+-- The command line: which words request which task (own; `--` and options follow POSIX.1, XBD 12.2, and
+-- GNU's long options).
 use Rattle.std.specs.Prelude.{◌≡◌, ◌==◌, ◌&&◌, ◌||◌, ℕ, Bool, true, not, List, [], ◌∷◌, length}
 use Rattle.std.specs.Prelude.{Option, Some, None, codes, drop, if◌then◌else◌, false, option_map, slice_get}
 use Rattle.std.specs.Borrow.{Bor}
@@ -10,18 +11,18 @@ use Rattle.command_line.specs.declared.task.Task.{Task}
 use Rattle.command_line.specs.declared.task.Task.TheVariants.{Run, Check, Explain}
 use Rattle.command_line.specs.declared.task.ReplayPaths.{ReplayPaths}
 
--- the words after `run`, `check` or `explain` that are no options: all but the first `--`
+-- the operands among the words after `run`, `check` or `explain`: all words but the first `--`
 abbrev pub operands : List Text → List Text
 operands [] = []
 operands (word ∷ rest) = if bytes_eq word (codes "--") then rest else word ∷ operands rest
 
--- the words after `run` or `check` have this flag: it stands before any `--`
+-- the words after `run` or `check` have this flag before any `--`
 abbrev pub has_flag : Text → List Text → Bool
 has_flag flag [] = false
 has_flag flag (word ∷ rest) =
     if bytes_eq word (codes "--") then false else (bytes_eq word flag || has_flag flag rest)
 
--- these words without the flag: without the first one before any `--`
+-- these words without the first such flag before any `--`
 abbrev pub without_flag : Text → List Text → List Text
 without_flag flag [] = []
 without_flag flag (word ∷ rest) = if bytes_eq word (codes "--") then word ∷ rest
@@ -31,17 +32,18 @@ abbrev pub report_option : Option (Text × Option Text) → Option (Option Text)
 report_option None = None
 report_option (Some option) = if bytes_eq (codes "report") option.0 then Some option.1 else None
 
--- the word is `--report`, or `--report=FILE` with what stands behind the `=`
+-- the word is `--report`, or `--report=FILE` with FILE
 abbrev pub as_report : Text → Option (Option Text)
 as_report word = report_option (long_of word)
 
--- the file that a word names, by what it is as an option: FILE itself, or the next word
+-- the file that a word names: FILE of `--report=FILE`, or the word after `--report`
 abbrev pub file_by : Option (Option Text) → List Text → Option Text → Option Text
 file_by None rest later = later
 file_by (Some None) rest later = slice_get rest 0
 file_by (Some (Some file)) rest later = Some file
 
--- where the words after `run` send the report: FILE of the first `--report FILE` or `--report=FILE` before any `--`
+-- the report's file by the words after `run`: that of the first `--report FILE` or `--report=FILE`
+-- before any `--`
 abbrev pub report_of : List Text → Option Text
 report_of [] = None
 report_of (word ∷ rest) =
@@ -64,8 +66,8 @@ path_texts p = p.rules.now ∷ p.plant.now ∷ p.input.now ∷ p.output.now ∷ 
 abbrev pub name_of_file : Option (Bor Text) → Option Text
 name_of_file file = option_map (λ f. f.now) file
 
--- the words ask for this task: they are the program's name, and `run`, where the report goes, the flag where the run is
--- traced, and the four paths, or `check`, the flag where all faults are told, and the two, or `explain` and a code
+-- the words request this task: they are the program's name and either `run`, the report's file, the flag
+-- of the trace and four paths, or `check`, the flag of all faults and two paths, or `explain` and a code
 abbrev pub RequestsTask : List Text → Task → Type 0
 RequestsTask (program ∷ name ∷ rest) (Run task) =
     (name ≡ codes "run") × (name_of_file task.report ≡ report_of rest)
@@ -74,10 +76,11 @@ RequestsTask (program ∷ name ∷ rest) (Run task) =
 RequestsTask (program ∷ name ∷ rest) (Check task) =
     (name ≡ codes "check") × (task.all ≡ has_flag (codes "--all") rest)
     × (operands (without_flag (codes "--all") rest) ≡ task.texts.rules.now ∷ task.texts.plant.now ∷ [])
-RequestsTask (program ∷ name ∷ rest) (Explain code) = (name ≡ codes "explain") × (operands rest ≡ code.now ∷ [])
+RequestsTask (program ∷ name ∷ rest) (Explain code) =
+    (name ≡ codes "explain") × (operands rest ≡ code.now ∷ [])
 RequestsTask _ _ = ⊥
 
--- the word is read as a path wherever it stands: it is `-`, or does not begin with a hyphen
+-- the word is an operand anywhere: it is `-`, or doesn't begin with a hyphen
 abbrev pub is_plain_word : Text → Bool
 is_plain_word (c ∷ x ∷ rest) = not (c == 45)
 is_plain_word _ = true
@@ -87,7 +90,7 @@ abbrev pub are_plain : List Text → Bool
 are_plain [] = true
 are_plain (word ∷ rest) = if bytes_eq word (codes "--") then true else (is_plain_word word && are_plain rest)
 
--- the words are so many operands: each is plain, or they stand behind the first `--`
+-- the words are so many operands: each is plain, or after the first `--`
 abbrev pub are_operands : ℕ → List Text → Bool
 are_operands n words = are_plain words && length (operands words) == n
 
@@ -96,17 +99,19 @@ names_file_by None rest later = later
 names_file_by (Some None) rest later = option_map_or is_plain_word (slice_get rest 0) false
 names_file_by (Some (Some file)) rest later = true
 
--- FILE of the first `--report FILE` before any `--` is there, and is plain; that of `--report=FILE` may be any text
+-- the first `--report` before any `--` has a FILE, which is plain; that of `--report=FILE` may be any
+-- text
 abbrev pub names_file : List Text → Bool
 names_file [] = true
 names_file (word ∷ rest) =
     if bytes_eq word (codes "--") then true else names_file_by (as_report word) rest (names_file rest)
 
--- four paths, with `--trace` and `--report FILE` or `--report=FILE`, each once at most, at any place before the first `--`
+-- four paths, with `--trace` and `--report FILE` or `--report=FILE`, each at most once, anywhere before
+-- the first `--`
 abbrev pub is_run : List Text → Bool
 is_run rest = names_file rest && are_operands 4 (without_flag (codes "--trace") (without_report rest))
 
--- two paths, with `--all`, once at most, at any place before the first `--`
+-- two paths, with `--all`, at most once, anywhere before the first `--`
 abbrev pub is_check : List Text → Bool
 is_check rest = are_operands 2 (without_flag (codes "--all") rest)
 
@@ -121,7 +126,7 @@ is_well_formed (program ∷ name ∷ rest) =
     || (bytes_eq name (codes "check") && is_check rest || bytes_eq name (codes "explain") && is_explain rest)
 is_well_formed _ = false
 
--- the words after the program's name ask for explanations: `--explain` stands before any `--`
+-- the words after the program's name have `--explain` before any `--`
 abbrev pub has_explain : List Text → Bool
 has_explain [] = false
 has_explain (word ∷ rest) =
@@ -133,12 +138,12 @@ without_explain [] = []
 without_explain (word ∷ rest) = if bytes_eq word (codes "--") then word ∷ rest
     else (if bytes_eq word (codes "--explain") then rest else word ∷ without_explain rest)
 
--- all words ask for explanations
+-- the command line has `--explain`
 abbrev pub is_explained : List Text → Bool
 is_explained [] = false
 is_explained (program ∷ rest) = has_explain rest
 
--- all words, without the one that asks for explanations
+-- the command line without `--explain`
 abbrev pub task_words : List Text → List Text
 task_words [] = []
 task_words (program ∷ rest) = program ∷ without_explain rest

@@ -1,3 +1,3 @@
--- What only the contracts of private functions cite.
+-- What contracts of private functions cite; public ones cite none of it.
 pub mod Given
 pub mod Program

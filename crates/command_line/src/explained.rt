@@ -1,14 +1,15 @@
-//! Whether a fault is explained.
+//! The option `--explain`.
 ghost use Rattle.std.specs.Prelude.{◌≡◌, ◌<◌, MatchOption, false, length, map, remove, true};
 ghost use Rattle.command_line.specs.CommandLine.{has_explain, is_explained, task_words, without_explain};
 
-/// Takes `--explain` out of all words, of which the first is the program's name, and answers
-/// whether it was there.
+/// Removes `--explain` from the words of the command line (the first is the program's name), and
+/// returns whether it was there.
 ///
-/// It may stand at any place before the first `--`; of several the first is taken.
+/// It may be anywhere before the first `--`. Of several, the first is removed.
 pub fn take_explain(words: &mut Vec<&str>) -> bool
     ensures explained { result ≡ is_explained (map (λ w. w.now) words.old.items) }
-    ensures left { map (λ w. w.now) words.new.items ≡ task_words (map (λ w. w.now) words.old.items) }
+    ensures left { map (λ w. w.now) words.new.items
+        ≡ task_words (map (λ w. w.now) words.old.items) }
 {
     let Some((_, options)) = words.split_first() else {
         return false;
@@ -20,7 +21,7 @@ pub fn take_explain(words: &mut Vec<&str>) -> bool
     true
 }
 
-// The place of the first `--explain` before any `--`.
+// The index of the first `--explain` before any `--`.
 fn explain_index(words: &[&str]) -> Option<usize>
     ensures { let texts = map (λ w. w.now) words.now in
         MatchOption result

@@ -1,5 +1,5 @@
-//! The words of the command line (`nftrun run [--explain] [--trace] [--report FILE] RULES BOX IN
-//! OUT`, `nftrun check [--explain] [--all] RULES BOX`, `nftrun explain CODE`).
+//! Parses the command line (`nftrun run [--explain] [--trace] [--report FILE] RULES BOX IN OUT`,
+//! `nftrun check [--explain] [--all] RULES BOX`, `nftrun explain CODE`).
 #![tactic(auto)]
 
 mod explained;

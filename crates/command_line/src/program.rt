@@ -1,4 +1,4 @@
-//! The command of clap that reads the words.
+//! The command line as clap's `Command`.
 ghost use Rattle.std.specs.Prelude.{◌≡◌, IfOk, Some, false, fold};
 ghost use Rattle.clap.specs.Words.{app_of, new_app, rule_of, shape_of};
 ghost use Rattle.clap.specs.declared.builder.command.Command.TheViews.{out-Command};
@@ -7,14 +7,14 @@ ghost use Rattle.command_line.specs.steps.Program.{app_for, flag_rule, path_rule
 use clap::{Arg, ArgAction, Command};
 use std::alloc::{AllocError, Global};
 
-/// What `--version` tells.
+/// What `--version` prints.
 const VERSION: &str = "1.0.0";
 
 const TRACE_HELP: &str = "Tells each decision of a rule, each policy and how each record ends";
 
 const ALL_HELP: &str = "Tells all faults of RULES that can be found, and not the first alone";
 
-/// What stands at the end of `--help`.
+/// The end of `--help`.
 const NOTES: &str = "\
 With --explain, run and check tell what a fault means, and where it is.
 
@@ -32,7 +32,7 @@ Examples:
   nftrun check --explain rules.nft box.txt
   nftrun run --trace --report report.txt rules.nft box.txt in.pcap out.pcap";
 
-/// What stands at the end of `run --help`.
+/// The end of `run --help`.
 const RUN_NOTES: &str = "\
 --explain tells what a fault means, and where it is. A path that begins with a
 hyphen goes after --. A run of more than a second tells each second how much of
@@ -52,7 +52,7 @@ Examples:
   nftrun run rules.nft box.txt in.pcap out.pcap
   nftrun run --report report.txt rules.nft box.txt in.pcap /dev/stdout | tcpdump -nr -";
 
-/// What stands at the end of `check --help`.
+/// The end of `check --help`.
 const CHECK_NOTES: &str = "\
 --explain tells what a fault means, and where it is. A path that begins with a
 hyphen goes after --.
@@ -69,20 +69,20 @@ Examples:
   nftrun check rules.nft box.txt
   nftrun check --explain rules.nft box.txt";
 
-/// A subcommand, as its help tells of it.
+/// A subcommand, as its help describes it.
 pub(crate) struct Subcommand {
     name: &'static str,
     about: &'static str,
-    /// What stands at the end of its `--help`.
+    /// The end of its `--help`.
     notes: Option<&'static str>,
     arguments: &'static [Argument],
 }
 
 /// An argument of a subcommand.
 pub(crate) enum Argument {
-    /// A path or another word that has to be there: its name, what usage calls it, and its help.
+    /// A required positional argument: its id, its name in the usage, and its help.
     Path(&'static str, &'static str, &'static str),
-    /// A flag: its name, and its help.
+    /// A flag: its name and its help.
     Flag(&'static str, &'static str),
     /// `--report FILE`.
     Report,
@@ -120,14 +120,14 @@ static SUBCOMMANDS: [Subcommand; 3] = [
     },
 ];
 
-/// The command that reads the program's words.
+/// The program's command.
 pub(crate) fn program<'a>(alloc: Global) -> Result<Command<'a>, AllocError>
     ensures { IfOk result (λ c. app_of c ≡ program_app) }
 {
     with_subcommands(alloc, top(alloc), &SUBCOMMANDS)
 }
 
-// `--explain` is taken out of the words before they are read, so that help tells of it here.
+// `--explain` is removed before clap parses the words, so the help mentions it in its notes.
 fn top<'a>(alloc: Global) -> Command<'a>
     ensures { app_of result ≡ top_app }
 {
@@ -143,7 +143,8 @@ fn with_subcommands<'a>(
     mut command: Command<'a>,
     subcommands: &[Subcommand],
 ) -> Result<Command<'a>, AllocError>
-    ensures { IfOk result (λ c. app_of c ≡ fold with_described (app_of command.entry) subcommands.now) }
+    ensures { IfOk result (λ c.
+        app_of c ≡ fold with_described (app_of command.entry) subcommands.now) }
 {
     for subcommand in subcommands {
         command = command.subcommand(subcommand.command(alloc)?)?;
@@ -163,7 +164,7 @@ impl Subcommand {
         Ok(command)
     }
 
-    // The command with no arguments so far.
+    // The command without its arguments.
     fn bare_command<'a>(&self, alloc: Global) -> Command<'a>
         ensures app { app_of result ≡ new_app self.now.name.now }
         ensures local { (out-Command result).has_globals ≡ false }
@@ -210,7 +211,7 @@ fn report<'a>(alloc: Global) -> Arg<'a>
         .help("Writes the report to FILE instead of standard output")
 }
 
-// A required argument that stands for one path.
+// A required positional argument of one value.
 fn path<'a>(alloc: Global, id: &'a str, value_name: &'a str, help: &'a str) -> Arg<'a>
     ensures rule { rule_of result ≡ path_rule id.entry.now }
     ensures local { result.global ≡ false }

@@ -1,4 +1,4 @@
-//! What the words of the command line ask for.
+//! The task that a command line requests.
 ghost use Rattle.std.specs.Prelude.{◌≡◌, IfErr, IfOk, Some, map, true};
 ghost use Rattle.std.specs.Option.{IsSome};
 ghost use Rattle.clap.specs.Words.{first_value, found_of, kind_of};
@@ -10,33 +10,33 @@ use clap::error::ErrorKind;
 use clap::{ArgMatches, Error};
 use std::alloc::Global;
 
-/// What the words ask for.
+/// A parsed command line.
 #[derive(Clone, Copy)]
 pub enum Task<'a> {
     /// `run [--trace] [--report FILE] RULES BOX IN OUT`: replay a capture through a ruleset.
     Run(ReplayTask<'a>),
-    /// `check [--all] RULES BOX`: judge a ruleset before it is loaded.
+    /// `check [--all] RULES BOX`: check a ruleset before it is loaded.
     Check(CheckTask<'a>),
-    /// `explain CODE`: tell what a code means.
+    /// `explain CODE`: print what a code means.
     Explain(&'a str),
 }
 
-/// A run, as the words ask for it.
+/// A run.
 #[derive(Clone, Copy)]
 pub struct ReplayTask<'a> {
-    /// Whether the report tells each decision.
+    /// Whether the report has a trace: each rule's verdict and each policy.
     pub trace: bool,
-    /// FILE, where the report goes, or standard output.
+    /// FILE, to which the report is written; standard output where there is none.
     pub report: Option<&'a str>,
     pub paths: ReplayPaths<'a>,
 }
 
-/// The paths of a run, as the words give them.
+/// The paths of a run.
 #[derive(Clone, Copy)]
 pub struct ReplayPaths<'a> {
     /// RULES, the file of the ruleset.
     pub rules: &'a str,
-    /// BOX, the file of the box that the rules stand on.
+    /// BOX, the file of the box that the ruleset is for.
     pub plant: &'a str,
     /// IN, the capture that is read.
     pub input: &'a str,
@@ -44,35 +44,35 @@ pub struct ReplayPaths<'a> {
     pub output: &'a str,
 }
 
-/// A check, as the words ask for it.
+/// A check.
 #[derive(Clone, Copy)]
 pub struct CheckTask<'a> {
-    /// Whether all faults are told, and not the first alone.
+    /// Whether all faults are listed instead of the first alone.
     pub all: bool,
     pub texts: CheckPaths<'a>,
 }
 
-/// The paths of a check, as the words give them.
+/// The paths of a check.
 #[derive(Clone, Copy)]
 pub struct CheckPaths<'a> {
     /// RULES, the file of the ruleset.
     pub rules: &'a str,
-    /// BOX, the file of the box that the rules stand on.
+    /// BOX, the file of the box that the ruleset is for.
     pub plant: &'a str,
 }
 
-/// What the words ask for, of which the first is the program's name.
+/// Parses the words of the command line, of which the first is the program's name.
 ///
-/// The other words are `run` and four paths, in the order RULES, BOX, IN, OUT, or `check` and two,
-/// in the order RULES, BOX, or `explain` and a code. A path or a code that begins with a hyphen
-/// stands after a word `--`, which is no path itself; `-` alone is a path.
+/// The others are `run` and four paths, in the order RULES, BOX, IN, OUT; or `check` and two, in
+/// the order RULES, BOX; or `explain` and a code. A path or code that begins with a hyphen goes
+/// after a word `--`, which is no path itself; `-` alone is a path.
 ///
-/// The words of a run may have `--trace` once, and `--report FILE` or `--report=FILE` once; those
-/// of a check `--all` once. They stand at any place before the first `--`; behind it each word is a
-/// path. A FILE that begins with a hyphen is given as `--report=FILE`.
+/// A run may have `--trace` once, and `--report FILE` or `--report=FILE` once; a check may have
+/// `--all` once. Options may be anywhere before the first `--`; after it each word is a path. A
+/// FILE that begins with a hyphen is given as `--report=FILE`.
 ///
 /// # Errors
-/// `clap`'s, whose `exit_code` is 0 where the words ask for help, and 2 where they are no task.
+/// clap's, whose `exit_code` is 0 where help was requested, and 2 where the words are no task.
 pub fn read_task<'a>(alloc: Global, words: &'a [&'a str]) -> Result<Task<'a>, Error>
     ensures requested { IfOk result (RequestsTask (map (λ w. w.now) words.entry.now)) }
     ensures refused { IfErr result (λ e. is_well_formed (map (λ w. w.now) words.entry.now) ≡ true
@@ -83,7 +83,7 @@ pub fn read_task<'a>(alloc: Global, words: &'a [&'a str]) -> Result<Task<'a>, Er
     Ok(task_of(name, given))
 }
 
-// The task of a subcommand, by its name and what was given to it.
+// The task of a subcommand, by its name and its matches.
 fn task_of<'a>(name: &str, given: &ArgMatches<'a>) -> Task<'a>
     requires { HasTask name.now (found_of given.now) }
     ensures { GivesTask name.now (found_of given.now) result }
@@ -112,7 +112,7 @@ fn task_of<'a>(name: &str, given: &ArgMatches<'a>) -> Task<'a>
     })
 }
 
-// The value of an argument that was given.
+// The value of a required argument.
 fn value_of<'a>(given: &ArgMatches<'a>, id: &str) -> &'a str
     requires { IsSome (first_value (found_of given.now) id.now) }
     ensures { first_value (found_of given.now) id.now ≡ Some result.now }

@@ -21,23 +21,29 @@ use Rattle.compiler.proofs.StartLaws.{filter_alike}
 
 -- ---- a list and what it shows
 
-sorted_shown : {A B : Type 0} (f : A → B) (lt : B → B → Bool) (xs : List A) → IsSortedBy (λ a b. lt (f a) (f b)) xs → IsSortedBy lt (map f xs)
+sorted_shown : {A B : Type 0} (f : A → B) (lt : B → B → Bool) (xs : List A)
+    → IsSortedBy (λ a b. lt (f a) (f b)) xs → IsSortedBy lt (map f xs)
 sorted_shown f lt [] rising k d low high = absurd (omega arith)
 sorted_shown f lt (x ∷ xs) rising k d low high =
     let n = length-map (x ∷ xs) f in
-    ap₂ lt (get_or-map f (x ∷ xs) (k + 1) x d (omega arith)) (get_or-map f (x ∷ xs) k x d (omega arith)) ∙ rising k x low (omega arith)
+    ap₂ lt (get_or-map f (x ∷ xs) (k + 1) x d (omega arith)) (get_or-map f (x ∷ xs) k x d (omega arith))
+    ∙ rising k x low (omega arith)
 
-cond_shown : {A B : Type 0} (f : A → B) (b : Bool) (x : A) (xs : List A) (ys : List B) → map f xs ≡ ys → map f (cond b (x ∷ xs) xs) ≡ cond b (f x ∷ ys) ys
+cond_shown : {A B : Type 0} (f : A → B) (b : Bool) (x : A) (xs : List A) (ys : List B) → map f xs ≡ ys
+    → map f (cond b (x ∷ xs) xs) ≡ cond b (f x ∷ ys) ys
 cond_shown f true x xs ys e = ap (λ l. f x ∷ l) e
 cond_shown f false x xs ys e = e
 
-pub filter_shown : {A B : Type 0} (f : A → B) (p : B → Bool) (xs : List A) → map f (filter (λ x. p (f x)) xs) ≡ filter p (map f xs)
+pub filter_shown : {A B : Type 0} (f : A → B) (p : B → Bool) (xs : List A)
+    → map f (filter (λ x. p (f x)) xs) ≡ filter p (map f xs)
 filter_shown f p [] = refl
-filter_shown f p (x ∷ xs) = cond_shown f (p (f x)) x (filter (λ y. p (f y)) xs) (filter p (map f xs)) (filter_shown f p xs)
+filter_shown f p (x ∷ xs) = cond_shown f (p (f x)) x (filter (λ y. p (f y)) xs) (filter p (map f xs))
+    (filter_shown f p xs)
 
 none_passes : {A : Type 0} (p : A → Bool) (xs : List A) → list_any p xs ≡ false → filter p xs ≡ []
 none_passes p [] none = refl
-none_passes p (x ∷ xs) none = ap (λ b. cond b (x ∷ filter p xs) (filter p xs)) (none_first (p x) (list_any p xs) none) ∙ none_passes p xs (none_later (p x) (list_any p xs) none)
+none_passes p (x ∷ xs) none = ap (λ b. cond b (x ∷ filter p xs) (filter p xs))
+    (none_first (p x) (list_any p xs) none) ∙ none_passes p xs (none_later (p x) (list_any p xs) none)
 
 -- ---- equal priorities
 
@@ -47,7 +53,8 @@ both_false false true h = absurd (false≢true h)
 both_false false false h = refl
 
 tied : (a b : BaseChain) → ties runs_before a b ≡ true → priority a ≡ priority b
-tied a b h = int_ranked (priority a) (priority b) Equal (sym (both_false (int_lt (priority a) (priority b)) (int_lt (priority b) (priority a)) h))
+tied a b h = int_ranked (priority a) (priority b) Equal
+    (sym (both_false (int_lt (priority a) (priority b)) (int_lt (priority b) (priority a)) h))
 
 abbrev tie : ℤ → ℤ → Bool
 tie p q = not (int_lt p q) && not (int_lt q p)
@@ -58,31 +65,42 @@ by_priority x y = runs_before (base x) (base y)
 abbrev ties_with : BaseChain → CompiledChain → Bool
 ties_with b x = ties runs_before b (base x)
 
--- those that tie with any base chain stand as they did
-module _ (b : BaseChain) (xs ys : List CompiledChain) (moved : IsPermutation xs ys) (stable : IsStableBy by_priority xs ys) where
+-- base chains of equal priority keep the order of the text
+module _ (b : BaseChain) (xs ys : List CompiledChain) (moved : IsPermutation xs ys)
+    (stable : IsStableBy by_priority xs ys) where
   stays_if : (some : Bool) → list_any (ties_with b) xs ≡ some → filter (ties_with b) ys ≡ filter (ties_with b) xs
   stays_if true some =
       let found = Any-from_list_any (ties_with b) xs some in
       let x = found.1 in
       let same : priority b ≡ priority (base x) = tied b (base x) found.4 in
-      let alike : (y : CompiledChain) → ties_with b y ≡ ties by_priority x y = λ y. ap (λ p. tie p (priority (base y))) same in
-      filter_alike (ties_with b) (ties by_priority x) alike ys ∙ stable x ∙ sym (filter_alike (ties_with b) (ties by_priority x) alike xs)
-  stays_if false none = none_passes (ties_with b) ys (sym (list_any-IsPermutation (ties_with b) xs ys moved) ∙ none) ∙ sym (none_passes (ties_with b) xs none)
+      let alike : (y : CompiledChain) → ties_with b y ≡ ties by_priority x y =
+      λ y. ap (λ p. tie p (priority (base y))) same in
+      filter_alike (ties_with b) (ties by_priority x) alike ys ∙ stable x
+      ∙ sym (filter_alike (ties_with b) (ties by_priority x) alike xs)
+  stays_if false none = none_passes (ties_with b) ys
+      (sym (list_any-IsPermutation (ties_with b) xs ys moved) ∙ none) ∙ sym (none_passes (ties_with b) xs none)
 
   pub stays : filter (ties runs_before b) (map base ys) ≡ filter (ties runs_before b) (map base xs)
-  stays = sym (filter_shown base (ties runs_before b) ys) ∙ ap (map base) (stays_if (list_any (ties_with b) xs) refl) ∙ filter_shown base (ties runs_before b) xs
+  stays = sym (filter_shown base (ties runs_before b) ys)
+      ∙ ap (map base) (stays_if (list_any (ties_with b) xs) refl) ∙ filter_shown base (ties runs_before b) xs
 
 -- ---- the starts of a hook
 
-pub has_starts : (tables : List TableTree) (hook : Hook) (bases : List CompiledChain) (starts : List Start) → map base bases ≡ base_chains_of tables → (o : Ordered hook bases starts)
-    → ((cost : TableTree → Caller → ℕ) → AreAllCosts tables cost → map (λ s. s.cost) starts ≡ map (start_cost tables cost) (map base o.order)) → HasStarts tables hook starts
+pub has_starts : (tables : List TableTree) (hook : Hook) (bases : List CompiledChain) (starts : List Start)
+    → map base bases ≡ base_chains_of tables → (o : Ordered hook bases starts)
+    → ((cost : TableTree → Caller → ℕ) → AreAllCosts tables cost
+    → map (λ s. s.cost) starts ≡ map (start_cost tables cost) (map base o.order))
+    → HasStarts tables hook starts
 has_starts tables hook bases starts text o costs =
-    let on_hook : map base (filter (runs_on_hook hook) bases) ≡ filter (is_on_hook hook) (base_chains_of tables) = filter_shown base (is_on_hook hook) bases ∙ ap (filter (is_on_hook hook)) text in
+    let on_hook : map base (filter (runs_on_hook hook) bases)
+    ≡ filter (is_on_hook hook) (base_chains_of tables) =
+    filter_shown base (is_on_hook hook) bases ∙ ap (filter (is_on_hook hook)) text in
     record {
       order = map base o.order;
       in_order = record {
         rising = sorted_shown base runs_before o.order o.rising;
-        stable = λ b. stays b (filter (runs_on_hook hook) bases) o.order o.moved o.stable ∙ ap (filter (ties runs_before b)) on_hook;
+        stable = λ b. stays b (filter (runs_on_hook hook) bases) o.order o.moved o.stable
+            ∙ ap (filter (ties runs_before b)) on_hook;
       };
       are = o.starts_are;
       costs = costs;

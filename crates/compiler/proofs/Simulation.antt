@@ -1,4 +1,4 @@
--- The machine follows the rules: what they lead to it comes to, in no more statements than they weigh.
+-- The machine simulates the rules: it has their result, in at most as many statements as they weigh.
 use Rattle.std.proofs.Common.{◌≡◌, ℕ, suc, ◌+◌, ◌≤◌, List, [], ◌∷◌, length, Some, refl, arith, subst}
 use Rattle.std.specs.Prelude.{sum_by, slice_get}
 use Rattle.std.proofs.lemmas.List.Sums.{sum_by-cons}
@@ -14,85 +14,148 @@ use Rattle.rule_laws.specs.Ranking.{IsStatementOf, IsRanking}
 use Rattle.compiler.proofs.DoesLaws.{Does, does-more, does-same, does-now, does-over, does-then, does-end, goes_to, calls, finish}
 use Rattle.compiler.proofs.LayoutLaws.{weighs, LeftIn, LeftAt, rules-in, does-statement}
 
-module _ {S : Type 0} (p : Program S) (t : TableCode) (weight : S → ℕ) (cost depth : ℕ → ℕ) (code : IsCode p t) (costs_rank_chains : IsRanking p weight cost depth) where
-  -- the code of what is left of a chain does what that leads to
+module _ {S : Type 0} (p : Program S) (t : TableCode) (weight : S → ℕ) (cost depth : ℕ → ℕ) (code : IsCode p t)
+    (costs_rank_chains : IsRanking p weight cost depth) where
+  -- the code of the rest of a chain has the result of the rest
   abbrev pub Follows : ℕ → ℕ → Remainder S → Facts → List Event → RunResult → Type 0
-  Follows c n left f es o = (at_step : ℕ) → LeftAt p t at_step c n left → LeftIn p c left → (stack : List ℕ) → length stack + depth c ≤ 16 → Does t (weighs weight left) (λ go. go at_step stack f es) stack o
+  Follows c n left f es o = (at_step : ℕ) → LeftAt p t at_step c n left → LeftIn p c left → (stack : List ℕ)
+      → length stack + depth c ≤ 16 → Does t (weighs weight left) (λ go. go at_step stack f es) stack o
 
-  -- what is done where statement k says so, behind which so many follow
+  -- statement k, with this effect, after which so many follow
   abbrev Doing : ℕ → ℕ → StatementEffect → ℕ → ℕ → List ℕ → Facts → List Event → Continuation → ℕ → Stop
-  Doing c n w at_step left stack f es go = apply_effect t.chain_offsets.items (rule_no p c n) w at_step left go stack f es
+  Doing c n w at_step left stack f es go = apply_effect t.chain_offsets.items (rule_no p c n) w at_step left go
+      stack f es
 
-  -- the next rule stands behind the statements
-  behind : (c n at_step : ℕ) (s : S) (ss : List S) (rs : List (List S)) → RulesAt p t (at_step + length (s ∷ ss)) c n rs → RulesAt p t (at_step + 1 + length ss) c n rs
-  behind c n at_step s ss rs holds = let same : at_step + length (s ∷ ss) ≡ at_step + 1 + length ss = omega arith in subst (λ x. RulesAt p t x c n rs) same holds
+  -- the next rule is after the statements
+  behind : (c n at_step : ℕ) (s : S) (ss : List S) (rs : List (List S))
+      → RulesAt p t (at_step + length (s ∷ ss)) c n rs → RulesAt p t (at_step + 1 + length ss) c n rs
+  behind c n at_step s ss rs holds = let same : at_step + length (s ∷ ss) ≡ at_step + 1 + length ss =
+      omega arith in subst (λ x. RulesAt p t x c n rs) same holds
 
   -- a statement, and what follows it
-  first : {c n k : ℕ} {s : S} {w : StatementEffect} {stack : List ℕ} {f : Facts} {es : List Event} {o : RunResult} (ss : List S) (rs : List (List S)) (less at_step : ℕ) → suc less ≤ weight s + sum_by weight ss + sum_by (sum_by weight) rs → LeftAt p t at_step c n (in_rule k (s ∷ ss) rs) → p.effect_of (statement_position p c n k) s f ≡ w → Does t less (Doing c n w at_step (length ss) stack f es) stack o → Does t (weighs weight (in_rule k (s ∷ ss) rs)) (λ go. go at_step stack f es) stack o
-  first {k = k} {s = s} ss rs less at_step fits holds effect_of d = does-statement p t less (weighs weight (in_rule k (s ∷ ss) rs)) at_step (omega (arith, sum_by-cons weight s ss)) holds.0.0 effect_of d
+  first : {c n k : ℕ} {s : S} {w : StatementEffect} {stack : List ℕ} {f : Facts} {es : List Event}
+      {o : RunResult} (ss : List S) (rs : List (List S)) (less at_step : ℕ)
+      → suc less ≤ weight s + sum_by weight ss + sum_by (sum_by weight) rs
+      → LeftAt p t at_step c n (in_rule k (s ∷ ss) rs) → p.effect_of (statement_position p c n k) s f ≡ w
+      → Does t less (Doing c n w at_step (length ss) stack f es) stack o
+      → Does t (weighs weight (in_rule k (s ∷ ss) rs)) (λ go. go at_step stack f es) stack o
+  first {k = k} {s = s} ss rs less at_step fits holds effect_of d =
+      does-statement p t less (weighs weight (in_rule k (s ∷ ss) rs)) at_step
+      (omega (arith, sum_by-cons weight s ss)) holds.0.0 effect_of d
 
   -- a statement that is the last
-  last : {c n k : ℕ} {s : S} {w : StatementEffect} {stack : List ℕ} {f : Facts} {es : List Event} {o : RunResult} (ss : List S) (rs : List (List S)) (at_step : ℕ) → LeftAt p t at_step c n (in_rule k (s ∷ ss) rs) → p.effect_of (statement_position p c n k) s f ≡ w → ((go : Continuation) (ticks : ℕ) → Doing c n w at_step (length ss) stack f es go ticks ≡ finish go stack o ticks) → Does t (weighs weight (in_rule k (s ∷ ss) rs)) (λ go. go at_step stack f es) stack o
-  last {s = s} ss rs at_step holds effect_of is = first ss rs 0 at_step (omega (arith, costs_rank_chains.some s)) holds effect_of (does-now t 0 is)
+  last : {c n k : ℕ} {s : S} {w : StatementEffect} {stack : List ℕ} {f : Facts} {es : List Event}
+      {o : RunResult} (ss : List S) (rs : List (List S)) (at_step : ℕ)
+      → LeftAt p t at_step c n (in_rule k (s ∷ ss) rs) → p.effect_of (statement_position p c n k) s f ≡ w
+      → ((go : Continuation) (ticks : ℕ) → Doing c n w at_step (length ss) stack f es go ticks
+      ≡ finish go stack o ticks) → Does t (weighs weight (in_rule k (s ∷ ss) rs)) (λ go. go at_step stack f es)
+      stack o
+  last {s = s} ss rs at_step holds effect_of is = first ss rs 0 at_step
+      (omega (arith, costs_rank_chains.some s)) holds effect_of (does-now t 0 is)
 
-  -- a chain weighs less than what leads to it
-  jump-fits : (c n k d : ℕ) (s : S) (f : Facts) (chain : List (List S)) → IsStatementOf p c s → p.effect_of (statement_position p c n k) s f ≡ give (Jump d) → p.rules_at d ≡ Some chain → suc (sum_by (sum_by weight) chain) ≤ weight s
-  jump-fits c n k d s f chain inside effect_of has = omega (arith, (costs_rank_chains.jumps c d s (statement_position p c n k) f inside effect_of).0, costs_rank_chains.sums d chain has)
+  -- a chain weighs less than the statement that jumps to it
+  jump-fits : (c n k d : ℕ) (s : S) (f : Facts) (chain : List (List S)) → IsStatementOf p c s
+      → p.effect_of (statement_position p c n k) s f ≡ give (Jump d) → p.rules_at d ≡ Some chain
+      → suc (sum_by (sum_by weight) chain) ≤ weight s
+  jump-fits c n k d s f chain inside effect_of has =
+      omega (
+        arith,
+        (costs_rank_chains.jumps c d s (statement_position p c n k) f inside effect_of).0,
+        costs_rank_chains.sums d chain has,
+      )
 
-  goto-fits : (c n k d : ℕ) (s : S) (f : Facts) (chain : List (List S)) → IsStatementOf p c s → p.effect_of (statement_position p c n k) s f ≡ give (Goto d) → p.rules_at d ≡ Some chain → suc (sum_by (sum_by weight) chain) ≤ weight s
-  goto-fits c n k d s f chain inside effect_of has = omega (arith, (costs_rank_chains.gotos c d s (statement_position p c n k) f inside effect_of).0, costs_rank_chains.sums d chain has)
+  goto-fits : (c n k d : ℕ) (s : S) (f : Facts) (chain : List (List S)) → IsStatementOf p c s
+      → p.effect_of (statement_position p c n k) s f ≡ give (Goto d) → p.rules_at d ≡ Some chain
+      → suc (sum_by (sum_by weight) chain) ≤ weight s
+  goto-fits c n k d s f chain inside effect_of has =
+      omega (
+        arith,
+        (costs_rank_chains.gotos c d s (statement_position p c n k) f inside effect_of).0,
+        costs_rank_chains.sums d chain has,
+      )
 
   -- a jump, up to the end of its chain
-  jumped : {c n k d : ℕ} {s : S} {stack : List ℕ} {f : Facts} {o : RunResult} (es : List Event) (chain : List (List S)) (at_step left : ℕ) → IsStatementOf p c s → p.effect_of (statement_position p c n k) s f ≡ give (Jump d) → p.rules_at d ≡ Some chain → length stack + depth c ≤ 16 → Follows d 1 (at_rule chain) f (with_verdict p es c n (Jump d)) o → Does t (weighs weight (at_rule chain)) (Doing c n (give (Jump d)) at_step left stack f es) ((at_step + 1 + left) ∷ stack) o
+  jumped : {c n k d : ℕ} {s : S} {stack : List ℕ} {f : Facts} {o : RunResult} (es : List Event)
+      (chain : List (List S)) (at_step left : ℕ) → IsStatementOf p c s
+      → p.effect_of (statement_position p c n k) s f ≡ give (Jump d) → p.rules_at d ≡ Some chain
+      → length stack + depth c ≤ 16 → Follows d 1 (at_rule chain) f (with_verdict p es c n (Jump d)) o
+      → Does t (weighs weight (at_rule chain)) (Doing c n (give (Jump d)) at_step left stack f es)
+      ((at_step + 1 + left) ∷ stack) o
   jumped {c} {n} {k} {d} {s} {stack} {f} es chain at_step left inside effect_of has room follows =
       let there = code.chains d chain has in
       let deep = (costs_rank_chains.jumps c d s (statement_position p c n k) f inside effect_of).1 in
       let back = at_step + 1 + left in
       does-same t (weighs weight (at_rule chain))
-      (λ go ticks. calls go (slice_get t.chain_offsets.items d) there.0 back stack f (with_verdict p es c n (Jump d)) ticks there.1 (omega arith))
+      (λ go ticks. calls go (slice_get t.chain_offsets.items d) there.0 back stack f
+      (with_verdict p es c n (Jump d)) ticks there.1 (omega arith))
       (follows there.0 there.2 (rules-in p d chain has) (back ∷ stack) (omega arith))
 
   -- a goto, up to the end of the chain
-  went : {c n k d : ℕ} {s : S} {stack : List ℕ} {f : Facts} {o : RunResult} (es : List Event) (chain : List (List S)) (at_step left : ℕ) → IsStatementOf p c s → p.effect_of (statement_position p c n k) s f ≡ give (Goto d) → p.rules_at d ≡ Some chain → length stack + depth c ≤ 16 → Follows d 1 (at_rule chain) f (with_verdict p es c n (Goto d)) o → Does t (weighs weight (at_rule chain)) (Doing c n (give (Goto d)) at_step left stack f es) stack o
+  went : {c n k d : ℕ} {s : S} {stack : List ℕ} {f : Facts} {o : RunResult} (es : List Event)
+      (chain : List (List S)) (at_step left : ℕ) → IsStatementOf p c s
+      → p.effect_of (statement_position p c n k) s f ≡ give (Goto d) → p.rules_at d ≡ Some chain
+      → length stack + depth c ≤ 16 → Follows d 1 (at_rule chain) f (with_verdict p es c n (Goto d)) o
+      → Does t (weighs weight (at_rule chain)) (Doing c n (give (Goto d)) at_step left stack f es) stack o
   went {c} {n} {k} {d} {s} {stack} {f} es chain at_step left inside effect_of has room follows =
       let there = code.chains d chain has in
       let deep = (costs_rank_chains.gotos c d s (statement_position p c n k) f inside effect_of).1 in
       does-same t (weighs weight (at_rule chain))
-      (λ go ticks. goes_to go (slice_get t.chain_offsets.items d) there.0 stack f (with_verdict p es c n (Goto d)) ticks there.1)
+      (λ go ticks. goes_to go (slice_get t.chain_offsets.items d) there.0 stack f
+      (with_verdict p es c n (Goto d)) ticks there.1)
       (follows there.0 there.2 (rules-in p d chain has) stack (omega arith))
 
-  pub simulates : {c n : ℕ} {left : Remainder S} {f : Facts} {es : List Event} {o : RunResult} → Runs p c n left f es o → Follows c n left f es o
+  pub simulates : {c n : ℕ} {left : Remainder S} {f : Facts} {es : List Event} {o : RunResult}
+      → Runs p c n left f es o → Follows c n left f es o
   simulates (chain_ends {f = f} {es = es}) at_step holds inside stack room = does-end t 0 at_step stack f es holds
   simulates (next_rule {r = r} {rs = rs} run) at_step holds inside stack room =
-      does-more t (weighs weight (in_rule 1 r rs)) (weighs weight (at_rule (r ∷ rs))) (omega (arith, sum_by-cons (sum_by weight) r rs)) (simulates run at_step holds inside stack room)
+      does-more t (weighs weight (in_rule 1 r rs)) (weighs weight (at_rule (r ∷ rs)))
+      (omega (arith, sum_by-cons (sum_by weight) r rs)) (simulates run at_step holds inside stack room)
   simulates {c} {n} (rule_ends {rs = rs} run) at_step holds inside stack room =
       let same : at_step + 0 ≡ at_step = omega arith in
-      does-more t (weighs weight (at_rule rs)) (weighs weight (in_rule 1 [] rs)) (omega arith) (simulates run at_step (subst (λ x. RulesAt p t x c (n + 1) rs) same holds.1) inside.1 stack room)
+      does-more t (weighs weight (at_rule rs)) (weighs weight (in_rule 1 [] rs)) (omega arith)
+      (simulates run at_step (subst (λ x. RulesAt p t x c (n + 1) rs) same holds.1) inside.1 stack room)
   simulates {c} {n} (passes {s = s} {ss = ss} {rs = rs} effect_of run) at_step holds inside stack room =
-      let next = simulates run (at_step + 1) (holds.0.1, behind c (n + 1) at_step s ss rs holds.1) (inside.0.1, inside.1) stack room in
-      first ss rs (sum_by weight ss + sum_by (sum_by weight) rs) at_step (omega (arith, costs_rank_chains.some s)) holds effect_of next
+      let next = simulates run (at_step + 1) (holds.0.1, behind c (n + 1) at_step s ss rs holds.1)
+      (inside.0.1, inside.1) stack room in
+      first ss rs (sum_by weight ss + sum_by (sum_by weight) rs) at_step
+      (omega (arith, costs_rank_chains.some s)) holds effect_of next
   simulates {c} {n} (fails {s = s} {ss = ss} {rs = rs} effect_of run) at_step holds inside stack room =
-      let next = simulates run (at_step + 1 + length ss) (behind c (n + 1) at_step s ss rs holds.1) inside.1 stack room in
+      let next = simulates run (at_step + 1 + length ss) (behind c (n + 1) at_step s ss rs holds.1) inside.1
+      stack room in
       first ss rs (sum_by (sum_by weight) rs) at_step (omega (arith, costs_rank_chains.some s)) holds effect_of next
   simulates {c} {n} (notes {s = s} {ss = ss} {rs = rs} e g effect_of run) at_step holds inside stack room =
-      let next = simulates run (at_step + 1) (holds.0.1, behind c (n + 1) at_step s ss rs holds.1) (inside.0.1, inside.1) stack room in
-      first ss rs (sum_by weight ss + sum_by (sum_by weight) rs) at_step (omega (arith, costs_rank_chains.some s)) holds effect_of next
-  simulates (accepts {ss = ss} {rs = rs} effect_of) at_step holds inside stack room = last ss rs at_step holds effect_of (λ go ticks. refl)
-  simulates (drops {ss = ss} {rs = rs} effect_of) at_step holds inside stack room = last ss rs at_step holds effect_of (λ go ticks. refl)
-  simulates (translates to {ss = ss} {rs = rs} effect_of) at_step holds inside stack room = last ss rs at_step holds effect_of (λ go ticks. refl)
+      let next = simulates run (at_step + 1) (holds.0.1, behind c (n + 1) at_step s ss rs holds.1)
+      (inside.0.1, inside.1) stack room in
+      first ss rs (sum_by weight ss + sum_by (sum_by weight) rs) at_step
+      (omega (arith, costs_rank_chains.some s)) holds effect_of next
+  simulates (accepts {ss = ss} {rs = rs} effect_of) at_step holds inside stack room =
+      last ss rs at_step holds effect_of (λ go ticks. refl)
+  simulates (drops {ss = ss} {rs = rs} effect_of) at_step holds inside stack room =
+      last ss rs at_step holds effect_of (λ go ticks. refl)
+  simulates (translates to {ss = ss} {rs = rs} effect_of) at_step holds inside stack room =
+      last ss rs at_step holds effect_of (λ go ticks. refl)
   simulates {c} {n} (continues {s = s} {ss = ss} {rs = rs} effect_of run) at_step holds inside stack room =
-      let next = simulates run (at_step + 1 + length ss) (behind c (n + 1) at_step s ss rs holds.1) inside.1 stack room in
+      let next = simulates run (at_step + 1 + length ss) (behind c (n + 1) at_step s ss rs holds.1) inside.1
+      stack room in
       first ss rs (sum_by (sum_by weight) rs) at_step (omega (arith, costs_rank_chains.some s)) holds effect_of next
-  simulates (returns {ss = ss} {rs = rs} effect_of) at_step holds inside stack room = last ss rs at_step holds effect_of (λ go ticks. refl)
-  simulates {c} {n} (jumps {k = k} d {s = s} {ss = ss} {rs = rs} {f = f} g {es = es} later chain effect_of has inner run) at_step holds inside stack room =
+  simulates (returns {ss = ss} {rs = rs} effect_of) at_step holds inside stack room =
+      last ss rs at_step holds effect_of (λ go ticks. refl)
+  simulates {c} {n} (jumps {k = k} d {s = s} {ss = ss} {rs = rs} {f = f} g {es =
+      es} later chain effect_of has inner run) at_step holds inside stack room =
       let call = jumped es chain at_step (length ss) inside.0.0 effect_of has room (simulates inner) in
-      let next = simulates run (at_step + 1 + length ss) (behind c (n + 1) at_step s ss rs holds.1) inside.1 stack room in
-      first ss rs (sum_by (sum_by weight) chain + sum_by (sum_by weight) rs) at_step (omega (arith, jump-fits c n k d s f chain inside.0.0 effect_of has)) holds effect_of
+      let next = simulates run (at_step + 1 + length ss) (behind c (n + 1) at_step s ss rs holds.1) inside.1
+      stack room in
+      first ss rs (sum_by (sum_by weight) chain + sum_by (sum_by weight) rs) at_step
+      (omega (arith, jump-fits c n k d s f chain inside.0.0 effect_of has)) holds effect_of
       (does-then t (sum_by (sum_by weight) chain) (sum_by (sum_by weight) rs) (at_step + 1 + length ss) call next)
-  simulates {c} {n} (jumps_away {k = k} d {s = s} {ss = ss} {rs = rs} {f = f} {es = es} chain effect_of has inner is) at_step holds inside stack room =
+  simulates {c} {n} (jumps_away {k = k} d {s = s} {ss = ss} {rs = rs} {f = f} {es =
+      es} chain effect_of has inner is) at_step holds inside stack room =
       let call = jumped es chain at_step (length ss) inside.0.0 effect_of has room (simulates inner) in
-      first ss rs (sum_by (sum_by weight) chain) at_step (omega (arith, jump-fits c n k d s f chain inside.0.0 effect_of has)) holds effect_of
+      first ss rs (sum_by (sum_by weight) chain) at_step
+      (omega (arith, jump-fits c n k d s f chain inside.0.0 effect_of has)) holds effect_of
       (does-over t (sum_by (sum_by weight) chain) is call)
-  simulates {c} {n} (goes {k = k} d {s = s} {ss = ss} {rs = rs} {f = f} {es = es} chain effect_of has inner) at_step holds inside stack room =
-      first ss rs (sum_by (sum_by weight) chain) at_step (omega (arith, goto-fits c n k d s f chain inside.0.0 effect_of has)) holds effect_of
+  simulates {c} {n} (goes {k = k} d {s = s} {ss = ss} {rs = rs} {f = f} {es = es} chain effect_of has inner)
+      at_step holds inside stack room =
+      first ss rs (sum_by (sum_by weight) chain) at_step
+      (omega (arith, goto-fits c n k d s f chain inside.0.0 effect_of has)) holds effect_of
       (went es chain at_step (length ss) inside.0.0 effect_of has room (simulates inner))

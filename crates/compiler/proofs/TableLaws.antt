@@ -1,4 +1,4 @@
--- The chains of a table one behind another, and the tables of a ruleset.
+-- The chains of a table, one after another, and the tables of a ruleset.
 use Rattle.std.proofs.Common.{◌≡◌, ℕ, ◌<◌, ◌≤◌, Bool, false, List, [], ◌∷◌, ◌++◌, length, map, Some, refl, sym, ap, ◌∙◌, subst, ⊎_elim, arith, length-append, append_assoc}
 use Rattle.std.specs.Prelude.{slice_get}
 use Rattle.std.specs.List.{list_any, filter_map}
@@ -16,29 +16,38 @@ use Rattle.rule_meaning.specs.Runs.{Program, table_program}
 use Rattle.filter_vm.specs.declared.code.TableCode.{TableCode}
 use Rattle.lowering.specs.Lowered.{Extends}
 use Rattle.compiler.specs.CodeLayout.{RulesAt, IsTableCode, AreTableCodes}
-use Rattle.compiler.specs.steps.Adding.{ExtendsCode, Adds, rule_is_wrong}
+use Rattle.compiler.specs.steps.Adding.{ExtendsCode, Adds, rule_out_of_range}
 use Rattle.compiler.proofs.AddLaws.{keeps_push, slice_get-push, extends_itself, extends_code_itself, extends_code_on, none_first, none_later}
 
 -- ---- what is wrong with no item is wrong with no chain
 
-pub chains_free : (p : ItemTree → Bool) (q : ChainTree → Bool) → ((c : ChainTree) → p (tree.chain c) ≡ false → q c ≡ false) → (items : List ItemTree) → list_any p items ≡ false → list_any q (filter_map chain_in items) ≡ false
+pub chains_free : (p : ItemTree → Bool) (q : ChainTree → Bool)
+    → ((c : ChainTree) → p (tree.chain c) ≡ false → q c ≡ false) → (items : List ItemTree)
+    → list_any p items ≡ false → list_any q (filter_map chain_in items) ≡ false
 chains_free p q h [] none = refl
-chains_free p q h (tree.chain c ∷ items) none = rw (h c (none_first (p (tree.chain c)) (list_any p items) none)) (chains_free p q h items (none_later (p (tree.chain c)) (list_any p items) none))
-chains_free p q h (tree.comment text ∷ items) none = chains_free p q h items (none_later (p (tree.comment text)) (list_any p items) none)
-chains_free p q h (tree.set s ∷ items) none = chains_free p q h items (none_later (p (tree.set s)) (list_any p items) none)
-chains_free p q h (tree.map_item m ∷ items) none = chains_free p q h items (none_later (p (tree.map_item m)) (list_any p items) none)
+chains_free p q h (tree.chain c ∷ items) none = rw (h c (none_first (p (tree.chain c)) (list_any p items) none))
+    (chains_free p q h items (none_later (p (tree.chain c)) (list_any p items) none))
+chains_free p q h (tree.comment text ∷ items) none =
+    chains_free p q h items (none_later (p (tree.comment text)) (list_any p items) none)
+chains_free p q h (tree.set s ∷ items) none = chains_free p q h items
+    (none_later (p (tree.set s)) (list_any p items) none)
+chains_free p q h (tree.map_item m ∷ items) none = chains_free p q h items
+    (none_later (p (tree.map_item m)) (list_any p items) none)
 
 abbrev pub chain_misfits : TableTree → ChainTree → Bool
 chain_misfits t c = list_any (rule_mismatches t) c.rules
 
 abbrev pub chain_rules_wrong : ChainTree → Bool
-chain_rules_wrong c = list_any rule_is_wrong c.rules
+chain_rules_wrong c = list_any rule_out_of_range c.rules
 
 pub types_free : (t : TableTree) → table_mismatches t ≡ false → list_any (chain_misfits t) (chains_of t) ≡ false
 types_free t = chains_free (item_mismatches t) (chain_misfits t) (λ c h. h) t.items
 
-pub bounds_free : (t : TableTree) → list_any item_out_of_range t.items ≡ false → list_any chain_rules_wrong (chains_of t) ≡ false
-bounds_free t = chains_free item_out_of_range chain_rules_wrong (λ c h. none_later (if_some (λ head. priority_out_of_range head.priority) c.head) (chain_rules_wrong c) h) t.items
+pub bounds_free : (t : TableTree) → list_any item_out_of_range t.items ≡ false
+    → list_any chain_rules_wrong (chains_of t) ≡ false
+bounds_free t = chains_free item_out_of_range chain_rules_wrong
+    (λ c h. none_later (if_some (λ head. priority_out_of_range head.priority) c.head) (chain_rules_wrong c) h)
+    t.items
 
 -- ---- the chains of a table
 
@@ -50,25 +59,41 @@ slice_get-seam (x ∷ xs) y ys = slice_get-seam xs y ys
 abbrev pub rules_in : ChainTree → List (List Statement)
 rules_in c = map (λ r. r.statements) c.rules
 
--- these chains of the table are left, and those before stand in the code
+-- loop invariant: these chains of the table are left, and those before are in the code
 pub record ChainsSoFar (p : Program Statement) (all rest : List ChainTree) (now : TableCode) : Type 0 where
   pub front : List ChainTree
   pub split : all ≡ front ++ rest
   pub count : length now.chain_offsets.items ≡ length front
   pub placed : (c : ℕ) (chain : ChainTree) → c < length front → slice_get all c ≡ Some chain
-      → (at_step : ℕ) × (slice_get now.chain_offsets.items c ≡ Some at_step) × ((later : TableCode) → ExtendsCode now later → RulesAt p later at_step c 1 (rules_in chain))
+      → (at_step : ℕ) × (slice_get now.chain_offsets.items c ≡ Some at_step)
+      × ((later : TableCode) → ExtendsCode now later → RulesAt p later at_step c 1 (rules_in chain))
 
-pub chains_none : (p : Program Statement) (all rest : List ChainTree) (t : TableCode) → rest ≡ all → t.chain_offsets.items ≡ [] → ChainsSoFar p all rest t
-chains_none p all rest t is none = record { front = []; split = sym is; count = ap length none; placed = λ c chain lt has. absurd (omega arith) }
+pub chains_none : (p : Program Statement) (all rest : List ChainTree) (t : TableCode) → rest ≡ all
+    → t.chain_offsets.items ≡ [] → ChainsSoFar p all rest t
+chains_none p all rest t is none = record {
+  front = [];
+  split = sym is;
+  count = ap length none;
+  placed =
+      λ c chain lt has. absurd (omega arith);
+}
 
-pub chains_more : (p : Program Statement) (all rest others : List ChainTree) (chain : ChainTree) (now with_place new : TableCode) → rest ≡ chain ∷ others
-    → with_place.chain_offsets.items ≡ now.chain_offsets.items ++ length now.steps.items ∷ [] → with_place.steps ≡ now.steps → with_place.lookups ≡ now.lookups
+pub chains_more : (p : Program Statement) (all rest others : List ChainTree) (chain : ChainTree)
+    (now with_place new : TableCode) → rest ≡ chain ∷ others
+    → with_place.chain_offsets.items ≡ now.chain_offsets.items ++ length now.steps.items ∷ []
+    → with_place.steps ≡ now.steps → with_place.lookups ≡ now.lookups
     → Adds (λ later at_step. RulesAt p later at_step (length now.chain_offsets.items) 1 (rules_in chain)) with_place new
     → ChainsSoFar p all rest now → ChainsSoFar p all others new
 chains_more p all rest others chain now with_place new is chain_offsets steps lookups adds so = record {
   front = so.front ++ chain ∷ [];
   split = split;
-  count = ap (λ ps. length ps.items) adds.same_places ∙ ap length chain_offsets ∙ omega (arith, so.count, length-append now.chain_offsets.items (length now.steps.items ∷ []), length-append so.front (chain ∷ []));
+  count = ap (λ ps. length ps.items) adds.same_places ∙ ap length chain_offsets
+      ∙ omega (
+        arith,
+        so.count,
+        length-append now.chain_offsets.items (length now.steps.items ∷ []),
+        length-append so.front (chain ∷ []),
+      );
   placed = λ c x lt has. ⊎_elim (before c x has) (here c x lt has) (cases_lt c (length so.front));
 }
   where
@@ -78,56 +103,84 @@ chains_more p all rest others chain now with_place new is chain_offsets steps lo
     pushed : ExtendsCode now with_place
     pushed = record {
       steps = λ i x h. subst (λ ss. slice_get ss.items i ≡ Some x) (sym steps) h;
-      chain_offsets = λ i x h. subst (λ ps. slice_get ps i ≡ Some x) (sym chain_offsets) (keeps_push now.chain_offsets.items (length now.steps.items) i x h);
+      chain_offsets = λ i x h. subst (λ ps. slice_get ps i ≡ Some x) (sym chain_offsets)
+          (keeps_push now.chain_offsets.items (length now.steps.items) i x h);
       lookups = subst (λ l. Extends now.lookups l) (sym lookups) (extends_itself now.lookups);
     }
 
     grown : ExtendsCode now new
     grown = extends_code_on now with_place new pushed adds.extends_code
 
-    before : (c : ℕ) (x : ChainTree) → slice_get all c ≡ Some x → c < length so.front → (at_step : ℕ) × (slice_get new.chain_offsets.items c ≡ Some at_step) × ((later : TableCode) → ExtendsCode new later → RulesAt p later at_step c 1 (rules_in x))
+    before : (c : ℕ) (x : ChainTree) → slice_get all c ≡ Some x → c < length so.front → (at_step : ℕ)
+        × (slice_get new.chain_offsets.items c ≡ Some at_step)
+        × ((later : TableCode) → ExtendsCode new later → RulesAt p later at_step c 1 (rules_in x))
     before c x has lt =
         let old = so.placed c x lt has in
         (old.0, grown.chain_offsets c old.0 old.1, λ later g. old.2 later (extends_code_on now new later grown g))
 
-    here : (c : ℕ) (x : ChainTree) → c < length (so.front ++ chain ∷ []) → slice_get all c ≡ Some x → length so.front ≤ c → (at_step : ℕ) × (slice_get new.chain_offsets.items c ≡ Some at_step) × ((later : TableCode) → ExtendsCode new later → RulesAt p later at_step c 1 (rules_in x))
+    here : (c : ℕ) (x : ChainTree) → c < length (so.front ++ chain ∷ []) → slice_get all c ≡ Some x
+        → length so.front ≤ c → (at_step : ℕ) × (slice_get new.chain_offsets.items c ≡ Some at_step)
+        × ((later : TableCode) → ExtendsCode new later → RulesAt p later at_step c 1 (rules_in x))
     here c x lt has ge =
         let at : c ≡ length so.front = omega (arith, length-append so.front (chain ∷ [])) in
         let at_place : c ≡ length now.chain_offsets.items = at ∙ sym so.count in
-        let same : Some chain ≡ Some x = sym (ap (λ xs. slice_get xs c) (so.split ∙ ap (λ xs. so.front ++ xs) is) ∙ ap (λ n. slice_get (so.front ++ chain ∷ others) n) at ∙ slice_get-seam so.front chain others) ∙ has in
+        let same : Some chain ≡ Some x = sym (ap (λ xs. slice_get xs c)
+        (so.split ∙ ap (λ xs. so.front ++ xs) is) ∙ ap (λ n. slice_get (so.front ++ chain ∷ others) n) at
+        ∙ slice_get-seam so.front chain others) ∙ has in
         let is_x : chain ≡ x = cc in
         let n : length with_place.steps.items ≡ length now.steps.items = ap (λ ss. length ss.items) steps in
-        let got : slice_get with_place.chain_offsets.items (length now.chain_offsets.items) ≡ Some (length now.steps.items) = ap (λ ps. slice_get ps (length now.chain_offsets.items)) chain_offsets ∙ slice_get-push now.chain_offsets.items (length now.steps.items) in (
+        let got : slice_get with_place.chain_offsets.items (length now.chain_offsets.items)
+        ≡ Some (length now.steps.items) = ap (λ ps. slice_get ps (length now.chain_offsets.items))
+        chain_offsets ∙ slice_get-push now.chain_offsets.items (length now.steps.items) in (
           length now.steps.items,
-          subst (λ m. slice_get new.chain_offsets.items m ≡ Some (length now.steps.items)) (sym at_place) (adds.extends_code.chain_offsets (length now.chain_offsets.items) (length now.steps.items) got),
+          subst (λ m. slice_get new.chain_offsets.items m ≡ Some (length now.steps.items)) (sym at_place)
+              (adds.extends_code.chain_offsets (length now.chain_offsets.items) (length now.steps.items) got),
           λ later g. subst (λ y. RulesAt p later (length now.steps.items) c 1 (rules_in y)) is_x
               (subst (λ m. RulesAt p later (length now.steps.items) m 1 (rules_in chain)) (sym at_place)
-              (subst (λ a. RulesAt p later a (length now.chain_offsets.items) 1 (rules_in chain)) n (adds.holds later g))),
+              (subst (λ a. RulesAt p later a (length now.chain_offsets.items) 1 (rules_in chain)) n
+              (adds.holds later g))),
         )
 
-pub chains_all : (plant : PlantTree) (number : ℕ) (t : TableTree) (rest : List ChainTree) (now : TableCode) → rest ≡ [] → ChainsSoFar (table_program plant number t) (chains_of t) rest now → IsTableCode plant number t now
+pub chains_all : (plant : PlantTree) (number : ℕ) (t : TableTree) (rest : List ChainTree) (now : TableCode)
+    → rest ≡ [] → ChainsSoFar (table_program plant number t) (chains_of t) rest now
+    → IsTableCode plant number t now
 chains_all plant number t rest now none so = record {
   chains = λ c rules has.
       let found = some_of_map rules_in (slice_get (chains_of t) c) rules has in
       let ruleset_code : chains_of t ≡ so.front = so.split ∙ ap (λ xs. so.front ++ xs) none ∙ append-nil so.front in
-      let lt : c < length so.front = subst (λ xs. c < length xs) ruleset_code (slice_get_within (chains_of t) c found.0 found.1) in
-      let holds = so.placed c found.0 lt found.1 in
-      (holds.0, holds.1, subst (λ rs. RulesAt (table_program plant number t) now holds.0 c 1 rs) found.2 (holds.2 now (extends_code_itself now)));
+      let lt : c < length so.front = subst (λ xs. c < length xs) ruleset_code
+      (slice_get_within (chains_of t) c found.0 found.1) in
+      let holds = so.placed c found.0 lt found.1 in (
+        holds.0,
+        holds.1,
+        subst (λ rs. RulesAt (table_program plant number t) now holds.0 c 1 rs) found.2
+            (holds.2 now (extends_code_itself now)),
+      );
 }
 
 -- ---- the tables of a ruleset
 
--- these tables are left, and those before have their code
+-- loop invariant: these tables are left, and those before have their code
 pub record TablesSoFar (plant : PlantTree) (all rest : List TableTree) (codes : List TableCode) : Type 0 where
   pub front : List TableTree
   pub split : all ≡ front ++ rest
   pub count : length codes ≡ length front
-  pub made : (i : ℕ) (t : TableTree) → i < length front → slice_get all i ≡ Some t → (code : TableCode) × (slice_get codes i ≡ Some code) × IsTableCode plant i t code
+  pub made : (i : ℕ) (t : TableTree) → i < length front → slice_get all i ≡ Some t → (code : TableCode)
+      × (slice_get codes i ≡ Some code) × IsTableCode plant i t code
 
-pub tables_none : (plant : PlantTree) (all : List TableTree) (codes : List TableCode) → codes ≡ [] → TablesSoFar plant all all codes
-tables_none plant all codes none = record { front = []; split = refl; count = ap length none; made = λ i t lt has. absurd (omega arith) }
+pub tables_none : (plant : PlantTree) (all : List TableTree) (codes : List TableCode) → codes ≡ []
+    → TablesSoFar plant all all codes
+tables_none plant all codes none = record {
+  front = [];
+  split = refl;
+  count = ap length none;
+  made =
+      λ i t lt has. absurd (omega arith);
+}
 
-pub tables_more : (plant : PlantTree) (all rest others : List TableTree) (t : TableTree) (now new : List TableCode) (code : TableCode) → rest ≡ t ∷ others → new ≡ now ++ code ∷ [] → IsTableCode plant (length now) t code
+pub tables_more : (plant : PlantTree) (all rest others : List TableTree) (t : TableTree)
+    (now new : List TableCode) (code : TableCode) → rest ≡ t ∷ others → new ≡ now ++ code ∷ []
+    → IsTableCode plant (length now) t code
     → TablesSoFar plant all rest now → TablesSoFar plant all others new
 tables_more plant all rest others t now new code is pushed holds so = record {
   front = so.front ++ t ∷ [];
@@ -136,23 +189,27 @@ tables_more plant all rest others t now new code is pushed holds so = record {
   made = λ i x lt has. ⊎_elim (before i x has) (here i x lt has) (cases_lt i (length so.front));
 }
   where
-    before : (i : ℕ) (x : TableTree) → slice_get all i ≡ Some x → i < length so.front → (made : TableCode) × (slice_get new i ≡ Some made) × IsTableCode plant i x made
+    before : (i : ℕ) (x : TableTree) → slice_get all i ≡ Some x → i < length so.front → (made : TableCode)
+        × (slice_get new i ≡ Some made) × IsTableCode plant i x made
     before i x has lt =
         let old = so.made i x lt has in
         (old.0, subst (λ cs. slice_get cs i ≡ Some old.0) (sym pushed) (keeps_push now code i old.0 old.1), old.2)
 
-    here : (i : ℕ) (x : TableTree) → i < length (so.front ++ t ∷ []) → slice_get all i ≡ Some x → length so.front ≤ i → (made : TableCode) × (slice_get new i ≡ Some made) × IsTableCode plant i x made
+    here : (i : ℕ) (x : TableTree) → i < length (so.front ++ t ∷ []) → slice_get all i ≡ Some x
+        → length so.front ≤ i → (made : TableCode) × (slice_get new i ≡ Some made) × IsTableCode plant i x made
     here i x lt has ge =
         let at : i ≡ length so.front = omega (arith, length-append so.front (t ∷ [])) in
         let at_code : i ≡ length now = at ∙ sym so.count in
-        let same : Some t ≡ Some x = sym (ap (λ xs. slice_get xs i) (so.split ∙ ap (λ xs. so.front ++ xs) is) ∙ ap (λ n. slice_get (so.front ++ t ∷ others) n) at ∙ slice_get-seam so.front t others) ∙ has in
+        let same : Some t ≡ Some x = sym (ap (λ xs. slice_get xs i) (so.split ∙ ap (λ xs. so.front ++ xs) is)
+        ∙ ap (λ n. slice_get (so.front ++ t ∷ others) n) at ∙ slice_get-seam so.front t others) ∙ has in
         let is_x : t ≡ x = cc in (
           code,
           ap (λ cs. slice_get cs i) pushed ∙ ap (λ n. slice_get (now ++ code ∷ []) n) at_code ∙ slice_get-push now code,
           subst (λ y. IsTableCode plant i y code) is_x (subst (λ n. IsTableCode plant n t code) (sym at_code) holds),
         )
 
-pub tables_all : (plant : PlantTree) (all rest : List TableTree) (codes : List TableCode) → rest ≡ [] → TablesSoFar plant all rest codes → AreTableCodes plant all codes
+pub tables_all : (plant : PlantTree) (all rest : List TableTree) (codes : List TableCode) → rest ≡ []
+    → TablesSoFar plant all rest codes → AreTableCodes plant all codes
 tables_all plant all rest codes none so = record {
   same_length = so.count ∙ ap length (sym (so.split ∙ ap (λ xs. so.front ++ xs) none ∙ append-nil so.front));
   each = λ i t has.

@@ -1,4 +1,4 @@
-//! Base chains.
+//! Base chains, with their costs.
 ghost use Rattle.std.specs.Prelude.{◌≡◌, ◌<◌, false};
 ghost use Rattle.rule_values.specs.Faults.{priority_out_of_range};
 
@@ -11,7 +11,7 @@ use rule_meaning::ChainNo;
 pub(crate) struct CompiledChain<'t> {
     pub(crate) number: ChainNo,
     pub(crate) head: &'t Head,
-    /// 1, and how many statements a run starts at most.
+    /// How many statements a packet starts here at most, plus 1 for the policy.
     pub(crate) cost: u32,
     ghost is_positive: { 0 < cost },
     ghost in_range: { priority_out_of_range head.now.priority ≡ false },
@@ -21,7 +21,7 @@ impl CompiledChain<'_> {
     ghost use Rattle.compiler.specs.Compiled.{start_head, base_chain_head};
     ghost use Rattle.compiler.specs.steps.Bases.{base};
 
-    /// Where a packet starts that comes to the chain. Without a policy it accepts.
+    /// The entry point of the chain. Without a `policy` a base chain accepts (nft(8), "Chains").
     pub(crate) fn start(&self) -> Start
         ensures start_head { start_head result ≡ base_chain_head (base self.now) }
         ensures cost { result.cost ≡ self.now.cost }

@@ -1,4 +1,4 @@
-//! A ruleset as code.
+//! Compiles a ruleset.
 ghost use Rattle.std.specs.Prelude.{◌≡◌, ◌≤◌, ℕ, IfOk};
 ghost use Rattle.nft_tree.specs.declared.chain.Hook.{Hook};
 ghost use Rattle.nft_tree.specs.Tree.{TableTree};
@@ -24,7 +24,7 @@ fn ruleset_code(alloc: Global, checked: &Checked) -> Result<Code, AllocError>
     ensures { IfOk result (λ code. IsRulesetCode checked.now code) }
 {
     let Some(names) = names_of(alloc, checked.tree())? else {
-        // A checked ruleset has no name twice.
+        // A checked ruleset declares no name twice.
         unreachable!();
     };
     let tables = table_codes(alloc, checked.plant(), &names)?;
@@ -39,23 +39,26 @@ fn ruleset_code(alloc: Global, checked: &Checked) -> Result<Code, AllocError>
     })
 }
 
-/// The code of a checked ruleset: its starts are the base chains of each hook, in the order in which
-/// they run, and for every base chain, whatever rules may read of a packet, events and outcome are
-/// those of its rules and its policy. It has a step for each statement, and each start costs what
-/// `check` counts for its base chain.
+/// The code of a checked ruleset. Its starts are the base chains of each hook in the order in which
+/// they run. On every packet, the verdict and the events of a start are those of the base chain's
+/// rules and policy. There is one step for each statement, and a start costs what `check` counts
+/// for its chain.
 ///
 /// # Errors
 ///
-/// For want of memory alone.
+/// `AllocError` for want of memory.
 pub fn compile(alloc: Global, checked: &Checked) -> Result<Code, AllocError>
-    ensures starts { IfOk result (λ code. (hook : Hook) → HasStarts checked.now.rules hook (starts_of code hook)) }
+    ensures starts { IfOk result (λ code. (hook : Hook)
+        → HasStarts checked.now.rules hook (starts_of code hook)) }
     ensures runs { IfOk result (λ code. AgreesWithRules checked.now code) }
-    ensures steps { IfOk result (λ code. AreTableCodes checked.now.plant checked.now.rules code.tables.items) }
-    ensures total { IfOk result (λ code. (cost : TableTree → Caller → ℕ) → AreAllCosts checked.now.rules cost
+    ensures steps { IfOk result (λ code.
+        AreTableCodes checked.now.plant checked.now.rules code.tables.items) }
+    ensures total { IfOk result (λ code. (cost : TableTree → Caller → ℕ)
+        → AreAllCosts checked.now.rules cost
         → total_cost code ≡ ruleset_cost cost checked.now.rules) }
     ensures cost { IfOk result (λ code. total_cost code ≤ 65536) }
 {
-    // What is known of checked rulesets; none of the three does anything.
+    // Facts of checked rulesets, for the proof: these calls do nothing.
     checked.known_bounds();
     costs_rank_chains();
     hooks_terminate();

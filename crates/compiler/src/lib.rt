@@ -1,4 +1,4 @@
-//! Checked rulesets as code whose events and outcomes are those of the rules.
+//! Compiles checked rulesets to code that gives the rules' own verdicts and events.
 #![tactic(auto)]
 
 mod compiled_chain;

@@ -1,4 +1,4 @@
-//! Where packets start: base chains in the order in which they run.
+//! The starts of a ruleset: its base chains, hook by hook, in the order in which they run.
 ghost use Rattle.std.specs.Prelude.{◌≡◌, ◌+◌, ◌<◌, ℕ, false, List, filter, length, map, slice_get, slice_index, Some, All, IfOk, OnOk};
 ghost use Rattle.std.specs.List.{list_any};
 ghost use Rattle.nft_tree.specs.Tree.{ChainTree, HeadTree, chain_tree};
@@ -29,7 +29,8 @@ fn add_base<'t>(
     requires bounds { chain_out_of_range (chain_tree chain.now) ≡ false }
     requires small { (head : HeadTree) → (chain_tree chain.now).head ≡ Some head → cost < MAX_COST }
     ensures { OnOk result (AddsBases
-        (base_chain_of number.table number.chain (chain_tree chain.now).head) (λ n c. (n ≡ number) × (c ≡ cost + 1))
+        (base_chain_of number.table number.chain (chain_tree chain.now).head)
+        (λ n c. (n ≡ number) × (c ≡ cost + 1))
         bases.old.items bases.new.items) }
 {
     if let Some(head) = &chain.head {
@@ -42,7 +43,7 @@ fn add_base<'t>(
     Ok(())
 }
 
-/// Adds the base chains of a table, whose chains cost so much.
+/// Adds the base chains of a table. `costs` has the cost of each of its chains.
 fn add_bases<'t>(
     table: u32,
     names: &TableNames<'t>,
@@ -51,10 +52,12 @@ fn add_bases<'t>(
 ) -> Result<(), AllocError>
     requires bounds { list_any item_out_of_range names.now.items ≡ false }
     requires long { length costs.now ≡ length (chains_of names.now) }
-    requires small { (j : ℕ) (c : ChainTree) (head : HeadTree) → slice_get (chains_of names.now) j ≡ Some c
+    requires small { (j : ℕ) (c : ChainTree) (head : HeadTree)
+        → slice_get (chains_of names.now) j ≡ Some c
         → c.head ≡ Some head → slice_index costs.now j < MAX_COST }
     ensures { OnOk result (AddsBases
-        (base_chains_from table 0 (chains_of names.now)) (λ n c. (n.table ≡ table) × (c ≡ slice_index costs.now n.chain + 1))
+        (base_chains_from table 0 (chains_of names.now))
+        (λ n c. (n.table ≡ table) × (c ≡ slice_index costs.now n.chain + 1))
         bases.old.items bases.new.items) }
 {
     for (place, chain) in names.chains().iter().enumerate() {
@@ -76,7 +79,8 @@ pub(crate) fn base_chains<'t>(
     requires names { names.now ≡ checked.now.rules }
     requires bounds { list_any (has_wrong_value checked.now.plant) names.now ≡ false }
     ensures bases { IfOk result (λ bases. map base bases.items ≡ base_chains_of checked.now.rules) }
-    ensures costs { IfOk result (λ bases. (costs : List (List ℕ)) → AreRulesetCosts checked.now.rules costs
+    ensures costs { IfOk result (λ bases. (costs : List (List ℕ))
+        → AreRulesetCosts checked.now.rules costs
         → All (λ b. CostsIn costs b.number b.cost) bases.items) }
 {
     let mut bases = Vec::new(alloc);
@@ -116,10 +120,12 @@ fn chains_on_hook<'t>(
     Ok(on_hook)
 }
 
-/// Base chains in the order in which they run, as starts.
+/// The starts of base chains, in their order.
 fn as_starts(alloc: Global, bases: &[CompiledChain]) -> Result<Vec<Start>, AllocError>
-    ensures starts { IfOk result (λ starts. map start_head starts.items ≡ map base_chain_head (map base bases.now)) }
-    ensures costs { IfOk result (λ starts. map (λ s. s.cost) starts.items ≡ map (λ b. b.cost) bases.now) }
+    ensures starts { IfOk result (λ starts.
+        map start_head starts.items ≡ map base_chain_head (map base bases.now)) }
+    ensures costs { IfOk result (λ starts.
+        map (λ s. s.cost) starts.items ≡ map (λ b. b.cost) bases.now) }
 {
     let mut starts = Vec::with_capacity(alloc, bases.len())?;
     for base in bases {
@@ -128,7 +134,7 @@ fn as_starts(alloc: Global, bases: &[CompiledChain]) -> Result<Vec<Start>, Alloc
     Ok(starts)
 }
 
-/// The starts of a hook.
+/// The starts of a hook: by priority, and in text order where priorities are equal.
 pub(crate) fn starts_on_hook(
     alloc: Global,
     hook: Hook,

@@ -14,7 +14,7 @@ use rule_meaning::ChainNo;
 use rule_names::TableNames;
 use std::alloc::{AllocError, Global};
 
-/// The code of the table of this number.
+/// The code of one table; `table` is its number.
 fn table_code(
     alloc: Global,
     plant: &Plant,
@@ -43,7 +43,7 @@ fn table_code(
     Ok(code)
 }
 
-/// The code of each table.
+/// The code of each table, in text order.
 pub(crate) fn table_codes(
     alloc: Global,
     plant: &Plant,

@@ -1,9 +1,9 @@
--- Parts that lie within a text.
+-- Parts within a text (own).
 use Rattle.std.specs.Prelude.{ℕ, ◌≤◌, List}
 use Rattle.std.specs.List.{All}
 use Rattle.fault_places.specs.declared.brace_parts.Span.{Span}
 
--- the part begins before it ends, and ends within so many bytes
+-- the part doesn't end before it begins, nor after so many bytes
 abbrev pub IsWithin : ℕ → Span → Type 0
 IsWithin most part = (part.start ≤ part.end) × (part.end ≤ most)
 

@@ -1,41 +1,41 @@
-//! The parts of a ruleset's text, by its braces alone: tables, declarations, rules.
+//! The tables, declarations and rules of a ruleset's text, found by braces.
 ghost use Rattle.std.specs.Prelude.{IfOk, length};
 ghost use Rattle.fault_places.specs.Within.{AllWithin};
 
 use std::alloc::{AllocError, Global};
 
-/// A part of a text, from one offset to another.
+/// A part of a text: byte offsets, `end` exclusive.
 #[derive(Clone, Copy)]
 pub struct Span {
     pub start: usize,
     pub end: usize,
 }
 
-/// Which parts of a ruleset are sought.
+/// A level of nesting in a ruleset.
 #[derive(Clone, Copy, PartialEq)]
 pub enum Level {
-    /// The rules of chains: what stands two braces deep, but for `type`, `policy` and `comment`.
+    /// The rules of chains: what is two braces deep, except `type`, `policy` and `comment`.
     Rules,
     /// The sets and maps of tables.
     Sets,
-    /// The chains, sets and maps of tables: what stands one brace deep.
+    /// The chains, sets and maps of tables: what is one brace deep.
     Declarations,
-    /// The tables: what stands in no brace.
+    /// The tables: what is in no brace.
     Tables,
 }
 
-/// What a scan knows at an offset.
+/// The state of a scan at an offset.
 #[derive(Clone, Copy)]
 struct Scan {
     depth: usize,
     quotes: Quotes,
-    /// Where the table, the declaration and the rule begin that the offset is in.
+    /// Where the table, the declaration and the rule around the offset begin.
     table: Option<usize>,
     declaration: Option<usize>,
     rule: Option<usize>,
 }
 
-/// Whether an offset is within a string, or within a comment.
+/// Whether a scan is within a string or a comment.
 #[derive(Clone, Copy)]
 pub struct Quotes {
     quoted: bool,
@@ -48,7 +48,7 @@ impl Quotes {
         comment: false,
     };
 
-    /// Takes a byte, and tells whether it is one of a string or of a comment.
+    /// Consumes a byte, and returns whether it belongs to a string or a comment.
     pub fn skips(&mut self, byte: u8) -> bool {
         if byte == b'\n' {
             *self = Quotes::NONE;
@@ -91,7 +91,7 @@ impl Scan {
         }
     }
 
-    /// What ends before this offset, at a line's end or a semicolon.
+    /// The part that ends before this offset, at a line's end or a semicolon.
     fn separate(&mut self, level: Level, offset: usize) -> Option<Span> {
         let (start, own) = match self.depth {
             0 => (self.table.take(), Level::Tables),
@@ -106,7 +106,8 @@ impl Scan {
         }
     }
 
-    /// What ends with the brace at this offset. A brace that closes nothing is a part by itself.
+    /// The part that ends with the brace at this offset. A brace that closes nothing is a part by
+    /// itself.
     fn close(&mut self, level: Level, offset: usize) -> Option<Span> {
         let depth = self.depth;
         let behind = offset.saturating_add(1);
@@ -142,7 +143,7 @@ impl Scan {
         }
     }
 
-    /// Takes the byte at an offset, and tells which part ends there.
+    /// Consumes the byte at an offset, and returns the part that ends there.
     fn step(&mut self, level: Level, byte: u8, offset: usize) -> Option<Span> {
         if self.quotes.skips(byte) {
             if byte == b'"' {
@@ -176,8 +177,7 @@ pub fn has_at(text: &[u8], offset: usize, word: &[u8]) -> bool {
     offset <= text.len() && text[offset..].starts_with(word)
 }
 
-/// Whether a part that stands two braces deep is a rule: not in a set or a map, and none of the
-/// lines that say what a chain is.
+/// Whether a part two braces deep is a rule: in a chain, and not its `type`, `policy` or `comment`.
 fn is_rule(text: &[u8], declaration: Option<usize>, start: usize) -> bool {
     let in_chain = match declaration {
         Some(offset) => has_at(text, offset, b"chain"),
@@ -189,7 +189,7 @@ fn is_rule(text: &[u8], declaration: Option<usize>, start: usize) -> bool {
         && !has_at(text, start, b"comment ")
 }
 
-/// Whether a part of the text is one of its level.
+/// Whether a part of the text is of the level.
 fn is_wanted(text: &[u8], level: Level, declaration: Option<usize>, start: usize) -> bool {
     match level {
         Level::Rules => is_rule(text, declaration, start),
@@ -198,12 +198,12 @@ fn is_wanted(text: &[u8], level: Level, declaration: Option<usize>, start: usize
     }
 }
 
-/// The parts of a level in a text, in their order.
+/// The parts of a level in a text, in order.
 ///
 /// # Errors
-/// `AllocError` where there is no room to grow.
+/// `AllocError` for want of memory.
 pub fn spans(alloc: Global, text: &[u8], level: Level) -> Result<Vec<Span>, AllocError>
-    // Each lies within the text.
+    // Each part lies within the text.
     ensures { IfOk result (λ parts. AllWithin (length text.entry.now) parts.items) }
 {
     let mut parts = Vec::new(alloc);

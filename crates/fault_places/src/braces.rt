@@ -1,9 +1,9 @@
-//! A brace that isn't closed.
+//! Unclosed braces.
 use crate::brace_parts::{Quotes, has_at};
 use std::alloc::{AllocError, Global};
 
-/// Whether the line at an offset begins what can't stand in so many open braces: a table in any, a
-/// chain, a set or a map in two.
+/// Whether the line at an offset begins an item that can't be nested so deep: a table in any brace,
+/// or a chain, a set or a map in two.
 fn begins_outside(text: &[u8], offset: usize, depth: usize) -> bool {
     let is_table = depth > 0 && has_at(text, offset, b"table ");
     let is_declaration = depth > 1
@@ -13,7 +13,7 @@ fn begins_outside(text: &[u8], offset: usize, depth: usize) -> bool {
     (is_table || is_declaration) && opens(text, offset)
 }
 
-/// Whether a brace stands on the line, from an offset on.
+/// Whether the line has an opening brace from an offset on.
 fn opens(text: &[u8], offset: usize) -> bool {
     if offset > text.len() {
         return false;
@@ -28,16 +28,16 @@ fn opens(text: &[u8], offset: usize) -> bool {
     false
 }
 
-/// A brace that isn't closed.
+/// An unclosed brace.
 #[derive(Clone, Copy)]
 pub struct OpenBrace {
     /// The offset of the brace.
     pub offset: usize,
-    /// The offset at which it is seen that it isn't closed.
+    /// The offset at which it shows that it isn't closed.
     pub seen: usize,
 }
 
-/// Whether each brace that closes has one that it closes, and no other stays open.
+/// Whether each closing brace has an opening one, and none stays open.
 pub fn braces_match(text: &[u8]) -> bool {
     let mut depth = 0usize;
     let mut quotes = Quotes::NONE;
@@ -57,11 +57,11 @@ pub fn braces_match(text: &[u8]) -> bool {
     depth == 0
 }
 
-/// A brace that isn't closed: the one that stands open where a table, a chain, a set or a map begins
-/// that can't stand in it, or the last that is open at the end.
+/// An unclosed brace: the innermost one where a table, a chain, a set or a map begins that can't be
+/// nested in it, or else the innermost one at the end of the text.
 ///
 /// # Errors
-/// `AllocError` where there is no room to grow.
+/// `AllocError` for want of memory.
 pub fn unclosed_brace(alloc: Global, text: &[u8]) -> Result<Option<OpenBrace>, AllocError> {
     let mut open = Vec::new(alloc);
     let mut quotes = Quotes::NONE;

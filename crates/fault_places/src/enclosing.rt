@@ -1,8 +1,8 @@
-//! What stands around an offset of a ruleset's text.
+//! The table, chain and rule around an offset of a ruleset's text.
 use crate::brace_parts::{Level, Span, spans};
 use std::alloc::{AllocError, Global};
 
-/// The table and the declaration that have an offset, and the rule's number in its chain.
+/// The table and the declaration around an offset, and the number of its rule in the chain.
 #[derive(Clone, Copy)]
 pub struct EnclosingItems {
     pub table: Option<Span>,
@@ -12,10 +12,10 @@ pub struct EnclosingItems {
     pub rule: Option<usize>,
 }
 
-/// What stands around an offset.
+/// The table, declaration and rule around an offset.
 ///
 /// # Errors
-/// `AllocError` where there is no room to grow.
+/// `AllocError` for want of memory.
 pub fn enclosing_items(
     alloc: Global,
     text: &[u8],
@@ -34,7 +34,7 @@ pub fn enclosing_items(
     })
 }
 
-/// The part that has an offset.
+/// The part around an offset.
 fn part_around(parts: &[Span], offset: usize) -> Option<Span> {
     for part in parts {
         if part.start <= offset && offset < part.end {
@@ -44,7 +44,7 @@ fn part_around(parts: &[Span], offset: usize) -> Option<Span> {
     None
 }
 
-/// The number that the rule with an offset has in its chain.
+/// The number of the rule around an offset, in its chain.
 fn number(rules: &[Span], chain: Span, offset: usize) -> Option<usize> {
     let mut before = 0usize;
     for rule in rules {

@@ -1,7 +1,7 @@
-//! Places in the text of a ruleset or a box file, for people who look for a fault.
+//! Parts and positions in the text of a ruleset or a box file, for diagnostics.
 //!
-//! A place is a help and no promise: the contracts say that it lies within the text, and not which
-//! one it is.
+//! Only bounds are proved: the parts and positions lie within the text. Which ones they are is a
+//! heuristic by braces, quotes and line ends, without the grammar.
 #![tactic(auto)]
 
 mod brace_parts;

@@ -1,12 +1,12 @@
-//! The lines of a box file.
+//! The lines of a box file, as parts.
 ghost use Rattle.std.specs.Prelude.{◌≤◌, IfOk, length};
 ghost use Rattle.fault_places.specs.Within.{AllWithin};
 
 use crate::brace_parts::{Level, Span, has_at};
 use std::alloc::{AllocError, Global};
 
-/// Whether a line is sought: an `interface` line is a declaration, the `default` line stands for a
-/// table, and any other for a rule.
+/// Whether a line is of a level: `interface` lines are declarations, the `default` line is a table,
+/// and all others are rules.
 fn is_wanted(text: &[u8], level: Level, start: usize) -> bool {
     let declares = has_at(text, start, b"interface");
     match level {
@@ -17,13 +17,13 @@ fn is_wanted(text: &[u8], level: Level, start: usize) -> bool {
     }
 }
 
-/// The lines of a box file that stand for rules, its `interface` lines, or its `default` line, in their
-/// order.
+/// The lines of a level in a box file, in order: at `Rules` all but its `interface` and `default`
+/// lines, at `Declarations` the `interface` lines, at `Tables` the `default` line, at `Sets` none.
 ///
 /// # Errors
-/// `AllocError` where there is no room to grow.
+/// `AllocError` for want of memory.
 pub fn box_lines(alloc: Global, text: &[u8], level: Level) -> Result<Vec<Span>, AllocError>
-    // Each lies within the text.
+    // Each part lies within the text.
     ensures { IfOk result (λ parts. AllWithin (length text.entry.now) parts.items) }
 {
     let mut parts = Vec::new(alloc);

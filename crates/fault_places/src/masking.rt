@@ -1,8 +1,8 @@
-//! Texts without some of their parts.
+//! Blanks out parts of a text.
 use crate::brace_parts::Span;
 
-/// Writes blanks over these parts of the text, and leaves the ends of its lines where they are. A
-/// part that doesn't lie within the text is passed over.
+/// Overwrites parts of the text with blanks, and keeps line ends, so that offsets stay. A part that
+/// doesn't lie within the text is ignored.
 pub fn mask(text: &mut [u8], parts: &[Span]) {
     for part in parts {
         if part.start <= part.end && part.end <= text.len() {

@@ -1,17 +1,17 @@
-//! The line and the column of an offset.
+//! Lines and columns.
 ghost use Rattle.std.specs.Prelude.{◌≡◌, ◌≤◌, ◌+◌, IfSome, length};
 ghost use Rattle.fault_places.specs.Within.{IsWithin};
 
 use crate::brace_parts::Span;
 
-/// Where an offset stands in a text, and the line that has it.
+/// The line and column of an offset, and the extent of its line.
 #[derive(Clone, Copy)]
 pub struct Position {
     /// The number of the line, from 1.
     pub line: usize,
     /// The column in bytes, from 1.
     pub column: usize,
-    /// The offsets at which the line begins and ends.
+    /// The offsets at which the line begins and ends, without its line end.
     pub start: usize,
     pub end: usize,
 }
@@ -41,7 +41,7 @@ pub fn position_at(text: &[u8], offset: usize) -> Position
     }
 }
 
-// The offset at which the line that has this offset ends.
+// The offset at which the line of an offset ends.
 fn line_end(text: &[u8], offset: usize) -> usize
     requires { offset ≤ length text.now }
     ensures within { result ≤ length text.now }

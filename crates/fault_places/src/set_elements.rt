@@ -1,20 +1,20 @@
-//! The elements of sets and maps, by braces and commas alone.
+//! The elements of sets and maps, found by braces and commas.
 ghost use Rattle.std.specs.Prelude.{◌≤◌, IfOk, length};
 ghost use Rattle.fault_places.specs.Within.{AllWithin};
 
 use crate::brace_parts::{Quotes, Span};
 use std::alloc::{AllocError, Global};
 
-/// What a list of elements stands in.
+/// What a list of elements is part of.
 #[derive(Clone, Copy, PartialEq)]
 pub enum Depth {
-    /// In a rule: its braces are the first ones.
+    /// A rule: the list's braces are the outermost ones.
     Rule,
-    /// In a set or a map, whose own braces are around it.
+    /// A set or a map, whose own braces are around the list.
     Set,
 }
 
-/// What a scan knows at an offset.
+/// The state of a scan at an offset.
 #[derive(Clone, Copy)]
 struct Scan {
     wanted: usize,
@@ -24,7 +24,7 @@ struct Scan {
 }
 
 impl Scan {
-    /// Takes the byte at an offset, and tells which element ends there, its comma included.
+    /// Consumes the byte at an offset, and returns the element that ends there, with its comma.
     fn step(&mut self, byte: u8, offset: usize) -> Option<Span> {
         let skipped = self.quotes.skips(byte);
         let inside = self.depth == self.wanted;
@@ -54,17 +54,17 @@ impl Scan {
     }
 }
 
-/// The elements of the lists in a part of a text, in their order, each with the comma behind it.
+/// The elements of the lists in a part of a text, in order, each with the comma after it.
 ///
 /// # Errors
-/// `AllocError` where there is no room to grow.
+/// `AllocError` for want of memory.
 pub fn elements(
     alloc: Global,
     text: &[u8],
     part: Span,
     depth: Depth,
 ) -> Result<Vec<Span>, AllocError>
-    // Each lies within the text.
+    // Each part lies within the text.
     ensures { IfOk result (λ parts. AllWithin (length text.entry.now) parts.items) }
 {
     let mut found = Vec::new(alloc);

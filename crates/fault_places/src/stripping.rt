@@ -1,26 +1,26 @@
-//! Texts without some of their parts, and with some of them again.
+//! Removes parts of a text, and restores some of them.
 use crate::brace_parts::Span;
 use std::alloc::{AllocError, Global};
 
-/// A part of a text, and the offset that it has in the text without all of the parts.
+/// A part of a text that was removed, and its offset in the text that is left.
 #[derive(Clone, Copy)]
 pub struct RemovedPart {
     pub part: Span,
     pub offset: usize,
 }
 
-/// A text without some parts, and where each of them stood.
+/// A text without some parts, and the parts that were removed.
 #[derive(Drop)]
 pub struct Stripped {
     pub rest: Vec<u8>,
     pub removed: Vec<RemovedPart>,
 }
 
-/// Takes parts out of a text. They stand in their order; one that overlaps the one before it, or
-/// doesn't lie within the text, stays in the text and isn't one of those that are placed.
+/// Removes parts, given in their order, from a text. A part that overlaps the one before it, or
+/// doesn't lie within the text, is ignored.
 ///
 /// # Errors
-/// `AllocError` where there is no room to grow.
+/// `AllocError` for want of memory.
 pub fn strip(alloc: Global, text: &[u8], parts: &[Span]) -> Result<Stripped, AllocError> {
     let mut rest = Vec::new(alloc);
     let mut removed = Vec::new(alloc);
@@ -41,10 +41,10 @@ pub fn strip(alloc: Global, text: &[u8], parts: &[Span]) -> Result<Stripped, All
     Ok(Stripped { rest, removed })
 }
 
-/// The rest of a text with these parts of it again, which stand in their order.
+/// The rest of a text with some of the removed parts, given in their order, restored.
 ///
 /// # Errors
-/// `AllocError` where there is no room to grow.
+/// `AllocError` for want of memory.
 pub fn with_parts(
     alloc: Global,
     text: &[u8],
@@ -68,7 +68,7 @@ pub fn with_parts(
     Ok(whole)
 }
 
-/// Where the last of these parts stands in what `with_parts` gives for them.
+/// The last of these parts, as a part of the text that `with_parts` gives for them.
 pub fn last_part(removed: &[RemovedPart]) -> Option<Span> {
     let (last, others) = removed.split_last()?;
     let mut start = last.offset;

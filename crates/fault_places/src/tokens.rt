@@ -1,11 +1,11 @@
-//! The words of a part, as far as their bytes alone tell them.
+//! Splits a part into words, strings, numbers and operators by their bytes, without the lexer.
 ghost use Rattle.std.specs.Prelude.{◌≤◌, IfOk, length};
 ghost use Rattle.fault_places.specs.Within.{AllWithin};
 
 use crate::brace_parts::Span;
 use std::alloc::{AllocError, Global};
 
-/// What a byte goes on with.
+/// The kind of word that a byte begins.
 #[derive(Clone, Copy, PartialEq)]
 enum WordKind {
     Blank,
@@ -27,7 +27,7 @@ fn kind_of(byte: u8) -> WordKind {
     }
 }
 
-/// Whether a byte goes on with a run that stands open; `last` is the byte before it.
+/// Whether a byte continues a word of this kind; `last` is the byte before it.
 fn continues(run: WordKind, last: u8, byte: u8) -> bool {
     match run {
         WordKind::Blank => kind_of(byte) == WordKind::Blank,
@@ -39,12 +39,12 @@ fn continues(run: WordKind, last: u8, byte: u8) -> bool {
     }
 }
 
-/// The words, strings, numbers and marks of a part, in their order. A newline is none.
+/// The words, strings, numbers and operators of a part, in order. A newline is none of them.
 ///
 /// # Errors
-/// `AllocError` where there is no room to grow.
+/// `AllocError` for want of memory.
 pub fn words(alloc: Global, text: &[u8], part: Span) -> Result<Vec<Span>, AllocError>
-    // Each lies within the text.
+    // Each part lies within the text.
     ensures { IfOk result (λ words. AllWithin (length text.entry.now) words.items) }
 {
     let mut found = Vec::new(alloc);

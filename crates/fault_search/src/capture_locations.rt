@@ -1,19 +1,19 @@
-//! The place in a capture at which it isn't read further.
+//! Locates the fault of a capture.
 use pcap_io::{Capture, CaptureError, Counted};
 use std::alloc::Global;
 use std::fmt;
 use std::io::Read;
 
-/// How many bytes the header of a file has, and that of a record (pcap-savefile(5)).
+/// The sizes of the file header and of a record's header (pcap-savefile(5)).
 const HEADER_BYTES: u64 = 24;
 
 const RECORD_HEADER_BYTES: u64 = 16;
 
-/// Where a capture isn't read further.
+/// Where reading a capture stops.
 #[derive(Clone, Copy)]
 pub enum CaptureLocation {
     Header,
-    /// A record by its number, from 1, and the byte of the file that it begins at, from 0.
+    /// A record by its number, from 1, and the offset in bytes at which it begins, from 0.
     Record { number: u64, offset: u64 },
 }
 
@@ -28,9 +28,10 @@ impl fmt::Display for CaptureLocation {
     }
 }
 
-/// The place at which a capture's bytes are refused, or end inside a record. It is read to there.
+/// Where a capture is refused, or ends inside a record. The capture is read up to there. None where
+/// it is accepted, or a read fails.
 ///
-/// A place is a help and no promise: no contract says which one is told.
+/// The location is a heuristic: no contract says which one is reported.
 pub fn capture_location<R: Read + Drop>(alloc: Global, reader: R) -> Option<CaptureLocation> {
     let mut reader = Counted::new(reader);
     let mut capture = match Capture::open(alloc, &mut reader) {
@@ -54,7 +55,7 @@ pub fn capture_location<R: Read + Drop>(alloc: Global, reader: R) -> Option<Capt
     None
 }
 
-/// How many bytes the record that was read last has in the file.
+/// The size in the file of the record that was read last.
 fn length_of(capture: &Capture) -> u64 {
     match capture.record() {
         Some(record) => RECORD_HEADER_BYTES.saturating_add(record.bytes.len() as u64),

@@ -1,8 +1,8 @@
-//! All faults of a ruleset and its box, each with its place: what has one is taken out, and what is
-//! left is judged again.
+//! Lists all faults of a ruleset and its box file: a part with a fault is removed, and the rest is
+//! checked again.
 //!
-//! A place is a help and no promise, and so is the list: a part that is taken out may have had
-//! another fault, and what leads to it isn't told.
+//! Both the locations and the list are heuristics: a part that is removed may have had another
+//! fault, and faults that only follow from a removal aren't listed.
 use crate::fault_location::{FaultLocation, Subject};
 use crate::render::{Sources, enclosing_description};
 use crate::syntax_position::{SEARCHES, UnreadablePart, invalid_token, syntax_fault_offset};
@@ -16,10 +16,10 @@ use nft_lexer::LexFault;
 use nft_parser::{ParseError, TextFault, parse};
 use std::alloc::{AllocError, Global};
 
-/// The most faults that are told.
+/// The most faults that are listed, per text.
 const MOST: usize = 100;
 
-/// The most ranges of rules that are judged.
+/// The most ranges of rules that are checked.
 const MOST_RANGES: usize = 100_000;
 
 /// A fault that was found.
@@ -29,7 +29,7 @@ struct FoundFault {
     code: String,
 }
 
-/// Rules of which it is known that they have a fault together.
+/// A range of rules that has a fault together.
 #[derive(Drop)]
 struct PartRange {
     start: usize,
@@ -37,11 +37,11 @@ struct PartRange {
     code: String,
 }
 
-/// The lines of all faults that are found, in the order of the text, those of the box file behind
-/// those of the ruleset; at most a hundred of either, and a last line where there may be more.
+/// One line for each fault, in the order of the text: the ruleset's and then the box file's, at
+/// most a hundred of either, with a last line where there may be more.
 ///
 /// # Errors
-/// `AllocError` where there is no room to grow.
+/// `AllocError` for want of memory.
 pub fn all_faults(alloc: Global, sources: Sources<'_>) -> Result<String, AllocError> {
     let mut lines = String::new(alloc);
     let mut rules = FaultList::new(alloc, sources.rules)?;
@@ -56,15 +56,15 @@ pub fn all_faults(alloc: Global, sources: Sources<'_>) -> Result<String, AllocEr
     Ok(lines)
 }
 
-/// A text, what is left of it, and the faults of what was taken out.
+/// A text, what is left of it, and the faults of the parts that were removed.
 #[derive(Drop)]
 struct FaultList<'a> {
     text: &'a [u8],
     remaining: Vec<u8>,
     found: Vec<FoundFault>,
-    /// The declarations that were taken out: what names them isn't told.
+    /// The declarations that were removed: uses of their names aren't faults.
     removed_declarations: Vec<Span>,
-    /// Whether what is left has a fault that has no place.
+    /// Whether what is left has a fault that can't be located.
     has_unlocated_fault: bool,
 }
 
@@ -79,12 +79,12 @@ impl<'a> FaultList<'a> {
         })
     }
 
-    /// Whether more faults may be told.
+    /// Whether more faults may be listed.
     fn is_open(&self) -> bool {
         self.found.len() < MOST && !self.has_unlocated_fault
     }
 
-    /// Takes out what can't be read.
+    /// Removes what can't be parsed.
     fn read(&mut self, alloc: Global) -> Result<(), AllocError> {
         for _ in 0..MOST {
             match parse(alloc, &self.remaining) {
@@ -113,7 +113,7 @@ impl<'a> FaultList<'a> {
         self.remove_invalid_token(alloc, fault, line)
     }
 
-    /// Takes out the rule with a word that is no token, or else the word.
+    /// Removes the rule with a word that is no token, or else the word.
     fn remove_invalid_token(
         &mut self,
         alloc: Global,
@@ -144,8 +144,8 @@ impl<'a> FaultList<'a> {
         Ok(())
     }
 
-    /// Takes out the parts that can't be read alone. Where braces don't match, nobody can say which
-    /// parts there are.
+    /// Removes the parts that can't be parsed by themselves. Where braces don't match, the parts of
+    /// the text aren't known, and its one fault is listed.
     fn remove_unparsable(&mut self, alloc: Global, fault: TextFault) -> Result<(), AllocError> {
         if braces_match(&self.remaining) && self.remove_parts(alloc)? {
             return Ok(());
@@ -156,7 +156,8 @@ impl<'a> FaultList<'a> {
         Ok(())
     }
 
-    /// Takes out the parts of one level that can't be read alone, and tells whether there were any.
+    /// Removes the parts of one level that can't be parsed by themselves, and returns whether there
+    /// were any.
     fn remove_parts(&mut self, alloc: Global) -> Result<bool, AllocError> {
         for search in &SEARCHES {
             let room = MOST.saturating_sub(self.found.len());
@@ -171,7 +172,8 @@ impl<'a> FaultList<'a> {
         Ok(false)
     }
 
-    /// Takes a part out. Its fault isn't told where it had one before, an element that is gone.
+    /// Removes a part. Its fault isn't listed where one within it is: an element that was removed
+    /// before.
     fn remove_part(&mut self, alloc: Global, unreadable: UnreadablePart) -> Result<(), AllocError> {
         let part = unreadable.part;
         let is_listed = self.found.iter().any(|found| part.start <= found.offset
@@ -188,7 +190,7 @@ impl<'a> FaultList<'a> {
         Ok(())
     }
 
-    /// Takes out the lines of a box file that have a fault.
+    /// Removes the lines of a box file that have a fault.
     fn read_box(&mut self, alloc: Global) -> Result<(), AllocError> {
         for _ in 0..MOST {
             let fault = match Plant::read(alloc, &self.remaining) {
@@ -210,7 +212,7 @@ impl<'a> FaultList<'a> {
         Ok(())
     }
 
-    /// Takes out the declarations and then the rules that are refused.
+    /// Removes the declarations and then the rules that are refused.
     fn judge(&mut self, alloc: Global, plant: &[u8]) -> Result<(), AllocError> {
         for _ in 0..MOST {
             let without_rules = self.without_rules(alloc)?;
@@ -235,7 +237,7 @@ impl<'a> FaultList<'a> {
         Ok(without_rules)
     }
 
-    /// Takes out the element, the declaration or the table that has a fault without rules.
+    /// Removes the element, the declaration or the table that has a fault even without rules.
     fn remove_declaration(
         &mut self,
         alloc: Global,
@@ -268,7 +270,7 @@ impl<'a> FaultList<'a> {
         self.add(offset, code)
     }
 
-    /// Takes out the rules that are refused.
+    /// Removes the rules that are refused.
     fn judge_rules(&mut self, alloc: Global, plant: &[u8]) -> Result<(), AllocError> {
         let parts = spans(alloc, &self.remaining, Level::Rules)?;
         let Stripped { rest, mut removed } = strip(alloc, &self.remaining, &parts)?;
@@ -292,8 +294,8 @@ impl<'a> FaultList<'a> {
 }
 
 impl FaultList<'_> {
-    /// Finds the rules of a range that are refused. The last ones come first, so that the numbers of
-    /// those before them stay.
+    /// Finds the rules of a range that are refused, from the last one, so that the indexes of those
+    /// before it stay valid.
     fn search(
         &mut self,
         alloc: Global,
@@ -315,7 +317,7 @@ impl FaultList<'_> {
         Ok(())
     }
 
-    /// Takes the rule of a range out, or opens those of its halves that are refused.
+    /// Removes the rule of a range of one, or opens those halves that are refused.
     fn bisect(
         &mut self,
         alloc: Global,
@@ -349,8 +351,8 @@ impl FaultList<'_> {
         Ok(())
     }
 
-    /// Opens the range of these rules, which begins with the rule of a number, if they are refused
-    /// together, and tells whether they are.
+    /// Opens the range of these rules, which begins at index `start`, if they are refused together,
+    /// and returns whether they are.
     fn open(
         &self,
         alloc: Global,
@@ -368,7 +370,7 @@ impl FaultList<'_> {
         Ok(true)
     }
 
-    /// Takes the rule out with which a fault comes that neither half of its range has.
+    /// Removes the rule that completes a fault which neither half of the range has.
     fn add_joint_fault(
         &mut self,
         alloc: Global,
@@ -410,7 +412,8 @@ impl FaultList<'_> {
         Ok(())
     }
 
-    /// Keeps the fault of a rule that is refused alone, unless it follows from what was taken out.
+    /// Lists the fault of a rule that is refused by itself, unless it follows from a removed
+    /// declaration.
     fn add_rule_fault(
         &mut self,
         alloc: Global,
@@ -426,7 +429,7 @@ impl FaultList<'_> {
         self.add(offset, code)
     }
 
-    /// The offset of the word or the element of the last of these rules with which the fault comes.
+    /// The offset of the word or element with which the last of these rules gets the fault.
     fn word_offset(
         &self,
         alloc: Global,
@@ -435,22 +438,22 @@ impl FaultList<'_> {
         removed: &[RemovedPart],
         code: &str,
     ) -> Result<usize, AllocError> {
-        let (Some(location), Some(rule)) = (last_part(removed), removed.last()) else {
+        let (Some(part), Some(rule)) = (last_part(removed), removed.last()) else {
             return Ok(0);
         };
         let text = with_parts(alloc, &self.remaining, rest, removed)?;
         let subject = Subject::Rules { code, plant };
-        let found = subject.inside(alloc, &text, location, Depth::Rule)?;
-        let within = found.offset.saturating_sub(location.start);
+        let found = subject.inside(alloc, &text, part, Depth::Rule)?;
+        let within = found.offset.saturating_sub(part.start);
         Ok(rule.part.start.saturating_add(within))
     }
 
-    /// Whether a fault of all rules together was told.
+    /// Whether a fault of the whole ruleset is listed already.
     fn is_listed(&self, code: &str) -> bool {
         is_ruleset_wide(code) && self.found.iter().any(|found| found.code.as_str() == code)
     }
 
-    /// Whether a rule has the name of a declaration that was taken out.
+    /// Whether a rule uses the name of a declaration that was removed.
     fn names_removed(&self, alloc: Global, rule: Span) -> Result<bool, AllocError> {
         let used = words(alloc, self.text, rule)?;
         for removed_declarations in &self.removed_declarations {
@@ -470,7 +473,7 @@ impl FaultList<'_> {
         Ok(())
     }
 
-    /// The line of each fault, in the order of the text.
+    /// Writes a line for each fault, in the order of the text.
     fn write_to(
         &mut self,
         alloc: Global,
@@ -516,12 +519,12 @@ impl FaultList<'_> {
     }
 }
 
-/// Whether a fault is one of all rules together, which is told once.
+/// Whether a fault is one of the whole ruleset, which is listed once.
 fn is_ruleset_wide(code: &str) -> bool {
     matches!(code, "N05" | "N06" | "N15")
 }
 
-/// The bytes of a part, none where it doesn't lie within the text.
+/// The bytes of a part; none where it doesn't lie within the text.
 fn bytes_of(text: &[u8], part: Span) -> &[u8] {
     if part.start <= part.end && part.end <= text.len() {
         return &text[part.start..part.end];
@@ -529,7 +532,7 @@ fn bytes_of(text: &[u8], part: Span) -> &[u8] {
     &[]
 }
 
-/// The code that the rest of a text has with these rules.
+/// The code of the fault that the rest of a text has with these rules; none where it is accepted.
 fn code_with(
     alloc: Global,
     text: &[u8],
@@ -540,7 +543,7 @@ fn code_with(
     code_of(alloc, &with_parts(alloc, text, rest, removed)?, plant)
 }
 
-/// The code of a ruleset's fault, none where it is accepted.
+/// The code of a ruleset's fault; none where it is accepted.
 fn code_of(alloc: Global, text: &[u8], plant: &[u8]) -> Result<Option<String>, AllocError> {
     match engine::judge(alloc, text, plant) {
         Ok(_) => Ok(None),

@@ -1,6 +1,6 @@
-//! The place of a fault in a ruleset or a box file, found by judging it with fewer of its parts.
+//! Locates a fault in a ruleset or a box file by checking the text with fewer of its parts.
 //!
-//! A place is a help and no promise: no contract says which one is told.
+//! The location is a heuristic: no contract says which one is reported.
 use box_file::{BoxError, Plant};
 use engine::RunFault;
 use fault_places::{
@@ -9,7 +9,7 @@ use fault_places::{
 };
 use std::alloc::{AllocError, Global};
 
-/// The levels of parts, in the order in which they are taken out.
+/// The levels of parts, in the order in which they are removed.
 static LEVELS: [Level; 4] = [
     Level::Rules,
     Level::Sets,
@@ -17,7 +17,7 @@ static LEVELS: [Level; 4] = [
     Level::Tables,
 ];
 
-/// What is searched, and for which code.
+/// A text to search, and the code of the fault to locate.
 #[derive(Clone, Copy)]
 pub enum Subject<'a> {
     /// A ruleset, with the text of its box.
@@ -29,11 +29,11 @@ pub enum Subject<'a> {
 /// Where a fault is.
 #[derive(Clone, Copy)]
 pub struct FaultLocation {
-    /// The offset that is told.
+    /// The offset that is reported.
     pub offset: usize,
     /// The part that has it: an element, a rule, a set, a map, a chain, a table or a line.
     pub part: Span,
-    /// The same, but for an element that which it stands in.
+    /// The same part, or for an element the one around its list.
     pub outer: Span,
 }
 
@@ -48,9 +48,8 @@ impl FaultLocation {
 }
 
 impl Subject<'_> {
-    /// The place of the part of the text with which the fault comes: the last of the fewest rules
-    /// that have it, the declarations given, or else the last of the fewest sets and maps, of the
-    /// fewest declarations, of the fewest tables.
+    /// Locates the part that completes the fault: the last of the shortest list of rules that has
+    /// it with all declarations, or else of sets and maps, of declarations, of tables.
     pub fn location(
         &self,
         alloc: Global,
@@ -75,8 +74,8 @@ impl Subject<'_> {
         }
     }
 
-    /// The last of the fewest parts that have the fault, of those that have it all together; none
-    /// where the rest of the text has it without them.
+    /// The last of the shortest list of first parts with which the text has the fault. All together
+    /// have it; none where the rest of the text has it without them.
     pub fn first(
         &self,
         alloc: Global,
@@ -100,7 +99,7 @@ impl Subject<'_> {
         Ok(Some(removed[with - 1].part))
     }
 
-    /// The place within a part that has the fault, the parts of its level behind it masked.
+    /// Locates the fault within a part, with the later parts of its level blanked out.
     fn within(
         &self,
         alloc: Global,
@@ -129,8 +128,8 @@ impl Subject<'_> {
         }
     }
 
-    /// The last word of the shortest beginning of a chain that has the fault, its last brace behind
-    /// it.
+    /// The last word of the shortest prefix of a chain that has the fault once its last brace is
+    /// added.
     fn word_in_head(&self, alloc: Global, text: &[u8], chain: Span) -> Result<usize, AllocError> {
         let found = words(alloc, text, chain)?;
         let Some((_, head)) = found.split_last() else {
@@ -145,8 +144,8 @@ impl Subject<'_> {
         Ok(chain.start)
     }
 
-    /// The place within a rule, a set or a map that has the fault, where nothing behind it has it:
-    /// an element, where it comes with that, or a word of a rule.
+    /// Locates the fault within a rule, a set or a map: an element, where that completes the fault,
+    /// or else a word of the rule.
     pub fn inside(
         &self,
         alloc: Global,
@@ -172,8 +171,8 @@ impl Subject<'_> {
         Ok(location)
     }
 
-    /// Whether the fault comes with this element, and not with the part around its list: it is gone
-    /// without the elements up to this one, or it is of elements alone.
+    /// Whether the fault is one of this element and not of the part around its list: it is gone
+    /// without the elements up to this one, or its code is one of elements.
     fn is_in_element(
         &self,
         alloc: Global,
@@ -193,7 +192,7 @@ impl Subject<'_> {
         }
     }
 
-    /// Whether the fault is mostly one of elements.
+    /// Whether the code is mostly one of elements.
     fn is_of_elements(&self) -> bool {
         match self {
             Subject::Rules { code, .. } => matches!(*code, "N02" | "N07" | "N09" | "N12" | "N13"),
@@ -201,7 +200,7 @@ impl Subject<'_> {
         }
     }
 
-    /// The last word of the shortest beginning of a rule that has the fault.
+    /// The last word of the shortest prefix of a rule that has the fault.
     fn word(&self, alloc: Global, text: &[u8], rule: Span) -> Result<usize, AllocError> {
         let found = words(alloc, text, rule)?;
         let Stripped { rest, removed } = strip(alloc, text, &found)?;

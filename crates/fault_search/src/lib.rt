@@ -1,6 +1,6 @@
-//! Where a fault is in a ruleset, a box file or a capture, for people who have to mend it.
+//! Locates faults in a ruleset, a box file or a capture, for diagnostics.
 //!
-//! A place is a help and no promise: no contract says which one is told.
+//! Locations are a heuristic: no contract says which one is reported.
 #![tactic(auto)]
 
 mod capture_locations;

@@ -1,4 +1,4 @@
-//! The lines that are told of a fault, as text.
+//! Renders a fault as text: what its code means, and where it is.
 use crate::fault_location::Subject;
 use crate::syntax_position::{invalid_token, syntax_fault_offset};
 use engine::{RulesFault, RunFault};
@@ -7,10 +7,10 @@ use nft_lexer::LexFault;
 use nft_parser::TextFault;
 use std::alloc::{AllocError, Global};
 
-/// How many bytes of a line are shown on either side of a place.
+/// How many bytes of a line are shown on either side of a location.
 const MAX_SHOWN_BYTES: usize = 120;
 
-/// The paths of a ruleset and of a box file, by which places are told.
+/// The paths of a ruleset and of a box file, as they are reported.
 #[derive(Clone, Copy)]
 pub struct SourcePaths<'a> {
     pub rules: &'a str,
@@ -25,13 +25,13 @@ pub struct Sources<'a> {
     pub plant: &'a [u8],
 }
 
-/// The lines that are told behind that of a fault: what its code means, and where it is, if it is one
-/// of the ruleset or of the box file and a place is found.
+/// The lines that explain a fault: what its code means, and where it is, if it is one of the
+/// ruleset or of the box file and it can be located.
 ///
-/// A place is a help and no promise: no contract says which one is told.
+/// The location is a heuristic: no contract says which one is reported.
 ///
 /// # Errors
-/// `AllocError` where there is no room to grow.
+/// `AllocError` for want of memory.
 pub fn explained(
     alloc: Global,
     fault: RunFault,
@@ -43,8 +43,8 @@ pub fn explained(
             lines.push_str(found.sentence)?;
             lines.push('\n')?;
         }
-        if let Some(location) = sources.location(alloc, fault, code.as_str())? {
-            sources.write_to(alloc, &mut lines, fault, location)?;
+        if let Some(offset) = sources.fault_offset(alloc, fault, code.as_str())? {
+            sources.write_to(alloc, &mut lines, fault, offset)?;
         }
     }
     Ok(lines)
@@ -62,14 +62,14 @@ fn code_of(alloc: Global, fault: RunFault) -> Result<Option<String>, AllocError>
 
 impl Sources<'_> {
     /// The offset of a fault in its text.
-    fn location(
+    fn fault_offset(
         &self,
         alloc: Global,
         fault: RunFault,
         code: &str,
     ) -> Result<Option<usize>, AllocError> {
         match fault {
-            RunFault::Rules(RulesFault::Text(fault)) => self.location_in_text(alloc, fault),
+            RunFault::Rules(RulesFault::Text(fault)) => self.text_fault_offset(alloc, fault),
             RunFault::Rules(_) => {
                 let plant = self.plant;
                 let location = Subject::Rules { code, plant }.location(alloc, self.rules)?;
@@ -83,7 +83,7 @@ impl Sources<'_> {
         }
     }
 
-    fn location_in_text(
+    fn text_fault_offset(
         &self,
         alloc: Global,
         fault: TextFault,
@@ -99,22 +99,22 @@ impl Sources<'_> {
         }
     }
 
-    /// Tells a place, and for a ruleset what stands around it.
+    /// Writes the location of an offset, and for a ruleset the table, chain and rule around it.
     fn write_to(
         &self,
         alloc: Global,
         lines: &mut String,
         fault: RunFault,
-        location: usize,
+        offset: usize,
     ) -> Result<(), AllocError> {
         match fault {
-            RunFault::Box(_) => show(alloc, lines, self.paths.plant, self.plant, location),
+            RunFault::Box(_) => show(alloc, lines, self.paths.plant, self.plant, offset),
             RunFault::Rules(RulesFault::Text(_)) => {
-                show(alloc, lines, self.paths.rules, self.rules, location)
+                show(alloc, lines, self.paths.rules, self.rules, offset)
             }
             _ => {
-                show(alloc, lines, self.paths.rules, self.rules, location)?;
-                let around = enclosing_description(alloc, self.rules, location)?;
+                show(alloc, lines, self.paths.rules, self.rules, offset)?;
+                let around = enclosing_description(alloc, self.rules, offset)?;
                 if !around.is_empty() {
                     writeln!(lines, "{}", around.as_str())?;
                 }
@@ -124,7 +124,7 @@ impl Sources<'_> {
     }
 }
 
-/// Tells the line and the column of an offset, and the line with a caret under the column.
+/// Writes the line and column of an offset, and the line with a caret under the column.
 fn show(
     alloc: Global,
     lines: &mut String,
@@ -149,7 +149,7 @@ fn show(
     Ok(())
 }
 
-/// A caret under what follows these bytes; tabs stay, so that it stands below.
+/// A caret under the byte that follows these; tabs stay, so that it is aligned.
 fn caret(alloc: Global, before: &[u8]) -> Result<String, AllocError> {
     let mut line = String::new(alloc);
     for byte in before {
@@ -159,7 +159,7 @@ fn caret(alloc: Global, before: &[u8]) -> Result<String, AllocError> {
     Ok(line)
 }
 
-/// What stands around an offset of a ruleset: `table ip filter, chain input, rule 3`.
+/// The table, chain and rule around an offset of a ruleset: `table ip filter, chain input, rule 3`.
 pub fn enclosing_description(
     alloc: Global,
     text: &[u8],
@@ -186,8 +186,7 @@ pub fn enclosing_description(
     Ok(line)
 }
 
-/// A table by its family and its name, and whether it is one; where none is written the family is
-/// ip.
+/// Writes a table's family (by default ip) and name, and returns whether the part is a table.
 fn describe_table(
     alloc: Global,
     line: &mut String,
@@ -220,7 +219,7 @@ fn describe_declaration(
     }
 }
 
-/// The words that a part begins with, four at most.
+/// The first words of a part, at most four.
 fn head_of<'a>(alloc: Global, text: &'a [u8], part: Span) -> Result<Vec<&'a str>, AllocError> {
     let mut head = Vec::new(alloc);
     for word in words(alloc, text, part)?.iter().take(4) {

@@ -1,53 +1,53 @@
-//! The place in a ruleset's text that can't be read: a word that is none, or where the grammar
-//! doesn't go on.
+//! Locates a syntax error: a word that is no token, or the first word that the grammar doesn't
+//! allow.
 //!
-//! A place is a help and no promise: no contract says which one is told. What may follow a beginning
-//! is guessed by trying some endings on it, so the grammar isn't written down again.
+//! The location is a heuristic: no contract says which one is reported. Whether the grammar allows
+//! a prefix is guessed by parsing it with some endings, so the grammar isn't written down twice.
 use fault_places::{Depth, Level, Span, elements, line_at, spans, unclosed_brace, words};
 use nft_lexer::lex;
 use nft_parser::{ParseError, TextFault, parse};
 use std::alloc::{AllocError, Global};
 
-/// What stands around a part that is read alone.
+/// The text around a part that is parsed by itself.
 #[derive(Clone, Copy)]
 struct Wrapper {
     before: &'static [u8],
-    behind: &'static [u8],
-    /// What a declaration may lack before its brace.
+    after: &'static [u8],
+    /// What a prefix of a declaration may lack before its closing brace.
     missing: &'static [&'static str],
 }
 
 const WHOLE: Wrapper = Wrapper {
     before: b"",
-    behind: b"\n",
+    after: b"\n",
     missing: &[""],
 };
 
 const DECLARATION: Wrapper = Wrapper {
     before: b"table t {\n",
-    behind: b"\n}\n",
+    after: b"\n}\n",
     missing: &["", "\ntype mark", "\ntype mark : mark"],
 };
 
 const RULE: Wrapper = Wrapper {
     before: b"table t {\nchain c {\n",
-    behind: b"\n}\n}\n",
+    after: b"\n}\n}\n",
     missing: &[""],
 };
 
 const ELEMENT: Wrapper = Wrapper {
     before: b"table t {\nset s {\ntype mark\nelements = {",
-    behind: b"}\n}\n}\n",
+    after: b"}\n}\n}\n",
     missing: &[""],
 };
 
 const PAIR: Wrapper = Wrapper {
     before: b"table t {\nmap m {\ntype mark : mark\nelements = {",
-    behind: b"}\n}\n}\n",
+    after: b"}\n}\n}\n",
     missing: &[""],
 };
 
-/// Endings of which one goes with most beginnings of what the grammar allows.
+/// Endings, one of which completes most prefixes that the grammar allows.
 static ENDINGS: [&str; 56] = [
     "",
     " 1",
@@ -107,11 +107,10 @@ static ENDINGS: [&str; 56] = [
     " {\ntype mark : mark\n}",
 ];
 
-/// How many words a part has at most whose beginnings are tried one by one.
+/// The most words of a part whose prefixes are tried one by one; with more they are bisected.
 const MAX_LINEAR_WORDS: usize = 256;
 
-/// How many words further a beginning is sought that something goes on with, behind one that none
-/// of the endings goes with.
+/// How many more words are tried after a prefix that no ending completes.
 const LOOKAHEAD: usize = 6;
 
 /// The first word of a line that is no token.
@@ -128,8 +127,8 @@ pub fn invalid_token(alloc: Global, text: &[u8], line: u32) -> Result<Option<usi
     Ok(Some(line.start))
 }
 
-/// Where a text that the grammar doesn't allow no longer goes on, or its word that is left out, or
-/// the brace that isn't closed.
+/// The offset of a syntax error: of the first word that the grammar doesn't allow, of an
+/// unsupported word of nft(8), or of an unclosed brace.
 pub fn syntax_fault_offset(
     alloc: Global,
     text: &[u8],
@@ -139,7 +138,7 @@ pub fn syntax_fault_offset(
     let Some(brace) = unclosed_brace(alloc, text)? else {
         return unreadable.syntax_fault_offset(alloc, text, fault);
     };
-    // Where no part can't be read, all is the part.
+    // Where each part can be parsed, the part is the whole text.
     if unreadable.part.end == text.len() || brace.seen <= unreadable.part.start {
         return Ok(brace.offset);
     }
@@ -150,7 +149,7 @@ pub fn syntax_fault_offset(
     Ok(offset)
 }
 
-/// A part that can't be read alone, and what has to stand around it.
+/// A part that can't be parsed by itself, and the text that has to be around it.
 #[derive(Clone, Copy)]
 pub struct UnreadablePart {
     wrapper: Wrapper,
@@ -159,7 +158,7 @@ pub struct UnreadablePart {
 }
 
 impl UnreadablePart {
-    /// The fault that the part alone has.
+    /// The fault of the part by itself.
     pub fn fault(self, alloc: Global, text: &[u8]) -> Result<TextFault, AllocError> {
         let found = words(alloc, text, self.part)?;
         match unsupported_word(alloc, text, &found) {
@@ -168,7 +167,8 @@ impl UnreadablePart {
         }
     }
 
-    /// The left-out word of the part, or where it no longer goes on.
+    /// The offset of the part's unsupported word, or of the first word that the grammar doesn't
+    /// allow.
     pub fn syntax_fault_offset(
         self,
         alloc: Global,
@@ -182,12 +182,12 @@ impl UnreadablePart {
             }
         }
         self.wrapper
-            .end_of_beginning(alloc, text, self.part, &found)
+            .end_of_prefix(alloc, text, self.part, &found)
     }
 }
 
-/// The first part that can't be read alone: a line without its brace, a rule, an element, a
-/// declaration, a table, or all.
+/// The first part that can't be parsed by itself: a line without its brace, a rule, an element, a
+/// declaration, a table, or the whole text.
 fn first_unreadable(alloc: Global, text: &[u8]) -> Result<UnreadablePart, AllocError> {
     let table = BARE_TABLES.first(alloc, text)?;
     let declaration = BARE_DECLARATIONS.first(alloc, text)?;
@@ -213,18 +213,18 @@ fn first_unreadable(alloc: Global, text: &[u8]) -> Result<UnreadablePart, AllocE
     })
 }
 
-/// Which parts are read alone, and in which frame.
+/// Which parts are parsed by themselves, and the text around them.
 #[derive(Clone, Copy)]
 pub struct Search {
     wrapper: Wrapper,
     level: Level,
-    /// Whether parts are passed over that have the braces of their level.
+    /// Whether parts that have the braces of their level are skipped.
     without_rules: bool,
-    /// Whether their elements are read, and not they.
+    /// Whether the elements of the parts are parsed instead of the parts.
     listed: bool,
 }
 
-/// What stands where tables stand and is none.
+/// What is in no brace and is no table.
 const BARE_TABLES: Search = Search {
     wrapper: WHOLE,
     level: Level::Tables,
@@ -232,7 +232,7 @@ const BARE_TABLES: Search = Search {
     listed: false,
 };
 
-/// What stands where declarations stand and has no brace.
+/// What is one brace deep and has no brace.
 const BARE_DECLARATIONS: Search = Search {
     wrapper: DECLARATION,
     level: Level::Declarations,
@@ -274,7 +274,7 @@ impl Search {
         Ok(found.first().copied())
     }
 
-    /// The first parts that can't be read alone, so many at most.
+    /// The first parts that can't be parsed by themselves, at most `most`.
     pub fn unreadable(
         self,
         alloc: Global,
@@ -309,7 +309,7 @@ impl Search {
     }
 }
 
-/// Adds the elements of a set or a map that can't be read alone, until there are so many.
+/// Adds the elements of a set or a map that can't be parsed by themselves, until there are `most`.
 fn unreadable_elements(
     alloc: Global,
     text: &[u8],
@@ -335,7 +335,7 @@ fn unreadable_elements(
     Ok(())
 }
 
-/// The first word that nft(8) has and that is left out.
+/// The first word of nft(8) that isn't supported.
 fn unsupported_word(alloc: Global, text: &[u8], found: &[Span]) -> Option<usize> {
     for word in found {
         if let Err(ParseError::Refused(TextFault::Unsupported)) = parse(
@@ -348,7 +348,7 @@ fn unsupported_word(alloc: Global, text: &[u8], found: &[Span]) -> Option<usize>
     None
 }
 
-/// The bytes of a part, none where it doesn't lie within the text.
+/// The bytes of a part; none where it doesn't lie within the text.
 fn bytes_of(text: &[u8], part: Span) -> &[u8] {
     if part.start <= part.end && part.end <= text.len() {
         return &text[part.start..part.end];
@@ -357,32 +357,32 @@ fn bytes_of(text: &[u8], part: Span) -> &[u8] {
 }
 
 impl Wrapper {
-    /// Whether a beginning with these two behind it can be read.
+    /// Whether a prefix can be parsed with this ending and these closing braces.
     fn reads(
         self,
         alloc: Global,
-        beginning: &[u8],
+        prefix: &[u8],
         ending: &str,
         closing: &str,
     ) -> Result<bool, AllocError> {
         let mut text = self.before.to_vec(alloc)?;
-        text.extend_from_slice(beginning)?;
+        text.extend_from_slice(prefix)?;
         text.extend_from_slice(ending.as_bytes())?;
         text.extend_from_slice(closing.as_bytes())?;
-        text.extend_from_slice(self.behind)?;
+        text.extend_from_slice(self.after)?;
         Ok(parse(alloc, &text).is_ok())
     }
 
-    /// The word behind the longest beginning that something goes on with; the end of the last word
-    /// where all of them do.
-    fn end_of_beginning(
+    /// The offset of the word after the longest prefix that some ending completes; the end of the
+    /// last word where all words belong to it.
+    fn end_of_prefix(
         self,
         alloc: Global,
         text: &[u8],
         part: Span,
         found: &[Span],
     ) -> Result<usize, AllocError> {
-        let count = self.longest_beginning(alloc, text, part, found)?;
+        let count = self.longest_prefix(alloc, text, part, found)?;
         if let Some(next) = found.get(count) {
             return Ok(next.start);
         }
@@ -392,8 +392,8 @@ impl Wrapper {
         }
     }
 
-    /// How many words the longest beginning has that something goes on with.
-    fn longest_beginning(
+    /// How many words the longest prefix has that some ending completes.
+    fn longest_prefix(
         self,
         alloc: Global,
         text: &[u8],
@@ -415,7 +415,7 @@ impl Wrapper {
         Ok(longest)
     }
 
-    /// The same by halving, where there are many words.
+    /// The same by bisection, where there are many words.
     fn bisect(
         self,
         alloc: Global,
@@ -436,7 +436,7 @@ impl Wrapper {
         Ok(good)
     }
 
-    /// Whether something goes on with the words that a part begins with.
+    /// Whether some ending completes the prefix of these words.
     fn continues(
         self,
         alloc: Global,
@@ -447,30 +447,30 @@ impl Wrapper {
         let Some(last) = found.last() else {
             return Ok(true);
         };
-        let beginning = bytes_of(
+        let prefix = bytes_of(
             text,
             Span {
                 start: part.start,
                 end: last.end,
             },
         );
-        let in_chain = beginning.starts_with(b"chain");
+        let in_chain = prefix.starts_with(b"chain");
         for missing in self.missing {
             if in_chain && !missing.is_empty() {
                 continue;
             }
             let closing = closing(alloc, text, found, missing)?;
-            if self.ends(alloc, beginning, closing.as_str())? {
+            if self.ends(alloc, prefix, closing.as_str())? {
                 return Ok(true);
             }
         }
         Ok(false)
     }
 
-    /// Whether one of the endings goes with a beginning.
-    fn ends(self, alloc: Global, beginning: &[u8], closing: &str) -> Result<bool, AllocError> {
+    /// Whether one of the endings completes a prefix.
+    fn ends(self, alloc: Global, prefix: &[u8], closing: &str) -> Result<bool, AllocError> {
         for &ending in &ENDINGS {
-            if self.reads(alloc, beginning, ending, closing)? {
+            if self.reads(alloc, prefix, ending, closing)? {
                 return Ok(true);
             }
         }
@@ -478,7 +478,8 @@ impl Wrapper {
     }
 }
 
-/// The braces that these words leave open, closed, and before the last one what a declaration lacks.
+/// Closing braces for those that these words leave open, and before the last one what a declaration
+/// lacks.
 fn closing(
     alloc: Global,
     text: &[u8],

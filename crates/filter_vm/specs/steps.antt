@@ -1,4 +1,4 @@
--- What private functions give on the way: nothing that a public contract cites.
+-- What contracts of private functions cite; public ones cite none of it.
 pub mod Concatenations
 pub mod Effects
 pub mod Transfers

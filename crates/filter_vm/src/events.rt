@@ -1,4 +1,4 @@
-//! What happens while rules run.
+//! The events of a record, and the count of statements.
 ghost use Rattle.std.specs.Prelude.{◌≡◌, ◌≤◌, ◌<◌, ◌+◌, ◌-◌, ◌^◌, ◌++◌, ◌∷◌, [], IfOk, vec_capacity, length, min};
 ghost use Rattle.filter_vm.specs.Machine.{EventsAndTicks};
 
@@ -6,11 +6,12 @@ use rule_meaning::Event;
 use std::alloc::{AllocError, Global};
 use std::marker::Model;
 
-/// The most events that the rules of one record can have.
+/// The most events that rules record for one packet: as many as the limit on a ruleset's cost.
 pub const MOST_EVENTS: usize = 65_536;
 
-/// The events of a record in their order, and how many statements were started since `new`, for all
-/// records: a count that nothing lowers, and that stays at 2^64 - 1. The room is reserved once.
+/// The events of the current record, in order, and how many statements were started since `new`,
+/// over all records. The count never falls and saturates at 2^64 - 1. Memory is reserved once, by
+/// `new`.
 #[derive(Drop)]
 pub struct Events {
     list: Vec<Event>,
@@ -26,7 +27,10 @@ impl Model for Events {
 }
 
 impl Events {
-    /// None yet, with room for 65,536.
+    /// No events, with memory for 65,536.
+    ///
+    /// # Errors
+    /// `AllocError` where that memory can't be had.
     pub fn new(alloc: Global) -> Result<Events, AllocError>
         ensures { IfOk result (λ events. events ≡ record { events = []; ticks = 0 }) }
     {
@@ -34,7 +38,7 @@ impl Events {
         Ok(Events { list, ticks: 0 })
     }
 
-    /// The events in their order.
+    /// The events of the current record, in order.
     pub fn list(&self) -> &[Event]
         ensures { result.now ≡ self.now.events }
     {
@@ -48,14 +52,14 @@ impl Events {
         self.ticks
     }
 
-    /// No event, as at first. The room and the count stay.
+    /// Removes the events. The reserved memory and the count of statements stay.
     pub fn clear(&mut self)
         ensures { self.new ≡ record self.old { events = [] } }
     {
         self.list.clear();
     }
 
-    /// One more event.
+    /// Appends an event.
     pub(crate) fn note(&mut self, event: Event)
         requires { length self.old.events < 65536 }
         ensures { self.new ≡ record self.old { events = self.old.events ++ event ∷ [] } }
@@ -63,7 +67,7 @@ impl Events {
         self.list.push_reserved(event);
     }
 
-    /// So many more statements.
+    /// Adds to the count of statements.
     pub(crate) fn tick(&mut self, count: u32)
         ensures { self.new ≡ record self.old { ticks = min (self.old.ticks + count) (2 ^ 64 - 1) } }
     {

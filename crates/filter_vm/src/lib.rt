@@ -1,5 +1,5 @@
-//! Rules as flat code, and the machine that runs it: total on any code, bounded by ticks, and
-//! without memory of its own.
+//! Flat code for rules, and the virtual machine that executes it. It is total on any code, its
+//! steps are bounded by a start's cost, and it allocates nothing.
 #![tactic(auto)]
 
 mod actions;

@@ -1,13 +1,13 @@
-//! The places to go back to.
+//! The stack of return offsets.
 ghost use Rattle.std.specs.Prelude.{◌≡◌, ◌≤◌, ◌<◌, ◌∷◌, [], ℕ, List, MatchOption, length, nat_lt, reverse, take};
 ghost use Rattle.filter_vm.specs.Machine.{JUMP_STACK_SIZE};
 
 use std::marker::Model;
 
-/// The most places that are stored.
+/// The most return offsets (netfilter's `NFT_JUMP_STACK_SIZE`).
 const SIZE: usize = 16;
 
-/// The places to go back to, at most 16, the last one first.
+/// The return offsets of open calls, at most 16, the last one first.
 #[derive(Drop)]
 pub(crate) struct Stack {
     return_offsets: [usize; SIZE],
@@ -23,7 +23,7 @@ impl Model for Stack {
 }
 
 impl Stack {
-    /// No place.
+    /// No open call.
     pub(crate) fn new() -> Self
         ensures { result ≡ [] }
     {
@@ -33,14 +33,14 @@ impl Stack {
         }
     }
 
-    /// Whether one more can be stored.
+    /// Whether one more call can be opened.
     pub(crate) fn has_room(&self) -> bool
         ensures { result ≡ nat_lt (length self.now) JUMP_STACK_SIZE }
     {
         self.len < SIZE
     }
 
-    /// One more place.
+    /// Stores a return offset.
     pub(crate) fn push(&mut self, offset: usize)
         requires { length self.old < JUMP_STACK_SIZE }
         ensures { self.new ≡ offset ∷ self.old }
@@ -49,7 +49,7 @@ impl Stack {
         self.len += 1;
     }
 
-    /// The last place that was stored, which is taken out.
+    /// Removes the last return offset.
     pub(crate) fn pop(&mut self) -> Option<usize>
         ensures { MatchOption result
             ((self.old ≡ []) × (self.new ≡ []))

@@ -1,4 +1,4 @@
--- All parts together cost no more than the code: each start goes to one part at most.
+-- All stages together cost at most as much as the code: each start is in one stage at most.
 use Rattle.std.proofs.Common.{◌≡◌, ℕ, ◌+◌, ◌≤◌, not, List, refl, ap, arith, ℤ, negsuc}
 use Rattle.std.proofs.lemmas.List.Filters.{sum_by-filter_both}
 use Rattle.rule_check.specs.Checked.{CheckedTree}
@@ -21,7 +21,8 @@ both_sides limit = sum_by-filter_both (starts_before limit) (λ s. not (starts_b
 both_types : (ss : List Start) → cost_of (nat_starts ss) + cost_of (filter_starts ss) ≡ cost_of ss
 both_types = sum_by-filter_both is_nat_start is_filter (λ s. refl) cost
 
-pub costs_little : (checked : CheckedTree) (code : Code) (p : StagedChains) → AreStagedChains code p → total_stage_cost (costed_tree checked p) ≤ total_cost code
+pub costs_little : (checked : CheckedTree) (code : Code) (p : StagedChains) → AreStagedChains code p
+    → total_stage_cost (costed_tree checked p) ≤ total_cost code
 costs_little checked code p are =
     let prerouting_raw = ap cost_of (are stages.PreroutingRaw) in
     let prerouting_before_nat = ap cost_of (are stages.PreroutingBeforeNat) in

@@ -1,4 +1,4 @@
--- The starts of each part are those of its base chains, and come to what these lead to.
+-- The starts of each stage are those of its base chains, and have their results.
 use Rattle.std.proofs.Common.{◌≡◌, Bool, true, false, not, ◌&&◌, cond, List, [], ◌∷◌, map, filter, refl, sym, ap, ◌∙◌, subst, ℤ, int_lt, negsuc}
 use Rattle.std.specs.Prelude.{All, Contains}
 use Rattle.std.proofs.lemmas.Bool.{false≢true}
@@ -39,7 +39,9 @@ off Accepted e = λ g. false≢true (sym e)
 off Dropped e = λ g. g
 off (Translated t) e = λ g. g
 
-module _ (first second : Traversal) (f : Facts) (es : List Event) (e : HookResult) (next : Facts → List Event → HookResult) (runs : first f es e) (more : (g : Facts) (later : List Event) → second g later (next g later)) where
+module _ (first second : Traversal) (f : Facts) (es : List Event) (e : HookResult) (next : Facts → List Event
+    → HookResult) (runs : first f es e) (more : (g : Facts) (later : List Event)
+    → second g later (next g later)) where
   then_by : (b : Bool) → continues e.verdict ≡ b → Then first second f es (cond b (next e.facts e.events) e)
   then_by true is = meaning.continues e runs (on e.verdict is) (more e.facts e.events)
   then_by false is = meaning.stops runs (off e.verdict is)
@@ -61,66 +63,96 @@ none_headed s ss e = cc
 no_more_headed : (b : BaseChain) (bs : List BaseChain) → [] ≡ map base_chain_head (b ∷ bs) → ⊥
 no_more_headed b bs e = cc
 
-first_head : (s : Start) (b : BaseChain) (ss : List Start) (bs : List BaseChain) → map start_head (s ∷ ss) ≡ map base_chain_head (b ∷ bs) → start_head s ≡ base_chain_head b
+first_head : (s : Start) (b : BaseChain) (ss : List Start) (bs : List BaseChain)
+    → map start_head (s ∷ ss) ≡ map base_chain_head (b ∷ bs) → start_head s ≡ base_chain_head b
 first_head s b ss bs e = cc
 
-rest_heads : (s : Start) (b : BaseChain) (ss : List Start) (bs : List BaseChain) → map start_head (s ∷ ss) ≡ map base_chain_head (b ∷ bs) → map start_head ss ≡ map base_chain_head bs
+rest_heads : (s : Start) (b : BaseChain) (ss : List Start) (bs : List BaseChain)
+    → map start_head (s ∷ ss) ≡ map base_chain_head (b ∷ bs) → map start_head ss ≡ map base_chain_head bs
 rest_heads s b ss bs e = cc
 
 module _ (checked : CheckedTree) (code : Code) where
-  -- ---- base chains in turn
+  -- ---- base chains in order
 
-  runs_in_order : (ss : List Start) (bs : List BaseChain) → AreStartsOf checked code ss bs → (f : Facts) (es : List Event) → InTurn checked.plant checked.rules bs f es (in_order_result code ss f es)
+  runs_in_order : (ss : List Start) (bs : List BaseChain) → AreStartsOf checked code ss bs
+      → (f : Facts) (es : List Event) → InTurn checked.plant checked.rules bs f es
+      (in_order_result code ss f es)
   runs_in_order [] [] all f es = refl
   runs_in_order [] (b ∷ bs) all f es = absurd all
   runs_in_order (s ∷ ss) [] all f es = absurd all
   runs_in_order (s ∷ ss) (b ∷ bs) all f es =
-      thens (RunsBaseChain checked.plant checked.rules b) (InTurn checked.plant checked.rules bs) f es (base_chain_result code s f es) (in_order_result code ss) (all.0.runs f es) (runs_in_order ss bs all.1)
+      thens (RunsBaseChain checked.plant checked.rules b) (InTurn checked.plant checked.rules bs) f es
+      (base_chain_result code s f es) (in_order_result code ss) (all.0.runs f es)
+      (runs_in_order ss bs all.1)
 
-  pub chains_run : (test : BaseChain → Bool) (ss : List Start) → AreStarts checked code test ss → (f : Facts) (es : List Event) → Chains checked.plant checked.rules test f es (in_order_result code ss f es)
-  chains_run test ss are f es = record { order = are.order; in_order = are.in_order; run = runs_in_order ss are.order are.are_starts f es }
+  pub chains_run : (test : BaseChain → Bool) (ss : List Start) → AreStarts checked code test ss
+      → (f : Facts) (es : List Event) → Chains checked.plant checked.rules test f es
+      (in_order_result code ss f es)
+  chains_run test ss are f es = record {
+    order = are.order;
+    in_order = are.in_order;
+    run =
+        runs_in_order ss are.order are.are_starts f es;
+  }
 
   -- ---- some of them
 
-  module _ (has : Start → Bool) (more : BaseChain → Bool) (agree : (s : Start) (b : BaseChain) → start_head s ≡ base_chain_head b → has s ≡ more b) where
-    start_kept : (s : Start) (b : BaseChain) (t : Bool) (ss : List Start) (bs : List BaseChain) → IsStartOf checked code s b → AreStartsOf checked code ss bs → AreStartsOf checked code (cond t (s ∷ ss) ss) (cond t (b ∷ bs) bs)
+  module _ (has : Start → Bool) (more : BaseChain → Bool) (agree : (s : Start) (b : BaseChain)
+      → start_head s ≡ base_chain_head b → has s ≡ more b) where
+    start_kept : (s : Start) (b : BaseChain) (t : Bool) (ss : List Start) (bs : List BaseChain)
+        → IsStartOf checked code s b → AreStartsOf checked code ss bs
+        → AreStartsOf checked code (cond t (s ∷ ss) ss) (cond t (b ∷ bs) bs)
     start_kept s b true ss bs here all = (here, all)
     start_kept s b false ss bs here all = all
 
-    starts_filtered : (ss : List Start) (bs : List BaseChain) → AreStartsOf checked code ss bs → AreStartsOf checked code (filter has ss) (filter more bs)
+    starts_filtered : (ss : List Start) (bs : List BaseChain) → AreStartsOf checked code ss bs
+        → AreStartsOf checked code (filter has ss) (filter more bs)
     starts_filtered [] [] all = tt
     starts_filtered [] (b ∷ bs) all = absurd all
     starts_filtered (s ∷ ss) [] all = absurd all
     starts_filtered (s ∷ ss) (b ∷ bs) all =
-        subst (λ u. AreStartsOf checked code (filter has (s ∷ ss)) (cond u (b ∷ filter more bs) (filter more bs))) (agree s b all.0.same) (start_kept s b (has s) (filter has ss) (filter more bs) all.0 (starts_filtered ss bs all.1))
+        subst (λ u. AreStartsOf checked code (filter has (s ∷ ss))
+        (cond u (b ∷ filter more bs) (filter more bs))) (agree s b all.0.same)
+        (start_kept s b (has s) (filter has ss) (filter more bs) all.0 (starts_filtered ss bs all.1))
 
-    narrowed : (test : BaseChain → Bool) (ss : List Start) → AreStarts checked code test ss → AreStarts checked code (λ b. test b && more b) (filter has ss)
+    narrowed : (test : BaseChain → Bool) (ss : List Start) → AreStarts checked code test ss
+        → AreStarts checked code (λ b. test b && more b) (filter has ss)
     narrowed test ss are =
         let bases = base_chains_of checked.rules in
         record {
           order = filter more are.order;
-          in_order = subst (λ (text : List BaseChain). InOrder text (filter more are.order)) (filter_twice test more bases) (some_in_order more (filter test bases) are.order are.in_order);
+          in_order = subst (λ (text : List BaseChain). InOrder text (filter more are.order))
+              (filter_twice test more bases) (some_in_order more (filter test bases) are.order are.in_order);
           are_starts = starts_filtered ss are.order are.are_starts;
         }
 
-  alike : (test other : BaseChain → Bool) → ((b : BaseChain) → test b ≡ other b) → (ss : List Start) → AreStarts checked code test ss → AreStarts checked code other ss
+  alike : (test other : BaseChain → Bool) → ((b : BaseChain) → test b ≡ other b) → (ss : List Start)
+      → AreStarts checked code test ss → AreStarts checked code other ss
   alike test other same ss are =
       record {
         order = are.order;
-        in_order = subst (λ (text : List BaseChain). InOrder text are.order) (filter_agree test other same (base_chains_of checked.rules)) are.in_order;
+        in_order = subst (λ (text : List BaseChain). InOrder text are.order)
+            (filter_agree test other same (base_chains_of checked.rules)) are.in_order;
         are_starts = are.are_starts;
       }
 
-  earlier : (limit : ℤ) (test : BaseChain → Bool) (ss : List Start) → AreStarts checked code test ss → AreStarts checked code (λ b. test b && is_below limit b) (before limit ss)
-  earlier limit = narrowed (starts_before limit) (is_below limit) (λ s b same. ap (λ (t : StartHead). int_lt t.priority limit) same)
+  earlier : (limit : ℤ) (test : BaseChain → Bool) (ss : List Start) → AreStarts checked code test ss
+      → AreStarts checked code (λ b. test b && is_below limit b) (before limit ss)
+  earlier limit = narrowed (starts_before limit) (is_below limit)
+      (λ s b same. ap (λ (t : StartHead). int_lt t.priority limit) same)
 
-  later : (limit : ℤ) (test : BaseChain → Bool) (ss : List Start) → AreStarts checked code test ss → AreStarts checked code (λ b. test b && not (is_below limit b)) (after limit ss)
-  later limit = narrowed (λ s. not (starts_before limit s)) (λ b. not (is_below limit b)) (λ s b same. ap (λ (t : StartHead). not (int_lt t.priority limit)) same)
+  later : (limit : ℤ) (test : BaseChain → Bool) (ss : List Start) → AreStarts checked code test ss
+      → AreStarts checked code (λ b. test b && not (is_below limit b)) (after limit ss)
+  later limit = narrowed (λ s. not (starts_before limit s)) (λ b. not (is_below limit b))
+      (λ s b same. ap (λ (t : StartHead). not (int_lt t.priority limit)) same)
 
   -- ---- those of a hook
 
-  module _ (starts : (hook : Hook) → HasStarts checked.rules hook (starts_of code hook)) (runs : AgreesWithRules checked code) where
-    starts_all : (hook : Hook) (ss : List Start) (bs : List BaseChain) → map start_head ss ≡ map base_chain_head bs → All (Contains (starts_of code hook)) ss → All (Contains (base_chains_of checked.rules)) bs → AreStartsOf checked code ss bs
+  module _ (starts : (hook : Hook) → HasStarts checked.rules hook (starts_of code hook))
+      (runs : AgreesWithRules checked code) where
+    starts_all : (hook : Hook) (ss : List Start) (bs : List BaseChain)
+        → map start_head ss ≡ map base_chain_head bs → All (Contains (starts_of code hook)) ss
+        → All (Contains (base_chains_of checked.rules)) bs → AreStartsOf checked code ss bs
     starts_all hook [] [] e among among_bases = tt
     starts_all hook [] (b ∷ bs) e among among_bases = no_more_headed b bs e
     starts_all hook (s ∷ ss) [] e among among_bases = none_headed s ss e
@@ -128,8 +160,15 @@ module _ (checked : CheckedTree) (code : Code) where
         let bases = base_chains_of checked.rules in
         let same = first_head s b ss bs e in
         let here = All-head (Contains (starts_of code hook)) s ss among in
-        let there = All-head (Contains bases) b bs among_bases in
-        (record { same = same; runs = λ f es. (runs hook s b here there same f es (base_chain_result code s f es)).1 refl }, starts_all hook ss bs (rest_heads s b ss bs e) (All-tail (Contains (starts_of code hook)) s ss among) (All-tail (Contains bases) b bs among_bases))
+        let there = All-head (Contains bases) b bs among_bases in (
+          record {
+            same = same;
+            runs = λ f es. (runs hook s b here there same f es
+                (base_chain_result code s f es)).1 refl;
+          },
+          starts_all hook ss bs (rest_heads s b ss bs e)
+              (All-tail (Contains (starts_of code hook)) s ss among) (All-tail (Contains bases) b bs among_bases),
+        )
 
     at_hook : (hook : Hook) → AreStarts checked code (is_on_hook hook) (starts_of code hook)
     at_hook hook =
@@ -137,11 +176,21 @@ module _ (checked : CheckedTree) (code : Code) where
         let bases = base_chains_of checked.rules in
         let text = filter (is_on_hook hook) bases in
         let kept = All-filter (is_on_hook hook) (Contains bases) bases (All-contains_itself bases) in
-        let among_bases = All-weaker (Contains has.order) (Contains bases) (λ b h. All-contains (Contains bases) text b kept (in_text text has.order has.in_order b h)) has.order (All-contains_itself has.order) in
-        record { order = has.order; in_order = has.in_order; are_starts = starts_all hook (starts_of code hook) has.order has.are (All-contains_itself (starts_of code hook)) among_bases }
+        let among_bases = All-weaker (Contains has.order) (Contains bases)
+        (λ b h. All-contains (Contains bases) text b kept (in_text text has.order has.in_order b h))
+        has.order (All-contains_itself has.order) in
+        record {
+          order = has.order;
+          in_order = has.in_order;
+          are_starts =
+              starts_all hook (starts_of code hook) has.order has.are (All-contains_itself (starts_of code hook))
+              among_bases;
+        }
 
     of_filters : (hook : Hook) → AreStarts checked code (filter_chains_on hook) (filter_starts (starts_of code hook))
-    of_filters hook = narrowed is_filter (λ b. meaning.is_filter b.head.kind) (λ s b same. ap (λ (t : StartHead). not t.is_nat) same ∙ twice (meaning.is_filter b.head.kind)) (is_on_hook hook) (starts_of code hook) (at_hook hook)
+    of_filters hook = narrowed is_filter (λ b. meaning.is_filter b.head.kind)
+        (λ s b same. ap (λ (t : StartHead). not t.is_nat) same ∙ twice (meaning.is_filter b.head.kind))
+        (is_on_hook hook) (starts_of code hook) (at_hook hook)
 
     of_translators : (hook : Hook) → AreStarts checked code (nat_chains_on hook) (nat_starts (starts_of code hook))
     of_translators hook =
@@ -149,20 +198,27 @@ module _ (checked : CheckedTree) (code : Code) where
         (λ s b same. ap (λ (t : StartHead). t.is_nat) same) (is_on_hook hook) (starts_of code hook) (at_hook hook)
 
     of_late : AreStarts checked code is_after_conntrack (after_conntrack code)
-    of_late = alike (λ b. filter_chains_on hooks.Prerouting b && not (is_below (negsuc 198) b)) is_after_conntrack (λ b. once (filter_chains_on hooks.Prerouting b) (is_below (negsuc 198) b)) (after_conntrack code) (later (negsuc 198) (filter_chains_on hooks.Prerouting) (filter_starts code.prerouting.items) (of_filters hooks.Prerouting))
+    of_late = alike (λ b. filter_chains_on hooks.Prerouting b && not (is_below (negsuc 198) b))
+        is_after_conntrack (λ b. once (filter_chains_on hooks.Prerouting b) (is_below (negsuc 198) b))
+        (after_conntrack code) (later (negsuc 198) (filter_chains_on hooks.Prerouting)
+        (filter_starts code.prerouting.items) (of_filters hooks.Prerouting))
 
-    -- ---- those of a part
+    -- ---- those of a stage
 
     of_part : (stage : HookStage) → AreStarts checked code (chains_in_stage stage) (starts_of_stage code stage)
-    of_part stages.PreroutingRaw = earlier (negsuc 198) (filter_chains_on hooks.Prerouting) (filter_starts code.prerouting.items) (of_filters hooks.Prerouting)
+    of_part stages.PreroutingRaw = earlier (negsuc 198) (filter_chains_on hooks.Prerouting)
+        (filter_starts code.prerouting.items) (of_filters hooks.Prerouting)
     of_part stages.PreroutingBeforeNat = earlier DSTNAT is_after_conntrack (after_conntrack code) of_late
     of_part stages.PreroutingNat = of_translators hooks.Prerouting
     of_part stages.PreroutingAfterNat = later DSTNAT is_after_conntrack (after_conntrack code) of_late
     of_part stages.Input = of_filters hooks.Input
     of_part stages.Forward = of_filters hooks.Forward
-    of_part stages.PostroutingBeforeNat = earlier SRCNAT (filter_chains_on hooks.Postrouting) (filter_starts code.postrouting.items) (of_filters hooks.Postrouting)
+    of_part stages.PostroutingBeforeNat = earlier SRCNAT (filter_chains_on hooks.Postrouting)
+        (filter_starts code.postrouting.items) (of_filters hooks.Postrouting)
     of_part stages.PostroutingNat = of_translators hooks.Postrouting
-    of_part stages.PostroutingAfterNat = later SRCNAT (filter_chains_on hooks.Postrouting) (filter_starts code.postrouting.items) (of_filters hooks.Postrouting)
+    of_part stages.PostroutingAfterNat = later SRCNAT (filter_chains_on hooks.Postrouting)
+        (filter_starts code.postrouting.items) (of_filters hooks.Postrouting)
 
-    pub of_parts : (p : StagedChains) → AreStagedChains code p → (stage : HookStage) → AreStarts checked code (chains_in_stage stage) (staged_starts p stage)
+    pub of_parts : (p : StagedChains) → AreStagedChains code p → (stage : HookStage)
+        → AreStarts checked code (chains_in_stage stage) (staged_starts p stage)
     of_parts p are stage = subst (AreStarts checked code (chains_in_stage stage)) (sym (are stage)) (of_part stage)

@@ -1,4 +1,6 @@
--- The base chains of a hook that run in one go, and what they cost.
+-- The stages of hooks, and what they cost. Priorities are netfilter's (NF_IP_PRI_* of
+-- linux/netfilter_ipv4.h; nft(8), "Chains"); that all chains of type nat run where the packet is
+-- translated, at -100 and 100, is (own).
 use Rattle.std.specs.Prelude.{ℕ, ◌+◌, not, ◌&&◌, Bool, List}
 use Rattle.nft_tree.specs.declared.chain.Hook.TheVariants as hooks
 use Rattle.nft_tree.specs.Priorities.{DSTNAT, SRCNAT}
@@ -8,12 +10,12 @@ use Rattle.rule_meaning.specs.Hooks.{BaseChain, filter_chains_on, nat_chains_on,
 use Rattle.hook_runs.specs.declared.stages.HookStage.{HookStage}
 use Rattle.hook_runs.specs.declared.stages.HookStage.TheVariants as stages
 
--- the filter chains on prerouting that run once a connection was looked for
+-- the filter chains on prerouting that run after the conntrack lookup
 abbrev pub is_after_conntrack : BaseChain → Bool
 is_after_conntrack b = filter_chains_on hooks.Prerouting b && not (is_prerouting_raw b)
 
--- whether a base chain runs in a part: those of type nat where they translate, whatever their priority; filter chains
--- of the priority of a translation run after it
+-- whether a base chain runs in a stage: a nat chain where its hook translates, whatever its priority; a
+-- filter chain of the priority of a translation after it
 abbrev pub chains_in_stage : HookStage → BaseChain → Bool
 chains_in_stage stages.PreroutingRaw = is_prerouting_raw
 chains_in_stage stages.PreroutingBeforeNat = λ b. is_after_conntrack b && is_below DSTNAT b
@@ -23,10 +25,12 @@ chains_in_stage stages.Input = filter_chains_on hooks.Input
 chains_in_stage stages.Forward = filter_chains_on hooks.Forward
 chains_in_stage stages.PostroutingBeforeNat = λ b. filter_chains_on hooks.Postrouting b && is_below SRCNAT b
 chains_in_stage stages.PostroutingNat = nat_chains_on hooks.Postrouting
-chains_in_stage stages.PostroutingAfterNat = λ b. filter_chains_on hooks.Postrouting b && not (is_below SRCNAT b)
+chains_in_stage stages.PostroutingAfterNat = λ b. filter_chains_on hooks.Postrouting b
+    && not (is_below SRCNAT b)
 
--- what each part costs: how many statements its base chains start at most, and 1 more for each chain; each base chain
--- that isn't of hook output, nor of type nat on input or forward, runs in one part at what it costs
+-- what each stage costs: the most statements that its base chains start, plus 1 for each chain. A base
+-- chain runs in one stage, but for those of hook output and those of type nat on input or forward, which
+-- run in none
 pub record StageCosts : Type 0 where
   pub prerouting_raw : ℕ
   pub prerouting_before_nat : ℕ
@@ -38,13 +42,13 @@ pub record StageCosts : Type 0 where
   pub postrouting_nat : ℕ
   pub postrouting_after_nat : ℕ
 
--- a checked ruleset, the box that it was judged on, and what its parts cost
+-- a checked ruleset, the box that it was checked for, and what its stages cost
 pub record CostedTree : Type 0 where
   pub rules : List TableTree
   pub plant : PlantTree
   pub costs : StageCosts
 
--- what a part costs
+-- what a stage costs
 abbrev pub stage_cost : CostedTree → HookStage → ℕ
 stage_cost runs stages.PreroutingRaw = runs.costs.prerouting_raw
 stage_cost runs stages.PreroutingBeforeNat = runs.costs.prerouting_before_nat
@@ -56,9 +60,9 @@ stage_cost runs stages.PostroutingBeforeNat = runs.costs.postrouting_before_nat
 stage_cost runs stages.PostroutingNat = runs.costs.postrouting_nat
 stage_cost runs stages.PostroutingAfterNat = runs.costs.postrouting_after_nat
 
--- what all parts cost together
+-- what all stages cost together
 abbrev pub total_stage_cost : CostedTree → ℕ
 total_stage_cost runs =
-    runs.costs.prerouting_raw + runs.costs.prerouting_before_nat + runs.costs.prerouting_nat + runs.costs.prerouting_after_nat
-    + runs.costs.input + runs.costs.forward
+    runs.costs.prerouting_raw + runs.costs.prerouting_before_nat + runs.costs.prerouting_nat
+    + runs.costs.prerouting_after_nat + runs.costs.input + runs.costs.forward
     + runs.costs.postrouting_before_nat + runs.costs.postrouting_nat + runs.costs.postrouting_after_nat

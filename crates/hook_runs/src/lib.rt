@@ -1,4 +1,5 @@
-//! The base chains of each hook, run in the parts between which a packet is looked up and translated.
+//! Runs the base chains of the hooks, in the stages between which a packet's connection is looked
+//! up and its addresses are translated.
 #![tactic(auto)]
 
 mod running;

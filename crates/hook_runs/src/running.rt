@@ -1,11 +1,11 @@
-//! Base chains in turn.
+//! Runs base chains one after another.
 ghost use Rattle.std.specs.Prelude.{◌≡◌, ◌≤◌, ◌+◌, length};
 ghost use Rattle.hook_runs.specs.steps.Starts.{cost_of, continues, in_order_result};
 
 use filter_vm::{Code, Events, Start, run_in_place};
 use rule_meaning::{Facts, HookVerdict};
 
-/// Whether a packet goes on from a base chain that ends so.
+/// Whether the next base chain runs after this verdict.
 #[inline(always)]
 fn continues(verdict: HookVerdict) -> bool
     ensures { result ≡ continues verdict }
@@ -13,8 +13,8 @@ fn continues(verdict: HookVerdict) -> bool
     matches!(verdict, HookVerdict::Accepted)
 }
 
-/// Runs a packet through base chains, one after another, until one doesn't accept it. What rules may
-/// read of it is changed in place.
+/// Runs a packet through base chains, one after another, until one doesn't accept it. Marks and
+/// `notrack` are written to `facts` in place.
 #[inline(always)]
 pub(crate) fn run_in_order(
     code: &Code,
@@ -29,7 +29,7 @@ pub(crate) fn run_in_order(
     ensures rise { events.old.ticks ≤ events.new.ticks }
     ensures ticks { events.new.ticks ≤ events.old.ticks + cost_of starts.now }
 {
-    // The count's type bounds it.
+    // The type bounds the count, which the proof needs.
     let _ = events.ticks();
     for start in starts {
         let verdict = run_in_place(code, *start, facts, events);

@@ -1,4 +1,4 @@
-//! Rulesets made ready to run.
+//! Compiled rulesets, staged by hooks.
 ghost use Rattle.std.specs.Prelude.{◌≡◌, ◌≤◌, ◌+◌, ℕ, IfOk, length};
 ghost use Rattle.nft_tree.specs.Tree.{TableTree};
 ghost use Rattle.rule_paths.specs.Paths.{AreAllCosts, Caller, ruleset_cost};
@@ -15,8 +15,7 @@ use rule_meaning::{Facts, HookVerdict};
 use std::alloc::{AllocError, Global};
 use std::marker::Model;
 
-/// A checked ruleset made ready to run: its code, and the base chains of each part in the order in
-/// which they run.
+/// A compiled ruleset: its code, and the base chains of each stage in the order in which they run.
 #[derive(Drop)]
 pub struct HookRuns {
     checked: Checked,
@@ -36,14 +35,17 @@ impl Model for HookRuns {
 }
 
 impl HookRuns {
-    /// Compiles a ruleset, and finds the base chains of each part. On `Err`, which comes only for
-    /// want of memory, the ruleset is dropped.
+    /// Compiles a ruleset, and sorts its base chains into stages.
+    ///
+    /// # Errors
+    /// `AllocError` for want of memory; the ruleset is dropped then.
     pub fn new(alloc: Global, checked: Checked) -> Result<Self, AllocError>
         ensures rules { IfOk result (λ runs. runs.rules ≡ checked.rules) }
         ensures plant { IfOk result (λ runs. runs.plant ≡ checked.plant) }
-        // Each base chain that isn't of hook output, nor of type nat on input or forward, runs in
-        // one part at what it costs; any other in none.
-        ensures cost { IfOk result (λ runs. (cost : TableTree → Caller → ℕ) → AreAllCosts checked.rules cost
+        // A base chain runs in one stage at its cost, or in none: those of hook output, and those
+        // of type nat on input or forward.
+        ensures cost { IfOk result (λ runs. (cost : TableTree → Caller → ℕ)
+            → AreAllCosts checked.rules cost
             → total_stage_cost runs ≤ ruleset_cost cost checked.rules) }
     {
         let code = compile(alloc, &checked)?;
@@ -55,7 +57,7 @@ impl HookRuns {
         })
     }
 
-    /// The ruleset, and the box that it was judged on.
+    /// The ruleset, and the box that it was checked for.
     pub fn checked(&self) -> &Checked
         ensures rules { result.now.rules ≡ self.now.rules }
         ensures plant { result.now.plant ≡ self.now.plant }
@@ -63,23 +65,25 @@ impl HookRuns {
         &self.checked
     }
 
-    /// What is known of the costs of its parts: one after another they fit into the events of a
-    /// record. It does nothing.
+    /// States, for proofs, that all stages together cost at most the limit on a record's events. The
+    /// call does nothing.
     pub fn costs(&self)
         ensures { total_stage_cost self.now ≤ 65536 }
     {
         let _ = &self.code;
     }
 
-    /// Runs a packet through the base chains of a part, one after another, until one doesn't accept
-    /// it. What rules may read is changed in place: at the end it has the marks that they wrote. No
-    /// more events happen, and no more statements are started, than the part costs.
+    /// Runs a packet through the base chains of a stage, one after another, until one doesn't
+    /// accept it. Marks and `notrack` are written to `facts` in place. There are no more events,
+    /// and no more statements are started, than the stage costs.
     #[inline(always)]
     pub fn run(&self, stage: HookStage, facts: &mut Facts, events: &mut Events) -> HookVerdict
         requires room { length events.old.events + stage_cost self.now stage ≤ 65536 }
-        ensures end { Chains self.now.plant self.now.rules (chains_in_stage stage) facts.old events.old.events
+        ensures end { Chains self.now.plant self.now.rules (chains_in_stage stage)
+            facts.old events.old.events
             (record { verdict = result; facts = facts.new; events = events.new.events }) }
-        ensures events { length events.new.events ≤ length events.old.events + stage_cost self.now stage }
+        ensures events { length events.new.events
+            ≤ length events.old.events + stage_cost self.now stage }
         ensures ticks { (events.old.ticks ≤ events.new.ticks)
             × (events.new.ticks ≤ events.old.ticks + stage_cost self.now stage) }
     {

@@ -1,4 +1,4 @@
-//! Which base chains run in which part.
+//! Sorts base chains into stages.
 ghost use Rattle.std.specs.Prelude.{◌≡◌, IfOk};
 ghost use Rattle.hook_runs.specs.steps.Starts.{AreStagedChains, after, before, filter_starts, nat_starts};
 
@@ -6,26 +6,25 @@ use crate::stages::StagedChains;
 use filter_vm::{Code, Start};
 use std::alloc::{AllocError, Global};
 
-/// Filter chains on prerouting of priority -200 and below run before a connection is looked for
-/// (netfilter looks for it at `NF_IP_PRI_CONNTRACK`, -200): those below this.
+/// Filter chains on prerouting below this priority run before the conntrack lookup, which netfilter
+/// makes at `NF_IP_PRI_CONNTRACK`, -200: a chain of priority -200 runs before it.
 const AFTER_CONNTRACK: i32 = -199;
 
-/// The destination is translated here, before filter chains of the same priority (nft(8),
-/// `dstnat`): all chains of type nat run here, whatever their own priority.
+/// The priority of destination NAT (nft(8), `dstnat`). Filter chains of this priority run after it.
 const DESTINATION: i32 = -100;
 
-/// The source is translated here, likewise (nft(8), `srcnat`).
+/// The priority of source NAT (nft(8), `srcnat`). Filter chains of this priority run after it.
 const SOURCE: i32 = 100;
 
-/// Base chains on both sides of a priority, each in their order.
+/// Base chains split by a priority, each half in its order.
 #[derive(Drop)]
 struct Sides {
     before: Vec<Start>,
-    /// Those of the priority itself and of higher ones.
+    /// Those of the priority itself, and of higher ones.
     after: Vec<Start>,
 }
 
-/// The base chains of each part.
+/// The base chains of each stage.
 pub(crate) fn staged_chains(alloc: Global, code: &Code) -> Result<StagedChains, AllocError>
     ensures { IfOk result (λ stages. AreStagedChains code.now stages) }
 {
@@ -49,7 +48,7 @@ pub(crate) fn staged_chains(alloc: Global, code: &Code) -> Result<StagedChains, 
     })
 }
 
-/// Those of type filter.
+/// The starts of type filter, in their order.
 fn filter_starts(alloc: Global, starts: &[Start]) -> Result<Vec<Start>, AllocError>
     ensures { IfOk result (λ kept. kept.items ≡ filter_starts starts.now) }
 {
@@ -62,7 +61,7 @@ fn filter_starts(alloc: Global, starts: &[Start]) -> Result<Vec<Start>, AllocErr
     Ok(filter_starts)
 }
 
-/// Those of type nat.
+/// The starts of type nat, in their order.
 fn nat_starts(alloc: Global, starts: &[Start]) -> Result<Vec<Start>, AllocError>
     ensures { IfOk result (λ kept. kept.items ≡ nat_starts starts.now) }
 {
@@ -75,7 +74,7 @@ fn nat_starts(alloc: Global, starts: &[Start]) -> Result<Vec<Start>, AllocError>
     Ok(nat_starts)
 }
 
-/// Those on both sides of a priority.
+/// The starts below a priority, and the others.
 fn split(alloc: Global, starts: &[Start], priority: i32) -> Result<Sides, AllocError>
     ensures before { IfOk result (λ sides. sides.before.items ≡ before priority starts.now) }
     ensures after { IfOk result (λ sides. sides.after.items ≡ after priority starts.now) }

@@ -1,34 +1,36 @@
-//! The parts of hooks.
+//! The stages of hooks.
 ghost use Rattle.std.specs.Prelude.{◌≡◌};
 ghost use Rattle.hook_runs.specs.steps.Starts.{staged_starts};
 
 use filter_vm::Start;
 
-/// The base chains of a hook that run in one go: those of type nat where a packet is translated,
-/// elsewhere those of type filter.
+/// Base chains of a hook that run one after another, without a conntrack lookup or a translation
+/// between them. Chains of type nat run where the packet is translated, whatever their own
+/// priority.
 #[derive(Clone, Copy)]
 pub enum HookStage {
-    /// On prerouting, of type filter, before a packet's connection is looked for.
+    /// Filter chains on prerouting before the conntrack lookup: of priority -200 and below.
     PreroutingRaw,
-    /// On prerouting, of the others of type filter those before the destination is translated.
+    /// Filter chains on prerouting after the lookup and before destination NAT: below priority
+    /// -100.
     PreroutingBeforeNat,
-    /// On prerouting, those of type nat, whatever their priority.
+    /// Chains of type nat on prerouting: destination NAT.
     PreroutingNat,
-    /// On prerouting, those of type filter after that.
+    /// Filter chains on prerouting after destination NAT: of priority -100 and above.
     PreroutingAfterNat,
-    /// All of type filter of the hook.
+    /// All filter chains of the hook.
     Input,
-    /// All of type filter of the hook.
+    /// All filter chains of the hook.
     Forward,
-    /// On postrouting, of type filter, before the source is translated.
+    /// Filter chains on postrouting before source NAT: below priority 100.
     PostroutingBeforeNat,
-    /// On postrouting, those of type nat, whatever their priority.
+    /// Chains of type nat on postrouting: source NAT.
     PostroutingNat,
-    /// On postrouting, those of type filter after that.
+    /// Filter chains on postrouting after source NAT: of priority 100 and above.
     PostroutingAfterNat,
 }
 
-/// The base chains of each part, in the order in which they run.
+/// The base chains of each stage, in the order in which they run.
 #[derive(Drop)]
 pub(crate) struct StagedChains {
     pub prerouting_raw: Vec<Start>,
@@ -43,7 +45,7 @@ pub(crate) struct StagedChains {
 }
 
 impl StagedChains {
-    /// Those of a part.
+    /// The base chains of a stage.
     #[inline(always)]
     pub(crate) fn starts(&self, stage: HookStage) -> &[Start]
         ensures { result.now ≡ staged_starts self.now stage }

@@ -1,3 +1,3 @@
--- What private functions give on the way: nothing that a public contract cites.
+-- What contracts of private functions cite; public ones cite none of it.
 pub mod Tables
 pub mod Actions

@@ -1,4 +1,4 @@
-//! The sets and maps that a table declares.
+//! Lookup tables for the sets and maps that a table declares.
 ghost use Rattle.std.specs.Prelude.{◌≡◌, false, map, IfOk};
 ghost use Rattle.nft_tree.specs.Tree.{map_tree, pair_tree, set_tree};
 ghost use Rattle.nft_tree.specs.TableItems.{maps_of, sets_of};
@@ -18,7 +18,7 @@ use rule_names::TableNames;
 use set_intervals::Intervals;
 use std::alloc::{AllocError, Global};
 
-/// The table of a declared set.
+/// The lookup table of a declared set.
 fn declared_set(alloc: Global, plant: &Plant, set: &SetDecl) -> Result<Intervals<()>, AllocError>
     requires { is_too_wide (key_compared_types (set_tree set.now).key) ≡ false }
     ensures { IfOk result (IsDeclaredSet plant.now (set_tree set.now)) }
@@ -30,14 +30,15 @@ fn declared_set(alloc: Global, plant: &Plant, set: &SetDecl) -> Result<Intervals
     }
 }
 
-/// The tables of the sets that are declared, by their numbers.
+/// The lookup tables of the declared sets, in text order.
 fn declared_sets(
     alloc: Global,
     plant: &Plant,
     names: &TableNames,
 ) -> Result<Vec<Intervals<()>>, AllocError>
     requires types { table_mismatches names.now ≡ false }
-    ensures { IfOk result (λ tables. AllPairs (IsDeclaredSet plant.now) (sets_of names.now) tables.items) }
+    ensures { IfOk result (λ tables.
+        AllPairs (IsDeclaredSet plant.now) (sets_of names.now) tables.items) }
 {
     let mut tables = Vec::new(alloc);
     for set in names.sets() {
@@ -46,7 +47,7 @@ fn declared_sets(
     Ok(tables)
 }
 
-/// The elements of a declared map.
+/// The elements of a declared map; none where it has no `elements`.
 fn pairs_of(declared: &MapDecl) -> &[Pair]
     ensures { map pair_tree result.now ≡ some_of (map_tree declared.now).elements }
 {
@@ -56,7 +57,7 @@ fn pairs_of(declared: &MapDecl) -> &[Pair]
     }
 }
 
-/// The table of a declared map's decisions; an empty one where its data aren't verdicts.
+/// The lookup table of a declared verdict map; an empty one where its data aren't verdicts.
 fn declared_verdicts(
     alloc: Global,
     plant: &Plant,
@@ -71,7 +72,7 @@ fn declared_verdicts(
     }
 }
 
-/// The table of a declared map's numbers; an empty one where its data are no marks and no addresses.
+/// The lookup table of a declared map of marks or addresses; an empty one for any other map.
 fn declared_numbers(
     alloc: Global,
     plant: &Plant,
@@ -102,13 +103,14 @@ fn declared_numbers(
     }
 }
 
-/// What the maps that are declared decide, by their numbers.
+/// The verdict tables of the declared maps, in text order.
 fn all_verdicts(
     alloc: Global,
     plant: &Plant,
     names: &TableNames,
 ) -> Result<Vec<Intervals<RuleVerdict>>, AllocError>
-    ensures { IfOk result (λ tables. AllPairs (IsMapVerdicts plant.now names.now) (maps_of names.now) tables.items) }
+    ensures { IfOk result (λ tables.
+        AllPairs (IsMapVerdicts plant.now names.now) (maps_of names.now) tables.items) }
 {
     let mut tables = Vec::new(alloc);
     for map in names.maps() {
@@ -117,13 +119,14 @@ fn all_verdicts(
     Ok(tables)
 }
 
-/// What the maps that are declared give, by their numbers.
+/// The number tables of the declared maps, in text order.
 fn all_numbers(
     alloc: Global,
     plant: &Plant,
     names: &TableNames,
 ) -> Result<Vec<Intervals<u32>>, AllocError>
-    ensures { IfOk result (λ tables. AllPairs (IsMapNumbers plant.now) (maps_of names.now) tables.items) }
+    ensures { IfOk result (λ tables.
+        AllPairs (IsMapNumbers plant.now) (maps_of names.now) tables.items) }
 {
     let mut tables = Vec::new(alloc);
     for map in names.maps() {
@@ -132,7 +135,10 @@ fn all_numbers(
     Ok(tables)
 }
 
-/// Tables for the sets and maps that a table declares, by their numbers in text order, on a box.
+/// The lookup tables of the sets and maps that a table declares, in text order, on a box.
+///
+/// # Errors
+/// `AllocError` for want of memory.
 pub fn declared(alloc: Global, plant: &Plant, names: &TableNames) -> Result<Lookups, AllocError>
     requires types { table_mismatches names.now ≡ false }
     ensures { IfOk result (λ lookups. HasDeclared plant.now names.now lookups) }

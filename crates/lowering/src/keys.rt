@@ -1,4 +1,4 @@
-//! The numbers that keys of sets stand for.
+//! The numbers of keys: the elements of sets and maps as intervals.
 ghost use Rattle.std.specs.Prelude.{◌≡◌, ◌+◌, ◌*◌, ◌^◌, ◌≤◌, false, map, IfOk};
 ghost use Rattle.std.specs.Option.{option_map};
 ghost use Rattle.nft_tree.specs.Tree.{key_tree, set_type_tree, value_tree};
@@ -14,7 +14,7 @@ use nft_values::{numbers_of, value_numbers, width};
 use set_intervals::Range;
 use std::alloc::{AllocError, Global};
 
-/// The types of what the selectors read.
+/// The compared types of selectors.
 pub(crate) fn selector_kinds(
     alloc: Global,
     selectors: &[Selector],
@@ -27,7 +27,7 @@ pub(crate) fn selector_kinds(
         .collect(alloc)
 }
 
-/// The types that are named.
+/// The compared types of named types.
 fn named_kinds(alloc: Global, types: &[ValueType]) -> Result<Vec<ComparedType>, AllocError>
     ensures { IfOk result (λ kinds. kinds.items ≡ map ComparedType.Named types.now) }
 {
@@ -37,7 +37,7 @@ fn named_kinds(alloc: Global, types: &[ValueType]) -> Result<Vec<ComparedType>, 
         .collect(alloc)
 }
 
-/// The types of a declared set's keys, part by part.
+/// The compared types of a declared set's keys, part by part of a concatenation.
 pub(crate) fn key_compared_types(
     alloc: Global,
     key: &SetType,
@@ -50,17 +50,17 @@ pub(crate) fn key_compared_types(
     }
 }
 
-/// The number with so many zero bits behind it.
+/// The number, shifted left.
 fn shifted(number: u128, bits: u32) -> u128
     requires { (number + 1) * 2 ^ bits ≤ 2 ^ 128 }
     ensures { result ≡ number * 2 ^ bits }
 {
-    // Of 128 bits or more nothing stands before them: the number is 0.
+    // Nothing fits before 128 bits or more: the number is 0.
     if bits >= 128 { 0 } else { number << bits }
 }
 
-/// The values of these types side by side, the first one highest. `None` where one of them stands for
-/// no number, or there are more of the one than of the other.
+/// The concatenation of values of these types, the first one in the highest bits. `None` where a
+/// value has no number of its type, or the counts of types and values differ.
 fn concatenated(plant: &Plant, kinds: &[ComparedType], values: &[Value]) -> Option<u128>
     requires { is_too_wide kinds.now ≡ false }
     ensures { result ≡ join 0 (parts plant.now kinds.now (map value_tree values.now)) }
@@ -76,7 +76,7 @@ fn concatenated(plant: &Plant, kinds: &[ComparedType], values: &[Value]) -> Opti
     Some(number)
 }
 
-/// The numbers that a key of these types stands for; `None` where it stands for none.
+/// The interval of a key of these types; `None` where it has no number of them.
 pub(crate) fn key_numbers(plant: &Plant, kinds: &[ComparedType], key: &Key) -> Option<Range>
     requires { is_too_wide kinds.now ≡ false }
     ensures { option_map span_of result ≡ key_numbers plant.now kinds.now (key_tree key.now) }

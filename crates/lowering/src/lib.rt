@@ -1,5 +1,5 @@
-//! Statements of rules as actions of the machine: words as numbers, names as places, sets and maps as
-//! tables of intervals.
+//! Lowers statements of rules to actions of the virtual machine: words to numbers, names to
+//! indexes, sets and maps to tables of intervals.
 #![tactic(auto)]
 
 mod declarations;

@@ -1,4 +1,4 @@
-//! Tables that actions name by their numbers.
+//! Lookup tables that actions refer to by index.
 ghost use Rattle.std.specs.Prelude.{◌≡◌, false, map, slice_get, IfOk, OnOk};
 ghost use Rattle.nft_tree.specs.Tree as tree;
 ghost use Rattle.nft_tree.specs.Tree.{TableTree, element_tree, map_ref_tree, pair_tree, set_ref_tree};
@@ -19,7 +19,7 @@ use rule_names::TableNames;
 use set_intervals::Intervals;
 use std::alloc::{AllocError, Global};
 
-/// Puts a table behind the others, and gives its number.
+/// Appends a table, and returns its index.
 fn add_table<V: Drop>(
     tables: &mut Vec<Intervals<V>>,
     table: Intervals<V>,
@@ -32,7 +32,7 @@ fn add_table<V: Drop>(
     Ok(number)
 }
 
-/// The number of a new table with the numbers of elements of the selectors' types.
+/// Adds the table of an anonymous set, and returns its index.
 fn add_set(
     alloc: Global,
     plant: &Plant,
@@ -42,14 +42,16 @@ fn add_set(
 ) -> Result<usize, AllocError>
     requires { is_too_wide (map selector_compared_type selectors.now) ≡ false }
     ensures extends { OnOk result (Extends lookups.old lookups.new) }
-    ensures has { IfOk result (HasSet lookups.new (elements_have plant.now (map selector_compared_type selectors.now) (map element_tree elements.now))) }
+    ensures has { IfOk result (HasSet lookups.new
+        (elements_have plant.now (map selector_compared_type selectors.now)
+        (map element_tree elements.now))) }
 {
     let kinds = selector_kinds(alloc, selectors)?;
     let table = set_table(alloc, plant, &kinds, elements)?;
     add_table(&mut lookups.sets, table)
 }
 
-/// The number of the table of a set: of a declared one by its name, or a new one.
+/// The index of a set's table: that of a declared set, or of a new table for an anonymous one.
 pub(crate) fn set_index(
     alloc: Global,
     plant: &Plant,
@@ -61,19 +63,20 @@ pub(crate) fn set_index(
     requires declared { HasDeclared plant.now names.now lookups.old }
     requires types { lookup_mismatches names.now selectors.now (set_ref_tree set.now) ≡ false }
     ensures extends { OnOk result (Extends lookups.old lookups.new) }
-    ensures has { IfOk result (HasSet lookups.new (set_has (scope_of plant.now names.now) selectors.now (set_ref_tree set.now))) }
+    ensures has { IfOk result (HasSet lookups.new
+        (set_has (scope_of plant.now names.now) selectors.now (set_ref_tree set.now))) }
 {
     match set {
         SetRef::Named(name) => match names.set_index(name) {
             Some(place) => Ok(place),
-            // What no set has the name of holds nothing.
+            // An undeclared set has no element.
             None => add_set(alloc, plant, selectors, &[], lookups),
         },
         SetRef::Anonymous(elements) => add_set(alloc, plant, selectors, elements, lookups),
     }
 }
 
-/// The number of a new table with what elements of a verdict map decide.
+/// Adds the table of an anonymous verdict map, and returns its index.
 fn add_verdicts(
     alloc: Global,
     plant: &Plant,
@@ -83,13 +86,15 @@ fn add_verdicts(
     lookups: &mut Lookups,
 ) -> Result<usize, AllocError>
     ensures extends { OnOk result (Extends lookups.old lookups.new) }
-    ensures gives { IfOk result (HasVerdicts plant.now names.now lookups.new selector (tree.pairs (map pair_tree pairs.now))) }
+    ensures gives { IfOk result (HasVerdicts plant.now names.now lookups.new selector
+        (tree.pairs (map pair_tree pairs.now))) }
 {
     let table = verdict_table(alloc, plant, names, selector.kind(), pairs)?;
     add_table(&mut lookups.verdicts, table)
 }
 
-/// The number of the table of a verdict map: of a declared one by its name, or a new one.
+/// The index of a verdict map's table: that of a declared map, or of a new table for an anonymous
+/// one.
 pub(crate) fn verdict_map_index(
     alloc: Global,
     plant: &Plant,
@@ -101,19 +106,20 @@ pub(crate) fn verdict_map_index(
     requires declared { HasDeclared plant.now names.now lookups.old }
     requires types { map_ref_mismatches names.now selector None (map_ref_tree map.now) ≡ false }
     ensures extends { OnOk result (Extends lookups.old lookups.new) }
-    ensures gives { IfOk result (HasVerdicts plant.now names.now lookups.new selector (map_ref_tree map.now)) }
+    ensures gives { IfOk result (HasVerdicts plant.now names.now lookups.new selector
+        (map_ref_tree map.now)) }
 {
     match map {
         MapRef::Named(name) => match names.map_index(name) {
             Some(place) => Ok(place),
-            // What no map has the name of gives nothing.
+            // An undeclared map has no element.
             None => add_verdicts(alloc, plant, names, selector, &[], lookups),
         },
         MapRef::Anonymous(pairs) => add_verdicts(alloc, plant, names, selector, pairs, lookups),
     }
 }
 
-/// The number of a new table with the numbers that elements of a map give, marks or addresses.
+/// Adds the table of an anonymous map of marks or addresses, and returns its index.
 fn add_numbers(
     alloc: Global,
     plant: &Plant,
@@ -124,14 +130,16 @@ fn add_numbers(
 ) -> Result<usize, AllocError>
     requires { IsNumberType given }
     ensures extends { OnOk result (Extends lookups.old lookups.new) }
-    ensures gives { IfOk result (λ i. (t : TableTree) → HasNumbers plant.now t lookups.new selector given (tree.pairs (map pair_tree pairs.now)) i) }
+    ensures gives { IfOk result (λ i. (t : TableTree)
+        → HasNumbers plant.now t lookups.new selector given (tree.pairs (map pair_tree pairs.now))
+        i) }
 {
     let table = number_table(alloc, plant, selector.kind(), given, pairs)?;
     add_table(&mut lookups.numbers, table)
 }
 
-/// The number of the table of a map of marks or of addresses: of a declared one by its name, or a new
-/// one.
+/// The index of the table of a map of marks or addresses: that of a declared map, or of a new table
+/// for an anonymous one.
 pub(crate) fn number_map_index(
     alloc: Global,
     plant: &Plant,
@@ -143,14 +151,16 @@ pub(crate) fn number_map_index(
 ) -> Result<usize, AllocError>
     requires read { IsNumberType given }
     requires declared { HasDeclared plant.now names.now lookups.old }
-    requires types { map_ref_mismatches names.now selector (Some (Named given)) (map_ref_tree map.now) ≡ false }
+    requires types { map_ref_mismatches names.now selector (Some (Named given))
+        (map_ref_tree map.now) ≡ false }
     ensures extends { OnOk result (Extends lookups.old lookups.new) }
-    ensures gives { IfOk result (HasNumbers plant.now names.now lookups.new selector given (map_ref_tree map.now)) }
+    ensures gives { IfOk result (HasNumbers plant.now names.now lookups.new selector given
+        (map_ref_tree map.now)) }
 {
     match map {
         MapRef::Named(name) => match names.map_index(name) {
             Some(place) => Ok(place),
-            // What no map has the name of gives nothing.
+            // An undeclared map has no element.
             None => add_numbers(alloc, plant, selector, given, &[], lookups),
         },
         MapRef::Anonymous(pairs) => add_numbers(alloc, plant, selector, given, pairs, lookups),

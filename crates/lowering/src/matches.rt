@@ -1,4 +1,4 @@
-//! Tests of packets as actions.
+//! Lowers matches.
 ghost use Rattle.std.specs.Prelude.{◌≡◌, ◌==◌, false, map, not, bit_and, IfOk, OnOk};
 ghost use Rattle.nft_tree.specs.Tree.{flag_tree, match_tree, range_tree};
 ghost use Rattle.nft_tree.specs.ComparedTypes.{selector_compared_type};
@@ -19,7 +19,7 @@ use rule_names::TableNames;
 use set_intervals::Range as Interval;
 use std::alloc::{AllocError, Global};
 
-/// The action that fails of every packet: no bits are unequal to none.
+/// An action that fails on every packet: `selector & 0 != 0`.
 fn never(selector: Selector) -> Action
     ensures { AlwaysHasEffect (λ f. passes_if false) result }
 {
@@ -28,7 +28,9 @@ fn never(selector: Selector) -> Action
 
 /// A selector against a value, a range or a prefix.
 fn compare(plant: &Plant, selector: Selector, operator: Operator, range: &ValueRange) -> Action
-    ensures { AlwaysHasEffect (λ f. passes_if (tests (value selector f) (compares_with operator (numbers_of plant.now (selector_compared_type selector) (range_tree range.now))))) result }
+    ensures { AlwaysHasEffect (λ f. passes_if (tests (value selector f)
+        (compares_with operator (numbers_of plant.now (selector_compared_type selector)
+        (range_tree range.now))))) result }
 {
     match numbers_of(plant, selector.kind(), range) {
         Some(numbers) => Action::Compare(selector, operator, numbers),
@@ -36,9 +38,10 @@ fn compare(plant: &Plant, selector: Selector, operator: Operator, range: &ValueR
     }
 }
 
-/// What is read is the number.
+/// A selector against one number.
 fn equals(selector: Selector, number: u128) -> Action
-    ensures { AlwaysHasEffect (λ f. passes_if (tests (value selector f) (λ n. n == number))) result }
+    ensures { AlwaysHasEffect (λ f.
+        passes_if (tests (value selector f) (λ n. n == number))) result }
 {
     match Interval::new(number, number) {
         Some(numbers) => Action::Compare(selector, Operator::Equal, numbers),
@@ -46,7 +49,7 @@ fn equals(selector: Selector, number: u128) -> Action
     }
 }
 
-/// The number that the type's list has for the word, or 0.
+/// The number of a word of the type, or 0.
 fn word_number(value_type: ValueType, word: &[u8]) -> u128
     ensures { result ≡ word_number value_type word.now }
 {
@@ -56,7 +59,7 @@ fn word_number(value_type: ValueType, word: &[u8]) -> u128
     }
 }
 
-/// The selector and the type of bits.
+/// The selector and the type of `ct state` or `ct status`.
 fn bit_source(field: BitField) -> (Selector, ValueType)
     ensures selector { result.0 ≡ bit_selector field }
     ensures named { result.1 ≡ bit_type field }
@@ -67,7 +70,7 @@ fn bit_source(field: BitField) -> (Selector, ValueType)
     }
 }
 
-/// All bits of the words.
+/// The bits of the words, together.
 fn bits_of(value_type: ValueType, words: &[Vec<u8>]) -> u128
     ensures { result ≡ union (map (word_number value_type) (map (λ w. w.items) words.now)) }
 {
@@ -78,9 +81,10 @@ fn bits_of(value_type: ValueType, words: &[Vec<u8>]) -> u128
     bits
 }
 
-/// What is read of a connection against bits.
+/// `ct state` or `ct status` against bits.
 fn test_bits(field: BitField, test: BitTest, words: &[Vec<u8>]) -> Action
-    ensures { AlwaysHasEffect (λ f. passes_if (tests (value (bit_selector field) f) (bits_pass test (bits_of field (map (λ w. w.items) words.now))))) result }
+    ensures { AlwaysHasEffect (λ f. passes_if (tests (value (bit_selector field) f)
+        (bits_pass test (bits_of field (map (λ w. w.items) words.now))))) result }
 {
     let (selector, value_type) = bit_source(field);
     let bits = bits_of(value_type, words);
@@ -91,7 +95,7 @@ fn test_bits(field: BitField, test: BitTest, words: &[Vec<u8>]) -> Action
     }
 }
 
-/// The number of a flag of TCP.
+/// The bit of a TCP flag.
 fn flag_number(flag: &Flag) -> u128
     ensures { result ≡ flag_number (flag_tree flag.now) }
 {
@@ -101,7 +105,7 @@ fn flag_number(flag: &Flag) -> u128
     }
 }
 
-/// All bits of the flags.
+/// The bits of TCP flags, together.
 fn flags_of(flags: &[Flag]) -> u128
     ensures { result ≡ flags_of (map flag_tree flags.now) }
 {
@@ -112,7 +116,7 @@ fn flags_of(flags: &[Flag]) -> u128
     bits
 }
 
-/// The action that passes where the test holds.
+/// The action of a match. The table of an anonymous set is added.
 pub(crate) fn lower_match(
     alloc: Global,
     plant: &Plant,
@@ -123,7 +127,8 @@ pub(crate) fn lower_match(
     requires declared { HasDeclared plant.now names.now lookups.old }
     requires types { match_mismatches names.now (match_tree test.now) ≡ false }
     ensures extends { OnOk result (Extends lookups.old lookups.new) }
-    ensures statement_effect { IfOk result (HasEffect lookups.new (λ f. passes_if (holds (scope_of plant.now names.now) (match_tree test.now) f))) }
+    ensures effect { IfOk result (HasEffect lookups.new
+        (λ f. passes_if (holds (scope_of plant.now names.now) (match_tree test.now) f))) }
 {
     const FLAGS: Selector = Selector::TcpFlags;
     match test {

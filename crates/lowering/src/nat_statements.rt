@@ -1,4 +1,4 @@
-//! Translations as actions.
+//! Lowers NAT statements.
 ghost use Rattle.std.specs.Prelude.{◌≡◌, ◌<◌, false, not, true, IfOk, OnOk};
 ghost use Rattle.std.specs.Option.{option_map};
 ghost use Rattle.nft_tree.specs.Tree.{destination_tree, nat_tree, source_tree, statement};
@@ -17,7 +17,7 @@ use rule_meaning::{NatAction, PortInterval, RuleVerdict};
 use rule_names::TableNames;
 use std::alloc::{AllocError, Global};
 
-/// A port.
+/// A port, which is checked to be below 2^16.
 fn port(number: u64) -> u16
     requires { is_port number ≡ true }
     ensures { result ≡ number }
@@ -36,7 +36,7 @@ fn some_port(number: Option<u64>) -> Option<u16>
     }
 }
 
-/// The ports from one to another.
+/// An interval of ports.
 fn ports(range: PortRange) -> PortInterval
     requires { are_ports range ≡ true }
     ensures { result ≡ ports_of range }
@@ -53,7 +53,7 @@ fn ports(range: PortRange) -> PortInterval
     }
 }
 
-/// Ports, if any are given.
+/// An interval of ports, if one is given.
 fn some_ports(range: Option<PortRange>) -> Option<PortInterval>
     requires { if_some (λ r. not (are_ports r)) range ≡ false }
     ensures { result ≡ option_map ports_of range }
@@ -73,10 +73,13 @@ fn lower_snat(
     lookups: &mut Lookups,
 ) -> Result<Action, AllocError>
     requires declared { HasDeclared plant.now names.now lookups.old }
-    requires types { statement_mismatches names.now (tree.nat (tree.source (source_tree target.now))) ≡ false }
+    requires types { statement_mismatches names.now
+        (tree.nat (tree.source (source_tree target.now))) ≡ false }
     requires bounds { source_out_of_range (source_tree target.now) ≡ false }
     ensures extends { OnOk result (Extends lookups.old lookups.new) }
-    ensures statement_effect { IfOk result (HasEffect lookups.new (λ f. with_value (λ t. give (RuleVerdict.Translate t)) (source_of (scope_of plant.now names.now) (source_tree target.now) f))) }
+    ensures effect { IfOk result (HasEffect lookups.new
+        (λ f. with_value (λ t. give (RuleVerdict.Translate t))
+        (source_of (scope_of plant.now names.now) (source_tree target.now) f))) }
 {
     match target {
         SourceTarget::Address(address, ports) => Ok(Action::GiveVerdict(RuleVerdict::Translate(
@@ -106,10 +109,13 @@ fn lower_dnat(
     lookups: &mut Lookups,
 ) -> Result<Action, AllocError>
     requires declared { HasDeclared plant.now names.now lookups.old }
-    requires types { statement_mismatches names.now (tree.nat (tree.destination (destination_tree target.now))) ≡ false }
+    requires types { statement_mismatches names.now
+        (tree.nat (tree.destination (destination_tree target.now))) ≡ false }
     requires bounds { destination_out_of_range (destination_tree target.now) ≡ false }
     ensures extends { OnOk result (Extends lookups.old lookups.new) }
-    ensures statement_effect { IfOk result (HasEffect lookups.new (λ f. with_value (λ t. give (RuleVerdict.Translate t)) (destination_of (scope_of plant.now names.now) (destination_tree target.now) f))) }
+    ensures effect { IfOk result (HasEffect lookups.new
+        (λ f. with_value (λ t. give (RuleVerdict.Translate t))
+        (destination_of (scope_of plant.now names.now) (destination_tree target.now) f))) }
 {
     match target {
         DestinationTarget::Address(address, port) => Ok(Action::GiveVerdict(RuleVerdict::Translate(
@@ -130,7 +136,7 @@ fn lower_dnat(
     }
 }
 
-/// The action that gives the translation.
+/// The action of a NAT statement.
 pub(crate) fn lower_nat(
     alloc: Global,
     plant: &Plant,
@@ -142,7 +148,9 @@ pub(crate) fn lower_nat(
     requires types { statement_mismatches names.now (tree.nat (nat_tree nat.now)) ≡ false }
     requires bounds { nat_out_of_range (nat_tree nat.now) ≡ false }
     ensures extends { OnOk result (Extends lookups.old lookups.new) }
-    ensures statement_effect { IfOk result (HasEffect lookups.new (λ f. with_value (λ t. give (RuleVerdict.Translate t)) (nat_action_of (scope_of plant.now names.now) (nat_tree nat.now) f))) }
+    ensures effect { IfOk result (HasEffect lookups.new
+        (λ f. with_value (λ t. give (RuleVerdict.Translate t))
+        (nat_action_of (scope_of plant.now names.now) (nat_tree nat.now) f))) }
 {
     match nat {
         Nat::Source(target) => lower_snat(alloc, plant, names, target, lookups),

@@ -1,4 +1,4 @@
-//! A statement as an action.
+//! Lowers statements.
 ghost use Rattle.std.specs.Prelude.{◌≡◌, false, IfOk, OnOk};
 ghost use Rattle.nft_tree.specs.Tree as tree;
 ghost use Rattle.nft_tree.specs.Tree.{operand_tree, statement};
@@ -20,7 +20,7 @@ use rule_meaning::StatementPosition;
 use rule_names::TableNames;
 use std::alloc::{AllocError, Global};
 
-/// What a mark is set to.
+/// The operand of `meta mark set` or `ct mark set`.
 fn lower_operand(
     alloc: Global,
     plant: &Plant,
@@ -30,10 +30,13 @@ fn lower_operand(
     lookups: &mut Lookups,
 ) -> Result<Source, AllocError>
     requires declared { HasDeclared plant.now names.now lookups.old }
-    requires types { statement_mismatches names.now (tree.set_mark field (operand_tree operand.now)) ≡ false }
-    requires bounds { statement_out_of_range (tree.set_mark field (operand_tree operand.now)) ≡ false }
+    requires types { statement_mismatches names.now (tree.set_mark field (operand_tree operand.now))
+        ≡ false }
+    requires bounds { statement_out_of_range (tree.set_mark field (operand_tree operand.now))
+        ≡ false }
     ensures extends { OnOk result (Extends lookups.old lookups.new) }
-    ensures reads { IfOk result (ReadsAs lookups.new (operand_number (scope_of plant.now names.now) (operand_tree operand.now))) }
+    ensures reads { IfOk result (ReadsAs lookups.new
+        (operand_number (scope_of plant.now names.now) (operand_tree operand.now))) }
 {
     match operand {
         Operand::Number(number) => Ok(Source::Number(*number as u32)),
@@ -53,12 +56,12 @@ fn lower_operand(
     }
 }
 
-/// The action that says of every packet what the statement says, which stands at the place in a rule
-/// of the table, on a box. A set or a map without a name is added to the tables.
+/// The action with the effect of the statement, on every packet. The statement is at the position
+/// in a rule of the table. The tables of anonymous sets and maps are added.
 ///
 /// # Errors
 ///
-/// For want of memory alone; the tables may then have one more, which no action names.
+/// `AllocError` for want of memory; there may be one more table then, which no action refers to.
 pub fn action(
     alloc: Global,
     plant: &Plant,
@@ -71,7 +74,8 @@ pub fn action(
     requires types { statement_mismatches names.now (statement stmt.now) ≡ false }
     requires bounds { statement_out_of_range (statement stmt.now) ≡ false }
     ensures extends { OnOk result (Extends lookups.old lookups.new) }
-    ensures statement_effect { IfOk result (λ action. (later : Lookups) → Extends lookups.new later → HasEffectOf plant.now names.now later position (statement stmt.now) action) }
+    ensures effect { IfOk result (λ action. (later : Lookups) → Extends lookups.new later
+        → HasEffectOf plant.now names.now later position (statement stmt.now) action) }
 {
     match stmt {
         Stmt::Match(test) => lower_match(alloc, plant, names, test, lookups),

@@ -1,4 +1,4 @@
-//! Sets and maps as tables of intervals.
+//! Tables of intervals for sets and maps.
 ghost use Rattle.std.specs.Prelude.{◌≡◌, ℕ, false, map, slice_get, is_some, IfOk, OnOk, IfSome};
 ghost use Rattle.std.specs.Option.{option_map};
 ghost use Rattle.nft_tree.specs.Tree.{data_tree, element_tree, pair_tree, verdict_tree};
@@ -18,7 +18,7 @@ use rule_names::TableNames;
 use set_intervals::{Intervals, Range};
 use std::alloc::{AllocError, Global};
 
-/// The number of the chain of that name, or, where no chain has it, how many chains there are.
+/// The number of a chain by its name; the number of chains where there is none.
 fn chain_number(names: &TableNames, name: &[u8]) -> Result<u32, AllocError>
     ensures { IfOk result (λ n. n ≡ chain_number names.now name.now) }
 {
@@ -26,14 +26,14 @@ fn chain_number(names: &TableNames, name: &[u8]) -> Result<u32, AllocError>
         Some(place) => place,
         None => names.chains().len(),
     };
-    // 2^32 chains are more than any memory holds that such a ruleset is read into.
+    // No memory holds a ruleset with 2^32 chains.
     match u32::try_from(place) {
         Ok(number) => Ok(number),
         Err(_) => Err(AllocError),
     }
 }
 
-/// What the verdict decides, its chain by its number.
+/// A verdict, with its chain by number.
 pub(crate) fn rule_verdict(names: &TableNames, verdict: &Verdict) -> Result<RuleVerdict, AllocError>
     ensures { IfOk result (λ d. d ≡ rule_verdict_of names.now (verdict_tree verdict.now)) }
 {
@@ -47,7 +47,7 @@ pub(crate) fn rule_verdict(names: &TableNames, verdict: &Verdict) -> Result<Rule
     })
 }
 
-/// The numbers that elements of these types stand for. An element that stands for none is left out.
+/// The intervals of elements of these types. An element that has none is left out.
 fn element_pairs(
     alloc: Global,
     plant: &Plant,
@@ -55,7 +55,8 @@ fn element_pairs(
     elements: &[Element],
 ) -> Result<Vec<(Range, ())>, AllocError>
     requires { is_too_wide kinds.now ≡ false }
-    ensures { IfOk result (λ pairs. IsSetTable plant.now kinds.now (map element_tree elements.now) pairs.items) }
+    ensures { IfOk result (λ pairs.
+        IsSetTable plant.now kinds.now (map element_tree elements.now) pairs.items) }
 {
     let mut pairs = Vec::new(alloc);
     for element in elements {
@@ -66,7 +67,8 @@ fn element_pairs(
     Ok(pairs)
 }
 
-/// The table of a set with these elements, of these types.
+/// The table of a set with these elements, of these types. Where elements overlap, the first one
+/// counts.
 pub(crate) fn set_table(
     alloc: Global,
     plant: &Plant,
@@ -80,9 +82,10 @@ pub(crate) fn set_table(
     Intervals::first_wins(alloc, &pairs)
 }
 
-/// What an element decides; `None` where it gives a value.
+/// The verdict of a map's element; `None` where it has a value.
 fn element_verdict(names: &TableNames, datum: &Data) -> Result<Option<RuleVerdict>, AllocError>
-    ensures { IfOk result (λ d. d ≡ option_map (rule_verdict_of names.now) (data_verdict (data_tree datum.now))) }
+    ensures { IfOk result (λ d.
+        d ≡ option_map (rule_verdict_of names.now) (data_verdict (data_tree datum.now))) }
 {
     match datum {
         Data::Verdict(verdict) => Ok(Some(rule_verdict(names, verdict)?)),
@@ -90,15 +93,17 @@ fn element_verdict(names: &TableNames, datum: &Data) -> Result<Option<RuleVerdic
     }
 }
 
-/// The numbers of an element with a key of the type, and what it decides; `None` where its key stands
-/// for no number, or it gives a value.
+/// The interval of an element's key and its verdict; `None` where the key has no number of the
+/// type, or the element has a value.
 fn verdict_entry(
     plant: &Plant,
     names: &TableNames,
     kind: ComparedType,
     pair: &Pair,
 ) -> Result<Option<(Range, RuleVerdict)>, AllocError>
-    ensures { IfOk result (λ entry. (n : ℕ) → entry_gives entry n ≡ option_map (rule_verdict_of names.now) (pair_gives data_verdict plant.now kind n (pair_tree pair.now))) }
+    ensures { IfOk result (λ entry. (n : ℕ) → entry_gives entry n
+        ≡ option_map (rule_verdict_of names.now) (pair_gives data_verdict plant.now kind n
+        (pair_tree pair.now))) }
 {
     let Some(range) = numbers_of(plant, kind, &pair.key) else {
         return Ok(None);
@@ -109,7 +114,7 @@ fn verdict_entry(
     Ok(Some((range, rule_verdict)))
 }
 
-/// What elements with keys of the type decide, by their numbers.
+/// The intervals and verdicts of a verdict map's elements.
 fn verdict_pairs(
     alloc: Global,
     plant: &Plant,
@@ -117,7 +122,8 @@ fn verdict_pairs(
     kind: ComparedType,
     pairs: &[Pair],
 ) -> Result<Vec<(Range, RuleVerdict)>, AllocError>
-    ensures { IfOk result (λ entries. IsVerdictTable plant.now names.now kind (map pair_tree pairs.now) entries.items) }
+    ensures { IfOk result (λ entries.
+        IsVerdictTable plant.now names.now kind (map pair_tree pairs.now) entries.items) }
 {
     let mut entries = Vec::new(alloc);
     for pair in pairs {
@@ -128,7 +134,8 @@ fn verdict_pairs(
     Ok(entries)
 }
 
-/// The table of a verdict map with these elements, whose keys are of the type.
+/// The table of a verdict map with these elements, whose keys are of the type. The first one
+/// counts.
 pub(crate) fn verdict_table(
     alloc: Global,
     plant: &Plant,
@@ -142,7 +149,7 @@ pub(crate) fn verdict_table(
     Intervals::first_wins(alloc, &entries)
 }
 
-/// The number that an element gives, a mark or an address; `None` where it gives none of the type.
+/// The mark or address of an element; `None` where it has none.
 fn data_number(plant: &Plant, given: ValueType, datum: &Data) -> Option<u32>
     requires { IsNumberType given }
     ensures { result ≡ data_number plant.now (Named given) (data_tree datum.now) }
@@ -156,8 +163,8 @@ fn data_number(plant: &Plant, given: ValueType, datum: &Data) -> Option<u32>
     }
 }
 
-/// The numbers of an element with a key of the type, and the number that it gives; `None` where one of
-/// them stands for no number.
+/// The interval of an element's key, and its mark or address; `None` where one of them has no
+/// number.
 fn number_entry(
     plant: &Plant,
     kind: ComparedType,
@@ -165,14 +172,15 @@ fn number_entry(
     pair: &Pair,
 ) -> Option<(Range, u32)>
     requires { IsNumberType given }
-    ensures { (n : ℕ) → entry_gives result n ≡ pair_gives (data_number plant.now (Named given)) plant.now kind n (pair_tree pair.now) }
+    ensures { (n : ℕ) → entry_gives result n ≡ pair_gives (data_number plant.now (Named given))
+        plant.now kind n (pair_tree pair.now) }
 {
     let range = numbers_of(plant, kind, &pair.key)?;
     let number = data_number(plant, given, &pair.value)?;
     Some((range, number))
 }
 
-/// The numbers that elements with keys of the type give, by theirs.
+/// The intervals and numbers of the elements of a map of marks or addresses.
 fn number_pairs(
     alloc: Global,
     plant: &Plant,
@@ -181,7 +189,8 @@ fn number_pairs(
     pairs: &[Pair],
 ) -> Result<Vec<(Range, u32)>, AllocError>
     requires { IsNumberType given }
-    ensures { IfOk result (λ entries. IsNumberTable plant.now kind given (map pair_tree pairs.now) entries.items) }
+    ensures { IfOk result (λ entries.
+        IsNumberTable plant.now kind given (map pair_tree pairs.now) entries.items) }
 {
     let mut entries = Vec::new(alloc);
     for pair in pairs {
@@ -192,8 +201,8 @@ fn number_pairs(
     Ok(entries)
 }
 
-/// The table of a map with these elements, whose keys are of the one type and whose data, marks or
-/// addresses, of the other.
+/// The table of a map of marks or addresses (`given`) with these elements, whose keys are of type
+/// `kind`. The first one counts.
 pub(crate) fn number_table(
     alloc: Global,
     plant: &Plant,

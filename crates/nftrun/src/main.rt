@@ -1,6 +1,6 @@
 //! `nftrun run [--explain] [--trace] RULES BOX IN OUT`: shows what each packet of a capture would
-//! meet. `nftrun check [--explain] RULES BOX`: judges a ruleset before it is loaded.
-//! `nftrun explain CODE`: tells what a code means.
+//! meet. `nftrun check [--explain] RULES BOX`: checks a ruleset before it is loaded.
+//! `nftrun explain CODE`: prints what a code means.
 #![tactic(auto)]
 
 use std::process::ExitCode;

@@ -1,4 +1,4 @@
--- What the program calls, and what it is answered.
+-- The calls that the program makes on its host, with their results (own).
 use Rattle.std.specs.Prelude.{◌≡◌, ℕ, Bool, List, [], ◌∷◌, Option, Result, Ok, Err, Vec, String, map, string_bytes, ⊤}
 use Rattle.std.specs.declared.io.Error.{Error}
 use Rattle.std.specs.declared.random_state.RandomState.{RandomState}
@@ -9,55 +9,61 @@ use Rattle.engine.specs.declared.judging.Counts.{Counts}
 use Rattle.program.specs.declared.identity.FileIdentity.{FileIdentity}
 use Rattle.program.specs.declared.status.Status.{Status}
 
--- the bytes of a path
+-- a path, or a file's text, as bytes
 abbrev pub Text : Type 0
 Text = List ℕ
 
--- a call with its arguments and its answer; Input and Output are files open for reading and for writing
+-- a call, with its arguments and its result; Input and Output are files that are open for reading and
+-- for writing
 pub data Call (Input Output : Type 0) : Type 0 where
-  -- the process's words, of which the first is the program's name
+  -- reads the command line, of which the first word is the program's name
   words : Result (List Text) Error → Call Input Output
-  -- a file's bytes, all of them
+  -- reads a whole file
   read : Text → Result (List ℕ) Error → Call Input Output
-  -- a file opened for reading
+  -- opens a file for reading
   open_input : Text → Result Input Error → Call Input Output
-  -- which file a path leads to
+  -- the identity of the file at a path
   identify : Text → Result FileIdentity Error → Call Input Output
-  -- random keys of the system, by which a run hashes
+  -- draws random keys of the system, for the hash tables of a run
   draw_keys : Result RandomState Error → Call Input Output
-  -- a file created, or emptied, and opened for writing
+  -- creates a file or truncates it, and opens it for writing
   create : Text → Result Output Error → Call Input Output
-  -- the keys, a ruleset's text, a box file's text, a capture and the capture that leaves, before and after, the file
-  -- that the report goes to, before and after, where that isn't standard output, and whether each decision is told:
-  -- whether the end is torn
+  -- replays a capture: the keys, the texts of the ruleset and the box file, IN before and after, OUT
+  -- before and after, the report's file before and after (none for standard output), and whether there
+  -- is a trace; whether the capture is torn
   run : RandomState → Text → Text → Input → Input → Output → Output → Option (Output × Output) → Bool
       → Result Bool RunFault → Call Input Output
-  -- a ruleset's text and a box file's text: how many tables, chains and rules it has
+  -- checks a ruleset's text for a box file's text, and counts its tables, chains and rules
   judge : Text → Text → Result Counts RunFault → Call Input Output
-  -- the line of a ruleset that is accepted
+  -- prints the line of an accepted ruleset
   print_accepted : Counts → Result ⊤ Error → Call Input Output
-  -- the line of a status
+  -- prints the line of a status
   print_status : Status → Call Input Output
-  -- what a status of a task means, and where its fault is
+  -- prints what the status of a task means, and where its fault is
   explain_status : Status → Task → Call Input Output
-  -- all faults of a task's ruleset and box
+  -- prints all faults of a task's ruleset and box
   list_faults : Task → Call Input Output
-  -- what a code means
+  -- prints what a code means
   show : Text → Result ⊤ Error → Call Input Output
-  -- what clap says of the words
+  -- prints clap's message: usage or help
   explain : ErrorKind → Result ⊤ Error → Call Input Output
 
--- the bytes of the words that are answered
+-- the words of the command line, as bytes
 abbrev pub word_texts : {Y Z : Type 0} → Result (Vec (String Y) Z) Error → Result (List Text) Error
 word_texts (Ok v) = Ok (map string_bytes v.items)
 word_texts (Err error) = Err error
 
--- the bytes that a read answers
+-- the bytes that are read
 abbrev pub bytes_of : {Z : Type 0} → Result (Vec ℕ Z) Error → Result (List ℕ) Error
 bytes_of (Ok v) = Ok v.items
 bytes_of (Err error) = Err error
 
--- these calls, one after another, lead from one moment to another
+-- these calls, one after another, lead from one state to another
 abbrev pub HappenInOrder : {S C : Type 0} → (S → C → S → Type 0) → S → List C → S → Type 0
 HappenInOrder happens s [] t = s ≡ t
-HappenInOrder {S = S} happens s (call ∷ calls) t = (u : S) × happens s call u × HappenInOrder happens u calls t
+HappenInOrder {S = S} happens s (call ∷ calls) t =
+    (u : S) × happens s call u × HappenInOrder happens u calls t
+
+-- calls are made, one after another, that lead from one state to another, and this holds of them
+abbrev pub MakesCalls : {S C : Type 0} → (S → C → S → Type 0) → S → S → (List C → Type 0) → Type 0
+MakesCalls {C = C} happens s t Holds = (calls : List C) × HappenInOrder happens s calls t × Holds calls

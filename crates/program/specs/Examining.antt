@@ -1,4 +1,4 @@
--- The judgement of a ruleset in a file: the calls in their order, and the status that it ends with.
+-- `nftrun check` (own): its calls in order, and its status.
 use Rattle.std.specs.Prelude.{◌≡◌, List, [], ◌∷◌, Ok, Err}
 use Rattle.command_line.specs.declared.task.CheckPaths.{CheckPaths}
 use Rattle.engine.specs.declared.judging.Counts.{Counts}
@@ -7,25 +7,26 @@ use Rattle.program.specs.Status.{of_fault, of_error}
 use Rattle.program.specs.declared.status.Status.{Status}
 use Rattle.program.specs.declared.status.Status.TheVariants.{Success}
 
--- the line is printed of what was counted
+-- the counts are printed
 abbrev pub Announces : {I O : Type 0} → Counts → List (Call I O) → Status → Type 0
 Announces counts (print_accepted c (Err error) ∷ []) status = (c ≡ counts) × (status ≡ of_error error)
 Announces counts (print_accepted c (Ok _) ∷ []) status = (c ≡ counts) × (status ≡ Success)
 Announces _ _ _ = ⊥
 
--- the ruleset's text is judged as rules, the box file's as box; where they are refused nothing is called after it
+-- the texts of the ruleset and the box file are checked; where they are rejected no call follows
 abbrev pub Judges : {I O : Type 0} → Text → Text → List (Call I O) → Status → Type 0
 Judges rules box (judge r b (Err fault) ∷ []) status = (r ≡ rules) × (b ≡ box) × (status ≡ of_fault fault)
-Judges rules box (judge r b (Ok counts) ∷ calls) status = (r ≡ rules) × (b ≡ box) × Announces counts calls status
+Judges rules box (judge r b (Ok counts) ∷ calls) status =
+    (r ≡ rules) × (b ≡ box) × Announces counts calls status
 Judges _ _ _ _ = ⊥
 
--- BOX is read whole
+-- BOX is read
 abbrev pub ExaminesOn : {I O : Type 0} → CheckPaths → Text → List (Call I O) → Status → Type 0
 ExaminesOn t rules (read path (Err error) ∷ []) status = (path ≡ t.plant.now) × (status ≡ of_error error)
 ExaminesOn t rules (read path (Ok box) ∷ calls) status = (path ≡ t.plant.now) × Judges rules box calls status
 ExaminesOn _ _ _ _ = ⊥
 
--- RULES is read whole
+-- RULES is read
 abbrev pub Examines : {I O : Type 0} → CheckPaths → List (Call I O) → Status → Type 0
 Examines t (read path (Err error) ∷ []) status = (path ≡ t.rules.now) × (status ≡ of_error error)
 Examines t (read path (Ok rules) ∷ calls) status = (path ≡ t.rules.now) × ExaminesOn t rules calls status

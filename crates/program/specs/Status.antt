@@ -1,4 +1,5 @@
--- What the program ends with: 0 done, 1 rules, 2 usage, 3 box, 4 capture, 5 device, 6 memory, 7 a torn end.
+-- Statuses and exit statuses (own): 0 done, 1 ruleset, 2 usage, 3 box file, 4 capture, 5 device, 6
+-- memory, 7 torn.
 use Rattle.std.specs.Prelude.{ℕ, Bool, true, false}
 use Rattle.std.specs.IoError.{error_kind}
 use Rattle.std.specs.declared.io.Error.{Error}
@@ -17,12 +18,12 @@ of_fault (faults.Capture fault) = Capture fault
 of_fault faults.Device = Device
 of_fault faults.Memory = Memory
 
--- all is done; whether the capture's end is torn
+-- the status of a complete run: whether the capture is torn
 abbrev pub of_end : Bool → Status
 of_end false = Success
 of_end true = Torn
 
--- a call of the system that fails is a device fault, or want of memory
+-- the status of a failed system call
 abbrev pub of_kind : ErrorKind → Status
 of_kind OutOfMemory = Memory
 of_kind _ = Device
@@ -30,7 +31,7 @@ of_kind _ = Device
 abbrev pub of_error : Error → Status
 of_error e = of_kind (error_kind e)
 
--- the words can't be had: one isn't UTF-8, or the call of the system that gives them fails
+-- the status where the command line can't be read: a word isn't UTF-8, or the system call failed
 abbrev pub of_words_kind : ErrorKind → Status
 of_words_kind InvalidData = NotUtf8
 of_words_kind kind = of_kind kind
@@ -38,7 +39,7 @@ of_words_kind kind = of_kind kind
 abbrev pub of_words_error : Error → Status
 of_words_error e = of_words_kind (error_kind e)
 
--- there is a line for it: all but success, and usage, of which clap tells
+-- the program prints a line for it: for all but success, and usage, for which clap prints
 abbrev pub has_line : Status → Bool
 has_line Success = false
 has_line Usage = false

@@ -1,4 +1,4 @@
--- What only the contracts of private functions cite.
+-- What contracts of private functions cite; public ones cite none of it.
 pub mod AnswerStatus
 pub mod Promised
 pub mod Finishing

@@ -1,4 +1,4 @@
-//! What a status means, and where its fault is.
+//! Explains a status and locates its fault.
 use crate::status::Status;
 use command_line::Task;
 use engine::RunFault;
@@ -6,10 +6,10 @@ use fault_search::{SourcePaths, Sources, all_faults, capture_location, explained
 use std::rt::Files;
 use std::{fs, io};
 
-/// Prints what the status of a task means to standard error, and where its fault is.
+/// Prints to standard error what the status of a task means and where its fault is.
 ///
-/// A place is a help and no promise: no contract says which one is told. The files are read again
-/// for it, where they are regular files; a pipe has been read already.
+/// The location is a heuristic: no contract says which one is reported. Regular files are read
+/// again for it; a pipe has been read already.
 pub fn explain_status<R: Files + Eprint + AllocGlobal>(rt: &R, status: Status, task: &Task<'_>) {
     if let (Some(fault), Some(paths)) = (fault_of(status), source_paths(task)) {
         let _ = print_location(rt, fault, paths);
@@ -19,7 +19,7 @@ pub fn explain_status<R: Files + Eprint + AllocGlobal>(rt: &R, status: Status, t
     }
 }
 
-/// The ruleset and the box of a task that has them.
+/// The paths of the ruleset and the box of a task that has them.
 fn source_paths<'a>(task: &Task<'a>) -> Option<SourcePaths<'a>> {
     match task {
         Task::Run(run) => Some(SourcePaths {
@@ -34,7 +34,7 @@ fn source_paths<'a>(task: &Task<'a>) -> Option<SourcePaths<'a>> {
     }
 }
 
-/// The fault of a run or a check that ended so.
+/// The fault of a status, if it has one.
 fn fault_of(status: Status) -> Option<RunFault> {
     match status {
         Status::Rules(fault) => Some(RunFault::Rules(fault)),
@@ -44,7 +44,7 @@ fn fault_of(status: Status) -> Option<RunFault> {
     }
 }
 
-/// Prints all faults of a check's ruleset and box to standard error, as far as they are found.
+/// Prints all faults of a check's ruleset and box to standard error, as far as they can be located.
 pub fn list_faults<R: Files + Eprint + AllocGlobal>(rt: &R, task: &Task<'_>) {
     if let Some(paths) = source_paths(task) {
         let _ = print_all_faults(rt, paths);
@@ -82,7 +82,7 @@ fn print_location<R: Files + Eprint + AllocGlobal>(
     eprint!(rt; "{}", lines.as_str())
 }
 
-/// A file's bytes, where it is a regular file that can be read, and else none.
+/// The bytes of a regular file; none where it can't be read.
 fn read_again<R: Files + AllocGlobal>(rt: &R, path: &str) -> Vec<u8> {
     if is_regular(rt, path) {
         if let Ok(bytes) = fs::read(rt, path) {
@@ -99,7 +99,7 @@ fn is_regular<R: Files + AllocGlobal>(rt: &R, path: &str) -> bool {
     }
 }
 
-/// Tells where a capture's fault is, or its torn end.
+/// Prints where a capture has its fault or is torn.
 fn print_capture_location<R: Files + Eprint + AllocGlobal>(
     rt: &R,
     status: Status,

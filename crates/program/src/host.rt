@@ -1,4 +1,4 @@
-//! What stands around the program.
+//! The operating system's interface, abstracted for proofs.
 use crate::identity::FileIdentity;
 use crate::status::Status;
 use clap::Error;
@@ -8,13 +8,13 @@ use explanations::Explanation;
 use std::hash::RandomState;
 use std::io;
 
-/// What stands around the program: its words, the files by their paths, the run and the judgement
-/// over them, and the lines that it prints.
+/// The environment of the program: its command line, files by their paths, the engine over them,
+/// and the lines that it prints.
 ///
-/// No contract can say what a file holds. So a host knows each call by a relation of its own: the
-/// moment before it, the call with its arguments and its answer, and the moment after it. What is
-/// proved over this relation, which tells nothing else, holds of the very calls that were made,
-/// in their order.
+/// No contract can state what a file holds. So a host has a relation `happens` of its own between
+/// the state before a call, the call with its arguments and its result, and the state after it.
+/// Nothing else is known of it, so what is proved over it is true of the calls that were made, in
+/// their order.
 pub trait Host {
     ghost use Rattle.std.specs.Prelude.{◌≡◌, None, Some};
     ghost use Rattle.std.specs.Result.{result_map_both};
@@ -27,10 +27,10 @@ pub trait Host {
     /// A capture, or a report, open for writing.
     type Output: Drop;
 
-    /// Whether this call may lead from the first moment to the second.
+    /// Whether this call can lead from the first state to the second.
     ghost happens: { Self → Call Self.Input Self.Output → Self → Type 0 };
 
-    /// The process's words, of which the first is the program's name.
+    /// The words of the command line, of which the first is the program's name.
     ///
     /// # Errors
     /// `InvalidData` where one isn't UTF-8.
@@ -45,24 +45,24 @@ pub trait Host {
     fn open(&mut self, path: &str) -> io::Result<Self::Input>
         ensures { happens self.old (open_input path.now result) self.new };
 
-    /// Which file a path leads to, through links.
+    /// The identity of the file at a path, through symbolic links.
     ///
     /// # Errors
-    /// `NotFound` where it leads nowhere yet.
+    /// `NotFound` where there is no file yet.
     fn identify(&mut self, path: &str) -> io::Result<FileIdentity>
         ensures { happens self.old (identify path.now result) self.new };
 
-    /// Random keys of the system, by which the hash tables of a run hash.
+    /// Random keys of the system, for the hash tables of a run.
     fn draw_keys(&mut self) -> io::Result<RandomState>
         ensures { happens self.old (draw_keys result) self.new };
 
-    /// Creates a file, or empties it, and opens it for writing.
+    /// Creates a file or truncates it, and opens it for writing.
     fn create(&mut self, path: &str) -> io::Result<Self::Output>
         ensures { happens self.old (create path.now result) self.new };
 
-    /// Takes the capture through the ruleset on a box, writes what leaves and prints the report to
-    /// standard output, with each decision where `trace` says so. Its hash tables hash by `hasher`.
-    /// Tells whether the capture's end is torn.
+    /// Replays the capture through the ruleset on a box, writes the packets that leave, and prints
+    /// the report to standard output, with a trace if `trace` is set. Its hash tables use the keys
+    /// `hasher`. Returns whether the capture is torn.
     fn run(
         &mut self,
         hasher: RandomState,
@@ -72,9 +72,11 @@ pub trait Host {
         output: &mut Self::Output,
         trace: bool,
     ) -> Result<bool, RunFault>
-        ensures { happens self.old (run hasher rules.now plant.now input.old input.new output.old output.new None trace result) self.new };
+        ensures { happens self.old
+            (run hasher rules.now plant.now input.old input.new output.old output.new None trace result)
+            self.new };
 
-    /// The same run, with its report in a file.
+    /// As `run`, with the report in a file.
     fn run_to_file(
         &mut self,
         hasher: RandomState,
@@ -85,27 +87,31 @@ pub trait Host {
         report: &mut Self::Output,
         trace: bool,
     ) -> Result<bool, RunFault>
-        ensures { happens self.old (run hasher rules.now plant.now input.old input.new output.old output.new (Some (report.old, report.new)) trace result) self.new };
+        ensures { happens self.old
+            (run hasher rules.now plant.now input.old input.new output.old output.new
+            (Some (report.old, report.new)) trace result)
+            self.new };
 
-    /// Judges a ruleset on a box, and counts what it has.
+    /// Checks a ruleset for a box, and counts its tables, chains and rules.
     fn judge(&mut self, rules: &[u8], plant: &[u8]) -> Result<Counts, RunFault>
         ensures { happens self.old (judge rules.now plant.now result) self.new };
 
-    /// Prints the line of a ruleset that is accepted to standard output.
+    /// Prints the line of an accepted ruleset to standard output.
     fn print_accepted(&mut self, counts: Counts) -> io::Result<()>
         ensures { happens self.old (print_accepted counts result) self.new };
 
-    /// Prints the status's line to standard error. Where it can't, the exit status still tells.
+    /// Prints the status's line to standard error. A failed write is ignored: the exit status
+    /// remains.
     fn print_status(&mut self, status: Status)
         ensures { happens self.old (print_status status) self.new };
 
-    /// Prints what the status of a task means to standard error, and where its fault is, as far as
-    /// another look at the task's files shows. A place is a help and no promise.
+    /// Prints to standard error what the status of a task means and where its fault is, as far as
+    /// reading the task's files again shows it. The location is a heuristic.
     fn explain_status(&mut self, status: Status, task: &Task<'_>)
         ensures { happens self.old (explain_status status task.now) self.new };
 
-    /// Prints all faults of a task's ruleset and box to standard error, as far as another look at
-    /// its files shows them.
+    /// Prints all faults of a task's ruleset and box to standard error, as far as reading its files
+    /// again shows them.
     fn list_faults(&mut self, task: &Task<'_>)
         ensures { happens self.old (list_faults task.now) self.new };
 
@@ -113,7 +119,7 @@ pub trait Host {
     fn show(&mut self, explanation: &Explanation) -> io::Result<()>
         ensures { happens self.old (show explanation.now.code.now result) self.new };
 
-    /// Prints the usage, or the help that was asked for.
+    /// Prints clap's message: the usage, or the help that was requested.
     fn explain(&mut self, error: &Error) -> io::Result<()>
         ensures { happens self.old (explain (kind_of error.now) result) self.new };
 }

@@ -1,4 +1,4 @@
-//! What the program does with its words, its files and its two outputs.
+//! The program: what it does with its command line, its files, standard output and standard error.
 #![tactic(auto)]
 
 mod diagnosis;

@@ -1,9 +1,9 @@
-//! What the program does.
-ghost use Rattle.std.specs.Prelude.{◌≡◌, List, IfOk, map, string_bytes};
+//! The program as a whole.
+ghost use Rattle.std.specs.Prelude.{◌≡◌, IfOk, map, string_bytes};
 ghost use Rattle.program.specs.Status.{code_of};
 ghost use Rattle.program.specs.steps.Finishing.{ParsesRunsAndPrints};
 ghost use Rattle.clap.specs.Values.{kind_of};
-ghost use Rattle.program.specs.Calls.{Call, HappenInOrder};
+ghost use Rattle.program.specs.Calls.{HappenInOrder, MakesCalls};
 ghost use Rattle.program.specs.Performing.{Explains, Performs, RunsTask, Shows, detail_calls, asks_all, explanation_calls, status_line_calls, all_faults_calls, usage_status};
 
 use crate::examining::examine;
@@ -15,12 +15,11 @@ use clap::error::ErrorKind;
 use command_line::{Task, read_task, take_explain};
 use std::alloc::{AllocError, Global};
 
-/// Does what the process's words ask for, prints the line of a status that has one, behind it what
-/// it means where `--explain` asks for that and all faults where `--all` does, and answers the exit
-/// status.
+/// Runs the task of the command line, prints the line of a status that has one, then its
+/// explanation with `--explain` and all faults with `--all`, and returns the exit status.
 pub fn perform<H: Host>(alloc: Global, host: &mut H) -> u8
-    // These are all calls, in their order, the line and what is added to it last.
-    ensures { (calls : List (Call H.Input H.Output)) × HappenInOrder H.happens host.old calls host.new × Performs calls result }
+    // These are all calls, in order: the status's line and the explanations after it come last.
+    ensures { MakesCalls H.happens host.old host.new (λ calls. Performs calls result) }
 {
     let words = match host.words() {
         Ok(words) => words,
@@ -36,7 +35,8 @@ pub fn perform<H: Host>(alloc: Global, host: &mut H) -> u8
 }
 
 fn slices_of<'a>(alloc: Global, words: &'a [String]) -> Result<Vec<&'a str>, AllocError>
-    ensures { IfOk result (λ slices. map (λ slice. slice.now) slices.items ≡ map string_bytes words.entry.now) }
+    ensures { IfOk result (λ slices.
+        map (λ slice. slice.now) slices.items ≡ map string_bytes words.entry.now) }
 {
     let mut slices = Vec::new(alloc);
     for word in words {
@@ -45,9 +45,10 @@ fn slices_of<'a>(alloc: Global, words: &'a [String]) -> Result<Vec<&'a str>, All
     Ok(slices)
 }
 
-/// Prints the line of a status that has one, and answers its exit status.
+/// Prints the line of a status that has one, and returns its exit status.
 fn end<H: Host>(host: &mut H, status: Status) -> u8
-    ensures { HappenInOrder H.happens host.old (status_line_calls status) host.new × (result ≡ code_of status) }
+    ensures { HappenInOrder H.happens host.old (status_line_calls status) host.new
+        × (result ≡ code_of status) }
 {
     if status.has_line() {
         host.print_status(status);
@@ -56,7 +57,8 @@ fn end<H: Host>(host: &mut H, status: Status) -> u8
 }
 
 fn parse_and_run<H: Host>(alloc: Global, host: &mut H, words: &[&str], explained: bool) -> u8
-    ensures { (calls : List (Call H.Input H.Output)) × HappenInOrder H.happens host.old calls host.new × ParsesRunsAndPrints explained (map (λ w. w.now) words.entry.now) calls result }
+    ensures { MakesCalls H.happens host.old host.new (λ calls.
+        ParsesRunsAndPrints explained (map (λ w. w.now) words.entry.now) calls result) }
 {
     match read_task(alloc, words) {
         Ok(task) => {
@@ -72,9 +74,9 @@ fn parse_and_run<H: Host>(alloc: Global, host: &mut H, words: &[&str], explained
     }
 }
 
-/// Does what a task asks for.
+/// Runs a task.
 fn run_task<H: Host>(host: &mut H, task: &Task<'_>) -> Status
-    ensures { (calls : List (Call H.Input H.Output)) × HappenInOrder H.happens host.old calls host.new × RunsTask task.now calls result }
+    ensures { MakesCalls H.happens host.old host.new (λ calls. RunsTask task.now calls result) }
 {
     match task {
         Task::Run(task) => replay(host, task),
@@ -83,7 +85,7 @@ fn run_task<H: Host>(host: &mut H, task: &Task<'_>) -> Status
     }
 }
 
-/// Says more where that was asked for and there is a line.
+/// Prints the explanation and all faults where they were requested and the status has a line.
 fn explain_status<H: Host>(host: &mut H, explained: bool, status: Status, task: &Task<'_>)
     ensures { HappenInOrder H.happens host.old (detail_calls explained task.now status) host.new }
 {
@@ -91,16 +93,17 @@ fn explain_status<H: Host>(host: &mut H, explained: bool, status: Status, task: 
     list_faults(host, status, task);
 }
 
-/// Says what the status means.
+/// Prints the explanation of a status that has a line, with `--explain`.
 fn explain_if_asked<H: Host>(host: &mut H, explained: bool, status: Status, task: &Task<'_>)
-    ensures { HappenInOrder H.happens host.old (explanation_calls explained task.now status) host.new }
+    ensures { HappenInOrder H.happens
+        host.old (explanation_calls explained task.now status) host.new }
 {
     if explained && status.has_line() {
         host.explain_status(status, task);
     }
 }
 
-/// Lists all faults.
+/// Prints all faults, with `--all`.
 fn list_faults<H: Host>(host: &mut H, status: Status, task: &Task<'_>)
     ensures { HappenInOrder H.happens host.old (all_faults_calls task.now status) host.new }
 {
@@ -109,7 +112,7 @@ fn list_faults<H: Host>(host: &mut H, status: Status, task: &Task<'_>)
     }
 }
 
-/// Whether all faults are asked for.
+/// Whether the task is a check with `--all`.
 fn asks_all(task: &Task<'_>) -> bool
     ensures { result ≡ asks_all task.now }
 {
@@ -119,9 +122,9 @@ fn asks_all(task: &Task<'_>) -> bool
     }
 }
 
-/// Shows what a code means.
+/// Prints what a code means.
 fn show<H: Host>(host: &mut H, code: &str) -> Status
-    ensures { (calls : List (Call H.Input H.Output)) × HappenInOrder H.happens host.old calls host.new × Shows code.now calls result }
+    ensures { MakesCalls H.happens host.old host.new (λ calls. Shows code.now calls result) }
 {
     let Some(explanation) = explanations::explain(code) else {
         return Status::UnknownCode;
@@ -132,9 +135,10 @@ fn show<H: Host>(host: &mut H, code: &str) -> Status
     }
 }
 
-/// Prints the usage or the help that was asked for.
+/// Prints clap's message: the usage, or the help that was requested.
 fn explain<H: Host>(host: &mut H, error: &Error) -> Status
-    ensures { (calls : List (Call H.Input H.Output)) × HappenInOrder H.happens host.old calls host.new × Explains (kind_of error.now) calls result }
+    ensures { MakesCalls H.happens host.old host.new (λ calls.
+        Explains (kind_of error.now) calls result) }
 {
     if error.kind() == ErrorKind::OutOfMemory {
         return Status::Memory;
@@ -145,7 +149,7 @@ fn explain<H: Host>(host: &mut H, error: &Error) -> Status
     }
 }
 
-/// Help that was asked for is no mistake in the words.
+/// Help that was requested is a success.
 fn usage_status(kind: ErrorKind) -> Status
     ensures { result ≡ usage_status kind }
 {

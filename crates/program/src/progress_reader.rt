@@ -1,4 +1,4 @@
-//! How far a capture is read, told once a second on a terminal.
+//! Shows once a second, on a terminal, how much of a capture is read.
 ghost use Rattle.std.specs.Prelude.{◌≡◌, ◌+◌, ◌^◌, ◌-◌, None, true, min};
 ghost use Rattle.std.specs.Io.{ReadsAtMost};
 ghost use Rattle.std.specs.Io.KnownBytes.{ReadConsumes};
@@ -10,13 +10,13 @@ use std::rt::Clock;
 use std::time::Instant;
 use std::{fmt, io};
 
-/// How many seconds a run lasts before its first line of progress, and how much later the next comes.
+/// The seconds before the first line of progress, and between lines.
 const PAUSE_SECONDS: u64 = 1;
 
-/// A capture that is read, which tells how far it is.
+/// A reader of a capture that shows progress.
 ///
-/// What a read answers is what the capture's own read does. Where progress can't be told, for want of
-/// a clock or because a write fails, it isn't, and the run goes on.
+/// A read has the result of the capture's own read. Where progress can't be shown, because there is
+/// no clock or a write fails, the run continues without it.
 #[derive(Drop)]
 pub(crate) struct ProgressReader<'a, 'b, R, T> {
     input: &'a mut Counted<T>,
@@ -24,14 +24,14 @@ pub(crate) struct ProgressReader<'a, 'b, R, T> {
 }
 
 impl<'a, 'b, R: Clock + Eprint, T: Read> ProgressReader<'a, 'b, R, T> {
-    /// Nothing is told where there is no progress to tell.
+    /// Without `progress` nothing is shown.
     pub(crate) fn new(input: &'a mut Counted<T>, progress: Option<Progress<'b, R>>) -> Self
         ensures input { result.input.now ≡ input.old }
     {
         ProgressReader { input, progress }
     }
 
-    /// Ends the line of progress, so that what is printed next begins at the start of one.
+    /// Ends the line of progress, so that what is printed next begins on a new one.
     pub(crate) fn end(self) {
         if let Some(progress) = self.progress {
             progress.end();
@@ -44,8 +44,9 @@ impl<R: Clock + Eprint, T: Read> Read for ProgressReader<'_, '_, R, T> {
 
     fn read(&mut self, buf: &mut [u8]) -> io::Result<usize>
         ensures bound { ReadsAtMost result buf.new }
-        ensures bytes { ReadConsumes (T.remaining self.old.input.now.inner) (T.remaining self.new.input.now.inner) result buf.new }
-        // It fails where the capture's own read does, and there alone.
+        ensures bytes { ReadConsumes (T.remaining self.old.input.now.inner)
+            (T.remaining self.new.input.now.inner) result buf.new }
+        // It fails exactly where the capture's own read does.
         ensures fails { CountsRead self.old.input.now.failures self.new.input.now.failures result }
     {
         let answer = self.input.read(buf);
@@ -56,27 +57,27 @@ impl<R: Clock + Eprint, T: Read> Read for ProgressReader<'_, '_, R, T> {
     }
 }
 
-/// Where lines of progress stand.
+/// How lines of progress are printed.
 #[derive(Clone, Copy, PartialEq)]
 pub(crate) enum ProgressLine {
-    /// Alone on their terminal: each takes the place of the one before.
+    /// Each overwrites the one before: the terminal shows nothing else.
     Overwritten,
-    /// Among the lines of the report.
+    /// Each is a line of its own: the terminal shows the report too.
     Appended,
 }
 
-/// How far a capture is read.
+/// The progress of reading a capture.
 #[derive(Drop)]
 pub(crate) struct Progress<'b, R> {
     rt: &'b R,
     line: ProgressLine,
-    /// How many bytes the capture has, where that is known.
+    /// The size of the capture in bytes, where it is known.
     size: Option<u64>,
     /// How many bytes were read.
     count: u64,
-    /// When the last line was told, or the first read might have been.
+    /// When the last line was printed, or before that when the run began.
     latest: Instant,
-    /// Whether a line was begun that another is to replace.
+    /// Whether a line without its newline was printed.
     is_open: bool,
 }
 
@@ -94,7 +95,7 @@ impl<'b, R: Clock + Eprint> Progress<'b, R> {
         })
     }
 
-    /// So many bytes more were read. Tells how far it is where the last line is old enough.
+    /// Adds bytes that were read, and prints a line if the last one is old enough.
     fn add(&mut self, count: u64)
         ensures { self.new.count ≡ min (self.old.count + count) (2 ^ 64 - 1) }
     {
@@ -108,7 +109,7 @@ impl<'b, R: Clock + Eprint> Progress<'b, R> {
         }
     }
 
-    // A line that can't be written changes nothing.
+    // A line that can't be written is ignored.
     fn print(&mut self)
         ensures { self.new.count ≡ self.old.count }
     {
@@ -136,7 +137,7 @@ impl<'b, R: Clock + Eprint> Progress<'b, R> {
     }
 }
 
-/// A line of progress. It never gets shorter as more is read.
+/// A line of progress. It never gets shorter as more is read, so it can be overwritten.
 #[derive(Clone, Copy)]
 struct ProgressText {
     count: u64,
@@ -156,7 +157,7 @@ impl fmt::Display for ProgressText {
     }
 }
 
-/// So many bytes, told in millions of them and tenths of that.
+/// A number of bytes, printed in megabytes (10^6 bytes) with one decimal.
 #[derive(Clone, Copy)]
 struct Megabytes(u64);
 

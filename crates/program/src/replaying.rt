@@ -1,9 +1,9 @@
-//! A run over files.
-ghost use Rattle.std.specs.Prelude.{◌≡◌, List, Option, Result, map};
+//! `nftrun run`.
+ghost use Rattle.std.specs.Prelude.{◌≡◌, Result, map};
 ghost use Rattle.std.specs.IoError.{error_kind};
 ghost use Rattle.std.specs.declared.io.Error.{Error};
 ghost use Rattle.command_line.specs.CommandLine.{name_of_file};
-ghost use Rattle.program.specs.Calls.{Call, HappenInOrder, identify};
+ghost use Rattle.program.specs.Calls.{MakesCalls, identify};
 ghost use Rattle.program.specs.Replaying.{CreatesReport, ChecksOutputPath, ChecksReportPath, Replays, Runs, compared, others_of, unless_not_found};
 ghost use Rattle.program.specs.Status.{of_error};
 ghost use Rattle.program.specs.declared.status.Status.TheVariants.{SameFile};
@@ -16,20 +16,18 @@ use command_line::ReplayTask;
 use std::hash::RandomState;
 use std::io;
 
-/// Linux's name of the file that standard output goes to.
+/// The file that standard output goes to, by Linux's name (proc(5)).
 const STANDARD_OUTPUT: &str = "/dev/stdout";
 
-/// Takes the capture IN through the ruleset RULES on the box BOX, and writes OUT, and the report to
-/// FILE where the task names one.
+/// Replays the capture IN through the ruleset RULES on the box BOX, and writes OUT, and the report
+/// to FILE or standard output.
 ///
-/// RULES and BOX are read whole, IN is opened, OUT is compared with the three of them and, where it
-/// gets the report, with standard output, FILE with the three and with OUT, and random keys are
-/// drawn for the hash tables of the run. OUT and then FILE are created last, only if all went well
-/// and each is the same regular file as none of those: a fault before leaves them as they were. The
-/// run tells each decision where the task says so.
+/// RULES and BOX are read whole and IN is opened. OUT must not be the same regular file as one of
+/// them or, without FILE, as standard output; FILE must not be one of them or OUT. Random keys are
+/// drawn for hash tables. OUT and FILE are created last: a fault before that leaves them unchanged.
 pub fn replay<H: Host>(host: &mut H, task: &ReplayTask<'_>) -> Status
-    // These are all calls, in their order, and the status is that of the one that failed, or the run's.
-    ensures { (calls : List (Call H.Input H.Output)) × HappenInOrder H.happens host.old calls host.new × Replays task.now calls result }
+    // These are all calls, in order, and the status is that of the one that failed, or the run's.
+    ensures { MakesCalls H.happens host.old host.new (λ calls. Replays task.now calls result) }
 {
     match try_replay(host, task) {
         Ok(torn) => Status::of(Ok(torn)),
@@ -38,7 +36,8 @@ pub fn replay<H: Host>(host: &mut H, task: &ReplayTask<'_>) -> Status
 }
 
 fn try_replay<H: Host>(host: &mut H, task: &ReplayTask<'_>) -> Result<bool, Status>
-    ensures { (calls : List (Call H.Input H.Output)) × HappenInOrder H.happens host.old calls host.new × Replays task.now calls (replay_status result) }
+    ensures { MakesCalls H.happens host.old host.new (λ calls.
+        Replays task.now calls (replay_status result)) }
 {
     let paths = &task.paths;
     let rules = host.read(paths.rules)?;
@@ -72,8 +71,9 @@ fn play<H: Host>(
     report: Option<H::Output>,
     trace: bool,
 ) -> Result<bool, Status>
-    ensures { (calls : List (Call H.Input H.Output)) × HappenInOrder H.happens host.old calls host.new
-        × Runs trace hasher rules.now plant.now input.old output.old report calls (replay_status result) }
+    ensures { MakesCalls H.happens host.old host.new (λ calls.
+        Runs trace hasher rules.now plant.now input.old output.old report
+        calls (replay_status result)) }
 {
     let torn = match report {
         Some(mut file) => {
@@ -86,8 +86,9 @@ fn play<H: Host>(
 
 /// Writing OUT must not overwrite what is read, nor the report.
 fn check_output<H: Host>(host: &mut H, task: &ReplayTask<'_>) -> Result<(), Status>
-    ensures { (calls : List (Call H.Input H.Output)) × HappenInOrder H.happens host.old calls host.new
-        × ChecksOutputPath SameFile task.now.paths.output.now (others_of (name_of_file task.now.report) task.now.paths) calls result }
+    ensures { MakesCalls H.happens host.old host.new (λ calls.
+        ChecksOutputPath SameFile task.now.paths.output.now
+        (others_of (name_of_file task.now.report) task.now.paths) calls result) }
 {
     let paths = &task.paths;
     let inputs = [paths.rules, paths.plant, paths.input];
@@ -102,8 +103,8 @@ fn check_output<H: Host>(host: &mut H, task: &ReplayTask<'_>) -> Result<(), Stat
 
 /// Writing the report must not overwrite what is read, nor OUT.
 fn check_report<H: Host>(host: &mut H, task: &ReplayTask<'_>) -> Result<(), Status>
-    ensures { (calls : List (Call H.Input H.Output)) × HappenInOrder H.happens host.old calls host.new
-        × ChecksReportPath (name_of_file task.now.report) task.now.paths calls result }
+    ensures { MakesCalls H.happens host.old host.new (λ calls.
+        ChecksReportPath (name_of_file task.now.report) task.now.paths calls result) }
 {
     let Some(file) = task.report else {
         return Ok(());
@@ -113,10 +114,11 @@ fn check_report<H: Host>(host: &mut H, task: &ReplayTask<'_>) -> Result<(), Stat
     check_output_path(host, Status::SameReport, file, &others)
 }
 
-/// Creates the file for the report, where there is one. OUT is there by now.
+/// Creates the file for the report, if there is one. OUT exists by now, so FILE is compared with it
+/// again.
 fn create_report<H: Host>(host: &mut H, task: &ReplayTask<'_>) -> Result<Option<H::Output>, Status>
-    ensures { (calls : List (Call H.Input H.Output)) × HappenInOrder H.happens host.old calls host.new
-        × CreatesReport (name_of_file task.now.report) task.now.paths calls result }
+    ensures { MakesCalls H.happens host.old host.new (λ calls.
+        CreatesReport (name_of_file task.now.report) task.now.paths calls result) }
 {
     let Some(file) = task.report else {
         return Ok(None);
@@ -125,15 +127,15 @@ fn create_report<H: Host>(host: &mut H, task: &ReplayTask<'_>) -> Result<Option<
     Ok(Some(host.create(file)?))
 }
 
-/// A file that is written must be none of the others: there is a status for one that is.
+/// Fails with the status `same` if a file to write is the same regular file as one of the others.
 fn check_output_path<H: Host>(
     host: &mut H,
     same: Status,
     path: &str,
     others: &[&str],
 ) -> Result<(), Status>
-    ensures { (calls : List (Call H.Input H.Output)) × HappenInOrder H.happens host.old calls host.new
-        × ChecksOutputPath same path.now (map (λ other. other.now) others.entry.now) calls result }
+    ensures { MakesCalls H.happens host.old host.new (λ calls.
+        ChecksOutputPath same path.now (map (λ other. other.now) others.entry.now) calls result) }
 {
     let file = match host.identify(path) {
         Ok(file) => file,
@@ -151,7 +153,9 @@ fn compare<H: Host>(
     file: FileIdentity,
     path: &str,
 ) -> Result<(), Status>
-    ensures { (answer : Result FileIdentity Error) × H.happens host.old (identify path.now answer) host.new × (result ≡ compared same file answer) }
+    ensures { (answer : Result FileIdentity Error)
+        × H.happens host.old (identify path.now answer) host.new
+        × (result ≡ compared same file answer) }
 {
     match host.identify(path) {
         Ok(other) if file.is_same_file(other) => Err(same),

@@ -1,4 +1,4 @@
-//! What the program ends with.
+//! The status that the program ends with.
 ghost use Rattle.std.specs.Prelude.{◌≡◌, MatchResult};
 ghost use Rattle.std.specs.IoError.{error_kind};
 ghost use Rattle.program.specs.Status.{of_end, of_error, of_fault, of_words_error, has_line, code_of};
@@ -8,33 +8,35 @@ use engine::{RulesFault, RunFault};
 use pcap_io::CaptureFault;
 use std::{fmt, io};
 
-/// What the program ends with.
+/// The status that the program ends with. See `code` for the exit statuses.
 #[derive(Clone, Copy)]
 pub enum Status {
     Success,
     Rules(RulesFault),
-    /// The words aren't understood; `clap` tells why.
+    /// The command line isn't understood; clap prints why.
     Usage,
-    /// A word isn't UTF-8.
+    /// A word of the command line isn't UTF-8.
     NotUtf8,
-    /// OUT leads to the same regular file as RULES, BOX, IN or, without `--report`, standard output.
+    /// OUT is the same regular file as RULES, BOX, IN or, without `--report`, standard output.
     SameFile,
-    /// FILE leads to the same regular file as RULES, BOX, IN or OUT.
+    /// FILE is the same regular file as RULES, BOX, IN or OUT.
     SameReport,
-    /// The word behind `explain` is no code.
+    /// The word after `explain` is no code.
     UnknownCode,
     Box(BoxFault),
     Capture(CaptureFault),
     Device,
     Memory,
-    /// All is done, and the capture ends inside a record.
+    /// The run is complete, but the capture ends in the middle of a record.
     Torn,
 }
 
 impl Status {
-    /// The status of a run: whether the capture's end is torn, or the fault.
+    /// The status of a run: whether the capture is torn, or the fault.
     pub fn of(outcome: Result<bool, &RunFault>) -> Status
-        ensures { MatchResult outcome.entry (λ torn. result ≡ of_end torn) (λ fault. result ≡ of_fault fault.now) }
+        ensures { MatchResult outcome.entry
+            (λ torn. result ≡ of_end torn)
+            (λ fault. result ≡ of_fault fault.now) }
     {
         match outcome {
             Ok(false) => Status::Success,
@@ -47,7 +49,7 @@ impl Status {
         }
     }
 
-    /// The status where a call of the system failed.
+    /// The status of a failed system call.
     pub fn of_io(error: &io::Error) -> Status
         ensures { result ≡ of_error error.now }
     {
@@ -57,7 +59,7 @@ impl Status {
         }
     }
 
-    /// The status where the process's words can't be had.
+    /// The status where the words of the command line can't be read.
     pub fn of_words(error: &io::Error) -> Status
         ensures { result ≡ of_words_error error.now }
     {
@@ -67,14 +69,14 @@ impl Status {
         }
     }
 
-    /// Whether the program prints a line for it.
+    /// Whether the program prints a line for it on standard error.
     pub fn has_line(self) -> bool
         ensures { result ≡ has_line self }
     {
         !matches!(self, Status::Success | Status::Usage)
     }
 
-    /// The process's exit status.
+    /// The exit status of the process.
     pub fn code(self) -> u8
         ensures { result ≡ code_of self }
     {
@@ -117,7 +119,7 @@ impl From<RunFault> for Status {
     }
 }
 
-/// The line for standard error, without its end.
+/// The line for standard error, without its newline.
 impl fmt::Display for Status {
     fn fmt<W: fmt::Write>(&self, f: &mut fmt::Formatter<W>) -> fmt::Result {
         match self {

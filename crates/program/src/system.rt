@@ -1,4 +1,4 @@
-//! The system's own files and outputs, and the run and the judgement over them.
+//! The host that makes the system calls: files, outputs, and the engine over them.
 ghost use Rattle.std.specs.Prelude.{None, Some};
 ghost use Rattle.program.specs.Calls.{run};
 ghost use Rattle.program.specs.steps.Promised.{IsGuaranteed};
@@ -23,14 +23,14 @@ use std::random::RandomSource;
 use std::rt::{Clock, Files};
 use std::{fs, io};
 
-/// The system's own files and outputs.
+/// The host of the operating system.
 #[derive(Drop)]
 struct System<'a, R> {
     rt: &'a R,
     terminals: Terminals,
-    /// How many bytes IN has, where that is known and progress is told.
+    /// The size of IN in bytes, where it is known and progress is shown.
     size: Option<u64>,
-    /// The last call that failed.
+    /// The last call that failed, for the message about it.
     failed: Option<Failed>,
 }
 
@@ -44,7 +44,7 @@ struct Terminals {
 /// A call that failed.
 #[derive(Drop)]
 enum Failed {
-    /// What it was made on, and what the system said.
+    /// The system's message about a file.
     Call(String),
     /// A read of IN.
     Read,
@@ -55,8 +55,8 @@ enum Failed {
 }
 
 impl Failed {
-    /// The call of a run that failed, if one did: where none on IN and none on OUT did, it was one on the
-    /// report.
+    /// Which call of a run failed, if one did. A device fault without a failed read of IN or write
+    /// to OUT is one of the report.
     fn in_run(reads: u64, writes: u64, outcome: &Result<bool, RunFault>) -> Option<Failed> {
         match outcome {
             Err(RunFault::Device) if reads > 0 => Some(Failed::Read),
@@ -68,7 +68,7 @@ impl Failed {
 }
 
 impl<R: AllocGlobal> System<'_, R> {
-    /// Keeps what the system said of a call that failed.
+    /// Keeps the system's message of a call that failed.
     fn keep<T>(&mut self, subject: &str, answer: io::Result<T>) -> io::Result<T> {
         if let Err(error) = &answer {
             let message = format!(in self.rt.alloc(); "{subject}: {error}");
@@ -82,7 +82,7 @@ impl<R: AllocGlobal> System<'_, R> {
 }
 
 impl<'a, R: Clock + Eprint> System<'a, R> {
-    /// What tells how far a run is: nothing does where standard error is no terminal.
+    /// The progress display of a run; none where standard error is no terminal.
     fn progress(&self, line: ProgressLine) -> Option<Progress<'a, R>> {
         if !self.terminals.errors {
             return None;
@@ -91,7 +91,7 @@ impl<'a, R: Clock + Eprint> System<'a, R> {
     }
 }
 
-/// How many bytes a regular file has.
+/// The size of a regular file in bytes.
 fn size_of(file: &impl OpenFile) -> Option<u64> {
     let found = file.metadata().ok()?;
     if found.is_file() {
@@ -133,7 +133,8 @@ fn run_to_output<R: Clock + Files + Print + Eprint + AllocGlobal>(
     trace: bool,
     progress: Option<Progress<'_, R>>,
 ) -> Result<bool, RunFault>
-    ensures { IsGuaranteed (λ c. R.File.remaining c.inner) (λ c. R.File.contents c.inner) (run hasher rules.now plant.now input.old input.new output.old output.new None trace result) }
+    ensures { IsGuaranteed (λ c. R.File.remaining c.inner) (λ c. R.File.contents c.inner)
+        (run hasher rules.now plant.now input.old input.new output.old output.new None trace result) }
 {
     let mut reader = Counted::new(ProgressReader::new(input, progress));
     let mut report = Counted::new(io::writer(rt));
@@ -163,7 +164,9 @@ fn run_to_file<R: Clock + Files + Eprint + AllocGlobal>(
     trace: bool,
     progress: Option<Progress<'_, R>>,
 ) -> Result<bool, RunFault>
-    ensures { IsGuaranteed (λ c. R.File.remaining c.inner) (λ c. R.File.contents c.inner) (run hasher rules.now plant.now input.old input.new output.old output.new (Some (report.old, report.new)) trace result) }
+    ensures { IsGuaranteed (λ c. R.File.remaining c.inner) (λ c. R.File.contents c.inner)
+        (run hasher rules.now plant.now input.old input.new output.old output.new
+        (Some (report.old, report.new)) trace result) }
 {
     let mut reader = Counted::new(ProgressReader::new(input, progress));
     let outcome = engine::run(
@@ -185,9 +188,10 @@ impl<R: Clock + Env + Files + Print + Eprint + RandomSource + AllocGlobal> Host 
 
     type Output = Counted<R::File>;
 
-    // What files hold can't be said. What a run gives for its texts and its
-    // capture can, and what a judgement gives for its texts.
-    ghost happens = { λ _ call _. IsGuaranteed (λ c. R.File.remaining c.inner) (λ c. R.File.contents c.inner) call };
+    // What files hold can't be stated. What the engine guarantees of a run for its texts and its
+    // capture can, and so can what it guarantees of a check.
+    ghost happens = { λ _ call _.
+        IsGuaranteed (λ c. R.File.remaining c.inner) (λ c. R.File.contents c.inner) call };
 
     fn words(&mut self) -> io::Result<Vec<String>> {
         Ok(env::args(self.rt)?.collect(self.rt.alloc())?)
@@ -207,7 +211,7 @@ impl<R: Clock + Env + Files + Print + Eprint + RandomSource + AllocGlobal> Host 
         Ok(Counted::new(file))
     }
 
-    // It goes through links, symbolic ones too.
+    // stat(2): follows symbolic links.
     fn identify(&mut self, path: &str) -> io::Result<FileIdentity> {
         let answer = fs::metadata(self.rt, path);
         let found = self.keep(path, answer)?;
@@ -310,11 +314,11 @@ impl<R: Clock + Env + Files + Print + Eprint + RandomSource + AllocGlobal> Host 
     }
 }
 
-/// Does what the process's own words ask for, and answers its exit status.
+/// Runs the program on the process's own command line, and returns the exit status.
 ///
-/// Where `errors`, the standard error, is a terminal, a run of more than a second tells there how far
-/// it is: on one line that is written anew, or, where the report goes to a terminal too, as `output`
-/// tells, on lines of their own.
+/// Where `errors` (standard error) is a terminal, a run of more than a second shows its progress
+/// there: on one line that is overwritten, or on lines of their own where the report goes to a
+/// terminal (`output`, standard output) too.
 pub fn start<R: Clock + Env + Files + Print + Eprint + RandomSource + AllocGlobal>(
     rt: &R,
     output: &impl IsTerminal,

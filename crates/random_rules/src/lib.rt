@@ -1,5 +1,5 @@
-//! Rulesets drawn by chance, whose rules in line are sought and then tried one by one: each packet
-//! meets the same.
+//! Tests on random rulesets: with and without the indexes on their rules, each packet has the same
+//! verdict, events and count of statements.
 #![tactic(auto)]
 
 #[cfg(test)]

@@ -1,9 +1,9 @@
-//! What rules may read of a packet, drawn by chance.
+//! Random packets, with all that rules may read of them.
 use crate::random_numbers::RandomNumbers;
 use ip_headers::Transport;
 use rule_meaning::{ConnectionFacts, CtDirection, CtFacts, CtState, Facts, Interface, Packet};
 
-/// A packet of any kind, at any place of its way.
+/// A packet of any protocol, at any hook, with any conntrack state.
 pub fn random_facts(random: &mut RandomNumbers) -> Facts {
     Facts {
         packet: Packet {

@@ -1,21 +1,21 @@
-//! Numbers drawn by chance, the same ones in every run.
+//! Pseudorandom numbers, the same for every run of the tests.
 ghost use Rattle.std.specs.Prelude.{◌<◌, ◌≤◌};
 
 use set_intervals::Range;
 
-/// Draws numbers (SplitMix64).
+/// A generator of pseudorandom numbers (SplitMix64).
 #[derive(Drop)]
 pub struct RandomNumbers {
     state: u64,
 }
 
 impl RandomNumbers {
-    /// Another seed draws other numbers.
+    /// A generator with a seed.
     pub fn new(seed: u64) -> RandomNumbers {
         RandomNumbers { state: seed }
     }
 
-    /// A number below so many.
+    /// A number below `bound`.
     pub fn below(&mut self, bound: u32) -> u32
         requires { 0 < bound }
         ensures { result < bound }
@@ -28,12 +28,13 @@ impl RandomNumbers {
         (mixed % u64::from(bound)) as u32
     }
 
-    /// What happens so many times of a hundred.
-    pub fn chance(&mut self, times: u32) -> bool {
-        self.below(100) < times
+    /// True with a probability in percent.
+    pub fn chance(&mut self, percent: u32) -> bool {
+        self.below(100) < percent
     }
 
-    /// A number that others that are drawn often equal: a small one, or one of the greatest.
+    /// A 32-bit number, from few values, so that numbers are often equal: small, or near the
+    /// maximum.
     pub fn number(&mut self) -> u32 {
         if self.chance(5) {
             u32::MAX - self.below(3)
@@ -42,7 +43,7 @@ impl RandomNumbers {
         }
     }
 
-    /// A number of 8 bits, likewise.
+    /// An 8-bit number, likewise.
     pub fn byte(&mut self) -> u8 {
         if self.chance(5) {
             u8::MAX
@@ -51,7 +52,7 @@ impl RandomNumbers {
         }
     }
 
-    /// A number of 16 bits, likewise.
+    /// A 16-bit number, likewise.
     pub fn port(&mut self) -> u16 {
         if self.chance(5) {
             u16::MAX
@@ -60,7 +61,7 @@ impl RandomNumbers {
         }
     }
 
-    /// A few numbers one behind another, sometimes all from one on.
+    /// A short interval, sometimes one that is not bounded above.
     pub fn range(&mut self) -> Range {
         let low = u128::from(self.number());
         let more = if self.chance(3) {

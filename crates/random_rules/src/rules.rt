@@ -1,4 +1,4 @@
-//! Rulesets drawn by chance, as code.
+//! Random rulesets, as code.
 ghost use Rattle.std.specs.Prelude.{◌<◌, ◌≤◌};
 
 use crate::random_numbers::RandomNumbers;
@@ -14,7 +14,7 @@ const CHAINS: u32 = 4;
 
 const SETS: u32 = 8;
 
-/// All that can head a run, and two that can't.
+/// All selectors that the first match of a run's rule can read, and two that it can't.
 static SELECTORS: [Selector; 25] = [
     Selector::IpSource,
     Selector::IpDestination,
@@ -43,7 +43,8 @@ static SELECTORS: [Selector; 25] = [
     Selector::CtStatus,
 ];
 
-/// Marks are drawn as often as all other selectors: rules write them while they are asked for.
+/// A selector. Marks are as frequent as all others together, since rules write what later rules
+/// match.
 fn random_selector(random: &mut RandomNumbers) -> Selector {
     if random.chance(25) {
         Selector::MetaMark
@@ -63,7 +64,7 @@ fn random_operator(random: &mut RandomNumbers) -> Operator {
     }
 }
 
-/// The first match of a rule: mostly one that a run can have, by ranges that overlap.
+/// The first match of a rule: mostly one that a run can have, with overlapping ranges.
 fn random_match(
     alloc: Global,
     random: &mut RandomNumbers,
@@ -79,9 +80,9 @@ fn random_match(
     })
 }
 
-/// Goes on, leaves the chain, or leads to one that stands behind it.
+/// A verdict: one that ends the chain, or a jump or goto to a later chain.
 fn random_rule_verdict(random: &mut RandomNumbers, chain: u32) -> RuleVerdict {
-    // How many chains stand behind it.
+    // How many chains come after it.
     let left = CHAINS.saturating_sub(chain).saturating_sub(1);
     match random.below(8) {
         0 => RuleVerdict::Accept,
@@ -93,7 +94,7 @@ fn random_rule_verdict(random: &mut RandomNumbers, chain: u32) -> RuleVerdict {
     }
 }
 
-/// What a merged rule may decide.
+/// A verdict that a merged rule may have.
 fn random_terminal_verdict(random: &mut RandomNumbers, chain: u32) -> RuleVerdict {
     match random.below(4) {
         0 => RuleVerdict::Accept,
@@ -116,7 +117,8 @@ fn random_mark(random: &mut RandomNumbers) -> Action {
     }
 }
 
-/// What stands behind a rule's first match: counters, logs, marks, and at last a decision or none.
+/// The statements after a rule's first match: counters, logs, marks, matches, and a verdict or
+/// none.
 fn random_rest(
     alloc: Global,
     random: &mut RandomNumbers,
@@ -159,19 +161,20 @@ fn add_rule(
     let first = random_match(alloc, random, selector)?;
     let rest = random_rest(alloc, random, rule, is_plain)?;
     let mut skip = u32::try_from(rest.len()).unwrap_or(u32::MAX);
-    steps.push(Step::Run(Instruction {
+    steps.push(Step::Statement(Instruction {
         rule,
         skip,
         action: first,
     }))?;
     for action in rest {
         skip = skip.saturating_sub(1);
-        steps.push(Step::Run(Instruction { rule, skip, action }))?;
+        steps.push(Step::Statement(Instruction { rule, skip, action }))?;
     }
     Ok(())
 }
 
-/// Rules in line, most of which ask of one selector, or of few in any order, and some of another.
+/// Consecutive rules, most of which match on one selector or on few in any order, and some on
+/// others.
 fn add_rules(
     alloc: Global,
     random: &mut RandomNumbers,
@@ -188,13 +191,14 @@ fn add_rules(
         random_selector(random),
         random_selector(random),
     ];
-    // As many as a run can have, and one more.
+    // As many selectors as a run can have, and one more.
     let many = if random.chance(40) {
         1
     } else {
         2 + random.below(4)
     };
-    // So many of a hundred rules are a match and a verdict, which are merged where none stands between.
+    // The percentage of rules of one match and a verdict, which are merged where they are
+    // consecutive.
     let plain = match random.below(3) {
         0 => 0,
         1 => 60,
@@ -217,7 +221,7 @@ fn add_rules(
     Ok(())
 }
 
-/// A set, which may have nothing.
+/// A set, which may be empty.
 fn random_set(alloc: Global, random: &mut RandomNumbers) -> Result<Intervals<()>, AllocError> {
     let mut pairs = Vec::new(alloc);
     for _ in 0..random.below(5) {
@@ -238,7 +242,7 @@ fn random_lookups(alloc: Global, random: &mut RandomNumbers) -> Result<Lookups, 
     })
 }
 
-/// Chains of which each leads to later ones alone.
+/// A table whose chains jump to later ones only.
 fn random_table(alloc: Global, random: &mut RandomNumbers) -> Result<TableCode, AllocError> {
     let lookups = random_lookups(alloc, random)?;
     let mut steps = StepList::new(alloc);
@@ -248,7 +252,7 @@ fn random_table(alloc: Global, random: &mut RandomNumbers) -> Result<TableCode, 
         for part in 0..3 {
             add_rules(alloc, random, chain, part * 100, &mut steps)?;
         }
-        steps.push(Step::End)?;
+        steps.push(Step::EndOfChain)?;
     }
     Ok(TableCode {
         steps,
@@ -257,7 +261,7 @@ fn random_table(alloc: Global, random: &mut RandomNumbers) -> Result<TableCode, 
     })
 }
 
-/// A base chain, which may cost too little.
+/// A base chain, whose cost may be less than its rules need.
 pub fn random_start(random: &mut RandomNumbers) -> Start
     ensures { result.cost ≤ 4096 }
 {
@@ -275,7 +279,7 @@ pub fn random_start(random: &mut RandomNumbers) -> Start
     }
 }
 
-/// A ruleset of one table.
+/// The code of a ruleset of one table.
 pub fn random_code(alloc: Global, random: &mut RandomNumbers) -> Result<Code, AllocError> {
     let table = IndexedTable::new(alloc, random_table(alloc, random)?)?;
     Ok(Code {

@@ -1,4 +1,4 @@
-//! Packets run through rulesets that are drawn by chance.
+//! Runs random packets through random rulesets, with and without indexes.
 ghost use Rattle.std.specs.Prelude.{◌≤◌};
 
 use crate::packets::random_facts;
@@ -68,7 +68,7 @@ fn connection_mark(facts: &Facts) -> Option<u32> {
     }
 }
 
-/// What comes of a packet.
+/// The result of a packet.
 #[derive(Drop)]
 struct RunResult {
     end: ChainResult,
@@ -109,7 +109,7 @@ fn run_one(
     })
 }
 
-/// What comes of these packets, one by one.
+/// The results of these packets, one by one.
 fn run_all(
     alloc: Global,
     code: &Code,
@@ -134,7 +134,7 @@ fn random_packets(alloc: Global, random: &mut RandomNumbers) -> Result<Vec<Facts
     Ok(packets)
 }
 
-/// Whether as much comes of as many packets, each time.
+/// Whether the results are the same, packet by packet.
 fn are_same(indexed: &[RunResult], linear: &[RunResult]) -> bool {
     indexed.len() == linear.len()
         && indexed
@@ -143,7 +143,7 @@ fn are_same(indexed: &[RunResult], linear: &[RunResult]) -> bool {
             .all(|(one, other)| is_same_result(one, other))
 }
 
-/// Whether the same comes of packets where rules are sought and where they are walked.
+/// Whether packets have the same results with indexes and without.
 fn agrees(
     alloc: Global,
     code: &mut Code,

@@ -16,11 +16,11 @@ use std::test::Fail;
 /// A statement of a rule.
 #[derive(Clone, Copy)]
 enum Statement {
-    /// `ip saddr`, from an address on, and so many behind it.
+    /// `ip saddr` with an operator: the first address, and how many follow it.
     Source(Operator, u32, u32),
     /// `ip saddr 10.N.0.0/16`.
     Ten(u8),
-    /// `ip saddr` of a set that has nothing.
+    /// `ip saddr` in an empty set.
     NoSource,
     /// `meta mark 1`.
     Marked,
@@ -42,19 +42,19 @@ const DROP: Statement = Statement::GiveVerdict(RuleVerdict::Drop);
 
 const JUMP: Statement = Statement::GiveVerdict(RuleVerdict::Jump(1));
 
-/// An address, the rule whose verdict a packet from there meets, and whether it is dropped.
+/// A source address, the rule whose verdict a packet from there has, and whether it is dropped.
 type ExpectedVerdict = (u32, Option<u32>, bool);
 
-/// The rules of a chain, their steps, tables, merged and dropped rules, and what packets meet.
+/// The rules of a chain; its steps, indexes, merged and dropped rules; and the verdicts of packets.
 type Row = (
     &'static [&'static [Statement]],
     [usize; 4],
     &'static [ExpectedVerdict],
 );
 
-/// Matches with verdicts, one within another; a rule that writes what the next one asks for; a rule behind
-/// one that always decides; no counter alone ends a chain, nor does a jump; another match, a counter and a
-/// jump between; a set that has nothing.
+/// Nested matches with verdicts; a rule that writes the mark that the next one matches; a rule
+/// after one that always gives a verdict; a counter alone and a jump don't end a chain; another
+/// match, a counter and a jump between merged rules; an empty set.
 static ROWS: [Row; 6] = [
     (
         &[
@@ -120,7 +120,7 @@ static ROWS: [Row; 6] = [
     ),
 ];
 
-/// The rule that a statement of a row stands in.
+/// The number of a row's rule.
 fn rule(number: u32) -> RuleNo {
     RuleNo {
         table: 0,
@@ -157,7 +157,7 @@ fn action(alloc: Global, statement: Statement, number: u32) -> Result<Action, Al
     })
 }
 
-/// The steps of a rule.
+/// Adds the steps of a rule.
 fn add_rule(
     alloc: Global,
     statements: &[Statement],
@@ -168,7 +168,7 @@ fn add_rule(
     for &statement in statements {
         skip = skip.saturating_sub(1);
         let action = action(alloc, statement, number)?;
-        steps.push(Step::Run(Instruction {
+        steps.push(Step::Statement(Instruction {
             rule: rule(number),
             skip,
             action,
@@ -177,7 +177,7 @@ fn add_rule(
     Ok(())
 }
 
-/// The steps of a chain of these rules.
+/// The steps of a chain with these rules.
 fn steps(alloc: Global, rules: &[&[Statement]]) -> Result<StepList, AllocError> {
     let mut steps = StepList::new(alloc);
     let mut number: u32 = 0;
@@ -185,7 +185,7 @@ fn steps(alloc: Global, rules: &[&[Statement]]) -> Result<StepList, AllocError> 
         add_rule(alloc, statements, number, &mut steps)?;
         number = number.saturating_add(1);
     }
-    steps.push(Step::End)?;
+    steps.push(Step::EndOfChain)?;
     Ok(steps)
 }
 
@@ -236,7 +236,7 @@ fn from(source: u32) -> Facts {
     }
 }
 
-/// The number of the rule whose verdict a packet from the address meets, and whether it is dropped.
+/// The number of the rule whose verdict a packet from the address has, and whether it is dropped.
 fn first_verdict(
     alloc: Global,
     code: &Code,
@@ -258,7 +258,7 @@ fn first_verdict(
     Ok((verdict_rule, matches!(end.verdict, HookVerdict::Dropped)))
 }
 
-/// Whether the packets meet what the row tells.
+/// Whether the packets have the verdicts of the row.
 fn has_verdicts(
     alloc: Global,
     code: &Code,

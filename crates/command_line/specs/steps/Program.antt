@@ -1,4 +1,4 @@
--- The command of clap that reads the words.
+-- The command line as clap's command.
 use Rattle.std.specs.Prelude.{Some, codes, fold, true}
 use Rattle.clap.specs.declared.builder.action.ArgAction.TheVariants.{SetTrue}
 use Rattle.clap.specs.Words.{App, Rule, Shape, Text, new_app, new_rule, with_rule, with_subcommand}
@@ -26,7 +26,8 @@ run_shape = (with_rule (with_rule paths_app (flag_rule (codes "trace"))) report_
 
 abbrev pub check_app : App
 check_app =
-    with_rule (with_rule (with_rule (new_app (codes "check")) (path_rule (codes "rules"))) (path_rule (codes "plant")))
+    with_rule (with_rule (with_rule (new_app (codes "check")) (path_rule (codes "rules")))
+    (path_rule (codes "plant")))
     (flag_rule (codes "all"))
 
 abbrev pub check_shape : Shape

@@ -1,4 +1,4 @@
--- Base chains with their costs, and their order.
+-- Base chains with their costs, and the order in which they run.
 use Rattle.std.specs.Prelude.{◌≡◌, ℕ, ◌+◌, Bool, List, [], ◌++◌, map, filter, get_or, slice_index, All}
 use Rattle.std.specs.List.Sorted.{IsPermutation, IsSortedBy, IsStableBy}
 use Rattle.nft_tree.specs.declared.chain.Hook.{Hook}
@@ -15,18 +15,19 @@ base b = record { number = b.number; head = head_tree b.head.now }
 abbrev pub runs_on_hook : Hook → CompiledChain → Bool
 runs_on_hook hook b = is_on_hook hook (base b)
 
--- behind the old ones stand these, each with a cost that is right for its number
-pub record AddsBases (wanted : List BaseChain) (Costs : ChainNo → ℕ → Type 0) (old new : List CompiledChain) : Type 0 where
+-- these base chains are appended, each with a cost that is right for its number
+pub record AddsBases (wanted : List BaseChain) (Costs : ChainNo → ℕ → Type 0)
+    (old new : List CompiledChain) : Type 0 where
   pub more : List CompiledChain
   pub is : new ≡ old ++ more
   pub are : map base more ≡ wanted
   pub costs : All (λ b. Costs b.number b.cost) more
 
--- 1 more than the rules of the chain of this number cost, by table and chain
+-- 1 more than the chain of this number costs, where costs are listed by table and chain
 abbrev pub CostsIn : List (List ℕ) → ChainNo → ℕ → Type 0
 CostsIn costs n cost = cost ≡ slice_index (get_or costs n.table []) n.chain + 1
 
--- the starts are the base chains of the hook, in order of priority and of text
+-- the starts are the base chains of the hook, in order of priority and then of the text
 pub record Ordered (hook : Hook) (bases : List CompiledChain) (starts : List Start) : Type 0 where
   pub order : List CompiledChain
   pub moved : IsPermutation (filter (runs_on_hook hook) bases) order

@@ -1,4 +1,4 @@
--- What code a ruleset is compiled to.
+-- The code that a ruleset is compiled to.
 use Rattle.std.specs.Prelude.{◌≡◌, ℕ, List, map, All}
 use Rattle.nft_tree.specs.declared.chain.Hook.{Hook}
 use Rattle.rule_check.specs.Checked.{CheckedTree, AreRulesetCosts}

@@ -1,4 +1,5 @@
--- Base chains as starts of code: which run in which part, what they come to one after another, and what they cost.
+-- Base chains as starts of code: which run in which stage, their results one after another, and their
+-- costs.
 use Rattle.std.specs.Prelude.{◌≡◌, ℕ, ◌≤◌, ℤ, int_lt, negsuc, not, Bool, true, false, cond, List, [], ◌∷◌, filter, sum_by}
 use Rattle.rule_check.specs.Checked.{CheckedTree}
 use Rattle.rule_meaning.specs.declared.facts.Facts.{Facts}
@@ -16,7 +17,7 @@ use Rattle.hook_runs.specs.declared.stages.HookStage.{HookStage}
 use Rattle.hook_runs.specs.declared.stages.HookStage.TheVariants as stages
 use Rattle.hook_runs.specs.declared.stages.StagedChains.{StagedChains}
 
--- ---- which run in a part
+-- ---- the starts of a stage
 
 abbrev pub staged_starts : StagedChains → HookStage → List Start
 staged_starts p stages.PreroutingRaw = p.prerouting_raw.items
@@ -44,7 +45,7 @@ filter_starts = filter is_filter
 abbrev pub nat_starts : List Start → List Start
 nat_starts = filter is_nat_start
 
--- those on both sides of a priority
+-- the starts below a priority, and the others
 abbrev pub before : ℤ → List Start → List Start
 before priority = filter (starts_before priority)
 
@@ -68,22 +69,22 @@ starts_of_stage code stages.PostroutingAfterNat = after SRCNAT (filter_starts co
 abbrev pub AreStagedChains : Code → StagedChains → Type 0
 AreStagedChains code p = (stage : HookStage) → staged_starts p stage ≡ starts_of_stage code stage
 
--- ---- what they come to
+-- ---- results
 
 abbrev pub continues : HookVerdict → Bool
 continues Accepted = true
-continues Dropped = false
-continues (Translated t) = false
+continues _ = false
 
--- what follows where the packet goes on
+-- the next start runs where the verdict is accept
 abbrev pub then_continue : HookResult → (Facts → List Event → HookResult) → HookResult
-then_continue end next = cond (continues end.verdict) (next end.facts end.events) end
+then_continue hook_result next =
+    cond (continues hook_result.verdict) (next hook_result.facts hook_result.events) hook_result
 
 abbrev pub in_order_result : Code → List Start → Facts → List Event → HookResult
 in_order_result code [] f es = record { verdict = Accepted; facts = f; events = es }
 in_order_result code (s ∷ ss) f es = then_continue (base_chain_result code s f es) (in_order_result code ss)
 
--- ---- what they cost
+-- ---- costs
 
 abbrev pub cost_of : List Start → ℕ
 cost_of ss = sum_by (λ s. s.cost) ss
@@ -101,30 +102,31 @@ costs_of p = record {
   postrouting_after_nat = cost_of p.postrouting_after_nat.items;
 }
 
--- a checked ruleset with what its parts cost
+-- a checked ruleset with what its stages cost
 abbrev pub costed_tree : CheckedTree → StagedChains → CostedTree
 costed_tree checked p = record { rules = checked.rules; plant = checked.plant; costs = costs_of p }
 
--- ---- what is known of them
+-- ---- invariants
 
--- a start tells of its base chain, and code comes to that end to which its rules lead
+-- the start is that of the base chain, and its code has the result of the chain's rules
 pub record IsStartOf (checked : CheckedTree) (code : Code) (s : Start) (b : BaseChain) : Type 0 where
   pub same : start_head s ≡ base_chain_head b
-  pub runs : (f : Facts) (es : List Event) → RunsBaseChain checked.plant checked.rules b f es (base_chain_result code s f es)
+  pub runs : (f : Facts) (es : List Event) → RunsBaseChain checked.plant checked.rules b f es
+      (base_chain_result code s f es)
 
 abbrev pub AreStartsOf : CheckedTree → Code → List Start → List BaseChain → Type 0
 AreStartsOf checked code [] [] = Unit {0}
-AreStartsOf checked code [] (b ∷ bs) = ⊥
-AreStartsOf checked code (s ∷ ss) [] = ⊥
 AreStartsOf checked code (s ∷ ss) (b ∷ bs) = IsStartOf checked code s b × AreStartsOf checked code ss bs
+AreStartsOf _ _ _ _ = ⊥
 
 -- the starts are those of the base chains that pass the test, in the order in which they run
-pub record AreStarts (checked : CheckedTree) (code : Code) (test : BaseChain → Bool) (starts : List Start) : Type 0 where
+pub record AreStarts (checked : CheckedTree) (code : Code) (test : BaseChain → Bool)
+    (starts : List Start) : Type 0 where
   pub order : List BaseChain
   pub in_order : InOrder (filter test (base_chains_of checked.rules)) order
   pub are_starts : AreStartsOf checked code starts order
 
--- each part has its base chains, and there is room for what all cost
+-- each stage has its base chains, and all together cost at most the limit
 pub record IsCompiled (checked : CheckedTree) (code : Code) (p : StagedChains) : Type 0 where
   pub starts : (stage : HookStage) → AreStarts checked code (chains_in_stage stage) (staged_starts p stage)
   pub few : total_stage_cost (costed_tree checked p) ≤ 65536

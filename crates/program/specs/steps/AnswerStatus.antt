@@ -1,4 +1,4 @@
--- The status that an answer on the way stands for.
+-- The statuses of intermediate results.
 use Rattle.std.specs.Prelude.{Bool, Result, Ok, Err, ⊤}
 use Rattle.program.specs.Status.{of_end}
 use Rattle.program.specs.declared.status.Status.{Status}

@@ -1,12 +1,13 @@
--- The end of a task, as a part of all that is done.
+-- A task with its line and its explanations.
 use Rattle.std.specs.Prelude.{◌≡◌, ◌++◌, ℕ, Bool, List}
 use Rattle.program.specs.Calls.{Call, Text}
 use Rattle.program.specs.Performing.{ParsesAndRuns, status_line_calls}
 use Rattle.program.specs.Status.{code_of}
 use Rattle.program.specs.declared.status.Status.{Status}
 
--- all that is called once the words are had, and the exit status
+-- all calls after the command line is read, and the exit status
 abbrev pub ParsesRunsAndPrints : {I O : Type 0} → Bool → List Text → List (Call I O) → ℕ → Type 0
 ParsesRunsAndPrints {I = I} {O = O} explained given calls code =
-    (before : List (Call I O)) × (status : Status) × (last : List (Call I O)) × ParsesAndRuns explained given before status last
+    (before : List (Call I O)) × (status : Status) × (last : List (Call I O))
+    × ParsesAndRuns explained given before status last
     × (calls ≡ before ++ (status_line_calls status ++ last)) × (code ≡ code_of status)

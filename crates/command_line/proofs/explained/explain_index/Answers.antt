@@ -9,7 +9,8 @@ use Rattle.command_line.proofs.explained.explain_index.Goals as goal
 pub loop-place-preserved : goal.loop-place-preserved
 loop-place-preserved c =
     let ws = c.args.words.now in
-    let here : (b : Text) → bytes_eq (get_or (map (λ (w : Bor Text). w.now) ws) c.loop-place.place []) b ≡ bytes_eq (get_or ws c.loop-place.place (record { ref_ptr = (0, 0); now = [] })).now b =
+    let here : (b : Text) → bytes_eq (get_or (map (λ (w : Bor Text). w.now) ws) c.loop-place.place []) b
+    ≡ bytes_eq (get_or ws c.loop-place.place (record { ref_ptr = (0, 0); now = [] })).now b =
     λ b. ap (λ (t : Text). bytes_eq t b) (text_at ws c.loop-place.place (record { ref_ptr = (0, 0); now = [] })) in
     subst (λ (k : ℕ). passes k (map (λ (w : Bor Text). w.now) ws) ≡ true) (sym (add-one c.loop-place.place))
     (passes_more c.loop-place.place _ [] c.loop-place.invariant (here (codes "--") ∙ sym c.eq.ensures ∙ c.if-eq.false)
@@ -18,24 +19,30 @@ loop-place-preserved c =
 pub returns-then-eq-2 : goal.returns-then-eq-2
 returns-then-eq-2 c =
     let ws = c.args.words.now in
-    let here : (b : Text) → bytes_eq (get_or (map (λ (w : Bor Text). w.now) ws) c.loop-place.place []) b ≡ bytes_eq (get_or ws c.loop-place.place (record { ref_ptr = (0, 0); now = [] })).now b =
+    let here : (b : Text) → bytes_eq (get_or (map (λ (w : Bor Text). w.now) ws) c.loop-place.place []) b
+    ≡ bytes_eq (get_or ws c.loop-place.place (record { ref_ptr = (0, 0); now = [] })).now b =
     λ b. ap (λ (t : Text). bytes_eq t b) (text_at ws c.loop-place.place (record { ref_ptr = (0, 0); now = [] })) in
     let lt : c.loop-place.place < length ws = search rules in
-    let found = at_flag c.loop-place.place (map (λ (w : Bor Text). w.now) ws) [] (omega (arith, length-map ws (λ (w : Bor Text). w.now), lt)) c.loop-place.invariant
-    (here (codes "--") ∙ sym c.eq.ensures ∙ c.if-eq.false) (here (codes "--explain") ∙ sym c.eq-in-loop-place.ensures ∙ c.if-eq-2.true) in
+    let found = at_flag c.loop-place.place (map (λ (w : Bor Text). w.now) ws) []
+    (omega (arith, length-map ws (λ (w : Bor Text). w.now), lt)) c.loop-place.invariant
+    (here (codes "--") ∙ sym c.eq.ensures ∙ c.if-eq.false)
+    (here (codes "--explain") ∙ sym c.eq-in-loop-place.ensures ∙ c.if-eq-2.true) in
     (lt, found.0, found.1)
 
 pub returns-then-eq : goal.returns-then-eq
 returns-then-eq c =
     let ws = c.args.words.now in
-    let here : (b : Text) → bytes_eq (get_or (map (λ (w : Bor Text). w.now) ws) c.loop-place.place []) b ≡ bytes_eq (get_or ws c.loop-place.place (record { ref_ptr = (0, 0); now = [] })).now b =
+    let here : (b : Text) → bytes_eq (get_or (map (λ (w : Bor Text). w.now) ws) c.loop-place.place []) b
+    ≡ bytes_eq (get_or ws c.loop-place.place (record { ref_ptr = (0, 0); now = [] })).now b =
     λ b. ap (λ (t : Text). bytes_eq t b) (text_at ws c.loop-place.place (record { ref_ptr = (0, 0); now = [] })) in
     let lt : c.loop-place.place < length ws = search rules in
-    at_dashes c.loop-place.place (map (λ (w : Bor Text). w.now) ws) [] (omega (arith, length-map ws (λ (w : Bor Text). w.now), lt)) c.loop-place.invariant
+    at_dashes c.loop-place.place (map (λ (w : Bor Text). w.now) ws) []
+    (omega (arith, length-map ws (λ (w : Bor Text). w.now), lt)) c.loop-place.invariant
     (here (codes "--") ∙ sym c.eq.ensures ∙ c.if-eq.true)
 
 pub returns : goal.returns
 returns c =
     let ws = c.args.words.now in
     let le : length ws ≤ c.loop-place.place = search rules in
-    at_end c.loop-place.place (map (λ (w : Bor Text). w.now) ws) (omega (arith, length-map ws (λ (w : Bor Text). w.now), le)) c.loop-place.invariant
+    at_end c.loop-place.place (map (λ (w : Bor Text). w.now) ws)
+    (omega (arith, length-map ws (λ (w : Bor Text). w.now), le)) c.loop-place.invariant

@@ -8,18 +8,24 @@ use Rattle.command_line.proofs.task.read_task.Goals as goal
 
 pub task_of-requires : goal.task_of-requires
 task_of-requires c =
-    has_task _ _ _ (has_read _ (map (λ w. w.now) c.args.words.now) c.in_ok-matches.matches c.unwrap.result.0.now _ c.in_ok-program.ensures c.in_ok-matches.ensures.kinds c.in_ok-matches.ensures.matches
-    (given_as c.subcommand.result c.unwrap.result _ _ c.unwrap.ensures c.subcommand.ensures.name c.subcommand.ensures.rows))
+    has_task _ _ _ (has_read _ (map (λ w. w.now) c.args.words.now) c.in_ok-matches.matches c.unwrap.result.0.now
+    _ c.in_ok-program.ensures c.in_ok-matches.ensures.kinds c.in_ok-matches.ensures.matches
+    (given_as c.subcommand.result c.unwrap.result _ _ c.unwrap.ensures c.subcommand.ensures.name
+    c.subcommand.ensures.rows))
 
 pub returns-clause-requested : goal.returns-clause-requested
 returns-clause-requested c =
     task_requested _ c.unwrap.result.0.now (found_of c.unwrap.result.1.now) c.task_of.result
-    (has_read _ _ c.in_ok-matches.matches c.unwrap.result.0.now _ c.in_ok-program.ensures c.in_ok-matches.ensures.kinds c.in_ok-matches.ensures.matches
-    (given_as c.subcommand.result c.unwrap.result _ _ c.unwrap.ensures c.subcommand.ensures.name c.subcommand.ensures.rows))
+    (has_read _ _ c.in_ok-matches.matches c.unwrap.result.0.now _ c.in_ok-program.ensures
+    c.in_ok-matches.ensures.kinds c.in_ok-matches.ensures.matches
+    (given_as c.subcommand.result c.unwrap.result _ _ c.unwrap.ensures c.subcommand.ensures.name
+    c.subcommand.ensures.rows))
     c.task_of.ensures
 
 pub returns-in_err-matches-clause-refused : goal.returns-in_err-matches-clause-refused
 returns-in_err-matches-clause-refused c =
     handed_on c.from_residual-in_err-matches.result c.in_err-matches.field-0.0
-    (λ e. is_well_formed (map (λ w. w.now) c.args.words.now) ≡ true → kind_of e ≡ OutOfMemory) c.from_residual-in_err-matches.ensures.1
-    (λ formed. refused _ _ c.in_err-matches.field-0.0 c.in_ok-program.ensures c.in_err-matches.ensures.kinds (words_pass (map (λ w. w.now) c.args.words.now) formed))
+    (λ e. is_well_formed (map (λ w. w.now) c.args.words.now) ≡ true → kind_of e ≡ OutOfMemory)
+    c.from_residual-in_err-matches.ensures.1
+    (λ formed. refused _ _ c.in_err-matches.field-0.0 c.in_ok-program.ensures c.in_err-matches.ensures.kinds
+    (words_pass (map (λ w. w.now) c.args.words.now) formed))

@@ -16,7 +16,8 @@ pub loop-rest-init : goal.loop-rest-init
 loop-rest-init c = record {
   placed = chains_none _ (chains_of c.args.names.now) _ _ c.chains-rest.ensures.all c.new-2.ensures.items;
   declared = c.in_ok-declared.ensures;
-  types = ap (list_any (chain_misfits c.args.names.now)) c.chains-rest.ensures.all ∙ types_free c.args.names.now c.requires.types;
+  types = ap (list_any (chain_misfits c.args.names.now)) c.chains-rest.ensures.all
+      ∙ types_free c.args.names.now c.requires.types;
   bounds = ap (list_any chain_rules_wrong) c.chains-rest.ensures.all ∙ bounds_free c.args.names.now c.requires.bounds;
 }
 
@@ -25,18 +26,31 @@ loop-rest-preserved c =
     let rest : List (Bor Chain) = c.loop-rest.rest.now in
     let others : List (Bor Chain) = take (length rest - 1) (drop 1 rest) in
     let tree : Bor Chain → ChainTree = λ b. chain_tree b.now in
-    let is : map tree rest ≡ tree c.chain-item.result ∷ map tree others = ap (map tree) (head_and_rest rest c.chain-item.result c.in-len1-up.len_at_least c.chain-item.is) in
+    let is : map tree rest ≡ tree c.chain-item.result ∷ map tree others =
+    ap (map tree) (head_and_rest rest c.chain-item.result c.in-len1-up.len_at_least c.chain-item.is) in
     let types = ap (list_any (chain_misfits c.args.names.now)) (sym is) ∙ c.loop-rest.invariant.types in
     let bounds = ap (list_any chain_rules_wrong) (sym is) ∙ c.loop-rest.invariant.bounds in
-    let with_place : TableCode = record { steps = c.loop-rest.code.steps; chain_offsets = c.push.new.self; lookups = c.loop-rest.code.lookups } in
+    let with_place : TableCode = record {
+      steps = c.loop-rest.code.steps;
+      chain_offsets =
+          c.push.new.self;
+      lookups = c.loop-rest.code.lookups;
+    } in
     let p = table_program c.args.plant.now c.args.table c.args.names.now in
-    let number : c.in_ok-to_u32.field-0 ≡ length c.loop-rest.code.chain_offsets.items = c.in_ok-to_u32.ensures ∙ c.len.ensures ∙ c.loop-rest.code.chain_offsets.ok.0 in
+    let number : c.in_ok-to_u32.field-0 ≡ length c.loop-rest.code.chain_offsets.items =
+    c.in_ok-to_u32.ensures ∙ c.len.ensures ∙ c.loop-rest.code.chain_offsets.ok.0 in
     let here : length c.list.result.now ≡ length c.loop-rest.code.steps.items = ap length c.list.ensures.items in
-    let adds = subst (λ n. Adds (λ later at_step. RulesAt p later at_step n 1 (map (λ (r : RuleTree). r.statements) (map rule_tree c.chain-item.result.now.rules.items))) with_place c.add_rules.new.code) number
-    (subst (λ rs. Adds (λ later at_step. RulesAt p later at_step c.in_ok-to_u32.field-0 1 (map (λ (r : RuleTree). r.statements) (map rule_tree rs))) with_place c.add_rules.new.code) c.deref.ensures.value c.in_ok-add_rules.ensures) in
+    let adds = subst (λ n. Adds (λ later at_step. RulesAt p later at_step n 1
+    (map (λ (r : RuleTree). r.statements) (map rule_tree c.chain-item.result.now.rules.items))) with_place
+    c.add_rules.new.code) number
+    (subst (λ rs. Adds (λ later at_step. RulesAt p later at_step c.in_ok-to_u32.field-0 1
+    (map (λ (r : RuleTree). r.statements) (map rule_tree rs))) with_place c.add_rules.new.code)
+    c.deref.ensures.value c.in_ok-add_rules.ensures) in
     record {
-      placed = chains_more p (chains_of c.args.names.now) (map tree rest) (map tree others) (tree c.chain-item.result) c.loop-rest.code with_place c.add_rules.new.code is
-          (c.in_ok-push.ensures.items ∙ ap (λ n. c.loop-rest.code.chain_offsets.items ++ n ∷ []) here) refl refl adds c.loop-rest.invariant.placed;
+      placed = chains_more p (chains_of c.args.names.now) (map tree rest) (map tree others)
+          (tree c.chain-item.result) c.loop-rest.code with_place c.add_rules.new.code is
+          (c.in_ok-push.ensures.items ∙ ap (λ n. c.loop-rest.code.chain_offsets.items ++ n ∷ []) here) refl refl
+          adds c.loop-rest.invariant.placed;
       declared = declared_kept _ _ _ _ c.in_ok-add_rules.ensures.extends_code.lookups c.loop-rest.invariant.declared;
       types = none_later _ _ types;
       bounds = none_later _ _ bounds;
@@ -45,4 +59,5 @@ loop-rest-preserved c =
 pub returns : goal.returns
 returns c =
     let tree : Bor Chain → ChainTree = λ b. chain_tree b.now in
-    chains_all c.args.plant.now c.args.table c.args.names.now _ c.loop-rest.code (ap (map tree) (nothing_left c.loop-rest.rest.now c.in_default.len_below)) c.loop-rest.invariant.placed
+    chains_all c.args.plant.now c.args.table c.args.names.now _ c.loop-rest.code
+    (ap (map tree) (nothing_left c.loop-rest.rest.now c.in_default.len_below)) c.loop-rest.invariant.placed

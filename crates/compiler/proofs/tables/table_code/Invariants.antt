@@ -9,7 +9,8 @@ use Rattle.compiler.proofs.tables.table_code.Given as goal
 
 abbrev pub invariant-loop-rest : goal.invariant-loop-rest
 invariant-loop-rest l = record {
-  placed : ChainsSoFar (table_program l.plant l.table l.names) (chains_of l.names) (map (λ c. chain_tree c.now) l.rest) l.code;
+  placed : ChainsSoFar (table_program l.plant l.table l.names) (chains_of l.names)
+      (map (λ c. chain_tree c.now) l.rest) l.code;
   declared : HasDeclared l.plant l.names l.code.lookups;
   types : list_any (chain_misfits l.names) (map (λ c. chain_tree c.now) l.rest) ≡ false;
   bounds : list_any chain_rules_wrong (map (λ c. chain_tree c.now) l.rest) ≡ false;

@@ -13,7 +13,8 @@ returns-clause-own c =
     let is : c.or-3.result ≡ option_or (option_or (option_or a b) d) e =
     c.or-3.ensures ∙ ap (λ o. option_or o e) (c.or-2.ensures ∙ ap (λ o. option_or o d) c.or.ensures) in
     subst (Own c.args.code.now) (sym is)
-    (either_own (option_or (option_or a b) d) e _ (either_own (option_or a b) d _ (either_own a b _ c.in_table.ensures.own c.in_table-2.ensures.own)
+    (either_own (option_or (option_or a b) d) e _ (either_own (option_or a b) d _
+    (either_own a b _ c.in_table.ensures.own c.in_table-2.ensures.own)
     c.in_table-3.ensures.own) c.in_table-4.ensures.own)
 
 pub returns-clause-known : goal.returns-clause-known
@@ -25,6 +26,8 @@ returns-clause-known c =
     let is : c.or-3.result ≡ option_or (option_or (option_or a b) d) e =
     c.or-3.ensures ∙ ap (λ o. option_or o e) (c.or-2.ensures ∙ ap (λ o. option_or o d) c.or.ensures) in
     ap (λ (o : Option Explanation). is_some o) is
-    ∙ either_some (option_or (option_or a b) d) e ∙ ap (λ v. v || is_some e) (either_some (option_or a b) d ∙ ap (λ v. v || is_some d) (either_some a b))
+    ∙ either_some (option_or (option_or a b) d) e ∙ ap (λ v. v || is_some e)
+    (either_some (option_or a b) d ∙ ap (λ v. v || is_some d) (either_some a b))
     ∙ or_moved (is_some a) (is_some b) (is_some d) (is_some e)
-    ∙ ap₂ (λ v w. v || w) c.in_table.ensures.known (ap₂ (λ v w. v || w) c.in_table-2.ensures.known (ap₂ (λ v w. v || w) c.in_table-3.ensures.known c.in_table-4.ensures.known))
+    ∙ ap₂ (λ v w. v || w) c.in_table.ensures.known (ap₂ (λ v w. v || w) c.in_table-2.ensures.known
+    (ap₂ (λ v w. v || w) c.in_table-3.ensures.known c.in_table-4.ensures.known))

@@ -2,11 +2,13 @@ use Rattle.std.proofs.Common.{◌≡◌, ◌+◌, ◌≤◌, ◌<◌, ◌^◌, l
 use Rattle.hook_runs.specs.steps.Starts.{cost_of, in_order_result}
 use Rattle.hook_runs.proofs.running.run_in_order.Given as goal
 
--- the rest comes to what the whole comes to, and what is spent leaves room for the rest
+-- the rest has the result of the whole, and what is spent leaves enough for the rest
 abbrev pub invariant-loop-start : goal.invariant-loop-start
 invariant-loop-start l = record {
-  same : in_order_result l.code (drop l.start-index l.starts) l.facts l.events.events ≡ in_order_result l.code l.starts l.fn.facts l.fn.events.events;
-  bounded : length l.events.events + cost_of (drop l.start-index l.starts) ≤ length l.fn.events.events + cost_of l.starts;
+  same : in_order_result l.code (drop l.start-index l.starts) l.facts l.events.events
+      ≡ in_order_result l.code l.starts l.fn.facts l.fn.events.events;
+  bounded : length l.events.events + cost_of (drop l.start-index l.starts)
+      ≤ length l.fn.events.events + cost_of l.starts;
   rise : l.fn.events.ticks ≤ l.events.ticks;
   bound : l.events.ticks < 2 ^ 64;
   ticks : l.events.ticks + cost_of (drop l.start-index l.starts) ≤ l.fn.events.ticks + cost_of l.starts;

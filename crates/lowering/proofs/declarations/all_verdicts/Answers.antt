@@ -6,10 +6,16 @@ use Rattle.lowering.proofs.Pairwise.{two-more, two-all}
 use Rattle.lowering.proofs.declarations.all_verdicts.Goals as goal
 
 pub loop-map-init : goal.loop-map-init
-loop-map-init c = subst (λ ts. AllPairs (IsMapVerdicts c.args.plant.now c.args.names.now) [] ts) (sym c.new-tables.ensures.items) none
+loop-map-init c = subst (λ ts. AllPairs (IsMapVerdicts c.args.plant.now c.args.names.now) [] ts)
+    (sym c.new-tables.ensures.items) none
 
 pub loop-map-preserved : goal.loop-map-preserved
-loop-map-preserved c = two-more (IsMapVerdicts c.args.plant.now c.args.names.now) (λ m. map_tree m.now) c.maps-map-items.result.now c.loop-map.map-index c.map-item.result c.loop-map.tables.items c.push.new.self.items c.in_ok-declared_verdicts.field-0 c.loop-map-test.true c.map-item.is c.in_ok-push.ensures.items c.loop-map.invariant c.in_ok-declared_verdicts.ensures
+loop-map-preserved c = two-more (IsMapVerdicts c.args.plant.now c.args.names.now) (λ m. map_tree m.now)
+    c.maps-map-items.result.now c.loop-map.map-index c.map-item.result c.loop-map.tables.items
+    c.push.new.self.items c.in_ok-declared_verdicts.field-0 c.loop-map-test.true c.map-item.is
+    c.in_ok-push.ensures.items c.loop-map.invariant c.in_ok-declared_verdicts.ensures
 
 pub returns : goal.returns
-returns c = two-all (IsMapVerdicts c.args.plant.now c.args.names.now) (λ m. map_tree m.now) c.maps-map-items.result.now (maps_of c.args.names.now) c.loop-map.map-index c.loop-map.tables.items (omega arith) c.maps-map-items.ensures.all c.loop-map.invariant
+returns c = two-all (IsMapVerdicts c.args.plant.now c.args.names.now) (λ m. map_tree m.now)
+    c.maps-map-items.result.now (maps_of c.args.names.now) c.loop-map.map-index c.loop-map.tables.items
+    (omega arith) c.maps-map-items.ensures.all c.loop-map.invariant

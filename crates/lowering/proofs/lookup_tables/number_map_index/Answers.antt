@@ -11,16 +11,21 @@ use Rattle.lowering.proofs.lookup_tables.number_map_index.Goals as goal
 
 pub returns-in-Some-clause-gives : goal.returns-in-Some-clause-gives
 returns-in-Some-clause-gives c =
-    subst (λ r. HasNumbers c.args.plant.now c.args.names.now c.args.lookups.now c.args.selector c.args.given (map_ref_tree r) c.in-Some.place) (sym c.in-Named.is)
-    (named-numbers c.args.plant.now c.args.names.now c.args.lookups.now c.args.selector c.args.given c.in-Named.name.items c.in-Some.place c.requires.read c.requires.declared
+    subst (λ r. HasNumbers c.args.plant.now c.args.names.now c.args.lookups.now c.args.selector c.args.given
+    (map_ref_tree r) c.in-Some.place) (sym c.in-Named.is)
+    (named-numbers c.args.plant.now c.args.names.now c.args.lookups.now c.args.selector c.args.given
+    c.in-Named.name.items c.in-Some.place c.requires.read c.requires.declared
     (sym c.in-Some.is ∙ c.map_index.ensures ∙ ap (λ n. index_in n (map_names c.args.names.now)) c.deref.ensures.value)
-    (subst (λ r. map_ref_mismatches c.args.names.now c.args.selector (Some (Named c.args.given)) (map_ref_tree r) ≡ false) c.in-Named.is c.requires.types))
+    (subst (λ r. map_ref_mismatches c.args.names.now c.args.selector (Some (Named c.args.given))
+    (map_ref_tree r) ≡ false) c.in-Named.is c.requires.types))
 
 pub returns-in-None-clause-gives : goal.returns-in-None-clause-gives
 returns-in-None-clause-gives c =
     IfOk-weaker c.add_numbers.result _ _
-    (λ i has. subst (λ r. HasNumbers c.args.plant.now c.args.names.now c.add_numbers.new.lookups c.args.selector c.args.given (map_ref_tree r) i) (sym c.in-Named.is)
-    (absent-numbers c.args.plant.now c.args.names.now c.add_numbers.new.lookups c.args.selector c.args.given c.in-Named.name.items i
+    (λ i has. subst (λ r. HasNumbers c.args.plant.now c.args.names.now c.add_numbers.new.lookups c.args.selector
+    c.args.given (map_ref_tree r) i) (sym c.in-Named.is)
+    (absent-numbers c.args.plant.now c.args.names.now c.add_numbers.new.lookups c.args.selector c.args.given
+    c.in-Named.name.items i
     (sym c.in-None.is ∙ c.map_index.ensures ∙ ap (λ n. index_in n (map_names c.args.names.now)) c.deref.ensures.value)
     (has c.args.names.now)))
     c.add_numbers.ensures.gives
@@ -29,6 +34,8 @@ pub returns-in-Anonymous-clause-gives : goal.returns-in-Anonymous-clause-gives
 returns-in-Anonymous-clause-gives c =
     let l = c.add_numbers-in-Anonymous.new.lookups in
     IfOk-weaker c.add_numbers-in-Anonymous.result _ _
-    (λ i has. subst (λ r. HasNumbers c.args.plant.now c.args.names.now l c.args.selector c.args.given (map_ref_tree r) i) (sym c.in-Anonymous.is)
-    (subst (λ ps. HasNumbers c.args.plant.now c.args.names.now l c.args.selector c.args.given (tree.pairs (map pair_tree ps)) i) c.deref-in-Anonymous.ensures.value (has c.args.names.now)))
+    (λ i has. subst (λ r. HasNumbers c.args.plant.now c.args.names.now l c.args.selector c.args.given
+    (map_ref_tree r) i) (sym c.in-Anonymous.is)
+    (subst (λ ps. HasNumbers c.args.plant.now c.args.names.now l c.args.selector c.args.given
+    (tree.pairs (map pair_tree ps)) i) c.deref-in-Anonymous.ensures.value (has c.args.names.now)))
     c.add_numbers-in-Anonymous.ensures.gives

@@ -9,14 +9,18 @@ use Rattle.lowering.proofs.lookup_tables.set_index.Goals as goal
 
 pub returns-in-Some-clause-has : goal.returns-in-Some-clause-has
 returns-in-Some-clause-has c =
-    subst (λ r. HasSet c.args.lookups.now (set_has (scope_of c.args.plant.now c.args.names.now) c.args.selectors.now (set_ref_tree r)) c.in-Some.place) (sym c.in-Named.is)
-    (named-set c.args.plant.now c.args.names.now c.args.lookups.now c.args.selectors.now c.in-Named.name.items c.in-Some.place c.requires.declared
+    subst (λ r. HasSet c.args.lookups.now (set_has (scope_of c.args.plant.now c.args.names.now)
+    c.args.selectors.now (set_ref_tree r)) c.in-Some.place) (sym c.in-Named.is)
+    (named-set c.args.plant.now c.args.names.now c.args.lookups.now c.args.selectors.now c.in-Named.name.items
+    c.in-Some.place c.requires.declared
     (sym c.in-Some.is ∙ c.set_index.ensures ∙ ap (λ n. index_in n (set_names c.args.names.now)) c.deref.ensures.value))
 
 pub returns-in-None-clause-has : goal.returns-in-None-clause-has
 returns-in-None-clause-has c =
     IfOk-weaker c.add_set.result _ _
-    (λ i has. subst (λ r. HasSet c.add_set.new.lookups (set_has (scope_of c.args.plant.now c.args.names.now) c.args.selectors.now (set_ref_tree r)) i) (sym c.in-Named.is)
+    (λ i has. subst (λ r. HasSet c.add_set.new.lookups
+    (set_has (scope_of c.args.plant.now c.args.names.now) c.args.selectors.now (set_ref_tree r)) i)
+    (sym c.in-Named.is)
     (absent-set c.args.plant.now c.args.names.now c.add_set.new.lookups c.args.selectors.now c.in-Named.name.items i
     (sym c.in-None.is ∙ c.set_index.ensures ∙ ap (λ n. index_in n (set_names c.args.names.now)) c.deref.ensures.value)
     has))

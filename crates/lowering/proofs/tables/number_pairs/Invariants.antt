@@ -5,6 +5,7 @@ use Rattle.rule_meaning.specs.Sets.{data_number}
 use Rattle.lowering.proofs.Gathered.{IsTableOf}
 use Rattle.lowering.proofs.tables.number_pairs.Given as goal
 
--- those of the elements so far
+-- the intervals of the elements so far
 abbrev pub invariant-loop-pair : goal.invariant-loop-pair
-invariant-loop-pair l = IsTableOf (data_number l.plant (Named l.given)) l.plant l.kind (map pair_tree (take l.pair-index l.pairs)) l.entries.items
+invariant-loop-pair l = IsTableOf (data_number l.plant (Named l.given)) l.plant l.kind
+    (map pair_tree (take l.pair-index l.pairs)) l.entries.items

@@ -1,4 +1,4 @@
--- Each return shows the calls that led to it, and where each stands in its order.
+-- Each return gives its calls, in order.
 use Rattle.std.proofs.Common.{[], ◌∷◌, refl}
 use Rattle.std.proofs.lemmas.Result.{err_from_is_err_and}
 use Rattle.program.specs.Calls.{read, judge, print_accepted}
@@ -12,7 +12,11 @@ returns-in_err-rules g c =
 pub returns-in_err-plant : goal.returns-in_err-plant
 returns-in_err-plant g c =
     let p = err_from_is_err_and c.from_residual-in_err-plant.result c.from_residual-in_err-plant.ensures.1 in
-    rw p.1 (read _ _ ∷ read _ _ ∷ [], (_, c.in_ok-rules.ensures, (_, c.in_err-plant.ensures, refl)), (refl, (refl, p.2)))
+    rw p.1 (
+      read _ _ ∷ read _ _ ∷ [],
+      (_, c.in_ok-rules.ensures, (_, c.in_err-plant.ensures, refl)),
+      (refl, (refl, p.2)),
+    )
 
 pub returns-in_err-counts : goal.returns-in_err-counts
 returns-in_err-counts g c =
@@ -25,16 +29,33 @@ returns-in_err-counts g c =
 
 pub returns-in_err-print_accepted : goal.returns-in_err-print_accepted
 returns-in_err-print_accepted g c =
-    let p = err_from_is_err_and c.from_residual-in_err-print_accepted.result c.from_residual-in_err-print_accepted.ensures.1 in
+    let p = err_from_is_err_and c.from_residual-in_err-print_accepted.result
+    c.from_residual-in_err-print_accepted.ensures.1 in
     rw p.1 (
       read _ _ ∷ read _ _ ∷ judge _ _ _ ∷ print_accepted _ _ ∷ [],
-      (_, c.in_ok-rules.ensures, (_, c.in_ok-plant.ensures, (_, c.in_ok-counts.ensures, (_, c.in_err-print_accepted.ensures, refl)))),
+      (
+        _,
+        c.in_ok-rules.ensures,
+        (
+          _,
+          c.in_ok-plant.ensures,
+          (_, c.in_ok-counts.ensures, (_, c.in_err-print_accepted.ensures, refl)),
+        ),
+      ),
       (refl, (refl, (c.deref.ensures.value, c.deref-2.ensures.value, (refl, p.2)))),
     )
 
 pub returns : goal.returns
 returns g c = (
   read _ _ ∷ read _ _ ∷ judge _ _ _ ∷ print_accepted _ _ ∷ [],
-  (_, c.in_ok-rules.ensures, (_, c.in_ok-plant.ensures, (_, c.in_ok-counts.ensures, (_, c.in_ok-print_accepted.ensures, refl)))),
+  (
+    _,
+    c.in_ok-rules.ensures,
+    (
+      _,
+      c.in_ok-plant.ensures,
+      (_, c.in_ok-counts.ensures, (_, c.in_ok-print_accepted.ensures, refl)),
+    ),
+  ),
   (refl, (refl, (c.deref.ensures.value, c.deref-2.ensures.value, (refl, refl)))),
 )

@@ -1,4 +1,4 @@
--- The calls of the task, then the line, where there is one, and then what is added to it.
+-- The calls of the task, then the line of the status, and then its explanations.
 use Rattle.std.proofs.Common.{◌++◌, [], inl, inr, refl}
 use Rattle.clap.specs.Values.{kind_of}
 use Rattle.program.specs.Performing.{detail_calls, status_line_calls}
@@ -8,9 +8,13 @@ use Rattle.program.proofs.performing.parse_and_run.Goals as goal
 pub returns-in-Ok : goal.returns-in-Ok
 returns-in-Ok g c =
     let served = c.run_task-status.ensures in (
-      served.0 ++ (status_line_calls c.run_task-status.result ++ detail_calls c.args.explained c.in-Ok.task c.run_task-status.result),
-      HappenInOrder-append g.H.Host.happens _ _ _ served.0 (status_line_calls c.run_task-status.result ++ detail_calls c.args.explained c.in-Ok.task c.run_task-status.result) served.1
-          (HappenInOrder-append g.H.Host.happens _ _ _ (status_line_calls c.run_task-status.result) (detail_calls c.args.explained c.in-Ok.task c.run_task-status.result)
+      served.0 ++ (status_line_calls c.run_task-status.result
+          ++ detail_calls c.args.explained c.in-Ok.task c.run_task-status.result),
+      HappenInOrder-append g.H.Host.happens _ _ _ served.0
+          (status_line_calls c.run_task-status.result ++ detail_calls c.args.explained c.in-Ok.task
+          c.run_task-status.result) served.1
+          (HappenInOrder-append g.H.Host.happens _ _ _ (status_line_calls c.run_task-status.result)
+          (detail_calls c.args.explained c.in-Ok.task c.run_task-status.result)
           c.end-code.ensures.0 c.explain_status.ensures),
       (
         served.0,
@@ -24,9 +28,23 @@ returns-in-Ok g c =
 
 pub returns-in-Err : goal.returns-in-Err
 returns-in-Err g c =
-    let told = c.explain-status.ensures in (
-      told.0 ++ (status_line_calls c.explain-status.result ++ []),
-      HappenInOrder-append g.H.Host.happens _ _ _ told.0 (status_line_calls c.explain-status.result ++ []) told.1
-          (HappenInOrder-append g.H.Host.happens _ _ _ (status_line_calls c.explain-status.result) [] c.end.ensures.0 refl),
-      (told.0, c.explain-status.result, [], inr (kind_of c.in-Err.error, c.in-Err.ensures.refused, told.2, refl), refl, c.end.ensures.1),
+    let explained = c.explain-status.ensures in (
+      explained.0 ++ (status_line_calls c.explain-status.result ++ []),
+      HappenInOrder-append g.H.Host.happens _ _ _ explained.0 (status_line_calls c.explain-status.result ++ [])
+          explained.1
+          (HappenInOrder-append g.H.Host.happens _ _ _ (status_line_calls c.explain-status.result) []
+          c.end.ensures.0 refl),
+      (
+        explained.0,
+        c.explain-status.result,
+        [],
+        inr (
+          kind_of c.in-Err.error,
+          c.in-Err.ensures.refused,
+          explained.2,
+          refl,
+        ),
+        refl,
+        c.end.ensures.1,
+      ),
     )

@@ -1,4 +1,4 @@
--- The words come first, and then all that is done with them.
+-- The command line is read, and then parsed and run.
 use Rattle.std.proofs.Common.{◌≡◌, ◌∙◌, ◌++◌, Bool, List, Ok, [], ◌∷◌, ap, inr, map, refl, string_bytes, subst}
 use Rattle.clap.specs.declared.error.kind.ErrorKind.TheVariants.{OutOfMemory}
 use Rattle.command_line.specs.CommandLine.{is_explained, task_words}
@@ -11,7 +11,12 @@ use Rattle.program.proofs.performing.perform.Goals as goal
 pub returns-in-Err : goal.returns-in-Err
 returns-in-Err g c = (
   words _ ∷ (status_line_calls c.of_words.result ++ []),
-  (_, c.in-Err.ensures, HappenInOrder-append g.H.Host.happens _ _ _ (status_line_calls c.of_words.result) [] c.end.ensures.0 refl),
+  (
+    _,
+    c.in-Err.ensures,
+    HappenInOrder-append g.H.Host.happens _ _ _ (status_line_calls c.of_words.result) []
+        c.end.ensures.0 refl,
+  ),
   (words _ ∷ [], c.of_words.result, [], (c.of_words.ensures, refl), refl, c.end.ensures.1),
 )
 
@@ -21,9 +26,12 @@ returns-in-Ok-slices_of g c =
     let ends = acted.2 in
     let given = c.in-Ok-slices_of.ensures ∙ ap (map string_bytes) c.deref.ensures.value in
     let requested = c.take_explain-explained.ensures.explained ∙ ap is_explained given in
-    let same = ap (map (λ slice. slice.now)) c.deref-in-Ok-slices_of.ensures.value ∙ c.take_explain-explained.ensures.left ∙ ap task_words given in
-    let Words : List Text → Type 0 = λ texts. ParsesAndRuns c.take_explain-explained.result texts ends.0 ends.1 ends.2 in
-    let Requested : Bool → Type 0 = λ explained. ParsesAndRuns explained (task_words (map string_bytes c.in-Ok.words.items)) ends.0 ends.1 ends.2 in (
+    let same = ap (map (λ slice. slice.now)) c.deref-in-Ok-slices_of.ensures.value
+    ∙ c.take_explain-explained.ensures.left ∙ ap task_words given in
+    let Words : List Text → Type 0 = λ texts. ParsesAndRuns c.take_explain-explained.result texts ends.0 ends.1
+    ends.2 in
+    let Requested : Bool → Type 0 = λ explained. ParsesAndRuns explained
+    (task_words (map string_bytes c.in-Ok.words.items)) ends.0 ends.1 ends.2 in (
       words (Ok (map string_bytes c.in-Ok.words.items)) ∷ acted.0,
       (_, c.in-Ok.ensures, acted.1),
       (
@@ -39,6 +47,11 @@ returns-in-Ok-slices_of g c =
 pub returns : goal.returns
 returns g c = (
   words _ ∷ (status_line_calls Memory ++ []),
-  (_, c.in-Ok.ensures, HappenInOrder-append g.H.Host.happens _ _ _ (status_line_calls Memory) [] c.end-in-Err-slices_of.ensures.0 refl),
+  (
+    _,
+    c.in-Ok.ensures,
+    HappenInOrder-append g.H.Host.happens _ _ _ (status_line_calls Memory) []
+        c.end-in-Err-slices_of.ensures.0 refl,
+  ),
   (words _ ∷ [], Memory, [], inr (OutOfMemory, λ _. refl, (refl, refl), refl), refl, c.end-in-Err-slices_of.ensures.1),
 )

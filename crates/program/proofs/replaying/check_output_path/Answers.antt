@@ -1,4 +1,4 @@
--- Each return shows the looks that led to it.
+-- Each return gives its comparisons.
 use Rattle.std.proofs.Common.{[], ◌∷◌, ◌++◌, append-nil, refl, subst, sym}
 use Rattle.std.proofs.lemmas.List.{append_assoc, drop_all}
 use Rattle.std.proofs.lemmas.Result.{err_from_is_err_and}
@@ -22,7 +22,11 @@ returns-in_err-compare g c =
     rw p.1 rw p.2 (
       identify _ _ ∷ calls,
       (_, c.in-Ok.ensures, HappenInOrder-append g.H.Host.happens _ _ _ before.0 _ before.1 (_, looked.1, refl)),
-      (refl, before.2 _ _ (looks-at (λ other. other.now) _ _ _ _ _ _ _ [] _ c.loop-other-test.true looked.2 (refl, refl))),
+      (
+        refl,
+        before.2 _ _ (looks-at (λ other. other.now) _ _ _ _ _ _ _ [] _ c.loop-other-test.true looked.2
+            (refl, refl)),
+      ),
     )
 
 pub loop-other-preserved : goal.loop-other-preserved

@@ -1,4 +1,4 @@
--- The looks so far, and what they leave to compare.
+-- Loop invariant: the comparisons so far, and the paths that are left.
 use Rattle.std.proofs.Common.{List, Result, ◌++◌, map, drop}
 use Rattle.std.specs.Bool.{⊤}
 use Rattle.program.specs.Calls.{Call, HappenInOrder}

@@ -1,4 +1,4 @@
--- Each return shows the calls that led to it, and where each stands in its order.
+-- Each return gives its calls, in order.
 use Rattle.std.proofs.Common.{[], ◌∷◌, ◌++◌, append-nil, refl, sym}
 use Rattle.std.proofs.lemmas.Result.{err_from_is_err_and}
 use Rattle.program.specs.Calls.{read, open_input, draw_keys, create}
@@ -13,7 +13,11 @@ returns-in_err-rules g c =
 pub returns-in_err-plant : goal.returns-in_err-plant
 returns-in_err-plant g c =
     let p = err_from_is_err_and c.from_residual-in_err-plant.result c.from_residual-in_err-plant.ensures.1 in
-    rw p.1 (read _ _ ∷ read _ _ ∷ [], (_, c.in_ok-rules.ensures, (_, c.in_err-plant.ensures, refl)), (refl, (refl, p.2)))
+    rw p.1 (
+      read _ _ ∷ read _ _ ∷ [],
+      (_, c.in_ok-rules.ensures, (_, c.in_err-plant.ensures, refl)),
+      (refl, (refl, p.2)),
+    )
 
 pub returns-in_err-input : goal.returns-in_err-input
 returns-in_err-input g c =
@@ -26,7 +30,8 @@ returns-in_err-input g c =
 
 pub returns-in_err-check_output : goal.returns-in_err-check_output
 returns-in_err-check_output g c =
-    let p = err_from_is_err_and c.from_residual-in_err-check_output.result c.from_residual-in_err-check_output.ensures.1 in
+    let p = err_from_is_err_and c.from_residual-in_err-check_output.result
+    c.from_residual-in_err-check_output.ensures.1 in
     let looked = c.in_err-check_output.ensures in
     rw p.1 rw p.2 (
       read _ _ ∷ read _ _ ∷ open_input _ _ ∷ looked.0,
@@ -36,7 +41,8 @@ returns-in_err-check_output g c =
 
 pub returns-in_err-check_report : goal.returns-in_err-check_report
 returns-in_err-check_report g c =
-    let p = err_from_is_err_and c.from_residual-in_err-check_report.result c.from_residual-in_err-check_report.ensures.1 in
+    let p = err_from_is_err_and c.from_residual-in_err-check_report.result
+    c.from_residual-in_err-check_report.ensures.1 in
     let looked = c.in_ok-check_output.ensures in
     let again = c.in_err-check_report.ensures in
     rw p.1 rw p.2 (
@@ -44,9 +50,33 @@ returns-in_err-check_report g c =
       (
         _,
         c.in_ok-rules.ensures,
-        (_, c.in_ok-plant.ensures, (_, c.in_ok-input.ensures, HappenInOrder-append g.H.Host.happens _ _ _ looked.0 _ looked.1 again.1)),
+        (
+          _,
+          c.in_ok-plant.ensures,
+          (
+            _,
+            c.in_ok-input.ensures,
+            HappenInOrder-append g.H.Host.happens _ _ _ looked.0 _ looked.1 again.1,
+          ),
+        ),
       ),
-      (refl, (refl, (refl, (looked.0, _, again.0, looked.2, refl, (again.0, _, [], again.2, sym (append-nil again.0), (refl, refl)))))),
+      (
+        refl,
+        (
+          refl,
+          (
+            refl,
+            (
+              looked.0,
+              _,
+              again.0,
+              looked.2,
+              refl,
+              (again.0, _, [], again.2, sym (append-nil again.0), (refl, refl)),
+            ),
+          ),
+        ),
+      ),
     )
 
 pub returns-in_err-hasher : goal.returns-in_err-hasher
@@ -92,11 +122,28 @@ returns-in_err-output g c =
             _,
             c.in_ok-input.ensures,
             HappenInOrder-append g.H.Host.happens _ _ _ looked.0 _ looked.1
-                (HappenInOrder-append g.H.Host.happens _ _ _ again.0 _ again.1 (_, c.in_ok-hasher.ensures, (_, c.in_err-output.ensures, refl))),
+                (HappenInOrder-append g.H.Host.happens _ _ _ again.0 _ again.1
+                (_, c.in_ok-hasher.ensures, (_, c.in_err-output.ensures, refl))),
           ),
         ),
       ),
-      (refl, (refl, (refl, (looked.0, _, again.0 ++ later, looked.2, refl, (again.0, _, later, again.2, refl, (refl, p.2)))))),
+      (
+        refl,
+        (
+          refl,
+          (
+            refl,
+            (
+              looked.0,
+              _,
+              again.0 ++ later,
+              looked.2,
+              refl,
+              (again.0, _, later, again.2, refl, (refl, p.2)),
+            ),
+          ),
+        ),
+      ),
     )
 
 pub returns-in_err-report : goal.returns-in_err-report
@@ -118,7 +165,8 @@ returns-in_err-report g c =
             _,
             c.in_ok-input.ensures,
             HappenInOrder-append g.H.Host.happens _ _ _ looked.0 _ looked.1
-                (HappenInOrder-append g.H.Host.happens _ _ _ again.0 _ again.1 (_, c.in_ok-hasher.ensures, (_, c.in_ok-output.ensures, made.1))),
+                (HappenInOrder-append g.H.Host.happens _ _ _ again.0 _ again.1
+                (_, c.in_ok-hasher.ensures, (_, c.in_ok-output.ensures, made.1))),
           ),
         ),
       ),
@@ -134,7 +182,24 @@ returns-in_err-report g c =
               again.0 ++ later,
               looked.2,
               refl,
-              (again.0, _, later, again.2, refl, (refl, (made.0, _, [], made.2, sym (append-nil made.0), (refl, refl)))),
+              (
+                again.0,
+                _,
+                later,
+                again.2,
+                refl,
+                (
+                  refl,
+                  (
+                    made.0,
+                    _,
+                    [],
+                    made.2,
+                    sym (append-nil made.0),
+                    (refl, refl),
+                  ),
+                ),
+              ),
             ),
           ),
         ),
@@ -159,8 +224,15 @@ returns g c =
             _,
             c.in_ok-input.ensures,
             HappenInOrder-append g.H.Host.happens _ _ _ looked.0 _ looked.1
-                (HappenInOrder-append g.H.Host.happens _ _ _ again.0 _ again.1
-                (_, c.in_ok-hasher.ensures, (_, c.in_ok-output.ensures, HappenInOrder-append g.H.Host.happens _ _ _ made.0 _ made.1 played.1))),
+                (HappenInOrder-append g.H.Host.happens _ _ _ again.0 _ again.1 (
+                  _,
+                  c.in_ok-hasher.ensures,
+                  (
+                    _,
+                    c.in_ok-output.ensures,
+                    HappenInOrder-append g.H.Host.happens _ _ _ made.0 _ made.1 played.1,
+                  ),
+                )),
           ),
         ),
       ),
@@ -176,7 +248,24 @@ returns g c =
               again.0 ++ later,
               looked.2,
               refl,
-              (again.0, _, later, again.2, refl, (refl, (made.0, _, played.0, made.2, refl, rw (← c.deref.ensures.value, ← c.deref-2.ensures.value) played.2))),
+              (
+                again.0,
+                _,
+                later,
+                again.2,
+                refl,
+                (
+                  refl,
+                  (
+                    made.0,
+                    _,
+                    played.0,
+                    made.2,
+                    refl,
+                    rw (← c.deref.ensures.value, ← c.deref-2.ensures.value) played.2,
+                  ),
+                ),
+              ),
             ),
           ),
         ),

@@ -11,7 +11,8 @@ invariant_of-result c =
     let code = c.in_ok-code.code in
     let stages = c.in_ok-stages.stages in
     record {
-      starts = of_parts c.args.checked code c.in_ok-code.ensures.starts c.in_ok-code.ensures.runs stages c.in_ok-stages.ensures;
+      starts = of_parts c.args.checked code c.in_ok-code.ensures.starts c.in_ok-code.ensures.runs stages
+          c.in_ok-stages.ensures;
       few = omega (arith, costs_little c.args.checked code stages c.in_ok-stages.ensures, c.in_ok-code.ensures.cost);
     }
 
@@ -19,5 +20,6 @@ pub returns-clause-cost : goal.returns-clause-cost
 returns-clause-cost c = λ cost are.
     let little = costs_little c.args.checked c.in_ok-code.code c.in_ok-stages.stages c.in_ok-stages.ensures in
     let same = c.in_ok-code.ensures.total cost are in
-    let fits : total_stage_cost (costed_tree c.args.checked c.in_ok-stages.stages) ≤ ruleset_cost cost c.args.checked.rules = omega (arith, little, same) in
+    let fits : total_stage_cost (costed_tree c.args.checked c.in_ok-stages.stages)
+    ≤ ruleset_cost cost c.args.checked.rules = omega (arith, little, same) in
     fits
