@@ -24,6 +24,7 @@ use Rattle.engine.specs.Meaning.{Accepted, ending_of, Meaning, WroteOutputs}
 use Rattle.engine.specs.Refusals.{Refuses, IsBeforeHeader, IsOfTexts, IsRefused}
 use Rattle.engine.specs.Judged.{JudgeRefuses}
 use Rattle.engine.specs.AfterFault.{Devices, LeftDevices, RecordsTaken, NothingTaken, Untouched}
+use Rattle.engine.specs.AfterFault.{failed_header_read, failed_read, failed_write, failed_report}
 use Rattle.engine.specs.steps.Inputs.{IsChecked}
 use Rattle.engine.specs.steps.Replayed.{ReadSoFar, ReplayStart, unread_input}
 use Rattle.engine.specs.steps.Written.{OutputsWritten, RefusedAtRecord, FaultLeaves, IsWithin, start_of}
@@ -261,7 +262,7 @@ left_within rules box trace accepted format bytes old new unread failed (Capture
     })
 left_within rules box trace accepted format bytes old new unread failed Device header within before none
     (inl (inl (c, fails))) =
-    inr (inl (record {
+    failed_read (record {
       taken_so_far = taken_so_far rules box bytes accepted format new header c.reached;
       few = c.few;
       torn = c.torn;
@@ -269,19 +270,19 @@ left_within rules box trace accepted format bytes old new unread failed Device h
       sent = c.all.all_sent;
       report = c.all.all_lines;
       failed = fails ∙ ap one_more before;
-    }))
+    })
 left_within rules box trace accepted format bytes old new unread failed Device header within before none
     (inl (inr (h, no_failure))) =
-    inr (inr (inl (record {
+    failed_write (record {
       taken_so_far = taken_so_far rules box bytes accepted format new header h.reached;
       few = h.few;
       sent = h.part.part_sent;
       report = h.part.part_lines;
       all_read = no_failure ∙ before;
-    })))
+    })
 left_within rules box trace accepted format bytes old new unread failed Device header within before none
     (inr (u, fails)) =
-    inr (inr (inr (record {
+    failed_report (record {
       taken_so_far = taken_so_far rules box bytes accepted format new header u.reached;
       few = u.few;
       torn = u.torn;
@@ -289,7 +290,7 @@ left_within rules box trace accepted format bytes old new unread failed Device h
       sent = u.unfinished.all_sent;
       report = u.unfinished.part_lines;
       failed = fails;
-    })))
+    })
 left_within rules box trace accepted format bytes old new unread failed Memory header within before none
     (inl (l, no_failure)) =
     inr (record {
@@ -335,7 +336,7 @@ left_unopened rules box accepted trace (Some bytes) old new part takes short kep
     by_rest : (rest : Option (List ℕ)) → new.unread ≡ rest → Consumes (Some bytes) rest part
         → LeftDevices rules box bytes trace old new Device
     by_rest None e h = absurd h
-    by_rest (Some left) e h = inl (record {
+    by_rest (Some left) e h = failed_header_read (record {
       accepted = accepted;
       part = part;
       left = left;

@@ -89,19 +89,19 @@ said replay start format bytes unread w r c P at_end h =
     (ahead_is replay.records unread c.left c.is_left at_end ∙ ap Some (sym c.rest_is)) h
 
 -- what it left then
-record LeftDevices (s : CaptureState) (after : Option (List ℕ)) (rest : List ℕ) : Type 0 where
+record BytesLeft (s : CaptureState) (after : Option (List ℕ)) (rest : List ℕ) : Type 0 where
   pub left : List ℕ
   pub is_left : after ≡ Some left
   pub joined : rest ≡ s.held ++ left
 
 still_left : (s : CaptureState) (before after : Option (List ℕ)) (left part rest : List ℕ) → before ≡ Some left
     → Consumes before after part → (s.ended ≡ true → IsAtEnd after) → ahead s after ≡ Some rest
-    → LeftDevices s after rest
+    → BytesLeft s after rest
 still_left s before after left part rest is takes at_end e =
     by_left after (subst (λ (b : Option (List ℕ)). Consumes b after part) is takes) at_end e
   where
     by_left : (after : Option (List ℕ)) → Consumes (Some left) after part → (s.ended ≡ true → IsAtEnd after)
-        → ahead s after ≡ Some rest → LeftDevices s after rest
+        → ahead s after ≡ Some rest → BytesLeft s after rest
     by_left None takes at_end e = absurd takes
     by_left (Some l) takes at_end e = record {
       left = l;
@@ -178,7 +178,7 @@ record Further (start : ReplayStart) (format : Format) (bytes before : List ℕ)
   is_record : IsRecord format captured
   rest : List ℕ
   joined : before ≡ frame captured ++ rest
-  left : LeftDevices new after rest
+  left : BytesLeft new after rest
   last_is : new.last ≡ Some taken
   follows : (e : Entry) → Next start.setup history taken e
       → BeginsWithRecords start.setup format bytes rest (e ∷ history)

@@ -138,11 +138,15 @@ pub record FailedReport (rules box capture : List ℕ) (trace : Bool) (old new :
 -- ---- by the fault
 
 -- the cases of a failed read or write
-abbrev pub LeftByDeviceFault : List ℕ → List ℕ → List ℕ → Bool → Devices → Devices → Type 0
-LeftByDeviceFault rules box capture trace old new =
-    FailedHeaderRead rules box capture old new
-    ⊎ (FailedRead rules box capture trace old new
-    ⊎ (FailedWrite rules box capture trace old new ⊎ FailedReport rules box capture trace old new))
+pub data LeftByDeviceFault (rules box capture : List ℕ) (trace : Bool) (old new : Devices) : Type 0 where
+  failed_header_read : FailedHeaderRead rules box capture old new
+      → LeftByDeviceFault rules box capture trace old new
+  failed_read : FailedRead rules box capture trace old new
+      → LeftByDeviceFault rules box capture trace old new
+  failed_write : FailedWrite rules box capture trace old new
+      → LeftByDeviceFault rules box capture trace old new
+  failed_report : FailedReport rules box capture trace old new
+      → LeftByDeviceFault rules box capture trace old new
 
 -- the devices after each fault
 abbrev pub LeftDevices : List ℕ → List ℕ → List ℕ → Bool → Devices → Devices → RunFault → Type 0
