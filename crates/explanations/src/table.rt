@@ -1,4 +1,4 @@
-//! What each code means, as docs/CHECK.md, docs/BOX.md and docs/CAPTURES.md have it.
+//! What each code means, as docs/SPEC.md, docs/BOX.md and docs/CAPTURES.md have it.
 
 use crate::explanation::Explanation;
 
