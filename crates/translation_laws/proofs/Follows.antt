@@ -22,7 +22,7 @@ use Rattle.stepping.specs.declared.lookup_key.LookupKey.{LookupKey}
 use Rattle.stepping.specs.Carried.{ReceivedPacket}
 use Rattle.stepping.specs.Lookups.{Lookup, look_up, lookup_key_of, unless_notrack, ct_info_unless_notrack}
 use Rattle.stepping.specs.Confirmations.{PacketResult, confirmed_by, confirmed_unless_dropped}
-use Rattle.stepping.specs.Next.{ProcessesRecord, ProcessesPacket, ProcessesAfterLookup, Next, answered, at_moment}
+use Rattle.stepping.specs.Next.{ProcessesRecord, ProcessesPacket, ProcessesAfterLookup, Next, record_lookup, at_moment}
 use Rattle.stepping.specs.Next.{entry_of, live_at_record, moment_after, tracked_by}
 use Rattle.translation_laws.proofs.Goes.{IsThrough, run_so}
 use Rattle.translation_laws.proofs.Begun.{CountsAs, IsCounted, counts_so}
@@ -92,8 +92,8 @@ module _ (setup : Setup) (held : List ConntrackEntry) (now : ℕ) where
   no_lookup arrived packet_result = not_looked_up_so refl
 
   processing_follows : (arrived : Result ReceivedPacket Cause) (packet_result : PacketResult)
-      → ProcessesRecord setup held (answered held arrived) arrived packet_result
-      → Follows held now (entry_of now (answered held arrived) arrived packet_result)
+      → ProcessesRecord setup held (record_lookup held arrived) arrived packet_result
+      → Follows held now (entry_of now (record_lookup held arrived) arrived packet_result)
   processing_follows (Err cause) packet_result r = no_lookup (Err cause) packet_result
   processing_follows (Ok a) packet_result r = by_lookup_tuple (lookup_key_of a.packet) refl r
     where

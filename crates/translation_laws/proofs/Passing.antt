@@ -30,7 +30,7 @@ use Rattle.stepping.specs.Lookups.{Lookup, look_up, lookup_key_of, unless_notrac
 use Rattle.stepping.specs.Paths.{PathResult}
 use Rattle.stepping.specs.Confirmations.{PacketResult, begun_unless, confirmed_by, refusal, reply_to}
 use Rattle.stepping.specs.Confirmations.{confirmed_unless_dropped}
-use Rattle.stepping.specs.Next.{ProcessesRecord, ProcessesPacket, ProcessesAfterLookup, Next, answered, entry_of}
+use Rattle.stepping.specs.Next.{ProcessesRecord, ProcessesPacket, ProcessesAfterLookup, Next, record_lookup, entry_of}
 use Rattle.stepping.specs.Next.{live_at_record, moment_after, tracked_by, tuple_in}
 use Rattle.translation_laws.proofs.Passed.{chains_keep}
 use Rattle.translation_laws.proofs.Goes.{Goes, IsThrough, run_so}
@@ -146,8 +146,8 @@ module _ (setup : Setup) (held : List ConntrackEntry) (interface : ℕ) where
         by_ending (Translated t) e = stops_so (subst Stops (sym e) (λ g. g))
 
   pub processing_passes : (arrived : Result ReceivedPacket Cause) (packet_result : PacketResult) (t : Tuple)
-      → ProcessesRecord setup held (answered held arrived) arrived packet_result
-      → tuple_in (answered held arrived) packet_result.confirmation ≡ Some t
+      → ProcessesRecord setup held (record_lookup held arrived) arrived packet_result
+      → tuple_in (record_lookup held arrived) packet_result.confirmation ≡ Some t
       → packet_result.outcome ≡ outcomes.Passed interface
       → Passes setup held arrived packet_result interface
   processing_passes (Err cause) packet_result t r lookup_tuple passed =
@@ -197,13 +197,13 @@ passes_with setup history r e n t lookup_tuple interface passed =
     let is = n.is ∙ ap (λ (l : Option Lookup). entry_of now l n.arrived n.packet_result) n.looked in
     let processes = subst (λ (l : Option Lookup). ProcessesRecord setup held l n.arrived n.packet_result) n.looked
     n.processes in
-    let tuple : tuple_in (answered held n.arrived) n.packet_result.confirmation ≡ Some t =
+    let tuple : tuple_in (record_lookup held n.arrived) n.packet_result.confirmation ≡ Some t =
     sym (ap (λ (x : Entry). x.lookup_tuple) is) ∙ lookup_tuple in
     let outcome : n.packet_result.outcome ≡ outcomes.Passed interface =
     sym (ap (λ (x : Entry). x.outcome) is) ∙ passed in
     let p = processing_passes setup held interface n.arrived n.packet_result t processes tuple outcome in
-    let answer : answered held n.arrived ≡ Some (look_up held p.s) =
-    ap (answered held) p.arrives ∙ ap (option_map (look_up held)) p.read in
+    let answer : record_lookup held n.arrived ≡ Some (look_up held p.s) =
+    ap (record_lookup held) p.arrives ∙ ap (option_map (look_up held)) p.read in
     let looked : tuple_in (Some (look_up held p.s)) n.packet_result.confirmation ≡ Some t =
     subst (λ (l : Option Lookup). tuple_in l n.packet_result.confirmation ≡ Some t) answer tuple in
     let so : e ≡ entry_of now (Some (look_up held p.s)) (Ok p.a) n.packet_result =
